@@ -1,0 +1,20 @@
+//! The twelve matches of a group, the board as one thread sees it, and what histories are.
+#![tactic(auto)]
+
+mod board;
+mod entry;
+mod fixtures;
+mod laws;
+mod reading;
+
+pub use board::{BadWordAt, Board};
+pub use entry::Entry;
+pub use fixtures::{away_of, home_of};
+pub use laws::{
+    beginnings_are_legal, boards_are_counted, each_pair_meets_once, one_word_changes,
+    runs_are_legal, same_number_same_word, same_word_same_entries, versions_are_lengths,
+};
+pub use reading::Reading;
+
+#[cfg(test)]
+mod tests;

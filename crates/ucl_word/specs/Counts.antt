@@ -1,0 +1,83 @@
+-- A match after a list of its events, by counting.
+use Rattle.std.specs.Prelude.{◌≡◌, ℕ, ◌+◌, ◌-◌, nat_le, Bool, true, false, if◌then◌else◌, List, [], ◌∷◌, ◌++◌, length, None, count_by}
+use Rattle.ucl_word.specs.declared.record.MatchRecord.{MatchRecord}
+use Rattle.ucl_word.specs.declared.record.State.{State}
+use Rattle.ucl_word.specs.declared.record.State.TheVariants.{Scheduled, InPlay, Finished}
+use Rattle.ucl_word.specs.declared.event.Side.{Side}
+use Rattle.ucl_word.specs.declared.event.Side.TheVariants.{Home, Away}
+use Rattle.ucl_word.specs.declared.event.Kind.{Kind}
+use Rattle.ucl_word.specs.declared.event.Kind.TheVariants.{Goal, Disallow, Yellow, SecondYellow, Red}
+use Rattle.ucl_word.specs.Record.{IsReporter}
+use Rattle.ucl_word.specs.Sequence.{EachMay}
+use Rattle.ucl_word.specs.Rules.{is_kick_off, is_full_time, refusal_of}
+
+-- an event of one match that was accepted: who entered it, and what it said
+pub record MatchEntry : Type 0 where
+  pub reporter : ℕ
+  pub kind : Kind
+
+abbrev pub is_side : Side → Side → Bool
+is_side Home Home = true
+is_side Home Away = false
+is_side Away Home = false
+is_side Away Away = true
+
+abbrev pub is_goal : Side → Kind → Bool
+is_goal side (Goal s) = is_side side s
+is_goal side _ = false
+
+abbrev pub is_disallow : Side → Kind → Bool
+is_disallow side (Disallow s) = is_side side s
+is_disallow side _ = false
+
+abbrev pub is_yellow : Side → Kind → Bool
+is_yellow side (Yellow s) = is_side side s
+is_yellow side _ = false
+
+abbrev pub is_second_yellow : Side → Kind → Bool
+is_second_yellow side (SecondYellow s) = is_side side s
+is_second_yellow side _ = false
+
+abbrev pub is_red : Side → Kind → Bool
+is_red side (Red s) = is_side side s
+is_red side _ = false
+
+-- how many entries are of such a kind
+abbrev pub count : (Kind → Bool) → List MatchEntry → ℕ
+count is_such es = count_by (λ e. is_such e.kind) es
+
+abbrev pub state_of : List MatchEntry → State
+state_of es = if nat_le 1 (count is_full_time es) then Finished else (if nat_le 1 (count is_kick_off es) then InPlay else Scheduled)
+
+-- who entered the last one, 0 where there is none
+abbrev pub last_reporter : List MatchEntry → ℕ
+last_reporter [] = 0
+last_reporter (e ∷ []) = e.reporter
+last_reporter (e ∷ f ∷ es) = last_reporter (f ∷ es)
+
+-- the match after these entries
+unfoldable pub counted_match : List MatchEntry → MatchRecord
+counted_match es = record {
+  number = length es;
+  state = state_of es;
+  home_goals = count (is_goal Home) es - count (is_disallow Home) es;
+  away_goals = count (is_goal Away) es - count (is_disallow Away) es;
+  home_yellows = count (is_yellow Home) es - count (is_second_yellow Home) es;
+  away_yellows = count (is_yellow Away) es - count (is_second_yellow Away) es;
+  home_expulsions = count (is_red Home) es + count (is_second_yellow Home) es;
+  away_expulsions = count (is_red Away) es + count (is_second_yellow Away) es;
+  reporter = last_reporter es;
+}
+
+-- an entry that is accepted next: of a reporter who has a number, at the number of the match
+pub record IsAccepted (es : List MatchEntry) (e : MatchEntry) : Type 0 where
+  pub reporter : IsReporter e.reporter
+  pub accepted : refusal_of (counted_match es) (length es) e.kind ≡ None
+
+-- each entry is accepted after the entries before it
+abbrev pub IsLegalMatch : List MatchEntry → Type 0
+IsLegalMatch es = EachMay IsAccepted es
+
+-- one entry more
+abbrev pub entered : List MatchEntry → ℕ → Kind → List MatchEntry
+entered es reporter kind = es ++ record { reporter = reporter; kind = kind } ∷ []

@@ -1,0 +1,7 @@
+pub mod Record
+pub mod Rules
+pub mod Sequence
+pub mod Counts
+pub mod Layout
+pub mod Laws
+pub mod Texts

@@ -1,0 +1,27 @@
+//! One match of a group of the UEFA Champions League: its record, its packed word, and the rules by which an event is
+//! entered or refused.
+#![tactic(auto)]
+
+mod event;
+mod laws;
+mod match_no;
+mod record;
+mod refusal;
+mod reporter_no;
+mod rules;
+mod word;
+
+pub use event::{Accepted, EventCall, Kind, Side};
+pub use laws::{
+    a_match_in_play_can_be_ended, counts_are_balanced, counts_are_valid, words_are_read,
+    words_differ,
+};
+pub use match_no::MatchNo;
+pub use record::{MatchRecord, State};
+pub use refusal::{BadWord, OutOfMemory, Refusal};
+pub use reporter_no::ReporterNo;
+pub use rules::apply;
+pub use word::{pack, unpack};
+
+#[cfg(test)]
+mod tests;

@@ -1,0 +1,43 @@
+//! Numbers of matches.
+
+ghost use Rattle.std.specs.Prelude.{◌≡◌, ℕ, ◌≤◌, ◌↔◌, IsSome, IfSome};
+
+use std::marker::Model;
+
+/// The number of a match in the group, 1 to 12. Contracts see it as that number.
+#[derive(Clone, Copy, Debug, PartialEq, Eq)]
+pub struct MatchNo {
+    number: u8,
+}
+
+impl Model for MatchNo {
+    ghost Value = { ℕ };
+
+    ghost view = { λ m. m.number };
+
+    ghost invariant = { λ m. (1 ≤ m.number) × (m.number ≤ 12) };
+
+    ghost inverse = { λ n. record { number = n } };
+}
+
+impl MatchNo {
+    /// The match with this number, where the number is 1 to 12.
+    pub fn new(number: u8) -> Option<MatchNo>
+        ensures exists { IsSome result ↔ ((1 ≤ number) × (number ≤ 12)) }
+        ensures value { IfSome result (λ m. m ≡ number) }
+    {
+        if 1 <= number && number <= 12 {
+            Some(MatchNo { number })
+        } else {
+            None
+        }
+    }
+
+    /// The number, 1 to 12.
+    pub fn get(self) -> u8
+        ensures value { result ≡ self }
+        ensures within { (1 ≤ result) × (result ≤ 12) }
+    {
+        self.number
+    }
+}

@@ -1,0 +1,106 @@
+//! What is known of one match.
+
+ghost use Rattle.std.specs.Prelude.{◌↔◌, ◌≡◌, IsTrue, ◌≤◌};
+ghost use Rattle.ucl_word.specs.Record.{IsValid, IsWithinLimits, SuitsState, scheduled};
+
+/// The most goals of a side.
+pub(crate) const MOST_GOALS: u8 = 63;
+
+/// The most standing yellows of a side.
+pub(crate) const MOST_YELLOWS: u8 = 63;
+
+/// The most expulsions of a side.
+pub(crate) const MOST_EXPULSIONS: u8 = 31;
+
+/// The greatest event number of a match in play. From it on, only full time is accepted.
+pub(crate) const LAST_NUMBER_IN_PLAY: u16 = 1022;
+
+/// The greatest event number of all, which a match finished by full time at the last number in play has.
+const LAST_NUMBER: u16 = 1023;
+
+/// Whether a match has begun or ended.
+#[derive(Clone, Copy, Debug, PartialEq, Eq)]
+pub enum State {
+    /// The match has not kicked off.
+    Scheduled,
+    /// The match has kicked off and is not over.
+    InPlay,
+    /// The match is over.
+    Finished,
+}
+
+/// What is known of one match. Any field can hold any value of its type; `is_valid` says which records a match can have.
+#[derive(Clone, Copy, Debug, PartialEq, Eq)]
+pub struct MatchRecord {
+    /// How many events were accepted: 0 before kick-off, 1 to 1022 in play, 2 to 1023 at the end.
+    pub number: u16,
+    /// Whether the match has begun or ended.
+    pub state: State,
+    /// Goals of the home side that count, at most 63.
+    pub home_goals: u8,
+    /// Goals of the visiting side that count, at most 63.
+    pub away_goals: u8,
+    /// Yellow cards of the home side that no second yellow has turned into an expulsion, at most 63.
+    pub home_yellows: u8,
+    /// The same of the visiting side.
+    pub away_yellows: u8,
+    /// Expulsions of the home side, for a red card or a second yellow, at most 31.
+    pub home_expulsions: u8,
+    /// The same of the visiting side.
+    pub away_expulsions: u8,
+    /// Who entered the last accepted event, 1 to 255; 0 before kick-off.
+    pub reporter: u8,
+}
+
+impl MatchRecord {
+    /// A match that has not kicked off.
+    fn scheduled() -> MatchRecord
+        ensures { result ≡ scheduled }
+    {
+        MatchRecord {
+            number: 0,
+            state: State::Scheduled,
+            home_goals: 0,
+            away_goals: 0,
+            home_yellows: 0,
+            away_yellows: 0,
+            home_expulsions: 0,
+            away_expulsions: 0,
+            reporter: 0,
+        }
+    }
+
+    /// Whether a match can have this record: goals and yellows of a side are at most 63 and expulsions at most 31,
+    /// and it is scheduled with every number 0, or in play with an event number from 1 to 1022 and a reporter,
+    /// or finished with an event number from 2 to 1023 and a reporter.
+    pub fn is_valid(&self) -> bool
+        ensures { IsTrue result ↔ IsValid self.now }
+    {
+        self.is_within_limits() && self.suits_state()
+    }
+
+    fn is_within_limits(&self) -> bool
+        ensures { IsTrue result ↔ IsWithinLimits self.now }
+    {
+        self.home_goals <= MOST_GOALS
+            && self.away_goals <= MOST_GOALS
+            && self.home_yellows <= MOST_YELLOWS
+            && self.away_yellows <= MOST_YELLOWS
+            && self.home_expulsions <= MOST_EXPULSIONS
+            && self.away_expulsions <= MOST_EXPULSIONS
+    }
+
+    fn suits_state(&self) -> bool
+        ensures { IsTrue result ↔ SuitsState self.now.state self.now }
+    {
+        match self.state {
+            State::Scheduled => *self == MatchRecord::scheduled(),
+            State::InPlay => {
+                1 <= self.number && self.number <= LAST_NUMBER_IN_PLAY && self.reporter != 0
+            }
+            State::Finished => {
+                2 <= self.number && self.number <= LAST_NUMBER && self.reporter != 0
+            }
+        }
+    }
+}

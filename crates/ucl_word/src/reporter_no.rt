@@ -1,0 +1,43 @@
+//! Numbers of reporters.
+
+ghost use Rattle.std.specs.Prelude.{◌≡◌, ℕ, ◌≤◌, ◌↔◌, IsSome, IfSome};
+
+use std::marker::Model;
+
+/// The number of a reporter, 1 to 255. Contracts see it as that number.
+#[derive(Clone, Copy, Debug, PartialEq, Eq)]
+pub struct ReporterNo {
+    number: u8,
+}
+
+impl Model for ReporterNo {
+    ghost Value = { ℕ };
+
+    ghost view = { λ r. r.number };
+
+    ghost invariant = { λ r. 1 ≤ r.number };
+
+    ghost inverse = { λ n. record { number = n } };
+}
+
+impl ReporterNo {
+    /// The reporter with this number, where the number is 1 to 255.
+    pub fn new(number: u8) -> Option<ReporterNo>
+        ensures exists { IsSome result ↔ ((1 ≤ number) × (number ≤ 255)) }
+        ensures value { IfSome result (λ r. r ≡ number) }
+    {
+        if 1 <= number {
+            Some(ReporterNo { number })
+        } else {
+            None
+        }
+    }
+
+    /// The number, 1 to 255.
+    pub fn get(self) -> u8
+        ensures value { result ≡ self }
+        ensures within { (1 ≤ result) × (result ≤ 255) }
+    {
+        self.number
+    }
+}
