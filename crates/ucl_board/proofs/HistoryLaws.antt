@@ -1,5 +1,5 @@
 -- The laws of fixtures and histories.
-use Rattle.std.proofs.Common.{◌≡◌, ◌≢◌, ℕ, zero, suc, ◌+◌, ◌*◌, ◌<◌, ◌≤◌, ◌==◌, List, [], ◌∷◌, ◌++◌, take, drop, length, refl, sym, ap, ◌∙◌, subst, arith, Option, Some, None, append-nil, length-append}
+use Rattle.std.proofs.Common.{◌≡◌, ◌≢◌, ℕ, zero, suc, ◌+◌, ◌-◌, ◌*◌, ◌<◌, ◌≤◌, ◌==◌, List, [], ◌∷◌, ◌++◌, take, drop, set, length, refl, sym, ap, ◌∙◌, subst, arith, Option, Some, None, append-nil, length-append}
 use Rattle.std.specs.Prelude.{if◌then◌else◌}
 use Rattle.std.specs.List.{fold, All}
 use Rattle.std.specs.Result.{is_ok}
@@ -8,19 +8,22 @@ use Rattle.std.proofs.lemmas.List.{nil_from_length, take-append-drop}
 use mathlib.Core.Logic.{dite}
 use native.Mathlib.Decide.{ℕ_discrete, dec_le}
 use Rattle.ucl_word.specs.declared.record.MatchRecord.{MatchRecord}
+use Rattle.ucl_word.specs.declared.event.Kind.{Kind}
 use Rattle.ucl_word.specs.declared.refusal.Refusal.{Refusal}
-use Rattle.ucl_word.specs.Rules.{refusal_of, answer}
+use Rattle.ucl_word.specs.Rules.{refusal_of, answer, after}
 use Rattle.ucl_word.specs.Layout.{word_of, record_at}
 use Rattle.ucl_word.specs.Counts.{MatchEntry, counted_match, IsAccepted}
 use Rattle.ucl_word.proofs.Sequences.{may_none, may_next, may_begin, may_last, may_induction}
 use Rattle.ucl_word.proofs.Counting.{number_of_count, counted}
+use Rattle.ucl_word.proofs.Accepting.{Accepts, accepts}
+use Rattle.ucl_word.proofs.EventsApart.{events_apart}
 use Rattle.ucl_word.proofs.Words.{record_back, number_valid, words_apart}
 use Rattle.ucl_board.specs.declared.entry.Entry.{Entry}
 use Rattle.ucl_board.specs.Fixtures.{Fixture, at, fixture_of, IsMatch, IsSlot}
-use Rattle.ucl_board.specs.Words.{version_of}
-use Rattle.ucl_board.specs.History.{entries_of, match_after, board_of, MayFollow, IsLegal, followed_by, Attempt, IsAttempt, entry_of, after_attempt}
-use Rattle.ucl_board.specs.Laws.{EachPairMeetsOnce, BeginningsAreLegal, BoardsAreCounted, VersionsAreLengths, SameNumberSameWord, SameWordSameEntries, OneWordChanges, RunsAreLegal}
-use Rattle.ucl_board.proofs.Histories.{or_else, each_match, entries-append, entries_same, entries_else, legal_match, match_valid, board_words, word_after, game_after}
+use Rattle.ucl_board.specs.Words.{version_of, word_at}
+use Rattle.ucl_board.specs.History.{entries_of, match_after, board_of, MayFollow, IsLegal, followed_by, Attempt, IsAttempt, entry_of, after_attempt, board_after, accepted_of}
+use Rattle.ucl_board.specs.Laws.{EachPairMeetsOnce, BeginningsAreLegal, BoardsAreCounted, VersionsAreLengths, SameNumberSameWord, SameWordSameEntries, OneWordChanges, EntryIsKnown, AttemptsAreCounted}
+use Rattle.ucl_board.proofs.Histories.{or_else, each_match, entries-append, entries_same, entries_else, legal_match, match_valid, board_words, word_after, game_after, next_board}
 
 each_slot : (P : ℕ → Type 0) → P 1 → P 2 → P 3 → P 4 → (n : ℕ) → IsSlot n → P n
 each_slot P a b c d n is = or_else P 1 a n (λ not_1. or_else P 2 b n (λ not_2. or_else P 3 c n (λ not_3. or_else P 4 d n (λ not_4. absurd (omega arith)))))
@@ -136,7 +139,7 @@ same_number h i j g same =
     let e = same_entries h i j g (sym (number_of_count (entries_of g (take i h))) ∙ (same ∙ number_of_count (entries_of g (take j h)))) in
     (e, ap (λ (es : List MatchEntry). word_of (counted_match es)) e)
 
-legal_take : (h : List Entry) (k : ℕ) → IsLegal h → IsLegal (take k h)
+pub legal_take : (h : List Entry) (k : ℕ) → IsLegal h → IsLegal (take k h)
 legal_take h k legal = may_begin MayFollow (take k h) (drop k h) (subst IsLegal (sym (take-append-drop k h)) legal)
 
 pub same_word : SameWordSameEntries
@@ -176,9 +179,64 @@ attempt_cases h a (Some r) some legal is = legal
 pub attempt_legal : (h : List Entry) (a : Attempt) → IsLegal h → IsAttempt a → IsLegal (after_attempt h a)
 attempt_legal h a legal is = attempt_cases h a (refusal_of (match_after h a.1.game) a.1.expected a.1.kind) refl legal is
 
-runs_from : (h : List Entry) (attempts : List Attempt) → IsLegal h → All IsAttempt attempts → IsLegal (fold after_attempt h attempts)
-runs_from h [] legal all = legal
-runs_from h (a ∷ attempts) legal all = runs_from (after_attempt h a) attempts (attempt_legal h a legal (All-head IsAttempt a attempts all)) (All-tail IsAttempt a attempts all)
+-- the board after an attempt is that of the history after it
+attempt_boards : (h : List Entry) (a : Attempt) (o : Option Refusal) → refusal_of (match_after h a.1.game) a.1.expected a.1.kind ≡ o → IsLegal h → IsAttempt a
+    → (if is_ok (answer (match_after h a.1.game).number o) then set (board_of h) (a.1.game - 1) (word_of (after (match_after h a.1.game) a.0 a.1.kind)) else board_of h)
+    ≡ board_of (if is_ok (answer (match_after h a.1.game).number o) then followed_by h (entry_of a) else h)
+attempt_boards h a None none legal is =
+    (next_board h (board_of h) a.1.game a.0 a.1.kind (after (match_after h a.1.game) a.0 a.1.kind) legal refl is.1
+    (λ es legal_es is_es. counted es (match_after h a.1.game) a.0 a.1.expected a.1.kind legal_es (is_es ∙ game_after h a.1.game legal is.1) is.0 none)).0
+attempt_boards h a (Some r) some legal is = refl
 
-pub runs : RunsAreLegal
-runs attempts all = runs_from [] attempts (may_none MayFollow) all
+attempt_board : (h : List Entry) (a : Attempt) → IsLegal h → IsAttempt a → board_after (board_of h) a ≡ board_of (after_attempt h a)
+attempt_board h a legal is = rw (game_after h a.1.game legal is.1) (attempt_boards h a (refusal_of (match_after h a.1.game) a.1.expected a.1.kind) refl legal is)
+
+attempts_from : (h : List Entry) (attempts : List Attempt) → IsLegal h → All IsAttempt attempts
+    → IsLegal (fold after_attempt h attempts) × (fold board_after (board_of h) attempts ≡ board_of (fold after_attempt h attempts))
+attempts_from h [] legal all = (legal, refl)
+attempts_from h (a ∷ attempts) legal all =
+    let is = All-head IsAttempt a attempts all in
+    let rest = attempts_from (after_attempt h a) attempts (attempt_legal h a legal is) (All-tail IsAttempt a attempts all) in
+    (rest.0, ap (λ (ws : List ℕ). fold board_after ws attempts) (attempt_board h a legal is) ∙ rest.1)
+
+pub attempts_counted : AttemptsAreCounted
+attempts_counted attempts all =
+    let end = attempts_from [] attempts (may_none MayFollow) all in
+    record { legal = end.0; board = end.1; version = ap version_of end.1 ∙ (versions (accepted_of attempts) end.0).0 }
+
+made_alike : (e f : Entry) → e.game ≡ f.game → e.reporter ≡ f.reporter → e.kind ≡ f.kind → e ≡ f
+made_alike e f game reporter kind =
+    ap (λ (g : ℕ). record { game = g; reporter = e.reporter; kind = e.kind }) game
+    ∙ (ap (λ (r : ℕ). record { game = f.game; reporter = r; kind = e.kind }) reporter
+    ∙ ap (λ (k : Kind). record { game = f.game; reporter = f.reporter; kind = k }) kind)
+
+-- the record after one entry more
+entry_after : (h : List Entry) (e : Entry) → IsLegal (followed_by h e)
+    → Accepts (match_after h e.game) (length (entries_of e.game h)) e.kind × (match_after (followed_by h e) e.game ≡ after (match_after h e.game) e.reporter e.kind)
+entry_after h e legal =
+    let may = may_last MayFollow h e legal in
+    let before = legal_match e.game h (may_begin MayFollow h (e ∷ []) legal) in
+    let accepted = may.accepted.accepted in (
+      accepts (match_after h e.game) (length (entries_of e.game h)) e.kind accepted,
+      ap counted_match (entries_same h e e.game refl) ∙ sym (counted (entries_of e.game h) (match_after h e.game) e.reporter (length (entries_of e.game h)) e.kind before refl may.accepted.reporter accepted).0,
+    )
+
+same_record : (h k : List Entry) (game : ℕ) → IsLegal h → IsLegal k → IsMatch game → word_at (board_of h) game ≡ word_at (board_of k) game → match_after h game ≡ match_after k game
+same_record h k game a b is same = words_apart (match_after h game) (match_after k game) (match_valid game h a) (match_valid game k b) (sym (word_after h game is) ∙ (same ∙ word_after k game is))
+
+pub entry_known : EntryIsKnown
+entry_known h k e f legal_e legal_f game was is =
+    let before_h = may_begin MayFollow h (e ∷ []) legal_e in
+    let before_k = may_begin MayFollow k (f ∷ []) legal_f in
+    let range = (may_last MayFollow h e legal_e).game in
+    let m = same_record h k e.game before_h before_k range was in
+    let n = same_record (followed_by h e) (followed_by k f) e.game legal_e legal_f range is in
+    let at_e = entry_after h e legal_e in
+    let at_f : Accepts (match_after k e.game) (length (entries_of e.game k)) f.kind × (match_after (followed_by k f) e.game ≡ after (match_after k e.game) f.reporter f.kind) =
+    subst (λ (g : ℕ). Accepts (match_after k g) (length (entries_of g k)) f.kind × (match_after (followed_by k f) g ≡ after (match_after k g) f.reporter f.kind)) (sym game) (entry_after k f legal_f) in
+    let accepts_f : Accepts (match_after h e.game) (length (entries_of e.game k)) f.kind = subst (λ (m : MatchRecord). Accepts m (length (entries_of e.game k)) f.kind) (sym m) at_f.0 in
+    let after_f : match_after (followed_by k f) e.game ≡ after (match_after h e.game) f.reporter f.kind = at_f.1 ∙ ap (λ (m : MatchRecord). after m f.reporter f.kind) (sym m) in
+    let apart = events_apart (match_after h e.game) e.reporter f.reporter (length (entries_of e.game h)) (length (entries_of e.game k)) e.kind f.kind at_e.0 accepts_f (sym at_e.1 ∙ (n ∙ after_f)) in
+    let reporter = apart.0 in
+    let kind = apart.1 in
+    made_alike e f game reporter kind

@@ -1,5 +1,5 @@
 -- Histories: which are legal, the board after one, and the reply of the board of one thread.
-use Rattle.std.specs.Prelude.{ℕ, ◌+◌, ◌==◌, List, [], ◌∷◌, ◌++◌, map, filter, take, if◌then◌else◌, Option, Some, None, Result, Ok, Err}
+use Rattle.std.specs.Prelude.{ℕ, ◌-◌, ◌==◌, List, [], ◌∷◌, ◌++◌, map, filter, take, slice_set, if◌then◌else◌, Result}
 use Rattle.std.specs.List.{fold}
 use Rattle.std.specs.Result.{is_ok}
 use Rattle.ucl_word.specs.declared.record.MatchRecord.{MatchRecord}
@@ -8,12 +8,13 @@ use Rattle.ucl_word.specs.declared.event.Accepted.{Accepted}
 use Rattle.ucl_word.specs.declared.refusal.Refusal.{Refusal}
 use Rattle.ucl_word.specs.Record.{IsReporter}
 use Rattle.ucl_word.specs.Layout.{word_of}
-use Rattle.ucl_word.specs.Rules.{reply_of}
+use Rattle.ucl_word.specs.Rules.{after, reply_of}
 use Rattle.ucl_word.specs.Sequence.{EachMay}
 use Rattle.ucl_word.specs.Counts.{MatchEntry, counted_match, IsAccepted}
 use Rattle.ucl_board.specs.declared.entry.Entry.{Entry}
 use Rattle.ucl_board.specs.declared.reading.Reading.{Reading}
 use Rattle.ucl_board.specs.Fixtures.{match_numbers, IsMatch}
+use Rattle.ucl_board.specs.Words.{game_at}
 
 -- an entry as one of its match alone
 abbrev pub of_match : Entry → MatchEntry
@@ -59,6 +60,12 @@ Attempt = ℕ × EventCall
 -- of a match and a reporter that there are
 abbrev pub IsAttempt : Attempt → Type 0
 IsAttempt a = IsReporter a.0 × IsMatch a.1.game
+
+-- the board after an attempt: one word is another where the reply is no refusal
+abbrev pub board_after : List ℕ → Attempt → List ℕ
+board_after words a =
+    let m = game_at words a.1.game in
+    if is_ok (reply_of m a.1) then slice_set words (a.1.game - 1) (word_of (after m a.0 a.1.kind)) else words
 
 abbrev pub entry_of : Attempt → Entry
 entry_of a = record { game = a.1.game; reporter = a.0; kind = a.1.kind }

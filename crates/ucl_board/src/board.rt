@@ -1,21 +1,24 @@
 //! The board as one thread sees it.
 
-ghost use Rattle.std.specs.Prelude.{◌≡◌, ℕ, ◌+◌, ◌-◌, ◌≤◌, List, [], ◌↔◌, IsOk, IfOk, IfErr, slice_set};
+ghost use Rattle.std.specs.Prelude.{◌≡◌, ℕ, ◌+◌, ◌-◌, ◌≤◌, List, [], ◌↔◌, IsOk, IfOk, IfErr};
 ghost use Rattle.ucl_word.specs.Record.{IsValid};
-ghost use Rattle.ucl_word.specs.Layout.{IsWord, record_at, word_of};
-ghost use Rattle.ucl_word.specs.Rules.{after, reply_of};
+ghost use Rattle.ucl_word.specs.Layout.{IsWord, record_at};
+ghost use Rattle.ucl_word.specs.Rules.{reply_of};
 ghost use Rattle.ucl_board.specs.declared.entry.Entry.{Entry};
 ghost use Rattle.ucl_board.specs.Words.{AreWords, IsFirstBad, game_at, version_of};
-ghost use Rattle.ucl_board.specs.History.{IsLegal, board_of, sequential_reply, followed_by, entry_of};
+ghost use Rattle.ucl_board.specs.History.{IsLegal, board_of, board_after, sequential_reply, followed_by, entry_of};
 
 use std::marker::Model;
+use thiserror::Error;
 use ucl_word::{
     Accepted, EventCall, MatchNo, MatchRecord, Refusal, ReporterNo, apply, pack, unpack,
 };
 
-/// The first of twelve words, counted from 1, that is the word of no valid record.
-#[derive(Clone, Copy, Debug, PartialEq, Eq)]
+/// 10: the first of twelve words that is the packing of no valid record.
+#[derive(Clone, Copy, Debug, PartialEq, Eq, Error)]
+#[error("bad word 10: word {index}")]
 pub struct BadWordAt {
+    /// Which word, 1 to 12.
     pub index: u8,
 }
 
@@ -39,12 +42,10 @@ impl Model for Board {
 }
 
 /// The record of a word that a valid record has.
-#[tactic(auto, using(ucl_word::proofs::Words::number_valid))]
 fn record_of(word: u64) -> MatchRecord
     requires { IsWord word }
     ensures value { result ≡ record_at word }
     ensures valid { IsValid result }
-    ensures number { result.number ≤ 1023 }
 {
     match unpack(word) {
         Ok(game) => game,
@@ -52,15 +53,25 @@ fn record_of(word: u64) -> MatchRecord
     }
 }
 
+/// The event number of a word.
+#[tactic(auto, unfolding(ucl_word::specs::Layout::record_at))]
+fn number_of(word: u64) -> u16
+    ensures value { result ≡ (record_at word).number }
+    ensures bound { result ≤ 1023 }
+{
+    (word & 1023) as u16
+}
+
 impl Board {
-    /// The board before any event.
+    /// The board before any event: twelve scheduled matches.
     pub fn fresh() -> Board
         ensures { result ≡ board_of [] }
     {
         Board { words: [0; 12] }
     }
 
-    /// The board with these words, or the first that is the word of no valid record.
+    /// The board with these words for matches 1 to 12, or the least index of a word that is the packing of no valid
+    /// record. `of_words` of a board's `words` is that board.
     pub fn of_words(words: &[u64; 12]) -> Result<Board, BadWordAt>
         ensures board { IfOk result (λ b. b ≡ words.now) }
         ensures exactly { IsOk result ↔ AreWords words.now }
@@ -74,15 +85,16 @@ impl Board {
         Ok(Board { words: *words })
     }
 
-    /// The words of matches 1 to 12.
+    /// The words of matches 1 to 12, each the packing of a valid record.
     pub fn words(&self) -> [u64; 12]
         ensures words { result ≡ self.now }
         ensures valid { AreWords result }
     {
-        self.words
+        let words = &self.words;
+        *words
     }
 
-    /// The record of a match.
+    /// The record of a match, which is valid.
     pub fn game(&self, game: MatchNo) -> MatchRecord
         ensures value { result ≡ game_at self.now game }
         ensures valid { IsValid result }
@@ -90,23 +102,28 @@ impl Board {
         record_of(self.words[usize::from(game.get() - 1)])
     }
 
-    /// The sum of the event numbers of the matches.
+    /// The sum of the event numbers of the matches, 0 to 12,276. On a board that came from `fresh` by events it is how
+    /// many were accepted.
     pub fn version(&self) -> u16
         ensures sum { result ≡ version_of self.now }
         ensures bound { result ≤ 12276 }
     {
         let mut version = 0;
         for word in &self.words {
-            version += record_of(*word).number;
+            version += number_of(*word);
         }
         version
     }
 
-    /// Enters an event for its match, or says by which rule it is refused.
+    /// Enters an event in its match by the rules of events, or answers the first rule that refuses it. The other eleven
+    /// matches stay as they were, and a refusal changes nothing.
+    ///
+    /// Over counting: where the board is that of a legal history, the reply is the sequential one after this history,
+    /// and an accepted event leaves the board of the history with its entry, which is legal.
     pub fn report(&mut self, reporter: ReporterNo, call: &EventCall) -> Result<Accepted, Refusal>
         ensures reply { result ≡ reply_of (game_at self.old call.now.game) call.now }
         ensures unchanged { IfErr result (λ r. self.new ≡ self.old) }
-        ensures written { IfOk result (λ a. self.new ≡ slice_set self.old (call.now.game - 1) (word_of (after (game_at self.old call.now.game) reporter call.now.kind))) }
+        ensures board { self.new ≡ board_after self.old (reporter, call.now) }
         ensures sequential { (history : List Entry) → IsLegal history → board_of history ≡ self.old → result ≡ sequential_reply history call.now }
         ensures counted { (history : List Entry) → IsLegal history → board_of history ≡ self.old → let next = followed_by history (entry_of (reporter, call.now)) in IfOk result (λ a. (self.new ≡ board_of next) × IsLegal next) }
     {

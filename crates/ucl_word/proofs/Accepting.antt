@@ -45,7 +45,7 @@ begun Scheduled f h = absurd cc
 begun InPlay f h = refl
 begun Finished f h = absurd cc
 
-unbegun : (s : State) → is_finished s ≡ false → (is_in_play s && true) ≡ false → s ≡ Scheduled
+pub unbegun : (s : State) → is_finished s ≡ false → (is_in_play s && true) ≡ false → s ≡ Scheduled
 unbegun Scheduled f h = refl
 unbegun InPlay f h = absurd cc
 unbegun Finished f h = absurd cc
