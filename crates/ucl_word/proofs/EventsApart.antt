@@ -1,9 +1,8 @@
 -- Which event was entered follows from the record before it and the record after it.
-use Rattle.std.proofs.Common.{◌≡◌, ℕ, ◌+◌, ◌-◌, ◌<◌, Bool, true, false, ◌==◌, refl, sym, ap, ◌∙◌, subst, arith}
-use Rattle.std.specs.Prelude.{not, nat_lt, ◌&&◌, if◌then◌else◌}
+use Rattle.std.proofs.Common.{◌≡◌, ℕ, ◌+◌, ◌-◌, Bool, true, false, ◌==◌, refl, sym, ap, ◌∙◌, arith}
+use Rattle.std.specs.Prelude.{nat_lt, ◌&&◌, if◌then◌else◌}
 use Rattle.std.proofs.lemmas.Bool.Decides.{nat_tests}
 use Rattle.ucl_word.specs.declared.record.MatchRecord.{MatchRecord}
-use Rattle.ucl_word.specs.declared.record.State.TheVariants.{Scheduled, InPlay, Finished}
 use Rattle.ucl_word.specs.declared.event.Side.TheVariants.{Home, Away}
 use Rattle.ucl_word.specs.declared.event.Kind.{Kind}
 use Rattle.ucl_word.specs.declared.event.Kind.TheVariants.{KickOff, Goal, Disallow, Yellow, SecondYellow, Red, FullTime}
@@ -67,6 +66,6 @@ reporter_after m r kind = refl
 -- accepted events that lead from one record to one other are the same event of the same reporter
 pub events_apart : (m : MatchRecord) (r s i j : ℕ) (k l : Kind) → Accepts m i k → Accepts m j l → after m r k ≡ after m s l → (r ≡ s) × (k ≡ l)
 events_apart m r s i j k l a b e = (
-    sym (reporter_after m r k) ∙ (ap (λ (n : MatchRecord). n.reporter) e ∙ reporter_after m s l),
-    sym (kind_back m r i k a) ∙ (ap (kind_between m) e ∙ kind_back m s j l b),
-  )
+  sym (reporter_after m r k) ∙ (ap (λ (n : MatchRecord). n.reporter) e ∙ reporter_after m s l),
+  sym (kind_back m r i k a) ∙ (ap (kind_between m) e ∙ kind_back m s j l b),
+)

@@ -1,7 +1,7 @@
 //! What is known of one match.
 
 ghost use Rattle.std.specs.Prelude.{◌↔◌, ◌≡◌, IsTrue, ◌≤◌};
-ghost use Rattle.ucl_word.specs.Record.{IsValid, IsWithinLimits, SuitsState, scheduled};
+ghost use Rattle.ucl_word.specs.Record.{IsValid, IsWithinLimits, SuitsState};
 
 /// The most goals of a side.
 pub(crate) const MOST_GOALS: u8 = 63;
@@ -19,9 +19,10 @@ pub(crate) const LAST_NUMBER_IN_PLAY: u16 = 1022;
 const LAST_NUMBER: u16 = 1023;
 
 /// Whether a match has begun or ended.
-#[derive(Clone, Copy, Debug, PartialEq, Eq)]
+#[derive(Clone, Copy, Debug, Default, PartialEq, Eq)]
 pub enum State {
     /// The match has not kicked off.
+    #[default]
     Scheduled,
     /// The match has kicked off and is not over.
     InPlay,
@@ -30,7 +31,8 @@ pub enum State {
 }
 
 /// What is known of one match. Any field can hold any value of its type; `is_valid` says which records a match can have.
-#[derive(Clone, Copy, Debug, PartialEq, Eq)]
+/// The default is the record of a match that has not kicked off.
+#[derive(Clone, Copy, Debug, Default, PartialEq, Eq)]
 pub struct MatchRecord {
     /// How many events were accepted: 0 before kick-off, 1 to 1022 in play, 2 to 1023 at the end.
     pub number: u16,
@@ -53,23 +55,6 @@ pub struct MatchRecord {
 }
 
 impl MatchRecord {
-    /// A match that has not kicked off.
-    fn scheduled() -> MatchRecord
-        ensures { result ≡ scheduled }
-    {
-        MatchRecord {
-            number: 0,
-            state: State::Scheduled,
-            home_goals: 0,
-            away_goals: 0,
-            home_yellows: 0,
-            away_yellows: 0,
-            home_expulsions: 0,
-            away_expulsions: 0,
-            reporter: 0,
-        }
-    }
-
     /// Whether a match can have this record: goals and yellows of a side are at most 63 and expulsions at most 31,
     /// and it is scheduled with every number 0, or in play with an event number from 1 to 1022 and a reporter,
     /// or finished with an event number from 2 to 1023 and a reporter.
@@ -94,7 +79,7 @@ impl MatchRecord {
         ensures { IsTrue result ↔ SuitsState self.now.state self.now }
     {
         match self.state {
-            State::Scheduled => *self == MatchRecord::scheduled(),
+            State::Scheduled => *self == MatchRecord::default(),
             State::InPlay => {
                 1 <= self.number && self.number <= LAST_NUMBER_IN_PLAY && self.reporter != 0
             }
