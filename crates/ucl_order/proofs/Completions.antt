@@ -1,0 +1,249 @@
+-- What a group can still become: points only rise, and never above what the club can reach.
+use Rattle.std.proofs.Common.{◌≡◌, ℕ, zero, suc, ◌+◌, ◌*◌, ◌<◌, ◌≤◌, ◌==◌, ◌&&◌, Bool, true, false, cond, not, if◌then◌else◌, List, [], ◌∷◌, Option, Some, None, length, get_or, map, take, count_by, refl, sym, ap, ◌∙◌, subst, arith, All, Contains, eqb-true, nat_le, nat_lt}
+use Rattle.std.proofs.Common.{◌⊎◌, inl, inr}
+use Rattle.std.specs.List.{list_all}
+use Rattle.std.proofs.lemmas.Bool.{cases_Bool, and_parts}
+use Rattle.std.proofs.lemmas.Bool.Decides.{nat_tests}
+use Rattle.std.proofs.lemmas.Map.Views.{Contains-from_any}
+use Rattle.std.proofs.lemmas.List.Sorted.{Contains-permutation, length_permutation, sum_by-IsPermutation}
+use Rattle.std.proofs.lemmas.List.Elements.{All-head, All-tail}
+use Rattle.std.proofs.lemmas.List.Folds.{list_any_at}
+use Rattle.ucl_word.specs.declared.record.MatchRecord.{MatchRecord}
+use Rattle.ucl_word.specs.declared.record.State.{State}
+use Rattle.ucl_word.specs.declared.record.State.TheVariants.{Scheduled, InPlay, Finished}
+use Rattle.ucl_word.specs.Rules.{is_finished}
+use Rattle.ucl_board.specs.Fixtures.{IsMatch, IsSlot, fixture_of, match_numbers}
+use Rattle.ucl_board.specs.Words.{game_at}
+use Rattle.ucl_order.specs.declared.game.Match.{Match}
+use Rattle.ucl_order.specs.declared.game.Appearance.{Appearance}
+use Rattle.ucl_order.specs.declared.mark.Mark.TheVariants.{Plus, Minus, Blank}
+use Rattle.ucl_order.specs.Roster.{ClubEntry}
+use Rattle.ucl_order.specs.Results.{match_at, matches_of, has_started, has_finished, started, finished, unfinished, seen_by, played, points}
+use Rattle.ucl_order.specs.Order.{all_clubs, order_of, is_in}
+use Rattle.ucl_order.specs.Marks.{IsCompletion, GoesThrough, sure_points, reach, rivals, escaped, mark_of}
+use Rattle.ucl_order.proofs.Classes.{IsPermutation-order}
+use Rattle.ucl_order.proofs.Counting.{count-le}
+use Rattle.ucl_order.proofs.Settling.{slots}
+use Rattle.ucl_order.proofs.Limits.{plays, gains, gains-le, played-cons, points-cons}
+use Rattle.ucl_order.proofs.Unique.{a_club}
+use Rattle.ucl_order.proofs.Places.{order_falls, reaches, passes, eq_yes, in_first_two, not_in_first_two}
+
+is_done : (s : State) → is_finished s ≡ true → s ≡ Finished
+is_done Scheduled h = absurd (cc)
+is_done InPlay h = absurd (cc)
+is_done Finished h = refl
+
+-- The points so far and those at the end, match by match. --
+
+board_part : List ℕ → List ℕ → List Match
+board_part board games = map (match_at board) games
+
+record Between (club : ℕ) (games board later : List ℕ) : Type 0 where
+  low : points club (finished (board_part board games)) ≤ points club (started (board_part later games))
+  high : points club (started (board_part later games)) ≤ points club (finished (board_part board games)) + 3 * played club (unfinished (board_part board games))
+
+started-done : (m : Match) (ms : List Match) → m.result.state ≡ Finished → started (m ∷ ms) ≡ m ∷ started ms
+started-done m ms e = rw e
+
+finished-done : (m : Match) (ms : List Match) → has_finished m ≡ true → finished (m ∷ ms) ≡ m ∷ finished ms
+finished-done m ms e = rw e
+
+finished-open : (m : Match) (ms : List Match) → has_finished m ≡ false → finished (m ∷ ms) ≡ finished ms
+finished-open m ms e = rw e
+
+unfinished-done : (m : Match) (ms : List Match) → has_finished m ≡ true → unfinished (m ∷ ms) ≡ unfinished ms
+unfinished-done m ms e = rw e
+
+unfinished-open : (m : Match) (ms : List Match) → has_finished m ≡ false → unfinished (m ∷ ms) ≡ m ∷ unfinished ms
+unfinished-open m ms e = rw e
+
+plays_alike : (at_home away : Bool) (h v h' v' : Appearance) → plays (if at_home then Some h else (if away then Some v else None)) ≡ plays (if at_home then Some h' else (if away then Some v' else None))
+unfolding plays
+plays_alike true away h v h' v' = refl
+plays_alike false true h v h' v' = refl
+plays_alike false false h v h' v' = refl
+
+-- who plays does not depend on what is known of the match
+plays_same : (club game : ℕ) (board later : List ℕ) → plays (seen_by club (match_at later game)) ≡ plays (seen_by club (match_at board game))
+plays_same club game board later = plays_alike ((fixture_of game).home == club) ((fixture_of game).away == club) _ _ _ _
+
+module _ (club game : ℕ) (games board later : List ℕ) (rest : Between club games board later) (ended : (game_at later game).state ≡ Finished) where
+  -- a match that was finished counts for both
+  between-done : has_finished (match_at board game) ≡ true → match_at later game ≡ match_at board game → Between club (game ∷ games) board later
+  unfolding board_part
+  between-done done same =
+      let m : Match = match_at board game in
+      let l : Match = match_at later game in
+      let now : List Match = board_part board games in
+      let end : List Match = board_part later games in
+      let worth : gains (seen_by club l) ≡ gains (seen_by club m) = ap (λ x. gains (seen_by club x)) same in
+      let now_points : points club (m ∷ finished now) ≡ gains (seen_by club m) + points club (finished now) = points-cons club m (finished now) in
+      let end_points : points club (l ∷ started end) ≡ gains (seen_by club l) + points club (started end) = points-cons club l (started end) in
+      record {
+        low = rw (finished-done m now done, started-done l end ended) (omega arith);
+        high = rw (finished-done m now done, unfinished-done m now done, started-done l end ended) (omega arith);
+      }
+
+  -- any other counts at the end alone
+  between-open : has_finished (match_at board game) ≡ false → Between club (game ∷ games) board later
+  unfolding board_part
+  between-open open_now =
+      let m : Match = match_at board game in
+      let l : Match = match_at later game in
+      let now : List Match = board_part board games in
+      let end : List Match = board_part later games in
+      let most : gains (seen_by club l) ≤ 3 * plays (seen_by club l) = gains-le (seen_by club l) in
+      let alike : plays (seen_by club l) ≡ plays (seen_by club m) = plays_same club game board later in
+      let end_points : points club (l ∷ started end) ≡ gains (seen_by club l) + points club (started end) = points-cons club l (started end) in
+      let left : played club (m ∷ unfinished now) ≡ plays (seen_by club m) + played club (unfinished now) = played-cons club m (unfinished now) in
+      record {
+        low = rw (finished-open m now open_now, started-done l end ended) (omega arith);
+        high = rw (finished-open m now open_now, unfinished-open m now open_now, started-done l end ended) (omega arith);
+      }
+
+match_kept : (board later : List ℕ) (game : ℕ) → game_at later game ≡ game_at board game → match_at later game ≡ match_at board game
+match_kept board later game e = rw e
+
+between : (club : ℕ) (games board later : List ℕ) → All IsMatch games → IsCompletion board later → Between club games board later
+unfolding board_part
+between club [] board later are done = record { low = omega arith; high = omega arith }
+between club (game ∷ games) board later are done =
+    let here : IsMatch game = All-head IsMatch game games are in
+    let rest : Between club games board later = between club games board later (All-tail IsMatch game games are) done in
+    elim (cases_Bool (has_finished (match_at board game))) [
+      | inl over ↦ between-done club game games board later rest (done.ended game here) over (match_kept board later game (done.kept game here (is_done _ over)))
+      | inr open_now ↦ between-open club game games board later rest (done.ended game here) open_now
+    ]
+
+are_matches : All IsMatch match_numbers
+are_matches zero d h = (omega arith, omega arith)
+are_matches (suc zero) d h = (omega arith, omega arith)
+are_matches (suc (suc zero)) d h = (omega arith, omega arith)
+are_matches (suc (suc (suc zero))) d h = (omega arith, omega arith)
+are_matches (suc (suc (suc (suc zero)))) d h = (omega arith, omega arith)
+are_matches (suc (suc (suc (suc (suc zero))))) d h = (omega arith, omega arith)
+are_matches (suc (suc (suc (suc (suc (suc zero)))))) d h = (omega arith, omega arith)
+are_matches (suc (suc (suc (suc (suc (suc (suc zero))))))) d h = (omega arith, omega arith)
+are_matches (suc (suc (suc (suc (suc (suc (suc (suc zero)))))))) d h = (omega arith, omega arith)
+are_matches (suc (suc (suc (suc (suc (suc (suc (suc (suc zero))))))))) d h = (omega arith, omega arith)
+are_matches (suc (suc (suc (suc (suc (suc (suc (suc (suc (suc zero)))))))))) d h = (omega arith, omega arith)
+are_matches (suc (suc (suc (suc (suc (suc (suc (suc (suc (suc (suc zero))))))))))) d h = (omega arith, omega arith)
+are_matches (suc (suc (suc (suc (suc (suc (suc (suc (suc (suc (suc (suc n)))))))))))) d h = absurd (omega arith)
+
+-- Where all matches are finished, a completion is the board itself. --
+
+all_kept : (games board later : List ℕ) → All IsMatch games → IsCompletion board later → list_all has_finished (map (match_at board) games) ≡ true → map (match_at later) games ≡ map (match_at board) games
+all_kept [] board later are done all = refl
+all_kept (game ∷ games) board later are done all =
+    let parts = and_parts (has_finished (match_at board game)) (list_all has_finished (map (match_at board) games)) all in
+    let here : match_at later game ≡ match_at board game = match_kept board later game (done.kept game (All-head IsMatch game games are) (is_done _ parts.0)) in
+    let rest : map (match_at later) games ≡ map (match_at board) games = all_kept games board later (All-tail IsMatch game games are) done parts.1 in
+    rw (here, rest)
+
+unchanged : (board later : List ℕ) → IsCompletion board later → list_all has_finished (matches_of board) ≡ true → matches_of later ≡ matches_of board
+unfolding matches_of
+unchanged board later done all = all_kept match_numbers board later are_matches done all
+
+same_order : (board later : List ℕ) (roster : List ClubEntry) → matches_of later ≡ matches_of board → order_of later roster ≡ order_of board roster
+unfolding order_of
+same_order board later roster e = rw e
+
+final_points : List ℕ → ℕ → ℕ
+final_points later club = points club (started (matches_of later))
+
+-- the mark, at the tests that it makes
+plus_cases : (all through few many : Bool) → (if all then (if through then Plus else Minus) else (if few then Plus else (if many then Minus else Blank))) ≡ Plus → ((all ≡ true) × (through ≡ true)) ⊎ (few ≡ true)
+plus_cases true true few many h = inl (refl, refl)
+plus_cases true false few many h = absurd (cc)
+plus_cases false through true many h = inr refl
+plus_cases false through false true h = absurd (cc)
+plus_cases false through false false h = absurd (cc)
+
+minus_cases : (all through few many : Bool) → (if all then (if through then Plus else Minus) else (if few then Plus else (if many then Minus else Blank))) ≡ Minus → ((all ≡ true) × (through ≡ false)) ⊎ (many ≡ true)
+minus_cases true true few many h = absurd (cc)
+minus_cases true false few many h = inl (refl, refl)
+minus_cases false through true many h = absurd (cc)
+minus_cases false through false true h = inr refl
+minus_cases false through false false h = absurd (cc)
+
+reach_weaker : (last_club last_other sure_club reach_other : ℕ) (b : Bool) → sure_club ≤ last_club → last_other ≤ reach_other → (b && nat_le last_club last_other) ≡ true → (b && nat_le sure_club reach_other) ≡ true
+reach_weaker p q s r true l h e = grind (arith, nat_tests)
+reach_weaker p q s r false l h e = absurd (cc)
+
+pass_stronger : (last_club last_other reach_club sure_other : ℕ) (b : Bool) → last_club ≤ reach_club → sure_other ≤ last_other → (b && nat_lt reach_club sure_other) ≡ true → (b && nat_lt last_club last_other) ≡ true
+pass_stronger p q r s true l h e = grind (arith, nat_tests)
+pass_stronger p q r s false l h e = absurd (cc)
+
+le_from : (x y z : ℕ) → x ≡ y → y ≤ z → z ≤ 1 → x ≤ 1
+le_from x y z e h k = omega arith
+
+le_to : (x y z : ℕ) → x ≡ y → z ≤ y → 2 ≤ z → 2 ≤ x
+le_to x y z e h k = omega arith
+
+le_read : (x y : ℕ) → nat_le x y ≡ true → x ≤ y
+le_read x y h = grind (arith, nat_tests)
+
+-- Sure points never fall, and never pass what the club can reach. --
+
+through_if : (order : List ℕ) (club : ℕ) → is_in (take 2 order) club ≡ true → Contains (take 2 order) club
+through_if order club h = Contains-from_any {eq = λ x y. y == x} (λ x y e. sym (eqb-true y x e)) club (take 2 order) h
+
+not_through_if : (order : List ℕ) (club : ℕ) → is_in (take 2 order) club ≡ false → Contains (take 2 order) club → ⊥
+not_through_if order club h found =
+    let there : is_in (take 2 order) club ≡ true = list_any_at (λ c. c == club) (take 2 order) found.0 club found.1 (eq_yes _ _ found.2) in
+    absurd (cc)
+
+module _ (board later : List ℕ) (done : IsCompletion board later) (roster : List ClubEntry) where
+  low : (club : ℕ) → sure_points (matches_of board) club ≤ final_points later club
+  unfolding final_points matches_of board_part
+  low club = (between club match_numbers board later are_matches done).low
+
+  high : (club : ℕ) → final_points later club ≤ reach (matches_of board) club
+  unfolding final_points matches_of board_part
+  high club = (between club match_numbers board later are_matches done).high
+
+  member : (club : ℕ) → IsSlot club → is_in (order_of later roster) club ≡ true
+  member club slot =
+      let found = Contains-permutation all_clubs (order_of later roster) club (IsPermutation-order later roster) (a_club club slot) in
+      list_any_at (λ c. c == club) (order_of later roster) found.0 club found.1 (eq_yes _ _ found.2)
+
+  through : (club : ℕ) → IsSlot club → rivals (matches_of board) club ≤ 1 → is_in (take 2 (order_of later roster)) club ≡ true
+  unfolding final_points reaches
+  through club slot few =
+      let key : ℕ → ℕ = final_points later in
+      let rival : ℕ → Bool = λ other. not (other == club) && nat_le (sure_points (matches_of board) club) (reach (matches_of board) other) in
+      let fewer : count_by (reaches key club) all_clubs ≤ count_by rival all_clubs =
+      count-le (reaches key club) rival all_clubs
+      (λ k d h. reach_weaker (key club) (key (get_or all_clubs k d)) (sure_points (matches_of board) club) (reach (matches_of board) (get_or all_clubs k d)) (not (get_or all_clubs k d == club)) (low club) (high (get_or all_clubs k d))) in
+      let same : count_by (reaches key club) (order_of later roster) ≡ count_by (reaches key club) all_clubs = sum_by-IsPermutation _ _ _ (IsPermutation-order later roster) in
+      let long : length (order_of later roster) ≡ 4 = length_permutation _ _ (IsPermutation-order later roster) in
+      in_first_two key club (order_of later roster) long (order_falls later roster) (member club slot) (le_from _ _ _ same fewer few)
+
+  out : (club : ℕ) → 2 ≤ escaped (matches_of board) club → is_in (take 2 (order_of later roster)) club ≡ false
+  unfolding final_points passes
+  out club many =
+      let key : ℕ → ℕ = final_points later in
+      let gone : ℕ → Bool = λ other. not (other == club) && nat_lt (reach (matches_of board) club) (sure_points (matches_of board) other) in
+      let more : count_by gone all_clubs ≤ count_by (passes key club) all_clubs =
+      count-le gone (passes key club) all_clubs
+      (λ k d h. pass_stronger (key club) (key (get_or all_clubs k d)) (reach (matches_of board) club) (sure_points (matches_of board) (get_or all_clubs k d)) (not (get_or all_clubs k d == club)) (high club) (low (get_or all_clubs k d))) in
+      let same : count_by (passes key club) (order_of later roster) ≡ count_by (passes key club) all_clubs = sum_by-IsPermutation _ _ _ (IsPermutation-order later roster) in
+      not_in_first_two key club (order_of later roster) (order_falls later roster) (le_to _ _ _ same more many)
+
+  -- a club marked Plus goes through
+  pub plus_is_certain : (club : ℕ) → IsSlot club → mark_of board roster club ≡ Plus → GoesThrough later roster club
+  unfolding mark_of
+  plus_is_certain club slot h =
+      through_if (order_of later roster) club (elim (plus_cases (list_all has_finished (matches_of board)) (is_in (take 2 (order_of board roster)) club) (nat_le (rivals (matches_of board) club) 1) (nat_le 2 (escaped (matches_of board) club)) h) [
+        | inl (all, now) ↦ rw (same_order board later roster (unchanged board later done all)) now
+        | inr few ↦ through club slot (le_read _ _ few)
+      ])
+
+  -- a club marked Minus does not
+  pub minus_is_certain : (club : ℕ) → mark_of board roster club ≡ Minus → GoesThrough later roster club → ⊥
+  unfolding mark_of
+  minus_is_certain club h =
+      not_through_if (order_of later roster) club (elim (minus_cases (list_all has_finished (matches_of board)) (is_in (take 2 (order_of board roster)) club) (nat_le (rivals (matches_of board) club) 1) (nat_le 2 (escaped (matches_of board) club)) h) [
+        | inl (all, now) ↦ rw (same_order board later roster (unchanged board later done all)) now
+        | inr many ↦ out club (le_read _ _ many)
+      ])

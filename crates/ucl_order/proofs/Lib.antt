@@ -1,0 +1,14 @@
+pub mod Clubs
+pub mod Adding
+pub mod Comparing
+pub mod Rankings
+pub mod Classes
+pub mod Counting
+pub mod Places
+pub mod Settling
+pub mod Limits
+pub mod TableRows
+pub mod Descending
+pub mod TieBreaks
+pub mod Unique
+pub mod Completions

@@ -1,0 +1,153 @@
+-- What a club of a group can do at most.
+use Rattle.std.proofs.Common.{◌≡◌, ℕ, zero, suc, ◌+◌, ◌*◌, ◌-◌, ◌<◌, ◌≤◌, ◌==◌, Bool, true, false, cond, if◌then◌else◌, List, [], ◌∷◌, Option, Some, None, length, get_or, map, filter, count_by, sum_by, refl, sym, subst, arith, All}
+use Rattle.std.specs.List.{slice_index, filter_map, cons_option}
+use Rattle.std.proofs.lemmas.Bool.Decides.{nat_tests}
+use Rattle.std.proofs.lemmas.List.Sums.{sum_by-cons, sum_by-le, count_by-le-length}
+use Rattle.std.proofs.lemmas.List.Sorted.{All-permutation, length_permutation}
+use Rattle.std.proofs.lemmas.List.Elements.{All-head, All-tail, All-cons, All-nil, All-filter}
+use Rattle.ucl_word.specs.declared.record.MatchRecord.{MatchRecord}
+use Rattle.ucl_word.specs.Record.{IsValid}
+use Rattle.ucl_board.specs.Fixtures.{IsSlot}
+use Rattle.ucl_order.specs.declared.game.Match.{Match}
+use Rattle.ucl_order.specs.declared.game.Appearance.{Appearance}
+use Rattle.ucl_order.specs.declared.mark.Mark.{Mark}
+use Rattle.ucl_order.specs.Roster.{ClubEntry}
+use Rattle.ucl_order.specs.Results.{seen_by, is_won, is_drawn, is_lost, appearances, played, wins, draws, losses, points, goals_for, goals_against, has_started, started, matches_of}
+use Rattle.ucl_order.specs.Order.{all_clubs, order_of}
+use Rattle.ucl_order.specs.Rows.{row_of, row_with, rows_of, IsWithinTable}
+use Rattle.ucl_order.proofs.Classes.{IsPermutation-order}
+use Rattle.ucl_order.proofs.Settling.{slots}
+
+-- One match more in front. --
+
+-- how many matches, and how many points, a club has by one match
+unfoldable pub plays : Option Appearance → ℕ
+plays None = 0
+plays (Some a) = 1
+
+unfoldable pub gains : Option Appearance → ℕ
+gains None = 0
+gains (Some a) = 3 * cond (is_won a) 1 0 + cond (is_drawn a) 1 0
+
+played_one : (o : Option Appearance) (games : List Appearance) → length (cons_option o games) ≡ plays o + length games
+unfolding plays
+played_one None games = omega arith
+played_one (Some a) games = omega arith
+
+pub played-cons : (club : ℕ) (m : Match) (ms : List Match) → played club (m ∷ ms) ≡ plays (seen_by club m) + played club ms
+played-cons club m ms = played_one (seen_by club m) (appearances club ms)
+
+points_one : (o : Option Appearance) (games : List Appearance) →
+    3 * count_by is_won (cons_option o games) + count_by is_drawn (cons_option o games) ≡ gains o + (3 * count_by is_won games + count_by is_drawn games)
+unfolding gains
+points_one None games = omega arith
+points_one (Some a) games = omega (arith, sum_by-cons (λ x. cond (is_won x) 1 0) a games, sum_by-cons (λ x. cond (is_drawn x) 1 0) a games)
+
+pub points-cons : (club : ℕ) (m : Match) (ms : List Match) → points club (m ∷ ms) ≡ gains (seen_by club m) + points club ms
+points-cons club m ms = points_one (seen_by club m) (appearances club ms)
+
+three_at_most : (won drawn : Bool) → (drawn ≡ true → won ≡ false) → 3 * cond won 1 0 + cond drawn 1 0 ≤ 3
+three_at_most true true h = absurd (cc (h refl))
+three_at_most true false h = omega arith
+three_at_most false true h = omega arith
+three_at_most false false h = omega arith
+
+-- a match is worth three points at most
+pub gains-le : (o : Option Appearance) → gains o ≤ 3 * plays o
+unfolding gains plays
+gains-le None = omega arith
+gains-le (Some a) = three_at_most (is_won a) (is_drawn a) (λ e. grind (arith, nat_tests))
+
+pub points-le : (club : ℕ) (ms : List Match) → points club ms ≤ 3 * played club ms
+points-le club [] = omega arith
+points-le club (m ∷ ms) = omega (arith, played-cons club m ms, points-cons club m ms, gains-le (seen_by club m), points-le club ms)
+
+-- Some of the matches. --
+
+pub played-filter : (p : Match → Bool) (club : ℕ) (ms : List Match) → played club (filter p ms) ≤ played club ms
+played-filter p club [] = omega arith
+played-filter p club (m ∷ ms) =
+    let rest : played club (filter p ms) ≤ played club ms = played-filter p club ms in
+    elim (p m) as (λ v. played club (cond v (m ∷ filter p ms) (filter p ms)) ≤ played club (m ∷ ms)) [
+      | true ↦ omega (arith, rest, played-cons club m ms, played-cons club m (filter p ms))
+      | false ↦ omega (arith, rest, played-cons club m ms)
+    ]
+
+-- each club has six matches
+pub six : (board : List ℕ) (club : ℕ) → IsSlot club → played club (matches_of board) ≡ 6
+unfolding matches_of
+six board zero h = absurd (omega arith)
+six board (suc zero) h = refl
+six board (suc (suc zero)) h = refl
+six board (suc (suc (suc zero))) h = refl
+six board (suc (suc (suc (suc zero)))) h = refl
+six board (suc (suc (suc (suc (suc n))))) h = absurd (omega arith)
+
+-- Goals. --
+
+-- at most 63 goals on either side
+pub record AreFew (a : Appearance) : Type 0 where
+  pub scored : a.scored ≤ 63
+  pub conceded : a.conceded ≤ 63
+
+few_one : (o : Option Appearance) (games : List Appearance) → ((a : Appearance) → o ≡ Some a → AreFew a) → All AreFew games → All AreFew (cons_option o games)
+few_one None games h rest = rest
+few_one (Some a) games h rest = All-cons AreFew a games (h a refl) rest
+
+seen_parts : (at_home away : Bool) (h v a : Appearance) → (if at_home then Some h else (if away then Some v else None)) ≡ Some a → AreFew h → AreFew v → AreFew a
+seen_parts true away h v a e few_h few_v = let same : h ≡ a = (cc) in subst AreFew same few_h
+seen_parts false true h v a e few_h few_v = let same : v ≡ a = (cc) in subst AreFew same few_v
+seen_parts false false h v a e few_h few_v = absurd (cc)
+
+seen_few : (club : ℕ) (m : Match) (a : Appearance) → IsValid m.result → seen_by club m ≡ Some a → AreFew a
+seen_few club m a h e =
+    seen_parts (m.home == club) (m.away == club) _ _ a e
+    (record { scored = h.within.home_goals; conceded = h.within.away_goals }) (record { scored = h.within.away_goals; conceded = h.within.home_goals })
+
+pub all_few : (club : ℕ) (ms : List Match) → All (λ m. IsValid m.result) ms → All AreFew (appearances club ms)
+all_few club [] h = All-nil AreFew
+all_few club (m ∷ ms) h =
+    few_one (seen_by club m) (appearances club ms) (λ a e. seen_few club m a (All-head (λ x. IsValid x.result) m ms h) e) (all_few club ms (All-tail (λ x. IsValid x.result) m ms h))
+
+-- a row of the table
+within_table : (place slot : ℕ) (mark : Mark) (ms : List Match) → IsSlot slot → All (λ m. IsValid m.result) ms → played slot ms ≤ 6 → IsWithinTable (row_with place slot mark ms)
+within_table place slot mark ms is_slot valid most =
+    let games : List Appearance = appearances slot ms in
+    let few : All AreFew games = all_few slot ms valid in
+    let scored : goals_for slot ms ≤ length games * 63 = sum_by-le (λ a. a.scored) 63 games (λ k d h. (few k d h).scored) in
+    let conceded : goals_against slot ms ≤ length games * 63 = sum_by-le (λ a. a.conceded) 63 games (λ k d h. (few k d h).conceded) in
+    let won : wins slot ms ≤ length games = count_by-le-length is_won games in
+    let drawn : draws slot ms ≤ length games = count_by-le-length is_drawn games in
+    let lost : losses slot ms ≤ length games = count_by-le-length is_lost games in
+    let three : points slot ms ≤ 3 * played slot ms = points-le slot ms in record {
+      slot = is_slot;
+      played = most;
+      wins = omega arith;
+      draws = omega arith;
+      losses = omega arith;
+      goals_for = omega arith;
+      goals_against = omega arith;
+      points = omega arith;
+    }
+
+at_most_six : (board : List ℕ) (club : ℕ) → IsSlot club → played club (started (matches_of board)) ≤ 6
+at_most_six board club slot =
+    let some : played club (started (matches_of board)) ≤ played club (matches_of board) = played-filter has_started club (matches_of board) in
+    let all : played club (matches_of board) ≡ 6 = six board club slot in
+    omega arith
+
+module _ (board : List ℕ) (roster : List ClubEntry) (valid : All (λ m. IsValid m.result) (matches_of board)) where
+  row_within : (place : ℕ) → 1 ≤ place → place ≤ 4 → IsWithinTable (row_of board roster place)
+  unfolding row_of
+  row_within place low high =
+      let order : List ℕ = order_of board roster in
+      let long : length order ≡ 4 = length_permutation _ _ (IsPermutation-order board roster) in
+      let slot : IsSlot (slice_index order (place - 1)) = All-permutation IsSlot all_clubs order (IsPermutation-order board roster) slots (place - 1) 0 (omega arith) in
+      within_table place (slice_index order (place - 1)) _ (started (matches_of board)) slot (All-filter has_started (λ m. IsValid m.result) (matches_of board) valid) (at_most_six board (slice_index order (place - 1)) slot)
+
+  pub rows_within : All IsWithinTable (rows_of board roster)
+  rows_within zero d h = row_within 1 (omega arith) (omega arith)
+  rows_within (suc zero) d h = row_within 2 (omega arith) (omega arith)
+  rows_within (suc (suc zero)) d h = row_within 3 (omega arith) (omega arith)
+  rows_within (suc (suc (suc zero))) d h = row_within 4 (omega arith) (omega arith)
+  rows_within (suc (suc (suc (suc n)))) d h = absurd (omega arith)

@@ -1,0 +1,23 @@
+use Rattle.std.proofs.Common.{◌≡◌, ◌+◌, ◌≤◌, sym, ◌∙◌, subst, arith, rules}
+use Rattle.std.proofs.lemmas.List.Elements.{All-push}
+use Rattle.ucl_word.specs.Record.{IsValid}
+use Rattle.ucl_order.proofs.Adding.{match_is, matches_more, matches_all}
+use Rattle.ucl_order.proofs.game.matches_of.Goals as goal
+use Rattle.ucl_order.proofs.game.matches_of.Goals.{in-Some, in_default}
+
+pub loop-number-preserved : goal.loop-number-preserved
+loop-number-preserved c = elim c.match-new.branch [
+  | in-Some w ↦ rw w.matches-is (record {
+    so_far = matches_more c.args.board.now c.loop-number.number c.loop-number.matches.items w.push.new.self.items _ (omega arith) (omega arith) c.loop-number.invariant.so_far
+        (match_is c.args.board.now c.loop-number.number w.in-Some.game w.home_of.result w.away_of.result w.game.result w.in-Some.ensures.value w.home_of.ensures.value w.away_of.ensures.value w.game.ensures.value)
+        w.push.ensures.items;
+    many = omega arith;
+    valid = rw w.push.ensures.items (All-push (λ m. IsValid m.result) c.loop-number.matches.items _ c.loop-number.invariant.valid w.game.ensures.valid);
+  })
+  | in_default w ↦ absurd (search rules)
+]
+
+pub returns-clause-value : goal.returns-clause-value
+returns-clause-value c =
+    let last : c.loop-number.number ≡ 13 = omega arith in
+    matches_all c.args.board.now c.loop-number.number c.loop-number.matches.items last c.loop-number.invariant.so_far

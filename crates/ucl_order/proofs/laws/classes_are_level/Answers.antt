@@ -1,0 +1,5 @@
+use Rattle.ucl_order.proofs.Descending.{split-are}
+use Rattle.ucl_order.proofs.laws.classes_are_level.Goals as goal
+
+pub returns : goal.returns
+returns c = split-are

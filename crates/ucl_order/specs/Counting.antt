@@ -1,0 +1,31 @@
+-- One match more in what a club has done.
+use Rattle.std.specs.Prelude.{ℕ, ◌+◌, ◌*◌, ◌≤◌, ◌&&◌, if◌then◌else◌}
+use Rattle.ucl_order.specs.declared.game.Appearance.{Appearance}
+use Rattle.ucl_order.specs.declared.results.Results.{Results}
+use Rattle.ucl_order.specs.Results.{is_won, is_drawn, is_lost, penalty}
+
+-- one match more is counted
+abbrev pub with_match : Results → Appearance → Results
+with_match r a = record {
+  played = r.played + 1;
+  wins = r.wins + (if is_won a then 1 else 0);
+  draws = r.draws + (if is_drawn a then 1 else 0);
+  losses = r.losses + (if is_lost a then 1 else 0);
+  goals_for = r.goals_for + a.scored;
+  goals_against = r.goals_against + a.conceded;
+  away_goals = r.away_goals + (if a.is_away then a.scored else 0);
+  away_wins = r.away_wins + (if a.is_away && is_won a then 1 else 0);
+  discipline = r.discipline + penalty a;
+}
+
+-- no more than a club can do in so many matches, whatever their records hold
+pub record IsWithin (matches : ℕ) (r : Results) : Type 0 where
+  pub played : r.played ≤ matches
+  pub wins : r.wins ≤ matches
+  pub draws : r.draws ≤ matches
+  pub losses : r.losses ≤ matches
+  pub goals_for : r.goals_for ≤ 255 * matches
+  pub goals_against : r.goals_against ≤ 255 * matches
+  pub away_goals : r.away_goals ≤ 255 * matches
+  pub away_wins : r.away_wins ≤ matches
+  pub discipline : r.discipline ≤ 1020 * matches

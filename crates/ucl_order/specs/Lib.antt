@@ -1,0 +1,10 @@
+pub mod Roster
+pub mod Members
+pub mod Results
+pub mod Order
+pub mod Counting
+pub mod Criteria
+pub mod Standing
+pub mod Marks
+pub mod Rows
+pub mod Laws

@@ -1,0 +1,59 @@
+-- Which clubs are sure to be, or not to be, among the first two.
+use Rattle.std.specs.Prelude.{◌≡◌, ℕ, ◌+◌, ◌*◌, ◌==◌, ◌&&◌, not, nat_lt, nat_le, if◌then◌else◌, Bool, List, count_by, take, Contains}
+use Rattle.std.specs.List.{list_all}
+use Rattle.ucl_word.specs.declared.record.State.TheVariants.{Finished}
+use Rattle.ucl_board.specs.Fixtures.{IsMatch}
+use Rattle.ucl_board.specs.Words.{AreWords, game_at}
+use Rattle.ucl_order.specs.declared.game.Match.{Match}
+use Rattle.ucl_order.specs.declared.mark.Mark.{Mark}
+use Rattle.ucl_order.specs.declared.mark.Mark.TheVariants.{Plus, Minus, Blank}
+use Rattle.ucl_order.specs.Roster.{ClubEntry}
+use Rattle.ucl_order.specs.Results.{matches_of, has_finished, finished, unfinished, played, points}
+use Rattle.ucl_order.specs.Order.{is_in, all_clubs, order_of}
+
+-- the points that nothing can take from the club
+abbrev pub sure_points : List Match → ℕ → ℕ
+sure_points ms club = points club (finished ms)
+
+-- the points that the club has if it wins each match that it has left
+abbrev pub reach : List Match → ℕ → ℕ
+reach ms club = sure_points ms club + 3 * played club (unfinished ms)
+
+-- another club can reach the club's points
+abbrev pub is_rival : List Match → ℕ → ℕ → Bool
+is_rival ms club other = not (other == club) && nat_le (sure_points ms club) (reach ms other)
+
+-- another club has more points than the club can reach
+abbrev pub has_escaped : List Match → ℕ → ℕ → Bool
+has_escaped ms club other = not (other == club) && nat_lt (reach ms club) (sure_points ms other)
+
+abbrev pub rivals : List Match → ℕ → ℕ
+rivals ms club = count_by (is_rival ms club) all_clubs
+
+abbrev pub escaped : List Match → ℕ → ℕ
+escaped ms club = count_by (has_escaped ms club) all_clubs
+
+-- before the last match is finished: by points alone
+abbrev pub early_mark : List Match → ℕ → Mark
+early_mark ms club = if nat_le (rivals ms club) 1 then Plus else (if nat_le 2 (escaped ms club) then Minus else Blank)
+
+-- at the end: by the order
+abbrev pub final_mark : List ℕ → ℕ → Mark
+final_mark order club = if is_in (take 2 order) club then Plus else Minus
+
+abbrev pub mark_by : List Match → List ℕ → ℕ → Mark
+mark_by ms order club = if list_all has_finished ms then final_mark order club else early_mark ms club
+
+-- the mark of a club
+unfoldable pub mark_of : List ℕ → List ClubEntry → ℕ → Mark
+mark_of board roster club = mark_by (matches_of board) (order_of board roster) club
+
+-- the club is among the first two of the order
+abbrev pub GoesThrough : List ℕ → List ClubEntry → ℕ → Type 0
+GoesThrough board roster club = Contains (take 2 (order_of board roster)) club
+
+-- how a group may end: all matches are finished, each with some valid record, and those that were finished stay as they are
+pub record IsCompletion (board later : List ℕ) : Type 0 where
+  pub words : AreWords later
+  pub ended : (game : ℕ) → IsMatch game → (game_at later game).state ≡ Finished
+  pub kept : (game : ℕ) → IsMatch game → (game_at board game).state ≡ Finished → game_at later game ≡ game_at board game

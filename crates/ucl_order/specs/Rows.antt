@@ -1,0 +1,50 @@
+-- The rows of the table.
+use Rattle.std.specs.Prelude.{ℕ, ◌-◌, ◌≤◌, List, [], ◌∷◌, map, slice_index}
+use Rattle.ucl_board.specs.Fixtures.{IsSlot}
+use Rattle.ucl_order.specs.declared.game.Match.{Match}
+use Rattle.ucl_order.specs.declared.mark.Mark.{Mark}
+use Rattle.ucl_order.specs.declared.table.Row.{Row}
+use Rattle.ucl_order.specs.Roster.{ClubEntry}
+use Rattle.ucl_order.specs.Results.{matches_of, started, played, wins, draws, losses, goals_for, goals_against, points}
+use Rattle.ucl_order.specs.Order.{order_of}
+use Rattle.ucl_order.specs.Marks.{mark_of}
+
+-- what a club has done in some matches, at its place
+abbrev pub row_with : ℕ → ℕ → Mark → List Match → Row
+row_with place slot mark ms = record {
+  slot = slot;
+  place = place;
+  mark = mark;
+  played = played slot ms;
+  wins = wins slot ms;
+  draws = draws slot ms;
+  losses = losses slot ms;
+  goals_for = goals_for slot ms;
+  goals_against = goals_against slot ms;
+  points = points slot ms;
+}
+
+-- the club at a place of the order
+abbrev pub club_at : List ℕ → List ClubEntry → ℕ → ℕ
+club_at board roster place = slice_index (order_of board roster) (place - 1)
+
+-- the row at a place: the club's mark, and what it has done in the matches in play and finished
+unfoldable pub row_of : List ℕ → List ClubEntry → ℕ → Row
+row_of board roster place =
+    let slot = club_at board roster place in
+    row_with place slot (mark_of board roster slot) (started (matches_of board))
+
+-- the table of a board and a roster, by place
+abbrev pub rows_of : List ℕ → List ClubEntry → List Row
+rows_of board roster = map (row_of board roster) (1 ∷ 2 ∷ 3 ∷ 4 ∷ [])
+
+-- a row of a group of four clubs, each with six matches of at most 63 goals a side
+pub record IsWithinTable (row : Row) : Type 0 where
+  pub slot : IsSlot row.slot
+  pub played : row.played ≤ 6
+  pub wins : row.wins ≤ 6
+  pub draws : row.draws ≤ 6
+  pub losses : row.losses ≤ 6
+  pub goals_for : row.goals_for ≤ 378
+  pub goals_against : row.goals_against ≤ 378
+  pub points : row.points ≤ 18

@@ -1,0 +1,187 @@
+//! The matches of a group, and how each of its clubs sees one.
+
+ghost use Rattle.std.specs.Prelude.{◌≡◌, ◌≤◌, All, length};
+ghost use Rattle.ucl_word.specs.Record.{IsValid};
+ghost use Rattle.ucl_order.specs.Order.{among};
+ghost use Rattle.ucl_order.specs.Results.{finished, has_finished, has_started, is_drawn, is_lost, is_won, matches_of, penalty, seen_by, started, unfinished};
+
+use arrayvec::ArrayVec;
+use ucl_board::{Board, away_of, home_of};
+use ucl_word::{MatchNo, MatchRecord, State};
+
+/// A match of the group: the slots of its clubs, and what is known of it.
+#[derive(Clone, Copy, Debug, Default, PartialEq, Eq)]
+pub(crate) struct Match {
+    pub(crate) home: u8,
+    pub(crate) away: u8,
+    pub(crate) result: MatchRecord,
+}
+
+/// A match as one of its clubs sees it.
+#[derive(Clone, Copy, Debug, PartialEq, Eq)]
+pub(crate) struct Appearance {
+    /// Whether the club is the visitor.
+    pub(crate) is_away: bool,
+    /// Goals of the club.
+    pub(crate) scored: u8,
+    /// Goals of its opponent.
+    pub(crate) conceded: u8,
+    /// Yellow cards of the club that stand.
+    pub(crate) yellows: u8,
+    /// Expulsions of the club.
+    pub(crate) expulsions: u8,
+}
+
+impl Match {
+    /// The match as the club sees it, if it plays in it.
+    pub(crate) fn seen_by(&self, club: u8) -> Option<Appearance>
+        ensures { result ≡ seen_by club self.now }
+    {
+        let game = &self.result;
+        if self.home == club {
+            Some(Appearance {
+                is_away: false,
+                scored: game.home_goals,
+                conceded: game.away_goals,
+                yellows: game.home_yellows,
+                expulsions: game.home_expulsions,
+            })
+        } else if self.away == club {
+            Some(Appearance {
+                is_away: true,
+                scored: game.away_goals,
+                conceded: game.home_goals,
+                yellows: game.away_yellows,
+                expulsions: game.away_expulsions,
+            })
+        } else {
+            None
+        }
+    }
+
+    /// Whether the match is in play or finished.
+    fn has_started(&self) -> bool
+        ensures { result ≡ has_started self.now }
+    {
+        match self.result.state {
+            State::Scheduled => false,
+            State::InPlay | State::Finished => true,
+        }
+    }
+
+    /// Whether the match is finished.
+    pub(crate) fn has_finished(&self) -> bool
+        ensures { result ≡ has_finished self.now }
+    {
+        match self.result.state {
+            State::Scheduled | State::InPlay => false,
+            State::Finished => true,
+        }
+    }
+}
+
+impl Appearance {
+    /// Whether the club scored more than its opponent.
+    pub(crate) fn is_won(&self) -> bool
+        ensures { result ≡ is_won self.now }
+    {
+        self.conceded < self.scored
+    }
+
+    /// Whether both scored the same.
+    pub(crate) fn is_drawn(&self) -> bool
+        ensures { result ≡ is_drawn self.now }
+    {
+        self.scored == self.conceded
+    }
+
+    /// Whether the club scored less than its opponent.
+    pub(crate) fn is_lost(&self) -> bool
+        ensures { result ≡ is_lost self.now }
+    {
+        self.scored < self.conceded
+    }
+
+    /// What the match adds to the disciplinary total of the club: 1 for each yellow card that stands, 3 for each expulsion.
+    pub(crate) fn penalty(&self) -> u16
+        ensures value { result ≡ penalty self.now }
+        ensures few { result ≤ 1020 }
+    {
+        u16::from(self.yellows) + 3 * u16::from(self.expulsions)
+    }
+}
+
+/// The twelve matches of the board.
+pub(crate) fn matches_of(board: &Board) -> ArrayVec<Match, 12>
+    ensures value { result.items ≡ matches_of board.now }
+    ensures twelve { length result.items ≡ 12 }
+    ensures valid { All (λ m. IsValid m.result) result.items }
+{
+    let mut matches = ArrayVec::new();
+    for number in 1..13 {
+        if let Some(game) = MatchNo::new(number) {
+            matches.push(Match {
+                home: home_of(game),
+                away: away_of(game),
+                result: board.game(game),
+            });
+        }
+    }
+    matches
+}
+
+/// The matches in play and finished.
+pub(crate) fn started(matches: &[Match]) -> ArrayVec<Match, 12>
+    requires { length matches.now ≤ 12 }
+    ensures { result.items ≡ started matches.now }
+{
+    let mut chosen = ArrayVec::new();
+    for game in matches {
+        if game.has_started() {
+            chosen.push(*game);
+        }
+    }
+    chosen
+}
+
+/// The finished matches.
+pub(crate) fn finished(matches: &[Match]) -> ArrayVec<Match, 12>
+    requires { length matches.now ≤ 12 }
+    ensures { result.items ≡ finished matches.now }
+{
+    let mut chosen = ArrayVec::new();
+    for game in matches {
+        if game.has_finished() {
+            chosen.push(*game);
+        }
+    }
+    chosen
+}
+
+/// The matches that are not finished.
+pub(crate) fn unfinished(matches: &[Match]) -> ArrayVec<Match, 12>
+    requires { length matches.now ≤ 12 }
+    ensures { result.items ≡ unfinished matches.now }
+{
+    let mut chosen = ArrayVec::new();
+    for game in matches {
+        if !game.has_finished() {
+            chosen.push(*game);
+        }
+    }
+    chosen
+}
+
+/// The matches in which both clubs are of the set.
+pub(crate) fn among(clubs: &[u8], matches: &[Match]) -> ArrayVec<Match, 12>
+    requires { length matches.now ≤ 12 }
+    ensures { result.items ≡ among clubs.now matches.now }
+{
+    let mut chosen = ArrayVec::new();
+    for game in matches {
+        if clubs.contains(&game.home) && clubs.contains(&game.away) {
+            chosen.push(*game);
+        }
+    }
+    chosen
+}

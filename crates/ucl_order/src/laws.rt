@@ -1,0 +1,40 @@
+//! What holds of every order and of every mark. The functions do nothing: each is there for its contract.
+
+ghost use Rattle.ucl_order.specs.Laws.{ClassesAreLevel, MinusIsCertain, OrderGoesByStanding, OrderHasEachClub, OrderIsUnique, PlusIsCertain, TiesFollowRule};
+
+/// The order has each of the four clubs once.
+pub fn order_has_each_club()
+    ensures { OrderHasEachClub }
+{}
+
+/// The classes of a set are its level clubs, highest first: of two clubs the higher has fewer above it, and level clubs have as many.
+pub fn classes_are_level()
+    ensures { ClassesAreLevel }
+{}
+
+/// Clubs that are level on points follow the rule: head to head, again within each smaller class, and by all matches where one class
+/// is left.
+pub fn ties_follow_rule()
+    ensures { TiesFollowRule }
+{}
+
+/// Of two clubs the one comes first in the order that stands above the other: by points, head to head among those that are level, or
+/// all matches.
+pub fn order_goes_by_standing()
+    ensures { OrderGoesByStanding }
+{}
+
+/// No other list of the four clubs has each above all that follow.
+pub fn order_is_unique()
+    ensures { OrderIsUnique }
+{}
+
+/// A club marked `Plus` is among the first two however the group ends.
+pub fn plus_is_certain()
+    ensures { PlusIsCertain }
+{}
+
+/// A club marked `Minus` is not among the first two, however the group ends.
+pub fn minus_is_certain()
+    ensures { MinusIsCertain }
+{}

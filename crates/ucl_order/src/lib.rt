@@ -1,0 +1,21 @@
+//! The clubs of a group, their order and the table.
+#![tactic(auto)]
+
+mod game;
+mod laws;
+mod mark;
+mod order;
+mod results;
+mod roster;
+mod table;
+
+pub use laws::{
+    classes_are_level, minus_is_certain, order_goes_by_standing, order_has_each_club,
+    order_is_unique, plus_is_certain, ties_follow_rule,
+};
+pub use mark::Mark;
+pub use roster::{BadRoster, Club, Roster};
+pub use table::{Row, standings};
+
+#[cfg(test)]
+mod tests;

@@ -1,0 +1,97 @@
+//! What a club has done.
+
+ghost use Rattle.std.specs.Prelude.{◌≡◌, ℕ, ◌≤◌, ◌+◌, ◌*◌, ◌-ℤ◌, pos, length};
+ghost use Rattle.std.specs.Ordering.{int_cmp};
+ghost use Rattle.ucl_order.specs.Results.{results_of};
+ghost use Rattle.ucl_order.specs.Counting.{IsWithin, with_match};
+
+use crate::game::{Appearance, Match};
+use std::cmp::Ordering;
+
+/// What a club has done in some matches.
+#[derive(Clone, Copy, Debug, PartialEq, Eq)]
+pub(crate) struct Results {
+    pub(crate) played: u8,
+    pub(crate) wins: u8,
+    pub(crate) draws: u8,
+    pub(crate) losses: u8,
+    pub(crate) goals_for: u16,
+    pub(crate) goals_against: u16,
+    pub(crate) away_goals: u16,
+    pub(crate) away_wins: u8,
+    /// The disciplinary total.
+    pub(crate) discipline: u16,
+}
+
+impl Results {
+    /// What a club has done in no match.
+    const NONE: Results = Results {
+        played: 0,
+        wins: 0,
+        draws: 0,
+        losses: 0,
+        goals_for: 0,
+        goals_against: 0,
+        away_goals: 0,
+        away_wins: 0,
+        discipline: 0,
+    };
+
+    /// Counts one match more.
+    fn add(&mut self, game: &Appearance)
+        requires { IsWithin 11 self.old }
+        ensures value { self.new ≡ with_match self.old game.now }
+        ensures within { (n : ℕ) → IsWithin n self.old → IsWithin (n + 1) self.new }
+    {
+        self.played += 1;
+        self.wins += u8::from(game.is_won());
+        self.draws += u8::from(game.is_drawn());
+        self.losses += u8::from(game.is_lost());
+        self.goals_for += u16::from(game.scored);
+        self.goals_against += u16::from(game.conceded);
+        self.discipline += game.penalty();
+        if game.is_away {
+            self.away_goals += u16::from(game.scored);
+            self.away_wins += u8::from(game.is_won());
+        }
+    }
+
+    /// What the club has done in these matches.
+    pub(crate) fn of(club: u8, matches: &[Match]) -> Results
+        requires { length matches.now ≤ 12 }
+        ensures value { result ≡ results_of club matches.now }
+        ensures few { IsWithin 12 result }
+    {
+        let mut results = Results::NONE;
+        for game in matches {
+            if let Some(seen) = game.seen_by(club) {
+                results.add(&seen);
+            }
+        }
+        results
+    }
+
+    /// Three for a win, one for a draw.
+    pub(crate) fn points(&self) -> u8
+        requires { IsWithin 12 self.now }
+        ensures value { result ≡ 3 * self.now.wins + self.now.draws }
+        ensures few { result ≤ 48 }
+    {
+        3 * self.wins + self.draws
+    }
+
+    /// Compares goal differences.
+    pub(crate) fn by_difference(&self, other: &Results) -> Ordering
+        ensures { result ≡ int_cmp (pos self.now.goals_for -ℤ pos self.now.goals_against)
+            (pos other.now.goals_for -ℤ pos other.now.goals_against) }
+    {
+        self.difference().cmp(&other.difference())
+    }
+
+    /// Goals for less goals against.
+    fn difference(&self) -> i32
+        ensures { result ≡ pos self.now.goals_for -ℤ pos self.now.goals_against }
+    {
+        i32::from(self.goals_for) - i32::from(self.goals_against)
+    }
+}

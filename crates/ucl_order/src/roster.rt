@@ -1,0 +1,144 @@
+//! The clubs of a group, by their slots.
+
+ghost use Rattle.std.specs.Prelude.{◌≡◌, ◌≤◌, None, Some, true, false, IfOk, IfErr, IfSome, IfNone, length, map};
+ghost use Rattle.std.specs.List.{list_all};
+ghost use Rattle.ucl_board.specs.Fixtures.{IsSlot};
+ghost use Rattle.ucl_order.specs.Roster.{entry_of, is_printed, is_name, is_club, IsClub, bad_slot, name_of, coefficient_of};
+ghost use Rattle.ucl_order.specs.Members.{member_entry};
+
+use arrayvec::ArrayVec;
+use std::marker::Model;
+use thiserror::Error;
+
+/// The most bytes that a club's name has.
+const MOST_NAME_BYTES: usize = 20;
+
+/// The first byte of printed ASCII, a space.
+const FIRST_PRINTED: u8 = 0x20;
+
+/// The last byte of printed ASCII.
+const LAST_PRINTED: u8 = 0x7e;
+
+/// The greatest coefficient of a club.
+const GREATEST_COEFFICIENT: u32 = 999_999;
+
+/// A club as a roster takes it in. Either field can hold anything; `Roster::new` says what a roster takes.
+#[derive(Debug, Drop)]
+pub struct Club {
+    /// The name: 1 to 20 bytes of printed ASCII, 0x20 to 0x7e.
+    pub name: Vec<u8>,
+    /// The club coefficient in whole thousandths, 0 to 999,999. Two clubs may have the same.
+    pub coefficient: u32,
+}
+
+/// 21: a club that no roster takes in. Its name is not 1 to 20 bytes of printed ASCII, or its coefficient is over 999,999.
+#[derive(Clone, Copy, Debug, PartialEq, Eq, Error)]
+#[error("bad roster 21: slot {slot}")]
+pub struct BadRoster {
+    /// The least slot with such a club, 1 to 4.
+    pub slot: u8,
+}
+
+/// A club of a roster, with its name in the value itself.
+#[derive(Debug, Drop)]
+struct Member {
+    name: ArrayVec<u8, MOST_NAME_BYTES>,
+    coefficient: u32,
+}
+
+/// The four clubs of a group, by slots 1 to 4. Contracts see the list of their names and coefficients.
+#[derive(Debug, Drop)]
+pub struct Roster {
+    members: [Member; 4],
+}
+
+impl Model for Roster {
+    ghost use Rattle.std.specs.Prelude.{List};
+    ghost use Rattle.ucl_order.specs.Roster.{ClubEntry, IsRoster};
+    ghost use Rattle.ucl_order.specs.Members.{entries_of};
+
+    ghost Value = { List ClubEntry };
+
+    ghost view = { λ r. entries_of r.members };
+
+    ghost invariant = { λ r. IsRoster (entries_of r.members) };
+}
+
+/// Whether each byte is one of printed ASCII.
+fn is_printed(name: &[u8]) -> bool
+    ensures { result ≡ list_all is_printed name.now }
+{
+    name.iter()
+        .all(|b| FIRST_PRINTED <= *b && *b <= LAST_PRINTED)
+}
+
+/// Whether a name has 1 to 20 bytes of printed ASCII.
+fn is_name(name: &[u8]) -> bool
+    ensures { result ≡ is_name name.now }
+{
+    if name.is_empty() || name.len() > MOST_NAME_BYTES {
+        return false;
+    }
+    is_printed(name)
+}
+
+/// A copy of the club in this slot, where a roster takes it in.
+#[tactic(auto, unfolding(crate::specs::Roster::is_club))]
+fn member_of(slot: u8, club: &Club) -> Result<Member, BadRoster>
+    ensures taken { IfOk result (λ m. IsClub (entry_of club.now) × (member_entry m ≡ entry_of club.now)) }
+    ensures refused { IfErr result (λ bad. (is_club (entry_of club.now) ≡ false) × (bad.slot ≡ slot)) }
+{
+    let bad = BadRoster { slot };
+    if !is_name(&club.name) || club.coefficient > GREATEST_COEFFICIENT {
+        return Err(bad);
+    }
+    let mut name = ArrayVec::new();
+    match name.try_extend_from_slice(&club.name) {
+        Ok(()) => {}
+        Err(_) => return Err(bad),
+    }
+    Ok(Member {
+        name,
+        coefficient: club.coefficient,
+    })
+}
+
+impl Roster {
+    /// The roster of four clubs, the first of which is in slot 1. It takes no memory: the names are copied, and the
+    /// clubs are dropped, also where they are refused.
+    ///
+    /// A club whose name is not 1 to 20 bytes of printed ASCII, or whose coefficient is over 999,999, is refused. The
+    /// answer names the least slot with such a club.
+    #[tactic(auto, unfolding(crate::specs::Roster::bad_slot_from))]
+    pub fn new(clubs: [Club; 4]) -> Result<Roster, BadRoster>
+        ensures taken { IfOk result (λ roster. (roster ≡ map entry_of clubs) × (bad_slot (map entry_of clubs) ≡ None)) }
+        ensures refused { IfErr result (λ bad. bad_slot (map entry_of clubs) ≡ Some bad.slot) }
+    {
+        let members = [
+            member_of(1, &clubs[0])?,
+            member_of(2, &clubs[1])?,
+            member_of(3, &clubs[2])?,
+            member_of(4, &clubs[3])?,
+        ];
+        Ok(Roster { members })
+    }
+
+    /// The name of the club in a slot from 1 to 4: 1 to 20 bytes of printed ASCII.
+    pub fn name(&self, slot: u8) -> &[u8]
+        requires { IsSlot slot }
+        ensures value { result.now ≡ name_of self.now slot }
+        ensures name { is_name result.now ≡ true }
+        ensures fits { length result.now ≤ 20 }
+    {
+        self.members[usize::from(slot - 1)].name.as_slice()
+    }
+
+    /// The coefficient of the club in a slot from 1 to 4, at most 999,999.
+    pub fn coefficient(&self, slot: u8) -> u32
+        requires { IsSlot slot }
+        ensures value { result ≡ coefficient_of self.now slot }
+        ensures bound { result ≤ 999999 }
+    {
+        self.members[usize::from(slot - 1)].coefficient
+    }
+}

@@ -1,0 +1,95 @@
+//! The table of a group.
+
+ghost use Rattle.std.specs.Prelude.{◌≡◌, ◌-◌, ◌≤◌, [], ◌∷◌, All, length, map, slice_index};
+ghost use Rattle.ucl_order.specs.Marks.{mark_by};
+ghost use Rattle.ucl_order.specs.Results.{started};
+ghost use Rattle.ucl_order.specs.Rows.{IsWithinTable, row_with, rows_of};
+
+use crate::game::{Match, matches_of, started};
+use crate::mark::{Mark, mark_of};
+use crate::order::order;
+use crate::results::Results;
+use crate::roster::Roster;
+use ucl_board::Board;
+
+/// A club at its place of the table. All numbers but the slot, the place and the mark are of the matches in play and finished.
+#[derive(Clone, Copy, Debug, PartialEq, Eq)]
+pub struct Row {
+    /// The slot of the club, 1 to 4.
+    pub slot: u8,
+    /// The place, 1 to 4.
+    pub place: u8,
+    /// Whether the club is sure of a place among the first two, by finished matches alone.
+    pub mark: Mark,
+    /// Matches, 0 to 6.
+    pub played: u8,
+    /// Matches won, 0 to 6.
+    pub wins: u8,
+    /// Matches drawn, 0 to 6.
+    pub draws: u8,
+    /// Matches lost, 0 to 6.
+    pub losses: u8,
+    /// Goals scored, 0 to 378.
+    pub goals_for: u16,
+    /// Goals conceded, 0 to 378.
+    pub goals_against: u16,
+    /// Three for a win, one for a draw, 0 to 18.
+    pub points: u8,
+}
+
+/// The row of a club at its place, by these matches.
+fn row_with(place: u8, slot: u8, mark: Mark, matches: &[Match]) -> Row
+    requires { length matches.now ≤ 12 }
+    ensures { result ≡ row_with place slot mark matches.now }
+{
+    let results = Results::of(slot, matches);
+    Row {
+        slot,
+        place,
+        mark,
+        played: results.played,
+        wins: results.wins,
+        draws: results.draws,
+        losses: results.losses,
+        goals_for: results.goals_for,
+        goals_against: results.goals_against,
+        points: results.points(),
+    }
+}
+
+/// The row at this place of the order.
+fn row_at(place: u8, order: &[u8], matches: &[Match]) -> Row
+    requires at_least { 1 ≤ place }
+    requires at_most { place ≤ 4 }
+    requires four { length order.now ≡ 4 }
+    requires short { length matches.now ≤ 12 }
+    ensures { let slot = slice_index order.now (place - 1) in
+        result ≡ row_with place slot (mark_by matches.now order.now slot) (started matches.now) }
+{
+    let slot = order[usize::from(place) - 1];
+    let mark = mark_of(matches, order, slot);
+    row_with(place, slot, mark, &started(matches))
+}
+
+/// The table of a board, in order of place.
+///
+/// Clubs stand by points, three for a win and one for a draw, over the matches in play and finished. Clubs that are level on points
+/// stand in the order of the Regulations of the UEFA Champions League 2021/22, equality of points in the group stage: (a) points,
+/// (b) goal difference and (c) goals scored in the matches among them; (d) the same again among each smaller class that stays level;
+/// then, over all matches, (e) goal difference, (f) goals scored, (g) away goals, (h) wins, (i) away wins, (j) the lower
+/// disciplinary total and (k) the higher coefficient; and at last by slot.
+pub fn standings(board: &Board, roster: &Roster) -> [Row; 4]
+    ensures rows { result ≡ rows_of board.now roster.now }
+    ensures four { length result ≡ 4 }
+    ensures places { map (λ row. row.place) result ≡ 1 ∷ 2 ∷ 3 ∷ 4 ∷ [] }
+    ensures within { All IsWithinTable result }
+{
+    let matches = matches_of(board);
+    let order = order(&started(&matches), roster);
+    [
+        row_at(1, &order, &matches),
+        row_at(2, &order, &matches),
+        row_at(3, &order, &matches),
+        row_at(4, &order, &matches),
+    ]
+}

@@ -1,0 +1,59 @@
+-- How wide the lines are.
+use Rattle.std.proofs.Common.{◌≡◌, ℕ, ◌+◌, ◌-◌, ◌*◌, ◌<◌, ◌≤◌, ◌^◌, Bool, true, false, cond, List, [], ◌∷◌, ◌++◌, length, replicate, codes, arith, refl, length-append}
+use Rattle.std.specs.Prelude.{decimal, nat_le}
+use Rattle.std.proofs.lemmas.List.{length-replicate}
+use Rattle.std.proofs.lemmas.Fmt.{length-decimal-le}
+use Rattle.ucl_order.specs.declared.mark.Mark.{Mark}
+use Rattle.ucl_order.specs.declared.mark.Mark.TheVariants.{Plus, Minus, Blank}
+use Rattle.ucl_order.specs.declared.table.Row.{Row}
+use Rattle.ucl_order.specs.Rows.{IsWithinTable}
+use Rattle.ucl_screen.specs.Lines.{left, right, difference_text, mark_text, place_line}
+use Rattle.ucl_screen.specs.Laws.{LinesHave53Columns}
+
+wide_left : (width : ℕ) (text : List ℕ) → length text ≤ width → length (left width text) ≡ width
+wide_left width text fits = omega (arith, length-append text (replicate (width - length text) 32), length-replicate {A = ℕ} (width - length text) 32)
+
+wide_right : (width : ℕ) (text : List ℕ) → length text ≤ width → length (right width text) ≡ width
+wide_right width text fits = omega (arith, length-append (replicate (width - length text) 32) text, length-replicate {A = ℕ} (width - length text) 32)
+
+wide_number : (width n : ℕ) → 0 < width → n < 10 ^ width → n < 2 ^ 64 → length (right width (decimal n)) ≡ width
+wide_number width n some fits word = wide_right width (decimal n) (length-decimal-le width n some fits word)
+
+signed : (b : Bool) (m n : ℕ) → m ≤ 378 → n ≤ 378 → length (cond b (codes "+" ++ decimal m) (codes "-" ++ decimal n)) ≤ 5
+signed true m n hm hn = let l = length-decimal-le 4 m (omega arith) (omega arith) (omega arith) in omega arith
+signed false m n hm hn = let l = length-decimal-le 4 n (omega arith) (omega arith) (omega arith) in omega arith
+
+wide_difference : (scored conceded : ℕ) → scored ≤ 378 → conceded ≤ 378 → length (right 5 (difference_text scored conceded)) ≡ 5
+wide_difference scored conceded s c = wide_right 5 (difference_text scored conceded) (signed (nat_le conceded scored) (scored - conceded) (conceded - scored) (omega arith) (omega arith))
+
+wide_mark : (mark : Mark) → length (mark_text mark) ≡ 3
+wide_mark Plus = refl
+wide_mark Minus = refl
+wide_mark Blank = refl
+
+-- twelve pieces of known lengths
+added : (a b c d e f g h i j k l : List ℕ) → length (a ++ b ++ c ++ d ++ e ++ f ++ g ++ h ++ i ++ j ++ k ++ l)
+    ≡ length a + length b + length c + length d + length e + length f + length g + length h + length i + length j + length k + length l
+added a b c d e f g h i j k l = simp length-append
+
+wide_line : (row : Row) (name : List ℕ) → IsWithinTable row → row.place ≤ 4 → length name ≤ 20 → length (place_line row name) ≡ 54
+unfolding place_line
+wide_line row name w place fits =
+    let sum = added (right 1 (decimal row.place)) (mark_text row.mark) (left 20 name) (right 3 (decimal row.played)) (right 3 (decimal row.wins)) (right 3 (decimal row.draws))
+    (right 3 (decimal row.losses)) (right 4 (decimal row.goals_for)) (right 4 (decimal row.goals_against)) (right 5 (difference_text row.goals_for row.goals_against))
+    (right 4 (decimal row.points)) (codes "\n") in
+    let a = wide_number 1 row.place (omega arith) (omega arith) (omega arith) in
+    let b = wide_mark row.mark in
+    let c = wide_left 20 name fits in
+    let d = wide_number 3 row.played (omega arith) (omega arith) (omega arith) in
+    let e = wide_number 3 row.wins (omega arith) (omega arith) (omega arith) in
+    let f = wide_number 3 row.draws (omega arith) (omega arith) (omega arith) in
+    let g = wide_number 3 row.losses (omega arith) (omega arith) (omega arith) in
+    let h = wide_number 4 row.goals_for (omega arith) (omega arith) (omega arith) in
+    let i = wide_number 4 row.goals_against (omega arith) (omega arith) (omega arith) in
+    let j = wide_difference row.goals_for row.goals_against w.goals_for w.goals_against in
+    let k = wide_number 4 row.points (omega arith) (omega arith) (omega arith) in
+    omega arith
+
+pub lines_wide : LinesHave53Columns
+lines_wide = record { names = refl; places = wide_line }

@@ -1,0 +1,41 @@
+-- Numbers read one digit at a time.
+use Rattle.std.proofs.Common.{◌≡◌, ℕ, ◌+◌, ◌-◌, ◌*◌, ◌^◌, ◌<◌, ◌≤◌, ◌==◌, nat_le, Bool, true, false, List, [], ◌∷◌, length, drop, get_or, Option, Some, None, refl, sym, ap, ◌∙◌, arith, add-one, drop-cons}
+use Rattle.std.proofs.Math.Nat.{pow-suc}
+use Rattle.std.proofs.lemmas.Grind.{common_steps}
+use Rattle.std.proofs.lemmas.Bool.Decides.{nat_tests}
+use Rattle.ucl_screen.specs.Numbers.{digits_after, is_digit, number}
+
+pub number-is : (most : ℕ) (text : List ℕ) → 1 ≤ length text → length text ≤ most → number most text ≡ digits_after 0 text
+number-is most text a b = grind (arith, nat_tests)
+
+digit-true : (b : ℕ) → 48 ≤ b → b ≤ 57 → is_digit b ≡ true
+digit-true b p q = grind (arith, nat_tests)
+
+pub more-digits : (n i : ℕ) (text : List ℕ) → i < length text → 48 ≤ get_or text i 0 → get_or text i 0 ≤ 57
+    → digits_after n (drop i text) ≡ digits_after (10 * n + (get_or text i 0 - 48)) (drop (i + 1) text)
+unfolding digits_after
+more-digits n i text h p q = rw (drop-cons text i 0, add-one i, digit-true _ p q) refl
+
+digit-low : (b : ℕ) → b < 48 → is_digit b ≡ false
+digit-low b p = grind (arith, nat_tests)
+
+digit-high : (b : ℕ) → 57 < b → is_digit b ≡ false
+digit-high b p = grind (arith, nat_tests)
+
+pub no-digit-low : (n i : ℕ) (text : List ℕ) → i < length text → get_or text i 0 < 48 → digits_after n (drop i text) ≡ None
+unfolding digits_after
+no-digit-low n i text h p = rw (drop-cons text i 0, digit-low _ p) refl
+
+pub no-digit-high : (n i : ℕ) (text : List ℕ) → i < length text → 57 < get_or text i 0 → digits_after n (drop i text) ≡ None
+unfolding digits_after
+no-digit-high n i text h p = rw (drop-cons text i 0, digit-high _ p) refl
+
+pub no-more : (n i : ℕ) (text : List ℕ) → length text ≤ i → digits_after n (drop i text) ≡ Some n
+unfolding digits_after
+no-more n i text h = let e : drop i text ≡ [] = grind (arith, common_steps) in rw e refl
+
+pub nonempty : (text : List ℕ) (r : Bool) → r ≡ (length text == 0) → r ≡ false → 1 ≤ length text
+nonempty text r e f = grind (arith, nat_tests)
+
+pub one-more-digit : (n i d : ℕ) → n < 10 ^ i → d ≤ 9 → 10 * n + d < 10 ^ (i + 1)
+one-more-digit n i d h k = rw (add-one i, pow-suc 10 i) (omega arith)

@@ -1,0 +1,10 @@
+pub mod Moves
+pub mod FourFacts
+pub mod RowFacts
+pub mod Digits
+pub mod Loop
+pub mod HexDigits
+pub mod Sound
+pub mod Pieces
+pub mod Names
+pub mod Columns

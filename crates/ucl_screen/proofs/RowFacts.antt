@@ -1,0 +1,170 @@
+-- The records of a text, one after the other.
+use Rattle.std.proofs.Common.{◌≡◌, ℕ, zero, suc, ◌+◌, ◌<◌, ◌≤◌, ◌-◌, Bool, true, false, ◌==◌, ◌||◌, if◌then◌else◌, List, [], ◌∷◌, ◌++◌, length, Option, Some, None, refl, sym, ap, ◌∙◌, arith, add-one, ◌⊎◌, inl, inr, rules}
+use Rattle.std.proofs.lemmas.Bool.{cases_Bool}
+use Rattle.csv.specs.Machine.{Read, next_record, ends_at_end, step, is_end, fields_after, field_after, in_field, start_field, start_record}
+use Rattle.std.specs.Borrow.{Bor}
+use Rattle.csv.proofs.ReadFacts.{rows-end, rows-more}
+use Rattle.csv.specs.Reading.{default_config, records_from, records_next, strip_bom, is_bom, Reached, ReadRecord, took_first, has_failed}
+use Rattle.csv.specs.declared.reader.Reader.{Reader}
+use Rattle.csv.specs.declared.parser.State.{State}
+use Rattle.csv.specs.declared.parser.State.TheVariants as st
+use Rattle.csv.specs.declared.parser.Action.{Action}
+use Rattle.csv.specs.declared.parser.Action.TheVariants as act
+use Rattle.ucl_screen.specs.Rows.{Fields, IsReading, bytes_left, rows_from, rows_left, rows_of}
+
+-- a byte that ends a record leaves a state between two records
+abbrev Closes : State × Action → Type 0
+Closes p = is_end p.1 ≡ true → ends_at_end p.0 ≡ false
+
+closes-if : (x : Bool) (p q : State × Action) → Closes p → Closes q → Closes (if x then p else q)
+closes-if true p q a b = a
+closes-if false p q a b = b
+
+between-if : (x : Bool) → ends_at_end (if x then st.AfterCr else st.StartRecord) ≡ false
+between-if true = refl
+between-if false = refl
+
+in-field : (c : ℕ) → Closes (in_field default_config c)
+in-field c = closes-if (c == 44) _ _ (λ h. cc h) (closes-if ((c == 13) || (c == 10)) (if c == 13 then st.AfterCr else st.StartRecord, act.EndRecord) (st.InField, act.Copy) (λ h. between-if (c == 13)) (λ h. cc h))
+
+start-field : (c : ℕ) → Closes (start_field default_config c)
+start-field c = closes-if (c == 34) _ _ (λ h. cc h) (in-field c)
+
+start-record : (c : ℕ) → Closes (start_record default_config c)
+start-record c = closes-if ((c == 13) || (c == 10)) (st.StartRecord, act.Skip) (start_field default_config c) (λ h. cc h) (start-field c)
+
+any-step : (s : State) (c : ℕ) → Closes (step default_config s c)
+any-step st.StartRecord c = start-record c
+any-step st.StartField c = start-field c
+any-step st.InField c = in-field c
+any-step st.InQuoted c = closes-if (c == 34) _ _ (λ h. cc h) (λ h. cc h)
+any-step st.InEscape c = let no : Closes (st.InQuoted, act.Copy) = λ h. cc h in no
+any-step st.AfterQuote c = closes-if (c == 34) _ _ (λ h. cc h) (in-field c)
+any-step st.InComment c = closes-if (c == 10) _ _ (λ h. cc h) (λ h. cc h)
+any-step st.AfterCr c = closes-if (c == 10) _ _ (λ h. cc h) (start-record c)
+
+-- what is behind a record that was read: the state is between two records, and the text is shorter, or was empty
+pub record Behind (xs : List ℕ) (p : Read) : Type 0 where
+  pub between : ends_at_end p.1 ≡ false
+  pub shorter : length p.2 ≤ length xs - 1
+
+the-end : (b : Bool) (fields : List (List ℕ)) (p : Read) → ◌≡◌ {A = Option Read} (if b then Some (fields, st.StartRecord, []) else None) (Some p) → Behind [] p
+the-end true fields p e =
+    let q : ◌≡◌ {A = Read} (fields, st.StartRecord, []) p = cc in
+    rw (← q) (record { between = refl; shorter = omega arith })
+the-end false fields p e = cc e
+
+at-once : (s : State) (c : ℕ) (fields : List (List ℕ)) (xs : List ℕ) (p : Read) → is_end (step default_config s c).1 ≡ true
+    → ◌≡◌ {A = Option Read} (Some (fields, (step default_config s c).0, xs)) (Some p) → Behind (c ∷ xs) p
+at-once s c fields xs p h e =
+    let q : ◌≡◌ {A = Read} (fields, (step default_config s c).0, xs) p = cc in
+    rw (← q) (record { between = any-step s c h; shorter = omega arith })
+
+pub behind : (s : State) (fields : List (List ℕ)) (field xs : List ℕ) (p : Read) → next_record default_config s fields field xs ≡ Some p → Behind xs p
+unfolding next_record
+behind s fields field [] p e = the-end (ends_at_end s) (fields ++ (field ∷ [])) p e
+behind s fields field (c ∷ xs) p e = elim (cases_Bool (is_end (step default_config s c).1)) [
+  | inl ends ↦ at-once s c (fields_after (step default_config s c).1 fields field) xs p ends (rw ends at e)
+  | inr goes ↦
+      let h = behind (step default_config s c).0 (fields_after (step default_config s c).1 fields field) (field_after (step default_config s c).1 c field) xs p (rw goes at e) in
+      record { between = h.between; shorter = let k = h.shorter in omega arith }
+]
+
+nothing-left : (s : State) → ends_at_end s ≡ false → next_record default_config s [] [] [] ≡ None
+unfolding next_record
+nothing-left s h = rw h refl
+
+read-cases : (o : Option Read) → (o ≡ None) ⊎ ((p : Read) × (o ≡ Some p))
+read-cases None = inl refl
+read-cases (Some p) = inr (p, refl)
+
+-- more turns than there are bytes change nothing
+pub enough : (n m : ℕ) (s : State) (xs : List ℕ) → ends_at_end s ≡ false → length xs < n → length xs < m
+    → records_from default_config n s xs ≡ records_from default_config m s xs
+unfolding records_from
+enough zero m s xs b p q = absurd (omega arith)
+enough (suc n) zero s xs b p q = absurd (omega arith)
+enough (suc n) (suc m) s [] b p q = rw (nothing-left s b) refl
+enough (suc n) (suc m) s (c ∷ xs) b p q = elim (read-cases (next_record default_config s [] [] (c ∷ xs))) [
+  | inl none ↦ rw none refl
+  | inr some ↦
+      let h = behind s [] [] (c ∷ xs) some.0 some.1 in
+      let k = h.shorter in
+      let e : records_from default_config n some.0.1 some.0.2 ≡ records_from default_config m some.0.1 some.0.2 = enough n m some.0.1 some.0.2 h.between (omega arith) (omega arith) in
+      rw some.1 (ap (λ (t : List Fields). some.0.0 ∷ t) e)
+]
+
+-- a text has no more records than bytes
+pub few : (n : ℕ) (s : State) (xs : List ℕ) → ends_at_end s ≡ false → length (records_from default_config n s xs) ≤ length xs
+unfolding records_from
+few zero s xs b = omega arith
+few (suc n) s [] b = rw (nothing-left s b) (omega arith)
+few (suc n) s (c ∷ xs) b = elim (read-cases (next_record default_config s [] [] (c ∷ xs))) [
+  | inl none ↦ rw none (omega arith)
+  | inr some ↦
+      let h = behind s [] [] (c ∷ xs) some.0 some.1 in
+      let k = h.shorter in
+      let rest = few n some.0.1 some.0.2 h.between in
+      rw some.1 (omega arith)
+]
+
+-- the first record, and those after it
+pub rows-next : (s : State) (xs : List ℕ) (p : Read) → ends_at_end s ≡ false → next_record default_config s [] [] xs ≡ Some p
+    → rows_from s (Some xs) ≡ p.0 ∷ rows_from p.1 (Some p.2)
+unfolding rows_from records_from
+rows-next s [] p b e = let no = nothing-left s b in cc
+rows-next s (c ∷ xs) p b e =
+    let h = behind s [] [] (c ∷ xs) p e in
+    let k = h.shorter in
+    let same : records_from default_config (length (c ∷ xs)) p.1 p.2 ≡ records_from default_config (length p.2 + 1) p.1 p.2 = enough (length (c ∷ xs)) (length p.2 + 1) p.1 p.2 h.between (omega arith) (omega arith) in
+    rw (add-one (length (c ∷ xs)), e) (ap (λ (t : List Fields). p.0 ∷ t) same)
+
+pub rows-none : (s : State) (xs : List ℕ) → next_record default_config s [] [] xs ≡ None → rows_from s (Some xs) ≡ []
+unfolding rows_from records_from
+rows-none s xs e = rw (add-one (length xs), e) refl
+
+short-strip : (xs : List ℕ) → length (strip_bom xs) ≤ length xs
+unfolding strip_bom
+short-strip [] = omega arith
+short-strip (a ∷ []) = omega arith
+short-strip (a ∷ b ∷ []) = omega arith
+short-strip (a ∷ b ∷ c ∷ rest) = elim (cases_Bool (is_bom a b c)) [ inl y ↦ rw y (omega arith) | inr n ↦ rw n (omega arith) ]
+
+pub few-rows : (xs : List ℕ) → length (rows_of xs) ≤ length xs
+few-rows xs = let a = few (length (strip_bom xs) + 1) st.StartRecord (strip_bom xs) refl in let b = short-strip xs in omega arith
+
+-- what one read of a reader between two records does
+abbrev Source : Type 0
+Source = Reader (Bor (List ℕ))
+
+one-more : (a b : Source) (xs zs : List ℕ) (fields : Fields) → IsReading a → bytes_left a ≡ Some xs → bytes_left b ≡ Some zs
+    → Reached default_config a.state xs (fields ∷ []) b.state zs → (rows_left a ≡ fields ∷ rows_left b) × (ends_at_end b.state ≡ false)
+unfolding Reached
+one-more a b xs zs fields h at-a at-b reached =
+    let p = reached.0 in
+    let h2 = behind a.state [] [] xs p reached.1 in
+    let next = rows-next a.state xs p h.between reached.1 in
+    let e : rows_left a ≡ p.0 ∷ rows_from p.1 (Some p.2) = rw at-a next in
+    let same : rows_from p.1 (Some p.2) ≡ rows_left b = rw (reached.3.0, reached.3.1, at-b) refl in
+    (e ∙ rw (← reached.2, same) refl, rw (← reached.3.0) h2.between)
+
+pub read-found : (a b : Source) (xs : List ℕ) (fields : Fields) → IsReading a → bytes_left a ≡ Some xs → ReadRecord (λ (s : Bor (List ℕ)). Some s.now) a b true fields
+    → took_first b ≡ true → has_failed b ≡ has_failed a → IsReading b × (rows_left a ≡ fields ∷ rows_left b)
+unfolding Reached
+read-found a b xs fields h at-a r first failed =
+    let more = rows-more (λ (s : Bor (List ℕ)). Some s.now) a b fields default_config a.state xs xs [] h.config at-a (refl, refl) r in
+    let one = one-more a b xs more.0 fields h at-a more.1 more.2 in
+    (record { config = r.2 ∙ h.config; untrimmed = r.3 ∙ h.untrimmed; ready = inl first; sound = failed ∙ h.sound; between = one.1 }, one.0)
+
+pub read-none : (a b : Source) (xs : List ℕ) (fields : Fields) → IsReading a → bytes_left a ≡ Some xs → ReadRecord (λ (s : Bor (List ℕ)). Some s.now) a b false fields
+    → rows_left a ≡ []
+read-none a b xs fields h at-a r =
+    let none = rows-end (λ (s : Bor (List ℕ)). Some s.now) a b fields default_config xs h.config at-a r in
+    rw at-a (rows-none a.state xs none)
+
+either-known : (x : Bool) (xs ys : List ℕ) → (zs : List ℕ) × (◌≡◌ {A = Option (List ℕ)} (if x then Some xs else Some ys) (Some zs))
+either-known true xs ys = (xs, refl)
+either-known false xs ys = (ys, refl)
+
+pub known-left : (a : Source) → has_failed a ≡ false → (xs : List ℕ) × (bytes_left a ≡ Some xs)
+known-left a h = rw h (either-known _ _ _)

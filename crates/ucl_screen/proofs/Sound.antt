@@ -1,0 +1,132 @@
+-- What the rows of an input are refused for.
+use Rattle.std.proofs.Common.{◌≡◌, ℕ, zero, suc, ◌+◌, ◌≤◌, Bool, true, false, nat_le, List, [], ◌∷◌, length, Option, Some, None, refl, sym, subst, ◌∙◌, arith}
+use Rattle.std.proofs.lemmas.Bool.{le-leb}
+use Rattle.std.specs.Prelude.{Result, Ok, Err, IfSome, ⊤}
+use Rattle.ucl_order.specs.Roster.{ClubEntry, bad_slot}
+use Rattle.ucl_screen.specs.declared.fault.InputFault.{InputFault}
+use Rattle.ucl_screen.specs.declared.fault.InputFault.TheVariants as fault
+use Rattle.ucl_board.specs.Words.{AreWords, IsFirstBad}
+use Rattle.ucl_screen.specs.declared.night.Night.{Night}
+use Rattle.ucl_screen.specs.declared.sheet.Sheet.{Sheet}
+use Rattle.ucl_screen.specs.Input.{Reads, whole_input}
+use Rattle.ucl_screen.specs.Rows.{Fields, rows_of}
+use Rattle.ucl_screen.specs.Events.{event_of}
+use Rattle.ucl_screen.specs.Script.{◌>>=◌, said_by, or_bad, club_of, club_at, if_good, roster_at, events_from, word_of_row, words_from, NightEntry, SheetEntry, night_of_rows, sheet_of_rows, night_of, sheet_of}
+use Rattle.ucl_screen.specs.Meaning.{Gives, Refuses, MeansNight, MeansSheet, night_seen, sheet_seen}
+
+-- a row or a club is bad
+abbrev pub IsOfRows : InputFault → Type 0
+IsOfRows (fault.BadRow row) = ⊤
+IsOfRows (fault.BadRoster slot) = ⊤
+IsOfRows _ = ⊥
+
+abbrev pub Sound : {A : Type 0} → Result A InputFault → Type 0
+Sound (Ok x) = ⊤
+Sound (Err e) = IsOfRows e
+
+bind-sound : {A B : Type 0} (r : Result A InputFault) (f : A → Result B InputFault) → Sound r → ((x : A) → Sound (f x)) → Sound (r >>= f)
+bind-sound (Ok x) f s h = h x
+bind-sound (Err e) f s h = s
+
+or-sound : {A : Type 0} (row : ℕ) (o : Option A) → Sound (or_bad row o)
+or-sound row None = tt
+or-sound row (Some x) = tt
+
+club-sound : (row : ℕ) (rows : List Fields) → Sound (club_at row rows)
+unfolding club_at
+club-sound row [] = tt
+club-sound row (r ∷ rows) = bind-sound (or_bad row (said_by (club_of row) r)) (λ club. Ok (club, rows)) (or-sound row (said_by (club_of row) r)) (λ club. tt)
+
+good-sound : (clubs : List ClubEntry) (bad : Option ℕ) → Sound (if_good clubs bad)
+good-sound clubs None = tt
+good-sound clubs (Some slot) = tt
+
+roster-sound : (rows : List Fields) → Sound (roster_at rows)
+unfolding roster_at
+roster-sound rows =
+    bind-sound (club_at 1 rows) _ (club-sound 1 rows) (λ a.
+    bind-sound (club_at 2 a.1) _ (club-sound 2 a.1) (λ b.
+    bind-sound (club_at 3 b.1) _ (club-sound 3 b.1) (λ c.
+    bind-sound (club_at 4 c.1) _ (club-sound 4 c.1) (λ d.
+    bind-sound (if_good (a.0 ∷ b.0 ∷ c.0 ∷ d.0 ∷ []) (bad_slot (a.0 ∷ b.0 ∷ c.0 ∷ d.0 ∷ []))) _ (good-sound _ (bad_slot (a.0 ∷ b.0 ∷ c.0 ∷ d.0 ∷ []))) (λ clubs. tt)))))
+
+events-sound : (row : ℕ) (rows : List Fields) → Sound (events_from row rows)
+unfolding events_from
+events-sound row [] = tt
+events-sound row (r ∷ rows) =
+    bind-sound (or_bad row (said_by event_of r)) _ (or-sound row (said_by event_of r)) (λ event.
+    bind-sound (events_from (row + 1) rows) (λ events. Ok (event ∷ events)) (events-sound (row + 1) rows) (λ events. tt))
+
+pub night-sound : (rows : List Fields) → Sound (night_of_rows rows)
+unfolding night_of_rows
+night-sound rows =
+    bind-sound (roster_at rows) _ (roster-sound rows) (λ roster.
+    bind-sound (events_from 5 roster.1) _ (events-sound 5 roster.1) (λ events. tt))
+
+words-sound : (more game : ℕ) (rows : List Fields) → Sound (words_from more game rows)
+unfolding words_from
+words-sound zero game [] = tt
+words-sound zero game (r ∷ rows) = tt
+words-sound (suc more) game [] = tt
+words-sound (suc more) game (r ∷ rows) =
+    bind-sound (or_bad (game + 4) (said_by (word_of_row game) r)) _ (or-sound (game + 4) (said_by (word_of_row game) r)) (λ word.
+    bind-sound (words_from more (game + 1) rows) (λ words. Ok (word ∷ words)) (words-sound more (game + 1) rows) (λ words. tt))
+
+pub sheet-sound : (rows : List Fields) → Sound (sheet_of_rows rows)
+unfolding sheet_of_rows
+sheet-sound rows =
+    bind-sound (roster_at rows) _ (roster-sound rows) (λ roster.
+    bind-sound (words_from 12 1 roster.1) _ (words-sound 12 1 roster.1) (λ words. tt))
+
+pub never : {A : Type 0} (r : Result A InputFault) (e : InputFault) → Sound r → r ≡ Err e → IsOfRows e
+never r e s h = subst Sound h s
+
+whole : (bytes : List ℕ) → length bytes ≤ 4194304 → whole_input bytes ≡ Ok bytes
+whole bytes h = rw (le-leb _ _ h) refl
+
+-- what the bytes of a source that was read are known to mean
+pub known : (old : Option (List ℕ)) (bytes : List ℕ) (P : Result (List ℕ) InputFault → Type 0) → IfSome old (λ xs. whole_input xs ≡ Ok bytes)
+    → P (Ok bytes) → IfSome old (λ xs. P (whole_input xs))
+known None bytes P h p = tt
+known (Some xs) bytes P h p = subst P (sym h) p
+
+pub night-reads : (r : Result Night InputFault) (old new : Option (List ℕ)) (failed : Bool) (bytes : List ℕ) → failed ≡ false
+    → IfSome old (λ xs. whole_input xs ≡ Ok bytes) → Gives night_seen r (night_of_rows (rows_of bytes)) → Reads MeansNight night_seen old new failed r
+night-reads (Ok night) old new failed bytes f h g = (f, known old bytes (λ w. (w >>= λ text. night_of_rows (rows_of text)) ≡ Ok (night_seen night)) h g)
+night-reads (Err (fault.BadWordAt index)) old new failed bytes f h g = absurd (never (night_of_rows (rows_of bytes)) (fault.BadWordAt index) (night-sound (rows_of bytes)) g)
+night-reads (Err (fault.BadRow row)) old new failed bytes f h g = (f, known old bytes (λ w. (w >>= λ text. night_of_rows (rows_of text)) ≡ Err (fault.BadRow row)) h g)
+night-reads (Err (fault.BadRoster slot)) old new failed bytes f h g = (f, known old bytes (λ w. (w >>= λ text. night_of_rows (rows_of text)) ≡ Err (fault.BadRoster slot)) h g)
+night-reads (Err (fault.ReadFailed n)) old new failed bytes f h g = absurd (never (night_of_rows (rows_of bytes)) (fault.ReadFailed n) (night-sound (rows_of bytes)) g)
+night-reads (Err fault.OutOfMemory) old new failed bytes f h g = f
+night-reads (Err fault.TooLong) old new failed bytes f h g = absurd (never (night_of_rows (rows_of bytes)) fault.TooLong (night-sound (rows_of bytes)) g)
+
+-- a text whose rows make a sheet
+abbrev pub rows_say : List ℕ → Result SheetEntry InputFault → Type 0
+rows_say bytes said = sheet_of_rows (rows_of bytes) ≡ said
+
+sheet-known : (old : Option (List ℕ)) (bytes : List ℕ) (said : Result SheetEntry InputFault) → IfSome old (λ xs. whole_input xs ≡ Ok bytes) → rows_say bytes said
+    → IfSome old (λ xs. sheet_of xs ≡ said)
+sheet-known old bytes said h g = known old bytes (λ w. (w >>= λ text. sheet_of_rows (rows_of text)) ≡ said) h g
+
+pub sheet-refused : (e : InputFault) (old new : Option (List ℕ)) (failed : Bool) (bytes : List ℕ) → failed ≡ false
+    → IfSome old (λ xs. whole_input xs ≡ Ok bytes) → Refuses e (sheet_of_rows (rows_of bytes)) → Reads MeansSheet sheet_seen old new failed (Err e)
+sheet-refused (fault.BadWordAt index) old new failed bytes f h g = absurd (never (sheet_of_rows (rows_of bytes)) (fault.BadWordAt index) (sheet-sound (rows_of bytes)) g)
+sheet-refused (fault.BadRow row) old new failed bytes f h g = (f, sheet-known old bytes (Err (fault.BadRow row)) h g)
+sheet-refused (fault.BadRoster slot) old new failed bytes f h g = (f, sheet-known old bytes (Err (fault.BadRoster slot)) h g)
+sheet-refused (fault.ReadFailed n) old new failed bytes f h g = absurd (never (sheet_of_rows (rows_of bytes)) (fault.ReadFailed n) (sheet-sound (rows_of bytes)) g)
+sheet-refused fault.OutOfMemory old new failed bytes f h g = f
+sheet-refused fault.TooLong old new failed bytes f h g = absurd (never (sheet_of_rows (rows_of bytes)) fault.TooLong (sheet-sound (rows_of bytes)) g)
+
+both-known : (old : Option (List ℕ)) (P Q : List ℕ → Type 0) → IfSome old P → ((xs : List ℕ) → P xs → Q xs) → IfSome old Q
+both-known None P Q p q = tt
+both-known (Some xs) P Q p q = q xs p
+
+pub sheet-taken : (sheet : Sheet) (old new : Option (List ℕ)) (failed : Bool) (bytes : List ℕ) → failed ≡ false
+    → IfSome old (λ xs. whole_input xs ≡ Ok bytes) → rows_say bytes (Ok (sheet_seen sheet)) → AreWords sheet.board → Reads MeansSheet sheet_seen old new failed (Ok sheet)
+sheet-taken sheet old new failed bytes f h g words =
+    (f, both-known old (λ xs. sheet_of xs ≡ Ok (sheet_seen sheet)) (λ xs. MeansSheet xs (Ok (sheet_seen sheet))) (sheet-known old bytes (Ok (sheet_seen sheet)) h g) (λ xs e. (e, words)))
+
+pub sheet-tested : (sheet : SheetEntry) (index : ℕ) (old new : Option (List ℕ)) (failed : Bool) (bytes : List ℕ) → failed ≡ false
+    → IfSome old (λ xs. whole_input xs ≡ Ok bytes) → rows_say bytes (Ok sheet) → IsFirstBad sheet.words index → Reads MeansSheet sheet_seen old new failed (Err (fault.BadWordAt index))
+sheet-tested sheet index old new failed bytes f h g bad =
+    (f, both-known old (λ xs. sheet_of xs ≡ Ok sheet) (λ xs. MeansSheet xs (Err (fault.BadWordAt index))) (sheet-known old bytes (Ok sheet) h g) (λ xs e. (sheet, e, bad)))

@@ -1,0 +1,6 @@
+use Rattle.std.proofs.Common.{◌≡◌, ◌^◌, ◌<◌, drop}
+use Rattle.ucl_screen.specs.Numbers.{hex_after}
+use Rattle.ucl_screen.proofs.fields.hex_word.Given as goal
+
+abbrev pub invariant-loop-b : goal.invariant-loop-b
+invariant-loop-b l = (l.word < 16 ^ l.b-index) × (hex_after l.word (drop l.b-index l.text) ≡ hex_after 0 l.text)

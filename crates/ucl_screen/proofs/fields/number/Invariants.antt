@@ -1,0 +1,6 @@
+use Rattle.std.proofs.Common.{◌≡◌, ◌^◌, ◌<◌, drop}
+use Rattle.ucl_screen.specs.Numbers.{digits_after}
+use Rattle.ucl_screen.proofs.fields.number.Given as goal
+
+abbrev pub invariant-loop-b : goal.invariant-loop-b
+invariant-loop-b l = (l.n < 10 ^ l.b-index) × (digits_after l.n (drop l.b-index l.text) ≡ digits_after 0 l.text)

@@ -1,0 +1,12 @@
+use Rattle.std.proofs.Common.{◌≡◌, ◌-◌, ◌≤◌, take, length}
+use Rattle.ucl_screen.specs.Rows.{IsReading, rows_left}
+use Rattle.ucl_screen.specs.Script.{words_from}
+use Rattle.ucl_screen.proofs.Loop.{with_front}
+use Rattle.ucl_screen.proofs.reading.words_at.Given as goal
+
+abbrev pub invariant-games : goal.invariant-games
+invariant-games l = record {
+  reading : IsReading l.rows;
+  twelve : length l.words ≡ 12;
+  so_far : with_front (take (l.game - 1) l.words) (words_from (13 - l.game) l.game (rows_left l.rows)) ≡ words_from 12 1 (rows_left l.initial.rows);
+}

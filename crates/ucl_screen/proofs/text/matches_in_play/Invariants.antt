@@ -1,0 +1,6 @@
+use Rattle.std.proofs.Common.{◌≡◌, ◌≤◌, take}
+use Rattle.ucl_screen.specs.Screen.{in_play}
+use Rattle.ucl_screen.proofs.text.matches_in_play.Given as goal
+
+abbrev pub invariant-loop-word : goal.invariant-loop-word
+invariant-loop-word l = (l.count ≡ in_play (take l.word-index l.word-items)) × (l.count ≤ l.word-index)

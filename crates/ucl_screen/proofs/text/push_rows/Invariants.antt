@@ -1,0 +1,7 @@
+use Rattle.std.proofs.Common.{◌≡◌, ◌++◌, take, string_bytes}
+use Rattle.std.specs.Prelude.{flat_map}
+use Rattle.ucl_screen.specs.Screen.{row_line}
+use Rattle.ucl_screen.proofs.text.push_rows.Given as goal
+
+abbrev pub invariant-loop-row : goal.invariant-loop-row
+invariant-loop-row l = string_bytes l.out ≡ string_bytes l.initial.out ++ flat_map (row_line l.roster) (take l.row-index l.rows)

@@ -1,0 +1,17 @@
+-- What reading an input to its end gives.
+use Rattle.std.specs.Prelude.{◌≡◌, ℕ, nat_le, Bool, true, false, if◌then◌else◌, List, length, Option, IfSome, Result, Ok, Err}
+use Rattle.ucl_screen.specs.declared.fault.InputFault.{InputFault}
+use Rattle.ucl_screen.specs.declared.fault.InputFault.TheVariants.{ReadFailed, OutOfMemory, TooLong}
+use Rattle.ucl_screen.specs.Stream.{MovesCount}
+
+-- the bytes of an input, where they are not too many
+abbrev pub whole_input : List ℕ → Result (List ℕ) InputFault
+whole_input bytes = if nat_le (length bytes) 4194304 then Ok bytes else Err TooLong
+
+-- what a source gives from its bytes before and after, and whether it has failed: what the bytes mean, as `Means` tells it and
+-- `view` shows it, or the failure of the source after so many bytes; memory may run out in place of either
+abbrev pub Reads : {V E : Type 0} → (List ℕ → Result E InputFault → Type 0) → (V → E) → Option (List ℕ) → Option (List ℕ) → Bool → Result V InputFault → Type 0
+Reads Means view old new failed (Ok v) = (failed ≡ false) × IfSome old (λ bytes. Means bytes (Ok (view v)))
+Reads Means view old new failed (Err (ReadFailed n)) = (failed ≡ true) × MovesCount old new n
+Reads Means view old new failed (Err OutOfMemory) = failed ≡ false
+Reads Means view old new failed (Err fault) = (failed ≡ false) × IfSome old (λ bytes. Means bytes (Err fault))

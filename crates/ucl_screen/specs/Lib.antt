@@ -1,0 +1,11 @@
+pub mod Stream
+pub mod Devices
+pub mod Input
+pub mod Rows
+pub mod Numbers
+pub mod Events
+pub mod Script
+pub mod Meaning
+pub mod Lines
+pub mod Screen
+pub mod Laws

@@ -1,0 +1,30 @@
+-- The screen of a board.
+use Rattle.std.specs.Prelude.{◌≡◌, ℕ, ◌≤◌, ◌++◌, List, length, codes, count_by, flat_map}
+use Rattle.ucl_word.specs.Rules.{is_in_play}
+use Rattle.ucl_word.specs.Layout.{record_at}
+use Rattle.ucl_board.specs.Words.{version_of}
+use Rattle.ucl_order.specs.declared.table.Row.{Row}
+use Rattle.ucl_order.specs.Roster.{ClubEntry, name_of}
+use Rattle.ucl_order.specs.Rows.{rows_of}
+use Rattle.ucl_screen.specs.Lines.{header, place_line}
+
+-- the letter of a group, A to H
+abbrev pub IsGroup : ℕ → Type 0
+IsGroup letter = (65 ≤ letter) × (letter ≤ 72)
+
+-- how many matches are in play
+abbrev pub in_play : List ℕ → ℕ
+in_play board = count_by (λ word. is_in_play (record_at word).state) board
+
+-- the names of the columns
+abbrev pub columns : List ℕ
+columns = codes "    Club                  P  W  D  L  GF  GA   GD Pts\n"
+
+-- the line of a row of the table, with the name of its club
+abbrev pub row_line : List ClubEntry → Row → List ℕ
+row_line roster row = place_line row (name_of roster row.slot)
+
+-- the six lines: the header, the names of the columns, and a line for each row of the table
+unfoldable pub screen_text : List ℕ → List ClubEntry → ℕ → List ℕ
+screen_text board roster group =
+    header group (version_of board) (in_play board) ++ columns ++ flat_map (row_line roster) (rows_of board roster)

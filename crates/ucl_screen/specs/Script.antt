@@ -1,0 +1,105 @@
+-- What the rows of an input say: a roster, and then events or words.
+use Rattle.std.specs.Prelude.{ℕ, zero, suc, ◌+◌, ◌==◌, ◌&&◌, if◌then◌else◌, List, [], ◌∷◌, length, codes, Option, Some, None, option_map, option_and_then, Result, Ok, Err}
+use Rattle.std.specs.Str.{bytes_eq}
+use Rattle.ucl_order.specs.Roster.{ClubEntry, bad_slot}
+use Rattle.ucl_screen.specs.declared.fault.InputFault.{InputFault}
+use Rattle.ucl_screen.specs.declared.fault.InputFault.TheVariants.{BadRow, BadRoster}
+use Rattle.ucl_screen.specs.declared.night.NightEvent.{NightEvent}
+use Rattle.ucl_screen.specs.Numbers.{number, is_number, hex_word}
+use Rattle.ucl_screen.specs.Rows.{Fields, FourFields, four_of, rows_of}
+use Rattle.ucl_screen.specs.Input.{whole_input}
+use Rattle.ucl_screen.specs.Events.{event_of}
+
+-- one step after another, up to the first fault
+infixl 10 ◌>>=◌
+abbrev pub ◌>>=◌ : {A B : Type 0} → Result A InputFault → (A → Result B InputFault) → Result B InputFault
+(Ok x) >>= f = f x
+(Err fault) >>= f = Err fault
+
+-- what a row says, where it has four fields and says something
+abbrev pub said_by : {A : Type 0} → (FourFields → Option A) → Fields → Option A
+said_by says fields = option_and_then says (four_of fields)
+
+-- or else the row is bad
+abbrev pub or_bad : {A : Type 0} → ℕ → Option A → Result A InputFault
+or_bad row None = Err (BadRow row)
+or_bad row (Some x) = Ok x
+
+-- `club`, the row's number as one digit, the name, and the coefficient in 1 to 9 digits
+abbrev pub club_of : ℕ → FourFields → Option ClubEntry
+club_of row f =
+    if bytes_eq f.first (codes "club") && bytes_eq f.second ((48 + row) ∷ [])
+    then option_map (λ c. record { name = f.third; coefficient = c }) (number 9 f.fourth)
+    else None
+
+-- the club of a row that has to be there, and the rows after it
+unfoldable pub club_at : ℕ → List Fields → Result (ClubEntry × List Fields) InputFault
+club_at row [] = Err (BadRow row)
+club_at row (r ∷ rows) = or_bad row (said_by (club_of row) r) >>= λ club. Ok (club, rows)
+
+abbrev pub if_good : List ClubEntry → Option ℕ → Result (List ClubEntry) InputFault
+if_good clubs None = Ok clubs
+if_good clubs (Some slot) = Err (BadRoster slot)
+
+-- the clubs of rows 1 to 4, which a roster takes in, and the rows after them
+unfoldable pub roster_at : List Fields → Result (List ClubEntry × List Fields) InputFault
+roster_at rows = do
+  first ← club_at 1 rows
+  second ← club_at 2 first.1
+  third ← club_at 3 second.1
+  fourth ← club_at 4 third.1
+  clubs ← let four = first.0 ∷ second.0 ∷ third.0 ∷ fourth.0 ∷ [] in if_good four (bad_slot four)
+  Ok (clubs, fourth.1)
+
+-- the events of the rows that are left, of which the first has this number
+unfoldable pub events_from : ℕ → List Fields → Result (List NightEvent) InputFault
+events_from row [] = Ok []
+events_from row (r ∷ rows) = do
+  event ← or_bad row (said_by event_of r)
+  events ← events_from (row + 1) rows
+  Ok (event ∷ events)
+
+-- `word`, the match in 1 or 2 digits, its word in 16 hexadecimal digits, and nothing
+abbrev pub word_of_row : ℕ → FourFields → Option ℕ
+word_of_row game f =
+    if bytes_eq f.first (codes "word") && is_number (number 2 f.second) game && (length f.fourth == 0) then hex_word f.third else None
+
+-- the words of so many matches, of which the first is this one, and no row more; the row of match m is row m + 4
+unfoldable pub words_from : ℕ → ℕ → List Fields → Result (List ℕ) InputFault
+words_from zero game [] = Ok []
+words_from zero game (r ∷ rows) = Err (BadRow (game + 4))
+words_from (suc more) game [] = Err (BadRow (game + 4))
+words_from (suc more) game (r ∷ rows) = do
+  word ← or_bad (game + 4) (said_by (word_of_row game) r)
+  words ← words_from more (game + 1) rows
+  Ok (word ∷ words)
+
+-- the clubs and the events of a night, wherever they lie in memory
+pub record NightEntry : Type 0 where
+  pub clubs : List ClubEntry
+  pub events : List NightEvent
+
+unfoldable pub night_of_rows : List Fields → Result NightEntry InputFault
+night_of_rows rows = do
+  roster ← roster_at rows
+  events ← events_from 5 roster.1
+  Ok (record { clubs = roster.0; events = events })
+
+-- the clubs of a sheet and the words of matches 1 to 12
+pub record SheetEntry : Type 0 where
+  pub clubs : List ClubEntry
+  pub words : List ℕ
+
+unfoldable pub sheet_of_rows : List Fields → Result SheetEntry InputFault
+sheet_of_rows rows = do
+  roster ← roster_at rows
+  words ← words_from 12 1 roster.1
+  Ok (record { clubs = roster.0; words = words })
+
+-- the night that an input says, or its first fault
+abbrev pub night_of : List ℕ → Result NightEntry InputFault
+night_of bytes = whole_input bytes >>= λ text. night_of_rows (rows_of text)
+
+-- the sheet that an input says before its words are tested, or its first fault
+abbrev pub sheet_of : List ℕ → Result SheetEntry InputFault
+sheet_of bytes = whole_input bytes >>= λ text. sheet_of_rows (rows_of text)

@@ -1,0 +1,100 @@
+//! What single fields say.
+
+ghost use Rattle.std.specs.Prelude.{◌≡◌, ◌<◌, ◌≤◌, IfSome};
+ghost use Rattle.ucl_screen.specs.Numbers.{number, in_range, hex_digit, hex_word};
+ghost use Rattle.ucl_screen.specs.Events.{kind_of};
+
+use ucl_word::{Kind, Side};
+
+/// The number of a text of decimal digits, at least one and at most so many.
+pub(crate) fn number(text: &[u8], most: usize) -> Option<u32>
+    requires { most ≤ 9 }
+    ensures { result ≡ number most text.now }
+{
+    if text.is_empty() || text.len() > most {
+        return None;
+    }
+    let mut n: u32 = 0;
+    for b in text {
+        if *b < b'0' || *b > b'9' {
+            return None;
+        }
+        n = 10 * n + u32::from(*b - b'0');
+    }
+    Some(n)
+}
+
+/// The number, where it is in a range.
+pub(crate) fn number_within(text: &[u8], most: usize, low: u16, high: u16) -> Option<u16>
+    requires { most ≤ 9 }
+    ensures { result ≡ in_range low high (number most text.now) }
+{
+    let n = number(text, most)?;
+    if u32::from(low) <= n && n <= u32::from(high) {
+        Some(n as u16)
+    } else {
+        None
+    }
+}
+
+/// What a hexadecimal digit stands for.
+fn hex_digit(b: u8) -> Option<u8>
+    ensures value { result ≡ hex_digit b }
+    ensures small { IfSome result (λ digit. digit < 16) }
+{
+    match b {
+        b'0'..=b'9' => Some(b - b'0'),
+        b'a'..=b'f' => Some(b - b'a' + 10),
+        b'A'..=b'F' => Some(b - b'A' + 10),
+        _ => None,
+    }
+}
+
+/// The word of a text of 16 hexadecimal digits.
+pub(crate) fn hex_word(text: &[u8]) -> Option<u64>
+    ensures { result ≡ hex_word text.now }
+{
+    if text.len() != 16 {
+        return None;
+    }
+    let mut word: u64 = 0;
+    for b in text {
+        let digit = hex_digit(*b)?;
+        word = 16 * word + u64::from(digit);
+    }
+    Some(word)
+}
+
+/// What an event word says.
+#[tactic(auto, unfolding(crate::specs::Events::kind_of))]
+pub(crate) fn kind_of(text: &[u8]) -> Option<Kind>
+    ensures { result ≡ kind_of text.now }
+{
+    if text == b"kickoff".as_slice() {
+        Some(Kind::KickOff)
+    } else if text == b"goal-home".as_slice() {
+        Some(Kind::Goal(Side::Home))
+    } else if text == b"goal-away".as_slice() {
+        Some(Kind::Goal(Side::Away))
+    } else if text == b"disallow-home".as_slice() {
+        Some(Kind::Disallow(Side::Home))
+    } else if text == b"disallow-away".as_slice() {
+        Some(Kind::Disallow(Side::Away))
+    } else if text == b"yellow-home".as_slice() {
+        Some(Kind::Yellow(Side::Home))
+    } else if text == b"yellow-away".as_slice() {
+        Some(Kind::Yellow(Side::Away))
+    } else if text == b"second-yellow-home".as_slice() {
+        Some(Kind::SecondYellow(Side::Home))
+    } else if text == b"second-yellow-away".as_slice() {
+        Some(Kind::SecondYellow(Side::Away))
+    } else if text == b"red-home".as_slice() {
+        Some(Kind::Red(Side::Home))
+    } else if text == b"red-away".as_slice() {
+        Some(Kind::Red(Side::Away))
+    } else if text == b"fulltime".as_slice() {
+        Some(Kind::FullTime)
+    } else {
+        None
+    }
+}

@@ -1,0 +1,226 @@
+//! Reading scripts and sheets.
+
+ghost use Rattle.std.specs.Prelude.{◌≡◌, ◌+◌, ◌≤◌, length, Some, option_map, IfOk, OnOk};
+ghost use Rattle.csv.specs.Records.{fields_of};
+ghost use Rattle.ucl_order.specs.Roster.{entry_of};
+ghost use Rattle.ucl_screen.specs.Input.{Reads};
+ghost use Rattle.ucl_screen.specs.Rows.{Fields, IsReading, four_seen, rows_left, rows_of};
+ghost use Rattle.ucl_screen.specs.Events.{event_of};
+ghost use Rattle.ucl_screen.specs.Script.{said_by, club_of, club_at, roster_at, events_from, word_of_row, words_from, night_of_rows, sheet_of_rows};
+ghost use Rattle.ucl_screen.specs.Meaning.{Gives, MeansNight, MeansSheet, night_seen, sheet_seen};
+
+use crate::fault::InputFault;
+use crate::fields::{hex_word, kind_of, number, number_within};
+use crate::night::{Night, NightEvent};
+use crate::rows::{Four, four_fields, next_row, open};
+use crate::sheet::Sheet;
+use crate::stream::Source;
+use crate::transfer::read_all;
+use csv::{ByteRecord, Reader};
+use std::alloc::{AllocError, Global};
+use ucl_board::Board;
+use ucl_order::{Club, Roster};
+use ucl_word::{EventCall, MatchNo, ReporterNo};
+
+/// The club that a row with this number says.
+fn club_of(alloc: Global, row: u8, fields: &Four<'_>) -> Result<Option<Club>, AllocError>
+    requires { row ≤ 9 }
+    ensures { IfOk result (λ club. option_map entry_of club ≡ club_of row (four_seen fields.now)) }
+{
+    if fields.first != b"club".as_slice() || fields.second != [b'0' + row].as_slice() {
+        return Ok(None);
+    }
+    let Some(coefficient) = number(fields.fourth, 9) else {
+        return Ok(None);
+    };
+    Ok(Some(Club {
+        name: Vec::from_slice(alloc, fields.third)?,
+        coefficient,
+    }))
+}
+
+/// The club of the next row, which has this number.
+#[tactic(auto, unfolding(crate::specs::Script::club_at))]
+fn club_at(alloc: Global, number: u8, rows: &mut Reader<&[u8]>) -> Result<Club, InputFault>
+    requires digit { number ≤ 9 }
+    requires reading { IsReading rows.old }
+    ensures reading { OnOk result (IsReading rows.new) }
+    ensures shorter { OnOk result (length (rows_left rows.new) ≤ length (rows_left rows.old)) }
+    ensures gives { Gives (λ club. (entry_of club, rows_left rows.new)) result (club_at number (rows_left rows.old)) }
+{
+    let bad = InputFault::BadRow {
+        row: u32::from(number),
+    };
+    let mut row = ByteRecord::new(alloc);
+    if !next_row(rows, &mut row)? {
+        return Err(bad);
+    }
+    let Some(fields) = four_fields(&row) else {
+        return Err(bad);
+    };
+    match club_of(alloc, number, &fields)? {
+        Some(club) => Ok(club),
+        None => Err(bad),
+    }
+}
+
+/// The roster of the next rows, which are rows 1 to 4.
+#[tactic(auto, unfolding(crate::specs::Script::roster_at))]
+fn roster_at(alloc: Global, rows: &mut Reader<&[u8]>) -> Result<Roster, InputFault>
+    requires { IsReading rows.old }
+    ensures reading { OnOk result (IsReading rows.new) }
+    ensures shorter { OnOk result (length (rows_left rows.new) ≤ length (rows_left rows.old)) }
+    ensures gives { Gives (λ roster. (roster, rows_left rows.new)) result (roster_at (rows_left rows.old)) }
+{
+    let first = club_at(alloc, 1, rows)?;
+    let second = club_at(alloc, 2, rows)?;
+    let third = club_at(alloc, 3, rows)?;
+    let fourth = club_at(alloc, 4, rows)?;
+    match Roster::new([first, second, third, fourth]) {
+        Ok(roster) => Ok(roster),
+        Err(bad) => Err(InputFault::BadRoster { slot: bad.slot }),
+    }
+}
+
+/// The event that a row says.
+fn event_of(row: &ByteRecord) -> Option<NightEvent>
+    ensures { result ≡ said_by event_of (fields_of row.now) }
+{
+    let fields = four_fields(row)?;
+    let reporter = ReporterNo::new(number_within(fields.first, 3, 1, 255)? as u8)?;
+    let game = MatchNo::new(number_within(fields.second, 2, 1, 12)? as u8)?;
+    let expected = number_within(fields.third, 5, 0, u16::MAX)?;
+    let kind = kind_of(fields.fourth)?;
+    Some(NightEvent {
+        reporter,
+        call: EventCall {
+            game,
+            expected,
+            kind,
+        },
+    })
+}
+
+/// The events of the rows that are left, of which the first is row 5.
+fn events_at(alloc: Global, rows: &mut Reader<&[u8]>) -> Result<Vec<NightEvent>, InputFault>
+    requires reading { IsReading rows.old }
+    requires few { length (rows_left rows.old) ≤ 4194304 }
+    ensures gives { Gives (λ v. v.items) result (events_from 5 (rows_left rows.old)) }
+    ensures few { IfOk result (λ v. length v.items ≤ 4194304) }
+{
+    let mut row = ByteRecord::new(alloc);
+    let mut events = Vec::new(alloc);
+    let mut number: u32 = 5;
+    'rows: while next_row(rows, &mut row)? {
+        match event_of(&row) {
+            None => return Err(InputFault::BadRow { row: number }),
+            Some(event) => events.push(event)?,
+        }
+        number += 1;
+    }
+    Ok(events)
+}
+
+/// The night that a text says.
+#[tactic(auto, unfolding(crate::specs::Script::night_of_rows))]
+fn night_of(alloc: Global, text: &[u8]) -> Result<Night, InputFault>
+    requires { length text.now ≤ 4194304 }
+    ensures gives { Gives night_seen result (night_of_rows (rows_of text.now)) }
+    ensures few { IfOk result (λ night. length night.events.items ≤ 4194304) }
+{
+    let mut rows = open(alloc, text);
+    let roster = roster_at(alloc, &mut rows)?;
+    let events = events_at(alloc, &mut rows)?;
+    Ok(Night { roster, events })
+}
+
+/// Reads a script from a source to its end.
+///
+/// The input is read whole before it is looked at: a source that fails is `ReadFailed`, with the number of bytes that
+/// it had given, and more than 4,194,304 bytes are `TooLong`. The source is called at most 4,194,306 times.
+///
+/// Rows are the records that the crate `csv` reads in its default dialect, with no heading and with records of any
+/// length; each has to have four fields. Rows 1 to 4 are `club`, the row's number as one digit, the name, and the
+/// coefficient in 1 to 9 digits. Every row from row 5 on is a reporter in 1 to 3 digits, a match in 1 or 2, an
+/// expected number in 1 to 5, each in its range, and an event word. The first row that is missing or is not of this
+/// form is `BadRow`. A club that no roster takes in is `BadRoster`, found once row 4 is good and before row 5 is read.
+///
+/// `OutOfMemory` can come in place of any answer. A refusal leaves nothing but a source that has given bytes.
+pub fn read_night<S: Source>(alloc: Global, source: &mut S) -> Result<Night, InputFault>
+    ensures reads { Reads MeansNight night_seen (S.left source.old) (S.left source.new) (S.failed source.new) result }
+    ensures calls { S.calls source.new ≤ S.calls source.old + 4194306 }
+    ensures few { IfOk result (λ night. length night.events.items ≤ 4194304) }
+{
+    let bytes = read_all(alloc, source)?;
+    night_of(alloc, &bytes)
+}
+
+/// The word that the row of this match says.
+fn word_of_row(game: u8, row: &ByteRecord) -> Option<u64>
+    ensures { result ≡ said_by (word_of_row game) (fields_of row.now) }
+{
+    let fields = four_fields(row)?;
+    if fields.first != b"word".as_slice() || !fields.fourth.is_empty() {
+        return None;
+    }
+    if number(fields.second, 2)? != u32::from(game) {
+        return None;
+    }
+    hex_word(fields.third)
+}
+
+/// The words of the rows that are left, which are rows 5 to 16.
+fn words_at(alloc: Global, rows: &mut Reader<&[u8]>) -> Result<[u64; 12], InputFault>
+    requires { IsReading rows.old }
+    ensures { Gives (λ words. words) result (words_from 12 1 (rows_left rows.old)) }
+{
+    let mut row = ByteRecord::new(alloc);
+    let mut words = [0; 12];
+    'games: for game in 1..13u8 {
+        let bad = InputFault::BadRow {
+            row: u32::from(game) + 4,
+        };
+        if !next_row(rows, &mut row)? {
+            return Err(bad);
+        }
+        match word_of_row(game, &row) {
+            Some(word) => words[usize::from(game - 1)] = word,
+            None => return Err(bad),
+        }
+    }
+    if next_row(rows, &mut row)? {
+        return Err(InputFault::BadRow { row: 17 });
+    }
+    Ok(words)
+}
+
+/// The roster and the words that a text says.
+#[tactic(auto, unfolding(crate::specs::Script::sheet_of_rows))]
+fn roster_and_words(alloc: Global, text: &[u8]) -> Result<(Roster, [u64; 12]), InputFault>
+    ensures { Gives (λ p. record { clubs = p.0; words = p.1 }) result (sheet_of_rows (rows_of text.now)) }
+{
+    let mut rows = open(alloc, text);
+    let roster = roster_at(alloc, &mut rows)?;
+    let words = words_at(alloc, &mut rows)?;
+    Ok((roster, words))
+}
+
+/// Reads a sheet from a source to its end.
+///
+/// The input is read whole and taken apart into rows as by `read_night`, and rows 1 to 4 are the same. The rows of the
+/// twelve matches follow, row m + 4 for match m: `word`, the match in 1 or 2 digits, its word in 16 hexadecimal digits
+/// of either case, and an empty field. A row 17 is `BadRow`. Once all rows are good, the words are tested: the least
+/// match whose word is that of no valid record is `BadWordAt`.
+///
+/// `OutOfMemory` can come in place of any answer. A refusal leaves nothing but a source that has given bytes.
+pub fn read_words<S: Source>(alloc: Global, source: &mut S) -> Result<Sheet, InputFault>
+    ensures reads { Reads MeansSheet sheet_seen (S.left source.old) (S.left source.new) (S.failed source.new) result }
+    ensures calls { S.calls source.new ≤ S.calls source.old + 4194306 }
+{
+    let bytes = read_all(alloc, source)?;
+    let (roster, words) = roster_and_words(alloc, &bytes)?;
+    match Board::of_words(&words) {
+        Ok(board) => Ok(Sheet { roster, board }),
+        Err(bad) => Err(InputFault::BadWordAt { index: bad.index }),
+    }
+}

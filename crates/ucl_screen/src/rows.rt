@@ -1,0 +1,61 @@
+//! The rows of an input, one after the other.
+
+ghost use Rattle.std.specs.Prelude.{◌≡◌, ◌≤◌, length, option_map, IfOk, true};
+ghost use Rattle.csv.specs.Records.{fields_of};
+ghost use Rattle.ucl_screen.specs.Rows.{IsReading, rows_of, rows_left, ReadsRow, four_of, four_seen};
+
+use csv::{ByteRecord, Reader, ReaderBuilder};
+use std::alloc::{AllocError, Global};
+
+/// The four fields of a row.
+#[derive(Clone, Copy)]
+pub(crate) struct Four<'a> {
+    pub(crate) first: &'a [u8],
+    pub(crate) second: &'a [u8],
+    pub(crate) third: &'a [u8],
+    pub(crate) fourth: &'a [u8],
+}
+
+/// A reader of the rows of a text, none of which is a heading.
+pub(crate) fn open(alloc: Global, text: &[u8]) -> Reader<&[u8]>
+    ensures reading { IsReading result }
+    ensures rows { rows_left result ≡ rows_of text.now }
+    ensures few { length (rows_left result) ≤ length text.now }
+{
+    ReaderBuilder::new()
+        .has_headers(false)
+        .flexible(true)
+        .from_reader(alloc, text)
+}
+
+/// Reads the next row, if there is one. A reader of bytes in memory can fail for memory alone.
+pub(crate) fn next_row(rows: &mut Reader<&[u8]>, row: &mut ByteRecord) -> Result<bool, AllocError>
+    requires { IsReading rows.old }
+    ensures reading { IfOk result (λ found. found ≡ true → IsReading rows.new) }
+    ensures reads { IfOk result (λ found. ReadsRow found (rows_left rows.old) (fields_of row.new) (rows_left rows.new)) }
+{
+    let Ok(found) = rows.read_byte_record(row) else {
+        return Err(AllocError);
+    };
+    Ok(found)
+}
+
+/// The fields of a row that has four.
+#[tactic(auto, using(crate::proofs::FourFacts::four_by))]
+pub(crate) fn four_fields(row: &ByteRecord) -> Option<Four<'_>>
+    ensures { option_map four_seen result ≡ four_of (fields_of row.now) }
+{
+    let first = row.get(0)?;
+    let second = row.get(1)?;
+    let third = row.get(2)?;
+    let fourth = row.get(3)?;
+    match row.get(4) {
+        Some(_) => None,
+        None => Some(Four {
+            first,
+            second,
+            third,
+            fourth,
+        }),
+    }
+}

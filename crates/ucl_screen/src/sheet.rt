@@ -1,0 +1,13 @@
+//! A board that was written down.
+
+use ucl_board::Board;
+use ucl_order::Roster;
+
+/// The clubs and the words of a board, as they were written down.
+#[derive(Debug, Drop)]
+pub struct Sheet {
+    /// The clubs of rows 1 to 4.
+    pub roster: Roster,
+    /// The board of the words of rows 5 to 16.
+    pub board: Board,
+}

@@ -1,0 +1,84 @@
+//! The screen of a board.
+
+ghost use Rattle.std.specs.Prelude.{◌≡◌, ◌≤◌, ◌↔◌, ◌++◌, IsTrue, IfOk, OnOk, true, All, flat_map, string_bytes};
+ghost use Rattle.ucl_order.specs.Roster.{is_name};
+ghost use Rattle.ucl_order.specs.Rows.{IsWithinTable};
+ghost use Rattle.ucl_screen.specs.Screen.{IsGroup, in_play, row_line, screen_text};
+
+use crate::lines::{push_header, push_row};
+use std::alloc::{AllocError, Global};
+use std::str;
+use ucl_board::Board;
+use ucl_order::{Roster, Row, standings};
+use ucl_word::{OutOfMemory, State, unpack};
+
+/// The names of the columns, 53 bytes and a line feed.
+const COLUMNS: &str = "    Club                  P  W  D  L  GF  GA   GD Pts\n";
+
+/// Whether a byte is the letter of a group: `A` to `H`, in upper case.
+pub fn is_group(letter: u8) -> bool
+    ensures { IsTrue result ↔ IsGroup letter }
+{
+    b'A' <= letter && letter <= b'H'
+}
+
+/// How many matches are in play.
+fn matches_in_play(board: &Board) -> u8
+    ensures { result ≡ in_play board.now }
+{
+    let words = board.words();
+    let mut count = 0;
+    for word in &words {
+        if let Ok(game) = unpack(*word)
+            && game.state == State::InPlay
+        {
+            count += 1;
+        }
+    }
+    count
+}
+
+/// A club's name as text.
+fn text_of(name: &[u8]) -> &str
+    requires { is_name name.now ≡ true }
+    ensures { result.now ≡ name.now }
+{
+    match str::from_utf8(name) {
+        Ok(text) => text,
+        Err(_) => unreachable!(),
+    }
+}
+
+/// Writes a line for each row of the table.
+fn push_rows(out: &mut String, rows: &[Row], roster: &Roster) -> Result<(), AllocError>
+    requires { All IsWithinTable rows.now }
+    ensures { OnOk result (string_bytes out.new ≡ string_bytes out.old ++ flat_map (row_line roster.now) rows.now) }
+{
+    for row in rows {
+        push_row(out, row, text_of(roster.name(row.slot)))?;
+    }
+    Ok(())
+}
+
+/// The screen of a group: a header, the names of the columns, and a line for each place of the table.
+///
+/// `group` has to be the letter of a group. Where an allocation was refused, the answer is `OutOfMemory`.
+pub fn screen(
+    alloc: Global,
+    board: &Board,
+    roster: &Roster,
+    group: u8,
+) -> Result<String, OutOfMemory>
+    requires { IsGroup group }
+    ensures { IfOk result (λ text. string_bytes text ≡ screen_text board.now roster.now group) }
+{
+    let rows = standings(board, roster);
+    let mut text = String::new(alloc);
+    push_header(&mut text, group, board.version(), matches_in_play(board))?;
+    text.push_str(COLUMNS)?;
+    push_rows(&mut text, &rows, roster)?;
+    Ok(text)
+}
+
+#[cfg(test)]
+mod tests;
