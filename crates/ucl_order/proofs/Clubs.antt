@@ -1,12 +1,12 @@
 -- What the clubs of a roster are known to be.
-use Rattle.std.proofs.Common.{◌≡◌, ℕ, ◌-◌, ◌<◌, ◌≤◌, ◌&&◌, nat_le, Bool, true, false, List, [], ◌∷◌, length, map, slice_index_or, None, refl, subst, arith}
+use Rattle.std.proofs.Common.{◌≡◌, ℕ, ◌<◌, ◌≤◌, ◌&&◌, nat_le, Bool, true, false, List, [], ◌∷◌, length, map, slice_index_or, None, refl, subst, arith}
 use Rattle.std.proofs.lemmas.Bool.Decides.{nat_tests}
 use Rattle.std.proofs.lemmas.List.{get_or-map, length-map}
 use Rattle.std.proofs.lemmas.List.Elements.{All-get_or}
 use Rattle.ucl_order.specs.declared.roster.Member.{Member}
 use Rattle.ucl_order.specs.Members.{member_entry, entries_of}
 use Rattle.ucl_order.specs.declared.roster.Club.{Club}
-use Rattle.ucl_order.specs.Roster.{ClubEntry, entry_of, IsClub, IsRoster, is_club, is_name, bad_slot, bad_slot_from}
+use Rattle.ucl_order.specs.Roster.{entry_of, IsClub, IsRoster, is_club, is_name, bad_slot, bad_slot_from}
 
 and-left : (a b : Bool) → (a && b) ≡ true → a ≡ true
 and-left a b h = elim a as (λ x. (x && b) ≡ true → x ≡ true) [ true ↦ λ _. refl | false ↦ λ e. e ] h

@@ -1,5 +1,5 @@
 -- What a group can still become: points only rise, and never above what the club can reach.
-use Rattle.std.proofs.Common.{◌≡◌, ℕ, zero, suc, ◌+◌, ◌*◌, ◌<◌, ◌≤◌, ◌==◌, ◌&&◌, Bool, true, false, cond, not, if◌then◌else◌, List, [], ◌∷◌, Option, Some, None, length, get_or, map, take, count_by, refl, sym, ap, ◌∙◌, subst, arith, All, Contains, eqb-true, nat_le, nat_lt}
+use Rattle.std.proofs.Common.{◌≡◌, ℕ, zero, suc, ◌+◌, ◌*◌, ◌≤◌, ◌==◌, ◌&&◌, Bool, true, false, not, if◌then◌else◌, List, [], ◌∷◌, Some, None, length, get_or, map, take, count_by, refl, sym, ap, arith, All, Contains, eqb-true, nat_le, nat_lt}
 use Rattle.std.proofs.Common.{◌⊎◌, inl, inr}
 use Rattle.std.specs.List.{list_all}
 use Rattle.std.proofs.lemmas.Bool.{cases_Bool, and_parts}
@@ -8,7 +8,6 @@ use Rattle.std.proofs.lemmas.Map.Views.{Contains-from_any}
 use Rattle.std.proofs.lemmas.List.Sorted.{Contains-permutation, length_permutation, sum_by-IsPermutation}
 use Rattle.std.proofs.lemmas.List.Elements.{All-head, All-tail}
 use Rattle.std.proofs.lemmas.List.Folds.{list_any_at}
-use Rattle.ucl_word.specs.declared.record.MatchRecord.{MatchRecord}
 use Rattle.ucl_word.specs.declared.record.State.{State}
 use Rattle.ucl_word.specs.declared.record.State.TheVariants.{Scheduled, InPlay, Finished}
 use Rattle.ucl_word.specs.Rules.{is_finished}
@@ -18,12 +17,11 @@ use Rattle.ucl_order.specs.declared.game.Match.{Match}
 use Rattle.ucl_order.specs.declared.game.Appearance.{Appearance}
 use Rattle.ucl_order.specs.declared.mark.Mark.TheVariants.{Plus, Minus, Blank}
 use Rattle.ucl_order.specs.Roster.{ClubEntry}
-use Rattle.ucl_order.specs.Results.{match_at, matches_of, has_started, has_finished, started, finished, unfinished, seen_by, played, points}
+use Rattle.ucl_order.specs.Results.{match_at, matches_of, has_finished, started, finished, unfinished, seen_by, played, points}
 use Rattle.ucl_order.specs.Order.{all_clubs, order_of, is_in}
 use Rattle.ucl_order.specs.Marks.{IsCompletion, GoesThrough, sure_points, reach, rivals, escaped, mark_of}
 use Rattle.ucl_order.proofs.Classes.{IsPermutation-order}
 use Rattle.ucl_order.proofs.Counting.{count-le}
-use Rattle.ucl_order.proofs.Settling.{slots}
 use Rattle.ucl_order.proofs.Limits.{plays, gains, gains-le, played-cons, points-cons}
 use Rattle.ucl_order.proofs.Unique.{a_club}
 use Rattle.ucl_order.proofs.Places.{order_falls, reaches, passes, eq_yes, in_first_two, not_in_first_two}

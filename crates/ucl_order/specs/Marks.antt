@@ -11,13 +11,17 @@ use Rattle.ucl_order.specs.Roster.{ClubEntry}
 use Rattle.ucl_order.specs.Results.{matches_of, has_finished, finished, unfinished, played, points}
 use Rattle.ucl_order.specs.Order.{is_in, all_clubs, order_of}
 
--- the points that nothing can take from the club
+-- the points from finished matches
 abbrev pub sure_points : List Match → ℕ → ℕ
 sure_points ms club = points club (finished ms)
 
+-- how many of its matches are still to be played, or to be played to their end
+abbrev pub matches_left : List Match → ℕ → ℕ
+matches_left ms club = played club (unfinished ms)
+
 -- the points that the club has if it wins each match that it has left
 abbrev pub reach : List Match → ℕ → ℕ
-reach ms club = sure_points ms club + 3 * played club (unfinished ms)
+reach ms club = sure_points ms club + 3 * matches_left ms club
 
 -- another club can reach the club's points
 abbrev pub is_rival : List Match → ℕ → ℕ → Bool

@@ -1,10 +1,15 @@
 //! What holds of every order and of every mark. The functions do nothing: each is there for its contract.
 
-ghost use Rattle.ucl_order.specs.Laws.{ClassesAreLevel, MinusIsCertain, OrderGoesByStanding, OrderHasEachClub, OrderIsUnique, PlusIsCertain, TiesFollowRule};
+ghost use Rattle.ucl_order.specs.Laws.{ClassesAreLevel, MinusIsCertain, OrderGoesByStanding, OrderHasEachClub, OrderIsUnique, PlusIsCertain, RankingsAreOrders, TiesFollowRule};
 
 /// The order has each of the four clubs once.
 pub fn order_has_each_club()
     ensures { OrderHasEachClub }
+{}
+
+/// Points, head to head and all matches each put the clubs in order, and all matches leave no two clubs level.
+pub fn rankings_are_orders()
+    ensures { RankingsAreOrders }
 {}
 
 /// The classes of a set are its level clubs, highest first: of two clubs the higher has fewer above it, and level clubs have as many.

@@ -11,7 +11,7 @@ mod table;
 
 pub use laws::{
     classes_are_level, minus_is_certain, order_goes_by_standing, order_has_each_club,
-    order_is_unique, plus_is_certain, ties_follow_rule,
+    order_is_unique, plus_is_certain, rankings_are_orders, ties_follow_rule,
 };
 pub use mark::Mark;
 pub use roster::{BadRoster, Club, Roster};

@@ -78,6 +78,11 @@ fn row_at(place: u8, order: &[u8], matches: &[Match]) -> Row
 /// (b) goal difference and (c) goals scored in the matches among them; (d) the same again among each smaller class that stays level;
 /// then, over all matches, (e) goal difference, (f) goals scored, (g) away goals, (h) wins, (i) away wins, (j) the lower
 /// disciplinary total and (k) the higher coefficient; and at last by slot.
+///
+/// Marks go by finished matches. When all twelve are finished, the first two clubs have `Plus` and the others `Minus`. Before, a club
+/// can reach its points and three more for each match that it has left: `Plus` where at most one other club can reach the club's
+/// points, `Minus` where at least two others have more points than the club can reach, else `Blank`. What `Plus` and `Minus` say then
+/// holds in every completion (`plus_is_certain`, `minus_is_certain`).
 pub fn standings(board: &Board, roster: &Roster) -> [Row; 4]
     ensures rows { result ≡ rows_of board.now roster.now }
     ensures four { length result ≡ 4 }

@@ -1,4 +1,4 @@
-use Rattle.std.proofs.Common.{◌≡◌, ◌≤◌, ◌-◌, ◌+◌, All, take, map, length}
+use Rattle.std.proofs.Common.{◌≡◌, ◌-◌, ◌+◌, All, take, map, length}
 use Rattle.ucl_word.specs.Record.{IsValid}
 use Rattle.ucl_board.specs.Fixtures.{match_numbers}
 use Rattle.ucl_order.specs.Results.{match_at}

@@ -1,0 +1,6 @@
+pub mod CommandLine
+pub mod Faults
+pub mod Lines
+pub mod Feed
+pub mod Show
+pub mod Run

@@ -1,0 +1,21 @@
+-- The lines that `feed` writes.
+use Rattle.std.specs.Prelude.{ℕ, ◌-◌, ◌^◌, false, List, [], ◌++◌, codes, decimal}
+use Rattle.std.specs.Fmt.{digits, padded_integral, format_spec}
+use Rattle.ucl_word.specs.declared.refusal.Refusal.{Refusal}
+use Rattle.ucl_word.specs.Texts.{refusal_text}
+
+-- ROW ok MATCH NUMBER VERSION
+abbrev pub accepted_line : ℕ → ℕ → ℕ → ℕ → List ℕ
+accepted_line row game number version = decimal row ++ codes " ok " ++ decimal game ++ codes " " ++ decimal number ++ codes " " ++ decimal version ++ codes "\n"
+
+-- ROW refused CODE NAME
+abbrev pub refused_line : ℕ → Refusal → List ℕ
+refused_line row refusal = decimal row ++ codes " refused " ++ refusal_text refusal ++ codes "\n"
+
+-- a number in sixteen hexadecimal digits of lower case, with leading zeros: what `{:016x}` writes
+abbrev pub hex_word : ℕ → List ℕ
+hex_word word = padded_integral (format_spec 32 0 4 16 (2 ^ 64 - 1)) false [] (digits 16 false word)
+
+-- word,INDEX,HEX,
+abbrev pub word_line : ℕ → ℕ → List ℕ
+word_line index word = codes "word," ++ decimal index ++ codes "," ++ hex_word word ++ codes ",\n"

@@ -1,0 +1,38 @@
+//! The program: `ucl_night feed` enters a script of events on the board of one group of the UEFA Champions League, and
+//! writes what became of each event and how the twelve matches stand.
+#![tactic(auto)]
+
+mod command_line;
+mod fault;
+mod feed;
+mod lines;
+mod output;
+mod program;
+mod show;
+
+pub use command_line::{Line, LineFault, line_of};
+pub use fault::{RunFault, status_of};
+pub use feed::feed_run;
+pub use show::show_run;
+use std::env;
+use std::process::ExitCode;
+use ucl_screen::{FromRead, ToWrite};
+
+/// Runs the program over the standard streams. Standard output has no buffer, so that nothing is left to flush.
+fn main(rt: HostRuntime) -> ExitCode {
+    let alloc = rt.alloc();
+    let Ok(words) = env::args(&rt) else {
+        return ExitCode::from(program::REFUSED_WORDS);
+    };
+    let mut source = FromRead::new(rt.stdin());
+    let mut sink = ToWrite::new(rt.stdout());
+    let mut errors = rt.stderr();
+    let status = match words.collect::<Vec<String>>(alloc) {
+        Ok(words) => program::run(alloc, &words, &mut source, &mut sink, &mut errors),
+        Err(_) => program::tell(&mut errors, RunFault::OutOfMemory),
+    };
+    ExitCode::from(status)
+}
+
+#[cfg(test)]
+mod tests;

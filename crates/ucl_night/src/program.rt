@@ -1,0 +1,41 @@
+//! What the program does with its words, and with what stands for its standard streams.
+
+use crate::output::put_text;
+use crate::{Line, LineFault, RunFault, feed_run, line_of, status_of};
+use std::alloc::Global;
+use std::io::Write;
+use ucl_screen::{Sink, Source};
+
+/// The exit status where the words are refused.
+pub const REFUSED_WORDS: u8 = 2;
+
+/// Tells of a fault by its line, and gives its exit status. A line that cannot be written is left out.
+pub fn tell<E: Write>(errors: &mut E, fault: RunFault) -> u8 {
+    let _ = writeln!(errors, "{fault}");
+    status_of(&fault)
+}
+
+/// Does what the words ask for, the first of which is the program's name, and gives the exit status: 0 where it was
+/// done, 2 where the words are refused, by the text of `clap`, and else that of the fault, which is told by its line.
+/// Help goes to the output.
+pub fn run<S: Source, W: Sink, E: Write>(
+    alloc: Global,
+    words: &[String],
+    source: &mut S,
+    sink: &mut W,
+    errors: &mut E,
+) -> u8 {
+    let done = match line_of(alloc, words) {
+        Ok(Line::Feed) => feed_run(alloc, source, sink),
+        Err(LineFault::Help(text)) => put_text(sink, text.as_str()),
+        Err(LineFault::Refused(text)) => {
+            let _ = errors.write_all(text.as_bytes());
+            return REFUSED_WORDS;
+        }
+        Err(LineFault::OutOfMemory) => Err(RunFault::OutOfMemory),
+    };
+    match done {
+        Ok(()) => 0,
+        Err(fault) => tell(errors, fault),
+    }
+}

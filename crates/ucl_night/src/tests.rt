@@ -1,0 +1,368 @@
+//! Texts, statuses, and runs over memory in place of the standard streams.
+
+use crate::{Line, LineFault, RunFault, feed_run, line_of, program, status_of};
+use std::alloc::Global;
+use std::io;
+use std::test::Fail;
+use ucl_screen::{FromRead, InputFault, ToWrite};
+
+const CLUBS: &str =
+    "club,1,Alpha,60000\nclub,2,Bravo,95000\nclub,3,Charlie,60000\nclub,4,Delta,81500\n";
+
+const TWO_MATCHES: &str =
+    "1,1,0,kickoff\n1,1,1,goal-home\n2,1,1,goal-away\n2,2,0,goal-home\n2,2,0,kickoff\n1,1,2,yellow-away\n1,1,3,second-yellow-away\n1,1,4,disallow-home\n1,1,5,disallow-home\n1,1,5,fulltime\n";
+
+const TWO_MATCHES_OUT: &str =
+    "5 ok 1 1 1\n6 ok 1 2 2\n7 refused 1 stale 2\n8 refused 3 not-started\n9 ok 2 1 3\n10 ok 1 3 4\n11 ok 1 4 5\n12 ok 1 5 6\n13 refused 6 no-goal\n14 ok 1 6 7\nword,1,0000420000000806,\nword,2,0000800000000401,\nword,3,0000000000000000,\nword,4,0000000000000000,\nword,5,0000000000000000,\nword,6,0000000000000000,\nword,7,0000000000000000,\nword,8,0000000000000000,\nword,9,0000000000000000,\nword,10,0000000000000000,\nword,11,0000000000000000,\nword,12,0000000000000000,\n";
+
+const NO_EVENT_OUT: &str =
+    "word,1,0000000000000000,\nword,2,0000000000000000,\nword,3,0000000000000000,\nword,4,0000000000000000,\nword,5,0000000000000000,\nword,6,0000000000000000,\nword,7,0000000000000000,\nword,8,0000000000000000,\nword,9,0000000000000000,\nword,10,0000000000000000,\nword,11,0000000000000000,\nword,12,0000000000000000,\n";
+
+/// A reader of a text, which fails after `room` bytes.
+#[derive(Drop)]
+struct Cut<'a> {
+    text: &'a [u8],
+    room: usize,
+}
+
+impl io::Read for Cut<'_> {
+    fn read(&mut self, buf: &mut [u8]) -> io::Result<usize> {
+        if self.room == 0 {
+            return Err(io::Error::from(io::ErrorKind::ConnectionReset));
+        }
+        let n = buf.len().min(self.text.len()).min(self.room);
+        let (front, rest) = self.text.split_at(n);
+        buf[..n].copy_from_slice(front);
+        self.text = rest;
+        self.room -= n;
+        Ok(n)
+    }
+}
+
+/// A writer that takes at most `piece` bytes at a time, and none after `room` bytes.
+#[derive(Drop)]
+struct Full<'a> {
+    taken: &'a mut Vec<u8>,
+    piece: usize,
+    room: usize,
+}
+
+impl io::Write for Full<'_> {
+    fn write(&mut self, buf: &[u8]) -> io::Result<usize> {
+        let n = buf.len().min(self.piece).min(self.room);
+        if self.taken.extend_from_slice(&buf[..n]).is_err() {
+            return Ok(0);
+        }
+        self.room -= n;
+        Ok(n)
+    }
+
+    fn flush(&mut self) -> io::Result<()> {
+        Ok(())
+    }
+}
+
+/// The answer of `feed` to an input, and what it wrote before an output with so much room.
+fn fed<R: io::Read + Drop>(
+    alloc: Global,
+    input: R,
+    room: usize,
+) -> (Result<(), RunFault>, Vec<u8>) {
+    let mut out = Vec::new(alloc);
+    let answer = {
+        let mut source = FromRead::new(input);
+        let mut sink = ToWrite::new(Full {
+            taken: &mut out,
+            piece: 64,
+            room,
+        });
+        feed_run(alloc, &mut source, &mut sink)
+    };
+    (answer, out)
+}
+
+fn joined(alloc: Global, first: &str, second: &str) -> Result<String, Fail> {
+    let mut text = String::from_str(alloc, first)?;
+    text.push_str(second)?;
+    Ok(text)
+}
+
+fn words_of(alloc: Global, line: &str) -> Result<Vec<String>, Fail> {
+    let mut words = Vec::new(alloc);
+    for word in line.split_whitespace() {
+        words.push(String::from_str(alloc, word)?)?;
+    }
+    Ok(words)
+}
+
+#[test]
+fn fault_lines_and_statuses(rt: HostRuntime) -> Result<(), Fail> {
+    let rows = [
+        (
+            RunFault::Input(InputFault::BadWordAt { index: 4 }),
+            "input refused 10: word 4",
+            3,
+        ),
+        (
+            RunFault::Input(InputFault::BadRow { row: 299_590 }),
+            "input refused 20: row 299590",
+            3,
+        ),
+        (
+            RunFault::Input(InputFault::BadRoster { slot: 2 }),
+            "input refused 21: slot 2",
+            3,
+        ),
+        (
+            RunFault::Input(InputFault::ReadFailed { bytes: 100 }),
+            "reading failed 22: after 100 bytes",
+            4,
+        ),
+        (
+            RunFault::Input(InputFault::OutOfMemory),
+            "out of memory 23",
+            5,
+        ),
+        (
+            RunFault::Input(InputFault::TooLong),
+            "input refused 24: too long",
+            3,
+        ),
+        (RunFault::OutOfMemory, "out of memory 23", 5),
+        (
+            RunFault::WriteFailed { written: 7 },
+            "writing failed 26: after 7 bytes",
+            4,
+        ),
+    ];
+    for (fault, line, status) in rows {
+        let text = fault.to_string(rt.alloc())?;
+        assert_eq!(rt; text.as_str(), line);
+        assert_eq!(rt; status_of(&fault), status, "at {line}");
+    }
+    Ok(())
+}
+
+#[test]
+fn command_lines(rt: HostRuntime) -> Result<(), Fail> {
+    let alloc = rt.alloc();
+    let words = words_of(alloc, "ucl_night feed")?;
+    assert!(rt; matches!(line_of(alloc, &words), Ok(Line::Feed)));
+    for line in [
+        "ucl_night --help",
+        "ucl_night help",
+        "ucl_night feed --help",
+    ] {
+        let words = words_of(alloc, line)?;
+        assert!(rt;
+            matches!(line_of(alloc, &words), Err(LineFault::Help(_))),
+            "at {line}"
+        );
+    }
+    let refused = [
+        "",
+        "ucl_night",
+        "ucl_night show",
+        "ucl_night night",
+        "ucl_night other",
+        "ucl_night feed more",
+        "ucl_night --group A",
+    ];
+    for line in refused {
+        let words = words_of(alloc, line)?;
+        assert!(rt;
+            matches!(line_of(alloc, &words), Err(LineFault::Refused(_))),
+            "at {line}"
+        );
+    }
+    Ok(())
+}
+
+#[test]
+fn stored_run(rt: HostRuntime) -> Result<(), Fail> {
+    let alloc = rt.alloc();
+    let script = joined(alloc, CLUBS, TWO_MATCHES)?;
+    let (answer, out) = fed(alloc, script.as_bytes(), usize::MAX);
+    assert_eq!(rt; answer, Ok(()));
+    assert!(rt; out.as_slice() == TWO_MATCHES_OUT.as_bytes());
+    Ok(())
+}
+
+#[test]
+fn script_faults(rt: HostRuntime) -> Result<(), Fail> {
+    let alloc = rt.alloc();
+    let whole = [
+        ("", InputFault::BadRow { row: 1 }),
+        (
+            "club,1,Alpha,60000\nclub,2,Bravo,95000\nclub,3,Charlie,60000\n",
+            InputFault::BadRow { row: 4 },
+        ),
+        ("club,1,\"Alp", InputFault::BadRow { row: 1 }),
+        (
+            "club,1,Alpha,60000\nclub,2,Bravo Bravo Bravo Bra,95000\nclub,3,Charlie,1000000\nclub,4,Delta,81500\n",
+            InputFault::BadRoster { slot: 2 },
+        ),
+    ];
+    for (script, fault) in whole {
+        let (answer, out) = fed(alloc, script.as_bytes(), usize::MAX);
+        assert_eq!(rt; answer, Err(RunFault::Input(fault)), "at {script}");
+        assert!(rt; out.is_empty(), "at {script}");
+    }
+    let fifth = [
+        "1,13,0,kickoff\n",
+        "0,1,0,kickoff\n",
+        "1,1,65536,kickoff\n",
+        "1,1,0,kick\n",
+        "club,5,Echo,1\n",
+    ];
+    for row in fifth {
+        let script = joined(alloc, CLUBS, row)?;
+        let (answer, out) = fed(alloc, script.as_bytes(), usize::MAX);
+        let fault = InputFault::BadRow { row: 5 };
+        assert_eq!(rt; answer, Err(RunFault::Input(fault)), "at {row}");
+        assert!(rt; out.is_empty(), "at {row}");
+    }
+    let (answer, out) = fed(alloc, CLUBS.as_bytes(), usize::MAX);
+    assert_eq!(rt; answer, Ok(()));
+    assert!(rt; out.as_slice() == NO_EVENT_OUT.as_bytes());
+    Ok(())
+}
+
+/// Writes the rows of a match with this score.
+fn push_match(
+    script: &mut String,
+    reporter: u8,
+    game: u8,
+    home: u16,
+    away: u16,
+) -> Result<(), Fail> {
+    write!(script, "{reporter},{game},0,kickoff\n")?;
+    let mut number = 1u16;
+    for _ in 0..home {
+        write!(script, "{reporter},{game},{number},goal-home\n")?;
+        number = number.saturating_add(1);
+    }
+    for _ in 0..away {
+        write!(script, "{reporter},{game},{number},goal-away\n")?;
+        number = number.saturating_add(1);
+    }
+    write!(script, "{reporter},{game},{number},fulltime\n")?;
+    Ok(())
+}
+
+#[test]
+fn head_to_head(rt: HostRuntime) -> Result<(), Fail> {
+    let alloc = rt.alloc();
+    let scores = [
+        (1, 1, 1, 0),
+        (2, 2, 1, 0),
+        (1, 3, 1, 0),
+        (2, 4, 5, 0),
+        (1, 5, 1, 0),
+        (2, 6, 1, 0),
+        (1, 7, 2, 0),
+        (2, 8, 0, 1),
+        (1, 9, 0, 0),
+        (2, 10, 0, 0),
+        (1, 11, 0, 2),
+        (2, 12, 0, 1),
+    ];
+    let mut script = String::from_str(alloc, CLUBS)?;
+    for (reporter, game, home, away) in scores {
+        push_match(&mut script, reporter, game, home, away)?;
+    }
+    let (answer, out) = fed(alloc, script.as_bytes(), usize::MAX);
+    assert_eq!(rt; answer, Ok(()));
+    let text = std::str::from_utf8(out.as_slice())?;
+    let mut accepted = 0u32;
+    for line in text.lines() {
+        if line.contains(" ok ") {
+            accepted = accepted.saturating_add(1);
+        }
+    }
+    assert_eq!(rt; accepted, 40);
+    let rows = [
+        "\n44 ok 12 3 40\nword,1,0000400000001803,\n",
+        "\nword,4,0000800000005807,\n",
+        "\nword,11,0000400000080804,\n",
+    ];
+    for row in rows {
+        assert!(rt; text.contains(row), "at {row}");
+    }
+    Ok(())
+}
+
+#[test]
+fn failing_devices(rt: HostRuntime) -> Result<(), Fail> {
+    let alloc = rt.alloc();
+    let script = joined(alloc, CLUBS, TWO_MATCHES)?;
+    for room in [0, 1, 10, 100, 448] {
+        let (answer, out) = fed(alloc, script.as_bytes(), room);
+        assert_eq!(rt; answer, Err(RunFault::WriteFailed { written: room }));
+        assert!(rt;
+            Some(out.as_slice()) == TWO_MATCHES_OUT.as_bytes().get(..room),
+            "at {room}"
+        );
+    }
+    for room in [0, 1, 100, 252] {
+        let text = script.as_bytes();
+        let (answer, out) = fed(alloc, Cut { text, room }, usize::MAX);
+        let fault = InputFault::ReadFailed { bytes: room };
+        assert_eq!(rt; answer, Err(RunFault::Input(fault)));
+        assert!(rt; out.is_empty(), "at {room}");
+    }
+    Ok(())
+}
+
+/// What the program does for a line of words and an input: its status, its output and what it tells of errors.
+fn ran(
+    alloc: Global,
+    line: &str,
+    input: &[u8],
+    room: usize,
+) -> Result<(u8, Vec<u8>, Vec<u8>), Fail> {
+    let words = words_of(alloc, line)?;
+    let mut out = Vec::new(alloc);
+    let mut errors = Vec::new(alloc);
+    let status = {
+        let mut source = FromRead::new(input);
+        let mut sink = ToWrite::new(Full {
+            taken: &mut out,
+            piece: 64,
+            room,
+        });
+        program::run(alloc, &words, &mut source, &mut sink, &mut errors)
+    };
+    Ok((status, out, errors))
+}
+
+#[test]
+fn program_runs(rt: HostRuntime) -> Result<(), Fail> {
+    let alloc = rt.alloc();
+    let script = joined(alloc, CLUBS, TWO_MATCHES)?;
+    let (status, out, errors) = ran(alloc, "ucl_night feed", script.as_bytes(), usize::MAX)?;
+    assert_eq!(rt; status, 0);
+    assert!(rt; out.as_slice() == TWO_MATCHES_OUT.as_bytes() && errors.is_empty());
+
+    let (status, out, errors) = ran(alloc, "ucl_night feed", b"", usize::MAX)?;
+    assert_eq!(rt; status, 3);
+    assert!(rt; out.is_empty() && errors.as_slice() == b"input refused 20: row 1\n".as_slice());
+
+    let (status, out, errors) = ran(alloc, "ucl_night feed", script.as_bytes(), 3)?;
+    assert_eq!(rt; status, 4);
+    assert!(rt; out.as_slice() == b"5 o".as_slice());
+    assert!(rt; errors.as_slice() == b"writing failed 26: after 3 bytes\n".as_slice());
+
+    let (status, out, errors) = ran(alloc, "ucl_night show", script.as_bytes(), usize::MAX)?;
+    assert_eq!(rt; status, 2);
+    assert!(rt; out.is_empty() && !errors.is_empty());
+
+    let (status, out, errors) = ran(alloc, "ucl_night --help", b"", usize::MAX)?;
+    assert_eq!(rt; status, 0);
+    assert!(rt; !out.is_empty() && errors.is_empty());
+
+    let (status, _, errors) = ran(alloc, "ucl_night --help", b"", 5)?;
+    assert_eq!(rt; status, 4);
+    assert!(rt; errors.as_slice() == b"writing failed 26: after 5 bytes\n".as_slice());
+    Ok(())
+}
