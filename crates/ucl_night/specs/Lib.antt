@@ -4,3 +4,4 @@ pub mod Lines
 pub mod Feed
 pub mod Show
 pub mod Run
+pub mod Headline

@@ -1,19 +1,25 @@
 //! The program's words, read by `clap`.
 
-ghost use Rattle.std.specs.Prelude.{◌≡◌, ℕ, List, [], ◌∷◌, map, codes, string_bytes, OnOk, IfErr, IfOk, MatchResult};
-ghost use Rattle.clap.specs.Words.{app_of, kind_of};
-ghost use Rattle.clap.specs.declared.builder.command.Command.TheViews.{out-Command as fields_of};
-ghost use Rattle.ucl_night.specs.CommandLine.{IsUnderstood, night_command};
+ghost use Rattle.std.specs.Prelude.{◌≡◌, IfOk};
+ghost use Rattle.clap.specs.Words.{kind_of};
+ghost use Rattle.ucl_screen.specs.Screen.{IsGroup};
+ghost use Rattle.ucl_night.specs.CommandLine.{IsInRange};
 
 use clap::error::ErrorKind;
-use clap::{Command, Error};
+use clap::{Arg, ArgAction, ArgMatches, Command, Error};
 use std::alloc::{AllocError, Global};
+use ucl_screen::is_group;
 
 /// What the program is to do.
 #[derive(Clone, Copy, Debug, PartialEq, Eq)]
 pub enum Line {
     /// Enter a script, and write a reply for each event.
     Feed,
+    /// Write the screen of a sheet.
+    Show {
+        /// The letter of the group, `A` to `H`.
+        group: u8,
+    },
 }
 
 /// Why the words name nothing to do.
@@ -27,16 +33,43 @@ pub enum LineFault {
     OutOfMemory,
 }
 
+/// The letters that `--group` takes.
+static GROUPS: [&str; 8] = ["A", "B", "C", "D", "E", "F", "G", "H"];
+
+/// The group where none is named.
+const FIRST_GROUP: u8 = b'A';
+
+/// The option `--group`.
+fn group_option<'a>(alloc: Global) -> Arg<'a> {
+    Arg::new(alloc, "group")
+        .long("group")
+        .action(ArgAction::Set)
+        .value_parser(GROUPS.as_slice())
+        .default_value("A")
+}
+
 /// The program's command, with a subcommand for each line.
-fn command<'a>(alloc: Global) -> Result<Command<'a>, AllocError>
-    ensures { IfOk result (λ c. app_of c ≡ night_command) }
-{
+fn command<'a>(alloc: Global) -> Result<Command<'a>, AllocError> {
     let feed = Command::new(alloc, "feed").about(
         "Enters a script, and writes a reply for each event",
     );
+    let show = Command::new(alloc, "show")
+        .about("Writes the screen of a board")
+        .arg(group_option(alloc))?;
     Command::new(alloc, "ucl_night")
         .subcommand_required(true)
-        .subcommand(feed)
+        .subcommand(feed)?
+        .subcommand(show)
+}
+
+/// The group that was named. The parser has taken no other letter than those of groups.
+fn group_of(matches: &ArgMatches<'_>) -> u8
+    ensures { IsGroup result }
+{
+    match matches.get_str("group").map(str::as_bytes) {
+        Some([letter]) if is_group(*letter) => *letter,
+        _ => FIRST_GROUP,
+    }
 }
 
 /// What to tell of words that were not taken.
@@ -55,17 +88,23 @@ fn fault_of(alloc: Global, error: &Error) -> LineFault
 
 /// What the program's words ask for. The first word is the program's name.
 ///
-/// The words are read by `clap`: the name is followed by the subcommand `feed`. `Help` comes where help is asked for,
-/// and `Refused` where the words have no subcommand, an unknown one, or more than it takes.
+/// The words are read by `clap`: the name is followed by the subcommand `feed`, or by `show` with `--group` and a letter
+/// from `A` to `H`, which is `A` where it is left out. `Help` comes where help is asked for, and `Refused` where the words
+/// have no subcommand, an unknown one, or what it does not take.
 pub fn line_of(alloc: Global, words: &[String]) -> Result<Line, LineFault>
-    ensures understood { OnOk result (IsUnderstood (map string_bytes words.now)) }
-    ensures feed { (name : List ℕ) → map string_bytes words.now ≡ name ∷ codes "feed" ∷ [] → MatchResult result (λ line. line ≡ Line.Feed) (λ fault. fault ≡ LineFault.OutOfMemory) }
+    ensures { IfOk result IsInRange }
 {
     let Ok(command) = command(alloc) else {
         return Err(LineFault::OutOfMemory);
     };
-    match command.try_get_matches_from(words) {
-        Ok(_) => Ok(Line::Feed),
-        Err(error) => Err(fault_of(alloc, &error)),
+    let matches = match command.try_get_matches_from(words) {
+        Ok(matches) => matches,
+        Err(error) => return Err(fault_of(alloc, &error)),
+    };
+    match matches.subcommand() {
+        Some(("show", found)) => Ok(Line::Show {
+            group: group_of(found),
+        }),
+        _ => Ok(Line::Feed),
     }
 }

@@ -5,6 +5,7 @@
 mod command_line;
 mod fault;
 mod feed;
+mod laws;
 mod lines;
 mod output;
 mod program;
@@ -13,6 +14,7 @@ mod show;
 pub use command_line::{Line, LineFault, line_of};
 pub use fault::{RunFault, status_of};
 pub use feed::feed_run;
+pub use laws::every_run_has_one_history;
 pub use show::show_run;
 use std::env;
 use std::process::ExitCode;

@@ -1,7 +1,7 @@
 //! What the program does with its words, and with what stands for its standard streams.
 
 use crate::output::put_text;
-use crate::{Line, LineFault, RunFault, feed_run, line_of, status_of};
+use crate::{Line, LineFault, RunFault, feed_run, line_of, show_run, status_of};
 use std::alloc::Global;
 use std::io::Write;
 use ucl_screen::{Sink, Source};
@@ -27,6 +27,7 @@ pub fn run<S: Source, W: Sink, E: Write>(
 ) -> u8 {
     let done = match line_of(alloc, words) {
         Ok(Line::Feed) => feed_run(alloc, source, sink),
+        Ok(Line::Show { group }) => show_run(alloc, source, sink, group),
         Err(LineFault::Help(text)) => put_text(sink, text.as_str()),
         Err(LineFault::Refused(text)) => {
             let _ = errors.write_all(text.as_bytes());

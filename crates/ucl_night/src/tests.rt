@@ -1,6 +1,6 @@
 //! Texts, statuses, and runs over memory in place of the standard streams.
 
-use crate::{Line, LineFault, RunFault, feed_run, line_of, program, status_of};
+use crate::{Line, LineFault, RunFault, feed_run, line_of, program, show_run, status_of};
 use std::alloc::Global;
 use std::io;
 use std::test::Fail;
@@ -17,6 +17,19 @@ const TWO_MATCHES_OUT: &str =
 
 const NO_EVENT_OUT: &str =
     "word,1,0000000000000000,\nword,2,0000000000000000,\nword,3,0000000000000000,\nword,4,0000000000000000,\nword,5,0000000000000000,\nword,6,0000000000000000,\nword,7,0000000000000000,\nword,8,0000000000000000,\nword,9,0000000000000000,\nword,10,0000000000000000,\nword,11,0000000000000000,\nword,12,0000000000000000,\n";
+
+/// The word lines of the stored run.
+const TWO_MATCHES_WORDS: &str =
+    "word,1,0000420000000806,\nword,2,0000800000000401,\nword,3,0000000000000000,\nword,4,0000000000000000,\nword,5,0000000000000000,\nword,6,0000000000000000,\nword,7,0000000000000000,\nword,8,0000000000000000,\nword,9,0000000000000000,\nword,10,0000000000000000,\nword,11,0000000000000000,\nword,12,0000000000000000,\n";
+
+const TWO_MATCHES_SCREEN: &str = "\
+GROUP A v00007 IN PLAY 1
+    Club                  P  W  D  L  GF  GA   GD Pts
+1   Bravo                 1  0  1  0   0   0   +0   1
+2   Delta                 1  0  1  0   0   0   +0   1
+3   Alpha                 1  0  1  0   0   0   +0   1
+4   Charlie               1  0  1  0   0   0   +0   1
+";
 
 /// A reader of a text, which fails after `room` bytes.
 #[derive(Drop)]
@@ -77,6 +90,25 @@ fn fed<R: io::Read + Drop>(
             room,
         });
         feed_run(alloc, &mut source, &mut sink)
+    };
+    (answer, out)
+}
+
+/// The answer of `show` to a sheet, for group A, and what it wrote before an output with so much room.
+fn shown<R: io::Read + Drop>(
+    alloc: Global,
+    input: R,
+    room: usize,
+) -> (Result<(), RunFault>, Vec<u8>) {
+    let mut out = Vec::new(alloc);
+    let answer = {
+        let mut source = FromRead::new(input);
+        let mut sink = ToWrite::new(Full {
+            taken: &mut out,
+            piece: 64,
+            room,
+        });
+        show_run(alloc, &mut source, &mut sink, b'A')
     };
     (answer, out)
 }
@@ -146,12 +178,24 @@ fn fault_lines_and_statuses(rt: HostRuntime) -> Result<(), Fail> {
 #[test]
 fn command_lines(rt: HostRuntime) -> Result<(), Fail> {
     let alloc = rt.alloc();
-    let words = words_of(alloc, "ucl_night feed")?;
-    assert!(rt; matches!(line_of(alloc, &words), Ok(Line::Feed)));
+    let taken = [
+        ("ucl_night feed", Line::Feed),
+        ("ucl_night show", Line::Show { group: b'A' }),
+        ("ucl_night show --group A", Line::Show { group: b'A' }),
+        ("ucl_night show --group H", Line::Show { group: b'H' }),
+    ];
+    for (line, asked) in taken {
+        let words = words_of(alloc, line)?;
+        assert!(rt;
+            line_of(alloc, &words).is_ok_and(|line| line == asked),
+            "at {line}"
+        );
+    }
     for line in [
         "ucl_night --help",
         "ucl_night help",
         "ucl_night feed --help",
+        "ucl_night show --help",
     ] {
         let words = words_of(alloc, line)?;
         assert!(rt;
@@ -162,8 +206,12 @@ fn command_lines(rt: HostRuntime) -> Result<(), Fail> {
     let refused = [
         "",
         "ucl_night",
-        "ucl_night show",
         "ucl_night night",
+        "ucl_night show --group",
+        "ucl_night show --group I",
+        "ucl_night show --group a",
+        "ucl_night show --group AB",
+        "ucl_night feed --group A",
         "ucl_night other",
         "ucl_night feed more",
         "ucl_night --group A",
@@ -250,9 +298,8 @@ fn push_match(
     Ok(())
 }
 
-#[test]
-fn head_to_head(rt: HostRuntime) -> Result<(), Fail> {
-    let alloc = rt.alloc();
+/// The script of the head to head group: 40 events.
+fn head_to_head_script(alloc: Global) -> Result<String, Fail> {
     let scores = [
         (1, 1, 1, 0),
         (2, 2, 1, 0),
@@ -271,6 +318,13 @@ fn head_to_head(rt: HostRuntime) -> Result<(), Fail> {
     for (reporter, game, home, away) in scores {
         push_match(&mut script, reporter, game, home, away)?;
     }
+    Ok(script)
+}
+
+#[test]
+fn head_to_head(rt: HostRuntime) -> Result<(), Fail> {
+    let alloc = rt.alloc();
+    let script = head_to_head_script(alloc)?;
     let (answer, out) = fed(alloc, script.as_bytes(), usize::MAX);
     assert_eq!(rt; answer, Ok(()));
     let text = std::str::from_utf8(out.as_slice())?;
@@ -314,6 +368,65 @@ fn failing_devices(rt: HostRuntime) -> Result<(), Fail> {
     Ok(())
 }
 
+/// The screen of the head to head group, by way of the word lines that `feed` writes for it.
+const HEAD_TO_HEAD_SCREEN: &str = "\
+GROUP A v00040 IN PLAY 0
+    Club                  P  W  D  L  GF  GA   GD Pts
+1 + Alpha                 6  3  1  2   5   2   +3  10
+2 + Bravo                 6  3  1  2   3   3   +0  10
+3 - Charlie               6  3  1  2   7   3   +4  10
+4 - Delta                 6  1  1  4   1   8   -7   4
+";
+
+#[test]
+fn screens_of_sheets(rt: HostRuntime) -> Result<(), Fail> {
+    let alloc = rt.alloc();
+    let script = head_to_head_script(alloc)?;
+    let (answer, out) = fed(alloc, script.as_bytes(), usize::MAX);
+    assert_eq!(rt; answer, Ok(()));
+    let text = std::str::from_utf8(out.as_slice())?;
+    let mut words = String::new(alloc);
+    for line in text.lines().filter(|line| line.starts_with("word,")) {
+        write!(&mut words, "{line}\n")?;
+    }
+    let sheets = [
+        (words.as_str(), HEAD_TO_HEAD_SCREEN),
+        (TWO_MATCHES_WORDS, TWO_MATCHES_SCREEN),
+    ];
+    for (words, screen) in sheets {
+        let sheet = joined(alloc, CLUBS, words)?;
+        let (answer, out) = shown(alloc, sheet.as_bytes(), usize::MAX);
+        assert_eq!(rt; answer, Ok(()));
+        assert!(rt; out.as_slice() == screen.as_bytes());
+        for room in [0, 1, 53, 200] {
+            let (answer, out) = shown(alloc, sheet.as_bytes(), room);
+            assert_eq!(rt; answer, Err(RunFault::WriteFailed { written: room }));
+            assert!(rt;
+                Some(out.as_slice()) == screen.as_bytes().get(..room),
+                "at {room}"
+            );
+        }
+    }
+    Ok(())
+}
+
+#[test]
+fn sheet_faults(rt: HostRuntime) -> Result<(), Fail> {
+    let alloc = rt.alloc();
+    let rows = [
+        ("word,2,0000000000000000,\n", InputFault::BadRow { row: 5 }),
+        ("word,1,000000000000000,\n", InputFault::BadRow { row: 5 }),
+        ("word,1,0000000000000000,\n", InputFault::BadRow { row: 6 }),
+    ];
+    for (words, fault) in rows {
+        let sheet = joined(alloc, CLUBS, words)?;
+        let (answer, out) = shown(alloc, sheet.as_bytes(), usize::MAX);
+        assert_eq!(rt; answer, Err(RunFault::Input(fault)), "at {words}");
+        assert!(rt; out.is_empty(), "at {words}");
+    }
+    Ok(())
+}
+
 /// What the program does for a line of words and an input: its status, its output and what it tells of errors.
 fn ran(
     alloc: Global,
@@ -353,9 +466,18 @@ fn program_runs(rt: HostRuntime) -> Result<(), Fail> {
     assert!(rt; out.as_slice() == b"5 o".as_slice());
     assert!(rt; errors.as_slice() == b"writing failed 26: after 3 bytes\n".as_slice());
 
-    let (status, out, errors) = ran(alloc, "ucl_night show", script.as_bytes(), usize::MAX)?;
+    let (status, out, errors) = ran(alloc, "ucl_night show --group I", b"", usize::MAX)?;
     assert_eq!(rt; status, 2);
     assert!(rt; out.is_empty() && !errors.is_empty());
+
+    let sheet = joined(alloc, CLUBS, TWO_MATCHES_WORDS)?;
+    let (status, out, errors) = ran(alloc, "ucl_night show", sheet.as_bytes(), usize::MAX)?;
+    assert_eq!(rt; status, 0);
+    assert!(rt; out.as_slice() == TWO_MATCHES_SCREEN.as_bytes() && errors.is_empty());
+
+    let (status, out, errors) = ran(alloc, "ucl_night show", script.as_bytes(), usize::MAX)?;
+    assert_eq!(rt; status, 3);
+    assert!(rt; out.is_empty() && errors.as_slice() == b"input refused 20: row 5\n".as_slice());
 
     let (status, out, errors) = ran(alloc, "ucl_night --help", b"", usize::MAX)?;
     assert_eq!(rt; status, 0);

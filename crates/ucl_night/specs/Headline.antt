@@ -1,0 +1,37 @@
+-- One history for all callers, and the screens of what its readers read.
+use Rattle.std.specs.Prelude.{◌≡◌, ℕ, ◌++◌, List, All, take, flat_map, Some}
+use Rattle.ucl_board.specs.declared.entry.Entry.{Entry}
+use Rattle.ucl_board.specs.declared.reading.Reading.{Reading}
+use Rattle.ucl_board.specs.History.{board_of}
+use Rattle.ucl_order.specs.Roster.{ClubEntry}
+use Rattle.ucl_order.specs.Rows.{rows_of}
+use Rattle.ucl_screen.specs.Lines.{header}
+use Rattle.ucl_screen.specs.Screen.{columns, in_play, row_line, screen_text}
+use Rattle.ucl_steps.specs.declared.step.Cast.{Cast}
+use Rattle.ucl_steps.specs.declared.step.Step.{Step}
+use Rattle.ucl_steps.specs.declared.trace.CallRecord.{CallRecord}
+use Rattle.ucl_steps.specs.declared.trace.Reply.TheVariants.{Copied}
+use Rattle.ucl_steps.specs.Machine.{MachineState, initial_state, after_steps}
+use Rattle.ucl_steps.specs.Linearizable.{IsDecided, IsLinearizable}
+
+-- the board after the first k entries of a history, as a screen shows it: version k, and the clubs in the order of the
+-- Regulations, each with its numbers and its mark
+abbrev pub screen_at : List Entry → ℕ → List ClubEntry → ℕ → List ℕ
+screen_at history k roster group =
+    let board = board_of (take k history) in
+    header group k (in_play board) ++ columns ++ flat_map (row_line roster) (rows_of board roster)
+
+-- the screen of a reading, whatever the roster and the group, is that of the board at the reading's place in the history
+abbrev pub ScreenIsOfItsPlace : List Entry → CallRecord → Type 0
+ScreenIsOfItsPlace history c =
+    (k : ℕ) (reading : Reading) → IsDecided c k (Copied reading) → (roster : List ClubEntry) (group : ℕ) → screen_text reading.board roster group ≡ screen_at history k roster group
+
+-- one history of the board of one thread holds each finished call once, with the reply that it got, between its beginning and
+-- its end; and each screen is the text of the order of the board that its reading copied
+pub record HasOneHistory (steps : List Step) (history : List Entry) (calls : List CallRecord) : Type 0 where
+  pub linearizable : IsLinearizable steps history calls
+  pub screens : All (ScreenIsOfItsPlace history) calls
+
+-- for every list of steps of any reporters and readers, with calls cut anywhere and left unfinished
+abbrev pub EveryRunHasOneHistory : Type 0
+EveryRunHasOneHistory = (cast : Cast) (steps : List Step) (state : MachineState) → after_steps steps (initial_state cast) ≡ Some state → HasOneHistory steps state.history state.calls

@@ -1,0 +1,93 @@
+-- Histories: one entry more, their beginnings, and the words of their boards.
+use Rattle.std.proofs.Common.{◌≡◌, ℕ, ◌+◌, ◌-◌, ◌==◌, ◌&&◌, not, nat_le, ◌<◌, ◌≤◌, Bool, true, cond, List, [], ◌∷◌, ◌++◌, take, drop, length, Some, None, refl, sym, ap, ◌∙◌, subst, arith, length-append, get_or, set, ne_eqb}
+use Rattle.std.specs.Prelude.{slice_index, slice_set, replicate}
+use Rattle.std.proofs.lemmas.Bool.{eqb-true, not-false, not_from_false}
+use Rattle.std.proofs.lemmas.List.{take-append-drop, ext_get_or}
+use Rattle.ucl_word.specs.declared.record.MatchRecord.{MatchRecord}
+use Rattle.ucl_word.specs.declared.event.Kind.{Kind}
+use Rattle.ucl_word.specs.declared.refusal.Refusal.TheVariants.{Stale, Finished, NotStarted, AlreadyStarted, NumberFull, NoGoal, NoCaution, LimitReached}
+use Rattle.ucl_word.specs.Record.{scheduled}
+use Rattle.ucl_word.specs.Rules.{is_scheduled, is_in_play, is_finished, is_kick_off, is_full_time, lacks_goal, lacks_caution, passes_limit, first_of, refusal_of, after}
+use Rattle.ucl_word.specs.Counts.{counted_match}
+use Rattle.ucl_word.specs.Layout.{word_of, record_at}
+use Rattle.ucl_word.proofs.Accepting.{accepts}
+use Rattle.ucl_word.proofs.Sequences.{may_none, may_next, may_begin}
+use Rattle.ucl_word.proofs.Counting.{legal_balanced, record_next, number_of_count}
+use Rattle.ucl_word.proofs.Words.{record_back}
+use Rattle.ucl_board.specs.declared.entry.Entry.{Entry}
+use Rattle.ucl_board.specs.Fixtures.{IsMatch}
+use Rattle.ucl_board.specs.Words.{version_of}
+use Rattle.ucl_board.specs.History.{entries_of, match_after, board_of, MayFollow, IsLegal}
+use Rattle.ucl_board.proofs.Histories.{entries-append, entries_same, legal_match, match_valid, word_after, board_length}
+use Rattle.ucl_board.proofs.Histories as low
+use Rattle.ucl_board.proofs.HistoryLaws.{versions, same_number, same_word}
+use Rattle.ucl_steps.proofs.Lists.{take_split}
+
+-- an event that is accepted is expected at the number that its match has
+pub number_expected : (m : MatchRecord) (expected : ℕ) (kind : Kind) → refusal_of m expected kind ≡ None → expected ≡ m.number
+number_expected m expected kind e = eqb-true expected m.number (not-false (expected == m.number) (accepts m expected kind e).current)
+
+-- at another number the event is stale
+pub is_stale : (m : MatchRecord) (expected : ℕ) (kind : Kind) → (expected ≡ m.number → ⊥) → refusal_of m expected kind ≡ Some (Stale m.number)
+unfolding refusal_of
+is_stale m expected kind not-that =
+    let t : not (expected == m.number) ≡ true = not_from_false (expected == m.number) (ne_eqb expected m.number not-that) in
+    let cs = first_of ((is_finished m.state, Finished) ∷ (is_scheduled m.state && not (is_kick_off kind), NotStarted) ∷ (is_in_play m.state && is_kick_off kind, AlreadyStarted)
+    ∷ (nat_le 1022 m.number && not (is_full_time kind), NumberFull) ∷ (lacks_goal m kind, NoGoal) ∷ (lacks_caution m kind, NoCaution) ∷ (passes_limit m kind, LimitReached) ∷ []) in
+    ap (λ (b : Bool). cond b (Some (Stale m.number)) cs) t
+
+pub legal_none : IsLegal []
+legal_none = may_none MayFollow
+
+pub legal_snoc : (h : List Entry) (e : Entry) → IsLegal h → MayFollow h e → IsLegal (h ++ e ∷ [])
+legal_snoc h e legal may = may_next MayFollow h e legal may
+
+pub legal_beginning : (h : List Entry) (n : ℕ) → IsLegal h → IsLegal (take n h)
+legal_beginning h n legal = may_begin MayFollow (take n h) (drop n h) (subst IsLegal (sym (take-append-drop n h)) legal)
+
+pub number_is : (h : List Entry) (g : ℕ) → (match_after h g).number ≡ length (entries_of g h)
+number_is h g = number_of_count (entries_of g h)
+
+pub match_next : (h : List Entry) (e : Entry) → IsLegal h → MayFollow h e → match_after (h ++ e ∷ []) e.game ≡ after (match_after h e.game) e.reporter e.kind
+match_next h e legal may = ap counted_match (entries_same h e e.game refl)
+    ∙ record_next (entries_of e.game h) e.reporter e.kind (legal_balanced (entries_of e.game h) (legal_match e.game h legal)) (accepts (match_after h e.game) (length (entries_of e.game h)) e.kind may.accepted.accepted)
+
+-- a word is of one record
+pub read_back : (h : List Entry) (g : ℕ) → IsLegal h → record_at (word_of (match_after h g)) ≡ match_after h g
+read_back h g legal = record_back (match_after h g) (match_valid g h legal)
+
+numbers_rise : (g : ℕ) (h : List Entry) (a b : ℕ) → a ≤ b → length (entries_of g (take a h)) ≤ length (entries_of g (take b h))
+numbers_rise g h a b l =
+    let cut : entries_of g (take b h) ≡ entries_of g (take a h) ++ entries_of g (drop a (take b h)) = ap (entries_of g) (take_split h a b l) ∙ entries-append g (take a h) (drop a (take b h)) in
+    omega (arith, ap length cut, length-append (entries_of g (take a h)) (entries_of g (drop a (take b h))))
+
+-- a word that a match has before and after a place, it has there too
+pub squeezed : (g x : ℕ) (h : List Entry) (a p b : ℕ) → IsLegal h → a ≤ p → p ≤ b → x ≡ word_of (match_after (take a h) g) → x ≡ word_of (match_after (take b h) g) → x ≡ word_of (match_after (take p h) g)
+squeezed g x h a p b legal low high is_a is_b =
+    let same = ap length (same_word h a b g legal (sym is_a ∙ is_b)) in
+    let up = numbers_rise g h a p low in
+    let down = numbers_rise g h p b high in
+    let na = number_is (take a h) g in
+    let np = number_is (take p h) g in
+    is_a ∙ (same_number h a p g (omega arith)).1
+
+pub board_at : (h : List Entry) (g : ℕ) → IsMatch g → slice_index (board_of h) (g - 1) ≡ word_of (match_after h g)
+board_at h g within = word_after h g within
+
+pub board_get : (h : List Entry) (k : ℕ) → k < 12 → get_or (board_of h) k 0 ≡ word_of (match_after h (k + 1))
+board_get h k l = let e : k ≡ k + 1 - 1 = omega arith in ap (λ (z : ℕ). get_or (board_of h) z 0) e ∙ word_after h (k + 1) (omega arith, omega arith)
+
+pub board_next : (h : List Entry) (e : Entry) → IsLegal h → MayFollow h e → board_of (h ++ e ∷ []) ≡ slice_set (board_of h) (e.game - 1) (word_of (after (match_after h e.game) e.reporter e.kind))
+board_next h e legal may = low.board_next h e may.game ∙ ap (λ (m : MatchRecord). set (board_of h) (e.game - 1) (word_of m)) (match_next h e legal may)
+
+-- the words of a board that are those of a history, one by one
+pub board_from : (h : List Entry) (words : List ℕ) → length words ≡ 12 → ((k : ℕ) → k < 12 → get_or words k 0 ≡ word_of (match_after h (k + 1))) → words ≡ board_of h
+board_from h words twelve each = ext_get_or 0 words (board_of h) (twelve ∙ sym (board_length h)) (λ k l. each k (omega arith) ∙ sym (board_get h k (omega arith)))
+
+pub board_none : replicate 12 (word_of scheduled) ≡ board_of []
+unfolding counted_match board_of
+board_none = refl
+
+-- the version of the board is the length of the history
+pub version_is : (h : List Entry) → IsLegal h → version_of (board_of h) ≡ length h
+version_is h legal = (versions h legal).0

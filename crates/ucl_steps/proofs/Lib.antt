@@ -1,0 +1,14 @@
+pub mod Lists
+pub mod Histories
+pub mod Changing
+pub mod Places
+pub mod Turns
+pub mod Callers
+pub mod Explaining
+pub mod Knowing
+pub mod Clauses
+pub mod Making
+pub mod Keeping
+pub mod Stepping
+pub mod Runs
+pub mod Reachable

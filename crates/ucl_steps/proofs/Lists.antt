@@ -1,0 +1,28 @@
+-- Elements of lists at a place, and options.
+use Rattle.std.proofs.Common.{◌≡◌, ℕ, zero, suc, ◌<◌, ◌≤◌, List, [], ◌∷◌, ◌++◌, take, drop, length, Option, Some, None, refl, sym, ap, ◌∙◌, arith}
+use Rattle.std.specs.Prelude.{slice_get, IfSome}
+use Rattle.std.proofs.lemmas.List.{take-append-drop, take-take}
+use Rattle.std.proofs.lemmas.Option.{none-some, same_Some}
+
+module _ {A : Type 0} where
+  pub if_some : (o : Option A) (P : A → Type 0) → ((x : A) → o ≡ Some x → P x) → IfSome o P
+  if_some None P f = tt
+  if_some (Some x) P f = f x refl
+
+  pub get_some : (xs : List A) (k : ℕ) → k < length xs → (x : A) × (slice_get xs k ≡ Some x)
+  get_some [] k l = absurd (omega arith)
+  get_some (x ∷ xs) zero l = (x, refl)
+  get_some (x ∷ xs) (suc k) l = get_some xs k (omega arith)
+
+  pub get_back : (xs ys : List A) (k : ℕ) (x : A) → k < length xs → slice_get (xs ++ ys) k ≡ Some x → slice_get xs k ≡ Some x
+  get_back [] ys k x l e = absurd (omega arith)
+  get_back (y ∷ xs) ys zero x l e = e
+  get_back (y ∷ xs) ys (suc k) x l e = get_back xs ys k x (omega arith) e
+
+  pub take_one : (xs : List A) (k : ℕ) (x : A) → slice_get xs k ≡ Some x → take (suc k) xs ≡ take k xs ++ x ∷ []
+  take_one [] k x e = absurd (none-some x e)
+  take_one (y ∷ xs) zero x e = ap (λ (z : A). z ∷ []) (same_Some y x e)
+  take_one (y ∷ xs) (suc k) x e = ap (λ (z : List A). y ∷ z) (take_one xs k x e)
+
+  pub take_split : (xs : List A) (a b : ℕ) → a ≤ b → take b xs ≡ take a xs ++ drop a (take b xs)
+  take_split xs a b l = sym (take-append-drop a (take b xs)) ∙ ap (λ (z : List A). z ++ drop a (take b xs)) (take-take a b xs l)

@@ -1,0 +1,104 @@
+-- Where calls begin and end in a list of steps, and in one step more.
+use Rattle.std.proofs.Common.{◌≡◌, ℕ, zero, suc, ◌+◌, ◌<◌, ◌≤◌, List, [], ◌∷◌, ◌++◌, take, drop, length, Some, ◌⊎◌, inl, inr, refl, sym, ap, ◌∙◌, arith, length-append}
+use Rattle.std.specs.Prelude.{slice_get}
+use Rattle.std.proofs.lemmas.Option.{none-some, same_Some}
+use Rattle.std.proofs.lemmas.Bool.{cases_lt}
+use Rattle.std.proofs.lemmas.List.{take-append-le, take-append-drop}
+use Rattle.std.proofs.Math.Seq.{take-length}
+use Rattle.ucl_word.proofs.Sequences.{at_longer, at_below, at_end, at_either}
+use Rattle.ucl_steps.proofs.Lists.{get_back, take_one, take_split}
+use Rattle.ucl_steps.specs.declared.step.Caller.{Caller}
+use Rattle.ucl_steps.specs.declared.step.Call.{Call}
+use Rattle.ucl_steps.specs.declared.step.Step.{Step}
+use Rattle.ucl_steps.specs.declared.step.Step.TheVariants.{Begin, Look, Swap, First, Second, End}
+use Rattle.ucl_steps.specs.Linearizable.{begun_in, BeginsAt, EndsAt}
+
+pub begun_in-append : (xs ys : List Step) → begun_in (xs ++ ys) ≡ begun_in xs ++ begun_in ys
+begun_in-append [] ys = refl
+begun_in-append (Begin c call ∷ xs) ys = ap (λ (z : List (Caller × Call)). (c, call) ∷ z) (begun_in-append xs ys)
+begun_in-append (Look c ∷ xs) ys = begun_in-append xs ys
+begun_in-append (Swap c ∷ xs) ys = begun_in-append xs ys
+begun_in-append (First c ∷ xs) ys = begun_in-append xs ys
+begun_in-append (Second c ∷ xs) ys = begun_in-append xs ys
+begun_in-append (End c ∷ xs) ys = begun_in-append xs ys
+
+pub begins_call : (steps : List Step) (p i : ℕ) (c : Caller) (b : BeginsAt steps p i c) → slice_get (begun_in steps) i ≡ Some (c, b.call)
+begins_call steps p i c b =
+    let front = begun_in (take p steps) in
+    let rest = begun_in (drop (suc p) steps) in
+    let whole : begun_in steps ≡ (front ++ (c, b.call) ∷ []) ++ rest =
+    ap begun_in (sym (take-append-drop (suc p) steps)) ∙ (begun_in-append (take (suc p) steps) (drop (suc p) steps)
+    ∙ ap (λ (z : List (Caller × Call)). z ++ rest) (ap begun_in (take_one steps p (Begin c b.call) b.begins) ∙ begun_in-append (take p steps) (Begin c b.call ∷ []))) in
+    let there : slice_get (front ++ (c, b.call) ∷ []) i ≡ Some (c, b.call) = ap (slice_get (front ++ (c, b.call) ∷ [])) (sym b.number) ∙ at_end front (c, b.call) in
+    ap (λ (z : List (Caller × Call)). slice_get z i) whole ∙ at_longer (front ++ (c, b.call) ∷ []) rest i (c, b.call) there
+
+later : (s : Step) (steps : List Step) (p i : ℕ) (c : Caller) → begun_in (s ∷ []) ≡ [] → BeginsAt steps p i c → BeginsAt (s ∷ steps) (suc p) i c
+later s steps p i c none b = record { call = b.call; begins = b.begins; number = ap length (begun_in-append (s ∷ []) (take p steps) ∙ ap (λ (z : List (Caller × Call)). z ++ begun_in (take p steps)) none) ∙ b.number }
+
+-- each call that the steps begin is begun at a place
+pub place_of : (steps : List Step) (i : ℕ) (c : Caller) (call : Call) → slice_get (begun_in steps) i ≡ Some (c, call) → (p : ℕ) × BeginsAt steps p i c
+place_of [] i c call e = absurd (none-some (c, call) e)
+place_of (Begin d other ∷ steps) zero c call e =
+    let same = same_Some (d, other) (c, call) e in
+    let caller : d ≡ c = ap (λ (z : Caller × Call). z.0) same in
+    (0, record { call = other; begins = ap (λ (z : Caller). Some (Begin z other)) caller; number = refl })
+place_of (Begin d other ∷ steps) (suc i) c call e = let t = place_of steps i c call e in (suc t.0, record { call = t.1.call; begins = t.1.begins; number = ap suc t.1.number })
+place_of (Look d ∷ steps) i c call e = let t = place_of steps i c call e in (suc t.0, later (Look d) steps t.0 i c refl t.1)
+place_of (Swap d ∷ steps) i c call e = let t = place_of steps i c call e in (suc t.0, later (Swap d) steps t.0 i c refl t.1)
+place_of (First d ∷ steps) i c call e = let t = place_of steps i c call e in (suc t.0, later (First d) steps t.0 i c refl t.1)
+place_of (Second d ∷ steps) i c call e = let t = place_of steps i c call e in (suc t.0, later (Second d) steps t.0 i c refl t.1)
+place_of (End d ∷ steps) i c call e = let t = place_of steps i c call e in (suc t.0, later (End d) steps t.0 i c refl t.1)
+
+begun_more : (steps : List Step) (p q : ℕ) → p ≤ q → length (begun_in (take p steps)) ≤ length (begun_in (take q steps))
+begun_more steps p q l = let cut = ap length (ap begun_in (take_split steps p q l) ∙ begun_in-append (take p steps) (drop p (take q steps))) in omega (arith, cut, length-append (begun_in (take p steps)) (begun_in (drop p (take q steps))))
+
+-- an earlier call is begun at an earlier place, and the other way round
+pub earlier_place : (steps : List Step) (p q i j : ℕ) (c d : Caller) → BeginsAt steps p i c → BeginsAt steps q j d → i < j → p < q
+earlier_place steps p q i j c d a b l = elim (cases_lt p q) [ inl before ↦ before | inr after ↦ let more = begun_more steps q p after in let x = a.number in let y = b.number in absurd (omega arith) ]
+
+pub earlier_call : (steps : List Step) (p q i j : ℕ) (c d : Caller) → BeginsAt steps p i c → BeginsAt steps q j d → p < q → i < j
+earlier_call steps p q i j c d a b l =
+    let more = begun_more steps (suc p) q (omega arith) in
+    let one : length (begun_in (take (suc p) steps)) ≡ length (begun_in (take p steps)) + 1 =
+    ap length (ap begun_in (take_one steps p (Begin c a.call) a.begins) ∙ begun_in-append (take p steps) (Begin c a.call ∷ [])) ∙ length-append (begun_in (take p steps)) ((c, a.call) ∷ []) in
+    let x = a.number in let y = b.number in omega arith
+
+module _ (steps : List Step) (s : Step) where
+  pub back_begins : (p i : ℕ) (c : Caller) → p < length steps → BeginsAt (steps ++ s ∷ []) p i c → BeginsAt steps p i c
+  back_begins p i c l b = record {
+    call = b.call;
+    begins = get_back steps (s ∷ []) p (Begin c b.call) l b.begins;
+    number = ap (λ (z : List Step). length (begun_in z)) (sym (take-append-le p steps (s ∷ []) (omega arith))) ∙ b.number;
+  }
+
+  pub back_ends : (p i : ℕ) (c : Caller) → p < length steps → EndsAt (steps ++ s ∷ []) p i c → EndsAt steps p i c
+  back_ends p i c l e = let before = e.before in record {
+    ends = get_back steps (s ∷ []) p (End c) l e.ends;
+    begun = e.begun;
+    before = e.before;
+    begins = back_begins e.begun i c (omega arith) e.begins;
+    last = λ q call low high at. e.last q call low high (at_longer steps (s ∷ []) q (Begin c call) at);
+  }
+
+  pub more_begins : (p i : ℕ) (c : Caller) → BeginsAt steps p i c → BeginsAt (steps ++ s ∷ []) p i c
+  more_begins p i c b = let l = at_below steps p (Begin c b.call) b.begins in record {
+    call = b.call;
+    begins = at_longer steps (s ∷ []) p (Begin c b.call) b.begins;
+    number = ap (λ (z : List Step). length (begun_in z)) (take-append-le p steps (s ∷ []) (omega arith)) ∙ b.number;
+  }
+
+  pub more_ends : (p i : ℕ) (c : Caller) → EndsAt steps p i c → EndsAt (steps ++ s ∷ []) p i c
+  more_ends p i c e = let l = at_below steps p (End c) e.ends in record {
+    ends = at_longer steps (s ∷ []) p (End c) e.ends;
+    begun = e.begun;
+    before = e.before;
+    begins = more_begins e.begun i c e.begins;
+    last = λ q call low high at. e.last q call low high (get_back steps (s ∷ []) q (Begin c call) (omega arith) at);
+  }
+
+  -- an end or a beginning is one of the steps before, or the last step
+  pub old_or_last : (p : ℕ) (x : Step) → slice_get (steps ++ s ∷ []) p ≡ Some x → (p < length steps) ⊎ ((p ≡ length steps) × (s ≡ x))
+  old_or_last p x e = elim (at_either steps s p x e) [ inl t ↦ inl t.0 | inr t ↦ inr t ]
+
+  pub number_at_end : (i : ℕ) (c : Caller) (p : ℕ) → p ≡ length steps → BeginsAt (steps ++ s ∷ []) p i c → i ≡ length (begun_in steps)
+  number_at_end i c p is b = sym b.number ∙ ap (λ (z : List Step). length (begun_in z)) (ap (λ (z : ℕ). take z (steps ++ s ∷ [])) is ∙ (take-append-le (length steps) steps (s ∷ []) (omega arith) ∙ take-length steps))

@@ -1,0 +1,197 @@
+-- What is known of a state that steps lead to.
+use Rattle.std.proofs.Common.{◌≡◌, ℕ, zero, suc, ◌+◌, ◌-◌, ◌<◌, ◌≤◌, ◌==◌, Bool, true, false, cond, List, [], ◌∷◌, ◌++◌, take, length, map, Option, Some, None, refl, sym, ap, ◌∙◌, subst, arith, get_or, set, length-take, eq-eqb, ne_eqb}
+use Rattle.std.specs.Prelude.{slice_get, slice_index, replicate}
+use Rattle.std.specs.Option.{option_map, option_and_then}
+use Rattle.std.proofs.lemmas.Option.{none-some, same_Some, slice_get-map, slice_get-get_or, slice_get_past, option_and_then_some}
+use Rattle.std.proofs.lemmas.Bool.{false≢true}
+use Rattle.std.proofs.lemmas.List.{get_or_default, take_more_set, take_all, length-take-le, map-set, length-set}
+use Rattle.ucl_word.specs.declared.event.EventCall.{EventCall}
+use Rattle.ucl_word.specs.Layout.{word_of, record_at, IsWord}
+use Rattle.ucl_board.specs.Fixtures.{IsMatch}
+use Rattle.ucl_board.specs.Words.{AreWords, word_at}
+use Rattle.ucl_board.specs.History.{match_after}
+use Rattle.ucl_board.proofs.Histories.{match_valid}
+use Rattle.ucl_board.proofs.HistoryLaws.{versions}
+use Rattle.ucl_steps.specs.declared.step.Cast.{Cast}
+use Rattle.ucl_steps.specs.declared.step.Caller.{Caller}
+use Rattle.ucl_steps.specs.declared.step.Caller.TheVariants.{Reporter, Reader}
+use Rattle.ucl_steps.specs.declared.step.Step.{Step}
+use Rattle.ucl_steps.specs.declared.trace.CallRecord.{CallRecord}
+use Rattle.ucl_steps.specs.declared.machine.Held.{Held}
+use Rattle.ucl_steps.specs.declared.machine.Held.TheVariants as has
+use Rattle.ucl_steps.specs.Machine.{Holds, Idle, Wanting, Holding, Collecting, Checking, Callers, MachineState, initial_state, held_by, with_held, after_first, change_at, caller_of, after_step_holding, after_step, after_steps}
+use Rattle.ucl_board.specs.declared.entry.Entry.{Entry}
+use Rattle.ucl_steps.specs.Running.{holds_of, IsReachable, Takes}
+use Rattle.ucl_word.proofs.Sequences.{at_below}
+use Rattle.ucl_steps.proofs.Keeping.{Keeps}
+use Rattle.ucl_steps.proofs.Knowing.{in_call}
+use Rattle.ucl_steps.proofs.Stepping.{word_now, no_asker}
+use Rattle.ucl_steps.proofs.Histories.{legal_beginning, read_back}
+use Rattle.ucl_word.specs.Rules.{after}
+use Rattle.ucl_word.specs.Record.{IsValid}
+use Rattle.ucl_word.proofs.Accepting.{accepts, after_valid}
+use Rattle.ucl_steps.proofs.Runs.{kept_at_start, run_kept}
+
+pub reached_kept : (w : MachineState) (r : IsReachable w) → Keeps r.1 w
+reached_kept w r = run_kept r.1 [] (initial_state r.0) w (kept_at_start r.0) r.2
+
+pub reached_short : (w : MachineState) → IsReachable w → length w.history ≤ 12276
+reached_short w r = (versions w.history (reached_kept w r).legal).1
+
+pub word_is : (w : MachineState) (r : IsReachable w) (g : ℕ) → IsMatch g → IsWord (word_at w.words g)
+word_is w r g within = let k = reached_kept w r in record { of = match_after w.history g; valid = match_valid g w.history k.legal; packed = sym (word_now r.1 w k g within) }
+
+-- the list with one element changed, by its place
+pub change_at-set : {X : Type 0} (k : ℕ) (f : X → X) (xs : List X) (d : X) → k < length xs → change_at k f xs ≡ set xs k (f (get_or xs k d))
+change_at-set k f [] d l = absurd (omega arith)
+change_at-set zero f (x ∷ xs) d l = refl
+change_at-set {X = X} (suc k) f (x ∷ xs) d l = ap (λ (z : List X). x ∷ z) (change_at-set k f xs d (omega arith))
+
+pub idle_all : (n : ℕ) → map holds_of (replicate n has.Idle) ≡ replicate n Idle
+idle_all zero = refl
+idle_all (suc n) = ap (λ (z : List Holds). Idle ∷ z) (idle_all n)
+
+-- a caller's place
+pub held_reporter : (cs : Callers) (r : ℕ) → 1 ≤ r → held_by cs (Reporter r) ≡ slice_get cs.reporters (r - 1)
+held_reporter cs zero l = absurd (omega arith)
+held_reporter cs (suc k) l = let e : k ≡ suc k - 1 = omega arith in ap (slice_get cs.reporters) e
+
+pub held_reader : (cs : Callers) (r : ℕ) → 1 ≤ r → held_by cs (Reader r) ≡ slice_get cs.readers (r - 1)
+held_reader cs zero l = absurd (omega arith)
+held_reader cs (suc k) l = let e : k ≡ suc k - 1 = omega arith in ap (slice_get cs.readers) e
+
+pub held_at : (hs : List Held) (k : ℕ) (x d : Held) → k < length hs → x ≡ get_or hs k d → Some (holds_of x) ≡ slice_get (map holds_of hs) k
+held_at hs k x d l e = sym (slice_get-map holds_of hs k ∙ (ap (option_map holds_of) (slice_get-get_or hs k d l) ∙ ap (λ (z : Held). Some (holds_of z)) (sym e)))
+
+pub held_past : (hs : List Held) (k : ℕ) → length hs ≤ k → None ≡ slice_get (map holds_of hs) k
+held_past hs k l = sym (slice_get-map holds_of hs k ∙ ap (option_map holds_of) (slice_get_past hs k l))
+
+abbrev state : List ℕ → List Entry → List CallRecord → List Holds → List Holds → MachineState
+state words history calls reporters readers = record { words = words; history = history; calls = calls; callers = record { reporters = reporters; readers = readers } }
+
+module _ (words : List ℕ) (history : List Entry) (calls : List CallRecord) where
+  pub hold_reporter : (hs : List Held) (readers : List Holds) (c : Caller) (r k : ℕ) (y : Held) → c ≡ Reporter r → k ≡ r - 1
+      → state words history calls (map holds_of (set hs k y)) readers ≡ with_held (holds_of y) c (state words history calls (map holds_of hs) readers)
+  hold_reporter hs readers c r k y is at = subst (λ (c : Caller). state words history calls (map holds_of (set hs k y)) readers ≡ with_held (holds_of y) c (state words history calls (map holds_of hs) readers)) (sym is)
+      (ap (λ (z : List Holds). state words history calls z readers) (map-set holds_of hs k y ∙ ap (λ (k : ℕ). set (map holds_of hs) k (holds_of y)) at))
+
+  pub hold_reader : (hs : List Held) (reporters : List Holds) (c : Caller) (r k : ℕ) (y : Held) → c ≡ Reader r → k ≡ r - 1
+      → state words history calls reporters (map holds_of (set hs k y)) ≡ with_held (holds_of y) c (state words history calls reporters (map holds_of hs))
+  hold_reader hs reporters c r k y is at = subst (λ (c : Caller). state words history calls reporters (map holds_of (set hs k y)) ≡ with_held (holds_of y) c (state words history calls reporters (map holds_of hs))) (sym is)
+      (ap (λ (z : List Holds). state words history calls reporters z) (map-set holds_of hs k y ∙ ap (λ (k : ℕ). set (map holds_of hs) k (holds_of y)) at))
+
+pub set-change_at : (calls : List CallRecord) (k : ℕ) (x : CallRecord) (f : CallRecord → CallRecord) → k < length calls → x ≡ get_or calls k x → set calls k (f x) ≡ change_at k f calls
+set-change_at calls k x f l is = ap (λ (z : CallRecord). set calls k (f z)) is ∙ sym (change_at-set k f calls x l)
+
+module _ (w : MachineState) (c : Caller) (k : ℕ) (ws : List ℕ) (n : ℕ) (twelve : length ws ≡ 12) (few : n < 12) where
+  taken_long : length (take n ws) ≡ n
+  taken_long = length-take-le n ws (omega arith)
+
+  one_longer : take n ws ++ slice_index w.words (length (take n ws)) ∷ [] ≡ take (n + 1) (set ws n (get_or w.words n 0))
+  one_longer = ap (λ (z : ℕ). take n ws ++ slice_index w.words z ∷ []) taken_long ∙ sym (take_more_set ws n (get_or w.words n 0) (omega arith))
+
+  long : length (take (n + 1) (set ws n (get_or w.words n 0))) ≡ n + 1
+  long = let l = length-set ws n (get_or w.words n 0) in length-take-le (n + 1) (set ws n (get_or w.words n 0)) (omega arith)
+
+  abbrev filled : List ℕ
+  filled = set ws n (get_or w.words n 0)
+
+  pub first_last : n ≡ 11 → with_held (Checking k (set ws n (get_or w.words n 0)) 0 (length w.history)) c w ≡ after_first c k (take n ws) w
+  first_last is =
+      let l = length-set ws n (get_or w.words n 0) in
+      let whole : take (n + 1) filled ≡ filled = take_all (n + 1) filled (omega arith) in
+      let test : (length (take (n + 1) filled) == 12) ≡ true = eq-eqb (length (take (n + 1) filled)) 12 (long ∙ omega arith) in
+      sym (ap (λ (z : List ℕ). with_held (cond (length z == 12) (Checking k z 0 (length w.history)) (Collecting k z)) c w) one_longer
+      ∙ (ap (λ (b : Bool). with_held (cond b (Checking k (take (n + 1) filled) 0 (length w.history)) (Collecting k (take (n + 1) filled))) c w) test
+      ∙ ap (λ (z : List ℕ). with_held (Checking k z 0 (length w.history)) c w) whole))
+
+  pub first_more : (n ≡ 11 → ⊥) → with_held (Collecting k (take (n + 1) (set ws n (get_or w.words n 0)))) c w ≡ after_first c k (take n ws) w
+  first_more not =
+      let l = long in
+      let test : (length (take (n + 1) filled) == 12) ≡ false = ne_eqb (length (take (n + 1) filled)) 12 (λ is. not (omega arith)) in
+      sym (ap (λ (z : List ℕ). with_held (cond (length z == 12) (Checking k z 0 (length w.history)) (Collecting k z)) c w) one_longer
+      ∙ ap (λ (b : Bool). with_held (cond b (Checking k (take (n + 1) filled) 0 (length w.history)) (Collecting k (take (n + 1) filled))) c w) test)
+
+zeros : List ℕ
+zeros = 0 ∷ 0 ∷ 0 ∷ 0 ∷ 0 ∷ 0 ∷ 0 ∷ 0 ∷ 0 ∷ 0 ∷ 0 ∷ 0 ∷ []
+
+pub start_is : (cast : Cast) (history : List Entry) (calls : List CallRecord) (reporters readers : List Holds) → history ≡ [] → calls ≡ [] → reporters ≡ replicate cast.reporters Idle → readers ≡ replicate cast.readers Idle
+    → state (0 ∷ 0 ∷ 0 ∷ 0 ∷ 0 ∷ 0 ∷ 0 ∷ 0 ∷ 0 ∷ 0 ∷ 0 ∷ 0 ∷ []) history calls reporters readers ≡ initial_state cast
+unfolding word_of zeros
+start_is cast history calls reporters readers a b c d =
+    ap (λ (z : List Entry). state zeros z calls reporters readers) a ∙ (ap (λ (z : List CallRecord). state zeros [] z reporters readers) b
+    ∙ (ap (λ (z : List Holds). state zeros [] [] z readers) c ∙ ap (λ (z : List Holds). state zeros [] [] (replicate cast.reporters Idle) z) d))
+
+-- what a step makes of the state, where its caller holds this
+pub step_is : (s : Step) (w w' : MachineState) (x : Holds) → held_by w.callers (caller_of s) ≡ Some x → after_step_holding s (Some x) w ≡ Some w' → after_step w s ≡ Some w'
+step_is s w w' x holds e = ap (λ (o : Option Holds). after_step_holding s o w) holds ∙ e
+
+module _ (w : MachineState) (r : IsReachable w) (c : Caller) (o : Option Held) (told : option_map holds_of o ≡ held_by w.callers c) where
+  pub holds : (h : Held) → o ≡ Some h → held_by w.callers c ≡ Some (holds_of h)
+  holds h is = sym told ∙ ap (option_map holds_of) is
+
+  pub call_below : (h : Held) (k : ℕ) → o ≡ Some h → in_call (holds_of h) ≡ Some k → k < length w.calls
+  call_below h k is within = let t = (reached_kept w r).knows c (holds_of h) k (holds h is) within in at_below w.calls k t.call t.at
+
+  pub checked_few : (k : ℕ) (ws : List ℕ) (n p : ℕ) → o ≡ Some (has.Checking k ws n p) → n < 12
+  checked_few k ws n p is = ((reached_kept w r).knows c (Checking k ws n p) k (holds (has.Checking k ws n p) is) refl).sees.few
+
+  pub loaded_few : (k : ℕ) (ws : List ℕ) (n : ℕ) → o ≡ Some (has.Collecting k ws n) → length ws ≡ 12 → n < 12
+  loaded_few k ws n is twelve = let few = ((reached_kept w r).knows c (Collecting k (take n ws)) k (holds (has.Collecting k ws n) is) refl).sees.few in let l = length-take n ws in omega arith
+
+  -- each collected word is one that its match had
+  pub collected_words : (k : ℕ) (ws : List ℕ) (n p : ℕ) → o ≡ Some (has.Checking k ws n p) → AreWords ws
+  collected_words k ws n p is =
+      let kept = reached_kept w r in
+      let sees = (kept.knows c (Checking k ws n p) k (holds (has.Checking k ws n p) is) refl).sees in
+      record {
+        twelve = sees.twelve;
+        each = λ i d below. let t = sees.loaded i below in record {
+          of = match_after (take t.0 w.history) (i + 1);
+          valid = match_valid (i + 1) (take t.0 w.history) (legal_beginning w.history t.0 kept.legal);
+          packed = sym t.2 ∙ get_or_default ws i 0 d below;
+        };
+      }
+
+  pub wanted_word : (k : ℕ) (e : EventCall) → o ≡ Some (has.Wanting k e) → IsWord (word_at w.words e.game)
+  wanted_word k e is = word_is w r e.game ((reached_kept w r).knows c (Wanting k e) k (holds (has.Wanting k e) is) refl).sees.game
+
+  pub held_word : (k : ℕ) (e : EventCall) (old new : ℕ) → o ≡ Some (has.Holding k e old new) → IsWord (word_at w.words e.game)
+  held_word k e old new is = word_is w r e.game ((reached_kept w r).knows c (Holding k e old new) k (holds (has.Holding k e old new) is) refl).sees.asks.game
+
+  pub new_word : (k : ℕ) (e : EventCall) (old new : ℕ) → o ≡ Some (has.Holding k e old new) → IsWord new
+  new_word k e old new at =
+      let kept = reached_kept w r in
+      let o = (kept.knows c (Holding k e old new) k (holds (has.Holding k e old new) at) refl).sees in
+      let legal = legal_beginning w.history o.place kept.legal in
+      let is : record_at old ≡ match_after (take o.place w.history) e.game = ap record_at o.found ∙ read_back (take o.place w.history) e.game legal in
+      let valid : IsValid (record_at old) = subst IsValid (sym is) (match_valid e.game (take o.place w.history) legal) in
+      record { of = after (record_at old) o.asks.reporter e.kind; valid = after_valid (record_at old) o.asks.reporter e.expected e.kind valid (o.asks.low, o.asks.high) (accepts (record_at old) e.expected e.kind o.accepted); packed = sym o.next }
+
+  -- only a reporter enters events
+  pub reporter_wants : (n k : ℕ) (e : EventCall) → c ≡ Reader n → o ≡ Some (has.Wanting k e) → ⊥
+  reporter_wants n k e reader is =
+      let at : held_by w.callers (Reader n) ≡ Some (Wanting k e) = ap (held_by w.callers) (sym reader) ∙ holds (has.Wanting k e) is in
+      let kept = reached_kept w r in
+      no_asker r.1 w kept n (Wanting k e) k e at refl (kept.knows (Reader n) (Wanting k e) k at refl).sees
+
+  pub reporter_holds : (n k : ℕ) (e : EventCall) (old new : ℕ) → c ≡ Reader n → o ≡ Some (has.Holding k e old new) → ⊥
+  reporter_holds n k e old new reader is =
+      let at : held_by w.callers (Reader n) ≡ Some (Holding k e old new) = ap (held_by w.callers) (sym reader) ∙ holds (has.Holding k e old new) is in
+      let kept = reached_kept w r in
+      no_asker r.1 w kept n (Holding k e old new) k e at refl (kept.knows (Reader n) (Holding k e old new) k at refl).sees.asks
+
+-- a step that was taken was enabled
+pub taken_step : (old new : MachineState) (s : Step) (taken : Bool) → Takes old s taken new → taken ≡ true → after_step old s ≡ Some new
+taken_step old new s true t is = t
+taken_step old new s false t is = absurd (false≢true is)
+
+-- one step more of a list
+pub steps_more : (steps : List Step) (at : ℕ) (s : Step) (w v u : MachineState) → slice_get steps at ≡ Some s → after_steps (take at steps) w ≡ Some v → after_step v s ≡ Some u → after_steps (take (suc at) steps) w ≡ Some u
+steps_more [] at s w v u here before then = absurd (none-some s here)
+steps_more (x ∷ steps) zero s w v u here before then =
+    let x_is = same_Some x s here in
+    let v_is = same_Some w v before in
+    ap (λ (z : Step). option_and_then (after_steps []) (after_step w z)) x_is ∙ (ap (λ (z : MachineState). option_and_then (after_steps []) (after_step z s)) v_is ∙ ap (option_and_then (after_steps [])) then)
+steps_more (x ∷ steps) (suc at) s w v u here before then =
+    option_and_then_some (after_steps (take at steps)) (after_step w x) v before (λ y is rest. ap (option_and_then (after_steps (take (suc at) steps))) is ∙ steps_more steps at s y v u here rest then)

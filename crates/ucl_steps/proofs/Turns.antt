@@ -1,0 +1,267 @@
+-- The order of calls in time, kept by every step.
+use Rattle.std.proofs.Common.{◌≡◌, ◌≢◌, ℕ, ◌<◌, ◌≤◌, List, [], ◌∷◌, ◌++◌, take, length, map, Option, Some, None, ◌⊎◌, inl, inr, refl, sym, ap, ◌∙◌, subst, arith, append-nil, le_refl}
+use Rattle.std.specs.Prelude.{slice_get, IfSome, IsSome}
+use Rattle.std.proofs.lemmas.Option.{none-some, same_Some, slice_get-map}
+use Rattle.std.proofs.lemmas.Bool.{cases_order, false≢true}
+use Rattle.std.proofs.lemmas.List.{length-map, map-append}
+use Rattle.ucl_word.proofs.Sequences.{at_below, at_longer, at_end, at_either}
+use Rattle.ucl_steps.proofs.Lists.{get_some, get_back}
+use Rattle.ucl_steps.specs.declared.step.Caller.{Caller}
+use Rattle.ucl_steps.specs.declared.step.Call.{Call}
+use Rattle.ucl_steps.specs.declared.step.Step.{Step}
+use Rattle.ucl_steps.specs.declared.step.Step.TheVariants.{Begin, Look, Swap, First, Second, End}
+use Rattle.std.specs.Option.{option_map}
+use Rattle.ucl_steps.specs.Machine.{change_at}
+use Rattle.ucl_steps.specs.Linearizable.{begun_in, BeginsAt, EndsAt}
+use Rattle.ucl_steps.proofs.Changing.{get-change_at, map_unseen}
+use Rattle.ucl_steps.proofs.Places.{begun_in-append, begins_call, place_of, earlier_place, earlier_call, back_begins, back_ends, more_begins, more_ends, old_or_last, number_at_end}
+
+-- when a call began and ended
+pub record Time : Type 0 where
+  pub caller : Caller
+  pub call : Call
+  pub begun : ℕ
+  pub ended : Option ℕ
+
+abbrev pub told : Time → Caller × Call
+told t = (t.caller, t.call)
+
+abbrev pub EndedBy : Option ℕ → ℕ → Type 0
+EndedBy None n = ⊥
+EndedBy (Some e) n = e ≤ n
+
+-- n is the length of the history
+pub record Turns (steps : List Step) (n : ℕ) (ts : List Time) : Type 0 where
+  pub same : begun_in steps ≡ map told ts
+  pub past : (i : ℕ) (t : Time) → slice_get ts i ≡ Some t → (t.begun ≤ n) × IfSome t.ended (λ e. e ≤ n)
+  pub turns : (i j : ℕ) (a b : Time) → i < j → slice_get ts i ≡ Some a → slice_get ts j ≡ Some b → a.caller ≡ b.caller → EndedBy a.ended b.begun
+  pub finished : (p i : ℕ) (c : Caller) (a : Time) → EndsAt steps p i c → slice_get ts i ≡ Some a → IsSome a.ended
+  pub closed : (i : ℕ) (a : Time) → slice_get ts i ≡ Some a → IsSome a.ended → (p : ℕ) × EndsAt steps p i a.caller
+  pub real : (p q i j : ℕ) (c d : Caller) (a b : Time) → EndsAt steps p i c → BeginsAt steps q j d → p < q → slice_get ts i ≡ Some a → slice_get ts j ≡ Some b → EndedBy a.ended b.begun
+
+pub turns_none : Turns [] 0 []
+turns_none = record {
+  same = refl;
+  past = λ i t e. absurd (none-some t e);
+  turns = λ i j a b l e f same. absurd (none-some a e);
+  finished = λ p i c a e at. absurd (none-some a at);
+  closed = λ i a at some. absurd (none-some a at);
+  real = λ p q i j c d a b e f l at at'. absurd (none-some a at);
+}
+
+-- a step that neither begins nor ends a call
+abbrev pub IsInner : Step → Type 0
+IsInner (Begin c call) = ⊥
+IsInner (Look c) = Unit {0}
+IsInner (Swap c) = Unit {0}
+IsInner (First c) = Unit {0}
+IsInner (Second c) = Unit {0}
+IsInner (End c) = ⊥
+
+inner_none : (s : Step) → IsInner s → begun_in (s ∷ []) ≡ []
+inner_none (Begin c call) i = absurd i
+inner_none (Look c) i = refl
+inner_none (Swap c) i = refl
+inner_none (First c) i = refl
+inner_none (Second c) i = refl
+inner_none (End c) i = absurd i
+
+if_more : (o : Option ℕ) (n m : ℕ) → n ≤ m → IfSome o (λ e. e ≤ n) → IfSome o (λ e. e ≤ m)
+if_more None n m l p = tt
+if_more (Some e) n m l p = omega arith
+
+ended_by : (o : Option ℕ) (n : ℕ) → IsSome o → IfSome o (λ e. e ≤ n) → EndedBy o n
+ended_by None n some p = absurd (false≢true some)
+ended_by (Some e) n some p = p
+
+not_ended : (o : Option ℕ) (n : ℕ) → o ≡ None → EndedBy o n → ⊥
+not_ended None n e p = p
+not_ended (Some x) n e p = none-some x (sym e)
+
+not_some : (o : Option ℕ) → o ≡ None → IsSome o → ⊥
+not_some None e p = false≢true p
+not_some (Some x) e p = none-some x (sym e)
+
+pub turns_inner : (steps : List Step) (n m : ℕ) (ts : List Time) (s : Step) → IsInner s → n ≤ m → Turns steps n ts → Turns (steps ++ s ∷ []) m ts
+turns_inner steps n m ts s inner le k = record {
+  same = begun_in-append steps (s ∷ []) ∙ (ap (λ (z : List (Caller × Call)). begun_in steps ++ z) (inner_none s inner) ∙ (append-nil (begun_in steps) ∙ k.same));
+  past = λ i t at. let p = k.past i t at in let q = p.0 in (omega arith, if_more t.ended n m le p.1);
+  turns = k.turns;
+  finished = λ p i c a e at. elim (old_or_last steps s p (End c) e.ends) [
+    | inl l ↦ k.finished p i c a (back_ends steps s p i c l e) at
+    | inr t ↦ absurd (subst IsInner t.1 inner)
+  ];
+  closed = λ i a at some. let t = k.closed i a at some in (t.0, more_ends steps s t.0 i a.caller t.1);
+  real = λ p q i j c d a b e f l at at'. elim (old_or_last steps s q (Begin d f.call) f.begins) [
+    | inl m ↦ k.real p q i j c d a b (back_ends steps s p i c (omega arith) e) (back_begins steps s q j d m f) l at at'
+    | inr t ↦ absurd (subst IsInner t.1 inner)
+  ];
+}
+
+-- a call begins: all earlier calls of its caller have ended
+pub turns_begin : (steps : List Step) (n : ℕ) (ts : List Time) (c : Caller) (call : Call) → ((i : ℕ) (a : Time) → slice_get ts i ≡ Some a → a.caller ≡ c → IsSome a.ended) → Turns steps n ts
+    → Turns (steps ++ Begin c call ∷ []) n (ts ++ record { caller = c; call = call; begun = n; ended = None } ∷ [])
+turns_begin steps n ts c call idle k =
+    let new : Time = record { caller = c; call = call; begun = n; ended = None } in
+    let s = Begin c call in
+    let count : length (begun_in steps) ≡ length ts = ap length k.same ∙ length-map ts told in
+    let old_end : (p i : ℕ) (d : Caller) (a : Time) → EndsAt (steps ++ s ∷ []) p i d → slice_get (ts ++ new ∷ []) i ≡ Some a → EndsAt steps p i d × (slice_get ts i ≡ Some a) =
+    λ p i d a e at. elim (old_or_last steps s p (End d) e.ends) [
+      | inl l ↦
+          let e' = back_ends steps s p i d l e in
+          let below = at_below (begun_in steps) i (d, e'.begins.call) (begins_call steps e'.begun i d e'.begins) in
+          (e', get_back ts (new ∷ []) i a (omega arith) at)
+      | inr t ↦ absurd (apart t.1)
+    ] in
+    record {
+      same = begun_in-append steps (s ∷ []) ∙ (ap (λ (z : List (Caller × Call)). z ++ (c, call) ∷ []) k.same ∙ sym (map-append told ts (new ∷ [])));
+      past = λ i t at. elim (at_either ts new i t at) [
+        | inl u ↦ k.past i t u.1
+        | inr u ↦ subst (λ (z : Time). (z.begun ≤ n) × IfSome z.ended (λ e. e ≤ n)) u.1 (le_refl n, tt)
+      ];
+      turns = λ i j a b l at at' same. elim (at_either ts new j b at') [
+        | inl u ↦ let lj = u.0 in k.turns i j a b l (get_back ts (new ∷ []) i a (omega arith) at) u.1 same
+        | inr u ↦
+            let lj = u.0 in
+            let old = get_back ts (new ∷ []) i a (omega arith) at in
+            let mine : a.caller ≡ c = same ∙ sym (ap (λ (z : Time). z.caller) u.1) in
+            subst (λ (z : Time). EndedBy a.ended z.begun) u.1 (ended_by a.ended n (idle i a old mine) (k.past i a old).1)
+      ];
+      finished = λ p i d a e at. let o = old_end p i d a e at in k.finished p i d a o.0 o.1;
+      closed = λ i a at some. elim (at_either ts new i a at) [
+        | inl u ↦ let t = k.closed i a u.1 some in (t.0, more_ends steps s t.0 i a.caller t.1)
+        | inr u ↦ absurd (not_some a.ended (ap (λ (z : Time). z.ended) (sym u.1)) some)
+      ];
+      real = λ p q i j d d' a b e f l at at'.
+          let o = old_end p i d a e at in
+          elim (old_or_last steps s q (Begin d' f.call) f.begins) [
+            | inl m ↦
+                let f' = back_begins steps s q j d' m f in
+                let below = at_below (begun_in steps) j (d', f'.call) (begins_call steps q j d' f') in
+                k.real p q i j d d' a b o.0 f' l o.1 (get_back ts (new ∷ []) j b (omega arith) at')
+            | inr t ↦
+                let is = number_at_end steps s j d' q t.0 f in
+                elim (at_either ts new j b at') [
+                  | inl u ↦ let lj = u.0 in absurd (omega arith)
+                  | inr u ↦ subst (λ (z : Time). EndedBy a.ended z.begun) u.1 (ended_by a.ended n (k.finished p i d a o.0 o.1) (k.past i a o.1).1)
+                ]
+          ];
+    }
+  where
+    apart : {c d : Caller} {call : Call} → Begin c call ≡ End d → ⊥
+    apart e = cc
+
+abbrev pub ended_at : ℕ → Time → Time
+ended_at n t = record t { ended = Some n }
+
+-- a call that is begun has its time
+time_of_call : (steps : List Step) (ts : List Time) (i : ℕ) (c : Caller) (call : Call) → begun_in steps ≡ map told ts → slice_get (begun_in steps) i ≡ Some (c, call) → (t : Time) × (slice_get ts i ≡ Some t) × (t.caller ≡ c)
+time_of_call steps ts i c call same e =
+    let below = at_below (begun_in steps) i (c, call) e in
+    let count : length (begun_in steps) ≡ length ts = ap length same ∙ length-map ts told in
+    let t = get_some ts i (omega arith) in
+    let there : Some (told t.0) ≡ Some (c, call) = ap (option_map told) (sym t.1) ∙ (sym (slice_get-map told ts i) ∙ (ap (λ (z : List (Caller × Call)). slice_get z i) (sym same) ∙ e)) in
+    (t.0, t.1, ap (λ (z : Caller × Call). z.0) (same_Some (told t.0) (c, call) there))
+
+module _ (steps : List Step) (n : ℕ) (ts : List Time) (c : Caller) (k : ℕ) (held : Time) (here : slice_get ts k ≡ Some held) (own : held.caller ≡ c) (open_call : held.ended ≡ None) (kept : Turns steps n ts) where
+  -- the call that ends is the one that its caller holds
+  ends_held : (p i : ℕ) → p ≡ length steps → EndsAt (steps ++ End c ∷ []) p i c → i ≡ k
+  ends_held p i is e =
+      let before = e.before in
+      let s = End c in
+      let b = back_begins steps s e.begun i c (omega arith) e.begins in
+      let t = time_of_call steps ts i c b.call kept.same (begins_call steps e.begun i c b) in
+      let listed : slice_get (begun_in steps) k ≡ Some (held.caller, held.call) = ap (λ (z : List (Caller × Call)). slice_get z k) kept.same ∙ (slice_get-map told ts k ∙ ap (option_map told) here) in
+      let q = place_of steps k held.caller held.call listed in
+      let below = at_below steps q.0 (Begin held.caller q.1.call) q.1.begins in
+      elim (cases_order i k) [
+        | inl same ↦ same
+        | inr other ↦ elim other [
+          | inl less ↦
+              let low = earlier_place steps e.begun q.0 i k c held.caller b q.1 less in
+              absurd (e.last q.0 q.1.call low (omega arith) (at_longer steps (s ∷ []) q.0 (Begin c q.1.call) (q.1.begins ∙ ap (λ (z : Caller). Some (Begin z q.1.call)) own)))
+          | inr more ↦ absurd (not_ended held.ended t.0.begun open_call (kept.turns k i held t.0 more here t.1 (own ∙ sym t.2)))
+        ]
+      ]
+
+  -- the step ends the call that its caller holds: the caller has begun no call since
+  new_end : EndsAt (steps ++ End c ∷ []) (length steps) k c
+  new_end =
+      let listed : slice_get (begun_in steps) k ≡ Some (held.caller, held.call) = ap (λ (z : List (Caller × Call)). slice_get z k) kept.same ∙ (slice_get-map told ts k ∙ ap (option_map told) here) in
+      let q = place_of steps k held.caller held.call listed in
+      let began : BeginsAt steps q.0 k c = subst (BeginsAt steps q.0 k) own q.1 in
+      record {
+        ends = at_end steps (End c);
+        begun = q.0;
+        before = at_below steps q.0 (Begin held.caller q.1.call) q.1.begins;
+        begins = more_begins steps (End c) q.0 k c began;
+        last = λ r call low high at.
+            let there : slice_get steps r ≡ Some (Begin c call) = get_back steps (End c ∷ []) r (Begin c call) high at in
+            let j = length (begun_in (take r steps)) in
+            let b : BeginsAt steps r j c = record { call = call; begins = there; number = refl } in
+            let t = time_of_call steps ts j c call kept.same (begins_call steps r j c b) in
+            not_ended held.ended t.0.begun open_call (kept.turns k j held t.0 (earlier_call steps q.0 r k j c c began b low) here t.1 (own ∙ sym t.2));
+      }
+
+  pub turns_end : Turns (steps ++ End c ∷ []) n (change_at k (ended_at n) ts)
+  turns_end =
+      let s = End c in
+      let after = change_at k (ended_at n) ts in
+      let was : (i : ℕ) (a : Time) → slice_get after i ≡ Some a → (b : Time) × (slice_get ts i ≡ Some b) × (b.caller ≡ a.caller) × (b.begun ≡ a.begun) × ((b.ended ≡ a.ended) ⊎ (b.ended ≡ None)) × (((i ≡ k) × (a.ended ≡ Some n)) ⊎ ((i ≢ k) × (b ≡ a))) =
+      λ i a at. elim (get-change_at k (ended_at n) ts i a at) [
+        | inl u ↦
+            let same : u.1 ≡ held = same_Some u.1 held (sym u.2 ∙ here) in
+            (u.1, ap (slice_get ts) u.0 ∙ u.2, ap (λ (z : Time). z.caller) u.3, ap (λ (z : Time). z.begun) u.3, inr (ap (λ (z : Time). z.ended) same ∙ open_call), inl (u.0, sym (ap (λ (z : Time). z.ended) u.3)))
+        | inr u ↦ (a, u.1, refl, refl, inl refl, inr (u.0, refl))
+      ] in
+      let ended : (i : ℕ) (a b : Time) → slice_get ts i ≡ Some b → (b.ended ≡ a.ended) ⊎ (b.ended ≡ None) → (m : ℕ) → EndedBy b.ended m → EndedBy a.ended m =
+      λ i a b at or m by. elim or [ inl same ↦ subst (λ (z : Option ℕ). EndedBy z m) same by | inr none ↦ absurd (not_ended b.ended m none by) ] in
+      record {
+        same = begun_in-append steps (s ∷ []) ∙ (append-nil (begun_in steps) ∙ (kept.same ∙ sym (map_unseen told k (ended_at n) (λ x. refl) ts)));
+        past = λ i t at. let w = was i t at in let low = (kept.past i w.0 w.1).0 in let b = w.3 in (
+          omega arith,
+          elim w.5 [
+            | inl u ↦ subst (λ (z : Option ℕ). IfSome z (λ e. e ≤ n)) (sym u.1) (le_refl n)
+            | inr u ↦ subst (λ (z : Time). IfSome z.ended (λ e. e ≤ n)) u.1 (kept.past i w.0 w.1).1
+          ],
+        );
+        turns = λ i j a b l at at' same.
+            let w = was i a at in
+            let v = was j b at' in
+            ended i a w.0 w.1 w.4 b.begun (subst (EndedBy w.0.ended) v.3 (kept.turns i j w.0 v.0 l w.1 v.1 (w.2 ∙ (same ∙ sym v.2))));
+        finished = λ p i d a e at.
+            let w = was i a at in
+            elim (old_or_last steps s p (End d) e.ends) [
+              | inl l ↦ let some = kept.finished p i d w.0 (back_ends steps s p i d l e) w.1 in elim w.4 [
+                | inl same ↦ subst (λ (z : Option ℕ). IsSome z) same some
+                | inr none ↦ absurd (not_some w.0.ended none some)
+              ]
+              | inr t ↦
+                  let caller = caller_is c d t.1 in
+                  let is = ends_held p i t.0 (subst (EndsAt (steps ++ s ∷ []) p i) (sym caller) e) in
+                  elim w.5 [ inl u ↦ subst (λ (z : Option ℕ). IsSome z) (sym u.1) refl | inr u ↦ absurd (u.0 is) ]
+            ];
+        closed = λ i a at some.
+            let w = was i a at in
+            elim w.5 [
+              | inl u ↦
+                  let caller : c ≡ a.caller = sym own ∙ (ap (λ (z : Time). z.caller) (same_Some held w.0 (sym here ∙ (ap (slice_get ts) (sym u.0) ∙ w.1))) ∙ w.2) in
+                  (length steps, subst (λ (z : ℕ). EndsAt (steps ++ s ∷ []) (length steps) z a.caller) (sym u.0) (subst (EndsAt (steps ++ s ∷ []) (length steps) k) caller new_end))
+              | inr u ↦
+                  let t = kept.closed i a (subst (λ (z : Time). slice_get ts i ≡ Some z) u.1 w.1) some in
+                  (t.0, more_ends steps s t.0 i a.caller t.1)
+            ];
+        real = λ p q i j d d' a b e f l at at'.
+            let w = was i a at in
+            let v = was j b at' in
+            elim (old_or_last steps s q (Begin d' f.call) f.begins) [
+              | inl m ↦ ended i a w.0 w.1 w.4 b.begun (subst (EndedBy w.0.ended) v.3 (kept.real p q i j d d' w.0 v.0 (back_ends steps s p i d (omega arith) e) (back_begins steps s q j d' m f) l w.1 v.1))
+              | inr t ↦ absurd (apart_end c d' f.call t.1)
+            ];
+      }
+    where
+      caller_is : (c d : Caller) → End c ≡ End d → c ≡ d
+      caller_is c d e = cc
+
+      apart_end : (c d : Caller) (call : Call) → End c ≡ Begin d call → ⊥
+      apart_end c d call e = cc

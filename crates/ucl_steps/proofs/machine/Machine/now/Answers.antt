@@ -1,0 +1,7 @@
+use Rattle.std.proofs.Common.{arith}
+use Rattle.ucl_steps.specs.Running.{state_of}
+use Rattle.ucl_steps.proofs.Reachable.{reached_short}
+use Rattle.ucl_steps.proofs.machine.Machine.now.Goals as goal
+
+pub overflow_cast-result : goal.overflow_cast-result
+overflow_cast-result c = let short = reached_short (state_of c.args.self.now) c.requires in let is = c.len.ensures in omega arith

@@ -1,0 +1,40 @@
+use Rattle.std.proofs.Common.{◌≡◌, Some, arith, refl, rules}
+use Rattle.ucl_steps.specs.declared.machine.Held.TheVariants as has
+use Rattle.ucl_steps.specs.Running.{state_of}
+use Rattle.ucl_steps.proofs.Reachable.{call_below, checked_few, collected_words}
+use Rattle.ucl_steps.proofs.machine.Machine.second.Goals as goal
+
+pub offset_bounds-self-checked : goal.offset_bounds-self-checked
+offset_bounds-self-checked c =
+    let is : c.held-held.result ≡ Some (has.Checking c.in-Some-Checking.call c.in-Some-Checking.words c.in-Some-Checking.checked c.in-Some-Checking.point) = search rules in
+    let few = checked_few (state_of c.args.self.now) c.requires c.args.caller c.held-held.result c.held-held.ensures c.in-Some-Checking.call c.in-Some-Checking.words c.in-Some-Checking.checked c.in-Some-Checking.point is in omega arith
+
+pub bounds-self-checked : goal.bounds-self-checked
+bounds-self-checked c =
+    let is : c.held-held.result ≡ Some (has.Checking c.in-Some-Checking.call c.in-Some-Checking.words c.in-Some-Checking.checked c.in-Some-Checking.point) = search rules in
+    let few = checked_few (state_of c.args.self.now) c.requires c.args.caller c.held-held.result c.held-held.ensures c.in-Some-Checking.call c.in-Some-Checking.words c.in-Some-Checking.checked c.in-Some-Checking.point is in omega arith
+
+pub offset_bounds-words-checked : goal.offset_bounds-words-checked
+offset_bounds-words-checked c =
+    let is : c.held-held.result ≡ Some (has.Checking c.in-Some-Checking.call c.in-Some-Checking.words c.in-Some-Checking.checked c.in-Some-Checking.point) = search rules in
+    let few = checked_few (state_of c.args.self.now) c.requires c.args.caller c.held-held.result c.held-held.ensures c.in-Some-Checking.call c.in-Some-Checking.words c.in-Some-Checking.checked c.in-Some-Checking.point is in omega arith
+
+pub bounds-words-checked : goal.bounds-words-checked
+bounds-words-checked c =
+    let is : c.held-held.result ≡ Some (has.Checking c.in-Some-Checking.call c.in-Some-Checking.words c.in-Some-Checking.checked c.in-Some-Checking.point) = search rules in
+    let few = checked_few (state_of c.args.self.now) c.requires c.args.caller c.held-held.result c.held-held.ensures c.in-Some-Checking.call c.in-Some-Checking.words c.in-Some-Checking.checked c.in-Some-Checking.point is in omega arith
+
+pub reply-requires-clause-call : goal.reply-requires-clause-call
+reply-requires-clause-call c =
+    let is : c.held-held.result ≡ Some (has.Checking c.in-Some-Checking.call c.in-Some-Checking.words c.in-Some-Checking.checked c.in-Some-Checking.point) = search rules in
+    call_below (state_of c.args.self.now) c.requires c.args.caller c.held-held.result c.held-held.ensures (has.Checking c.in-Some-Checking.call c.in-Some-Checking.words c.in-Some-Checking.checked c.in-Some-Checking.point) c.in-Some-Checking.call is refl
+
+pub overflow_add-next : goal.overflow_add-next
+overflow_add-next c =
+    let is : c.held-held.result ≡ Some (has.Checking c.in-Some-Checking.call c.in-Some-Checking.words c.in-Some-Checking.checked c.in-Some-Checking.point) = search rules in
+    let few = checked_few (state_of c.args.self.now) c.requires c.args.caller c.held-held.result c.held-held.ensures c.in-Some-Checking.call c.in-Some-Checking.words c.in-Some-Checking.checked c.in-Some-Checking.point is in omega arith
+
+pub reading_of-reading-requires : goal.reading_of-reading-requires
+reading_of-reading-requires c =
+    let is : c.held-held.result ≡ Some (has.Checking c.in-Some-Checking.call c.in-Some-Checking.words c.in-Some-Checking.checked c.in-Some-Checking.point) = search rules in
+    collected_words (state_of c.args.self.now) c.requires c.args.caller c.held-held.result c.held-held.ensures c.in-Some-Checking.call c.in-Some-Checking.words c.in-Some-Checking.checked c.in-Some-Checking.point is

@@ -1,0 +1,5 @@
+pub mod Machine
+pub mod Linearizable
+pub mod Traces
+pub mod Laws
+pub mod Running

@@ -1,0 +1,18 @@
+//! The protocol of the shared board as a pure machine: reporters and readers take atomic steps one at a time, in any
+//! order, and one legal history explains every call. The reading is the clean double collect of Herlihy and Shavit, The
+//! Art of Multiprocessor Programming; the condition on the calls is that of Herlihy and Wing, Linearizability.
+#![tactic(auto)]
+
+mod laws;
+mod machine;
+mod run;
+mod step;
+mod trace;
+
+pub use laws::{runs_are_linearizable, words_are_of_the_history};
+pub use run::run_steps;
+pub use step::{Call, Caller, Cast, Step};
+pub use trace::{CallRecord, Reply, StepFault, Trace};
+
+#[cfg(test)]
+mod tests;

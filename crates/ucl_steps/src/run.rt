@@ -1,0 +1,31 @@
+//! The run of a list of steps.
+
+ghost use Rattle.std.specs.Prelude.{◌≡◌, ℕ, IfOk, Err};
+ghost use Rattle.ucl_board.specs.History.{board_of};
+ghost use Rattle.ucl_steps.specs.declared.trace.StepFault.TheVariants.{NotEnabled};
+ghost use Rattle.ucl_steps.specs.Linearizable.{IsLinearizable};
+ghost use Rattle.ucl_steps.specs.Traces.{IsTraceOf, IsFirstDisabled};
+
+use crate::machine::Machine;
+use crate::step::{Cast, Step};
+use crate::trace::{StepFault, Trace};
+use std::alloc::Global;
+
+/// Takes the steps one after another, from the fresh board and idle callers, and answers the trace that they leave.
+///
+/// Where a step is not enabled, the answer is `NotEnabled` with the first such step. Where an allocation was refused, it
+/// is `OutOfMemory`, which may come in place of either. An error leaves nothing.
+pub fn run_steps(alloc: Global, cast: &Cast, steps: &[Step]) -> Result<Trace, StepFault>
+    ensures trace { IfOk result (IsTraceOf cast.now steps.now) }
+    ensures not_enabled { (at : ℕ) → result ≡ Err (NotEnabled at) → IsFirstDisabled cast.now steps.now at }
+    ensures linearizable { IfOk result (λ trace. IsLinearizable steps.now trace.history.items trace.calls.items) }
+    ensures words { IfOk result (λ trace. trace.words ≡ board_of trace.history.items) }
+{
+    let mut machine = Machine::new(alloc, cast)?;
+    for (at, step) in steps.iter().enumerate() {
+        if !machine.take(step)? {
+            return Err(StepFault::NotEnabled { at });
+        }
+    }
+    Ok(machine.into_trace())
+}
