@@ -1,5 +1,5 @@
 -- The text of an input that was accepted.
-use Rattle.std.proofs.Common.{◌≡◌, ℕ, ◌≤◌, List, Option, Some, None, subst}
+use Rattle.std.proofs.Common.{◌≡◌, ℕ, ◌≤◌, List, Option, Some, None}
 use Rattle.std.specs.Prelude.{Bool, Result, Ok, Err, IfSome, IfErr, OnOk}
 use Rattle.ucl_screen.specs.Script.{NightEntry, SheetEntry}
 use Rattle.ucl_screen.specs.Meaning.{MeansNight, MeansSheet}

@@ -1,5 +1,5 @@
 -- The screens of the readings of a run.
-use Rattle.std.proofs.Common.{◌≡◌, ℕ, ◌≤◌, List, Option, Some, take, length, refl, sym, ap, ◌∙◌, subst, arith}
+use Rattle.std.proofs.Common.{◌≡◌, ℕ, ◌≤◌, List, Option, Some, take, length, ap, ◌∙◌, subst}
 use Rattle.std.specs.Prelude.{IfSome}
 use Rattle.std.proofs.lemmas.List.{length-take-le}
 use Rattle.ucl_board.specs.declared.entry.Entry.{Entry}
@@ -10,10 +10,9 @@ use Rattle.ucl_board.proofs.HistoryLaws.{legal_take, versions}
 use Rattle.ucl_order.specs.Roster.{ClubEntry}
 use Rattle.ucl_screen.specs.Screen.{screen_text}
 use Rattle.ucl_steps.specs.declared.trace.CallRecord.{CallRecord}
-use Rattle.ucl_steps.specs.declared.trace.Reply.TheVariants.{Copied}
-use Rattle.ucl_steps.specs.Linearizable.{IsDecided, PointWithinCall, ReadingIsSnapshot}
+use Rattle.ucl_steps.specs.Linearizable.{PointWithinCall}
 use Rattle.ucl_steps.proofs.Runs.{linearizable_run}
-use Rattle.ucl_night.specs.Headline.{screen_at, ScreenIsOfItsPlace, EveryRunHasOneHistory}
+use Rattle.ucl_night.specs.Headline.{screen_at, EveryRunHasOneHistory}
 
 -- the version at a place of a legal history
 version_at : (history : List Entry) (k : ℕ) → IsLegal history → k ≤ length history → version_of (board_of (take k history)) ≡ k

@@ -9,9 +9,9 @@ use thiserror::Error;
 use ucl_screen::InputFault;
 
 /// Why a run failed. Its text is the line that the program writes to standard error.
-#[derive(Clone, Copy, Debug, PartialEq, Eq, Drop, Error)]
+#[derive(Clone, Copy, Debug, PartialEq, Eq, Error)]
 pub enum RunFault {
-    /// 20 to 22 and 24: the input was refused, or could not be read.
+    /// 10, 20 to 22 and 24: the input was refused, or could not be read.
     #[error("{0}")]
     Input(InputFault),
     /// 23: memory was asked for, and there was none.

@@ -4,7 +4,9 @@ use crate::{Line, LineFault, RunFault, feed_run, line_of, program, show_run, sta
 use std::alloc::Global;
 use std::io;
 use std::test::Fail;
-use ucl_screen::{FromRead, InputFault, ToWrite};
+use ucl_screen::{FromRead, InputFault, ToWrite, read_night, screen};
+use ucl_steps::{Call, Caller, Cast, Reply, Step, run_steps};
+use ucl_word::{EventCall, Kind, MatchNo, ReporterNo};
 
 const CLUBS: &str =
     "club,1,Alpha,60000\nclub,2,Bravo,95000\nclub,3,Charlie,60000\nclub,4,Delta,81500\n";
@@ -424,6 +426,64 @@ fn sheet_faults(rt: HostRuntime) -> Result<(), Fail> {
         assert_eq!(rt; answer, Err(RunFault::Input(fault)), "at {words}");
         assert!(rt; out.is_empty(), "at {words}");
     }
+    Ok(())
+}
+
+/// A reader whose first collect is torn: two matches kick off after its first load. The steps after the second begin anew.
+fn torn_reading(alloc: Global) -> Result<Vec<Step>, Fail> {
+    let reader = Caller::Reader(1);
+    let mut steps = vec![in alloc; Step::Begin(reader, Call::Reading), Step::First(reader)]?;
+    for number in 1..3u8 {
+        let reporter = Caller::Reporter(ReporterNo::new(number).ok_or("no such reporter")?);
+        let kick_off = EventCall {
+            game: MatchNo::new(number).ok_or("no such match")?,
+            expected: 0,
+            kind: Kind::KickOff,
+        };
+        steps.push(Step::Begin(reporter, Call::Event(kick_off)))?;
+        steps.push(Step::Look(reporter))?;
+        steps.push(Step::Swap(reporter))?;
+        steps.push(Step::End(reporter))?;
+    }
+    for _ in 0..11 {
+        steps.push(Step::First(reader))?;
+    }
+    steps.push(Step::Second(reader))?;
+    for _ in 0..12 {
+        steps.push(Step::First(reader))?;
+    }
+    for _ in 0..12 {
+        steps.push(Step::Second(reader))?;
+    }
+    steps.push(Step::End(reader))?;
+    Ok(steps)
+}
+
+const TWO_KICK_OFFS_SCREEN: &str = "\
+GROUP A v00002 IN PLAY 2
+    Club                  P  W  D  L  GF  GA   GD Pts
+1   Bravo                 1  0  1  0   0   0   +0   1
+2   Delta                 1  0  1  0   0   0   +0   1
+3   Alpha                 1  0  1  0   0   0   +0   1
+4   Charlie               1  0  1  0   0   0   +0   1
+";
+
+#[test]
+fn screen_of_a_reading(rt: HostRuntime) -> Result<(), Fail> {
+    let alloc = rt.alloc();
+    let cast = Cast {
+        reporters: 2,
+        readers: 1,
+    };
+    let steps = torn_reading(alloc)?;
+    assert_eq!(rt; steps.len(), 47);
+    let trace = run_steps(alloc, &cast, &steps)?;
+    let Some(Some(Reply::Copied(reading))) = trace.calls.first().map(|call| call.reply) else {
+        return Err("no reading".into());
+    };
+    let night = read_night(alloc, &mut FromRead::new(CLUBS.as_bytes()))?;
+    let text = screen(alloc, &reading.board, &night.roster, b'A')?;
+    assert_eq!(rt; text.as_str(), TWO_KICK_OFFS_SCREEN);
     Ok(())
 }
 

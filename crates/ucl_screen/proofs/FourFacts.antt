@@ -1,5 +1,5 @@
 -- The fields of a row, read one at a time.
-use Rattle.std.proofs.Common.{◌≡◌, ℕ, zero, suc, List, [], ◌∷◌, Option, Some, None, refl}
+use Rattle.std.proofs.Common.{◌≡◌, ℕ, List, [], ◌∷◌, Option, Some, None, refl}
 use Rattle.csv.specs.Records.{field_at}
 use Rattle.ucl_screen.specs.Rows.{FourFields, four_of}
 

@@ -1,10 +1,10 @@
 -- The records of a text, one after the other.
-use Rattle.std.proofs.Common.{◌≡◌, ℕ, zero, suc, ◌+◌, ◌<◌, ◌≤◌, ◌-◌, Bool, true, false, ◌==◌, ◌||◌, if◌then◌else◌, List, [], ◌∷◌, ◌++◌, length, Option, Some, None, refl, sym, ap, ◌∙◌, arith, add-one, ◌⊎◌, inl, inr, rules}
+use Rattle.std.proofs.Common.{◌≡◌, ℕ, zero, suc, ◌+◌, ◌<◌, ◌≤◌, ◌-◌, Bool, true, false, ◌==◌, ◌||◌, if◌then◌else◌, List, [], ◌∷◌, ◌++◌, length, Option, Some, None, refl, ap, ◌∙◌, arith, add-one, ◌⊎◌, inl, inr}
 use Rattle.std.proofs.lemmas.Bool.{cases_Bool}
 use Rattle.csv.specs.Machine.{Read, next_record, ends_at_end, step, is_end, fields_after, field_after, in_field, start_field, start_record}
 use Rattle.std.specs.Borrow.{Bor}
 use Rattle.csv.proofs.ReadFacts.{rows-end, rows-more}
-use Rattle.csv.specs.Reading.{default_config, records_from, records_next, strip_bom, is_bom, Reached, ReadRecord, took_first, has_failed}
+use Rattle.csv.specs.Reading.{default_config, records_from, strip_bom, is_bom, Reached, ReadRecord, took_first, has_failed}
 use Rattle.csv.specs.declared.reader.Reader.{Reader}
 use Rattle.csv.specs.declared.parser.State.{State}
 use Rattle.csv.specs.declared.parser.State.TheVariants as st

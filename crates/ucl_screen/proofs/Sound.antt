@@ -1,5 +1,5 @@
 -- What the rows of an input are refused for.
-use Rattle.std.proofs.Common.{◌≡◌, ℕ, zero, suc, ◌+◌, ◌≤◌, Bool, true, false, nat_le, List, [], ◌∷◌, length, Option, Some, None, refl, sym, subst, ◌∙◌, arith}
+use Rattle.std.proofs.Common.{◌≡◌, ℕ, zero, suc, ◌+◌, ◌≤◌, Bool, false, List, [], ◌∷◌, length, Option, Some, None, refl, sym, subst}
 use Rattle.std.proofs.lemmas.Bool.{le-leb}
 use Rattle.std.specs.Prelude.{Result, Ok, Err, IfSome, ⊤}
 use Rattle.ucl_order.specs.Roster.{ClubEntry, bad_slot}
@@ -11,7 +11,7 @@ use Rattle.ucl_screen.specs.declared.sheet.Sheet.{Sheet}
 use Rattle.ucl_screen.specs.Input.{Reads, whole_input}
 use Rattle.ucl_screen.specs.Rows.{Fields, rows_of}
 use Rattle.ucl_screen.specs.Events.{event_of}
-use Rattle.ucl_screen.specs.Script.{◌>>=◌, said_by, or_bad, club_of, club_at, if_good, roster_at, events_from, word_of_row, words_from, NightEntry, SheetEntry, night_of_rows, sheet_of_rows, night_of, sheet_of}
+use Rattle.ucl_screen.specs.Script.{◌>>=◌, said_by, or_bad, club_of, club_at, if_good, roster_at, events_from, word_of_row, words_from, SheetEntry, night_of_rows, sheet_of_rows, sheet_of}
 use Rattle.ucl_screen.specs.Meaning.{Gives, Refuses, MeansNight, MeansSheet, night_seen, sheet_seen}
 
 -- a row or a club is bad

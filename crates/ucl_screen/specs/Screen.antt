@@ -1,5 +1,5 @@
 -- The screen of a board.
-use Rattle.std.specs.Prelude.{◌≡◌, ℕ, ◌≤◌, ◌++◌, List, length, codes, count_by, flat_map}
+use Rattle.std.specs.Prelude.{ℕ, ◌≤◌, ◌++◌, List, codes, count_by, flat_map}
 use Rattle.ucl_word.specs.Rules.{is_in_play}
 use Rattle.ucl_word.specs.Layout.{record_at}
 use Rattle.ucl_board.specs.Words.{version_of}

@@ -24,3 +24,6 @@ pub use sheet::Sheet;
 pub use stream::{Sink, Source};
 pub use text::{is_group, screen};
 pub use transfer::give_all;
+
+#[cfg(test)]
+mod tests;

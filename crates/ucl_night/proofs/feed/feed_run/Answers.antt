@@ -1,4 +1,4 @@
-use Rattle.std.proofs.Common.{string_bytes, ◌∙◌}
+use Rattle.std.proofs.Common.{◌∙◌}
 use Rattle.std.specs.Io.KnownBytes.{Appends}
 use Rattle.ucl_screen.specs.Meaning.{night_seen}
 use Rattle.ucl_night.specs.Feed.{IsFed}

@@ -1,4 +1,4 @@
-use Rattle.std.proofs.Common.{arith, sym, ◌∙◌}
+use Rattle.std.proofs.Common.{arith, sym}
 use Rattle.ucl_board.specs.History.{after_attempt}
 use Rattle.ucl_night.specs.Feed.{attempt_of}
 use Rattle.ucl_night.proofs.RunFacts.{version-bound}

@@ -1,4 +1,4 @@
-use Rattle.std.proofs.Common.{◌≡◌, ◌≤◌, ◌<◌, ◌-◌, ◌∙◌, length, get_or, sym, arith, rules}
+use Rattle.std.proofs.Common.{◌≤◌, ◌-◌, ◌∙◌, get_or, sym, arith}
 use Rattle.ucl_screen.proofs.Digits.{number-is, more-digits, no-digit-low, no-digit-high, no-more, nonempty, one-more-digit}
 use Rattle.ucl_screen.proofs.fields.number.Goals as goal
 use Rattle.ucl_screen.proofs.fields.number.Goals.{then-b-lt48-via-then-b-lt48, then-b-lt48-via-else-b-lt48+then-b-gt57}

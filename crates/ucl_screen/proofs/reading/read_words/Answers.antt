@@ -1,4 +1,3 @@
-use Rattle.std.proofs.Common.{◌≡◌}
 use Rattle.std.proofs.lemmas.Result.{err_from_is_err_and}
 use Rattle.ucl_screen.proofs.Sound.{sheet-refused, sheet-tested}
 use Rattle.ucl_screen.proofs.reading.read_words.Goals as goal

@@ -1,4 +1,4 @@
-use Rattle.std.proofs.Common.{◌≡◌, ◌-◌, ◌≤◌, take, length}
+use Rattle.std.proofs.Common.{◌≡◌, ◌-◌, take, length}
 use Rattle.ucl_screen.specs.Rows.{IsReading, rows_left}
 use Rattle.ucl_screen.specs.Script.{words_from}
 use Rattle.ucl_screen.proofs.Loop.{with_front}

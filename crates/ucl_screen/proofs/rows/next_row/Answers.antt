@@ -1,6 +1,5 @@
-use Rattle.std.proofs.Common.{◌≡◌, true, false, inl, inr}
+use Rattle.std.proofs.Common.{inl, inr}
 use Rattle.std.proofs.lemmas.Bool.{cases_Bool}
-use Rattle.ucl_screen.specs.Rows.{ReadsRow, rows_left}
 use Rattle.ucl_screen.proofs.RowFacts.{known-left, read-found, read-none}
 use Rattle.ucl_screen.proofs.rows.next_row.Goals as goal
 
