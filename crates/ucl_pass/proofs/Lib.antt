@@ -1,0 +1,4 @@
+pub mod Lists
+pub mod Settles
+pub mod Moves
+pub mod Calls

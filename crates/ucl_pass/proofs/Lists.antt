@@ -1,0 +1,61 @@
+-- Beginnings of lists, and the entries of one reporter.
+use Rattle.std.proofs.Common.{◌≡◌, ◌≢◌, ℕ, zero, suc, ◌≤◌, Bool, cond, ◌==◌, List, [], ◌∷◌, ◌++◌, length, take, refl, sym, ap, ◌∙◌, subst, arith, append-nil, append_assoc, length-append, eq-eqb, ne_eqb, le_refl}
+use Rattle.std.specs.Prelude.{not}
+use Rattle.std.proofs.lemmas.List.Elements.{filter-append}
+use Rattle.std.proofs.lemmas.List.Filters.{length-filter_both}
+use mathlib.Core.List.{IsPrefix}
+use Rattle.ucl_word.proofs.Sequences.{may_induction}
+use Rattle.ucl_board.specs.declared.entry.Entry.{Entry}
+use Rattle.ucl_board.specs.History.{MayFollow, IsLegal, followed_by}
+use Rattle.ucl_board.proofs.HistoryLaws.{versions}
+use Rattle.ucl_pass.specs.Passes.{Known, IsSound, Continues, entries_by}
+
+pub begins_none : (h : List Entry) → IsPrefix [] h
+begins_none h = (h, refl)
+
+pub begins_same : (h : List Entry) → IsPrefix h h
+begins_same h = ([], append-nil h)
+
+pub begins_more : (s h : List Entry) (e : Entry) → IsPrefix s h → IsPrefix s (followed_by h e)
+begins_more s h e p = (p.0 ++ e ∷ [], sym (append_assoc s p.0 (e ∷ [])) ∙ ap (λ l. l ++ e ∷ []) p.1)
+
+pub begins_through : (a b c : List Entry) → IsPrefix a b → IsPrefix b c → IsPrefix a c
+begins_through a b c p q = (p.0 ++ q.0, sym (append_assoc a p.0 q.0) ∙ (ap (λ l. l ++ q.0) p.1 ∙ q.1))
+
+pub begins_length : (s h : List Entry) → IsPrefix s h → length s ≤ length h
+begins_length s h p = let l = ap length (sym p.1) ∙ length-append s p.0 in omega arith
+
+take_front : (s r : List Entry) (v : ℕ) → length s ≤ v → (rest : List Entry) × (s ++ rest ≡ take v (s ++ r))
+take_front [] r v le = (take v r, refl)
+take_front (x ∷ s) r zero le = absurd (omega arith)
+take_front (x ∷ s) r (suc v) le = let p = take_front s r v (omega arith) in (p.0, ap (λ (l : List Entry). x ∷ l) p.1)
+
+pub begins_take : (s h : List Entry) (v : ℕ) → IsPrefix s h → length s ≤ v → IsPrefix s (take v h)
+begins_take s h v p le = let q = take_front s p.0 v le in (q.0, q.1 ∙ ap (take v) p.1)
+
+-- what a longer history has of one reporter, and what it has more
+pub by_more : (n : ℕ) (s h : List Entry) (p : IsPrefix s h) → entries_by n h ≡ entries_by n s ++ entries_by n p.0
+by_more n s h p = ap (entries_by n) (sym p.1) ∙ filter-append (λ (e : Entry). e.reporter == n) s p.0
+
+pub by_own : (n : ℕ) (h : List Entry) (e : Entry) → e.reporter ≡ n → entries_by n (followed_by h e) ≡ followed_by (entries_by n h) e
+by_own n h e is = filter-append (λ (x : Entry). x.reporter == n) h (e ∷ []) ∙ ap (λ (b : Bool). entries_by n h ++ cond b (e ∷ []) []) (eq-eqb e.reporter n is)
+
+pub by_other : (n : ℕ) (h : List Entry) (e : Entry) → e.reporter ≢ n → entries_by n (followed_by h e) ≡ entries_by n h
+by_other n h e ne = filter-append (λ (x : Entry). x.reporter == n) h (e ∷ []) ∙ (ap (λ (b : Bool). entries_by n h ++ cond b (e ∷ []) []) (ne_eqb e.reporter n ne) ∙ append-nil (entries_by n h))
+
+-- no entry of a legal history has the number of a reader
+pub none_by_zero : (h : List Entry) → IsLegal h → entries_by 0 h ≡ []
+none_by_zero = may_induction MayFollow (λ h. entries_by 0 h ≡ []) refl (λ h e legal may was. by_other 0 h e (λ z. let r = may.accepted.reporter.0 in omega arith) ∙ was)
+
+-- a pass has no more entries than a history can have
+pub few_mine : (k : Known) → IsSound k → length k.mine ≤ 12276
+few_mine k s =
+    let v = versions k.seen s.legal in
+    let l = v.1 in
+    let d = length-filter_both (λ (e : Entry). e.reporter == k.number) (λ (e : Entry). not (e.reporter == k.number)) (λ _. refl) k.seen in
+    let o = ap length s.own in
+    omega arith
+
+-- a pass that no call changed
+pub unchanged : (k m : Known) → IsSound k → m ≡ k → Continues k m
+unchanged k m sound same = subst (Continues k) (sym same) (record { sound = sound; on = record { seen = begins_same k.seen; listed = le_refl k.listed }; number = refl })

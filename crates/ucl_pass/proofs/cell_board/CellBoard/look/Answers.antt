@@ -1,0 +1,6 @@
+use Rattle.std.proofs.Common.{rules}
+use Rattle.ucl_pass.proofs.Moves.{looks}
+use Rattle.ucl_pass.proofs.cell_board.CellBoard.look.Goals as goal
+
+pub load_as-requires : goal.load_as-requires
+load_as-requires g c = (search rules, (search rules, (search rules, looks _ _)))

@@ -1,0 +1,238 @@
+//! The board in one cell, and its calls by a seat.
+
+ghost use Rattle.std.specs.Prelude.{◌≡◌, ◌+◌, ◌<◌, ◌≤◌, ◌++◌, ◌∷◌, [], take, length, slice_index, IfOk, IfErr, IfSome, IfNone, MatchResult};
+ghost use Rattle.atomic_table.specs.Seated.{TableId};
+ghost use Rattle.crossbeam_utils.specs.Seq.{cell_view};
+ghost use Rattle.ucl_board.specs.Words.{AreWords};
+ghost use Rattle.ucl_pass.specs.Passes.{Continues, AcceptedReport, RefusedReport, SharedReading, Enlistment, FullBoard, Meeting, opening_pass};
+ghost use Rattle.ucl_pass.specs.Views.{known_of, note_of, told_by};
+ghost use Rattle.ucl_pass.specs.CellRule.{IsUpToDate};
+ghost use Rattle.ucl_pass.specs.CellSteps.{IsNextBoard, with_one_more, LooksOnly, LooksAndShows, StoresEntry, StoresReporter};
+
+use crate::passes::CellReaderPass;
+use crate::rule::{Adding, Adds, Cell, Enlists, Looks, Notes, Reads, Seat};
+use std::alloc::Global;
+use std::marker::{Brand, Model};
+use std::sync::Wait;
+use ucl_board::{Board, Entry, Reading};
+use ucl_word::{Accepted, EventCall, OutOfMemory, Refusal, ReporterNo};
+
+/// How many reporters a board can have.
+const MOST_REPORTERS: u64 = 255;
+
+/// A board in one sequence cell of thirteen words: the twelve matches, and the number of enlisted reporters. Contracts see which
+/// cell it is.
+#[derive(Drop)]
+pub struct CellBoard {
+    cell: Cell,
+}
+
+impl Model for CellBoard {
+    ghost Value = { TableId };
+
+    ghost view = { λ b. b.cell.table.shared.table_id };
+}
+
+/// The board of the first twelve words.
+fn board_at(words: &[u64; 13]) -> Board
+    requires { AreWords (take 12 words.now) }
+    ensures { result ≡ take 12 words.now }
+{
+    let mut matches = [0; 12];
+    matches.copy_from_slice(&words[..12]);
+    match Board::of_words(&matches) {
+        Ok(board) => board,
+        Err(_) => unreachable!(),
+    }
+}
+
+/// The words of a board, and the number of enlisted reporters.
+fn words_with(board: &Board, enlisted: u64) -> [u64; 13]
+    ensures { result ≡ board.now ++ enlisted ∷ [] }
+{
+    let mut words = [enlisted; 13];
+    words[..12].copy_from_slice(&board.words());
+    words
+}
+
+/// The words with one reporter more.
+fn one_more_reporter(words: [u64; 13]) -> [u64; 13]
+    requires { slice_index words 12 < 255 }
+    ensures { result ≡ with_one_more words }
+{
+    let mut next = words;
+    next[12] += 1;
+    next
+}
+
+impl CellBoard {
+    /// The fresh board, and the reader's pass from which all its passes come. Where the memory of the cell is refused the answer is
+    /// `OutOfMemory`, and there is no board.
+    pub fn open<R>(_rt: &R, alloc: Global) -> Result<(CellBoard, CellReaderPass), OutOfMemory>
+        ensures own { IfOk result (λ opened. opened.1.0 ≡ opened.0) }
+        ensures fresh { IfOk result (λ opened. known_of opened.1.1 ≡ opening_pass) }
+        ensures acts { IfOk result (λ opened. opened.1.1.acts ≡ 0) }
+    {
+        let (cell, seat) = Cell::ruled(alloc, [0; 13])?;
+        Ok((CellBoard { cell }, CellReaderPass { seat }))
+    }
+
+    /// Loads the words, and shows nothing.
+    fn look<R: Wait>(&self, rt: &R, seat: &mut Seat) -> [u64; 13]
+        requires { seat.old.table_id ≡ self.now }
+        ensures own { seat.new.table_id ≡ seat.old.table_id }
+        ensures looks { LooksOnly (cell_view seat.old) result result (cell_view seat.new) }
+    {
+        self.cell.load_as::<Looks, R>(rt, seat)
+    }
+
+    /// Loads the words, whose version is shown.
+    fn look_to_show<R: Wait>(&self, rt: &R, seat: &mut Seat) -> [u64; 13]
+        requires { seat.old.table_id ≡ self.now }
+        ensures own { seat.new.table_id ≡ seat.old.table_id }
+        ensures looks { LooksAndShows (cell_view seat.old) result result (cell_view seat.new) }
+    {
+        self.cell.load_as::<Reads, R>(rt, seat)
+    }
+
+    /// Stores the words with one event more, `entry`, where the words are still those given.
+    fn store_event<K: Adding, R: Wait>(
+        &self,
+        rt: &R,
+        seat: &mut Seat,
+        current: [u64; 13],
+        next: [u64; 13],
+        entry: Entry,
+    ) -> Result<[u64; 13], [u64; 13]>
+        requires cell { seat.old.table_id ≡ self.now }
+        requires entry { K.entry ≡ entry }
+        requires me { (0 < (cell_view seat.old).number) × (K.entry.reporter ≡ (cell_view seat.old).number) }
+        requires next { IsNextBoard K.entry current next }
+        ensures own { seat.new.table_id ≡ seat.old.table_id }
+        ensures stored { MatchResult result (λ found. (found ≡ current) × StoresEntry K.entry (cell_view seat.old) current next (cell_view seat.new)) (λ found. LooksOnly (cell_view seat.old) found found (cell_view seat.new)) }
+    {
+        self.cell
+            .compare_exchange_as::<Adds<K>, R>(rt, seat, current, next)
+    }
+
+    /// Stores the words with one reporter more, where the words are still those given.
+    fn store_reporter<R: Wait>(
+        &self,
+        rt: &R,
+        seat: &mut Seat,
+        current: [u64; 13],
+        next: [u64; 13],
+    ) -> Result<[u64; 13], [u64; 13]>
+        requires cell { seat.old.table_id ≡ self.now }
+        requires next { next ≡ with_one_more current }
+        requires room { slice_index current 12 < 255 }
+        ensures own { seat.new.table_id ≡ seat.old.table_id }
+        ensures stored { MatchResult result (λ found. (found ≡ current) × StoresReporter (cell_view seat.old) current next (cell_view seat.new)) (λ found. LooksOnly (cell_view seat.old) found found (cell_view seat.new)) }
+    {
+        self.cell
+            .compare_exchange_as::<Enlists, R>(rt, seat, current, next)
+    }
+
+    /// Enters an event under the seat's number, trying again where another call changed the words meanwhile.
+    pub(crate) fn report_by<R: Wait>(
+        &self,
+        rt: &R,
+        seat: &mut Seat,
+        reporter: ReporterNo,
+        call: &EventCall,
+    ) -> Result<Accepted, Refusal>
+        requires cell { seat.old.table_id ≡ self.now }
+        requires me { (0 < reporter) × ((cell_view seat.old).number ≡ reporter) }
+        ensures own { seat.new.table_id ≡ seat.old.table_id }
+        ensures always { Continues (known_of (cell_view seat.old)) (known_of (cell_view seat.new)) }
+        ensures accepted { IfOk result (λ reply. AcceptedReport (known_of (cell_view seat.old)) call.now reply (known_of (cell_view seat.new))) }
+        ensures refused { IfErr result (λ refusal. RefusedReport (known_of (cell_view seat.old)) call.now refusal (known_of (cell_view seat.new))) }
+        ensures acts { (cell_view seat.old).acts < (cell_view seat.new).acts }
+        ensures whole { IsUpToDate (cell_view seat.new) }
+    {
+        'retry: for _ in rt.forever() {
+            let words = self.look(rt, seat);
+            let mut board = board_at(&words);
+            let accepted = match board.report(reporter, call) {
+                Ok(accepted) => accepted,
+                Err(refusal) => return Err(refusal),
+            };
+            let next = words_with(&board, words[12]);
+            let entry = Entry {
+                game: call.game,
+                reporter,
+                kind: call.kind,
+            };
+            let stored = self.store_event::<Brand, R>(rt, seat, words, next, entry);
+            if stored.is_ok() {
+                return Ok(accepted);
+            }
+        }
+        unreachable!()
+    }
+
+    /// The board of one load, and its version.
+    pub(crate) fn read_by<R: Wait>(&self, rt: &R, seat: &mut Seat) -> Reading
+        requires { seat.old.table_id ≡ self.now }
+        ensures own { seat.new.table_id ≡ seat.old.table_id }
+        ensures always { Continues (known_of (cell_view seat.old)) (known_of (cell_view seat.new)) }
+        ensures reading { SharedReading (known_of (cell_view seat.old)) result (known_of (cell_view seat.new)) }
+        ensures version { result.version ≡ length (cell_view seat.new).seen }
+        ensures acts { (cell_view seat.new).acts ≡ (cell_view seat.old).acts + 1 }
+        ensures whole { IsUpToDate (cell_view seat.new) }
+    {
+        let words = self.look_to_show(rt, seat);
+        let board = board_at(&words);
+        let version = board.version();
+        Reading { board, version }
+    }
+
+    /// Makes a seat a reporter's, and answers its number. `None` where 255 are enlisted.
+    pub(crate) fn enlist_by<R: Wait>(&self, rt: &R, seat: &mut Seat) -> Option<ReporterNo>
+        requires { seat.old.table_id ≡ self.now }
+        ensures own { seat.new.table_id ≡ seat.old.table_id }
+        ensures enlisted { IfSome result (λ number. Enlistment (known_of (cell_view seat.old)) (known_of (cell_view seat.new)) × ((cell_view seat.new).number ≡ number)) }
+        ensures always { IfNone result (Continues (known_of (cell_view seat.old)) (known_of (cell_view seat.new))) }
+        ensures full { IfNone result (FullBoard (known_of (cell_view seat.old)) (known_of (cell_view seat.new))) }
+        ensures acts { (cell_view seat.old).acts < (cell_view seat.new).acts }
+        ensures whole { IsUpToDate (cell_view seat.new) }
+    {
+        'retry: for _ in rt.forever() {
+            let words = self.look(rt, seat);
+            let enlisted = words[12];
+            if enlisted >= MOST_REPORTERS {
+                return None;
+            }
+            let next = one_more_reporter(words);
+            if self.store_reporter(rt, seat, words, next).is_ok() {
+                return ReporterNo::new((enlisted + 1) as u8);
+            }
+        }
+        unreachable!()
+    }
+
+    /// A second seat, which has seen as much.
+    pub(crate) fn split_seat(&self, seat: &mut Seat) -> Seat
+        requires { seat.old.table_id ≡ self.now }
+        ensures own { seat.new.table_id ≡ seat.old.table_id }
+        ensures unchanged { cell_view seat.new ≡ cell_view seat.old }
+        ensures given { (result.table_id ≡ seat.old.table_id) × (cell_view result ≡ note_of (cell_view seat.old)) × (result.me.1 ≡ []) }
+    {
+        self.cell.split_pass::<Notes>(seat)
+    }
+
+    /// A note of the first is split off and joined to the second, which then looks.
+    pub(crate) fn meet_by<R: Wait>(&self, rt: &R, first: &mut Seat, second: &mut Seat)
+        requires { (first.old.table_id ≡ self.now) × (second.old.table_id ≡ self.now) }
+        ensures own { (first.new.table_id ≡ first.old.table_id) × (second.new.table_id ≡ second.old.table_id) }
+        ensures unchanged { cell_view first.new ≡ cell_view first.old }
+        ensures always { Continues (known_of (cell_view second.old)) (known_of (cell_view second.new)) }
+        ensures meeting { Meeting (known_of (cell_view first.old)) (known_of (cell_view second.old)) (known_of (cell_view second.new)) }
+        ensures acts { (cell_view second.new).acts ≡ (cell_view second.old).acts + 1 }
+        ensures whole { IsUpToDate (cell_view second.new) }
+    {
+        let note = self.split_seat(first);
+        self.cell.join_pass::<Notes>(second, note);
+        self.look(rt, second);
+    }
+}

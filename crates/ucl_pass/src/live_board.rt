@@ -1,0 +1,98 @@
+//! What every shared board is.
+
+ghost use Rattle.std.specs.Prelude.{◌≡◌, IfOk, IfErr, MatchResult};
+ghost use Rattle.ucl_pass.specs.Passes.{Known, IsSound, Continues, AcceptedReport, RefusedReport, SharedReading, split_pass, Enlistment, FullBoard, Meeting, reporter_figures};
+
+use crate::errors::TooManyReporters;
+use std::sync::Wait;
+use ucl_board::Reading;
+use ucl_word::{Accepted, EventCall, Refusal, ReporterNo};
+
+/// A board that threads share. Each thread holds a pass, and what a call answers is said of what its pass has seen: a beginning
+/// of one history of accepted events, the same for all passes (Herlihy and Wing, Linearizability).
+///
+/// A condition of every call is that its passes are of this board: they came, by `split` or `enlist`, from the pass that its
+/// `open` gave. The calls that take `rt` may wait, and what they promise holds where they return.
+pub trait LiveBoard: Sync {
+    /// What a reader holds: it reads, and can be split or enlisted.
+    type ReaderPass: Send + Drop;
+
+    /// What a reporter holds: it enters events under its own number, and reads.
+    type ReporterPass: Send + Drop;
+
+    // The pass is one of this board.
+    ghost is_reader: { Self → Self.ReaderPass → Type 0 };
+
+    ghost is_reporter: { Self → Self.ReporterPass → Type 0 };
+
+    // What is known of a pass.
+    ghost reader: { Self.ReaderPass → Known };
+
+    ghost reporter: { Self.ReporterPass → Known };
+
+    /// Enters an event under the number of the pass. An accepted event is the last that the pass has seen; a refusal is the reply
+    /// of a board of one thread after all that the pass has then seen, enters nothing, and may leave the pass having seen more.
+    fn report<R: Wait>(
+        &self,
+        rt: &R,
+        pass: &mut Self::ReporterPass,
+        call: &EventCall,
+    ) -> Result<Accepted, Refusal>
+        requires { is_reporter self.now pass.old }
+        ensures own { is_reporter self.now pass.new }
+        ensures always { Continues (reporter pass.old) (reporter pass.new) }
+        ensures accepted { IfOk result (λ reply. AcceptedReport (reporter pass.old) call.now reply (reporter pass.new)) }
+        ensures refused { IfErr result (λ refusal. RefusedReport (reporter pass.old) call.now refusal (reporter pass.new)) };
+
+    /// The board after a beginning of the history that has all that the pass had seen, and its version.
+    fn read<R: Wait>(&self, rt: &R, pass: &mut Self::ReaderPass) -> Reading
+        requires { is_reader self.now pass.old }
+        ensures own { is_reader self.now pass.new }
+        ensures always { Continues (reader pass.old) (reader pass.new) }
+        ensures reading { SharedReading (reader pass.old) result (reader pass.new) };
+
+    /// The same for a reporter.
+    fn read_own<R: Wait>(&self, rt: &R, pass: &mut Self::ReporterPass) -> Reading
+        requires { is_reporter self.now pass.old }
+        ensures own { is_reporter self.now pass.new }
+        ensures always { Continues (reporter pass.old) (reporter pass.new) }
+        ensures reading { SharedReading (reporter pass.old) result (reporter pass.new) };
+
+    /// A second pass, which has seen as much as the lent one, for another thread.
+    fn split<R: Wait>(&self, rt: &R, pass: &mut Self::ReaderPass) -> Self::ReaderPass
+        requires { is_reader self.now pass.old }
+        ensures own { is_reader self.now pass.new × is_reader self.now result }
+        ensures sound { IsSound (reader pass.old) }
+        ensures unchanged { reader pass.new ≡ reader pass.old }
+        ensures given { reader result ≡ split_pass (reader pass.old) };
+
+    /// Makes a reader a reporter, under a number of its own. Where 255 are enlisted the answer is 30 with the pass, which may have
+    /// seen more.
+    fn enlist<R: Wait>(
+        &self,
+        rt: &R,
+        pass: Self::ReaderPass,
+    ) -> Result<Self::ReporterPass, TooManyReporters<Self::ReaderPass>>
+        requires { is_reader self.now pass }
+        ensures own { MatchResult result (λ enlisted. is_reporter self.now enlisted) (λ full. is_reader self.now full.0) }
+        ensures enlisted { IfOk result (λ enlisted. Enlistment (reader pass) (reporter enlisted)) }
+        ensures always { IfErr result (λ full. Continues (reader pass) (reader full.0)) }
+        ensures full { IfErr result (λ full. FullBoard (reader pass) (reader full.0)) };
+
+    /// Afterwards the second pass has seen all that either had seen. The first is as it was.
+    fn meet<R: Wait>(&self, rt: &R, first: &mut Self::ReporterPass, second: &mut Self::ReporterPass)
+        requires { is_reporter self.now first.old × is_reporter self.now second.old }
+        ensures own { is_reporter self.now first.new × is_reporter self.now second.new }
+        ensures sound { IsSound (reporter first.old) }
+        ensures always { Continues (reporter second.old) (reporter second.new) }
+        ensures unchanged { reporter first.new ≡ reporter first.old }
+        ensures meeting { Meeting (reporter first.old) (reporter second.old) (reporter second.new) };
+
+    /// The number of a reporter's pass.
+    fn number_of(pass: &Self::ReporterPass) -> ReporterNo
+        ensures { result ≡ (reporter_figures (reporter pass.now)).0 };
+
+    /// How many events of a reporter's pass were accepted, 0 to 12,276.
+    fn accepted_of(pass: &Self::ReporterPass) -> u16
+        ensures { result ≡ (reporter_figures (reporter pass.now)).1 };
+}
