@@ -1,5 +1,8 @@
 //! What the program does with its words, and with what stands for its standard streams.
 
+ghost use Rattle.std.specs.Prelude.{◌≡◌};
+ghost use Rattle.ucl_night.specs.Faults.{status};
+
 use crate::output::put_text;
 use crate::{Line, LineFault, RunFault, feed_run, line_of, show_run, status_of};
 use std::alloc::Global;
@@ -10,7 +13,9 @@ use ucl_screen::{Sink, Source};
 pub const REFUSED_WORDS: u8 = 2;
 
 /// Tells of a fault by its line, and gives its exit status. A line that cannot be written is left out.
-pub fn tell<E: Write>(errors: &mut E, fault: RunFault) -> u8 {
+pub fn tell<E: Write>(errors: &mut E, fault: RunFault) -> u8
+    ensures { result ≡ status fault }
+{
     let _ = writeln!(errors, "{fault}");
     status_of(&fault)
 }
