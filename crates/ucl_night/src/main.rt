@@ -1,5 +1,6 @@
-//! The program: `ucl_night feed` enters a script of events on the board of one group of the UEFA Champions League, and
-//! writes what became of each event and how the twelve matches stand.
+//! The program for the board of one group of the UEFA Champions League: `ucl_night feed` enters a script of events, and
+//! writes what became of each event and how the twelve matches stand; `ucl_night show` writes the screen of a board that
+//! was written down.
 #![tactic(auto)]
 
 mod command_line;
