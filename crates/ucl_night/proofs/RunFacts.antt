@@ -9,7 +9,7 @@ use Rattle.ucl_board.proofs.HistoryLaws.{versions}
 use Rattle.ucl_night.specs.Feed.{IsBoardAfter, IsFed, feed_text}
 use Rattle.ucl_night.specs.Show.{IsShown}
 use Rattle.ucl_night.specs.declared.fault.RunFault.{RunFault}
-use Rattle.ucl_night.specs.declared.fault.RunFault.TheVariants.{Input, OutOfMemory, WriteFailed}
+use Rattle.ucl_night.specs.declared.fault.RunFault.TheVariants.{Input, OutOfMemory, WriteFailed, NotOnDuty, NoThread, TooManyReporters, Strangers}
 use Rattle.ucl_night.specs.Run.{IfWriteFailed, IsCutShort, TextHas, WroteFirst}
 
 -- a script's text, and a sheet's screen
@@ -39,6 +39,10 @@ pub part-out : {U : Type 0} (result : Result U RunFault) (CallsFor : List ℕ �
 part-out (Ok u) CallsFor known text failed old new is h = tt
 part-out (Err (Input e)) CallsFor known text failed old new is h = tt
 part-out (Err OutOfMemory) CallsFor known text failed old new is h = tt
+part-out (Err (NotOnDuty row)) CallsFor known text failed old new is h = tt
+part-out (Err NoThread) CallsFor known text failed old new is h = tt
+part-out (Err TooManyReporters) CallsFor known text failed old new is h = tt
+part-out (Err (Strangers version)) CallsFor known text failed old new is h = tt
 part-out (Err (WriteFailed written)) CallsFor known text failed old new is h = text-has CallsFor known text (WroteFirst old new written) is h.1
 
 pub version-bound : (history : List Entry) (words : List ℕ) (version : ℕ) → IsBoardAfter history words version → version ≤ 12276

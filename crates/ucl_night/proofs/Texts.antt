@@ -23,7 +23,7 @@ pub words-end : (index i : ℕ) (words out whole : List ℕ) → length words �
 unfolding word_lines
 words-end index i words out whole h so_far = sym (append-nil out) ∙ (rw (past i words h) at so_far)
 
-first-event : (i : ℕ) (events : List NightEvent) (e : NightEvent) → i < length events → e ≡ get_or events i e → drop i events ≡ e ∷ drop (i + 1) events
+pub first-event : (i : ℕ) (events : List NightEvent) (e : NightEvent) → i < length events → e ≡ get_or events i e → drop i events ≡ e ∷ drop (i + 1) events
 first-event i events e h is = rw (add-one i) (drop-cons events i e h ∙ ap (λ (x : NightEvent). x ∷ drop (suc i) events) (sym is))
 
 pub replies-step : (row i : ℕ) (events : List NightEvent) (e : NightEvent) (history : List Entry) (out new whole : List ℕ) → i < length events → e ≡ get_or events i e

@@ -1,12 +1,12 @@
 //! The program's words, read by `clap`.
 
-ghost use Rattle.std.specs.Prelude.{◌≡◌, IfOk};
+ghost use Rattle.std.specs.Prelude.{◌≡◌, ◌≤◌, IfOk};
 ghost use Rattle.clap.specs.Words.{kind_of};
 ghost use Rattle.ucl_screen.specs.Screen.{IsGroup};
 ghost use Rattle.ucl_night.specs.CommandLine.{IsInRange};
 
 use clap::error::ErrorKind;
-use clap::{Arg, ArgAction, ArgMatches, Command, Error};
+use clap::{Arg, ArgAction, ArgMatches, Command, Error, value_parser};
 use std::alloc::{AllocError, Global};
 use ucl_screen::is_group;
 
@@ -19,6 +19,13 @@ pub enum Line {
     Show {
         /// The letter of the group, `A` to `H`.
         group: u8,
+    },
+    /// Enter a script by two reporters in threads while two readers look on, and write the screens.
+    Night {
+        /// The letter of the group, `A` to `H`.
+        group: u8,
+        /// How many readings each reader takes, 0 to 1,000.
+        readings: u32,
     },
 }
 
@@ -39,6 +46,9 @@ static GROUPS: [&str; 8] = ["A", "B", "C", "D", "E", "F", "G", "H"];
 /// The group where none is named.
 const FIRST_GROUP: u8 = b'A';
 
+/// The most readings that `--readings` asks of each reader.
+const MOST_READINGS: i64 = 1000;
+
 /// The option `--group`.
 fn group_option<'a>(alloc: Global) -> Arg<'a> {
     Arg::new(alloc, "group")
@@ -46,6 +56,15 @@ fn group_option<'a>(alloc: Global) -> Arg<'a> {
         .action(ArgAction::Set)
         .value_parser(GROUPS.as_slice())
         .default_value("A")
+}
+
+/// The option `--readings`.
+fn readings_option<'a>(alloc: Global) -> Arg<'a> {
+    Arg::new(alloc, "readings")
+        .long("readings")
+        .action(ArgAction::Set)
+        .value_parser(value_parser!(u32).range(0..=MOST_READINGS))
+        .default_value("0")
 }
 
 /// The program's command, with a subcommand for each line.
@@ -56,10 +75,15 @@ fn command<'a>(alloc: Global) -> Result<Command<'a>, AllocError> {
     let show = Command::new(alloc, "show")
         .about("Writes the screen of a board")
         .arg(group_option(alloc))?;
+    let night = Command::new(alloc, "night")
+        .about("Enters a script by two reporters in threads, and writes the screens")
+        .arg(group_option(alloc))?
+        .arg(readings_option(alloc))?;
     Command::new(alloc, "ucl_night")
         .subcommand_required(true)
         .subcommand(feed)?
-        .subcommand(show)
+        .subcommand(show)?
+        .subcommand(night)
 }
 
 /// The group that was named. The parser has taken no other letter than those of groups.
@@ -69,6 +93,16 @@ fn group_of(matches: &ArgMatches<'_>) -> u8
     match matches.get_str("group").map(str::as_bytes) {
         Some([letter]) if is_group(*letter) => *letter,
         _ => FIRST_GROUP,
+    }
+}
+
+/// How many readings were asked for. The parser has taken no number past `MOST_READINGS`.
+fn readings_of(matches: &ArgMatches<'_>) -> u32
+    ensures { result ≤ 1000 }
+{
+    match matches.get_one::<u32>("readings") {
+        Some(readings) if i64::from(readings) <= MOST_READINGS => readings,
+        _ => 0,
     }
 }
 
@@ -88,8 +122,9 @@ fn fault_of(alloc: Global, error: &Error) -> LineFault
 
 /// What the program's words ask for. The first word is the program's name.
 ///
-/// The words are read by `clap`: the name is followed by the subcommand `feed`, or by `show` with `--group` and a letter
-/// from `A` to `H`, which is `A` where it is left out. `Help` comes where help is asked for, and `Refused` where the words
+/// The words are read by `clap`: the name is followed by the subcommand `feed`, `show` or `night`. The latter two take
+/// `--group` with a letter from `A` to `H`, which is `A` where it is left out, and `night` also `--readings` with a number
+/// from 0 to 1,000, which is 0 where it is left out. `Help` comes where help is asked for, and `Refused` where the words
 /// have no subcommand, an unknown one, or what it does not take.
 pub fn line_of(alloc: Global, words: &[String]) -> Result<Line, LineFault>
     ensures { IfOk result IsInRange }
@@ -104,6 +139,10 @@ pub fn line_of(alloc: Global, words: &[String]) -> Result<Line, LineFault>
     match matches.subcommand() {
         Some(("show", found)) => Ok(Line::Show {
             group: group_of(found),
+        }),
+        Some(("night", found)) => Ok(Line::Night {
+            group: group_of(found),
+            readings: readings_of(found),
         }),
         _ => Ok(Line::Feed),
     }

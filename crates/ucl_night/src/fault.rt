@@ -1,7 +1,7 @@
 //! Why a run fails.
 
 ghost use Rattle.std.specs.Prelude.{◌≡◌};
-ghost use Rattle.ucl_night.specs.declared.fault.RunFault.TheVariants.{OutOfMemory};
+ghost use Rattle.ucl_night.specs.declared.fault.RunFault.TheVariants.{OutOfMemory, NoThread, TooManyReporters, Strangers};
 ghost use Rattle.ucl_night.specs.Faults.{handed_on, status};
 
 use std::alloc::AllocError;
@@ -20,6 +20,18 @@ pub enum RunFault {
     /// 26: the output failed, and took exactly the first `written` bytes of the text.
     #[error("writing failed 26: after {written} bytes")]
     WriteFailed { written: usize },
+    /// 25: a row of a night is of a reporter other than 1 and 2. `row` is the first such row, counted from 1.
+    #[error("input refused 25: row {row}")]
+    NotOnDuty { row: usize },
+    /// 27: no thread could be had for a worker of a night.
+    #[error("no thread 27")]
+    NoThread,
+    /// 30: the board of a night has no number left for a reporter.
+    #[error("board refused 30")]
+    TooManyReporters,
+    /// 31: the board of a night has events of a third reporter. `version` is that of the reading that was taken.
+    #[error("board refused 31: version {version}")]
+    Strangers { version: u16 },
 }
 
 /// A fault of the input is handed on, and want of memory there is want of memory of the run.
@@ -50,14 +62,42 @@ impl From<ucl_word::OutOfMemory> for RunFault {
     }
 }
 
-/// The exit status of the program for a fault: 3 where the input was refused, 4 where reading or writing failed, and
-/// 5 where there was no memory.
+impl From<crate::threads::NoThread> for RunFault {
+    ghost from_gives = { λ _ f. f ≡ NoThread };
+
+    fn from(_error: crate::threads::NoThread) -> RunFault {
+        RunFault::NoThread
+    }
+}
+
+/// The pass that came back is dropped.
+impl<P: Drop> From<ucl_pass::TooManyReporters<P>> for RunFault {
+    ghost from_gives = { λ _ f. f ≡ TooManyReporters };
+
+    fn from(_error: ucl_pass::TooManyReporters<P>) -> RunFault {
+        RunFault::TooManyReporters
+    }
+}
+
+impl From<ucl_pass::Strangers> for RunFault {
+    ghost from_gives = { λ error f. f ≡ Strangers error.version };
+
+    fn from(error: ucl_pass::Strangers) -> RunFault {
+        RunFault::Strangers {
+            version: error.version,
+        }
+    }
+}
+
+/// The exit status of the program for a fault: 3 where the input was refused, 4 where reading or writing failed, 5 where
+/// there was no memory or no thread, and 6 where a board refused its reporters.
 pub fn status_of(fault: &RunFault) -> u8
     ensures { result ≡ status fault.now }
 {
     match fault {
         RunFault::Input(InputFault::ReadFailed { .. }) | RunFault::WriteFailed { .. } => 4,
-        RunFault::Input(InputFault::OutOfMemory) | RunFault::OutOfMemory => 5,
-        RunFault::Input(_) => 3,
+        RunFault::Input(InputFault::OutOfMemory) | RunFault::OutOfMemory | RunFault::NoThread => 5,
+        RunFault::Input(_) | RunFault::NotOnDuty { .. } => 3,
+        RunFault::TooManyReporters | RunFault::Strangers { .. } => 6,
     }
 }

@@ -1,7 +1,8 @@
-//! What holds of every list of steps and of the screens of its readings. The function does nothing: it is there for its
-//! contract.
+//! What holds of every list of steps and of the screens of its readings, and of every night. The functions do nothing: they
+//! are there for their contracts.
 
 ghost use Rattle.ucl_night.specs.Headline.{EveryRunHasOneHistory};
+ghost use Rattle.ucl_night.specs.Nights.{ScheduleDoesNotMatter};
 
 /// For every list of steps of any reporters and readers, with calls cut anywhere and left unfinished: one history of the
 /// sequential board holds each finished call once, with the reply that it got, between its beginning and its end; so no
@@ -9,4 +10,10 @@ ghost use Rattle.ucl_night.specs.Headline.{EveryRunHasOneHistory};
 /// reading copied.
 pub fn every_run_has_one_history()
     ensures { EveryRunHasOneHistory }
+{}
+
+/// Where each match of a night has one reporter, every history that is a merge of the rows of the night comes to the same
+/// board: that of the rows entered one after the other in script order, whoever wins which race.
+pub fn schedule_does_not_matter()
+    ensures { ScheduleDoesNotMatter }
 {}

@@ -6,16 +6,22 @@
 mod command_line;
 mod fault;
 mod feed;
+mod gate;
 mod laws;
 mod lines;
+mod night;
 mod output;
 mod program;
 mod show;
+mod threads;
+mod workers;
 
 pub use command_line::{Line, LineFault, line_of};
 pub use fault::{RunFault, status_of};
 pub use feed::feed_run;
-pub use laws::every_run_has_one_history;
+pub use gate::{Gate, OpenGate};
+pub use laws::{every_run_has_one_history, schedule_does_not_matter};
+pub use night::{NightEnd, night_run, put_night};
 pub use show::show_run;
 use std::env;
 use std::process::ExitCode;
@@ -31,7 +37,7 @@ fn main(rt: HostRuntime) -> ExitCode {
     let mut sink = ToWrite::new(rt.stdout());
     let mut errors = rt.stderr();
     let status = match words.collect::<Vec<String>>(alloc) {
-        Ok(words) => program::run(alloc, &words, &mut source, &mut sink, &mut errors),
+        Ok(words) => program::run(&rt, alloc, &words, &mut source, &mut sink, &mut errors),
         Err(_) => program::tell(&mut errors, RunFault::OutOfMemory),
     };
     ExitCode::from(status)

@@ -1,8 +1,9 @@
 //! Writing texts.
 
-ghost use Rattle.std.specs.Prelude.{OnOk, IfErr};
+ghost use Rattle.std.specs.Prelude.{◌≡◌, ◌+◌, ◌-◌, ◌^◌, ◌++◌, min, length, None, OnOk, IfOk, IfErr, slice_index_or, option_map, string_bytes};
 ghost use Rattle.std.specs.Io.KnownBytes.{Appends};
-ghost use Rattle.ucl_night.specs.Run.{IsCutShort};
+ghost use Rattle.ucl_night.specs.Nights.{last_text, lasts_text};
+ghost use Rattle.ucl_night.specs.Run.{IsCutShort, IsStopped};
 
 use crate::RunFault;
 use ucl_screen::{Sink, give_all};
@@ -16,4 +17,62 @@ pub fn put_text<W: Sink>(sink: &mut W, text: &str) -> Result<(), RunFault>
         Ok(()) => Ok(()),
         Err(written) => Err(RunFault::WriteFailed { written }),
     }
+}
+
+/// Writes a text after so many bytes, and tells how many bytes are out then. A number past `usize::MAX` is told as that.
+pub fn put_part<W: Sink>(sink: &mut W, before: usize, text: &str) -> Result<usize, RunFault>
+    ensures all { OnOk result (Appends (W.taken sink.old) (W.taken sink.new) text.now) }
+    ensures count { IfOk result (λ after. after ≡ min (before + length text.now) (2 ^ 64 - 1)) }
+    ensures part { IfErr result (IsStopped before (W.failed sink.new) (W.taken sink.old) (W.taken sink.new) text.now) }
+{
+    match give_all(sink, text.as_bytes()) {
+        Ok(()) => Ok(before.saturating_add(text.len())),
+        Err(part) => Err(RunFault::WriteFailed {
+            written: before.saturating_add(part),
+        }),
+    }
+}
+
+/// Writes a heading and a text after so many bytes, and tells how many bytes are out then.
+#[tactic(auto, using(crate::proofs::Parts::stopped_first, crate::proofs::Parts::stopped_second))]
+pub fn put_under<W: Sink>(
+    sink: &mut W,
+    before: usize,
+    heading: &str,
+    text: &str,
+) -> Result<usize, RunFault>
+    ensures all { OnOk result (Appends (W.taken sink.old) (W.taken sink.new) (heading.now ++ text.now)) }
+    ensures count { IfOk result (λ after. after ≡ min (before + length (heading.now ++ text.now)) (2 ^ 64 - 1)) }
+    ensures part { IfErr result (IsStopped before (W.failed sink.new) (W.taken sink.old) (W.taken sink.new) (heading.now ++ text.now)) }
+{
+    let before = put_part(sink, before, heading)?;
+    put_part(sink, before, text)
+}
+
+/// Writes the last screen of a reader under its heading, where there is one.
+pub fn put_last<W: Sink>(
+    sink: &mut W,
+    before: usize,
+    heading: &str,
+    last: &Option<String>,
+) -> Result<usize, RunFault>
+    ensures all { OnOk result (Appends (W.taken sink.old) (W.taken sink.new) (last_text heading.now (option_map string_bytes last.now))) }
+    ensures count { IfOk result (λ after. after ≡ min (before + length (last_text heading.now (option_map string_bytes last.now))) (2 ^ 64 - 1)) }
+    ensures part { IfErr result (IsStopped before (W.failed sink.new) (W.taken sink.old) (W.taken sink.new) (last_text heading.now (option_map string_bytes last.now))) }
+{
+    match last {
+        Some(text) => put_under(sink, before, heading, text.as_str()),
+        None => Ok(before),
+    }
+}
+
+/// Writes the last screens of both readers, where there are any, and tells how many bytes are out then.
+#[tactic(auto, using(crate::proofs::Parts::stopped_first, crate::proofs::Parts::stopped_second))]
+pub fn put_lasts<W: Sink>(sink: &mut W, last: &[Option<String>; 2]) -> Result<usize, RunFault>
+    ensures all { OnOk result (Appends (W.taken sink.old) (W.taken sink.new) (lasts_text (option_map string_bytes (slice_index_or last.now 0 None)) (option_map string_bytes (slice_index_or last.now 1 None)))) }
+    ensures count { IfOk result (λ after. after ≡ min (length (lasts_text (option_map string_bytes (slice_index_or last.now 0 None)) (option_map string_bytes (slice_index_or last.now 1 None)))) (2 ^ 64 - 1)) }
+    ensures part { IfErr result (IsStopped 0 (W.failed sink.new) (W.taken sink.old) (W.taken sink.new) (lasts_text (option_map string_bytes (slice_index_or last.now 0 None)) (option_map string_bytes (slice_index_or last.now 1 None)))) }
+{
+    let written = put_last(sink, 0, "READER 1\n", &last[0])?;
+    put_last(sink, written, "READER 2\n", &last[1])
 }

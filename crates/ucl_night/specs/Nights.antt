@@ -1,0 +1,140 @@
+-- A night: the rows of a script, entered by two reporters in threads of their own while readers look on.
+use Rattle.std.specs.Prelude.{◌≡◌, ◌⊎◌, ℕ, ◌+◌, ◌<◌, ◌≤◌, ◌==◌, true, false, List, [], ◌∷◌, ◌++◌, All, length, map, take, slice_get, Option, Some, None, if◌then◌else◌, codes}
+use Rattle.std.specs.Result.{is_ok}
+use Rattle.ucl_board.specs.declared.entry.Entry.{Entry}
+use Rattle.ucl_board.specs.History.{IsLegal, Attempt, entry_of, sequential_reply, accepted_of, board_of}
+use Rattle.ucl_order.specs.Roster.{ClubEntry}
+use Rattle.ucl_screen.specs.declared.night.NightEvent.{NightEvent}
+use Rattle.ucl_screen.specs.Screen.{screen_text}
+use Rattle.ucl_pass.specs.Passes.{Known, IsSound, SeesOn, Continues}
+
+-- the numbers on the board that stand for reporters 1 and 2 of the script
+abbrev pub number_of_two : ℕ → ℕ → ℕ → ℕ
+number_of_two first second reporter = if reporter == 1 then first else second
+
+-- what a row attempts, by the number of its reporter
+abbrev pub attempt_by : (ℕ → ℕ) → NightEvent → Attempt
+attempt_by number row = (number row.reporter, row.call)
+
+-- a row of reporter 1 or 2
+abbrev pub IsOnDuty : NightEvent → Type 0
+IsOnDuty row = (row.reporter ≡ 1) ⊎ (row.reporter ≡ 2)
+
+-- an attempt is refused after the first p entries of a history
+pub record IsRefusedAt (history : List Entry) (a : Attempt) (p : ℕ) : Type 0 where
+  pub within : p ≤ length history
+  pub reply : is_ok (sequential_reply (take p history) a.1) ≡ false
+
+-- an attempt is accepted after the first p entries of a history, and is entry p, counted from 0
+pub record IsEnteredAt (history : List Entry) (a : Attempt) (p : ℕ) : Type 0 where
+  pub entry : slice_get history p ≡ Some (entry_of a)
+  pub reply : is_ok (sequential_reply (take p history) a.1) ≡ true
+
+-- an attempt has its point in a history
+abbrev pub TakesPlace : List Entry → Attempt → ℕ → Type 0
+TakesPlace history a p = IsRefusedAt history a p ⊎ IsEnteredAt history a p
+
+-- of two rows of one reporter the first has no higher point, and a lower one where it was accepted
+pub record ComesFirst (history : List Entry) (a : Attempt) (p q : ℕ) : Type 0 where
+  pub never_falls : p ≤ q
+  pub rises : IsEnteredAt history a p → p < q
+
+-- an entry is that of a row
+pub record IsOfRow (number : ℕ → ℕ) (rows : List NightEvent) (point : ℕ → ℕ) (history : List Entry) (p i : ℕ) : Type 0 where
+  pub row : NightEvent
+  pub here : slice_get rows i ≡ Some row
+  pub point_is : point i ≡ p
+  pub entered : IsEnteredAt history (attempt_by number row) p
+
+-- an entry is that of exactly one row
+pub record IsOfOneRow (number : ℕ → ℕ) (rows : List NightEvent) (point : ℕ → ℕ) (history : List Entry) (p : ℕ) : Type 0 where
+  pub index : ℕ
+  pub is : IsOfRow number rows point history p index
+  pub alone : (other : ℕ) → IsOfRow number rows point history p other → other ≡ index
+
+-- a history is a merge of the rows: it is legal; each row has a point, where it is refused or is the entry; the points of one
+-- reporter's rows never fall in script order, and rise after an accepted row; and each entry is that of exactly one row
+pub record IsMerge (number : ℕ → ℕ) (rows : List NightEvent) (history : List Entry) : Type 0 where
+  pub legal : IsLegal history
+  pub point : ℕ → ℕ
+  pub each : (i : ℕ) (row : NightEvent) → slice_get rows i ≡ Some row → TakesPlace history (attempt_by number row) (point i)
+  pub in_order : (i j : ℕ) (row next : NightEvent) → slice_get rows i ≡ Some row → slice_get rows j ≡ Some next → i < j → row.reporter ≡ next.reporter
+      → ComesFirst history (attempt_by number row) (point i) (point j)
+  pub one_row : (p : ℕ) → p < length history → IsOfOneRow number rows point history p
+
+-- rows of one match are all of one reporter
+abbrev pub EachMatchHasOneReporter : List NightEvent → Type 0
+EachMatchHasOneReporter rows = (i j : ℕ) (row other : NightEvent) → slice_get rows i ≡ Some row → slice_get rows j ≡ Some other → row.call.game ≡ other.call.game → row.reporter ≡ other.reporter
+
+-- the board after all rows, entered in script order
+abbrev pub night_board : (ℕ → ℕ) → List NightEvent → List ℕ
+night_board number rows = board_of (accepted_of (map (attempt_by number) rows))
+
+-- where each match has one reporter, all merges of the rows have the same board: that of the rows in script order
+abbrev pub ScheduleDoesNotMatter : Type 0
+ScheduleDoesNotMatter = (number : ℕ → ℕ) (rows : List NightEvent) (history : List Entry) → IsMerge number rows history → EachMatchHasOneReporter rows → board_of history ≡ night_board number rows
+
+-- an entry is that of a row of one reporter
+pub record IsOwnRow (number reporter : ℕ) (rows : List NightEvent) (point : ℕ → ℕ) (history : List Entry) (p : ℕ) : Type 0 where
+  pub index : ℕ
+  pub row : NightEvent
+  pub here : slice_get rows index ≡ Some row
+  pub theirs : row.reporter ≡ reporter
+  pub point_is : point index ≡ p
+  pub entered : IsEnteredAt history (number, row.call) p
+
+-- a reporter's pass that has entered nothing yet
+abbrev pub IsFresh : Known → Type 0
+IsFresh k = IsSound k × (k.mine ≡ [])
+
+-- a reporter's pass, k before and m after, has entered its rows of a script in their order: each has its point, and each entry under the
+-- number of the pass is one of them
+pub record HasEntered (k m : Known) (reporter : ℕ) (rows : List NightEvent) : Type 0 where
+  pub always : Continues k m
+  pub shown : m.shown ≡ k.shown
+  pub point : ℕ → ℕ
+  pub each : (i : ℕ) (row : NightEvent) → slice_get rows i ≡ Some row → row.reporter ≡ reporter → TakesPlace m.seen (k.number, row.call) (point i)
+  pub in_order : (i j : ℕ) (row next : NightEvent) → slice_get rows i ≡ Some row → slice_get rows j ≡ Some next → i < j → row.reporter ≡ reporter → next.reporter ≡ reporter
+      → ComesFirst m.seen (k.number, row.call) (point i) (point j)
+  pub entries : (p : ℕ) (e : Entry) → slice_get m.seen p ≡ Some e → e.reporter ≡ k.number → IsOwnRow k.number reporter rows point m.seen p
+
+-- the last screen of a reader: none where no version was shown, else the screen of the board of the last version
+pub record IsScreenOfLast (seen : List Entry) (versions : List ℕ) (roster : List ClubEntry) (group : ℕ) (text : List ℕ) : Type 0 where
+  pub before : List ℕ
+  pub version : ℕ
+  pub last : versions ≡ before ++ version ∷ []
+  pub text_is : text ≡ screen_text (board_of (take version seen)) roster group
+
+abbrev pub IsLastScreen : List Entry → List ℕ → List ClubEntry → ℕ → Option (List ℕ) → Type 0
+IsLastScreen seen versions roster group None = versions ≡ []
+IsLastScreen seen versions roster group (Some text) = IsScreenOfLast seen versions roster group text
+
+-- a reader's pass m, which came from k, has shown so many versions, none below what k had seen, and this is its last screen
+pub record HasShown (k m : Known) (readings : ℕ) (roster : List ClubEntry) (group : ℕ) (last : Option (List ℕ)) : Type 0 where
+  pub on : SeesOn k m
+  pub many : length m.shown ≡ readings
+  pub low : All (λ version. length k.seen ≤ version) m.shown
+  pub last_is : IsLastScreen m.seen m.shown roster group last
+
+-- a row is the first whose reporter is not on duty: event i, counted from 1, is row i + 4
+pub record IsFirstOffDuty (rows : List NightEvent) (row : ℕ) : Type 0 where
+  pub before : List NightEvent
+  pub event : NightEvent
+  pub after : List NightEvent
+  pub rows_are : rows ≡ before ++ event ∷ after
+  pub on_duty : All IsOnDuty before
+  pub off_duty : IsOnDuty event → ⊥
+  pub row_is : row ≡ length before + 5
+
+-- the text of a reader's last screen with its heading, and nothing where it showed none
+abbrev pub last_text : List ℕ → Option (List ℕ) → List ℕ
+last_text heading None = []
+last_text heading (Some text) = heading ++ text
+
+-- the last screens of both readers
+abbrev pub lasts_text : Option (List ℕ) → Option (List ℕ) → List ℕ
+lasts_text first second = last_text (codes "READER 1\n") first ++ last_text (codes "READER 2\n") second
+
+-- the output of a night: the last screens of both readers, where there are any, and the closing screen
+abbrev pub night_text : Option (List ℕ) → Option (List ℕ) → List ℕ → List ℕ
+night_text first second closing = lasts_text first second ++ (codes "FINAL\n" ++ closing)

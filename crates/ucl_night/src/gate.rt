@@ -1,0 +1,23 @@
+//! Who looks on while a night goes on.
+
+use ucl_board::Reading;
+
+/// What the workers of a night tell of their calls, in threads of their own. Workers 1 and 2 are the reporters, 3 and 4 the
+/// readers. What a gate does changes no result of a night: it may wait, count or write down what it is told.
+pub trait Gate: Sync {
+    /// Comes before each of a worker's calls on the board, which are counted from 0 (and, past `u32::MAX`, from 0 again).
+    fn come(&self, worker: u8, call: u32);
+
+    /// Comes after each screen of a reader, with the reading that it is of.
+    fn shown(&self, worker: u8, reading: &Reading, text: &str);
+}
+
+/// The gate that holds nobody up.
+#[derive(Clone, Copy, Debug, Default)]
+pub struct OpenGate;
+
+impl Gate for OpenGate {
+    fn come(&self, _worker: u8, _call: u32) {}
+
+    fn shown(&self, _worker: u8, _reading: &Reading, _text: &str) {}
+}
