@@ -19,16 +19,17 @@ pub fn put_text<W: Sink>(sink: &mut W, text: &str) -> Result<(), RunFault>
     }
 }
 
-/// Writes a text after so many bytes, and tells how many bytes are out then. A number past `usize::MAX` is told as that.
-pub fn put_part<W: Sink>(sink: &mut W, before: usize, text: &str) -> Result<usize, RunFault>
-    ensures all { OnOk result (Appends (W.taken sink.old) (W.taken sink.new) text.now) }
-    ensures count { IfOk result (λ after. after ≡ min (before + length text.now) (2 ^ 64 - 1)) }
-    ensures part { IfErr result (IsStopped before (W.failed sink.new) (W.taken sink.old) (W.taken sink.new) text.now) }
+/// Writes a part of an output after so many bytes, and tells how many bytes are out then. A number past `usize::MAX` is told as
+/// that.
+pub fn put_part<W: Sink>(sink: &mut W, before: usize, part: &str) -> Result<usize, RunFault>
+    ensures all { OnOk result (Appends (W.taken sink.old) (W.taken sink.new) part.now) }
+    ensures count { IfOk result (λ after. after ≡ min (before + length part.now) (2 ^ 64 - 1)) }
+    ensures part { IfErr result (IsStopped before (W.failed sink.new) (W.taken sink.old) (W.taken sink.new) part.now) }
 {
-    match give_all(sink, text.as_bytes()) {
-        Ok(()) => Ok(before.saturating_add(text.len())),
-        Err(part) => Err(RunFault::WriteFailed {
-            written: before.saturating_add(part),
+    match give_all(sink, part.as_bytes()) {
+        Ok(()) => Ok(before.saturating_add(part.len())),
+        Err(more) => Err(RunFault::WriteFailed {
+            written: before.saturating_add(more),
         }),
     }
 }

@@ -1,9 +1,13 @@
 //! Texts, statuses, and runs over memory in place of the standard streams.
 
+mod nights;
+
 use crate::{Line, LineFault, RunFault, feed_run, line_of, program, show_run, status_of};
 use std::alloc::Global;
 use std::io;
+use std::sync::Wait;
 use std::test::Fail;
+use std::thread::Threads;
 use ucl_screen::{FromRead, InputFault, ToWrite, read_night, screen};
 use ucl_steps::{Call, Caller, Cast, Reply, Step, run_steps};
 use ucl_word::{EventCall, Kind, MatchNo, ReporterNo};
@@ -168,6 +172,18 @@ fn fault_lines_and_statuses(rt: HostRuntime) -> Result<(), Fail> {
             "writing failed 26: after 7 bytes",
             4,
         ),
+        (
+            RunFault::NotOnDuty { row: 45 },
+            "input refused 25: row 45",
+            3,
+        ),
+        (RunFault::NoThread, "no thread 27", 5),
+        (RunFault::TooManyReporters, "board refused 30", 6),
+        (
+            RunFault::Strangers { version: 6 },
+            "board refused 31: version 6",
+            6,
+        ),
     ];
     for (fault, line, status) in rows {
         let text = fault.to_string(rt.alloc())?;
@@ -185,6 +201,27 @@ fn command_lines(rt: HostRuntime) -> Result<(), Fail> {
         ("ucl_night show", Line::Show { group: b'A' }),
         ("ucl_night show --group A", Line::Show { group: b'A' }),
         ("ucl_night show --group H", Line::Show { group: b'H' }),
+        (
+            "ucl_night night",
+            Line::Night {
+                group: b'A',
+                readings: 0,
+            },
+        ),
+        (
+            "ucl_night night --group B --readings 3",
+            Line::Night {
+                group: b'B',
+                readings: 3,
+            },
+        ),
+        (
+            "ucl_night night --readings 1000 --group H",
+            Line::Night {
+                group: b'H',
+                readings: 1000,
+            },
+        ),
     ];
     for (line, asked) in taken {
         let words = words_of(alloc, line)?;
@@ -198,6 +235,7 @@ fn command_lines(rt: HostRuntime) -> Result<(), Fail> {
         "ucl_night help",
         "ucl_night feed --help",
         "ucl_night show --help",
+        "ucl_night night --help",
     ] {
         let words = words_of(alloc, line)?;
         assert!(rt;
@@ -208,7 +246,12 @@ fn command_lines(rt: HostRuntime) -> Result<(), Fail> {
     let refused = [
         "",
         "ucl_night",
-        "ucl_night night",
+        "ucl_night night --readings",
+        "ucl_night night --readings 1001",
+        "ucl_night night --readings -1",
+        "ucl_night night --readings three",
+        "ucl_night night --group I",
+        "ucl_night show --readings 3",
         "ucl_night show --group",
         "ucl_night show --group I",
         "ucl_night show --group a",
@@ -488,7 +531,8 @@ fn screen_of_a_reading(rt: HostRuntime) -> Result<(), Fail> {
 }
 
 /// What the program does for a line of words and an input: its status, its output and what it tells of errors.
-fn ran(
+fn ran<R: Threads + Wait + Sync>(
+    rt: &R,
     alloc: Global,
     line: &str,
     input: &[u8],
@@ -504,7 +548,7 @@ fn ran(
             piece: 64,
             room,
         });
-        program::run(alloc, &words, &mut source, &mut sink, &mut errors)
+        program::run(rt, alloc, &words, &mut source, &mut sink, &mut errors)
     };
     Ok((status, out, errors))
 }
@@ -513,37 +557,37 @@ fn ran(
 fn program_runs(rt: HostRuntime) -> Result<(), Fail> {
     let alloc = rt.alloc();
     let script = joined(alloc, CLUBS, TWO_MATCHES)?;
-    let (status, out, errors) = ran(alloc, "ucl_night feed", script.as_bytes(), usize::MAX)?;
+    let (status, out, errors) = ran(&rt, alloc, "ucl_night feed", script.as_bytes(), usize::MAX)?;
     assert_eq!(rt; status, 0);
     assert!(rt; out.as_slice() == TWO_MATCHES_OUT.as_bytes() && errors.is_empty());
 
-    let (status, out, errors) = ran(alloc, "ucl_night feed", b"", usize::MAX)?;
+    let (status, out, errors) = ran(&rt, alloc, "ucl_night feed", b"", usize::MAX)?;
     assert_eq!(rt; status, 3);
     assert!(rt; out.is_empty() && errors.as_slice() == b"input refused 20: row 1\n".as_slice());
 
-    let (status, out, errors) = ran(alloc, "ucl_night feed", script.as_bytes(), 3)?;
+    let (status, out, errors) = ran(&rt, alloc, "ucl_night feed", script.as_bytes(), 3)?;
     assert_eq!(rt; status, 4);
     assert!(rt; out.as_slice() == b"5 o".as_slice());
     assert!(rt; errors.as_slice() == b"writing failed 26: after 3 bytes\n".as_slice());
 
-    let (status, out, errors) = ran(alloc, "ucl_night show --group I", b"", usize::MAX)?;
+    let (status, out, errors) = ran(&rt, alloc, "ucl_night show --group I", b"", usize::MAX)?;
     assert_eq!(rt; status, 2);
     assert!(rt; out.is_empty() && !errors.is_empty());
 
     let sheet = joined(alloc, CLUBS, TWO_MATCHES_WORDS)?;
-    let (status, out, errors) = ran(alloc, "ucl_night show", sheet.as_bytes(), usize::MAX)?;
+    let (status, out, errors) = ran(&rt, alloc, "ucl_night show", sheet.as_bytes(), usize::MAX)?;
     assert_eq!(rt; status, 0);
     assert!(rt; out.as_slice() == TWO_MATCHES_SCREEN.as_bytes() && errors.is_empty());
 
-    let (status, out, errors) = ran(alloc, "ucl_night show", script.as_bytes(), usize::MAX)?;
+    let (status, out, errors) = ran(&rt, alloc, "ucl_night show", script.as_bytes(), usize::MAX)?;
     assert_eq!(rt; status, 3);
     assert!(rt; out.is_empty() && errors.as_slice() == b"input refused 20: row 5\n".as_slice());
 
-    let (status, out, errors) = ran(alloc, "ucl_night --help", b"", usize::MAX)?;
+    let (status, out, errors) = ran(&rt, alloc, "ucl_night --help", b"", usize::MAX)?;
     assert_eq!(rt; status, 0);
     assert!(rt; !out.is_empty() && errors.is_empty());
 
-    let (status, _, errors) = ran(alloc, "ucl_night --help", b"", 5)?;
+    let (status, _, errors) = ran(&rt, alloc, "ucl_night --help", b"", 5)?;
     assert_eq!(rt; status, 4);
     assert!(rt; errors.as_slice() == b"writing failed 26: after 5 bytes\n".as_slice());
     Ok(())

@@ -111,22 +111,34 @@ pub fn work<B: LiveBoard, G: Gate, R: Threads + Wait + Sync>(
                 group,
                 readings,
             };
-            let worker_1 = scope.spawn_with(enters_1, move || -> B::ReporterPass
-                requires { B.is_reporter board.now first × IsFresh (B.reporter first) }
-                ensures { B.is_reporter board.entry.now result × HasEntered (B.reporter first) (B.reporter result) 1 rows.entry.now.items }
-            { enter_rows(rt, board, first, 1, rows, gate) });
-            let worker_2 = scope.spawn_with(enters_2, move || -> B::ReporterPass
-                requires { B.is_reporter board.now second × IsFresh (B.reporter second) }
-                ensures { B.is_reporter board.entry.now result × HasEntered (B.reporter second) (B.reporter result) 2 rows.entry.now.items }
-            { enter_rows(rt, board, second, 2, rows, gate) });
-            let worker_3 = scope.spawn_with(shows_3, move || -> Result<Shown<B::ReaderPass>, OutOfMemory>
-                requires { (B.is_reader board.now left × ((B.reader left).shown ≡ [])) × IsGroup group }
-                ensures { IfOk result (λ end. B.is_reader board.entry.now end.pass × HasShown (B.reader left) (B.reader end.pass) readings roster.entry.now group (option_map string_bytes end.last)) }
-            { show_screens(rt, alloc, board, left, 3, readings, roster, group, gate) });
-            let worker_4 = scope.spawn_with(shows_4, move || -> Result<Shown<B::ReaderPass>, OutOfMemory>
-                requires { (B.is_reader board.now right × ((B.reader right).shown ≡ [])) × IsGroup group }
-                ensures { IfOk result (λ end. B.is_reader board.entry.now end.pass × HasShown (B.reader right) (B.reader end.pass) readings roster.entry.now group (option_map string_bytes end.last)) }
-            { show_screens(rt, alloc, board, right, 4, readings, roster, group, gate) });
+            let worker_1 = scope.spawn_with(
+                enters_1,
+                move || -> B::ReporterPass
+                    requires { B.is_reporter board.now first × IsFresh (B.reporter first) }
+                    ensures { B.is_reporter board.entry.now result × HasEntered (B.reporter first) (B.reporter result) 1 rows.entry.now.items }
+                { enter_rows(rt, board, first, 1, rows, gate) },
+            );
+            let worker_2 = scope.spawn_with(
+                enters_2,
+                move || -> B::ReporterPass
+                    requires { B.is_reporter board.now second × IsFresh (B.reporter second) }
+                    ensures { B.is_reporter board.entry.now result × HasEntered (B.reporter second) (B.reporter result) 2 rows.entry.now.items }
+                { enter_rows(rt, board, second, 2, rows, gate) },
+            );
+            let worker_3 = scope.spawn_with(
+                shows_3,
+                move || -> Result<Shown<B::ReaderPass>, OutOfMemory>
+                    requires { (B.is_reader board.now left × ((B.reader left).shown ≡ [])) × IsGroup group }
+                    ensures { IfOk result (λ end. B.is_reader board.entry.now end.pass × HasShown (B.reader left) (B.reader end.pass) readings roster.entry.now group (option_map string_bytes end.last)) }
+                { show_screens(rt, alloc, board, left, 3, readings, roster, group, gate) },
+            );
+            let worker_4 = scope.spawn_with(
+                shows_4,
+                move || -> Result<Shown<B::ReaderPass>, OutOfMemory>
+                    requires { (B.is_reader board.now right × ((B.reader right).shown ≡ [])) × IsGroup group }
+                    ensures { IfOk result (λ end. B.is_reader board.entry.now end.pass × HasShown (B.reader right) (B.reader end.pass) readings roster.entry.now group (option_map string_bytes end.last)) }
+                { show_screens(rt, alloc, board, right, 4, readings, roster, group, gate) },
+            );
             match (worker_1, worker_2, worker_3, worker_4) {
                 (Ok(one), Ok(two), Ok(three), Ok(four)) => Ok(Handed {
                     reporters: (one.join(rt), two.join(rt)),
