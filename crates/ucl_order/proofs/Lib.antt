@@ -12,3 +12,6 @@ pub mod Descending
 pub mod TieBreaks
 pub mod Unique
 pub mod Completions
+pub mod Packing
+pub mod Fitting
+pub mod Sets

@@ -7,4 +7,5 @@ pub mod Criteria
 pub mod Standing
 pub mod Marks
 pub mod Rows
+pub mod Keys
 pub mod Laws

@@ -4,6 +4,8 @@ ghost use Rattle.std.specs.Prelude.{◌≡◌, ℕ, ◌≤◌, ◌+◌, ◌*◌,
 ghost use Rattle.std.specs.Ordering.{int_cmp};
 ghost use Rattle.ucl_order.specs.Results.{results_of};
 ghost use Rattle.ucl_order.specs.Counting.{IsWithin, with_match};
+ghost use Rattle.ucl_order.specs.Keys.{slots_in};
+ghost use Rattle.ucl_order.specs.Order.{among};
 
 use crate::game::{Appearance, Match};
 use std::cmp::Ordering;
@@ -65,6 +67,21 @@ impl Results {
         let mut results = Results::NONE;
         for game in matches {
             if let Some(seen) = game.seen_by(club) {
+                results.add(&seen);
+            }
+        }
+        results
+    }
+
+    /// What the club has done in the matches between clubs of the set.
+    pub(crate) fn among(club: u8, clubs: &[bool; 4], matches: &[Match]) -> Results
+        requires { length matches.now ≤ 12 }
+        ensures value { result ≡ results_of club (among (slots_in clubs.now) matches.now) }
+        ensures few { IsWithin 12 result }
+    {
+        let mut results = Results::NONE;
+        for game in matches {
+            if let Some(seen) = game.seen_among(club, clubs) {
                 results.add(&seen);
             }
         }
