@@ -1,6 +1,5 @@
 pub mod Clubs
 pub mod Adding
-pub mod Comparing
 pub mod Rankings
 pub mod Classes
 pub mod Counting
@@ -15,3 +14,5 @@ pub mod Completions
 pub mod Packing
 pub mod Fitting
 pub mod Sets
+pub mod Rounds
+pub mod Sorting

@@ -3,7 +3,7 @@
 ghost use Rattle.std.specs.Prelude.{◌≡◌, ◌≤◌, All, length};
 ghost use Rattle.ucl_word.specs.Record.{IsValid};
 ghost use Rattle.ucl_order.specs.Keys.{seen_among, slots_in};
-ghost use Rattle.ucl_order.specs.Order.{among, is_in};
+ghost use Rattle.ucl_order.specs.Order.{is_in};
 ghost use Rattle.ucl_order.specs.Results.{finished, has_finished, has_started, is_drawn, is_lost, is_won, matches_of, penalty, seen_by, started, unfinished};
 
 use arrayvec::ArrayVec;
@@ -188,20 +188,6 @@ pub(crate) fn unfinished(matches: &[Match]) -> ArrayVec<Match, 12>
     let mut chosen = ArrayVec::new();
     for game in matches {
         if !game.has_finished() {
-            chosen.push(*game);
-        }
-    }
-    chosen
-}
-
-/// The matches in which both clubs are of the set.
-pub(crate) fn among(clubs: &[u8], matches: &[Match]) -> ArrayVec<Match, 12>
-    requires { length matches.now ≤ 12 }
-    ensures { result.items ≡ among clubs.now matches.now }
-{
-    let mut chosen = ArrayVec::new();
-    for game in matches {
-        if clubs.contains(&game.home) && clubs.contains(&game.away) {
             chosen.push(*game);
         }
     }
