@@ -14,5 +14,6 @@ pub mod Completions
 pub mod Packing
 pub mod Fitting
 pub mod Sets
+pub mod Alone
 pub mod Rounds
 pub mod Sorting
