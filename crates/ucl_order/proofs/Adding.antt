@@ -153,14 +153,6 @@ within_later m n r e h = record {
 
 -- What is read off such results. --
 
-pub points_of : (club : ℕ) (ms now : List Match) (r : Results) (p : ℕ) → now ≡ ms → r ≡ results_of club now → p ≡ 3 * r.wins + r.draws → p ≡ points club ms
-unfolding results_of
-points_of club ms now r p same is h = rw (h, is, same)
-
-pub reach_of : (club : ℕ) (ms now : List Match) (r : Results) (p : ℕ) → now ≡ unfinished ms → r ≡ results_of club now → p ≡ sure_points ms club → p + 3 * r.played ≡ reach ms club
-unfolding results_of
-reach_of club ms now r p same is h = rw (h, is, same)
-
 pub row_of_results : (place slot : ℕ) (mark : Mark) (ms : List Match) (r : Results) (p : ℕ) → r ≡ results_of slot ms → p ≡ 3 * r.wins + r.draws →
     record { slot = slot; place = place; mark = mark; played = r.played; wins = r.wins; draws = r.draws; losses = r.losses; goals_for = r.goals_for; goals_against = r.goals_against; points = p } ≡ row_with place slot mark ms
 unfolding results_of

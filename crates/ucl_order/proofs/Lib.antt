@@ -17,3 +17,4 @@ pub mod Sets
 pub mod Alone
 pub mod Rounds
 pub mod Sorting
+pub mod Marking

@@ -9,8 +9,8 @@ ghost use Rattle.ucl_order.specs.Results.{results_of, started};
 ghost use Rattle.ucl_order.specs.Rounds.{results_of_clubs};
 ghost use Rattle.ucl_order.specs.Rows.{IsWithinTable, row_with, rows_of};
 
-use crate::game::{Match, matches_of, started};
-use crate::mark::{Mark, mark_of};
+use crate::game::{matches_of, started};
+use crate::mark::{Mark, marks_of};
 use crate::order::order;
 use crate::results::Results;
 use crate::roster::Roster;
@@ -60,20 +60,20 @@ fn row_with(place: u8, slot: u8, mark: Mark, results: &Results) -> Row
     }
 }
 
-/// The row at this place of the order. The results are those of all clubs in the matches in play and finished.
-fn row_at(place: u8, order: &[u8; 4], matches: &[Match], results: &[Results; 4]) -> Row
+/// The row at this place of the order. The marks are by place, and the results are those of all clubs in the matches in play and
+/// finished.
+fn row_at(place: u8, order: &[u8; 4], marks: &[Mark; 4], results: &[Results; 4]) -> Row
     requires at_least { 1 ≤ place }
     requires at_most { place ≤ 4 }
     requires slots { All IsSlot order.now }
-    requires short { length matches.now ≤ 12 }
-    requires results { results.now ≡ results_of_clubs (started matches.now) }
     requires few { All (IsWithin 12) results.now }
-    ensures { let slot = slice_index order.now (place - 1) in
-        result ≡ row_with place slot (mark_by matches.now order.now slot) (started matches.now) }
+    ensures { (matches : List Match) → marks.now ≡ map (mark_by matches order.now) order.now → results.now ≡ results_of_clubs (started matches) →
+        let slot = slice_index order.now (place - 1) in
+        result ≡ row_with place slot (mark_by matches order.now slot) (started matches) }
 {
-    let slot = order[usize::from(place - 1)];
-    let mark = mark_of(matches, order, slot);
-    row_with(place, slot, mark, &results[usize::from(slot - 1)])
+    let index = usize::from(place - 1);
+    let slot = order[index];
+    row_with(place, slot, marks[index], &results[usize::from(slot - 1)])
 }
 
 /// The table of a board, in order of place.
@@ -98,10 +98,11 @@ pub fn standings(board: &Board, roster: &Roster) -> [Row; 4]
     let started = started(&matches);
     let results = Results::of_clubs(&started);
     let order = order(&started, &results, roster);
+    let marks = marks_of(&matches, &order);
     [
-        row_at(1, &order, &matches, &results),
-        row_at(2, &order, &matches, &results),
-        row_at(3, &order, &matches, &results),
-        row_at(4, &order, &matches, &results),
+        row_at(1, &order, &marks, &results),
+        row_at(2, &order, &marks, &results),
+        row_at(3, &order, &marks, &results),
+        row_at(4, &order, &marks, &results),
     ]
 }
