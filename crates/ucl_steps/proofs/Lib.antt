@@ -12,4 +12,5 @@ pub mod Keeping
 pub mod Stepping
 pub mod Runs
 pub mod Marks
+pub mod Walking
 pub mod Reachable

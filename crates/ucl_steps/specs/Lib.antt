@@ -1,5 +1,6 @@
 pub mod Trails
 pub mod Machine
+pub mod Marking
 pub mod Linearizable
 pub mod Traces
 pub mod Laws
