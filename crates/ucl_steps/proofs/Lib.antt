@@ -13,4 +13,5 @@ pub mod Stepping
 pub mod Runs
 pub mod Marks
 pub mod Walking
+pub mod Joining
 pub mod Reachable
