@@ -92,7 +92,7 @@ module _ (cast : Cast) (c : Caller) (k : ℕ) (a : CallRecord) where
     call_is = m.call_is;
   }
 
-  amid_replied : (x : Holds) (h h' : List Entry) (w v : MachineState) (p : ℕ) (r : Reply) → Amid cast c k a x h w → v.callers ≡ w.callers → v.calls ≡ w.calls → v.history ≡ h' → v.words ≡ board_of h'
+  pub amid_replied : (x : Holds) (h h' : List Entry) (w v : MachineState) (p : ℕ) (r : Reply) → Amid cast c k a x h w → v.callers ≡ w.callers → v.calls ≡ w.calls → v.history ≡ h' → v.words ≡ board_of h'
       → Amid cast c k (with_reply p r a) (Answered k) h' (after_reply c k p r v)
   amid_replied x h h' w v p r m callers calls history words =
       let held : held_by v.callers c ≡ Some x = ap (λ z. held_by z c) callers ∙ m.held_is in
@@ -110,10 +110,10 @@ module _ (cast : Cast) (c : Caller) (k : ℕ) (a : CallRecord) where
       abbrev own : List Step
       own = step_of c m.act ∷ []
 
-      now : length w.history ≡ m.at
+      pub now : length w.history ≡ m.at
       now = ap length amid.history_is ∙ length-take-le m.at h within
 
-      there : IsMatch m.game → word_at w.words m.game ≡ m.found
+      pub there : IsMatch m.game → word_at w.words m.game ≡ m.found
       there game = ap (λ (z : List ℕ). word_at z m.game) amid.words_are ∙ (word_after (take m.at h) m.game game ∙ sym found)
 
       -- the step leaves the mark
@@ -123,7 +123,7 @@ module _ (cast : Cast) (c : Caller) (k : ℕ) (a : CallRecord) where
           ap (λ (z : Caller). marks_holding s (held_by w.callers z) w) by ∙ (ap (λ (o : Option Holds). marks_holding s o w) amid.held_is ∙ (e
           ∙ ap (λ (z : Mark). z ∷ []) (mark_same m act game (word_at w.words game) (length w.history) act_is game_is (ap (word_at w.words) (sym game_is) ∙ there (subst IsMatch (sym game_is) match_is)) now)))
 
-      made : (s : Step) (act : Act) (game : ℕ) (w' : MachineState) → caller_of s ≡ c → m.act ≡ act → s ≡ step_of c act → m.game ≡ game → IsMatch game
+      pub made : (s : Step) (act : Act) (game : ℕ) (w' : MachineState) → caller_of s ≡ c → m.act ≡ act → s ≡ step_of c act → m.game ≡ game → IsMatch game
           → marks_holding s (Some x) w ≡ mark act game (word_at w.words game) (length w.history) ∷ [] → after_step_holding s (Some x) w ≡ Some w' → Reaches c w own (m ∷ []) w'
       made s act game w' by act_is step_is game_is match_is e done =
           subst (λ (z : Step). Reaches c w (z ∷ []) (m ∷ []) w') (step_is ∙ ap (step_of c) (sym act_is))
@@ -170,12 +170,12 @@ inner cast c k a h m within found (Checking j words i point) w amid y l =
       | inr t ↦ ap (λ (b : Bool). Some (cond b (cond (i == 11) done on) again)) (ne_eqb (slice_index w.words i) (slice_index words i) (λ z. t.0 (sym is ∙ z))) ∙ ap (λ (z : Holds). Some (with_held z c w)) (sym t.1)
     ])
 
-abbrev steps_of : Caller → List Mark → List Step
+abbrev pub steps_of : Caller → List Mark → List Step
 steps_of c ms = map (λ m. step_of c m.act) ms
 
 module _ (cast : Cast) (full : cast.reporters ≡ 255) (c : Caller) (k : ℕ) (a : CallRecord) (h : List Entry) (legal : IsLegal h) (low : ℕ) (none : NoneOwn c low h) where
   -- the steps of marks of which none is the call's last
-  walk : (ms : List Mark) (x y : Holds) (n : ℕ) (w : MachineState) → low ≤ n → Follows h n ms (length h) → Through c x ms y → Amid cast c k a x (take n h) w
+  pub walk : (ms : List Mark) (x y : Holds) (n : ℕ) (w : MachineState) → low ≤ n → Follows h n ms (length h) → Through c x ms y → Amid cast c k a x (take n h) w
       → (w' : MachineState) × Reaches c w (map (λ m. step_of c m.act) ms) ms w' × Amid cast c k a y (take (end_of n ms) h) w'
   walk [] x y n w le f t m = (w, reaches_none c w, subst (λ (z : Holds). Amid cast c k a z (take n h) w) t m)
   walk (m ∷ ms) x y n w le f t amid =

@@ -14,4 +14,5 @@ pub mod Runs
 pub mod Marks
 pub mod Walking
 pub mod Joining
+pub mod Calls
 pub mod Reachable
