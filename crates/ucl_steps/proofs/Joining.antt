@@ -1,42 +1,32 @@
 -- A call's marks are steps of the machine, from its beginning to its end.
-use Rattle.std.proofs.Common.{◌≡◌, ◌≢◌, ℕ, zero, suc, ◌+◌, ◌-◌, ◌<◌, ◌≤◌, ◌==◌, ◌&&◌, nat_le, Bool, true, false, cond, List, [], ◌∷◌, ◌++◌, take, length, map, Option, Some, None, ◌⊎◌, inl, inr, refl, sym, ap, ◌∙◌, subst, arith, append_assoc, append-nil, le_refl, eq-eqb, ne_eqb, get_or}
-use Rattle.std.specs.Prelude.{slice_get, slice_index, slice_set}
-use Rattle.std.proofs.lemmas.Option.{same_Some}
-use Rattle.std.proofs.lemmas.Bool.{and_parts, leb-true, false≢true}
-use Rattle.std.proofs.lemmas.List.{length-take-le, map-append, length_push, ext_get_or}
-use Rattle.ucl_word.proofs.Sequences.{at_end}
-use Rattle.ucl_word.specs.declared.record.MatchRecord.{MatchRecord}
+use Rattle.std.proofs.Common.{◌≡◌, ◌≢◌, ℕ, ◌+◌, ◌-◌, ◌<◌, ◌≤◌, ◌==◌, Bool, cond, List, [], ◌∷◌, ◌++◌, take, length, map, Option, Some, None, ◌⊎◌, inl, inr, refl, sym, ap, ◌∙◌, subst, arith, le_refl, eq-eqb, ne_eqb}
+use Rattle.std.specs.Prelude.{slice_get, slice_index}
+use Rattle.std.proofs.lemmas.List.{length-take-le}
 use Rattle.ucl_word.specs.declared.event.EventCall.{EventCall}
-use Rattle.ucl_word.specs.declared.event.Accepted as word
 use Rattle.ucl_word.specs.declared.refusal.Refusal.{Refusal}
-use Rattle.ucl_word.specs.declared.refusal.Refusal.TheVariants.{Stale}
-use Rattle.ucl_word.specs.Rules.{refusal_of, after, answer, reply_of}
+use Rattle.ucl_word.specs.Rules.{refusal_of, after}
 use Rattle.ucl_word.specs.Layout.{word_of, record_at}
 use Rattle.ucl_board.specs.declared.entry.Entry.{Entry}
-use Rattle.ucl_board.specs.declared.reading.Reading as board
 use Rattle.ucl_board.specs.Fixtures.{IsMatch}
 use Rattle.ucl_board.specs.Words.{word_at, version_of}
-use Rattle.ucl_board.specs.History.{match_after, board_of, IsLegal, MayFollow, followed_by, entry_of}
+use Rattle.ucl_board.specs.History.{board_of, IsLegal}
 use Rattle.ucl_board.proofs.Histories.{word_after}
 use Rattle.ucl_steps.specs.declared.step.Cast.{Cast}
 use Rattle.ucl_steps.specs.declared.step.Caller.{Caller}
 use Rattle.ucl_steps.specs.declared.step.Caller.TheVariants.{Reporter, Reader}
-use Rattle.ucl_steps.specs.declared.step.Call.{Call}
-use Rattle.ucl_steps.specs.declared.step.Call.TheVariants.{Event, Reading}
 use Rattle.ucl_steps.specs.declared.step.Step.{Step}
-use Rattle.ucl_steps.specs.declared.step.Step.TheVariants.{Begin, Look, Swap, First, Second, End}
+use Rattle.ucl_steps.specs.declared.step.Step.TheVariants.{Look, First, Second}
 use Rattle.ucl_steps.specs.declared.trace.CallRecord.{CallRecord}
 use Rattle.ucl_steps.specs.declared.trace.Reply.{Reply}
-use Rattle.ucl_steps.specs.declared.trace.Reply.TheVariants.{Accepted, Refused, Copied}
-use Rattle.ucl_steps.specs.Machine.{Holds, Idle, Wanting, Holding, Collecting, Checking, Answered, MachineState, held_by, with_held, change_at, with_reply, with_end, may_begin, held_at_begin, after_begin, after_rules, after_reply, after_end, after_step_holding, caller_of, after_step, after_steps}
+use Rattle.ucl_steps.specs.declared.trace.Reply.TheVariants.{Copied}
+use Rattle.ucl_steps.specs.Machine.{Holds, Idle, Wanting, Holding, Collecting, Checking, Answered, MachineState, held_by, with_held, with_reply, after_rules, after_reply, after_step_holding, caller_of}
 use Rattle.ucl_steps.specs.Trails as trail
 use Rattle.ucl_steps.specs.Trails.{Act, Mark, mark, Does, IsFoundIn, Follows, IsCollect, IsUnclean, IsClean, marks_of, ReadingMarks}
-use Rattle.ucl_steps.specs.Marking.{step_of, marks_holding, marks_of_step, IsInCast, IsAtRest, NoneOwn, history_after}
-use Rattle.ucl_steps.proofs.Histories.{read_back}
+use Rattle.ucl_steps.specs.Marking.{step_of, marks_holding, marks_of_step, NoneOwn}
 use Rattle.ucl_steps.proofs.Changing.{change_at_here}
-use Rattle.ucl_steps.proofs.Callers.{same_caller, held_here, held_else}
+use Rattle.ucl_steps.proofs.Callers.{held_here, held_else}
 use Rattle.ucl_steps.proofs.Marks.{follows_ends}
-use Rattle.ucl_steps.proofs.Walking.{steps_on, Reaches, reaches_none, reaches_on, reaches_own, Amid, until}
+use Rattle.ucl_steps.proofs.Walking.{Reaches, reaches_none, reaches_on, reaches_own, Amid, until}
 
 -- what a caller holds after a mark, where the mark is not the call's last
 

@@ -1,5 +1,5 @@
 -- Marks along a history, and what clean and unclean tries show.
-use Rattle.std.proofs.Common.{◌≡◌, ◌≢◌, ℕ, zero, suc, ◌+◌, ◌-◌, ◌*◌, ◌<◌, ◌≤◌, List, [], ◌∷◌, ◌++◌, take, length, Option, Some, None, Result, Ok, Err, ◌⊎◌, inl, inr, refl, sym, ap, ◌∙◌, subst, arith, length-append, le_refl, get_or, set, get_or-set_other}
+use Rattle.std.proofs.Common.{◌≡◌, ◌≢◌, ℕ, zero, suc, ◌+◌, ◌-◌, ◌*◌, ◌<◌, ◌≤◌, List, [], ◌∷◌, ◌++◌, take, length, Option, Some, None, Result, Ok, Err, inl, inr, refl, sym, ap, ◌∙◌, subst, arith, length-append, le_refl, get_or, get_or-set_other}
 use Rattle.std.specs.Prelude.{slice_get, slice_index, slice_set, IsOk}
 use Rattle.std.specs.List.{AllByRecursion}
 use Rattle.std.proofs.lemmas.Option.{none-some, same_Some}
@@ -8,7 +8,6 @@ use Rattle.std.proofs.lemmas.List.{take-append-le}
 use Rattle.std.proofs.Math.Seq.{take-length}
 use mathlib.Core.List.{IsPrefix}
 use Rattle.ucl_word.specs.declared.record.MatchRecord.{MatchRecord}
-use Rattle.ucl_word.specs.declared.event.EventCall.{EventCall}
 use Rattle.ucl_word.specs.declared.event.Accepted.{Accepted}
 use Rattle.ucl_word.specs.declared.refusal.Refusal.{Refusal}
 use Rattle.ucl_word.specs.declared.refusal.Refusal.TheVariants.{Stale}
@@ -17,12 +16,12 @@ use Rattle.ucl_word.specs.Layout.{word_of, record_at}
 use Rattle.ucl_word.proofs.Sequences.{at_below, at_longer, at_end, at_either}
 use Rattle.ucl_board.specs.declared.entry.Entry.{Entry}
 use Rattle.ucl_board.specs.declared.reading.Reading.{Reading}
-use Rattle.ucl_board.specs.History.{match_after, board_of, IsLegal, sequential_reply, snapshot_at}
+use Rattle.ucl_board.specs.History.{match_after, board_of, IsLegal}
 use Rattle.ucl_board.proofs.HistoryLaws.{versions, same_number}
 use Rattle.ucl_steps.proofs.Lists.{get_some}
 use Rattle.ucl_steps.proofs.Histories.{number_expected, is_stale, legal_beginning, read_back, squeezed, board_from}
-use Rattle.ucl_steps.specs.Trails.{Act, First, Second, Mark, Does, IsFoundIn, Follows, LookRefused, SwapMissed, SwapWon, ReportMarks, decided_at, IsCollect, IsBroken, IsUnclean, IsClean, marks_of, ReadingMarks}
-use Rattle.ucl_steps.specs.Laws.{UncleanTriesSeeMore, UncleanTriesAreFew, IsReadFrom, ReadingsAreSnapshots, ReportsAreSequential}
+use Rattle.ucl_steps.specs.Trails.{Act, Mark, Does, IsFoundIn, Follows, IsCollect, IsUnclean, IsClean, marks_of}
+use Rattle.ucl_steps.specs.Laws.{UncleanTriesSeeMore, UncleanTriesAreFew, ReadingsAreSnapshots, ReportsAreSequential}
 
 -- marks along a history
 
@@ -193,7 +192,7 @@ reading_whole h low high reading ms legal le f marks =
 
 -- reports
 
-none_of_ok : (n : ℕ) (o : Option Refusal) → IsOk (answer n o) → o ≡ None
+pub none_of_ok : (n : ℕ) (o : Option Refusal) → IsOk (answer n o) → o ≡ None
 none_of_ok n None is = refl
 none_of_ok n (Some r) is = absurd (false≢true is)
 

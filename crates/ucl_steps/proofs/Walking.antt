@@ -1,12 +1,12 @@
 -- Runs of the machine put together: steps of others that enter events, and the steps of one caller.
-use Rattle.std.proofs.Common.{◌≡◌, ◌≢◌, ℕ, zero, suc, ◌+◌, ◌-◌, ◌<◌, ◌≤◌, ◌==◌, ◌&&◌, nat_le, Bool, true, false, cond, List, [], ◌∷◌, ◌++◌, take, length, map, Option, Some, None, ◌⊎◌, inl, inr, refl, sym, ap, ◌∙◌, subst, arith, append_assoc, append-nil, le_refl, eq-eqb, ne_eqb}
-use Rattle.std.specs.Prelude.{slice_get, slice_index, slice_set, filter}
+use Rattle.std.proofs.Common.{◌≡◌, ◌≢◌, ℕ, zero, suc, ◌+◌, ◌-◌, ◌≤◌, ◌&&◌, nat_le, Bool, true, false, cond, List, [], ◌∷◌, ◌++◌, take, length, Option, Some, None, inl, inr, refl, sym, ap, ◌∙◌, subst, arith, append_assoc, append-nil, eq-eqb, ne_eqb}
+use Rattle.std.specs.Prelude.{slice_get, slice_set}
 use Rattle.std.specs.List.{AllByRecursion}
 use Rattle.std.specs.Option.{option_and_then}
-use Rattle.std.proofs.lemmas.Option.{none-some, same_Some, option_and_then_some}
+use Rattle.std.proofs.lemmas.Option.{same_Some, option_and_then_some}
 use Rattle.std.proofs.lemmas.Bool.{le-leb}
 use Rattle.std.proofs.lemmas.List.Elements.{filter-append}
-use Rattle.ucl_word.proofs.Sequences.{at_below, at_longer, at_end}
+use Rattle.ucl_word.proofs.Sequences.{at_below, at_longer}
 use Rattle.ucl_word.specs.declared.event.EventCall.{EventCall}
 use Rattle.ucl_word.specs.Rules.{refusal_of, after}
 use Rattle.ucl_word.specs.Layout.{word_of, record_at}
@@ -20,17 +20,16 @@ use Rattle.ucl_board.proofs.Histories.{word_after}
 use Rattle.ucl_steps.specs.declared.step.Cast.{Cast}
 use Rattle.ucl_steps.specs.declared.step.Caller.{Caller}
 use Rattle.ucl_steps.specs.declared.step.Caller.TheVariants.{Reporter, Reader}
-use Rattle.ucl_steps.specs.declared.step.Call.{Call}
-use Rattle.ucl_steps.specs.declared.step.Call.TheVariants.{Event, Reading}
+use Rattle.ucl_steps.specs.declared.step.Call.TheVariants.{Event}
 use Rattle.ucl_steps.specs.declared.step.Step.{Step}
-use Rattle.ucl_steps.specs.declared.step.Step.TheVariants.{Begin, Look, Swap, First, Second, End}
+use Rattle.ucl_steps.specs.declared.step.Step.TheVariants.{Begin, Look, Swap, End}
 use Rattle.ucl_steps.specs.declared.trace.CallRecord.{CallRecord}
 use Rattle.ucl_steps.specs.declared.trace.Reply.TheVariants.{Accepted, Refused}
-use Rattle.ucl_steps.specs.Machine.{Holds, Idle, Wanting, Holding, Answered, MachineState, held_by, set_held, with_held, change_at, with_reply, with_end, may_begin, after_begin, after_rules, after_reply, after_end, after_step_holding, caller_of, after_step, after_steps}
+use Rattle.ucl_steps.specs.Machine.{Holds, Idle, Wanting, Holding, Answered, MachineState, held_by, with_held, change_at, with_reply, with_end, may_begin, after_begin, after_rules, after_reply, after_end, after_step_holding, caller_of, after_step, after_steps}
 use Rattle.ucl_steps.specs.Trails.{Mark}
-use Rattle.ucl_steps.specs.Marking.{is_caller, own_steps, marks_of_step, marks_left, IsInCast, IsAtRest, NoneOwn}
+use Rattle.ucl_steps.specs.Marking.{is_caller, own_steps, marks_of_step, marks_left, IsInCast, NoneOwn}
 use Rattle.ucl_steps.proofs.Lists.{get_some, take_one}
-use Rattle.ucl_steps.proofs.Histories.{legal_snoc, legal_beginning, read_back, board_next}
+use Rattle.ucl_steps.proofs.Histories.{legal_beginning, read_back, board_next}
 use Rattle.ucl_steps.proofs.Changing.{change_at_else}
 use Rattle.ucl_steps.proofs.Callers.{same_caller, held_here, held_else}
 
@@ -49,7 +48,7 @@ is_caller_else (Reader n) (Reporter m) not = refl
 pub steps_on : (s : Step) (steps : List Step) (w v u : MachineState) → after_step w s ≡ Some v → after_steps steps v ≡ Some u → after_steps (s ∷ steps) w ≡ Some u
 steps_on s steps w v u one rest = ap (option_and_then (after_steps steps)) one ∙ rest
 
-steps_append : (xs ys : List Step) (w v : MachineState) → after_steps xs w ≡ Some v → after_steps (xs ++ ys) w ≡ after_steps ys v
+pub steps_append : (xs ys : List Step) (w v : MachineState) → after_steps xs w ≡ Some v → after_steps (xs ++ ys) w ≡ after_steps ys v
 steps_append [] ys w v e = ap (after_steps ys) (same_Some w v e)
 steps_append (s ∷ xs) ys w v e = option_and_then_some (after_steps xs) (after_step w s) v e (λ u is rest. ap (option_and_then (after_steps (xs ++ ys))) is ∙ steps_append xs ys u v rest)
 
@@ -148,22 +147,24 @@ entered w e legal may words held =
     let s3 : after_step w2 (Swap d) ≡ Some w3 = ap (λ (o : Option Holds). after_step_holding (Swap d) o w2) h2 ∙ ap (λ (b : Bool). Some (cond b w3 lost)) (eq-eqb old old refl) in
     let h3 : held_by w3.callers d ≡ Some (Answered k) = held_here w2.callers d (Holding k call old new) (Answered k) h2 in
     let w4 = after_end d k w3 in
-    let s4 : after_step w3 (End d) ≡ Some w4 = ap (λ (o : Option Holds). after_step_holding (End d) o w3) h3 in
-    (w4, record {
-      steps = Begin d (Event call) ∷ Look d ∷ Swap d ∷ End d ∷ [];
-      run = steps_on (Begin d (Event call)) (Look d ∷ Swap d ∷ End d ∷ []) w w1 w4 s1 (steps_on (Look d) (Swap d ∷ End d ∷ []) w1 w2 w4 s2 (steps_on (Swap d) (End d ∷ []) w2 w3 w4 s3 (steps_on (End d) [] w3 w4 w4 s4 refl)));
-      by_it = (refl, (refl, (refl, (refl, tt))));
-      history_is = refl;
-      words_are = ap (λ (z : List ℕ). slice_set z (g - 1) new) words ∙ (ap (λ (m : MatchRecord). slice_set (board_of h) (g - 1) (word_of (after m r e.kind))) is_old ∙ sym (board_next h e legal may));
-      idle = held_here w3.callers d (Answered k) Idle h3;
-      others = λ b not. held_else w3.callers d b Idle (Answered k) h3 not ∙ (held_else w2.callers d b (Answered k) (Holding k call old new) h2 not
-          ∙ (held_else w1.callers d b (Holding k call old new) (Wanting k call) h1 not ∙ held_else w.callers d b (Wanting k call) Idle held not));
-      calls = λ i a at.
-          let below = at_below w.calls i a at in
-          let not : i ≢ k = λ z. omega arith in
-          change_at_else k (with_end (length (followed_by h e))) (change_at k (with_reply (length h) reply) w1.calls) i a not
-          (change_at_else k (with_reply (length h) reply) w1.calls i a not (at_longer w.calls (record { caller = d; call = Event call; begun = length h; point = None; reply = None; ended = None } ∷ []) i a at));
-    })
+    let s4 : after_step w3 (End d) ≡ Some w4 = ap (λ (o : Option Holds). after_step_holding (End d) o w3) h3 in (
+      w4,
+      record {
+        steps = Begin d (Event call) ∷ Look d ∷ Swap d ∷ End d ∷ [];
+        run = steps_on (Begin d (Event call)) (Look d ∷ Swap d ∷ End d ∷ []) w w1 w4 s1 (steps_on (Look d) (Swap d ∷ End d ∷ []) w1 w2 w4 s2 (steps_on (Swap d) (End d ∷ []) w2 w3 w4 s3 (steps_on (End d) [] w3 w4 w4 s4 refl)));
+        by_it = (refl, (refl, (refl, (refl, tt))));
+        history_is = refl;
+        words_are = ap (λ (z : List ℕ). slice_set z (g - 1) new) words ∙ (ap (λ (m : MatchRecord). slice_set (board_of h) (g - 1) (word_of (after m r e.kind))) is_old ∙ sym (board_next h e legal may));
+        idle = held_here w3.callers d (Answered k) Idle h3;
+        others = λ b not. held_else w3.callers d b Idle (Answered k) h3 not ∙ (held_else w2.callers d b (Answered k) (Holding k call old new) h2 not
+            ∙ (held_else w1.callers d b (Holding k call old new) (Wanting k call) h1 not ∙ held_else w.callers d b (Wanting k call) Idle held not));
+        calls = λ i a at.
+            let below = at_below w.calls i a at in
+            let not : i ≢ k = λ z. omega arith in
+            change_at_else k (with_end (length (followed_by h e))) (change_at k (with_reply (length h) reply) w1.calls) i a not
+            (change_at_else k (with_reply (length h) reply) w1.calls i a not (at_longer w.calls (record { caller = d; call = Event call; begun = length h; point = None; reply = None; ended = None } ∷ []) i a at));
+      },
+    )
 
 -- a caller is within its call, and all others are idle
 pub record Amid (cast : Cast) (c : Caller) (k : ℕ) (a : CallRecord) (x : Holds) (history : List Entry) (w : MachineState) : Type 0 where
@@ -181,17 +182,20 @@ module _ (cast : Cast) (full : cast.reporters ≡ 255) (c : Caller) (k : ℕ) (a
       let in_cast : IsInCast cast (Reporter e.reporter) = (reporter.0, omega arith) in
       let back = sym m.history_is in
       let t = entered w e (subst IsLegal back legal) (subst (λ (z : List Entry). MayFollow z e) back may) (m.words_are ∙ ap board_of back) (m.others (Reporter e.reporter) not in_cast) in
-      let u = t.1 in
-      (t.0, reaches_else c (Reporter e.reporter) w t.0 u.steps not u.by_it u.run, record {
-        history_is = u.history_is ∙ ap (λ (z : List Entry). followed_by z e) m.history_is;
-        words_are = u.words_are ∙ ap (λ (z : List Entry). board_of (followed_by z e)) m.history_is;
-        held_is = u.others c (λ is. not (sym is)) ∙ m.held_is;
-        others = λ d other inside. elim (same_caller d (Reporter e.reporter)) [
-          | inl is ↦ ap (held_by t.0.callers) is ∙ u.idle
-          | inr apart ↦ u.others d apart ∙ m.others d other inside
-        ];
-        call_is = u.calls k a m.call_is;
-      })
+      let u = t.1 in (
+        t.0,
+        reaches_else c (Reporter e.reporter) w t.0 u.steps not u.by_it u.run,
+        record {
+          history_is = u.history_is ∙ ap (λ (z : List Entry). followed_by z e) m.history_is;
+          words_are = u.words_are ∙ ap (λ (z : List Entry). board_of (followed_by z e)) m.history_is;
+          held_is = u.others c (λ is. not (sym is)) ∙ m.held_is;
+          others = λ d other inside. elim (same_caller d (Reporter e.reporter)) [
+            | inl is ↦ ap (held_by t.0.callers) is ∙ u.idle
+            | inr apart ↦ u.others d apart ∙ m.others d other inside
+          ];
+          call_is = u.calls k a m.call_is;
+        },
+      )
 
   module _ (h : List Entry) (legal : IsLegal h) (low : ℕ) (none : NoneOwn c low h) where
     -- the others enter what comes meanwhile

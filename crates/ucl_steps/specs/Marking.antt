@@ -1,5 +1,5 @@
 -- The marks that steps of the machine leave, and calls that are made by steps.
-use Rattle.std.specs.Prelude.{◌≡◌, ◌≢◌, ℕ, ◌+◌, ◌≤◌, ◌==◌, Bool, true, false, if◌then◌else◌, List, [], ◌∷◌, ◌++◌, map, filter, length, Option, Some, None, Ok, Err, slice_get}
+use Rattle.std.specs.Prelude.{◌≡◌, ◌≢◌, ℕ, ◌+◌, ◌≤◌, ◌==◌, Bool, false, if◌then◌else◌, List, [], ◌∷◌, ◌++◌, map, filter, length, Option, Some, None, Ok, Err, slice_get}
 use Rattle.ucl_board.specs.declared.entry.Entry.{Entry}
 use Rattle.ucl_board.specs.Words.{word_at}
 use Rattle.ucl_board.specs.History.{board_of, entry_of}
@@ -12,7 +12,7 @@ use Rattle.ucl_steps.specs.declared.step.Step.{Step}
 use Rattle.ucl_steps.specs.declared.step.Step.TheVariants.{Begin, Look, Swap, First, Second, End}
 use Rattle.ucl_steps.specs.declared.trace.Reply.{Reply}
 use Rattle.ucl_steps.specs.declared.trace.Reply.TheVariants.{Accepted, Refused, Copied}
-use Rattle.ucl_steps.specs.Machine.{Holds, Idle, Wanting, Holding, Collecting, Checking, Answered, MachineState, held_by, caller_of, after_step, after_steps}
+use Rattle.ucl_steps.specs.Machine.{Holds, Idle, Wanting, Holding, Collecting, Checking, MachineState, held_by, caller_of, after_step, after_steps}
 use Rattle.ucl_steps.specs.Trails as trail
 use Rattle.ucl_steps.specs.Trails.{Act, Mark, mark, ReportMarks, ReadingMarks}
 

@@ -1,6 +1,6 @@
 //! What holds of every list of steps. The functions do nothing: each is there for its contract.
 
-ghost use Rattle.ucl_steps.specs.Laws.{RunsAreLinearizable, WordsAreOfTheHistory, UncleanTriesSeeMore, UncleanTriesAreFew, ReadingsAreSnapshots, ReportsAreSequential};
+ghost use Rattle.ucl_steps.specs.Laws.{RunsAreLinearizable, WordsAreOfTheHistory, UncleanTriesSeeMore, UncleanTriesAreFew, ReadingsAreSnapshots, ReportsAreSequential, CallsAreSteps, HistoriesAreReached};
 
 /// Whatever steps the callers take, in whatever order, and wherever the list is cut: one legal history of the board of
 /// one thread holds each finished call once, with the reply that it got, between its beginning and its end; each
@@ -37,4 +37,17 @@ pub fn readings_are_snapshots()
 /// at its last step.
 pub fn reports_are_sequential()
     ensures { ReportsAreSequential }
+{}
+
+/// The steps that a call makes on a shared board are steps of the machine. Let a caller's marks, reply and history agree
+/// as the calls of a shared board say. From every state with idle callers and an earlier part of that history there is a
+/// run of the machine in which the caller begins the call, takes the step of each mark, one after the other, which finds
+/// the mark's word at the mark's place, and ends the call with that reply. In between, other callers enter what else came.
+pub fn calls_are_steps()
+    ensures { CallsAreSteps }
+{}
+
+/// Steps of the machine lead from the fresh board to idle callers after any legal history.
+pub fn histories_are_reached()
+    ensures { HistoriesAreReached }
 {}
