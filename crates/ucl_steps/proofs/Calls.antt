@@ -6,6 +6,7 @@ use Rattle.std.proofs.lemmas.Option.{none-some, same_Some}
 use Rattle.std.proofs.lemmas.Bool.{false≢true, and_parts, leb-true}
 use Rattle.std.proofs.lemmas.List.{length-take-le, map-append, length-map, length_push, ext_get_or}
 use Rattle.std.proofs.Math.Seq.{take-length}
+use mathlib.Core.List.{IsPrefix}
 use Rattle.ucl_word.proofs.Sequences.{at_end, at_longer}
 use Rattle.ucl_word.specs.declared.record.MatchRecord.{MatchRecord}
 use Rattle.ucl_word.specs.declared.event.EventCall.{EventCall}
@@ -36,12 +37,12 @@ use Rattle.ucl_steps.specs.Linearizable.{is_accepted}
 use Rattle.ucl_steps.specs.Laws.{CallsAreSteps, HistoriesAreReached}
 use Rattle.ucl_steps.specs.Trails as trail
 use Rattle.ucl_steps.specs.Trails.{LookRefused, SwapMissed, SwapWon, Act, Mark, Does, IsFoundIn, Follows, IsCollect, IsUnclean, IsClean, marks_of, ReadingMarks}
-use Rattle.ucl_steps.specs.Marking.{step_of, IsInCast, IsAtRest, NoneOwn, entry_by, history_after, point_of, IsMadeBySteps}
+use Rattle.ucl_steps.specs.Marking.{step_of, IsInCast, IsAtRest, NoneOwn, entry_by, history_after, point_of, Leaves, IsMadeBySteps}
 use Rattle.ucl_steps.proofs.Lists.{get_some, take_one}
 use Rattle.ucl_steps.proofs.Histories.{number_expected, legal_beginning, legal_snoc, number_is, match_next, read_back, board_next, board_none, version_is}
 use Rattle.ucl_steps.proofs.Changing.{change_at_here}
 use Rattle.ucl_steps.proofs.Callers.{same_caller, held_here, held_else}
-use Rattle.ucl_steps.proofs.Marks.{none_of_ok, follows_ends, found_record, clean_shows, follows_parts}
+use Rattle.ucl_steps.proofs.Marks.{found_shorter, none_of_ok, follows_ends, found_record, clean_shows, follows_parts}
 use Rattle.ucl_steps.proofs.Walking.{steps_append, Entered, entered, Reaches, reaches_none, reaches_on, reaches_own, Amid, until}
 use Rattle.ucl_steps.proofs.Joining.{Through, through_append, end_of, follows_rest, amid_replied, now, there, made, walk, steps_of}
 
@@ -493,14 +494,27 @@ reading_made cast c reading ms h low w full inside may legal none follows marks 
     (copied cast c k (began c Reading (length w.history)) h m tail.1.2 tail.1.1 ws p reading is_m.0 (is_m.1 ∙ ap (λ (z : List ℕ). slice_index z 11) board_is) board_is version))
     (not_accepted (Copied reading) h m.at refl)
 
+-- an accepted event's marks are within the history before its entry
+accepted_follows : (r : ℕ) (e : EventCall) (reply : word.Accepted) (ms : List Mark) (h : List Entry) (low : ℕ) → Leaves (Reporter r) (Event e) (Accepted reply) ms h low → Follows h low ms (length h)
+accepted_follows r e reply ms h low leaves =
+    let won = leaves.shape in
+    let h' = followed_by h (entry_of (r, e)) in
+    let longer : IsPrefix h h' = (entry_of (r, e) ∷ [], refl) in
+    let t : Follows h' low (won.looked ∷ won.swapped ∷ []) (length h') = subst (λ (z : List Mark). Follows h' low z (length h')) won.marks leaves.follows in
+    let last = won.last in
+    let long = length_push h (entry_of (r, e)) in
+    let middle = t.2.0 in
+    subst (λ (z : List Mark). Follows h low z (length h)) (sym won.marks)
+    (t.0, found_shorter h h' won.looked longer (omega arith) t.1, (t.2.0, found_shorter h h' won.swapped longer (omega arith) t.2.1, omega arith))
+
 pub calls_made : CallsAreSteps
-calls_made cast (Reporter r) (Event e) (Accepted reply) ms h low w full inside may legal none follows marks rest = event_accepted cast r e reply ms h low w full inside may legal none follows marks rest
-calls_made cast (Reporter r) (Event e) (Refused refusal) ms h low w full inside may legal none follows marks rest = event_refused cast r e refusal ms h low w full inside may legal none follows marks rest
-calls_made cast (Reporter r) (Event e) (Copied reading) ms h low w full inside may legal none follows marks rest = absurd marks
-calls_made cast (Reader n) (Event e) reply ms h low w full inside may legal none follows marks rest = absurd (false≢true may)
-calls_made cast (Reporter r) Reading (Copied reading) ms h low w full inside may legal none follows marks rest = reading_made cast (Reporter r) reading ms h low w full inside may legal none follows marks rest
-calls_made cast (Reader n) Reading (Copied reading) ms h low w full inside may legal none follows marks rest = reading_made cast (Reader n) reading ms h low w full inside may legal none follows marks rest
-calls_made cast (Reporter r) Reading (Accepted reply) ms h low w full inside may legal none follows marks rest = absurd marks
-calls_made cast (Reader n) Reading (Accepted reply) ms h low w full inside may legal none follows marks rest = absurd marks
-calls_made cast (Reporter r) Reading (Refused refusal) ms h low w full inside may legal none follows marks rest = absurd marks
-calls_made cast (Reader n) Reading (Refused refusal) ms h low w full inside may legal none follows marks rest = absurd marks
+calls_made cast (Reporter r) (Event e) (Accepted reply) ms h low w full inside may legal none leaves rest = event_accepted cast r e reply ms h low w full inside may legal none (accepted_follows r e reply ms h low leaves) leaves.shape rest
+calls_made cast (Reporter r) (Event e) (Refused refusal) ms h low w full inside may legal none leaves rest = event_refused cast r e refusal ms h low w full inside may legal none leaves.follows leaves.shape rest
+calls_made cast (Reporter r) (Event e) (Copied reading) ms h low w full inside may legal none leaves rest = absurd leaves.shape
+calls_made cast (Reader n) (Event e) reply ms h low w full inside may legal none leaves rest = absurd (false≢true may)
+calls_made cast (Reporter r) Reading (Copied reading) ms h low w full inside may legal none leaves rest = reading_made cast (Reporter r) reading ms h low w full inside may legal none leaves.follows leaves.shape rest
+calls_made cast (Reader n) Reading (Copied reading) ms h low w full inside may legal none leaves rest = reading_made cast (Reader n) reading ms h low w full inside may legal none leaves.follows leaves.shape rest
+calls_made cast (Reporter r) Reading (Accepted reply) ms h low w full inside may legal none leaves rest = absurd leaves.shape
+calls_made cast (Reader n) Reading (Accepted reply) ms h low w full inside may legal none leaves rest = absurd leaves.shape
+calls_made cast (Reporter r) Reading (Refused refusal) ms h low w full inside may legal none leaves rest = absurd leaves.shape
+calls_made cast (Reader n) Reading (Refused refusal) ms h low w full inside may legal none leaves rest = absurd leaves.shape

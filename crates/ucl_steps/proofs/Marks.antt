@@ -32,6 +32,10 @@ follows_ends h low high (m ∷ ms) f = let a = f.0 in let b = follows_ends h m.a
 prefix_take : (h h' : List Entry) (k : ℕ) → IsPrefix h h' → k ≤ length h → take k h' ≡ take k h
 prefix_take h h' k p le = ap (take k) (sym p.1) ∙ take-append-le k h p.0 le
 
+-- a word that was found in a longer history, at a place within this one
+pub found_shorter : (h h' : List Entry) (m : Mark) → IsPrefix h h' → m.at ≤ length h → IsFoundIn h' m → IsFoundIn h m
+found_shorter h h' m p le found = found ∙ ap (λ (z : List Entry). word_of (match_after z m.game)) (prefix_take h h' m.at p le)
+
 -- the history may be longer
 pub follows_longer : (h h' : List Entry) (low high : ℕ) (ms : List Mark) → IsPrefix h h' → high ≤ length h → Follows h low ms high → Follows h' low ms high
 follows_longer h h' low high [] p le f = f

@@ -13,7 +13,7 @@ use Rattle.ucl_steps.specs.declared.step.Call.{Call}
 use Rattle.ucl_steps.specs.declared.step.Step.{Step}
 use Rattle.ucl_steps.specs.declared.trace.Reply.{Reply}
 use Rattle.ucl_steps.specs.Machine.{MachineState, initial_state, may_begin, after_steps}
-use Rattle.ucl_steps.specs.Marking.{IsAtRest, IsInCast, NoneOwn, CallMarks, history_after, IsMadeBySteps}
+use Rattle.ucl_steps.specs.Marking.{IsAtRest, IsInCast, NoneOwn, Leaves, IsMadeBySteps}
 use Rattle.ucl_steps.specs.Linearizable.{IsLinearizable}
 use Rattle.ucl_steps.specs.Trails.{Mark, Follows, ReportMarks, decided_at, IsUnclean, marks_of, ReadingMarks}
 
@@ -53,8 +53,7 @@ ReportsAreSequential = (history : List Entry) (low high now : ℕ) (call : Event
 -- from rest on, a caller's call is made by steps of the machine that leave its marks, one after the other, while other callers enter what else came
 abbrev pub CallsAreSteps : Type 0
 CallsAreSteps = (cast : Cast) (c : Caller) (call : Call) (reply : Reply) (ms : List Mark) (before : List Entry) (low : ℕ) (state : MachineState) → cast.reporters ≡ 255 → IsInCast cast c → may_begin c call ≡ true
-    → IsLegal before → NoneOwn c low before → Follows before low ms (length before) → CallMarks call reply ms (length (history_after c call reply before))
-    → IsAtRest cast (take low before) state → IsMadeBySteps cast state c call reply ms before
+    → IsLegal before → NoneOwn c low before → Leaves c call reply ms before low → IsAtRest cast (take low before) state → IsMadeBySteps cast state c call reply ms before
 
 -- steps of the machine lead to rest after any legal history
 abbrev pub HistoriesAreReached : Type 0

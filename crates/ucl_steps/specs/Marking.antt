@@ -14,7 +14,7 @@ use Rattle.ucl_steps.specs.declared.trace.Reply.{Reply}
 use Rattle.ucl_steps.specs.declared.trace.Reply.TheVariants.{Accepted, Refused, Copied}
 use Rattle.ucl_steps.specs.Machine.{Holds, Idle, Wanting, Holding, Collecting, Checking, MachineState, held_by, caller_of, after_step, after_steps}
 use Rattle.ucl_steps.specs.Trails as trail
-use Rattle.ucl_steps.specs.Trails.{Act, Mark, mark, ReportMarks, ReadingMarks}
+use Rattle.ucl_steps.specs.Trails.{Act, Mark, mark, Follows, ReportMarks, ReadingMarks}
 
 abbrev pub is_caller : Caller → Caller → Bool
 is_caller (Reporter n) (Reporter m) = n == m
@@ -88,6 +88,11 @@ abbrev pub point_of : Reply → List Entry → ℕ
 point_of (Accepted reply) history = length history
 point_of (Refused refusal) history = length history
 point_of (Copied reading) history = reading.version
+
+-- the marks of a call that began after the first entries, as many as `low` says, and after whose last step, but for its own entry, this is the history
+pub record Leaves (c : Caller) (call : Call) (reply : Reply) (ms : List Mark) (before : List Entry) (low : ℕ) : Type 0 where
+  pub follows : Follows (history_after c call reply before) low ms (length (history_after c call reply before))
+  pub shape : CallMarks call reply ms (length (history_after c call reply before))
 
 -- no entry is the caller's own, from this place on
 abbrev pub NoneOwn : Caller → ℕ → List Entry → Type 0
