@@ -1,0 +1,5 @@
+pub mod Marks
+pub mod Views
+pub mod WordRule
+pub mod WordSteps
+pub mod Steady
