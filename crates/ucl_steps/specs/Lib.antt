@@ -1,3 +1,4 @@
+pub mod Trails
 pub mod Machine
 pub mod Linearizable
 pub mod Traces
