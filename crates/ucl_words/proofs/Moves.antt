@@ -19,7 +19,7 @@ use Rattle.ucl_pass.specs.Passes.{entries_by}
 use Rattle.ucl_pass.proofs.Lists.{begins_none, begins_same, begins_more, by_own, by_other, none_by_zero}
 use Rattle.ucl_pass.proofs.Moves.{none_by_more}
 use Rattle.ucl_words.specs.declared.view.View.{View}
-use Rattle.ucl_words.specs.Marks.{Act, Mark, mark, look, second, swap}
+use Rattle.ucl_steps.specs.Trails.{Act, Mark, mark, Look, Second, Swap}
 use Rattle.ucl_words.specs.Views.{newcomer, second_of, note_of, longer_of, told_by}
 use Rattle.ucl_words.specs.WordRule.{words_after, Fits, KeepsOneHistory}
 use Rattle.ucl_words.specs.WordSteps.{Sees, LoadsMatch, Loads, version_shown, LoadsLast, ExchangeWon, IsNextWord, LoadsEnlisted, EnlistMissed, EnlistWon, LoadStep, LastLoadStep, EnlistedStep, ExchangeStep, EnlistStep}
@@ -112,7 +112,7 @@ loads_last slots id game m low s r _ here _ =
     let v = m.0 in
     let f = r.fits id v here in
     let n : ℕ = get_or s.words game 0 in
-    let trail : List Mark = v.trail ++ mark second game n (length r.history) ∷ [] in
+    let trail : List Mark = v.trail ++ mark Second game n (length r.history) ∷ [] in
     let shown : List ℕ = v.shown ++ version_shown v.trail n in (
       looked v r.history v.listed shown trail,
       keeps,
@@ -165,7 +165,7 @@ module _ (s : Position) (r : KeepsOneHistory s) (id : ℕ) (v : View) (e : Entry
       (record { seen = begins_same longer; kept = All-nil (λ (l : List Entry). IsPrefix l longer); mine = own; number = f.number; listed = f.listed })
       alone
 
-  add_tells : (n : ℕ) → n ≡ get_or s.words e.game 0 → ExchangeWon e v n (entered v r.history e (v.trail ++ mark swap e.game n (length r.history) ∷ []))
+  add_tells : (n : ℕ) → n ≡ get_or s.words e.game 0 → ExchangeWon e v n (entered v r.history e (v.trail ++ mark Swap e.game n (length r.history) ∷ []))
   add_tells n found = let f = r.fits id v here in record {
     before = r.history;
     word = found ∙ match_word s r e.game low;
@@ -189,7 +189,7 @@ swaps slots id m e old new low pos me is s r _ here _ =
     let v = m.0 in
     let f = r.fits id v here in
     let n : ℕ = get_or s.words e.game 0 in
-    let trail : List Mark = v.trail ++ mark swap e.game n (length r.history) ∷ [] in
+    let trail : List Mark = v.trail ++ mark Swap e.game n (length r.history) ∷ [] in
     exchanged n old new
         (λ x. (w : View) × (a : Rattle.atomic_table.specs.Table.Act Entry) × Valid s.homes m.1 a × KeepsOneHistory (stepped s e.game x id m.1 w a) × ExchangeStep (step slots e.game old new (some e)) m n (w, carried_after m.1 a))
         (λ hit. (
@@ -337,4 +337,4 @@ opens = record {
 
     numberless : (at : ℕ) (v : View) → get_elem? (newcomer ∷ []) at ≡ some v → ¬ (0 < v.number)
     numberless zero v e pos = let z : 0 ≡ v.number = ap (λ (q : View). q.number) (some-injective newcomer v e) in omega arith
-    numberless (suc at) v e = absurd (some-ne-none v (sym e))
+    numberless (suc at) v e pos = absurd (some-ne-none v (sym e))

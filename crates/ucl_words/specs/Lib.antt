@@ -1,4 +1,3 @@
-pub mod Marks
 pub mod Views
 pub mod WordRule
 pub mod WordSteps

@@ -8,7 +8,7 @@ use Rattle.ucl_board.specs.Words.{word_at}
 use Rattle.ucl_board.specs.History.{board_of, IsLegal, followed_by}
 use Rattle.ucl_pass.specs.Passes.{entries_by}
 use Rattle.ucl_words.specs.declared.view.View.{View}
-use Rattle.ucl_words.specs.Marks.{Act, Mark, mark, look, second, swap}
+use Rattle.ucl_steps.specs.Trails.{Act, Mark, mark, Look, Second, Swap}
 
 -- a step that stored nothing: the pass has seen the whole history, in which all stands first that it had seen or been told
 pub record Sees (v w : View) : Type 0 where
@@ -34,7 +34,7 @@ pub record Loads (act : Act) (game : ℕ) (v : View) (n : ℕ) (w : View) : Type
   pub shown : w.shown ≡ v.shown
 
 abbrev pub no_mark : Mark
-no_mark = mark look 0 0 0
+no_mark = mark Look 0 0 0
 
 -- the mark of the twelfth load of the first collect, eleven loads of the second collect back
 abbrev pub twelfth_first : List Mark → Mark
@@ -46,12 +46,12 @@ version_shown trail n = if n == (twelfth_first trail).found then (twelfth_first 
 
 -- the twelfth load of a second collect
 pub record LoadsLast (game : ℕ) (v : View) (n : ℕ) (w : View) : Type 0 where
-  pub loads : LoadsMatch second game v n w
+  pub loads : LoadsMatch Second game v n w
   pub shown : w.shown ≡ v.shown ++ version_shown v.trail n
 
 -- an exchange of a match word that was missed
 abbrev pub ExchangeMissed : ℕ → View → ℕ → View → Type 0
-ExchangeMissed = Loads swap
+ExchangeMissed = Loads Swap
 
 -- an exchange of a match word that was won: its entry is the last that the pass has seen
 pub record ExchangeWon (e : Entry) (v : View) (n : ℕ) (w : View) : Type 0 where
@@ -67,7 +67,7 @@ pub record ExchangeWon (e : Entry) (v : View) (n : ℕ) (w : View) : Type 0 wher
   pub listed : w.listed ≡ v.listed
   pub shown : w.shown ≡ v.shown
   pub taken : w.taken ≡ v.taken + 1
-  pub trail : w.trail ≡ v.trail ++ mark swap e.game n (length before) ∷ []
+  pub trail : w.trail ≡ v.trail ++ mark Swap e.game n (length before) ∷ []
 
 -- the word that takes the place of another where an entry is added, whatever the history is
 abbrev pub IsNextWord : Entry → ℕ → ℕ → Type 0

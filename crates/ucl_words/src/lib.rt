@@ -2,9 +2,11 @@
 //! at most one compare and exchange; readings are the clean double collect of Herlihy and Shavit.
 #![tactic(auto)]
 
+mod board;
 mod passes;
 mod rule;
 mod view;
 
+pub use board::WordBoard;
 pub use passes::{WordReaderPass, WordReporterPass};
 pub use view::View;

@@ -1,6 +1,6 @@
 //! The rule of the table, and the kinds of its atomic steps. The values named here exist in proofs alone.
 
-ghost use Rattle.ucl_words.specs.Marks.{look, first, second};
+ghost use Rattle.ucl_steps.specs.Trails as trails;
 ghost use Rattle.ucl_words.specs.Views.{newcomer, second_of, note_of, told_by};
 ghost use Rattle.ucl_words.specs.WordRule.{KeepsOneHistory};
 ghost use Rattle.ucl_words.specs.WordSteps.{LoadStep, LastLoadStep, EnlistedStep, ExchangeStep, EnlistStep};
@@ -24,21 +24,21 @@ impl TableRule<Entry, View, ()> for OneHistory {
 pub struct Look;
 
 impl Play<Entry, View> for Look {
-    ghost then = { LoadStep look };
+    ghost then = { LoadStep trails.Look };
 }
 
 /// A load of the first collect.
 pub struct First;
 
 impl Play<Entry, View> for First {
-    ghost then = { LoadStep first };
+    ghost then = { LoadStep trails.First };
 }
 
 /// A load of the second collect, before its twelfth.
 pub struct Second;
 
 impl Play<Entry, View> for Second {
-    ghost then = { LoadStep second };
+    ghost then = { LoadStep trails.Second };
 }
 
 /// The twelfth load of the second collect.

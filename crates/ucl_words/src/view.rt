@@ -3,7 +3,7 @@
 ghost use Rattle.std.specs.Prelude.{ℕ, List};
 ghost use Rattle.std.specs.Borrow.{ftrue};
 ghost use Rattle.ucl_board.specs.declared.entry.Entry.{Entry};
-ghost use Rattle.ucl_words.specs.Marks.{Mark};
+ghost use Rattle.ucl_steps.specs.Trails.{Mark};
 
 use std::marker::Model;
 
