@@ -11,4 +11,5 @@ pub mod Making
 pub mod Keeping
 pub mod Stepping
 pub mod Runs
+pub mod Marks
 pub mod Reachable

@@ -1,5 +1,5 @@
 -- What a pass remembers of its steps on match words, and which marks each call leaves.
-use Rattle.std.specs.Prelude.{◌≡◌, ◌≢◌, ℕ, ◌+◌, ◌<◌, ◌≤◌, ◌⊎◌, List, [], ◌∷◌, ◌++◌, take, length, Some, Result, Ok, Err, IsOk, slice_get, slice_index}
+use Rattle.std.specs.Prelude.{◌≡◌, ◌≢◌, ℕ, ◌+◌, ◌-◌, ◌<◌, ◌≤◌, ◌⊎◌, List, [], ◌∷◌, ◌++◌, take, length, Some, Result, Ok, Err, IsOk, slice_get, slice_index}
 use Rattle.std.specs.List.{AllByRecursion}
 use Rattle.ucl_word.specs.declared.event.EventCall.{EventCall}
 use Rattle.ucl_word.specs.declared.event.Accepted.{Accepted}
@@ -75,6 +75,11 @@ abbrev pub ReportMarks : EventCall → Result Accepted Refusal → List Mark →
 ReportMarks call (Ok reply) ms now = SwapWon call reply ms now
 ReportMarks call (Err refusal) ms now = LookRefused call refusal ms now ⊎ SwapMissed call refusal ms now
 
+-- how many entries there were when the reply was decided: an accepted event's own entry came then
+abbrev pub decided_at : Result Accepted Refusal → ℕ → ℕ
+decided_at (Ok reply) now = now - 1
+decided_at (Err refusal) now = now
+
 -- a reading's marks
 
 -- the matches 1, 2 and so on, with these words, by the same act
@@ -101,12 +106,12 @@ pub record IsUnclean (ms : List Mark) : Type 0 where
   pub collected : IsCollect First words firsts
   pub broken : IsBroken words seconds
 
--- a try with twelve equal Seconds: the board has the words of its Firsts, and the version is the place of the twelfth First
+-- a try with twelve equal Seconds: the board is that of the words of its Firsts, and the version is the place of the twelfth First
 pub record IsClean (reading : Reading) (ms : List Mark) : Type 0 where
   pub firsts : List Mark
   pub seconds : List Mark
   pub marks : ms ≡ firsts ++ seconds
-  pub twelve : (length firsts ≡ 12) × (length seconds ≡ 12)
+  pub twelve : (length reading.board ≡ 12) × (length firsts ≡ 12) × (length seconds ≡ 12)
   pub collected : IsCollect First reading.board firsts
   pub again : IsCollect Second reading.board seconds
   pub version : (m : Mark) → slice_get firsts 11 ≡ Some m → m.at ≡ reading.version
