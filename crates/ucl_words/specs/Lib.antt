@@ -1,4 +1,4 @@
 pub mod Views
 pub mod WordRule
 pub mod WordSteps
-pub mod Steady
+pub mod WordCalls

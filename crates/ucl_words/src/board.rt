@@ -1,15 +1,35 @@
 //! The board over thirteen atomic words, and its calls.
 
-ghost use Rattle.std.specs.Prelude.{◌≡◌, ◌+◌, ◌<◌, ◌≤◌, [], length, IfOk, IfErr, MatchResult};
+ghost use Rattle.std.specs.Prelude.{◌≡◌, ◌≢◌, ◌+◌, ◌<◌, ◌≤◌, ◌++◌, ◌∷◌, [], length, IfOk, IfErr, MatchResult, MatchBool};
 ghost use Rattle.atomic_table.specs.Seated.{TableId};
-ghost use Rattle.ucl_pass.specs.Passes.{opening_pass};
+ghost use Rattle.ucl_word.specs.Record.{IsValid};
+ghost use Rattle.ucl_word.specs.Layout.{IsWord, record_at};
+ghost use Rattle.ucl_board.specs.Fixtures.{IsMatch};
+ghost use Rattle.ucl_board.specs.Words.{AreWords, version_of};
+ghost use Rattle.ucl_steps.specs.Trails as trails;
+ghost use Rattle.ucl_pass.specs.Passes.{IsSound, Continues, AcceptedReport, RefusedReport, SharedReading, Enlistment, FullBoard, Meeting, opening_pass, split_pass};
 ghost use Rattle.ucl_words.specs.Views.{known_of};
+ghost use Rattle.ucl_words.specs.WordSteps.{Loads, ExchangeWon, ExchangeMissed, IsNextWord};
+ghost use Rattle.ucl_words.specs.WordCalls.{IsSteady, ReportSteps, ReadingSteps, KeepsTrail, Collects, HasCollected, FindsAgain, FindsAnother};
 
-use crate::passes::WordReaderPass;
-use crate::rule::Table;
+use crate::passes::{WordReaderPass, WordReporterPass};
+use crate::rule::{
+    CountEnlisted, Enlist, First, LastSecond, Look, Note, Seat, Second, SecondPass, Swap, Table,
+};
 use std::alloc::Global;
 use std::marker::Model;
-use ucl_word::OutOfMemory;
+use ucl_board::{Board, Entry, Reading};
+use ucl_pass::TooManyReporters;
+use ucl_word::{
+    Accepted, EventCall, MatchNo, MatchRecord, OutOfMemory, Refusal, ReporterNo, apply, pack,
+    unpack,
+};
+
+/// Which word of the table is the number of enlisted reporters; words 1 to 12 are the matches.
+const ENLISTED: usize = 0;
+
+/// How many reporters a board can have.
+const MOST_REPORTERS: u64 = 255;
 
 /// A board of thirteen words that are loaded and exchanged one at a time: the number of enlisted reporters, and the twelve matches.
 /// Contracts see which table it is.
@@ -26,9 +46,36 @@ impl Model for WordBoard {
     ghost invariant = { λ b. (b.table.shared.table_id.words ≡ 13) × (b.table.shared.table_id.slots ≡ 0) };
 }
 
+/// The record of a word that a valid record has.
+fn record_of(word: u64) -> MatchRecord
+    requires { IsWord word }
+    ensures value { result ≡ record_at word }
+    ensures valid { IsValid result }
+{
+    match unpack(word) {
+        Ok(game) => game,
+        Err(_) => unreachable!(),
+    }
+}
+
+/// The reading of twelve words, whose board they are.
+fn reading_of(words: &[u64; 12]) -> Reading
+    requires { AreWords words.now }
+    ensures board { result.board ≡ words.now }
+    ensures version { result.version ≡ version_of words.now }
+{
+    match Board::of_words(words) {
+        Ok(board) => {
+            let version = board.version();
+            Reading { board, version }
+        }
+        Err(_) => unreachable!(),
+    }
+}
+
 impl WordBoard {
     /// The fresh board, and the reader's pass from which all its passes come. Where the memory of the table is refused the answer is
-    /// `OutOfMemory`, and there is no board.
+    /// `OutOfMemory`, and there is no board. No other call takes memory.
     pub fn open<R>(_rt: &R, alloc: Global) -> Result<(WordBoard, WordReaderPass), OutOfMemory>
         ensures own { IfOk result (λ opened. opened.1.0 ≡ opened.0) }
         ensures fresh { IfOk result (λ opened. known_of opened.1.1 ≡ opening_pass) }
@@ -36,5 +83,124 @@ impl WordBoard {
     {
         let (table, seat) = Table::of_words(alloc, &[0; 13], &())?;
         Ok((WordBoard { table }, WordReaderPass { seat }))
+    }
+
+    /// Loads the word of a match, for a report.
+    fn look(&self, seat: &mut Seat, game: MatchNo) -> u64
+        requires { seat.old.table_id ≡ self.now }
+        ensures own { seat.new.table_id ≡ seat.old.table_id }
+        ensures game { IsMatch game }
+        ensures looks { Loads trails.Look game seat.old.me.0 result seat.new.me.0 }
+    {
+        let word = usize::from(game.get());
+        self.table.shared.load::<Look>(seat, word)
+    }
+
+    /// Puts the next word of a match in the place of the one that was loaded, where it is still there, and answers the word that was found.
+    fn swap(&self, seat: &mut Seat, loaded: u64, next: u64, entry: Entry) -> u64
+        requires table { seat.old.table_id ≡ self.now }
+        requires me { (0 < seat.old.me.0.number) × (entry.reporter ≡ seat.old.me.0.number) }
+        requires next { IsNextWord entry loaded next }
+        ensures own { seat.new.table_id ≡ seat.old.table_id }
+        ensures won { result ≡ loaded → ExchangeWon entry seat.old.me.0 result seat.new.me.0 }
+        ensures missed { result ≢ loaded → ExchangeMissed entry.game seat.old.me.0 result seat.new.me.0 }
+    {
+        let word = usize::from(entry.game.get());
+        self.table
+            .shared
+            .compare_exchange_with::<Swap>(seat, word, loaded, next, &entry)
+    }
+
+    /// Enters an event under the seat's number: one load, and where the rules accept the event, one exchange.
+    fn report_by(
+        &self,
+        seat: &mut Seat,
+        reporter: ReporterNo,
+        call: &EventCall,
+    ) -> Result<Accepted, Refusal>
+        requires table { seat.old.table_id ≡ self.now }
+        requires steady { IsSteady seat.old.me.0 }
+        requires me { (0 < reporter) × (seat.old.me.0.number ≡ reporter) }
+        ensures own { seat.new.table_id ≡ seat.old.table_id }
+        ensures steady { IsSteady seat.new.me.0 }
+        ensures always { Continues (known_of seat.old.me.0) (known_of seat.new.me.0) }
+        ensures accepted { IfOk result (λ reply. AcceptedReport (known_of seat.old.me.0) call.now reply (known_of seat.new.me.0)) }
+        ensures refused { IfErr result (λ refusal. RefusedReport (known_of seat.old.me.0) call.now refusal (known_of seat.new.me.0)) }
+        ensures steps { ReportSteps seat.old.me.0 call.now result seat.new.me.0 }
+    {
+        let loaded = self.look(seat, call.game);
+        let next = match apply(&record_of(loaded), reporter, call.expected, call.kind) {
+            Ok(next) => next,
+            Err(refusal) => return Err(refusal),
+        };
+        let entry = Entry {
+            game: call.game,
+            reporter,
+            kind: call.kind,
+        };
+        let found = self.swap(seat, loaded, pack(&next), entry);
+        if found == loaded {
+            Ok(Accepted {
+                number: next.number,
+            })
+        } else {
+            Err(Refusal::Stale {
+                found: record_of(found).number,
+            })
+        }
+    }
+
+    /// The first collect: loads words 1 to 12.
+    fn collect(&self, seat: &mut Seat) -> [u64; 12]
+        requires table { seat.old.table_id ≡ self.now }
+        requires steady { IsSteady seat.old.me.0 }
+        ensures own { seat.new.table_id ≡ seat.old.table_id }
+        ensures long { length result ≡ 12 }
+        ensures collects { Collects seat.old.me.0 result seat.new.me.0 }
+    {
+        let mut words = [0; 12];
+        for i in 0..12 {
+            words[i] = self.table.shared.load::<First>(seat, i + 1);
+        }
+        words
+    }
+
+    /// The second collect: loads words 1 to 12 again, up to the first that is another.
+    fn is_clean(&self, seat: &mut Seat, words: &[u64; 12]) -> bool
+        requires table { seat.old.table_id ≡ self.now }
+        requires steady { IsSteady seat.old.me.0 }
+        requires collected { HasCollected words.now seat.old.me.0 }
+        ensures own { seat.new.table_id ≡ seat.old.table_id }
+        ensures compared { MatchBool result (FindsAgain seat.old.me.0 words.now seat.new.me.0) (FindsAnother seat.old.me.0 words.now seat.new.me.0) }
+    {
+        for i in 0..11 {
+            if self.table.shared.load::<Second>(seat, i + 1) != words[i] {
+                return false;
+            }
+        }
+        if self.table.shared.load::<LastSecond>(seat, 12) != words[11] {
+            return false;
+        }
+        true
+    }
+
+    /// The clean double collect. Each try that is not clean has seen a longer history, so there are few.
+    fn read_by(&self, seat: &mut Seat) -> Reading
+        requires table { seat.old.table_id ≡ self.now }
+        requires steady { IsSteady seat.old.me.0 }
+        ensures own { seat.new.table_id ≡ seat.old.table_id }
+        ensures steady { IsSteady seat.new.me.0 }
+        ensures always { Continues (known_of seat.old.me.0) (known_of seat.new.me.0) }
+        ensures reading { SharedReading (known_of seat.old.me.0) result (known_of seat.new.me.0) }
+        ensures steps { ReadingSteps seat.old.me.0 result seat.new.me.0 }
+        ensures least { seat.old.me.0.taken + 24 ≤ seat.new.me.0.taken }
+        ensures most { seat.new.me.0.taken ≤ seat.old.me.0.taken + 294648 }
+    {
+        'tries: loop {
+            let words = self.collect(seat);
+            if self.is_clean(seat, &words) {
+                return reading_of(&words);
+            }
+        }
     }
 }
