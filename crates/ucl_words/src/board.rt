@@ -1,6 +1,6 @@
 //! The board over thirteen atomic words, and its calls.
 
-ghost use Rattle.std.specs.Prelude.{◌≡◌, ◌≢◌, ◌+◌, ◌<◌, ◌≤◌, ◌++◌, ◌∷◌, [], length, IfOk, IfErr, MatchResult, MatchBool};
+ghost use Rattle.std.specs.Prelude.{◌≡◌, ◌≢◌, ◌+◌, ◌<◌, ◌≤◌, ◌++◌, ◌∷◌, [], length, IfOk, IfErr, IfSome, IfNone, MatchResult, MatchBool};
 ghost use Rattle.atomic_table.specs.Seated.{TableId};
 ghost use Rattle.ucl_word.specs.Record.{IsValid};
 ghost use Rattle.ucl_word.specs.Layout.{IsWord, record_at};
@@ -202,5 +202,140 @@ impl WordBoard {
                 return reading_of(&words);
             }
         }
+    }
+
+    /// Makes a seat a reporter's, and answers its number. `None` where 255 are enlisted. The first exchange is tried from no reporter,
+    /// and each later one from as many as were found.
+    fn enlist_by(&self, seat: &mut Seat) -> Option<ReporterNo>
+        requires table { seat.old.table_id ≡ self.now }
+        requires steady { IsSteady seat.old.me.0 }
+        ensures own { seat.new.table_id ≡ seat.old.table_id }
+        ensures steady { IsSteady seat.new.me.0 }
+        ensures enlisted { IfSome result (λ number. Enlistment (known_of seat.old.me.0) (known_of seat.new.me.0) × (seat.new.me.0.number ≡ number)) }
+        ensures always { IfNone result (Continues (known_of seat.old.me.0) (known_of seat.new.me.0)) }
+        ensures full { IfNone result (FullBoard (known_of seat.old.me.0) (known_of seat.new.me.0)) }
+        ensures trail { KeepsTrail seat.old.me.0 seat.new.me.0 }
+        ensures most { seat.new.me.0.taken ≤ seat.old.me.0.taken + 255 }
+    {
+        let mut known = 0;
+        'tries: while known < MOST_REPORTERS {
+            let found =
+                self.table
+                    .shared
+                    .compare_exchange::<Enlist>(seat, ENLISTED, known, known + 1);
+            if found == known {
+                return ReporterNo::new((known + 1) as u8);
+            }
+            known = found;
+        }
+        None
+    }
+
+    /// Enters an event under the number of the pass, by one load and at most one compare and exchange of its match word. An accepted
+    /// event is the last that the pass has seen. A refusal is the reply of a board of one thread after all that the pass has then seen,
+    /// and enters nothing; where another event of the match came between the load and the exchange, it is `Stale` with the number found.
+    pub fn report_now(
+        &self,
+        pass: &mut WordReporterPass,
+        call: &EventCall,
+    ) -> Result<Accepted, Refusal>
+        requires { pass.old.0 ≡ self.now }
+        ensures own { pass.new.0 ≡ self.now }
+        ensures always { Continues (known_of pass.old.1) (known_of pass.new.1) }
+        ensures accepted { IfOk result (λ reply. AcceptedReport (known_of pass.old.1) call.now reply (known_of pass.new.1)) }
+        ensures refused { IfErr result (λ refusal. RefusedReport (known_of pass.old.1) call.now refusal (known_of pass.new.1)) }
+        ensures steps { ReportSteps pass.old.1 call.now result pass.new.1 }
+        ensures most { pass.new.1.taken ≤ pass.old.1.taken + 2 }
+    {
+        let reporter = pass.number;
+        let result = self.report_by(&mut pass.seat, reporter, call);
+        if result.is_ok() {
+            pass.accepted += 1;
+        }
+        result
+    }
+
+    /// The board after a beginning of the history that has all that the pass had seen, and its version: loads all match words, and loads
+    /// them again, anew from the first where one is another, in at most 12,277 tries of at most 24 loads.
+    pub fn read_now(&self, pass: &mut WordReaderPass) -> Reading
+        requires { pass.old.0 ≡ self.now }
+        ensures own { pass.new.0 ≡ self.now }
+        ensures always { Continues (known_of pass.old.1) (known_of pass.new.1) }
+        ensures reading { SharedReading (known_of pass.old.1) result (known_of pass.new.1) }
+        ensures steps { ReadingSteps pass.old.1 result pass.new.1 }
+        ensures least { pass.old.1.taken + 24 ≤ pass.new.1.taken }
+        ensures most { pass.new.1.taken ≤ pass.old.1.taken + 294648 }
+    {
+        self.read_by(&mut pass.seat)
+    }
+
+    /// The same for a reporter.
+    pub fn read_own_now(&self, pass: &mut WordReporterPass) -> Reading
+        requires { pass.old.0 ≡ self.now }
+        ensures own { pass.new.0 ≡ self.now }
+        ensures always { Continues (known_of pass.old.1) (known_of pass.new.1) }
+        ensures reading { SharedReading (known_of pass.old.1) result (known_of pass.new.1) }
+        ensures steps { ReadingSteps pass.old.1 result pass.new.1 }
+        ensures least { pass.old.1.taken + 24 ≤ pass.new.1.taken }
+        ensures most { pass.new.1.taken ≤ pass.old.1.taken + 294648 }
+    {
+        let seat = &mut pass.seat;
+        self.read_by(seat)
+    }
+
+    /// A second pass, which has seen as much as the lent one, for another thread. It has a copy of the trail.
+    pub fn split_now(&self, pass: &mut WordReaderPass) -> WordReaderPass
+        requires { pass.old.0 ≡ self.now }
+        ensures own { (pass.new.0 ≡ self.now) × (result.0 ≡ self.now) }
+        ensures sound { IsSound (known_of pass.old.1) }
+        ensures unchanged { pass.new.1 ≡ pass.old.1 }
+        ensures given { known_of result.1 ≡ split_pass (known_of pass.old.1) }
+        ensures steps { (result.1.taken ≡ pass.old.1.taken) × (result.1.trail ≡ pass.old.1.trail) }
+    {
+        let seat = self.table.shared.split_seat::<SecondPass>(&mut pass.seat);
+        WordReaderPass { seat }
+    }
+
+    /// Makes a reader a reporter, under a number of its own, by at most 255 compare and exchanges of the enlist word. Where 255 are
+    /// enlisted the answer is 30 with the pass, which may have seen more.
+    pub fn enlist_now(
+        &self,
+        pass: WordReaderPass,
+    ) -> Result<WordReporterPass, TooManyReporters<WordReaderPass>>
+        requires { pass.0 ≡ self.now }
+        ensures own { MatchResult result (λ enlisted. enlisted.0 ≡ self.now) (λ full. full.0.0 ≡ self.now) }
+        ensures enlisted { IfOk result (λ enlisted. Enlistment (known_of pass.1) (known_of enlisted.1)) }
+        ensures always { IfErr result (λ full. Continues (known_of pass.1) (known_of full.0.1)) }
+        ensures full { IfErr result (λ full. FullBoard (known_of pass.1) (known_of full.0.1)) }
+        ensures trail { MatchResult result (λ enlisted. KeepsTrail pass.1 enlisted.1) (λ full. KeepsTrail pass.1 full.0.1) }
+        ensures most { MatchResult result (λ enlisted. enlisted.1.taken ≤ pass.1.taken + 255) (λ full. full.0.1.taken ≤ pass.1.taken + 255) }
+    {
+        let WordReaderPass { mut seat } = pass;
+        match self.enlist_by(&mut seat) {
+            Some(number) => Ok(WordReporterPass {
+                seat,
+                number,
+                accepted: 0,
+            }),
+            None => Err(TooManyReporters(WordReaderPass { seat })),
+        }
+    }
+
+    /// Afterwards the second pass has seen all that either had seen, by one load of the enlist word. The first is as it was.
+    pub fn meet_now(&self, first: &mut WordReporterPass, second: &mut WordReporterPass)
+        requires { (first.old.0 ≡ self.now) × (second.old.0 ≡ self.now) }
+        ensures own { (first.new.0 ≡ self.now) × (second.new.0 ≡ self.now) }
+        ensures sound { IsSound (known_of first.old.1) }
+        ensures always { Continues (known_of second.old.1) (known_of second.new.1) }
+        ensures unchanged { first.new.1 ≡ first.old.1 }
+        ensures meeting { Meeting (known_of first.old.1) (known_of second.old.1) (known_of second.new.1) }
+        ensures trail { KeepsTrail second.old.1 second.new.1 }
+        ensures taken { second.new.1.taken ≡ second.old.1.taken + 1 }
+    {
+        let note = self.table.shared.split_seat::<Note>(&mut first.seat);
+        self.table.shared.join_seat::<Note>(&mut second.seat, note);
+        self.table
+            .shared
+            .load::<CountEnlisted>(&mut second.seat, ENLISTED);
     }
 }
