@@ -142,3 +142,6 @@ module _ (a v w : View) (steady : IsSteady v) (loads : LoadsEnlisted (told_by v 
 
   pub met_trail : KeepsTrail v w
   met_trail = record { trail = loads.trail; whole = met_steady.trail }
+
+pub after_told : (a v n x w : View) → n ≡ note_of a → x ≡ told_by v n → LoadsEnlisted x w → LoadsEnlisted (told_by v (note_of a)) w
+after_told a v n x w note told loads = subst (λ (u : View). LoadsEnlisted u w) (told ∙ ap (told_by v) note) loads

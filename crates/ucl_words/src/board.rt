@@ -231,6 +231,23 @@ impl WordBoard {
         None
     }
 
+    /// A note of the first is split off and joined to the second, which then loads the enlist word.
+    fn meet_by(&self, first: &mut Seat, second: &mut Seat)
+        requires table { (first.old.table_id ≡ self.now) × (second.old.table_id ≡ self.now) }
+        requires steady { IsSteady second.old.me.0 }
+        ensures own { (first.new.table_id ≡ first.old.table_id) × (second.new.table_id ≡ second.old.table_id) }
+        ensures unchanged { first.new.me.0 ≡ first.old.me.0 }
+        ensures steady { IsSteady second.new.me.0 }
+        ensures always { Continues (known_of second.old.me.0) (known_of second.new.me.0) }
+        ensures meeting { Meeting (known_of first.old.me.0) (known_of second.old.me.0) (known_of second.new.me.0) }
+        ensures trail { KeepsTrail second.old.me.0 second.new.me.0 }
+        ensures taken { second.new.me.0.taken ≡ second.old.me.0.taken + 1 }
+    {
+        let note = self.table.shared.split_seat::<Note>(first);
+        self.table.shared.join_seat::<Note>(second, note);
+        self.table.shared.load::<CountEnlisted>(second, ENLISTED);
+    }
+
     /// Enters an event under the number of the pass, by one load and at most one compare and exchange of its match word. An accepted
     /// event is the last that the pass has seen. A refusal is the reply of a board of one thread after all that the pass has then seen,
     /// and enters nothing; where another event of the match came between the load and the exchange, it is `Stale` with the number found.
@@ -332,10 +349,6 @@ impl WordBoard {
         ensures trail { KeepsTrail second.old.1 second.new.1 }
         ensures taken { second.new.1.taken ≡ second.old.1.taken + 1 }
     {
-        let note = self.table.shared.split_seat::<Note>(&mut first.seat);
-        self.table.shared.join_seat::<Note>(&mut second.seat, note);
-        self.table
-            .shared
-            .load::<CountEnlisted>(&mut second.seat, ENLISTED);
+        self.meet_by(&mut first.seat, &mut second.seat);
     }
 }

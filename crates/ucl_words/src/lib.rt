@@ -3,6 +3,7 @@
 #![tactic(auto)]
 
 mod board;
+mod live_words;
 mod passes;
 mod rule;
 mod view;
