@@ -191,27 +191,27 @@ swaps slots id m e old new low pos me is s r _ here _ =
     let n : ℕ = get_or s.words e.game 0 in
     let trail : List Mark = v.trail ++ mark Swap e.game n (length r.history) ∷ [] in
     exchanged n old new
-        (λ x. (w : View) × (a : Rattle.atomic_table.specs.Table.Act Entry) × Valid s.homes m.1 a × KeepsOneHistory (stepped s e.game x id m.1 w a) × ExchangeStep (step slots e.game old new (some e)) m n (w, carried_after m.1 a))
-        (λ hit. (
-          entered v r.history e trail,
-          keeps,
-          tt,
-          add_keeps s r id v e old new here low pos me is hit m.1 trail,
-          record {
-            won = λ _ said is_said. subst (λ (x : Entry). ExchangeWon x v n (entered v r.history e trail)) (some-injective e said is_said) (add_tells s r id v e old new here low pos me is hit n refl);
-            missed = λ miss. absurd (miss hit);
-          },
-        ))
-        (λ miss. (
-          looked v r.history v.listed v.shown trail,
-          keeps,
-          tt,
-          look_keeps s r id v here e.game m.1 v.listed v.shown trail f.listed,
-          record {
-            won = λ hit. absurd (miss hit);
-            missed = λ _. record { loads = record { sees = look_tells s r id v here v.listed v.shown trail; word = match_word s r e.game low; listed = refl; trail = refl }; shown = refl };
-          },
-        ))
+    (λ x. (w : View) × (a : Rattle.atomic_table.specs.Table.Act Entry) × Valid s.homes m.1 a × KeepsOneHistory (stepped s e.game x id m.1 w a) × ExchangeStep (step slots e.game old new (some e)) m n (w, carried_after m.1 a))
+    (λ hit. (
+      entered v r.history e trail,
+      keeps,
+      tt,
+      add_keeps s r id v e old new here low pos me is hit m.1 trail,
+      record {
+        won = λ _ said is_said. subst (λ (x : Entry). ExchangeWon x v n (entered v r.history e trail)) (some-injective e said is_said) (add_tells s r id v e old new here low pos me is hit n refl);
+        missed = λ miss. absurd (miss hit);
+      },
+    ))
+    (λ miss. (
+      looked v r.history v.listed v.shown trail,
+      keeps,
+      tt,
+      look_keeps s r id v here e.game m.1 v.listed v.shown trail f.listed,
+      record {
+        won = λ hit. absurd (miss hit);
+        missed = λ _. record { loads = record { sees = look_tells s r id v here v.listed v.shown trail; word = match_word s r e.game low; listed = refl; trail = refl }; shown = refl };
+      },
+    ))
 
 -- what an exchange leaves that adds a reporter
 abbrev enlisted_as : View → List Entry → ℕ → View
@@ -251,24 +251,24 @@ enlists slots id m old room s r _ here _ =
     let few = r.few in
     let below = f.listed in
     exchanged n old (old + 1)
-        (λ x. (w : View) × (a : Rattle.atomic_table.specs.Table.Act Entry) × Valid s.homes m.1 a × KeepsOneHistory (stepped s 0 x id m.1 w a) × EnlistStep (step slots 0 old (old + 1) none) m n (w, carried_after m.1 a))
-        (λ hit. let left : r.enlisted < 255 = omega arith in (
-          enlisted_as v r.history (r.enlisted + 1),
-          keeps,
-          tt,
-          enlist_keeps s r id v here left m.1 (old + 1) (omega arith),
-          record { won = λ _. enlist_tells s r id v here left n is; missed = λ miss. absurd (miss hit) },
-        ))
-        (λ miss. (
-          looked v r.history n v.shown v.trail,
-          keeps,
-          tt,
-          look_keeps s r id v here 0 m.1 n v.shown v.trail (omega arith),
-          record {
-            won = λ hit. absurd (miss hit);
-            missed = λ _. record { sees = look_tells s r id v here n v.shown v.trail; above = omega arith; few = omega arith; listed = refl; shown = refl; trail = refl };
-          },
-        ))
+    (λ x. (w : View) × (a : Rattle.atomic_table.specs.Table.Act Entry) × Valid s.homes m.1 a × KeepsOneHistory (stepped s 0 x id m.1 w a) × EnlistStep (step slots 0 old (old + 1) none) m n (w, carried_after m.1 a))
+    (λ hit. let left : r.enlisted < 255 = omega arith in (
+      enlisted_as v r.history (r.enlisted + 1),
+      keeps,
+      tt,
+      enlist_keeps s r id v here left m.1 (old + 1) (omega arith),
+      record { won = λ _. enlist_tells s r id v here left n is; missed = λ miss. absurd (miss hit) },
+    ))
+    (λ miss. (
+      looked v r.history n v.shown v.trail,
+      keeps,
+      tt,
+      look_keeps s r id v here 0 m.1 n v.shown v.trail (omega arith),
+      record {
+        won = λ hit. absurd (miss hit);
+        missed = λ _. record { sees = look_tells s r id v here n v.shown v.trail; above = omega arith; few = omega arith; listed = refl; shown = refl; trail = refl };
+      },
+    ))
 
 -- one seat more, of a view without a number
 added : (s : Position) (r : KeepsOneHistory s) (id : ℕ) (v w : View) → get_elem? s.views id ≡ some v → w.number ≡ 0 → Fits r.history r.enlisted w

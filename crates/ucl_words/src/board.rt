@@ -219,10 +219,10 @@ impl WordBoard {
     {
         let mut known = 0;
         'tries: while known < MOST_REPORTERS {
-            let found =
-                self.table
-                    .shared
-                    .compare_exchange::<Enlist>(seat, ENLISTED, known, known + 1);
+            let found = self
+                .table
+                .shared
+                .compare_exchange::<Enlist>(seat, ENLISTED, known, known + 1);
             if found == known {
                 return ReporterNo::new((known + 1) as u8);
             }

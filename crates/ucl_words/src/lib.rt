@@ -11,3 +11,6 @@ mod view;
 pub use board::WordBoard;
 pub use passes::{WordReaderPass, WordReporterPass};
 pub use view::View;
+
+#[cfg(test)]
+mod tests;

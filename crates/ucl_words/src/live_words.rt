@@ -53,12 +53,7 @@ impl LiveBoard for WordBoard {
         self.enlist_now(pass)
     }
 
-    fn meet<R: Wait>(
-        &self,
-        _rt: &R,
-        first: &mut WordReporterPass,
-        second: &mut WordReporterPass,
-    ) {
+    fn meet<R: Wait>(&self, _rt: &R, first: &mut WordReporterPass, second: &mut WordReporterPass) {
         self.meet_now(first, second);
     }
 
