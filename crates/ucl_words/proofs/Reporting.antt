@@ -1,0 +1,172 @@
+-- What a report says: one load on whose word the rules refuse, or a load and an exchange.
+use Rattle.std.proofs.Common.{◌≡◌, ◌≢◌, inl, inr, ℕ, ◌+◌, ◌-◌, ◌<◌, ◌≤◌, List, [], ◌∷◌, ◌++◌, length, take, set, refl, sym, ap, ◌∙◌, subst, arith, le_refl, append_assoc, length-append}
+use Rattle.std.specs.Prelude.{Result, Ok, Err, Option, Some, None, IsOk}
+use Rattle.std.proofs.Math.Seq.{take-length}
+use mathlib.Core.List.{IsPrefix}
+use Rattle.ucl_word.specs.declared.record.MatchRecord.{MatchRecord}
+use Rattle.ucl_word.specs.declared.event.Kind.{Kind}
+use Rattle.ucl_word.specs.declared.event.EventCall.{EventCall}
+use Rattle.ucl_word.specs.declared.event.Accepted.{Accepted}
+use Rattle.ucl_word.specs.declared.refusal.Refusal.{Refusal}
+use Rattle.ucl_word.specs.declared.refusal.Refusal.TheVariants.{Stale}
+use Rattle.ucl_word.specs.Rules.{refusal_of, after, answer, reply_of}
+use Rattle.ucl_word.specs.Layout.{word_of, record_at}
+use Rattle.ucl_word.specs.Counts.{MatchEntry, counted_match, entered, IsLegalMatch}
+use Rattle.ucl_word.proofs.Accepting.{after_number}
+use Rattle.ucl_board.specs.declared.entry.Entry.{Entry}
+use Rattle.ucl_board.specs.Fixtures.{IsMatch}
+use Rattle.ucl_board.specs.Words.{word_at}
+use Rattle.ucl_board.specs.History.{match_after, board_of, IsLegal, followed_by, entry_of, sequential_reply}
+use Rattle.ucl_board.proofs.Histories.{game_after, next_board, accepted_reply, refused_reply}
+use Rattle.ucl_steps.specs.Trails.{Act, Look, Swap, Mark, mark, Does, Follows, ReportMarks, decided_at}
+use Rattle.ucl_steps.proofs.Marks.{follows_longer, follows_wider, follows_append, follows_one, report_whole}
+use Rattle.ucl_pass.specs.Passes.{Known, IsSound, SeesOn, Continues, AcceptedReport, RefusedReport}
+use Rattle.ucl_pass.proofs.Lists.{begins_same, begins_more, begins_through, begins_length}
+use Rattle.ucl_words.specs.declared.view.View.{View}
+use Rattle.ucl_words.specs.Views.{known_of}
+use Rattle.ucl_words.specs.WordSteps.{LoadsMatch, Loads, ExchangeMissed, ExchangeWon, IsNextWord}
+use Rattle.ucl_words.specs.WordCalls.{HasTrail, IsSteady, Leaves, ReportSteps, Walks}
+use Rattle.ucl_words.proofs.Walking.{trail_on, found_word, walks_on, walks_load}
+
+-- the word of the record with one event more, whatever the history is
+pub next_word : (game reporter : ℕ) (kind : Kind) (loaded next : ℕ) (before m : MatchRecord) → IsMatch game → before ≡ record_at loaded → next ≡ word_of m
+    → ((es : List MatchEntry) → IsLegalMatch es → counted_match es ≡ before → (m ≡ counted_match (entered es reporter kind)) × IsLegalMatch (entered es reporter kind))
+    → IsNextWord (record { game = game; reporter = reporter; kind = kind }) loaded next
+next_word game reporter kind loaded next before m is was packed counted h legal word =
+    let there : before ≡ record_at (word_at (board_of h) game) = was ∙ ap record_at (sym word) in
+    let made = next_board h (board_of h) game reporter kind m legal refl is (λ es legal_es same. counted es legal_es (same ∙ sym there)) in
+    (ap (λ (x : ℕ). set (board_of h) (game - 1) x) packed ∙ made.0, made.1)
+
+-- a load, for a report
+module _ (v u : View) (call : EventCall) (loaded : ℕ) (is : IsMatch call.game) (steady : IsSteady v) (looked : Loads Look call.game v loaded u) where
+  abbrev look_mark : Mark
+  look_mark = mark Look call.game loaded (length u.seen)
+
+  pub look_walks : Walks v (look_mark ∷ []) u
+  look_walks = walks_load Look call.game loaded v u is steady looked.loads
+
+  -- on whose word the rules refuse
+  module _ (refusal : Refusal) (refused : refusal_of (record_at loaded) call.expected call.kind ≡ Some refusal) where
+    pub look_steps : ReportSteps v call (Err refusal) u
+    look_steps = record {
+      marks = look_mark ∷ [];
+      leaves = look_walks.leaves;
+      report = inl (record { looked = look_mark; marks = refl; act = (refl, refl); answer = sym (refused_reply (record_at loaded) (record_at loaded) call refusal refl refused); last = refl });
+    }
+
+    pub look_refuses : RefusedReport (known_of v) call refusal (known_of u)
+    unfolding look_steps
+    look_refuses = record {
+      answer = ap (λ (h : List Entry). sequential_reply h call) (sym (take-length u.seen))
+          ∙ report_whole u.seen (length v.seen) (length u.seen) (length u.seen) call (Err refusal) (look_mark ∷ []) look_walks.steady.sound.legal look_walks.leaves.follows look_steps.report;
+      mine = look_walks.mine;
+      shown = looked.shown;
+    }
+
+  -- on whose word they accept, and an exchange
+  module _ (reply : Accepted) (accepts : reply_of (record_at loaded) call ≡ Ok reply) (z : View) (found : ℕ) where
+    may : IsOk (reply_of (record_at loaded) call)
+    may = subst (λ (r : Result Accepted Refusal). IsOk r) (sym accepts) refl
+
+    -- that was missed
+    module _ (other : found ≢ loaded) (missed : ExchangeMissed call.game u found z) where
+      abbrev swap_mark : Mark
+      swap_mark = mark Swap call.game found (length z.seen)
+
+      pub miss_walks : Walks v (look_mark ∷ swap_mark ∷ []) z
+      miss_walks = walks_on v u z (look_mark ∷ []) (swap_mark ∷ []) look_walks (walks_load Swap call.game found u z is look_walks.steady missed.loads)
+
+      pub miss_steps : (refusal : Refusal) → refusal ≡ Stale (record_at found).number → ReportSteps v call (Err refusal) z
+      miss_steps refusal stale = record {
+        marks = look_mark ∷ swap_mark ∷ [];
+        leaves = miss_walks.leaves;
+        report = inr (record { looked = look_mark; swapped = swap_mark; marks = refl; acts = ((refl, refl), (refl, refl)); may = may; other = other; answer = stale; last = refl });
+      }
+
+      pub miss_refuses : (refusal : Refusal) → refusal ≡ Stale (record_at found).number → RefusedReport (known_of v) call refusal (known_of z)
+      unfolding miss_steps
+      miss_refuses refusal stale = record {
+        answer = ap (λ (h : List Entry). sequential_reply h call) (sym (take-length z.seen))
+            ∙ report_whole z.seen (length v.seen) (length z.seen) (length z.seen) call (Err refusal) (look_mark ∷ swap_mark ∷ []) miss_walks.steady.sound.legal miss_walks.leaves.follows (miss_steps refusal stale).report;
+        mine = miss_walks.mine;
+        shown = missed.shown ∙ looked.shown;
+      }
+
+    -- that was won
+    module _ (same : found ≡ loaded) (won : ExchangeWon (entry_of (v.number, call)) u found z) where
+      abbrev won_mark : Mark
+      won_mark = mark Swap call.game found (length won.before)
+
+      since : IsPrefix v.seen won.before
+      since = begins_through v.seen u.seen won.before look_walks.on.seen won.seen
+
+      begun : IsPrefix won.before z.seen
+      begun = subst (λ (h : List Entry). IsPrefix won.before h) (sym won.last) (begins_more won.before won.before (entry_of (v.number, call)) (begins_same won.before))
+
+      one_more : length z.seen ≡ length won.before + 1
+      one_more = ap length won.last ∙ length-append won.before (entry_of (v.number, call) ∷ [])
+
+      won_follows : Follows z.seen (length v.seen) (look_mark ∷ won_mark ∷ []) (length z.seen)
+      won_follows =
+          let n = one_more in
+          let one : Follows won.before (length u.seen) (won_mark ∷ []) (length won.before) =
+          follows_one won.before (length u.seen) won_mark (begins_length u.seen won.before won.seen) refl (found_word won.before call.game found is won.word) in
+          let both : Follows won.before (length v.seen) (look_mark ∷ won_mark ∷ []) (length won.before) =
+          follows_append won.before (length v.seen) (length u.seen) (length won.before) (look_mark ∷ []) (won_mark ∷ [])
+          (follows_longer u.seen won.before (length v.seen) (length u.seen) (look_mark ∷ []) won.seen (le_refl (length u.seen)) look_walks.leaves.follows) one in
+          follows_wider z.seen (length v.seen) (length v.seen) (length won.before) (length z.seen) (look_mark ∷ won_mark ∷ []) (le_refl (length v.seen)) (omega arith)
+          (follows_longer won.before z.seen (length v.seen) (length won.before) (look_mark ∷ won_mark ∷ []) begun (le_refl (length won.before)) both)
+
+      won_trail : z.trail ≡ v.trail ++ look_mark ∷ won_mark ∷ []
+      won_trail = won.trail ∙ (ap (λ (t : List Mark). t ++ won_mark ∷ []) look_walks.leaves.trail ∙ append_assoc v.trail (look_mark ∷ []) (won_mark ∷ []))
+
+      won_whole : HasTrail z
+      won_whole = subst (λ (t : List Mark). Follows z.seen 0 t (length z.seen)) (sym won_trail)
+          (trail_on v.seen z.seen v.trail (look_mark ∷ won_mark ∷ []) (begins_through v.seen won.before z.seen since begun) steady.trail won_follows)
+
+      pub won_steady : IsSteady z
+      won_steady = record {
+        sound = record { legal = won.legal; own = won.own; few = (let a = steady.sound.few in let b = looked.loads.listed in let d = won.listed in omega arith) };
+        kept = won.kept;
+        trail = won_whole;
+      }
+
+      pub won_continues : Continues (known_of v) (known_of z)
+      won_continues = record {
+        sound = won_steady.sound;
+        on = record { seen = begins_through v.seen won.before z.seen since begun; listed = (let b = looked.loads.listed in let d = won.listed in omega arith) };
+        number = won.number ∙ look_walks.number;
+      }
+
+      pub won_steps : ReportSteps v call (Ok reply) z
+      won_steps = record {
+        marks = look_mark ∷ won_mark ∷ [];
+        leaves = record { trail = won_trail; taken = (let a = look_walks.leaves.taken in let b = won.taken in omega arith); follows = won_follows; whole = won_whole };
+        report = record { looked = look_mark; swapped = won_mark; marks = refl; acts = ((refl, refl), (refl, refl)); answer = accepts; same = same; last = sym one_more };
+      }
+
+      pub won_accepts : AcceptedReport (known_of v) call reply (known_of z)
+      won_accepts = record {
+        before = won.before;
+        last = won.last;
+        since = since;
+        answer = ap (λ (m : MatchRecord). reply_of m call) (sym (ap record_at (sym same ∙ won.word) ∙ game_after won.before call.game before_legal is)) ∙ accepts;
+        mine = won.mine ∙ ap (λ (l : List Entry). followed_by l (entry_of (v.number, call))) look_walks.mine;
+        shown = won.shown ∙ looked.shown;
+      }
+        where
+          before_legal : IsLegal won.before
+          before_legal = Rattle.ucl_board.proofs.HistoryLaws.beginnings won.before (entry_of (v.number, call) ∷ []) (subst IsLegal won.last won.legal)
+
+-- what the rules accept
+pub accepts_by : (word number : ℕ) (reporter : ℕ) (call : EventCall) (before m : MatchRecord) → before ≡ record_at word → refusal_of before call.expected call.kind ≡ None → m ≡ after before reporter call.kind → number ≡ m.number
+    → reply_of (record_at word) call ≡ Ok (record { number = number })
+accepts_by word number reporter call before m was none is said =
+    sym (accepted_reply before (record_at word) call number was none (said ∙ (ap (λ (x : MatchRecord). x.number) is ∙ after_number before reporter call.kind)))
+
+pub refused_by : (word : ℕ) (call : EventCall) (refusal : Refusal) (before : MatchRecord) → before ≡ record_at word → refusal_of before call.expected call.kind ≡ Some refusal → refusal_of (record_at word) call.expected call.kind ≡ Some refusal
+refused_by word call refusal before is refused = subst (λ (m : MatchRecord). refusal_of m call.expected call.kind ≡ Some refusal) is refused
+
+-- the entry under the number of the pass
+pub as_entry : (v u z : View) (call : EventCall) (reporter found : ℕ) → v.number ≡ reporter → ExchangeWon (record { game = call.game; reporter = reporter; kind = call.kind }) u found z → ExchangeWon (entry_of (v.number, call)) u found z
+as_entry v u z call reporter found is won = subst (λ (n : ℕ). ExchangeWon (record { game = call.game; reporter = n; kind = call.kind }) u found z) (sym is) won

@@ -1,0 +1,8 @@
+use Rattle.std.proofs.Common.{◌≡◌, ap, sym, subst, refl}
+use Rattle.ucl_words.specs.declared.view.View.{View}
+use Rattle.ucl_words.specs.WordCalls.{IsSteady}
+use Rattle.ucl_words.proofs.Moves.{opens}
+use Rattle.ucl_words.proofs.board.WordBoard.open.Goals as goal
+
+pub of_words-requires : goal.of_words-requires
+of_words-requires g c = opens

@@ -1,0 +1,4 @@
+pub mod Views
+pub mod WordRule
+pub mod WordSteps
+pub mod WordCalls

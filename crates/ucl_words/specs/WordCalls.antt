@@ -1,0 +1,89 @@
+-- What a call of the word board says of the steps that it takes, one by one: the pass was v and is w.
+use Rattle.std.specs.Prelude.{◌≡◌, ℕ, ◌+◌, ◌<◌, ◌≤◌, List, [], ◌∷◌, ◌++◌, length, Some, slice_get, Result}
+use Rattle.ucl_word.specs.declared.event.EventCall.{EventCall}
+use Rattle.ucl_word.specs.declared.event.Accepted.{Accepted}
+use Rattle.ucl_word.specs.declared.refusal.Refusal.{Refusal}
+use Rattle.ucl_board.specs.declared.reading.Reading.{Reading}
+use Rattle.ucl_steps.specs.Trails.{First, Second, Mark, Follows, ReportMarks, IsCollect, IsBroken, ReadingMarks}
+use Rattle.ucl_pass.specs.Passes.{IsSound, SeesOn}
+use Rattle.ucl_words.specs.declared.view.View.{View}
+use Rattle.ucl_words.specs.Views.{known_of}
+
+-- along the whole trail the places never fall, and each word that was found is that of its match at its place
+abbrev pub HasTrail : View → Type 0
+HasTrail v = Follows v.seen 0 v.trail (length v.seen)
+
+-- what holds of a pass between calls
+pub record IsSteady (v : View) : Type 0 where
+  pub sound : IsSound (known_of v)
+  pub kept : v.kept ≡ []
+  pub trail : HasTrail v
+
+-- the steps of a call are on match words alone: each leaves one mark, and these are between what was seen before and what is seen after
+pub record Leaves (v : View) (marks : List Mark) (w : View) : Type 0 where
+  pub trail : w.trail ≡ v.trail ++ marks
+  pub taken : w.taken ≡ v.taken + length marks
+  pub follows : Follows w.seen (length v.seen) marks (length w.seen)
+  pub whole : HasTrail w
+
+-- the steps of a report
+pub record ReportSteps (v : View) (call : EventCall) (reply : Result Accepted Refusal) (w : View) : Type 0 where
+  pub marks : List Mark
+  pub leaves : Leaves v marks w
+  pub report : ReportMarks call reply marks (length w.seen)
+
+-- the steps of a reading, in tries: there are at most 12,277
+pub record ReadingSteps (v : View) (reading : Reading) (w : View) : Type 0 where
+  pub marks : List Mark
+  pub leaves : Leaves v marks w
+  pub collects : ReadingMarks reading marks
+  pub few : length collects.tries + 1 ≤ 12277
+
+-- a call that leaves no mark
+pub record KeepsTrail (v w : View) : Type 0 where
+  pub trail : w.trail ≡ v.trail
+  pub whole : HasTrail w
+
+-- the parts of a reading
+
+-- steps on match words that stored nothing
+pub record Walks (v : View) (marks : List Mark) (w : View) : Type 0 where
+  pub steady : IsSteady w
+  pub on : SeesOn (known_of v) (known_of w)
+  pub mine : w.mine ≡ v.mine
+  pub number : w.number ≡ v.number
+  pub leaves : Leaves v marks w
+
+-- a first collect of these words: its last mark is at the whole history
+pub record IsFirstCollect (words : List ℕ) (marks : List Mark) (now : ℕ) : Type 0 where
+  pub twelve : length marks ≡ 12
+  pub words_are : IsCollect First words marks
+  pub last : (m : Mark) → slice_get marks 11 ≡ Some m → m.at ≡ now
+
+pub record Collects (v : View) (words : List ℕ) (w : View) : Type 0 where
+  pub marks : List Mark
+  pub walks : Walks v marks w
+  pub collect : IsFirstCollect words marks (length w.seen)
+  pub shown : w.shown ≡ v.shown
+
+-- the trail ends with a first collect
+pub record HasCollected (words : List ℕ) (v : View) : Type 0 where
+  pub before : List Mark
+  pub marks : List Mark
+  pub trail : v.trail ≡ before ++ marks
+  pub collect : IsFirstCollect words marks (length v.seen)
+
+-- a second collect that found all words again: the version that it shows is the length of the history at the end of the first
+pub record FindsAgain (v : View) (words : List ℕ) (w : View) : Type 0 where
+  pub marks : List Mark
+  pub walks : Walks v marks w
+  pub twelve : length marks ≡ 12
+  pub again : IsCollect Second words marks
+  pub shown : w.shown ≡ v.shown ++ length v.seen ∷ []
+
+-- a second collect that found another word
+pub record FindsAnother (v : View) (words : List ℕ) (w : View) : Type 0 where
+  pub marks : List Mark
+  pub walks : Walks v marks w
+  pub broken : IsBroken words marks
+  pub shown : w.shown ≡ v.shown
