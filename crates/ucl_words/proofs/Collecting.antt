@@ -24,6 +24,7 @@ use Rattle.ucl_words.specs.Views.{known_of}
 use Rattle.ucl_words.specs.WordSteps.{Loads, LoadsLast, no_mark, twelfth_first, version_shown}
 use Rattle.ucl_words.specs.WordCalls.{IsSteady, ReadingSteps, Walks, IsFirstCollect, Collects, HasCollected, FindsAgain, FindsAnother}
 use Rattle.ucl_words.proofs.Walking.{walks_none, walks_on, walks_load, walks_continue}
+use Rattle.ucl_words.proofs.Joining.{reading_machine}
 
 -- after some loads of a collect
 pub record Collected (act : Act) (v : View) (words : List ℕ) (count : ℕ) (w : View) : Type 0 where
@@ -247,7 +248,7 @@ module _ (x u w : View) (words : List ℕ) (long : length words ≡ 12) (collect
   version_seen : version_of words ≡ length u.seen
   version_seen = ap version_of words_seen ∙ (versions u.seen collects.walks.steady.sound.legal).0
 
-  module _ (v : View) (tried : Tried v x) where
+  module _ (v : View) (steady : IsSteady v) (tried : Tried v x) where
     abbrev all_marks : List Mark
     all_marks = marks_of tried.tries ++ (collects.marks ++ again.marks)
 
@@ -277,7 +278,7 @@ module _ (x u w : View) (words : List ℕ) (long : length words ≡ 12) (collect
             mine = all_walks.mine;
             shown = again.shown ∙ ap (λ (l : List ℕ). l ++ length u.seen ∷ []) (collects.shown ∙ tried.shown);
           };
-          steps = record { marks = all_marks; leaves = all_walks.leaves; collects = reading_marks; few = omega arith };
+          steps = record { marks = all_marks; leaves = all_walks.leaves; collects = reading_marks; few = omega arith; machine = reading_machine v w clean_reading all_marks steady all_walks reading_marks };
           least = omega arith;
           most = omega arith;
         }

@@ -17,6 +17,7 @@ use Rattle.ucl_board.specs.declared.entry.Entry.{Entry}
 use Rattle.ucl_board.specs.Fixtures.{IsMatch}
 use Rattle.ucl_board.specs.Words.{word_at}
 use Rattle.ucl_board.specs.History.{match_after, board_of, IsLegal, followed_by, entry_of, sequential_reply}
+use Rattle.ucl_board.proofs.HistoryLaws.{beginnings}
 use Rattle.ucl_board.proofs.Histories.{game_after, next_board, accepted_reply, refused_reply}
 use Rattle.ucl_steps.specs.Trails.{Act, Look, Swap, Mark, mark, Does, Follows, ReportMarks, decided_at}
 use Rattle.ucl_steps.proofs.Marks.{follows_longer, follows_wider, follows_append, follows_one, report_whole}
@@ -25,8 +26,9 @@ use Rattle.ucl_pass.proofs.Lists.{begins_same, begins_more, begins_through, begi
 use Rattle.ucl_words.specs.declared.view.View.{View}
 use Rattle.ucl_words.specs.Views.{known_of}
 use Rattle.ucl_words.specs.WordSteps.{LoadsMatch, Loads, ExchangeMissed, ExchangeWon, IsNextWord}
-use Rattle.ucl_words.specs.WordCalls.{HasTrail, IsSteady, Leaves, ReportSteps, Walks}
+use Rattle.ucl_words.specs.WordCalls.{HasTrail, IsSteady, LeavesMarks, ReportSteps, Walks}
 use Rattle.ucl_words.proofs.Walking.{trail_on, found_word, walks_on, walks_load}
+use Rattle.ucl_words.proofs.Joining.{refused_machine, accepted_machine}
 
 -- the word of the record with one event more, whatever the history is
 pub next_word : (game reporter : ℕ) (kind : Kind) (loaded next : ℕ) (before m : MatchRecord) → IsMatch game → before ≡ record_at loaded → next ≡ word_of m
@@ -38,7 +40,7 @@ next_word game reporter kind loaded next before m is was packed counted h legal 
     (ap (λ (x : ℕ). set (board_of h) (game - 1) x) packed ∙ made.0, made.1)
 
 -- a load, for a report
-module _ (v u : View) (call : EventCall) (loaded : ℕ) (is : IsMatch call.game) (steady : IsSteady v) (looked : Loads Look call.game v loaded u) where
+module _ (v u : View) (call : EventCall) (loaded : ℕ) (is : IsMatch call.game) (me : (0 < v.number) × (v.number ≤ 255)) (steady : IsSteady v) (looked : Loads Look call.game v loaded u) where
   abbrev look_mark : Mark
   look_mark = mark Look call.game loaded (length u.seen)
 
@@ -47,18 +49,16 @@ module _ (v u : View) (call : EventCall) (loaded : ℕ) (is : IsMatch call.game)
 
   -- on whose word the rules refuse
   module _ (refusal : Refusal) (refused : refusal_of (record_at loaded) call.expected call.kind ≡ Some refusal) where
+    look_report : ReportMarks call (Err refusal) (look_mark ∷ []) (length u.seen)
+    look_report = inl (record { looked = look_mark; marks = refl; act = (refl, refl); answer = sym (refused_reply (record_at loaded) (record_at loaded) call refusal refl refused); last = refl })
+
     pub look_steps : ReportSteps v call (Err refusal) u
-    look_steps = record {
-      marks = look_mark ∷ [];
-      leaves = look_walks.leaves;
-      report = inl (record { looked = look_mark; marks = refl; act = (refl, refl); answer = sym (refused_reply (record_at loaded) (record_at loaded) call refusal refl refused); last = refl });
-    }
+    look_steps = record { marks = look_mark ∷ []; leaves = look_walks.leaves; report = look_report; machine = refused_machine v u call refusal (look_mark ∷ []) me.0 me.1 is steady look_walks look_report }
 
     pub look_refuses : RefusedReport (known_of v) call refusal (known_of u)
-    unfolding look_steps
     look_refuses = record {
       answer = ap (λ (h : List Entry). sequential_reply h call) (sym (take-length u.seen))
-          ∙ report_whole u.seen (length v.seen) (length u.seen) (length u.seen) call (Err refusal) (look_mark ∷ []) look_walks.steady.sound.legal look_walks.leaves.follows look_steps.report;
+          ∙ report_whole u.seen (length v.seen) (length u.seen) (length u.seen) call (Err refusal) (look_mark ∷ []) look_walks.steady.sound.legal look_walks.leaves.follows look_report;
       mine = look_walks.mine;
       shown = looked.shown;
     }
@@ -76,18 +76,21 @@ module _ (v u : View) (call : EventCall) (loaded : ℕ) (is : IsMatch call.game)
       pub miss_walks : Walks v (look_mark ∷ swap_mark ∷ []) z
       miss_walks = walks_on v u z (look_mark ∷ []) (swap_mark ∷ []) look_walks (walks_load Swap call.game found u z is look_walks.steady missed.loads)
 
+      miss_report : (refusal : Refusal) → refusal ≡ Stale (record_at found).number → ReportMarks call (Err refusal) (look_mark ∷ swap_mark ∷ []) (length z.seen)
+      miss_report refusal stale = inr (record { looked = look_mark; swapped = swap_mark; marks = refl; acts = ((refl, refl), (refl, refl)); may = may; other = other; answer = stale; last = refl })
+
       pub miss_steps : (refusal : Refusal) → refusal ≡ Stale (record_at found).number → ReportSteps v call (Err refusal) z
       miss_steps refusal stale = record {
         marks = look_mark ∷ swap_mark ∷ [];
         leaves = miss_walks.leaves;
-        report = inr (record { looked = look_mark; swapped = swap_mark; marks = refl; acts = ((refl, refl), (refl, refl)); may = may; other = other; answer = stale; last = refl });
+        report = miss_report refusal stale;
+        machine = refused_machine v z call refusal (look_mark ∷ swap_mark ∷ []) me.0 me.1 is steady miss_walks (miss_report refusal stale);
       }
 
       pub miss_refuses : (refusal : Refusal) → refusal ≡ Stale (record_at found).number → RefusedReport (known_of v) call refusal (known_of z)
-      unfolding miss_steps
       miss_refuses refusal stale = record {
         answer = ap (λ (h : List Entry). sequential_reply h call) (sym (take-length z.seen))
-            ∙ report_whole z.seen (length v.seen) (length z.seen) (length z.seen) call (Err refusal) (look_mark ∷ swap_mark ∷ []) miss_walks.steady.sound.legal miss_walks.leaves.follows (miss_steps refusal stale).report;
+            ∙ report_whole z.seen (length v.seen) (length z.seen) (length z.seen) call (Err refusal) (look_mark ∷ swap_mark ∷ []) miss_walks.steady.sound.legal miss_walks.leaves.follows (miss_report refusal stale);
         mine = miss_walks.mine;
         shown = missed.shown ∙ looked.shown;
       }
@@ -138,11 +141,21 @@ module _ (v u : View) (call : EventCall) (loaded : ℕ) (is : IsMatch call.game)
         number = won.number ∙ look_walks.number;
       }
 
+      before_legal : IsLegal won.before
+      before_legal = beginnings won.before (entry_of (v.number, call) ∷ []) (subst IsLegal won.last won.legal)
+
+      won_mine : z.mine ≡ followed_by v.mine (entry_of (v.number, call))
+      won_mine = won.mine ∙ ap (λ (l : List Entry). followed_by l (entry_of (v.number, call))) look_walks.mine
+
+      won_report : ReportMarks call (Ok reply) (look_mark ∷ won_mark ∷ []) (length z.seen)
+      won_report = record { looked = look_mark; swapped = won_mark; marks = refl; acts = ((refl, refl), (refl, refl)); answer = accepts; same = same; last = sym one_more }
+
       pub won_steps : ReportSteps v call (Ok reply) z
       won_steps = record {
         marks = look_mark ∷ won_mark ∷ [];
         leaves = record { trail = won_trail; taken = (let a = look_walks.leaves.taken in let b = won.taken in omega arith); follows = won_follows; whole = won_whole };
-        report = record { looked = look_mark; swapped = won_mark; marks = refl; acts = ((refl, refl), (refl, refl)); answer = accepts; same = same; last = sym one_more };
+        report = won_report;
+        machine = accepted_machine v z call reply (look_mark ∷ won_mark ∷ []) won.before me.0 me.1 is steady won_steady won.last since before_legal won_mine (won.number ∙ look_walks.number) won_follows won_report;
       }
 
       pub won_accepts : AcceptedReport (known_of v) call reply (known_of z)
@@ -151,12 +164,9 @@ module _ (v u : View) (call : EventCall) (loaded : ℕ) (is : IsMatch call.game)
         last = won.last;
         since = since;
         answer = ap (λ (m : MatchRecord). reply_of m call) (sym (ap record_at (sym same ∙ won.word) ∙ game_after won.before call.game before_legal is)) ∙ accepts;
-        mine = won.mine ∙ ap (λ (l : List Entry). followed_by l (entry_of (v.number, call))) look_walks.mine;
+        mine = won_mine;
         shown = won.shown ∙ looked.shown;
       }
-        where
-          before_legal : IsLegal won.before
-          before_legal = Rattle.ucl_board.proofs.HistoryLaws.beginnings won.before (entry_of (v.number, call) ∷ []) (subst IsLegal won.last won.legal)
 
 -- what the rules accept
 pub accepts_by : (word number : ℕ) (reporter : ℕ) (call : EventCall) (before m : MatchRecord) → before ≡ record_at word → refusal_of before call.expected call.kind ≡ None → m ≡ after before reporter call.kind → number ≡ m.number
@@ -170,3 +180,7 @@ refused_by word call refusal before is refused = subst (λ (m : MatchRecord). re
 -- the entry under the number of the pass
 pub as_entry : (v u z : View) (call : EventCall) (reporter found : ℕ) → v.number ≡ reporter → ExchangeWon (record { game = call.game; reporter = reporter; kind = call.kind }) u found z → ExchangeWon (entry_of (v.number, call)) u found z
 as_entry v u z call reporter found is won = subst (λ (n : ℕ). ExchangeWon (record { game = call.game; reporter = n; kind = call.kind }) u found z) (sym is) won
+
+-- the number of a reporter's pass
+pub me_in : (v : View) (reporter : ℕ) → (0 < reporter) × (reporter ≤ 255) × (v.number ≡ reporter) → (0 < v.number) × (v.number ≤ 255)
+me_in v reporter me = let a = me.0 in let b = me.1 in let is = me.2 in (omega arith, omega arith)

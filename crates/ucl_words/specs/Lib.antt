@@ -1,4 +1,5 @@
 pub mod Views
 pub mod WordRule
 pub mod WordSteps
+pub mod WordMachine
 pub mod WordCalls

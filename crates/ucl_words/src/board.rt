@@ -120,7 +120,7 @@ impl WordBoard {
     ) -> Result<Accepted, Refusal>
         requires table { seat.old.table_id ≡ self.now }
         requires steady { IsSteady seat.old.me.0 }
-        requires me { (0 < reporter) × (seat.old.me.0.number ≡ reporter) }
+        requires me { (0 < reporter) × (reporter ≤ 255) × (seat.old.me.0.number ≡ reporter) }
         ensures own { seat.new.table_id ≡ seat.old.table_id }
         ensures steady { IsSteady seat.new.me.0 }
         ensures always { Continues (known_of seat.old.me.0) (known_of seat.new.me.0) }

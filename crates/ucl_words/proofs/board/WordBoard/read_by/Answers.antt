@@ -30,13 +30,13 @@ tries-preserved c = record {
 }
 
 pub returns-then-is_clean-clause-steady : goal.returns-then-is_clean-clause-steady
-returns-then-is_clean-clause-steady c = (reads c.tries.seat.me.0 c.collect-words.new.seat.me.0 c.is_clean.new.seat.me.0 c.collect-words.result c.collect-words.ensures.long c.collect-words.ensures.collects c.if-is_clean.ensures.compared c.args.seat.now.me.0 c.tries.invariant.tried c.reading_of.result c.reading_of.ensures.board c.reading_of.ensures.version).steady
+returns-then-is_clean-clause-steady c = (reads c.tries.seat.me.0 c.collect-words.new.seat.me.0 c.is_clean.new.seat.me.0 c.collect-words.result c.collect-words.ensures.long c.collect-words.ensures.collects c.if-is_clean.ensures.compared c.args.seat.now.me.0 c.requires.steady c.tries.invariant.tried c.reading_of.result c.reading_of.ensures.board c.reading_of.ensures.version).steady
 
 pub returns-then-is_clean-clause-reading : goal.returns-then-is_clean-clause-reading
-returns-then-is_clean-clause-reading c = (reads c.tries.seat.me.0 c.collect-words.new.seat.me.0 c.is_clean.new.seat.me.0 c.collect-words.result c.collect-words.ensures.long c.collect-words.ensures.collects c.if-is_clean.ensures.compared c.args.seat.now.me.0 c.tries.invariant.tried c.reading_of.result c.reading_of.ensures.board c.reading_of.ensures.version).shared
+returns-then-is_clean-clause-reading c = (reads c.tries.seat.me.0 c.collect-words.new.seat.me.0 c.is_clean.new.seat.me.0 c.collect-words.result c.collect-words.ensures.long c.collect-words.ensures.collects c.if-is_clean.ensures.compared c.args.seat.now.me.0 c.requires.steady c.tries.invariant.tried c.reading_of.result c.reading_of.ensures.board c.reading_of.ensures.version).shared
 
 pub returns-then-is_clean-clause-steps : goal.returns-then-is_clean-clause-steps
-returns-then-is_clean-clause-steps c = (reads c.tries.seat.me.0 c.collect-words.new.seat.me.0 c.is_clean.new.seat.me.0 c.collect-words.result c.collect-words.ensures.long c.collect-words.ensures.collects c.if-is_clean.ensures.compared c.args.seat.now.me.0 c.tries.invariant.tried c.reading_of.result c.reading_of.ensures.board c.reading_of.ensures.version).steps
+returns-then-is_clean-clause-steps c = (reads c.tries.seat.me.0 c.collect-words.new.seat.me.0 c.is_clean.new.seat.me.0 c.collect-words.result c.collect-words.ensures.long c.collect-words.ensures.collects c.if-is_clean.ensures.compared c.args.seat.now.me.0 c.requires.steady c.tries.invariant.tried c.reading_of.result c.reading_of.ensures.board c.reading_of.ensures.version).steps
 
 pub returns-then-is_clean-clause-most : goal.returns-then-is_clean-clause-most
-returns-then-is_clean-clause-most c = (reads c.tries.seat.me.0 c.collect-words.new.seat.me.0 c.is_clean.new.seat.me.0 c.collect-words.result c.collect-words.ensures.long c.collect-words.ensures.collects c.if-is_clean.ensures.compared c.args.seat.now.me.0 c.tries.invariant.tried c.reading_of.result c.reading_of.ensures.board c.reading_of.ensures.version).most
+returns-then-is_clean-clause-most c = (reads c.tries.seat.me.0 c.collect-words.new.seat.me.0 c.is_clean.new.seat.me.0 c.collect-words.result c.collect-words.ensures.long c.collect-words.ensures.collects c.if-is_clean.ensures.compared c.args.seat.now.me.0 c.requires.steady c.tries.invariant.tried c.reading_of.result c.reading_of.ensures.board c.reading_of.ensures.version).most
