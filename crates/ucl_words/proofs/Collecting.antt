@@ -1,28 +1,25 @@
 -- The clean double collect: loads of all words, twice, and anew where a word was another.
-use Rattle.std.proofs.Common.{◌≡◌, ◌≢◌, ◌⊎◌, inl, inr, ℕ, zero, suc, ◌+◌, ◌-◌, ◌*◌, ◌==◌, ◌<◌, ◌≤◌, Bool, cond, List, [], ◌∷◌, ◌++◌, length, take, set, get_or, Option, Some, None, refl, sym, ap, ◌∙◌, subst, arith, le_refl, append_assoc, append-nil, length-append, eq-eqb, ne_eqb, get_or-set_same, length-set}
+use Rattle.std.proofs.Common.{◌≡◌, ◌≢◌, inl, inr, ℕ, zero, suc, ◌+◌, ◌-◌, ◌==◌, ◌<◌, ◌≤◌, Bool, cond, List, [], ◌∷◌, ◌++◌, length, take, set, get_or, Some, refl, sym, ap, ◌∙◌, subst, arith, le_refl, append_assoc, append-nil, length-append, eq-eqb, ne_eqb, get_or-set_same}
 use Rattle.std.specs.Prelude.{slice_get, slice_index}
 use Rattle.std.specs.List.{AllByRecursion}
 use Rattle.std.proofs.lemmas.Option.{none-some, same_Some}
 use Rattle.std.proofs.Math.Seq.{take-append_seam}
-use mathlib.Core.List.{IsPrefix}
-use Rattle.ucl_word.proofs.Sequences.{at_below, at_longer, at_either}
-use Rattle.ucl_board.specs.declared.entry.Entry.{Entry}
+use Rattle.ucl_word.proofs.Sequences.{at_longer, at_either}
 use Rattle.ucl_board.specs.declared.reading.Reading.{Reading}
 use Rattle.ucl_board.specs.Fixtures.{IsMatch}
 use Rattle.ucl_board.specs.Words.{AreWords, version_of}
 use Rattle.ucl_board.specs.History.{board_of}
 use Rattle.ucl_board.proofs.Histories.{board_words}
 use Rattle.ucl_board.proofs.HistoryLaws.{versions}
-use Rattle.ucl_steps.specs.Trails.{Act, First, Second, Mark, mark, Does, IsCollect, IsBroken, IsUnclean, IsClean, marks_of, ReadingMarks}
+use Rattle.ucl_steps.specs.Trails.{Act, First, Second, Mark, mark, IsCollect, IsUnclean, IsClean, marks_of, ReadingMarks}
 use Rattle.ucl_steps.specs.Laws.{IsReadFrom}
 use Rattle.ucl_steps.proofs.Lists.{get_some}
 use Rattle.ucl_steps.proofs.Marks.{collect_none, collect_more, collect_set, unclean_try, clean_shows, reading_whole}
 use Rattle.ucl_pass.specs.Passes.{Continues, SharedReading}
-use Rattle.ucl_pass.proofs.Lists.{begins_length}
 use Rattle.ucl_words.specs.declared.view.View.{View}
 use Rattle.ucl_words.specs.Views.{known_of}
 use Rattle.ucl_words.specs.WordSteps.{Loads, LoadsLast, no_mark, twelfth_first, version_shown}
-use Rattle.ucl_words.specs.WordCalls.{IsSteady, ReadingSteps, Walks, IsFirstCollect, Collects, HasCollected, FindsAgain, FindsAnother}
+use Rattle.ucl_words.specs.WordCalls.{IsSteady, ReadingSteps, Walks, Collects, HasCollected, FindsAgain, FindsAnother}
 use Rattle.ucl_words.proofs.Walking.{walks_none, walks_on, walks_load, walks_continue}
 use Rattle.ucl_words.proofs.Joining.{reading_machine}
 

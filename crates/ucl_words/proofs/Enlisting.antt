@@ -1,16 +1,14 @@
 -- What an enlistment and a meeting leave a pass with.
-use Rattle.std.proofs.Common.{◌≡◌, ◌≢◌, ℕ, ◌+◌, ◌<◌, ◌≤◌, [], ◌∷◌, length, List, refl, sym, ap, ◌∙◌, subst, arith, le_refl}
-use Rattle.std.specs.Prelude.{Option, Some, None, IfSome, IfNone}
-use Rattle.std.specs.List.{All}
+use Rattle.std.proofs.Common.{◌≡◌, ◌≢◌, ℕ, ◌+◌, ◌<◌, ◌≤◌, ◌∷◌, length, List, refl, sym, ap, ◌∙◌, subst, arith, le_refl}
+use Rattle.std.specs.Prelude.{Option, Some, None, IfSome}
 use Rattle.std.proofs.lemmas.List.Elements.{All-head, All-tail}
 use mathlib.Core.List.{IsPrefix}
-use Rattle.ucl_board.specs.declared.entry.Entry.{Entry}
 use Rattle.ucl_steps.specs.Trails.{Mark, Follows}
-use Rattle.ucl_pass.specs.Passes.{IsSound, SeesOn, Continues, Enlistment, FullBoard, Meeting}
+use Rattle.ucl_pass.specs.Passes.{SeesOn, Continues, Enlistment, FullBoard, Meeting}
 use Rattle.ucl_pass.proofs.Lists.{begins_same, begins_through, none_by_zero}
 use Rattle.ucl_words.specs.declared.view.View.{View}
 use Rattle.ucl_words.specs.Views.{known_of, second_of, note_of, told_by}
-use Rattle.ucl_words.specs.WordSteps.{Sees, LoadsEnlisted, EnlistMissed, EnlistWon}
+use Rattle.ucl_words.specs.WordSteps.{LoadsEnlisted, EnlistMissed, EnlistWon}
 use Rattle.ucl_words.specs.WordCalls.{HasTrail, IsSteady, KeepsTrail}
 use Rattle.ucl_words.proofs.Walking.{trail_longer}
 

@@ -1,5 +1,5 @@
 -- The steps of a call are steps of the machine.
-use Rattle.std.proofs.Common.{◌≡◌, ◌≢◌, ℕ, zero, suc, ◌+◌, ◌-◌, ◌<◌, ◌≤◌, ◌==◌, ◌&&◌, nat_le, Bool, true, false, cond, List, [], ◌∷◌, ◌++◌, length, take, Some, Result, Ok, Err, refl, sym, ap, ◌∙◌, subst, arith, true≢false, length-append, eq-eqb}
+use Rattle.std.proofs.Common.{◌≡◌, ◌≢◌, ℕ, zero, suc, ◌+◌, ◌-◌, ◌<◌, ◌≤◌, ◌==◌, ◌&&◌, nat_le, Bool, true, false, cond, List, [], ◌∷◌, ◌++◌, length, take, Some, Ok, Err, refl, sym, ap, ◌∙◌, subst, arith, true≢false, length-append, eq-eqb}
 use Rattle.std.specs.Prelude.{slice_get}
 use Rattle.std.proofs.lemmas.Bool.{le-leb}
 use Rattle.std.proofs.lemmas.Option.{none-some, same_Some}
@@ -12,21 +12,20 @@ use Rattle.ucl_board.specs.declared.entry.Entry.{Entry}
 use Rattle.ucl_board.specs.declared.reading.Reading.{Reading}
 use Rattle.ucl_board.specs.Fixtures.{IsMatch}
 use Rattle.ucl_board.specs.History.{IsLegal, followed_by, entry_of}
-use Rattle.ucl_steps.specs.declared.step.Cast.{Cast}
 use Rattle.ucl_steps.specs.declared.step.Caller.{Caller}
 use Rattle.ucl_steps.specs.declared.step.Caller.TheVariants.{Reporter, Reader}
 use Rattle.ucl_steps.specs.declared.step.Call.{Call}
 use Rattle.ucl_steps.specs.declared.step.Call.TheVariants as calls
 use Rattle.ucl_steps.specs.declared.trace.Reply.{Reply}
 use Rattle.ucl_steps.specs.declared.trace.Reply.TheVariants as replies
-use Rattle.ucl_steps.specs.Machine.{MachineState, may_begin}
-use Rattle.ucl_steps.specs.Trails.{Mark, Follows, ReportMarks, decided_at, ReadingMarks}
-use Rattle.ucl_steps.specs.Marking.{IsInCast, IsAtRest, NoneOwn, Leaves, IsMadeBySteps}
+use Rattle.ucl_steps.specs.Machine.{may_begin}
+use Rattle.ucl_steps.specs.Trails.{Mark, Follows, ReportMarks, ReadingMarks}
+use Rattle.ucl_steps.specs.Marking.{IsAtRest, NoneOwn, Leaves}
 use Rattle.ucl_steps.proofs.Calls.{calls_made}
 use Rattle.ucl_pass.specs.Passes.{entries_by}
 use Rattle.ucl_pass.proofs.Lists.{by_more, by_own}
 use Rattle.ucl_words.specs.declared.view.View.{View}
-use Rattle.ucl_words.specs.WordMachine.{report_reply, IsCallerOf, IsMadeByMachine}
+use Rattle.ucl_words.specs.WordMachine.{IsCallerOf, IsMadeByMachine}
 use Rattle.ucl_words.specs.WordCalls.{IsSteady, Walks}
 
 -- entries of others

@@ -19,10 +19,10 @@ use Rattle.ucl_pass.specs.Passes.{entries_by}
 use Rattle.ucl_pass.proofs.Lists.{begins_none, begins_same, begins_more, by_own, by_other, none_by_zero}
 use Rattle.ucl_pass.proofs.Moves.{none_by_more}
 use Rattle.ucl_words.specs.declared.view.View.{View}
-use Rattle.ucl_steps.specs.Trails.{Act, Mark, mark, Look, Second, Swap}
-use Rattle.ucl_words.specs.Views.{newcomer, second_of, note_of, longer_of, told_by}
+use Rattle.ucl_steps.specs.Trails.{Act, Mark, mark, Second, Swap}
+use Rattle.ucl_words.specs.Views.{newcomer, second_of, note_of, told_by}
 use Rattle.ucl_words.specs.WordRule.{words_after, Fits, KeepsOneHistory}
-use Rattle.ucl_words.specs.WordSteps.{Sees, LoadsMatch, Loads, version_shown, LoadsLast, ExchangeWon, IsNextWord, LoadsEnlisted, EnlistMissed, EnlistWon, LoadStep, LastLoadStep, EnlistedStep, ExchangeStep, EnlistStep}
+use Rattle.ucl_words.specs.WordSteps.{Sees, version_shown, ExchangeWon, IsNextWord, EnlistWon, LoadStep, LastLoadStep, EnlistedStep, ExchangeStep, EnlistStep}
 
 abbrev Position : Type 0
 Position = State Entry View

@@ -1,6 +1,6 @@
 -- What a report says: one load on whose word the rules refuse, or a load and an exchange.
-use Rattle.std.proofs.Common.{◌≡◌, ◌≢◌, inl, inr, ℕ, ◌+◌, ◌-◌, ◌<◌, ◌≤◌, List, [], ◌∷◌, ◌++◌, length, take, set, refl, sym, ap, ◌∙◌, subst, arith, le_refl, append_assoc, length-append}
-use Rattle.std.specs.Prelude.{Result, Ok, Err, Option, Some, None, IsOk}
+use Rattle.std.proofs.Common.{◌≡◌, ◌≢◌, inl, inr, ℕ, ◌+◌, ◌-◌, ◌<◌, ◌≤◌, List, [], ◌∷◌, ◌++◌, length, set, refl, sym, ap, ◌∙◌, subst, arith, le_refl, append_assoc, length-append}
+use Rattle.std.specs.Prelude.{Result, Ok, Err, Some, None, IsOk}
 use Rattle.std.proofs.Math.Seq.{take-length}
 use mathlib.Core.List.{IsPrefix}
 use Rattle.ucl_word.specs.declared.record.MatchRecord.{MatchRecord}
@@ -9,24 +9,24 @@ use Rattle.ucl_word.specs.declared.event.EventCall.{EventCall}
 use Rattle.ucl_word.specs.declared.event.Accepted.{Accepted}
 use Rattle.ucl_word.specs.declared.refusal.Refusal.{Refusal}
 use Rattle.ucl_word.specs.declared.refusal.Refusal.TheVariants.{Stale}
-use Rattle.ucl_word.specs.Rules.{refusal_of, after, answer, reply_of}
+use Rattle.ucl_word.specs.Rules.{refusal_of, after, reply_of}
 use Rattle.ucl_word.specs.Layout.{word_of, record_at}
 use Rattle.ucl_word.specs.Counts.{MatchEntry, counted_match, entered, IsLegalMatch}
 use Rattle.ucl_word.proofs.Accepting.{after_number}
 use Rattle.ucl_board.specs.declared.entry.Entry.{Entry}
 use Rattle.ucl_board.specs.Fixtures.{IsMatch}
 use Rattle.ucl_board.specs.Words.{word_at}
-use Rattle.ucl_board.specs.History.{match_after, board_of, IsLegal, followed_by, entry_of, sequential_reply}
+use Rattle.ucl_board.specs.History.{board_of, IsLegal, followed_by, entry_of, sequential_reply}
 use Rattle.ucl_board.proofs.HistoryLaws.{beginnings}
 use Rattle.ucl_board.proofs.Histories.{game_after, next_board, accepted_reply, refused_reply}
-use Rattle.ucl_steps.specs.Trails.{Act, Look, Swap, Mark, mark, Does, Follows, ReportMarks, decided_at}
+use Rattle.ucl_steps.specs.Trails.{Look, Swap, Mark, mark, Follows, ReportMarks}
 use Rattle.ucl_steps.proofs.Marks.{follows_longer, follows_wider, follows_append, follows_one, report_whole}
-use Rattle.ucl_pass.specs.Passes.{Known, IsSound, SeesOn, Continues, AcceptedReport, RefusedReport}
+use Rattle.ucl_pass.specs.Passes.{Continues, AcceptedReport, RefusedReport}
 use Rattle.ucl_pass.proofs.Lists.{begins_same, begins_more, begins_through, begins_length}
 use Rattle.ucl_words.specs.declared.view.View.{View}
 use Rattle.ucl_words.specs.Views.{known_of}
-use Rattle.ucl_words.specs.WordSteps.{LoadsMatch, Loads, ExchangeMissed, ExchangeWon, IsNextWord}
-use Rattle.ucl_words.specs.WordCalls.{HasTrail, IsSteady, LeavesMarks, ReportSteps, Walks}
+use Rattle.ucl_words.specs.WordSteps.{Loads, ExchangeMissed, ExchangeWon, IsNextWord}
+use Rattle.ucl_words.specs.WordCalls.{HasTrail, IsSteady, ReportSteps, Walks}
 use Rattle.ucl_words.proofs.Walking.{trail_on, found_word, walks_on, walks_load}
 use Rattle.ucl_words.proofs.Joining.{refused_machine, accepted_machine}
 

@@ -1,5 +1,5 @@
 -- Steps on match words, one after another.
-use Rattle.std.proofs.Common.{◌≡◌, ℕ, ◌+◌, ◌≤◌, List, [], ◌∷◌, ◌++◌, length, refl, sym, ap, ◌∙◌, subst, arith, le_refl, append_assoc, append-nil, length-append}
+use Rattle.std.proofs.Common.{◌≡◌, ℕ, List, [], ◌∷◌, ◌++◌, length, refl, sym, ap, ◌∙◌, subst, arith, le_refl, append_assoc, append-nil, length-append}
 use mathlib.Core.List.{IsPrefix}
 use Rattle.ucl_word.specs.Layout.{word_of, IsWord}
 use Rattle.ucl_board.specs.declared.entry.Entry.{Entry}
@@ -9,12 +9,12 @@ use Rattle.ucl_board.specs.History.{match_after, board_of, IsLegal}
 use Rattle.ucl_board.proofs.Histories.{word_after, match_valid}
 use Rattle.ucl_steps.specs.Trails.{Act, Mark, mark, Follows}
 use Rattle.ucl_steps.proofs.Marks.{follows_longer, follows_wider, follows_append, follows_one}
-use Rattle.ucl_pass.specs.Passes.{IsSound, SeesOn, Continues}
+use Rattle.ucl_pass.specs.Passes.{Continues}
 use Rattle.ucl_pass.proofs.Lists.{begins_same, begins_through, begins_length}
 use Rattle.ucl_words.specs.declared.view.View.{View}
 use Rattle.ucl_words.specs.Views.{known_of}
 use Rattle.ucl_words.specs.WordSteps.{LoadsMatch}
-use Rattle.ucl_words.specs.WordCalls.{HasTrail, IsSteady, LeavesMarks, Walks}
+use Rattle.ucl_words.specs.WordCalls.{HasTrail, IsSteady, Walks}
 
 -- marks that follow what a trail has, over a history that is longer
 pub trail_on : (s h : List Entry) (old new : List Mark) → IsPrefix s h → Follows s 0 old (length s) → Follows h (length s) new (length h) → Follows h 0 (old ++ new) (length h)

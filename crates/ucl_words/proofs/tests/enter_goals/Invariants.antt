@@ -1,4 +1,4 @@
-use Rattle.std.proofs.Common.{◌≡◌, ◌≤◌}
+use Rattle.std.proofs.Common.{◌≤◌}
 use Rattle.ucl_words.proofs.tests.enter_goals.Given as goal
 
 abbrev pub invariant-loop-expected : goal.invariant-loop-expected

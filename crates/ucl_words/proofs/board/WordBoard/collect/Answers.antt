@@ -1,7 +1,7 @@
-use Rattle.std.proofs.Common.{◌≡◌, ℕ, ◌+◌, ◌<◌, ◌≤◌, set, refl, sym, ◌∙◌, subst, arith, length-set}
+use Rattle.std.proofs.Common.{ℕ, ◌+◌, ◌≤◌, refl, sym, ◌∙◌, arith, length-set}
 use Rattle.ucl_steps.specs.Trails.{First}
 use Rattle.ucl_words.proofs.Moves.{loads}
-use Rattle.ucl_words.proofs.Collecting.{Collected, collected_none, collected_set, collects_all}
+use Rattle.ucl_words.proofs.Collecting.{collected_none, collected_set}
 use Rattle.ucl_words.proofs.board.WordBoard.collect.Goals as goal
 
 pub loop-i-init : goal.loop-i-init

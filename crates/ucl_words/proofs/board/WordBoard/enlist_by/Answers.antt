@@ -1,4 +1,4 @@
-use Rattle.std.proofs.Common.{◌≡◌, ℕ, refl, sym, ◌∙◌, arith}
+use Rattle.std.proofs.Common.{refl, sym, ◌∙◌, arith}
 use Rattle.ucl_words.proofs.Moves.{enlists}
 use Rattle.ucl_words.proofs.Enlisting.{missed_none, missed_higher, missed_more, won_steady, won_enlists, won_trail, won_number, number_told}
 use Rattle.ucl_words.proofs.board.WordBoard.enlist_by.Goals as goal

@@ -1,4 +1,4 @@
-use Rattle.std.proofs.Common.{◌≡◌, ℕ, ◌+◌, ◌<◌, ◌≤◌, refl, sym, ◌∙◌, subst, arith}
+use Rattle.std.proofs.Common.{◌≡◌, ℕ, ◌+◌, ◌≤◌, refl, sym, ◌∙◌, subst, arith}
 use Rattle.ucl_steps.specs.Trails.{Second}
 use Rattle.ucl_words.proofs.Moves.{loads, loads_last}
 use Rattle.ucl_words.proofs.Collecting.{Collected, collected_none, collected_same, collected_other, finds_again, finds_another}

@@ -1,4 +1,4 @@
-use Rattle.std.proofs.Common.{◌≡◌, ℕ, ◌<◌, ◌≤◌, sym, ◌∙◌, subst, arith}
+use Rattle.std.proofs.Common.{ℕ, ◌≤◌, sym, ◌∙◌, subst, arith}
 use Rattle.ucl_steps.specs.Trails as trails
 use Rattle.ucl_words.specs.WordSteps.{Loads}
 use Rattle.ucl_words.proofs.Moves.{loads}

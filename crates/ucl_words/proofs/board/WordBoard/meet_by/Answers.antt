@@ -1,4 +1,4 @@
-use Rattle.std.proofs.Common.{◌≡◌, ap, sym, ◌∙◌, arith}
+use Rattle.std.proofs.Common.{ap, sym, ◌∙◌, arith}
 use Rattle.ucl_words.proofs.Moves.{notes, joins, counts}
 use Rattle.ucl_words.proofs.Enlisting.{met_steady, met_continues, met_says, met_trail, after_told}
 use Rattle.ucl_words.proofs.board.WordBoard.meet_by.Goals as goal

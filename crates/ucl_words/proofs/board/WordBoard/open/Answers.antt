@@ -1,6 +1,3 @@
-use Rattle.std.proofs.Common.{◌≡◌, ap, sym, subst, refl}
-use Rattle.ucl_words.specs.declared.view.View.{View}
-use Rattle.ucl_words.specs.WordCalls.{IsSteady}
 use Rattle.ucl_words.proofs.Moves.{opens}
 use Rattle.ucl_words.proofs.board.WordBoard.open.Goals as goal
 

@@ -1,15 +1,6 @@
-use Rattle.std.proofs.Common.{◌≡◌, ◌≢◌, ℕ, refl, sym, ap, ◌∙◌, subst}
-use Rattle.std.specs.Prelude.{Ok}
-use Rattle.ucl_word.specs.declared.event.Accepted.{Accepted}
-use Rattle.ucl_word.specs.declared.event.EventCall.{EventCall}
+use Rattle.std.proofs.Common.{refl, ap}
 use Rattle.ucl_word.specs.declared.record.MatchRecord.{MatchRecord}
-use Rattle.ucl_word.specs.Layout.{record_at}
-use Rattle.ucl_word.specs.Rules.{refusal_of, reply_of}
-use Rattle.ucl_board.specs.declared.entry.Entry.{Entry}
-use Rattle.ucl_board.specs.History.{entry_of}
 use Rattle.ucl_word.specs.declared.refusal.Refusal.TheVariants.{Stale}
-use Rattle.ucl_words.specs.declared.view.View.{View}
-use Rattle.ucl_words.specs.WordSteps.{ExchangeWon}
 use Rattle.ucl_words.proofs.Walking.{found_valid, walks_continue}
 use Rattle.ucl_words.proofs.Reporting.{next_word, look_walks, look_steps, look_refuses, miss_walks, miss_steps, miss_refuses, won_steady, won_continues, won_steps, won_accepts, accepts_by, refused_by, as_entry, me_in}
 use Rattle.ucl_words.proofs.board.WordBoard.report_by.Goals as goal
