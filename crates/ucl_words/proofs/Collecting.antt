@@ -19,7 +19,8 @@ use Rattle.ucl_pass.specs.Passes.{Continues, SharedReading}
 use Rattle.ucl_words.specs.declared.view.View.{View}
 use Rattle.ucl_words.specs.Views.{known_of}
 use Rattle.ucl_words.specs.WordSteps.{Loads, LoadsLast, no_mark, twelfth_first, version_shown}
-use Rattle.ucl_words.specs.WordCalls.{IsSteady, ReadingSteps, Walks, Collects, HasCollected, FindsAgain, FindsAnother}
+use Rattle.ucl_words.specs.Collects.{Walks, Collects, HasCollected, FindsAgain, FindsAnother}
+use Rattle.ucl_words.specs.WordCalls.{IsSteady, ReadingSteps}
 use Rattle.ucl_words.proofs.Walking.{walks_none, walks_on, walks_load, walks_continue}
 use Rattle.ucl_words.proofs.Joining.{reading_machine}
 

@@ -26,7 +26,8 @@ use Rattle.ucl_pass.specs.Passes.{entries_by}
 use Rattle.ucl_pass.proofs.Lists.{by_more, by_own}
 use Rattle.ucl_words.specs.declared.view.View.{View}
 use Rattle.ucl_words.specs.WordMachine.{IsCallerOf, IsMadeByMachine}
-use Rattle.ucl_words.specs.WordCalls.{IsSteady, Walks}
+use Rattle.ucl_words.specs.Collects.{Walks}
+use Rattle.ucl_words.specs.WordCalls.{IsSteady}
 
 -- entries of others
 

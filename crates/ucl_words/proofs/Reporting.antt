@@ -26,7 +26,8 @@ use Rattle.ucl_pass.proofs.Lists.{begins_same, begins_more, begins_through, begi
 use Rattle.ucl_words.specs.declared.view.View.{View}
 use Rattle.ucl_words.specs.Views.{known_of}
 use Rattle.ucl_words.specs.WordSteps.{Loads, ExchangeMissed, ExchangeWon, IsNextWord}
-use Rattle.ucl_words.specs.WordCalls.{HasTrail, IsSteady, ReportSteps, Walks}
+use Rattle.ucl_words.specs.Collects.{Walks}
+use Rattle.ucl_words.specs.WordCalls.{HasTrail, IsSteady, ReportSteps}
 use Rattle.ucl_words.proofs.Walking.{trail_on, found_word, walks_on, walks_load}
 use Rattle.ucl_words.proofs.Joining.{refused_machine, accepted_machine}
 

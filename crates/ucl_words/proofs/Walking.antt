@@ -14,7 +14,8 @@ use Rattle.ucl_pass.proofs.Lists.{begins_same, begins_through, begins_length}
 use Rattle.ucl_words.specs.declared.view.View.{View}
 use Rattle.ucl_words.specs.Views.{known_of}
 use Rattle.ucl_words.specs.WordSteps.{LoadsMatch}
-use Rattle.ucl_words.specs.WordCalls.{HasTrail, IsSteady, Walks}
+use Rattle.ucl_words.specs.Collects.{Walks}
+use Rattle.ucl_words.specs.WordCalls.{HasTrail, IsSteady}
 
 -- marks that follow what a trail has, over a history that is longer
 pub trail_on : (s h : List Entry) (old new : List Mark) → IsPrefix s h → Follows s 0 old (length s) → Follows h (length s) new (length h) → Follows h 0 (old ++ new) (length h)

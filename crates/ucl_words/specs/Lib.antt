@@ -3,3 +3,4 @@ pub mod WordRule
 pub mod WordSteps
 pub mod WordMachine
 pub mod WordCalls
+pub mod Collects

@@ -10,7 +10,8 @@ ghost use Rattle.ucl_steps.specs.Trails as trails;
 ghost use Rattle.ucl_pass.specs.Passes.{IsSound, Continues, AcceptedReport, RefusedReport, SharedReading, Enlistment, FullBoard, Meeting, opening_pass, split_pass};
 ghost use Rattle.ucl_words.specs.Views.{known_of};
 ghost use Rattle.ucl_words.specs.WordSteps.{Loads, ExchangeWon, ExchangeMissed, IsNextWord};
-ghost use Rattle.ucl_words.specs.WordCalls.{IsSteady, ReportSteps, ReadingSteps, KeepsTrail, Collects, HasCollected, FindsAgain, FindsAnother};
+ghost use Rattle.ucl_words.specs.Collects.{Collects, HasCollected, FindsAgain, FindsAnother};
+ghost use Rattle.ucl_words.specs.WordCalls.{IsSteady, ReportSteps, ReadingSteps, KeepsTrail};
 
 use crate::passes::{WordReaderPass, WordReporterPass};
 use crate::rule::{
