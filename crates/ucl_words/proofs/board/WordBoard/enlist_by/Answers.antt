@@ -10,13 +10,13 @@ pub compare_exchange-found-requires : goal.compare_exchange-found-requires
 compare_exchange-found-requires c = (
   c.tries.invariant.same ∙ (c.requires.table ∙ sym c.self.view_is),
   omega (arith, c.self.invariant.0),
-  enlists c.self.inside.table.shared.table_id.slots c.tries.seat.id c.tries.seat.me c.tries.known c.tries-test.true,
+  enlists _ _ _ _ (let test = c.tries-test.true in omega arith),
 )
 
 pub returns-then-found-known-clause-steady : goal.returns-then-found-known-clause-steady
 returns-then-found-known-clause-steady c =
     let same = c.if-found-known.true in
-    won_steady c.args.seat.now.me.0 c.tries.seat.me.0 c.compare_exchange-found.new.seat.me.0 c.tries.known c.compare_exchange-found.result c.tries.invariant.missed c.tries-test.true same (c.compare_exchange-found.ensures.2.won same)
+    won_steady c.args.seat.now.me.0 c.tries.seat.me.0 c.compare_exchange-found.new.seat.me.0 c.tries.known c.compare_exchange-found.result c.tries.invariant.missed (let test = c.tries-test.true in omega arith) same (c.compare_exchange-found.ensures.2.won same)
 
 pub returns-then-found-known-clause-enlisted : goal.returns-then-found-known-clause-enlisted
 returns-then-found-known-clause-enlisted c =
@@ -26,13 +26,13 @@ returns-then-found-known-clause-enlisted c =
     let w = c.compare_exchange-found.new.seat.me.0 in
     let won = c.compare_exchange-found.ensures.2.won same in
     number_told v w c.new.result _
-    (won_enlists v x w c.tries.known c.compare_exchange-found.result c.tries.invariant.missed c.tries-test.true same won)
-    (won_number v x w c.tries.known c.compare_exchange-found.result c.tries.invariant.missed c.tries-test.true same won) c.new.ensures.value
+    (won_enlists v x w c.tries.known c.compare_exchange-found.result c.tries.invariant.missed (let test = c.tries-test.true in omega arith) same won)
+    (won_number v x w c.tries.known c.compare_exchange-found.result c.tries.invariant.missed (let test = c.tries-test.true in omega arith) same won) c.new.ensures.value
 
 pub returns-then-found-known-clause-trail : goal.returns-then-found-known-clause-trail
 returns-then-found-known-clause-trail c =
     let same = c.if-found-known.true in
-    won_trail c.args.seat.now.me.0 c.tries.seat.me.0 c.compare_exchange-found.new.seat.me.0 c.tries.known c.compare_exchange-found.result c.tries.invariant.missed c.tries-test.true same (c.compare_exchange-found.ensures.2.won same)
+    won_trail c.args.seat.now.me.0 c.tries.seat.me.0 c.compare_exchange-found.new.seat.me.0 c.tries.known c.compare_exchange-found.result c.tries.invariant.missed (let test = c.tries-test.true in omega arith) same (c.compare_exchange-found.ensures.2.won same)
 
 pub tries-smaller : goal.tries-smaller
 tries-smaller c =

@@ -1,4 +1,4 @@
-use Rattle.std.proofs.Common.{◌≡◌, ℕ, ◌+◌, ◌≤◌, refl, sym, ◌∙◌, subst, arith}
+use Rattle.std.proofs.Common.{◌≡◌, ℕ, ◌≤◌, refl, sym, ◌∙◌, subst, arith}
 use Rattle.ucl_steps.specs.Trails.{Second}
 use Rattle.ucl_words.proofs.Moves.{loads, loads_last}
 use Rattle.ucl_words.proofs.Collecting.{Collected, collected_none, collected_same, collected_other, finds_again, finds_another}
@@ -8,12 +8,7 @@ pub loop-i-init : goal.loop-i-init
 loop-i-init c = record { same = refl; collected = collected_none Second c.args.seat.now.me.0 c.args.words.now c.requires.steady }
 
 pub load-requires : goal.load-requires
-load-requires c =
-    let low : 1 ≤ c.loop-i.i + 1 = omega arith in (
-      c.loop-i.invariant.same ∙ (c.requires.table ∙ sym c.self.view_is),
-      omega (arith, c.self.invariant.0),
-      loads Second c.self.inside.table.shared.table_id.slots c.loop-i.seat.id (c.loop-i.i + 1) c.loop-i.seat.me low,
-    )
+load-requires c = (c.loop-i.invariant.same ∙ (c.requires.table ∙ sym c.self.view_is), omega (arith, c.self.invariant.0), loads Second _ _ _ _ (omega arith))
 
 pub loop-i-preserved : goal.loop-i-preserved
 loop-i-preserved c = record {

@@ -1,19 +1,13 @@
-use Rattle.std.proofs.Common.{ap, sym, ◌∙◌, arith}
+use Rattle.std.proofs.Common.{rules, ap, sym, ◌∙◌, arith}
 use Rattle.ucl_words.proofs.Moves.{notes, joins, counts}
 use Rattle.ucl_words.proofs.Enlisting.{met_steady, met_continues, met_says, met_trail, after_told}
 use Rattle.ucl_words.proofs.board.WordBoard.meet_by.Goals as goal
 
 pub split_seat-note-requires : goal.split_seat-note-requires
-split_seat-note-requires c = (c.requires.table.0 ∙ sym c.self.view_is, omega (arith, c.self.invariant.0), notes c.args.first.now.id c.args.first.now.me.0)
+split_seat-note-requires c = (search rules, omega (arith, c.self.invariant.0), notes _ _)
 
 pub join_seat-requires : goal.join_seat-requires
-join_seat-requires c = (
-  c.requires.table.1 ∙ sym c.self.view_is,
-  c.split_seat-note.ensures.3 ∙ (c.requires.table.0 ∙ sym c.self.view_is),
-  ap (λ m. m.1) c.split_seat-note.ensures.4,
-  omega (arith, c.self.invariant.0),
-  joins c.args.second.now.id c.args.second.now.me.0 c.split_seat-note.result.id c.split_seat-note.result.me.0,
-)
+join_seat-requires c = (search rules, search rules, ap (λ m. m.1) c.split_seat-note.ensures.4, omega (arith, c.self.invariant.0), joins _ _ _ _)
 
 pub load-requires : goal.load-requires
 load-requires c = (c.join_seat.ensures.0 ∙ (c.requires.table.1 ∙ sym c.self.view_is), omega (arith, c.self.invariant.0), counts c.self.inside.table.shared.table_id.slots c.join_seat.new.seat.id c.join_seat.new.seat.me)
