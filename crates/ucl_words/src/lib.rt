@@ -3,12 +3,14 @@
 #![tactic(auto)]
 
 mod board;
+mod laws;
 mod live_words;
 mod passes;
 mod rule;
 mod view;
 
 pub use board::WordBoard;
+pub use laws::words_tell_the_entry;
 pub use passes::{WordReaderPass, WordReporterPass};
 pub use view::View;
 
