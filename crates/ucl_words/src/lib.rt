@@ -3,12 +3,14 @@
 #![tactic(auto)]
 
 mod board;
+mod laws;
 mod live_words;
 mod passes;
 mod rule;
 mod view;
 
 pub use board::WordBoard;
+pub use laws::{readings_are_of_the_machine, reports_are_of_the_machine};
 pub use passes::{WordReaderPass, WordReporterPass};
 pub use view::View;
 
