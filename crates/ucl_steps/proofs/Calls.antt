@@ -137,7 +137,7 @@ module _ (c : Caller) (k : ℕ) where
   tries_lead (ms ∷ tries) n all = through_append c (Collecting k []) (Collecting k []) (Collecting k []) ms (marks_of tries) (try_leads ms n all.0) (tries_lead tries n all.1)
 
 -- a call's last step: it leaves its mark, and the call has the reply
-abbrev Finishes : Cast → Caller → ℕ → CallRecord → List Entry → Holds → Mark → Call → Reply → ℕ → Type 0
+abbrev pub Finishes : Cast → Caller → ℕ → CallRecord → List Entry → Holds → Mark → Call → Reply → ℕ → Type 0
 Finishes cast c k a h y m call reply point = (w : MachineState) → Amid cast c k a y (take m.at h) w
     → (w' : MachineState) × Made c k w m w' × Amid cast c k (with_reply point reply a) (Answered k) (history_after c call reply (take m.at h)) w'
 

@@ -23,7 +23,7 @@ use Rattle.ucl_steps.specs.Machine.{Holds, Idle, Wanting, Holding, Collecting, C
 use Rattle.ucl_steps.specs.Trails as trail
 use Rattle.ucl_steps.specs.Trails.{Act, Mark, mark, Does, IsFoundIn, Follows, IsCollect, IsUnclean, IsClean, marks_of, ReadingMarks}
 use Rattle.ucl_steps.specs.Marking.{step_of, marks_holding, marks_of_step, NoneOwn}
-use Rattle.ucl_steps.proofs.Changing.{change_at_here, change_at_else}
+use Rattle.ucl_steps.proofs.Changing.{change_at_here, change_at_else, length-change_at}
 use Rattle.ucl_steps.proofs.Callers.{held_here, held_else}
 use Rattle.ucl_steps.proofs.Marks.{follows_ends}
 use Rattle.ucl_steps.proofs.Walking.{Reaches, reaches_none, reaches_on, reaches_own, Amid, until}
@@ -75,14 +75,16 @@ mark_same m act game found at a g f p = ap (λ (z : Act). mark z game found at) 
 pub record Frame (c : Caller) (k : ℕ) (w w' : MachineState) : Type 0 where
   pub holds : (d : Caller) → d ≢ c → held_by w'.callers d ≡ held_by w.callers d
   pub calls : (i : ℕ) (a : CallRecord) → i ≢ k → slice_get w.calls i ≡ Some a → slice_get w'.calls i ≡ Some a
+  pub count : length w.calls ≤ length w'.calls
 
 frame_held : (c : Caller) (k : ℕ) (x y : Holds) (w : MachineState) → held_by w.callers c ≡ Some x → Frame c k w (with_held y c w)
-frame_held c k x y w held = record { holds = λ d not. held_else w.callers c d y x held not; calls = λ i a not at. at }
+frame_held c k x y w held = record { holds = λ d not. held_else w.callers c d y x held not; calls = λ i a not at. at; count = le_refl (length w.calls) }
 
 pub frame_replied : (c : Caller) (k : ℕ) (x : Holds) (w v : MachineState) (p : ℕ) (r : Reply) → held_by w.callers c ≡ Some x → v.callers ≡ w.callers → v.calls ≡ w.calls → Frame c k w (after_reply c k p r v)
 frame_replied c k x w v p r held callers calls = record {
   holds = λ d not. held_else v.callers c d (Answered k) x (ap (λ z. held_by z c) callers ∙ held) not ∙ ap (λ z. held_by z d) callers;
   calls = λ i a not at. change_at_else k (with_reply p r) v.calls i a not (ap (λ z. slice_get z i) calls ∙ at);
+  count = omega (arith, length-change_at k (with_reply p r) v.calls, ap length calls);
 }
 
 -- the step of a mark was taken
