@@ -1,6 +1,6 @@
 -- The calls of all callers, taken step by step along one history: what is left to do for each, and one step of one of them.
 use Rattle.std.proofs.Common.{◌≡◌, ◌≢◌, ℕ, zero, suc, ◌+◌, ◌-◌, ◌<◌, ◌≤◌, Bool, true, false, cond, List, [], ◌∷◌, ◌++◌, take, length, map, Option, Some, None, ◌⊎◌, inl, inr, refl, sym, ap, ◌∙◌, subst, arith, append_assoc, append-nil, le_refl, length-append}
-use Rattle.std.specs.Prelude.{slice_get, IsSome}
+use Rattle.std.specs.Prelude.{slice_get, IsSome, is_some}
 use Rattle.std.proofs.lemmas.Option.{none-some, same_Some}
 use Rattle.std.proofs.lemmas.Bool.{cases_lt, false≢true}
 use Rattle.std.proofs.lemmas.List.{take-append-le, length_push}
@@ -262,3 +262,210 @@ module _ (cast : Cast) (H : List Entry) (legal : IsLegal H) where
         | inr not ↦ subst (Doing d q (steps ++ s ∷ []) w') (sym (set_else R c d r not)) (doing_else c d s p q steps w w' (R d) not is world.run spares (moved d not inside) (world.each d inside))
       ];
     }
+
+    -- steps of one caller
+
+    own_book : (c : Caller) (s : Step) (steps rest : List Step) → caller_of s ≡ c → own_steps c (steps ++ s ∷ []) ++ rest ≡ own_steps c steps ++ s ∷ rest
+    own_book c s steps rest is = ap (λ (z : List Step). z ++ rest) (own_next c s steps is) ∙ append_assoc (own_steps c steps) (s ∷ []) rest
+
+    marks_book : (c : Caller) (s : Step) (steps : List Step) (w : MachineState) (ms rest : List Mark) → after_steps steps (initial_state cast) ≡ Some w → caller_of s ≡ c → marks_of_step s w ≡ ms
+        → marks_left c (steps ++ s ∷ []) (Some (initial_state cast)) ++ rest ≡ marks_left c steps (Some (initial_state cast)) ++ (ms ++ rest)
+    marks_book c s steps w ms rest run is left = ap (λ (z : List Mark). z ++ rest) (marks_next c s steps w ms run is left) ∙ append_assoc (marks_left c steps (Some (initial_state cast))) ms rest
+
+    spares_frame : (c : Caller) (k : ℕ) (w w' : MachineState) (b : CallRecord) → Frame c k w w' → slice_get w.calls k ≡ Some b → b.caller ≡ c → Spares c w w'
+    spares_frame c k w w' b frame at own = record {
+      holds = frame.holds;
+      calls = λ i a not at_i. frame.calls i a (λ is. not (ap (λ (z : CallRecord). z.caller) (same_Some a b (sym at_i ∙ (ap (slice_get w.calls) is ∙ at))) ∙ own)) at_i;
+      count = frame.count;
+    }
+
+    ended_frame : (c : Caller) (k : ℕ) (w w' : MachineState) (b : CallRecord) → Frame c k w w' → slice_get w.calls k ≡ Some b → b.ended ≡ None → KeepsEnded c w.calls w'.calls
+    ended_frame c k w w' b frame at unended i a at_i own some =
+        frame.calls i a (λ is. false≢true (sym (ap is_some (ap (λ (z : CallRecord). z.ended) (same_Some a b (sym at_i ∙ (ap (slice_get w.calls) is ∙ at))) ∙ unended)) ∙ some)) at_i
+
+    amid_at : (c : Caller) (k : ℕ) (a : CallRecord) (x : Holds) (w : MachineState) (p q : ℕ) (before : List Entry) → w.history ≡ take p H → w.words ≡ board_of (take p H) → IsPrefix before H → p ≤ length before
+        → held_by w.callers c ≡ Some x → slice_get w.calls k ≡ Some a → p ≡ q → Amid nobody c k a x (take q before) w
+    amid_at c k a x w p q before history words along le held at same =
+        let place : take p H ≡ take q before = prefix_take before H p along le ∙ ap (λ (z : ℕ). take z before) same in
+        record {
+          history_is = history ∙ place;
+          words_are = words ∙ ap board_of place;
+          held_is = held;
+          others = λ d not inside. absurd (none_in d inside);
+          call_is = at;
+        }
+
+    pub legal_prefix : (s : List Entry) → IsPrefix s H → IsLegal s
+    legal_prefix s p = beginnings s p.0 (subst IsLegal (sym p.1) legal)
+
+    module _ (p : ℕ) (R : Caller → Rest) (steps : List Step) (w : MachineState) (world : World p R steps w) (c : Caller) (inside : IsInCast cast c) where
+      pub mine : (r : Rest) → R c ≡ r → Doing c p steps w r
+      mine r is = subst (Doing c p steps w) is (world.each c inside)
+
+      -- a call begins
+      pub begins : (m : CallMade) (ms : List CallMade) → R c ≡ Waiting (m ∷ ms) → World p (set_rest R c (Within m m.marks ms)) (steps ++ Begin c m.call ∷ []) (after_begin c m.call w)
+      begins m ms is =
+          let doing = mine (Waiting (m ∷ ms)) is in
+          let f = doing.fits in
+          let call = f.1.0 in
+          let k = length w.calls in
+          let a = began c m.call (length w.history) in
+          let w' = after_begin c m.call w in
+          let s = Begin c m.call in
+          let held : held_by w.callers c ≡ Some Idle = doing.held_is ∙ ap Some f.0 in
+          let one : after_step w s ≡ Some w' = ap (λ (o : Option Holds). after_step_holding s o w) held ∙ ap (λ (b : Bool). cond b (Some w') None) call.may in
+          let long = length_push w.calls a in
+          let before = prefix_trans m.before (after_call c m) H (before_prefix c m.call m.reply m.before) call.along in
+          let plan = planned nobody c m.call m.reply m.marks m.before p k a cast inside call.may (legal_prefix m.before before) call.leaves in
+          world_next p p R steps w w' c s (Within m m.marks ms) world refl one
+          (record { holds = λ d not. held_else w.callers c d (held_at_begin m.call k) Idle held not; calls = λ i b not at. at_longer w.calls (a ∷ []) i b at; count = omega arith })
+          world.history_is world.words_are
+          (record {
+            holds = held_at_begin m.call k;
+            held_is = held_here w.callers c Idle (held_at_begin m.call k) held;
+            high = doing.high;
+            fits = record {
+              place = k;
+              begun = length w.history;
+              at = at_end w.calls a;
+              low = f.2;
+              init = plan.init;
+              last = plan.last;
+              split = plan.split;
+              holds = plan.holds;
+              through = plan.through;
+              finishes = plan.finishes;
+              whole = plan.whole;
+              follows = within_before c m.call m.reply m.marks m.before p call.may call.leaves;
+              none = call.none;
+              along = call.along;
+              own = λ accepted same. own_entry c m.call accepted m.marks (length (after_call c m)) call.may (subst (λ (z : Reply). CallMarks m.call z m.marks (length (after_call c m))) same call.leaves.shape);
+              next = f.1.1;
+            };
+            done = doing.done;
+            calls = doing.calls;
+            own = own_book c s steps (rest_steps c (Within m m.marks ms)) refl ∙ doing.own;
+            marks = marks_book c s steps w [] (m.marks ++ marks_of_calls ms) world.run refl refl ∙ doing.marks;
+            recorded = recorded_kept w.calls (w.calls ++ a ∷ []) c 0 doing.done doing.high (λ i b at own some. at_longer w.calls (a ∷ []) i b at) doing.recorded;
+          })
+          (λ d not in_cast calls x high fits. fits)
+
+      -- a call ends
+      pub ends : (m : CallMade) (ms : List CallMade) → R c ≡ Ending m ms → (w' : MachineState) × World p (set_rest R c (Waiting ms)) (steps ++ End c ∷ []) w'
+      ends m ms is =
+          let doing = mine (Ending m ms) is in
+          let f = doing.fits in
+          let k = f.place in
+          let n = length w.history in
+          let b = with_reply (point_of m.reply m.before) m.reply (began c m.call f.begun) in
+          let w' = after_end c k w in
+          let held : held_by w.callers c ≡ Some (Answered k) = doing.held_is ∙ ap Some f.is in
+          let count = length-change_at k (with_end n) w.calls in
+          let below = at_below w.calls k b f.at in
+          let frame : Frame c k w w' = record { holds = λ d not. held_else w.callers c d Idle (Answered k) held not; calls = λ i a not at. change_at_else k (with_end n) w.calls i a not at; count = omega arith } in
+          (w', world_next p p R steps w w' c (End c) (Waiting ms) world refl (ap (λ (o : Option Holds). after_step_holding (End c) o w) held) (spares_frame c k w w' b frame f.at refl)
+          world.history_is world.words_are
+          (record {
+            holds = Idle;
+            held_is = held_here w.callers c (Answered k) Idle held;
+            high = k + 1;
+            fits = (refl, f.next, omega arith);
+            done = doing.done ++ m ∷ [];
+            calls = append_assoc doing.done (m ∷ []) ms ∙ doing.calls;
+            own = own_book c (End c) steps (steps_of_calls c ms) refl ∙ doing.own;
+            marks = marks_book c (End c) steps w [] (marks_of_calls ms) world.run refl refl ∙ doing.marks;
+            recorded = recorded_more w'.calls c 0 doing.done doing.high k m (with_end n b) (recorded_kept w.calls w'.calls c 0 doing.done doing.high (ended_frame c k w w' b frame f.at refl) doing.recorded) f.low
+                (change_at_here k (with_end n) w.calls b f.at) (record { caller = refl; call = refl; point = refl; reply = refl; ended = refl });
+          })
+          (λ d not in_cast calls x high fits. fits))
+
+      module _ (m : CallMade) (left : List Mark) (ms : List CallMade) (is : R c ≡ Within m left ms) where
+        -- a step of a mark that is not the call's last
+        pub goes_on : (l : Mark) (init : List Mark) → (mine (Within m left ms) is).fits.init ≡ l ∷ init → l.at ≤ p
+            → (rest : List Mark) × (w' : MachineState) × (length left ≡ suc (length rest)) × World p (set_rest R c (Within m rest ms)) (steps ++ step_of c l.act ∷ []) w'
+        goes_on l init cut low =
+            let doing = mine (Within m left ms) is in
+            let f = doing.fits in
+            let k = f.place in
+            let b = began c m.call f.begun in
+            let rest = init ++ f.last ∷ [] in
+            let s = step_of c l.act in
+            let split : left ≡ l ∷ rest = f.split ∙ ap (λ (z : List Mark). z ++ f.last ∷ []) cut in
+            let t : Follows m.before p (l ∷ rest) (length m.before) = subst (λ (z : List Mark). Follows m.before p z (length m.before)) split f.follows in
+            let through : Through c doing.holds (l ∷ init) f.holds = subst (λ (z : List Mark). Through c doing.holds z f.holds) cut f.through in
+            let up = t.0 in
+            let within = follows_ends m.before l.at (length m.before) rest t.2 in
+            let same : p ≡ l.at = omega arith in
+            let before = prefix_trans m.before (after_call c m) H (before_prefix c m.call m.reply m.before) f.along in
+            let amid = amid_at c k b doing.holds w p l.at m.before world.history_is world.words_are before (omega arith) doing.held_is f.at same in
+            let y = through.0 in
+            let w' = with_held y c w in
+            let made = inner nobody c k b m.before l within t.1 doing.holds w amid y through.1 in
+            (rest, w', ap length split, world_next p p R steps w w' c s (Within m rest ms) world (caller_of_act c l.act) made.done (spares_frame c k w w' b made.frame f.at refl)
+            world.history_is world.words_are
+            (record {
+              holds = y;
+              held_is = held_here w.callers c doing.holds y doing.held_is;
+              high = doing.high;
+              fits = record {
+                place = k;
+                begun = f.begun;
+                at = f.at;
+                low = f.low;
+                init = init;
+                last = f.last;
+                split = refl;
+                holds = f.holds;
+                through = through.2;
+                finishes = f.finishes;
+                whole = f.whole;
+                follows = subst (λ (z : ℕ). Follows m.before z rest (length m.before)) (sym same) t.2;
+                none = f.none;
+                along = f.along;
+                own = f.own;
+                next = f.next;
+              };
+              done = doing.done;
+              calls = doing.calls;
+              own = own_book c s steps (rest_steps c (Within m rest ms)) (caller_of_act c l.act) ∙ (ap (λ (z : List Mark). own_steps c steps ++ rest_steps c (Within m z ms)) (sym split) ∙ doing.own);
+              marks = marks_book c s steps w (l ∷ []) (rest ++ marks_of_calls ms) world.run (caller_of_act c l.act) made.left ∙ (ap (λ (z : List Mark). marks_left c steps (Some (initial_state cast)) ++ (z ++ marks_of_calls ms)) (sym split) ∙ doing.marks);
+              recorded = doing.recorded;
+            })
+            (λ d not in_cast calls x high fits. fits))
+
+        -- the step of the call's last mark
+        pub finishes_at : (mine (Within m left ms) is).fits.init ≡ [] → (mine (Within m left ms) is).fits.last.at ≡ p → (q : ℕ) → history_after c m.call m.reply (take p m.before) ≡ take q H → AreCallsAlong H c q ms
+            → ((d : Caller) → d ≢ c → IsInCast cast d → (calls : List CallRecord) (x : Holds) (high : ℕ) → Fits d p calls x high (R d) → Fits d q calls x high (R d))
+            → (w' : MachineState) × World q (set_rest R c (Ending m ms)) (steps ++ step_of c (mine (Within m left ms) is).fits.last.act ∷ []) w'
+        finishes_at cut here q history next moved =
+            let doing = mine (Within m left ms) is in
+            let f = doing.fits in
+            let k = f.place in
+            let l = f.last in
+            let b = began c m.call f.begun in
+            let s = step_of c l.act in
+            let split : left ≡ l ∷ [] = f.split ∙ ap (λ (z : List Mark). z ++ l ∷ []) cut in
+            let t : Follows m.before p (l ∷ []) (length m.before) = subst (λ (z : List Mark). Follows m.before p z (length m.before)) split f.follows in
+            let x_is : doing.holds ≡ f.holds = subst (λ (z : List Mark). Through c doing.holds z f.holds) cut f.through in
+            let up = t.2 in
+            let before = prefix_trans m.before (after_call c m) H (before_prefix c m.call m.reply m.before) f.along in
+            let amid = amid_at c k b f.holds w p l.at m.before world.history_is world.words_are before (omega arith) (doing.held_is ∙ ap Some x_is) f.at (sym here) in
+            let end = f.finishes w amid in
+            let w' = end.0 in
+            let made = end.1 in
+            let after = end.2 in
+            let history_is : history_after c m.call m.reply (take l.at m.before) ≡ take q H = ap (λ (z : ℕ). history_after c m.call m.reply (take z m.before)) here ∙ history in
+            (w', world_next p q R steps w w' c s (Ending m ms) world (caller_of_act c l.act) made.done (spares_frame c k w w' b made.frame f.at refl)
+            (after.history_is ∙ history_is) (after.words_are ∙ ap board_of history_is)
+            (record {
+              holds = Answered k;
+              held_is = after.held_is;
+              high = doing.high;
+              fits = record { place = k; begun = f.begun; at = after.call_is; low = f.low; is = refl; next = next };
+              done = doing.done;
+              calls = doing.calls;
+              own = own_book c s steps (End c ∷ steps_of_calls c ms) (caller_of_act c l.act) ∙ (ap (λ (z : List Mark). own_steps c steps ++ rest_steps c (Within m z ms)) (sym split) ∙ doing.own);
+              marks = marks_book c s steps w (l ∷ []) (marks_of_calls ms) world.run (caller_of_act c l.act) made.left ∙ (ap (λ (z : List Mark). marks_left c steps (Some (initial_state cast)) ++ (z ++ marks_of_calls ms)) (sym split) ∙ doing.marks);
+              recorded = recorded_kept w.calls w'.calls c 0 doing.done doing.high (ended_frame c k w w' b made.frame f.at refl) doing.recorded;
+            })
+            moved)
