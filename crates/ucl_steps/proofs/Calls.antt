@@ -44,7 +44,7 @@ use Rattle.ucl_steps.proofs.Changing.{change_at_here}
 use Rattle.ucl_steps.proofs.Callers.{same_caller, held_here, held_else}
 use Rattle.ucl_steps.proofs.Marks.{found_shorter, none_of_ok, follows_ends, found_record, clean_shows, follows_parts}
 use Rattle.ucl_steps.proofs.Walking.{steps_append, Entered, entered, Reaches, reaches_none, reaches_on, reaches_own, Amid, until}
-use Rattle.ucl_steps.proofs.Joining.{Through, through_append, end_of, follows_rest, amid_replied, now, there, made, walk, steps_of}
+use Rattle.ucl_steps.proofs.Joining.{Frame, frame_replied, Made, reaches_made, Through, through_append, end_of, follows_rest, amid_replied, now, there, made, walk, steps_of}
 
 -- the marks of a reading
 
@@ -137,9 +137,9 @@ module _ (c : Caller) (k : ℕ) where
   tries_lead (ms ∷ tries) n all = through_append c (Collecting k []) (Collecting k []) (Collecting k []) ms (marks_of tries) (try_leads ms n all.0) (tries_lead tries n all.1)
 
 -- a call's last step: it leaves its mark, and the call has the reply
-abbrev Finishes : Cast → Caller → ℕ → CallRecord → List Entry → Holds → Mark → Call → Reply → ℕ → Type 0
+abbrev pub Finishes : Cast → Caller → ℕ → CallRecord → List Entry → Holds → Mark → Call → Reply → ℕ → Type 0
 Finishes cast c k a h y m call reply point = (w : MachineState) → Amid cast c k a y (take m.at h) w
-    → (w' : MachineState) × Reaches c w (step_of c m.act ∷ []) (m ∷ []) w' × Amid cast c k (with_reply point reply a) (Answered k) (history_after c call reply (take m.at h)) w'
+    → (w' : MachineState) × Made c k w m w' × Amid cast c k (with_reply point reply a) (Answered k) (history_after c call reply (take m.at h)) w'
 
 none_of : (n : ℕ) (o : Option Refusal) (reply : word.Accepted) → answer n o ≡ Ok reply → (o ≡ None) × (reply ≡ record { number = n + 1 })
 none_of n None reply e = (refl, sym (ap got e))
@@ -172,7 +172,7 @@ module _ (cast : Cast) (r k : ℕ) (a : CallRecord) (h : List Entry) (e : EventC
   look_refused : (refusal : Refusal) → Does trail.Look e.game m → refusal_of (record_at m.found) e.expected e.kind ≡ Some refusal → Finishes cast me k a h (Wanting k e) m (Event e) (Refused refusal) m.at
   look_refused refusal does refused w amid = (
     after_reply me k m.at (Refused refusal) w,
-    made cast me k a h m within found (Wanting k e) w amid (Look me) trail.Look e.game (after_reply me k m.at (Refused refusal) w) refl does.0 refl does.1 game refl
+    made cast me k a h m within found (Wanting k e) w amid (Look me) trail.Look e.game (after_reply me k m.at (Refused refusal) w) refl does.0 refl does.1 game refl (frame_replied me k (Wanting k e) w w m.at (Refused refusal) amid.held_is refl refl)
         (ap (λ (o : Option Refusal). Some (after_rules me k e (word_at w.words e.game) o w)) (ap (λ (z : ℕ). refusal_of (record_at z) e.expected e.kind) (word_is (Wanting k e) w amid does.1) ∙ refused)
         ∙ ap (λ (z : ℕ). Some (after_reply me k z (Refused refusal) w)) (now cast me k a h m within found (Wanting k e) w amid)),
     amid_replied cast me k a (Wanting k e) (take m.at h) (take m.at h) w w m.at (Refused refusal) amid refl refl amid.history_is amid.words_are,
@@ -188,8 +188,8 @@ module _ (cast : Cast) (r k : ℕ) (a : CallRecord) (h : List Entry) (e : EventC
     abbrev let_in : MachineState
     let_in = after_reply me k (length w.history) (Accepted (record { number = (record_at new).number })) stored
 
-    swapped : (w' : MachineState) → cond (word_at w.words e.game == old) (Some let_in) (Some (kept_out (word_at w.words e.game))) ≡ Some w' → Reaches me w (step_of me m.act ∷ []) (m ∷ []) w'
-    swapped w' done = made cast me k a h m within found (Holding k e old new) w amid (Swap me) trail.Swap e.game w' refl does.0 refl does.1 game refl (out (word_at w.words e.game == old) ∙ done)
+    swapped : (w' : MachineState) → cond (word_at w.words e.game == old) (Some let_in) (Some (kept_out (word_at w.words e.game))) ≡ Some w' → Frame me k w w' → Made me k w m w'
+    swapped w' done frame = made cast me k a h m within found (Holding k e old new) w amid (Swap me) trail.Swap e.game w' refl does.0 refl does.1 game refl frame (out (word_at w.words e.game == old) ∙ done)
       where
         out : (b : Bool) → Some (cond b let_in (kept_out (word_at w.words e.game))) ≡ cond b (Some let_in) (Some (kept_out (word_at w.words e.game)))
         out true = refl
@@ -202,7 +202,8 @@ module _ (cast : Cast) (r k : ℕ) (a : CallRecord) (h : List Entry) (e : EventC
         after_reply me k m.at reply w,
         swapped old new does w amid (after_reply me k m.at reply w)
             (ap (λ (b : Bool). cond b (Some (let_in old new does w amid)) (Some (kept_out old new does w amid (word_at w.words e.game)))) (ne_eqb (word_at w.words e.game) old (λ z. other (sym is ∙ z)))
-            ∙ (ap (λ (z : ℕ). Some (kept_out old new does w amid z)) is ∙ ap (λ (z : ℕ). Some (after_reply me k z reply w)) (now cast me k a h m within found (Holding k e old new) w amid))),
+            ∙ (ap (λ (z : ℕ). Some (kept_out old new does w amid z)) is ∙ ap (λ (z : ℕ). Some (after_reply me k z reply w)) (now cast me k a h m within found (Holding k e old new) w amid)))
+            (frame_replied me k (Holding k e old new) w w m.at reply amid.held_is refl refl),
         amid_replied cast me k a (Holding k e old new) (take m.at h) (take m.at h) w w m.at reply amid refl refl amid.history_is amid.words_are,
       )
 
@@ -232,7 +233,8 @@ module _ (cast : Cast) (r k : ℕ) (a : CallRecord) (h : List Entry) (e : EventC
         swapped old new does w amid (after_reply me k m.at (Accepted reply) v)
             (ap (λ (b : Bool). cond b (Some (let_in old new does w amid)) (Some (kept_out old new does w amid (word_at w.words g)))) (eq-eqb (word_at w.words g) old is)
             ∙ (ap (λ (z : ℕ). Some (after_reply me k z (Accepted (record { number = (record_at new).number })) v)) (now cast me k a h m within found (Holding k e old new) w amid)
-            ∙ ap (λ (z : word.Accepted). Some (after_reply me k m.at (Accepted z) v)) reply_is)),
+            ∙ ap (λ (z : word.Accepted). Some (after_reply me k m.at (Accepted z) v)) reply_is))
+            (frame_replied me k (Holding k e old new) w v m.at (Accepted reply) amid.held_is refl refl),
         amid_replied cast me k a (Holding k e old new) front (followed_by front entry) w v m.at (Accepted reply) amid refl refl (ap (λ (z : List Entry). followed_by z entry) amid.history_is)
             (ap (λ (z : List ℕ). slice_set z (g - 1) new) amid.words_are ∙ (ap (slice_set (board_of front) (g - 1)) new_is ∙ sym (board_next front entry legal_front may))),
       )
@@ -249,15 +251,25 @@ copied cast c k a h m within found words point reading does same board_is versio
     let reading_is : record { board = words; version = version_of words } ≡ reading =
     ap (λ (z : List ℕ). record { board = z; version = version_of words }) (sym board_is) ∙ ap (λ (z : ℕ). record { board = reading.board; version = z }) (sym version_is) in (
       done reading,
-      made cast c k a h m within found (Checking k words 11 point) w amid (Second c) trail.Second 12 (done reading) refl does.0 refl does.1 game refl
+      made cast c k a h m within found (Checking k words 11 point) w amid (Second c) trail.Second 12 (done reading) refl does.0 refl does.1 game refl (frame_replied c k (Checking k words 11 point) w w point (Copied reading) amid.held_is refl refl)
           (ap (λ (b : Bool). Some (cond b (cond (11 == 11) (done (record { board = words; version = version_of words })) on) again)) (eq-eqb (slice_index w.words 11) (slice_index words 11) (is ∙ same))
           ∙ ap (λ (z : board.Reading). Some (done z)) reading_is),
       amid_replied cast c k a (Checking k words 11 point) (take m.at h) (take m.at h) w w point (Copied reading) amid refl refl amid.history_is amid.words_are,
     )
 
+-- the marks of a call lead to its last one, which finishes it
+pub record Plan (cast : Cast) (c : Caller) (call : Call) (reply : Reply) (ms : List Mark) (h : List Entry) (k : ℕ) (a : CallRecord) : Type 0 where
+  pub init : List Mark
+  pub last : Mark
+  pub split : ms ≡ init ++ last ∷ []
+  pub holds : Holds
+  pub through : Through c (held_at_begin call k) init holds
+  pub finishes : Finishes cast c k a h holds last call reply (point_of reply h)
+  pub whole : (accepted : word.Accepted) → reply ≡ Accepted accepted → last.at ≡ length h
+
 -- from rest to rest
 
-abbrev began : Caller → Call → ℕ → CallRecord
+abbrev pub began : Caller → Call → ℕ → CallRecord
 began c call begun = record { caller = c; call = call; begun = begun; point = None; reply = None; ended = None }
 
 start : (cast : Cast) (c : Caller) (call : Call) (h : List Entry) (w : MachineState) → IsInCast cast c → may_begin c call ≡ true → IsAtRest cast h w
@@ -303,16 +315,22 @@ module _ (cast : Cast) (full : cast.reporters ≡ 255) (c : Caller) (call : Call
       let t = until cast full c k a x h legal low none n (length h) w le within (le_refl (length h)) amid in (t.0, t.1, subst (λ (z : List Entry). Amid cast c k a x z t.0) (take-length h) t.2)
 
   -- a call whose marks lead to its last one
-  module _ (ms init : List Mark) (m : Mark) (split : ms ≡ init ++ m ∷ []) (follows : Follows h low ms (length h)) (w : MachineState) (rest : IsAtRest cast (take low h) w) (inside : IsInCast cast c) (may : may_begin c call ≡ true) where
+  module _ (ms : List Mark) (follows : Follows h low ms (length h)) (w : MachineState) (rest : IsAtRest cast (take low h) w) (inside : IsInCast cast c) (may : may_begin c call ≡ true) where
     abbrev place : ℕ
     place = length w.calls
 
     abbrev mine : CallRecord
     mine = began c call (length w.history)
 
-    made_call : (y : Holds) → Through c (held_at_begin call place) init y → Finishes cast c place mine h y m call reply (point_of reply h) → ((accepted : word.Accepted) → reply ≡ Accepted accepted → m.at ≡ length h)
-        → IsMadeBySteps cast w c call reply ms h
-    made_call y through finishes whole =
+    made_call : Plan cast c call reply ms h place mine → IsMadeBySteps cast w c call reply ms h
+    made_call plan =
+        let init = plan.init in
+        let m = plan.last in
+        let split = plan.split in
+        let y = plan.holds in
+        let through = plan.through in
+        let finishes = plan.finishes in
+        let whole = plan.whole in
         let parts = follows_rest h low (length h) init (m ∷ []) (subst (λ (z : List Mark). Follows h low z (length h)) split follows) in
         let f_init = follows_front h low (length h) init (m ∷ []) (subst (λ (z : List Mark). Follows h low z (length h)) split follows) in
         let to_m = parts.1.0 in
@@ -330,7 +348,7 @@ module _ (cast : Cast) (full : cast.reporters ≡ 255) (c : Caller) (call : Call
         let step = step_of c m.act in
         let whole_run = reaches_on c w w1 w6 (Begin c call ∷ []) (steps_of c init ++ step ∷ End c ∷ []) [] (init ++ m ∷ []) one.0
         (reaches_on c w1 two.0 w6 (steps_of c init) (step ∷ End c ∷ []) init (m ∷ []) two.1 (reaches_on c two.0 three.0 w6 [] (step ∷ End c ∷ []) [] (m ∷ []) three.1
-        (reaches_on c three.0 four.0 w6 (step ∷ []) (End c ∷ []) (m ∷ []) [] four.1 (reaches_on c four.0 five.0 w6 [] (End c ∷ []) [] [] five.1 six.0)))) in
+        (reaches_on c three.0 four.0 w6 (step ∷ []) (End c ∷ []) (m ∷ []) [] (reaches_made c place three.0 m four.0 four.1) (reaches_on c four.0 five.0 w6 [] (End c ∷ []) [] [] five.1 six.0)))) in
         record {
           steps = whole_run.steps;
           last = w6;
@@ -403,96 +421,115 @@ event_game r e may =
     let b = and_parts (nat_le e.game 12) (nat_le r 255) a.1 in
     (leb-true 1 e.game a.0, leb-true e.game 12 b.0)
 
+event_reporter : (r : ℕ) (e : EventCall) → may_begin (Reporter r) (Event e) ≡ true → r ≤ 255
+event_reporter r e may =
+    let a = and_parts (nat_le 1 e.game) (nat_le e.game 12 && nat_le r 255) may in
+    let b = and_parts (nat_le e.game 12) (nat_le r 255) a.1 in
+    leb-true r 255 b.1
+
 not_accepted : (reply : Reply) (h : List Entry) (n : ℕ) → is_accepted (Some reply) ≡ false → (accepted : word.Accepted) → reply ≡ Accepted accepted → n ≡ length h
 not_accepted reply h n other accepted is = absurd (false≢true (sym other ∙ ap (λ (z : Reply). is_accepted (Some z)) is))
 
-event_accepted : (cast : Cast) (r : ℕ) (e : EventCall) (reply : word.Accepted) (ms : List Mark) (h : List Entry) (low : ℕ) (w : MachineState) → cast.reporters ≡ 255 → IsInCast cast (Reporter r) → may_begin (Reporter r) (Event e) ≡ true
-    → IsLegal h → NoneOwn (Reporter r) low h → Follows h low ms (length h) → SwapWon e reply ms (length (history_after (Reporter r) (Event e) (Accepted reply) h)) → IsAtRest cast (take low h) w
-    → IsMadeBySteps cast w (Reporter r) (Event e) (Accepted reply) ms h
-event_accepted cast r e reply ms h low w full inside may legal none follows won rest =
-    let k = length w.calls in
-    let c : Caller = Reporter r in
-    let game = event_game r e may in
-    let looked = won.looked in
-    let m = won.swapped in
-    let t : Follows h low (looked ∷ m ∷ []) (length h) = subst (λ (z : List Mark). Follows h low z (length h)) won.marks follows in
-    let holding : ℕ → Holds = λ z. Holding k e z (word_of (after (record_at z) r e.kind)) in
-    let last = won.last in
-    let long = length_push h (entry_of (r, e)) in
-    let at_end : m.at ≡ length h = omega arith in
-    let high = inside.1 in
-    let ok = none_of (record_at looked.found).number (refusal_of (record_at looked.found) e.expected e.kind) reply won.answer in
-    made_call cast full c (Event e) (Accepted reply) h legal low none ms (looked ∷ []) m won.marks follows w rest inside may (holding m.found)
-    (holding m.found, (game, won.acts.0, ok.0, ap holding won.same), refl)
-    (subst (Finishes cast c k (began c (Event e) (length w.history)) h (holding m.found) m (Event e) (Accepted reply)) at_end
-    (swap_won cast r k (began c (Event e) (length w.history)) h e game m t.2.2 t.2.1 legal (inside.0, omega arith) reply won.acts.1 (ap (λ (z : ℕ). reply_of (record_at z) e) won.same ∙ won.answer)))
-    (λ accepted is. at_end)
+module _ (cast : Cast) (k : ℕ) (a : CallRecord) (h : List Entry) (legal : IsLegal h) (low : ℕ) where
+  plan_accepted : (r : ℕ) (e : EventCall) (reply : word.Accepted) (ms : List Mark) → 1 ≤ r → may_begin (Reporter r) (Event e) ≡ true → Follows h low ms (length h)
+      → SwapWon e reply ms (length (history_after (Reporter r) (Event e) (Accepted reply) h)) → Plan cast (Reporter r) (Event e) (Accepted reply) ms h k a
+  plan_accepted r e reply ms positive may follows won =
+      let c : Caller = Reporter r in
+      let game = event_game r e may in
+      let looked = won.looked in
+      let m = won.swapped in
+      let t : Follows h low (looked ∷ m ∷ []) (length h) = subst (λ (z : List Mark). Follows h low z (length h)) won.marks follows in
+      let holding : ℕ → Holds = λ z. Holding k e z (word_of (after (record_at z) r e.kind)) in
+      let last = won.last in
+      let long = length_push h (entry_of (r, e)) in
+      let at_end : m.at ≡ length h = omega arith in
+      let ok = none_of (record_at looked.found).number (refusal_of (record_at looked.found) e.expected e.kind) reply won.answer in
+      record {
+        init = looked ∷ [];
+        last = m;
+        split = won.marks;
+        holds = holding m.found;
+        through = (holding m.found, (game, won.acts.0, ok.0, ap holding won.same), refl);
+        finishes = subst (Finishes cast c k a h (holding m.found) m (Event e) (Accepted reply)) at_end
+            (swap_won cast r k a h e game m t.2.2 t.2.1 legal (positive, event_reporter r e may) reply won.acts.1 (ap (λ (z : ℕ). reply_of (record_at z) e) won.same ∙ won.answer));
+        whole = λ accepted is. at_end;
+      }
 
-event_refused : (cast : Cast) (r : ℕ) (e : EventCall) (refusal : Refusal) (ms : List Mark) (h : List Entry) (low : ℕ) (w : MachineState) → cast.reporters ≡ 255 → IsInCast cast (Reporter r) → may_begin (Reporter r) (Event e) ≡ true
-    → IsLegal h → NoneOwn (Reporter r) low h → Follows h low ms (length h) → LookRefused e refusal ms (length h) ⊎ SwapMissed e refusal ms (length h) → IsAtRest cast (take low h) w
-    → IsMadeBySteps cast w (Reporter r) (Event e) (Refused refusal) ms h
-event_refused cast r e refusal ms h low w full inside may legal none follows (inl refused) rest =
-    let k = length w.calls in
-    let c : Caller = Reporter r in
-    let game = event_game r e may in
-    let m = refused.looked in
-    let t : Follows h low (m ∷ []) (length h) = subst (λ (z : List Mark). Follows h low z (length h)) refused.marks follows in
-    made_call cast full c (Event e) (Refused refusal) h legal low none ms [] m refused.marks follows w rest inside may (Wanting k e) refl
-    (subst (Finishes cast c k (began c (Event e) (length w.history)) h (Wanting k e) m (Event e) (Refused refusal)) refused.last
-    (look_refused cast r k (began c (Event e) (length w.history)) h e game m t.2 t.1 refusal refused.act (some_of (record_at m.found).number (refusal_of (record_at m.found) e.expected e.kind) refusal refused.answer)))
-    (not_accepted (Refused refusal) h m.at refl)
-event_refused cast r e refusal ms h low w full inside may legal none follows (inr missed) rest =
-    let k = length w.calls in
-    let c : Caller = Reporter r in
-    let game = event_game r e may in
-    let looked = missed.looked in
-    let m = missed.swapped in
-    let t : Follows h low (looked ∷ m ∷ []) (length h) = subst (λ (z : List Mark). Follows h low z (length h)) missed.marks follows in
-    let old = looked.found in
-    let new = word_of (after (record_at old) r e.kind) in
-    let ok = none_of_ok (record_at old).number (refusal_of (record_at old) e.expected e.kind) missed.may in
-    made_call cast full c (Event e) (Refused refusal) h legal low none ms (looked ∷ []) m missed.marks follows w rest inside may (Holding k e old new)
-    (Holding k e old new, (game, missed.acts.0, ok, refl), refl)
-    (subst (Finishes cast c k (began c (Event e) (length w.history)) h (Holding k e old new) m (Event e) (Refused refusal)) missed.last
-    (subst (λ (z : Refusal). Finishes cast c k (began c (Event e) (length w.history)) h (Holding k e old new) m (Event e) (Refused z) m.at) (sym missed.answer)
-    (swap_missed cast r k (began c (Event e) (length w.history)) h e game m t.2.2 t.2.1 old new missed.acts.1 missed.other)))
-    (not_accepted (Refused refusal) h m.at refl)
+  plan_refused : (r : ℕ) (e : EventCall) (refusal : Refusal) (ms : List Mark) → may_begin (Reporter r) (Event e) ≡ true → Follows h low ms (length h)
+      → LookRefused e refusal ms (length h) ⊎ SwapMissed e refusal ms (length h) → Plan cast (Reporter r) (Event e) (Refused refusal) ms h k a
+  plan_refused r e refusal ms may follows (inl refused) =
+      let c : Caller = Reporter r in
+      let game = event_game r e may in
+      let m = refused.looked in
+      let t : Follows h low (m ∷ []) (length h) = subst (λ (z : List Mark). Follows h low z (length h)) refused.marks follows in
+      record {
+        init = [];
+        last = m;
+        split = refused.marks;
+        holds = Wanting k e;
+        through = refl;
+        finishes = subst (Finishes cast c k a h (Wanting k e) m (Event e) (Refused refusal)) refused.last
+            (look_refused cast r k a h e game m t.2 t.1 refusal refused.act (some_of (record_at m.found).number (refusal_of (record_at m.found) e.expected e.kind) refusal refused.answer));
+        whole = not_accepted (Refused refusal) h m.at refl;
+      }
+  plan_refused r e refusal ms may follows (inr missed) =
+      let c : Caller = Reporter r in
+      let game = event_game r e may in
+      let looked = missed.looked in
+      let m = missed.swapped in
+      let t : Follows h low (looked ∷ m ∷ []) (length h) = subst (λ (z : List Mark). Follows h low z (length h)) missed.marks follows in
+      let old = looked.found in
+      let new = word_of (after (record_at old) r e.kind) in
+      let ok = none_of_ok (record_at old).number (refusal_of (record_at old) e.expected e.kind) missed.may in
+      record {
+        init = looked ∷ [];
+        last = m;
+        split = missed.marks;
+        holds = Holding k e old new;
+        through = (Holding k e old new, (game, missed.acts.0, ok, refl), refl);
+        finishes = subst (Finishes cast c k a h (Holding k e old new) m (Event e) (Refused refusal)) missed.last
+            (subst (λ (z : Refusal). Finishes cast c k a h (Holding k e old new) m (Event e) (Refused z) m.at) (sym missed.answer) (swap_missed cast r k a h e game m t.2.2 t.2.1 old new missed.acts.1 missed.other));
+        whole = not_accepted (Refused refusal) h m.at refl;
+      }
 
-reading_made : (cast : Cast) (c : Caller) (reading : board.Reading) (ms : List Mark) (h : List Entry) (low : ℕ) (w : MachineState) → cast.reporters ≡ 255 → IsInCast cast c → may_begin c Reading ≡ true
-    → IsLegal h → NoneOwn c low h → Follows h low ms (length h) → ReadingMarks reading ms → IsAtRest cast (take low h) w → IsMadeBySteps cast w c Reading (Copied reading) ms h
-reading_made cast c reading ms h low w full inside may legal none follows marks rest =
-    let k = length w.calls in
-    let clean = marks.clean in
-    let firsts = clean.firsts in
-    let twelve = clean.twelve.1 in
-    let twelve' = clean.twelve.2 in
-    let parts = follows_parts h low (length h) (marks_of marks.tries) marks.last (subst (λ (z : List Mark). Follows h low z (length h)) marks.marks follows) in
-    let shows = clean_shows h parts.middle (length h) reading marks.last legal parts.latter clean in
-    let v_high = shows.within.1 in
-    let cut = last_of clean.seconds 11 clean.twelve.2 in
-    let again = cut.0 in
-    let m = cut.1 in
-    let eleven : length again ≡ 11 = omega (arith, ap length cut.2, length_push again m) in
-    let ws = loaded c k reading.board firsts clean.twelve.1 clean.collected in
-    let p = end_of 0 firsts in
-    let last_first = get_some firsts 11 (omega arith) in
-    let p_is : p ≡ reading.version = end_last 0 firsts 11 last_first.0 last_first.1 (omega arith) ∙ clean.version last_first.0 last_first.1 in
-    let board_is : reading.board ≡ ws = ext_get_or 0 reading.board ws (clean.twelve.0 ∙ (sym clean.twelve.1 ∙ sym (length-map firsts (λ (z : Mark). z.found))))
-    (λ j l. let few = clean.twelve.0 in sym (loaded_at c k reading.board firsts clean.twelve.1 clean.collected j (omega arith))) in
-    let version : reading.version ≡ version_of ws = sym (length-take-le reading.version h v_high) ∙ (sym (version_is (take reading.version h) (legal_beginning h reading.version legal)) ∙ ap version_of (sym shows.board ∙ board_is)) in
-    let init = marks_of marks.tries ++ (firsts ++ again) in
-    let split : ms ≡ init ++ m ∷ [] = marks.marks ∙ (ap (λ (z : List Mark). marks_of marks.tries ++ z) (clean.marks ∙ (ap (λ (z : List Mark). firsts ++ z) cut.2 ∙ sym (append_assoc firsts again (m ∷ []))))
-    ∙ sym (append_assoc (marks_of marks.tries) (firsts ++ again) (m ∷ []))) in
-    let at_m : slice_get clean.seconds 11 ≡ Some m = ap (λ (z : List Mark). slice_get z 11) cut.2 ∙ (ap (slice_get (again ++ m ∷ [])) (sym eleven) ∙ at_end again m) in
-    let is_m = clean.again 11 m at_m in
-    let tail = follows_rest h low (length h) init (m ∷ []) (subst (λ (z : List Mark). Follows h low z (length h)) split follows) in
-    let through = through_append c (Collecting k []) (Collecting k []) (Checking k ws 11 p) (marks_of marks.tries) (firsts ++ again) (tries_lead c k marks.tries 0 marks.unclean)
-    (through_append c (Collecting k []) (Checking k ws 0 p) (Checking k ws 11 p) firsts again (collect_leads c k reading.board firsts clean.twelve.1 clean.collected 0)
-    (again_leads c k reading.board firsts clean.twelve.1 clean.collected again 11 p (sym eleven) (omega arith) (λ j x at. clean.again j x (ap (λ (z : List Mark). slice_get z j) cut.2 ∙ at_longer again (m ∷ []) j x at)))) in
-    made_call cast full c Reading (Copied reading) h legal low none ms init m split follows w rest inside may (Checking k ws 11 p) through
-    (subst (Finishes cast c k (began c Reading (length w.history)) h (Checking k ws 11 p) m Reading (Copied reading)) p_is
-    (copied cast c k (began c Reading (length w.history)) h m tail.1.2 tail.1.1 ws p reading is_m.0 (is_m.1 ∙ ap (λ (z : List ℕ). slice_index z 11) board_is) board_is version))
-    (not_accepted (Copied reading) h m.at refl)
+  plan_reading : (c : Caller) (reading : board.Reading) (ms : List Mark) → Follows h low ms (length h) → ReadingMarks reading ms → Plan cast c Reading (Copied reading) ms h k a
+  plan_reading c reading ms follows marks =
+      let clean = marks.clean in
+      let firsts = clean.firsts in
+      let twelve = clean.twelve.1 in
+      let twelve' = clean.twelve.2 in
+      let parts = follows_parts h low (length h) (marks_of marks.tries) marks.last (subst (λ (z : List Mark). Follows h low z (length h)) marks.marks follows) in
+      let shows = clean_shows h parts.middle (length h) reading marks.last legal parts.latter clean in
+      let v_high = shows.within.1 in
+      let cut = last_of clean.seconds 11 clean.twelve.2 in
+      let again = cut.0 in
+      let m = cut.1 in
+      let eleven : length again ≡ 11 = omega (arith, ap length cut.2, length_push again m) in
+      let ws = loaded c k reading.board firsts clean.twelve.1 clean.collected in
+      let p = end_of 0 firsts in
+      let last_first = get_some firsts 11 (omega arith) in
+      let p_is : p ≡ reading.version = end_last 0 firsts 11 last_first.0 last_first.1 (omega arith) ∙ clean.version last_first.0 last_first.1 in
+      let board_is : reading.board ≡ ws = ext_get_or 0 reading.board ws (clean.twelve.0 ∙ (sym clean.twelve.1 ∙ sym (length-map firsts (λ (z : Mark). z.found))))
+      (λ j l. let few = clean.twelve.0 in sym (loaded_at c k reading.board firsts clean.twelve.1 clean.collected j (omega arith))) in
+      let version : reading.version ≡ version_of ws = sym (length-take-le reading.version h v_high) ∙ (sym (version_is (take reading.version h) (legal_beginning h reading.version legal)) ∙ ap version_of (sym shows.board ∙ board_is)) in
+      let init = marks_of marks.tries ++ (firsts ++ again) in
+      let split : ms ≡ init ++ m ∷ [] = marks.marks ∙ (ap (λ (z : List Mark). marks_of marks.tries ++ z) (clean.marks ∙ (ap (λ (z : List Mark). firsts ++ z) cut.2 ∙ sym (append_assoc firsts again (m ∷ []))))
+      ∙ sym (append_assoc (marks_of marks.tries) (firsts ++ again) (m ∷ []))) in
+      let at_m : slice_get clean.seconds 11 ≡ Some m = ap (λ (z : List Mark). slice_get z 11) cut.2 ∙ (ap (slice_get (again ++ m ∷ [])) (sym eleven) ∙ at_end again m) in
+      let is_m = clean.again 11 m at_m in
+      let tail = follows_rest h low (length h) init (m ∷ []) (subst (λ (z : List Mark). Follows h low z (length h)) split follows) in
+      record {
+        init = init;
+        last = m;
+        split = split;
+        holds = Checking k ws 11 p;
+        through = through_append c (Collecting k []) (Collecting k []) (Checking k ws 11 p) (marks_of marks.tries) (firsts ++ again) (tries_lead c k marks.tries 0 marks.unclean)
+            (through_append c (Collecting k []) (Checking k ws 0 p) (Checking k ws 11 p) firsts again (collect_leads c k reading.board firsts clean.twelve.1 clean.collected 0)
+                (again_leads c k reading.board firsts clean.twelve.1 clean.collected again 11 p (sym eleven) (omega arith) (λ j x at. clean.again j x (ap (λ (z : List Mark). slice_get z j) cut.2 ∙ at_longer again (m ∷ []) j x at))));
+        finishes = subst (Finishes cast c k a h (Checking k ws 11 p) m Reading (Copied reading)) p_is
+            (copied cast c k a h m tail.1.2 tail.1.1 ws p reading is_m.0 (is_m.1 ∙ ap (λ (z : List ℕ). slice_index z 11) board_is) board_is version);
+        whole = not_accepted (Copied reading) h m.at refl;
+      }
 
 -- an accepted event's marks are within the history before its entry
 accepted_follows : (r : ℕ) (e : EventCall) (reply : word.Accepted) (ms : List Mark) (h : List Entry) (low : ℕ) → Leaves (Reporter r) (Event e) (Accepted reply) ms h low → Follows h low ms (length h)
@@ -507,14 +544,24 @@ accepted_follows r e reply ms h low leaves =
     subst (λ (z : List Mark). Follows h low z (length h)) (sym won.marks)
     (t.0, found_shorter h h' won.looked longer (omega arith) t.1, (t.2.0, found_shorter h h' won.swapped longer (omega arith) t.2.1, omega arith))
 
+-- the marks are within the history before the call's own entry
+pub within_before : (c : Caller) (call : Call) (reply : Reply) (ms : List Mark) (h : List Entry) (low : ℕ) → may_begin c call ≡ true → Leaves c call reply ms h low → Follows h low ms (length h)
+within_before (Reporter r) (Event e) (Accepted reply) ms h low may leaves = accepted_follows r e reply ms h low leaves
+within_before (Reader n) (Event e) (Accepted reply) ms h low may leaves = absurd (false≢true may)
+within_before c Reading (Accepted reply) ms h low may leaves = absurd leaves.shape
+within_before c call (Refused refusal) ms h low may leaves = leaves.follows
+within_before c call (Copied reading) ms h low may leaves = leaves.follows
+
+pub planned : (cast : Cast) (c : Caller) (call : Call) (reply : Reply) (ms : List Mark) (h : List Entry) (low k : ℕ) (a : CallRecord) (whole : Cast) → IsInCast whole c → may_begin c call ≡ true → IsLegal h → Leaves c call reply ms h low → Plan cast c call reply ms h k a
+planned cast (Reporter r) (Event e) (Accepted reply) ms h low k a whole inside may legal leaves = plan_accepted cast k a h legal low r e reply ms inside.0 may (accepted_follows r e reply ms h low leaves) leaves.shape
+planned cast (Reporter r) (Event e) (Refused refusal) ms h low k a whole inside may legal leaves = plan_refused cast k a h legal low r e refusal ms may leaves.follows leaves.shape
+planned cast (Reporter r) (Event e) (Copied reading) ms h low k a whole inside may legal leaves = absurd leaves.shape
+planned cast (Reader n) (Event e) reply ms h low k a whole inside may legal leaves = absurd (false≢true may)
+planned cast c Reading (Copied reading) ms h low k a whole inside may legal leaves = plan_reading cast k a h legal low c reading ms leaves.follows leaves.shape
+planned cast c Reading (Accepted reply) ms h low k a whole inside may legal leaves = absurd leaves.shape
+planned cast c Reading (Refused refusal) ms h low k a whole inside may legal leaves = absurd leaves.shape
+
 pub calls_made : CallsAreSteps
-calls_made cast (Reporter r) (Event e) (Accepted reply) ms h low w full inside may legal none leaves rest = event_accepted cast r e reply ms h low w full inside may legal none (accepted_follows r e reply ms h low leaves) leaves.shape rest
-calls_made cast (Reporter r) (Event e) (Refused refusal) ms h low w full inside may legal none leaves rest = event_refused cast r e refusal ms h low w full inside may legal none leaves.follows leaves.shape rest
-calls_made cast (Reporter r) (Event e) (Copied reading) ms h low w full inside may legal none leaves rest = absurd leaves.shape
-calls_made cast (Reader n) (Event e) reply ms h low w full inside may legal none leaves rest = absurd (false≢true may)
-calls_made cast (Reporter r) Reading (Copied reading) ms h low w full inside may legal none leaves rest = reading_made cast (Reporter r) reading ms h low w full inside may legal none leaves.follows leaves.shape rest
-calls_made cast (Reader n) Reading (Copied reading) ms h low w full inside may legal none leaves rest = reading_made cast (Reader n) reading ms h low w full inside may legal none leaves.follows leaves.shape rest
-calls_made cast (Reporter r) Reading (Accepted reply) ms h low w full inside may legal none leaves rest = absurd leaves.shape
-calls_made cast (Reader n) Reading (Accepted reply) ms h low w full inside may legal none leaves rest = absurd leaves.shape
-calls_made cast (Reporter r) Reading (Refused refusal) ms h low w full inside may legal none leaves rest = absurd leaves.shape
-calls_made cast (Reader n) Reading (Refused refusal) ms h low w full inside may legal none leaves rest = absurd leaves.shape
+calls_made cast c call reply ms h low w full inside may legal none leaves rest =
+    made_call cast full c call reply h legal low none ms (within_before c call reply ms h low may leaves) w rest inside may
+    (planned cast c call reply ms h low (length w.calls) (began c call (length w.history)) cast inside may legal leaves)

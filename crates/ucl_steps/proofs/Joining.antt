@@ -19,11 +19,11 @@ use Rattle.ucl_steps.specs.declared.step.Step.TheVariants.{Look, First, Second}
 use Rattle.ucl_steps.specs.declared.trace.CallRecord.{CallRecord}
 use Rattle.ucl_steps.specs.declared.trace.Reply.{Reply}
 use Rattle.ucl_steps.specs.declared.trace.Reply.TheVariants.{Copied}
-use Rattle.ucl_steps.specs.Machine.{Holds, Idle, Wanting, Holding, Collecting, Checking, Answered, MachineState, held_by, with_held, with_reply, after_rules, after_reply, after_step_holding, caller_of}
+use Rattle.ucl_steps.specs.Machine.{Holds, Idle, Wanting, Holding, Collecting, Checking, Answered, MachineState, held_by, with_held, with_reply, after_rules, after_reply, after_step_holding, caller_of, after_step}
 use Rattle.ucl_steps.specs.Trails as trail
 use Rattle.ucl_steps.specs.Trails.{Act, Mark, mark, Does, IsFoundIn, Follows, IsCollect, IsUnclean, IsClean, marks_of, ReadingMarks}
 use Rattle.ucl_steps.specs.Marking.{step_of, marks_holding, marks_of_step, NoneOwn}
-use Rattle.ucl_steps.proofs.Changing.{change_at_here}
+use Rattle.ucl_steps.proofs.Changing.{change_at_here, change_at_else, length-change_at}
 use Rattle.ucl_steps.proofs.Callers.{held_here, held_else}
 use Rattle.ucl_steps.proofs.Marks.{follows_ends}
 use Rattle.ucl_steps.proofs.Walking.{Reaches, reaches_none, reaches_on, reaches_own, Amid, until}
@@ -71,9 +71,40 @@ follows_rest h n high (m ∷ ms) ns f = let t = follows_rest h m.at high ms ns f
 mark_same : (m : Mark) (act : Act) (game found at : ℕ) → m.act ≡ act → m.game ≡ game → found ≡ m.found → at ≡ m.at → mark act game found at ≡ m
 mark_same m act game found at a g f p = ap (λ (z : Act). mark z game found at) (sym a) ∙ (ap (λ (z : ℕ). mark m.act z found at) (sym g) ∙ (ap (λ (z : ℕ). mark m.act m.game z at) f ∙ ap (λ (z : ℕ). mark m.act m.game m.found z) p))
 
+-- a step of a caller leaves what the others hold, and all calls but its own
+pub record Frame (c : Caller) (k : ℕ) (w w' : MachineState) : Type 0 where
+  pub holds : (d : Caller) → d ≢ c → held_by w'.callers d ≡ held_by w.callers d
+  pub calls : (i : ℕ) (a : CallRecord) → i ≢ k → slice_get w.calls i ≡ Some a → slice_get w'.calls i ≡ Some a
+  pub count : length w.calls ≤ length w'.calls
+
+frame_held : (c : Caller) (k : ℕ) (x y : Holds) (w : MachineState) → held_by w.callers c ≡ Some x → Frame c k w (with_held y c w)
+frame_held c k x y w held = record { holds = λ d not. held_else w.callers c d y x held not; calls = λ i a not at. at; count = le_refl (length w.calls) }
+
+pub frame_replied : (c : Caller) (k : ℕ) (x : Holds) (w v : MachineState) (p : ℕ) (r : Reply) → held_by w.callers c ≡ Some x → v.callers ≡ w.callers → v.calls ≡ w.calls → Frame c k w (after_reply c k p r v)
+frame_replied c k x w v p r held callers calls = record {
+  holds = λ d not. held_else v.callers c d (Answered k) x (ap (λ z. held_by z c) callers ∙ held) not ∙ ap (λ z. held_by z d) callers;
+  calls = λ i a not at. change_at_else k (with_reply p r) v.calls i a not (ap (λ z. slice_get z i) calls ∙ at);
+  count = omega (arith, length-change_at k (with_reply p r) v.calls, ap length calls);
+}
+
+-- the step of a mark was taken
+pub record Made (c : Caller) (k : ℕ) (w : MachineState) (m : Mark) (w' : MachineState) : Type 0 where
+  pub done : after_step w (step_of c m.act) ≡ Some w'
+  pub left : marks_of_step (step_of c m.act) w ≡ m ∷ []
+  pub frame : Frame c k w w'
+
+pub caller_of_act : (c : Caller) (act : Act) → caller_of (step_of c act) ≡ c
+caller_of_act c trail.Look = refl
+caller_of_act c trail.Swap = refl
+caller_of_act c trail.First = refl
+caller_of_act c trail.Second = refl
+
+pub reaches_made : (c : Caller) (k : ℕ) (w : MachineState) (m : Mark) (w' : MachineState) → Made c k w m w' → Reaches c w (step_of c m.act ∷ []) (m ∷ []) w'
+reaches_made c k w m w' t = reaches_own c w w' (step_of c m.act) (m ∷ []) (caller_of_act c m.act) t.done t.left
+
 module _ (cast : Cast) (c : Caller) (k : ℕ) (a : CallRecord) where
   -- the caller holds something else
-  amid_held : (x y : Holds) (h : List Entry) (w : MachineState) → Amid cast c k a x h w → Amid cast c k a y h (with_held y c w)
+  pub amid_held : (x y : Holds) (h : List Entry) (w : MachineState) → Amid cast c k a x h w → Amid cast c k a y h (with_held y c w)
   amid_held x y h w m = record {
     history_is = m.history_is;
     words_are = m.words_are;
@@ -97,9 +128,6 @@ module _ (cast : Cast) (c : Caller) (k : ℕ) (a : CallRecord) where
   module _ (h : List Entry) where
     -- a state at the place of a mark
     module _ (m : Mark) (within : m.at ≤ length h) (found : IsFoundIn h m) (x : Holds) (w : MachineState) (amid : Amid cast c k a x (take m.at h) w) where
-      abbrev own : List Step
-      own = step_of c m.act ∷ []
-
       pub now : length w.history ≡ m.at
       now = ap length amid.history_is ∙ length-take-le m.at h within
 
@@ -114,14 +142,18 @@ module _ (cast : Cast) (c : Caller) (k : ℕ) (a : CallRecord) where
           ∙ ap (λ (z : Mark). z ∷ []) (mark_same m act game (word_at w.words game) (length w.history) act_is game_is (ap (word_at w.words) (sym game_is) ∙ there (subst IsMatch (sym game_is) match_is)) now)))
 
       pub made : (s : Step) (act : Act) (game : ℕ) (w' : MachineState) → caller_of s ≡ c → m.act ≡ act → s ≡ step_of c act → m.game ≡ game → IsMatch game
-          → marks_holding s (Some x) w ≡ mark act game (word_at w.words game) (length w.history) ∷ [] → after_step_holding s (Some x) w ≡ Some w' → Reaches c w own (m ∷ []) w'
-      made s act game w' by act_is step_is game_is match_is e done =
-          subst (λ (z : Step). Reaches c w (z ∷ []) (m ∷ []) w') (step_is ∙ ap (step_of c) (sym act_is))
-          (reaches_own c w w' s (m ∷ []) by (ap (λ (z : Caller). after_step_holding s (held_by w.callers z) w) by ∙ (ap (λ (o : Option Holds). after_step_holding s o w) amid.held_is ∙ done)) (left_mark s act game by act_is game_is match_is e))
+          → marks_holding s (Some x) w ≡ mark act game (word_at w.words game) (length w.history) ∷ [] → Frame c k w w' → after_step_holding s (Some x) w ≡ Some w' → Made c k w m w'
+      made s act game w' by act_is step_is game_is match_is e frame done =
+          let same : s ≡ step_of c m.act = step_is ∙ ap (step_of c) (sym act_is) in
+          record {
+            done = ap (after_step w) (sym same) ∙ (ap (λ (z : Caller). after_step_holding s (held_by w.callers z) w) by ∙ (ap (λ (o : Option Holds). after_step_holding s o w) amid.held_is ∙ done));
+            left = ap (λ (z : Step). marks_of_step z w) (sym same) ∙ left_mark s act game by act_is game_is match_is e;
+            frame = frame;
+          }
 
 -- one step that is not the call's last
-inner : (cast : Cast) (c : Caller) (k : ℕ) (a : CallRecord) (h : List Entry) (m : Mark) (within : m.at ≤ length h) (found : IsFoundIn h m) (x : Holds) (w : MachineState) (amid : Amid cast c k a x (take m.at h) w) (y : Holds)
-    → Leads c x m y → Reaches c w (step_of c m.act ∷ []) (m ∷ []) (with_held y c w)
+pub inner : (cast : Cast) (c : Caller) (k : ℕ) (a : CallRecord) (h : List Entry) (m : Mark) (within : m.at ≤ length h) (found : IsFoundIn h m) (x : Holds) (w : MachineState) (amid : Amid cast c k a x (take m.at h) w) (y : Holds)
+    → Leads c x m y → Made c k w m (with_held y c w)
 inner cast c k a h m within found Idle w amid y l = absurd l
 inner cast c k a h m within found (Holding j e old new) w amid y l = absurd l
 inner cast c k a h m within found (Answered j) w amid y l = absurd l
@@ -131,7 +163,7 @@ inner cast (Reporter r) k a h m within found (Wanting j e) w amid y l =
     let word = word_at w.words e.game in
     let is : word ≡ m.found = ap (word_at w.words) (sym l.1.1) ∙ there cast c k a h m within found (Wanting j e) w amid (subst IsMatch (sym l.1.1) l.0) in
     let holding : ℕ → Holds = λ z. Holding j e z (word_of (after (record_at z) r e.kind)) in
-    made cast c k a h m within found (Wanting j e) w amid (Look c) trail.Look e.game (with_held y c w) refl l.1.0 refl l.1.1 l.0 refl
+    made cast c k a h m within found (Wanting j e) w amid (Look c) trail.Look e.game (with_held y c w) refl l.1.0 refl l.1.1 l.0 refl (frame_held c k (Wanting j e) y w amid.held_is)
     (ap (λ (o : Option Refusal). Some (after_rules c j e word o w)) (ap (λ (z : ℕ). refusal_of (record_at z) e.expected e.kind) is ∙ l.2)
     ∙ (ap (λ (z : ℕ). Some (with_held (holding z) c w)) is ∙ ap (λ (z : Holds). Some (with_held z c w)) (sym l.3)))
 inner cast c k a h m within found (Collecting j words) w amid y l =
@@ -139,7 +171,7 @@ inner cast c k a h m within found (Collecting j words) w amid y l =
     let game : IsMatch (length words + 1) = (omega arith, omega arith) in
     let same : length words ≡ length words + 1 - 1 = omega arith in
     let is : slice_index w.words (length words) ≡ m.found = ap (slice_index w.words) same ∙ (ap (word_at w.words) (sym l.1.1) ∙ there cast c k a h m within found (Collecting j words) w amid (subst IsMatch (sym l.1.1) game)) in
-    made cast c k a h m within found (Collecting j words) w amid (First c) trail.First (length words + 1) (with_held y c w) refl l.1.0 refl l.1.1 game refl
+    made cast c k a h m within found (Collecting j words) w amid (First c) trail.First (length words + 1) (with_held y c w) refl l.1.0 refl l.1.1 game refl (frame_held c k (Collecting j words) y w amid.held_is)
     (ap (λ (z : ℕ). Some (with_held (collected j (words ++ z ∷ []) (length w.history)) c w)) is
     ∙ (ap (λ (z : ℕ). Some (with_held (collected j (words ++ m.found ∷ []) z) c w)) (now cast c k a h m within found (Collecting j words) w amid) ∙ ap (λ (z : Holds). Some (with_held z c w)) (sym l.2)))
 inner cast c k a h m within found (Checking j words i point) w amid y l =
@@ -150,7 +182,7 @@ inner cast c k a h m within found (Checking j words i point) w amid y l =
     let done = after_reply c j point (Copied (record { board = words; version = version_of words })) w in
     let on = with_held (Checking j words (i + 1) point) c w in
     let again = with_held (Collecting j []) c w in
-    made cast c k a h m within found (Checking j words i point) w amid (Second c) trail.Second (i + 1) (with_held y c w) refl l.1.0 refl l.1.1 game refl
+    made cast c k a h m within found (Checking j words i point) w amid (Second c) trail.Second (i + 1) (with_held y c w) refl l.1.0 refl l.1.1 game refl (frame_held c k (Checking j words i point) y w amid.held_is)
     (elim l.2 [
       | inl t ↦
           let less = t.1 in
@@ -174,4 +206,4 @@ module _ (cast : Cast) (full : cast.reporters ≡ 255) (c : Caller) (k : ℕ) (a
       let u = until cast full c k a x h legal low none n m.at w le up within amid in
       let one = inner cast c k a h m within f.1 x u.0 u.2 t.0 t.1 in
       let rest = walk ms t.0 y m.at (with_held t.0 c u.0) (omega arith) f.2 t.2 (amid_held cast c k a x t.0 (take m.at h) u.0 u.2) in
-      (rest.0, reaches_on c w u.0 rest.0 [] (steps_of c (m ∷ ms)) [] (m ∷ ms) u.1 (reaches_on c u.0 (with_held t.0 c u.0) rest.0 (step_of c m.act ∷ []) (steps_of c ms) (m ∷ []) ms one rest.1), rest.2)
+      (rest.0, reaches_on c w u.0 rest.0 [] (steps_of c (m ∷ ms)) [] (m ∷ ms) u.1 (reaches_on c u.0 (with_held t.0 c u.0) rest.0 (step_of c m.act ∷ []) (steps_of c ms) (m ∷ []) ms (reaches_made c k u.0 m (with_held t.0 c u.0) one) rest.1), rest.2)

@@ -15,4 +15,5 @@ pub mod Marks
 pub mod Walking
 pub mod Joining
 pub mod Calls
+pub mod Scheduling
 pub mod Reachable

@@ -52,7 +52,7 @@ pub steps_append : (xs ys : List Step) (w v : MachineState) → after_steps xs w
 steps_append [] ys w v e = ap (after_steps ys) (same_Some w v e)
 steps_append (s ∷ xs) ys w v e = option_and_then_some (after_steps xs) (after_step w s) v e (λ u is rest. ap (option_and_then (after_steps (xs ++ ys))) is ∙ steps_append xs ys u v rest)
 
-marks_append : (c : Caller) (xs ys : List Step) (w v : MachineState) → after_steps xs w ≡ Some v → marks_left c (xs ++ ys) (Some w) ≡ marks_left c xs (Some w) ++ marks_left c ys (Some v)
+pub marks_append : (c : Caller) (xs ys : List Step) (w v : MachineState) → after_steps xs w ≡ Some v → marks_left c (xs ++ ys) (Some w) ≡ marks_left c xs (Some w) ++ marks_left c ys (Some v)
 marks_append c [] ys w v e = ap (λ (z : MachineState). marks_left c ys (Some z)) (same_Some w v e)
 marks_append c (s ∷ xs) ys w v e =
     let own : List Mark = cond (is_caller c (caller_of s)) (marks_of_step s w) [] in

@@ -9,11 +9,13 @@ use Rattle.ucl_board.specs.declared.reading.Reading.{Reading}
 use Rattle.ucl_board.specs.History.{board_of, IsLegal, sequential_reply, snapshot_at}
 use Rattle.ucl_steps.specs.declared.step.Cast.{Cast}
 use Rattle.ucl_steps.specs.declared.step.Caller.{Caller}
+use Rattle.ucl_steps.specs.declared.step.Caller.TheVariants.{Reporter}
 use Rattle.ucl_steps.specs.declared.step.Call.{Call}
 use Rattle.ucl_steps.specs.declared.step.Step.{Step}
 use Rattle.ucl_steps.specs.declared.trace.Reply.{Reply}
 use Rattle.ucl_steps.specs.Machine.{MachineState, initial_state, may_begin, after_steps}
 use Rattle.ucl_steps.specs.Marking.{IsAtRest, IsInCast, NoneOwn, Leaves, IsMadeBySteps}
+use Rattle.ucl_steps.specs.Together.{CallMade, AreCallsAlong, IsOneRun}
 use Rattle.ucl_steps.specs.Linearizable.{IsLinearizable}
 use Rattle.ucl_steps.specs.Trails.{Mark, Follows, ReportMarks, decided_at, IsUnclean, marks_of, ReadingMarks}
 
@@ -58,3 +60,8 @@ CallsAreSteps = (cast : Cast) (c : Caller) (call : Call) (reply : Reply) (ms : L
 -- steps of the machine lead to rest after any legal history
 abbrev pub HistoriesAreReached : Type 0
 HistoriesAreReached = (cast : Cast) (history : List Entry) → cast.reporters ≡ 255 → IsLegal history → (steps : List Step) × (state : MachineState) × (after_steps steps (initial_state cast) ≡ Some state) × IsAtRest cast history state
+
+-- the calls that all callers of a board made along one legal history are one run of the machine
+abbrev pub CallsAreOneRun : Type 0
+CallsAreOneRun = (cast : Cast) (history : List Entry) (calls_of : Caller → List CallMade) → IsLegal history → ((k : ℕ) (e : Entry) → slice_get history k ≡ Some e → IsInCast cast (Reporter e.reporter))
+    → ((c : Caller) → IsInCast cast c → AreCallsAlong history c 0 (calls_of c)) → IsOneRun cast history calls_of
