@@ -59,7 +59,7 @@ none_by : (n : ℕ) (h : List Entry) → All (λ (e : Entry). e.reporter ≢ n) 
 none_by n [] a = refl
 none_by n (x ∷ h) a = ap (λ (b : Bool). cond b (x ∷ entries_by n h) (entries_by n h)) (ne_eqb x.reporter n (All-head (λ (e : Entry). e.reporter ≢ n) x h a)) ∙ none_by n h (All-tail (λ (e : Entry). e.reporter ≢ n) x h a)
 
-none_by_more : (enlisted : ℕ) (h : List Entry) → All (InRank enlisted) h → entries_by (enlisted + 1) h ≡ []
+pub none_by_more : (enlisted : ℕ) (h : List Entry) → All (InRank enlisted) h → entries_by (enlisted + 1) h ≡ []
 none_by_more enlisted h r = none_by (enlisted + 1) h (λ k d lt z. let q = r k d lt in omega arith)
 
 place_below : (views : List View) (at : ℕ) (v : View) → get_elem? views at ≡ some v → at < length views

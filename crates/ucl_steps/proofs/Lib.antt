@@ -11,4 +11,9 @@ pub mod Making
 pub mod Keeping
 pub mod Stepping
 pub mod Runs
+pub mod Marks
+pub mod Walking
+pub mod Joining
+pub mod Calls
+pub mod Scheduling
 pub mod Reachable

@@ -1,10 +1,23 @@
 -- What holds of every run of the machine.
-use Rattle.std.specs.Prelude.{◌≡◌, List, Some}
-use Rattle.ucl_board.specs.History.{board_of}
+use Rattle.std.specs.Prelude.{◌≡◌, ℕ, ◌+◌, ◌*◌, ◌<◌, ◌≤◌, true, List, length, take, Some, Result, slice_get}
+use Rattle.std.specs.List.{AllByRecursion}
+use Rattle.ucl_word.specs.declared.event.EventCall.{EventCall}
+use Rattle.ucl_word.specs.declared.event.Accepted.{Accepted}
+use Rattle.ucl_word.specs.declared.refusal.Refusal.{Refusal}
+use Rattle.ucl_board.specs.declared.entry.Entry.{Entry}
+use Rattle.ucl_board.specs.declared.reading.Reading.{Reading}
+use Rattle.ucl_board.specs.History.{board_of, IsLegal, sequential_reply, snapshot_at}
 use Rattle.ucl_steps.specs.declared.step.Cast.{Cast}
+use Rattle.ucl_steps.specs.declared.step.Caller.{Caller}
+use Rattle.ucl_steps.specs.declared.step.Caller.TheVariants.{Reporter}
+use Rattle.ucl_steps.specs.declared.step.Call.{Call}
 use Rattle.ucl_steps.specs.declared.step.Step.{Step}
-use Rattle.ucl_steps.specs.Machine.{MachineState, initial_state, after_steps}
+use Rattle.ucl_steps.specs.declared.trace.Reply.{Reply}
+use Rattle.ucl_steps.specs.Machine.{MachineState, initial_state, may_begin, after_steps}
+use Rattle.ucl_steps.specs.Marking.{IsAtRest, IsInCast, NoneOwn, Leaves, IsMadeBySteps}
+use Rattle.ucl_steps.specs.Together.{CallMade, AreCallsAlong, IsOneRun}
 use Rattle.ucl_steps.specs.Linearizable.{IsLinearizable}
+use Rattle.ucl_steps.specs.Trails.{Mark, Follows, ReportMarks, decided_at, IsUnclean, marks_of, ReadingMarks}
 
 -- for every list of steps of any reporters and readers, cut anywhere, its history explains every call
 abbrev pub RunsAreLinearizable : Type 0
@@ -13,3 +26,42 @@ RunsAreLinearizable = (cast : Cast) (steps : List Step) (state : MachineState) �
 -- the match words are those of the board of the history
 abbrev pub WordsAreOfTheHistory : Type 0
 WordsAreOfTheHistory = (cast : Cast) (steps : List Step) (state : MachineState) → after_steps steps (initial_state cast) ≡ Some state → state.words ≡ board_of state.history
+
+-- the last Second of an unclean try is at a longer history than the First of its match
+abbrev pub UncleanTriesSeeMore : Type 0
+UncleanTriesSeeMore = (history : List Entry) (low high : ℕ) (ms : List Mark) → Follows history low ms high → (try : IsUnclean ms) (first : Mark) → slice_get try.firsts (length try.broken.equal) ≡ Some first → first.at < try.broken.last.at
+
+-- so there are no more unclean tries than entries came
+abbrev pub UncleanTriesAreFew : Type 0
+UncleanTriesAreFew = (history : List Entry) (low high : ℕ) (tries : List (List Mark)) → Follows history low (marks_of tries) high → AllByRecursion IsUnclean tries → low + length tries ≤ high
+
+-- the reading is the board of the first entries, as many as its version says, and was had by few steps
+pub record IsReadFrom (history : List Entry) (low high : ℕ) (reading : Reading) (ms : List Mark) (marks : ReadingMarks reading ms) : Type 0 where
+  pub snapshot : reading ≡ snapshot_at history reading.version
+  pub within : (low ≤ reading.version) × (reading.version ≤ high)
+  pub tries : low + length marks.tries ≤ high
+  pub steps : (24 ≤ length ms) × (length ms ≤ 24 * (length marks.tries + 1))
+  pub bound : (length marks.tries < 12277) × (length ms ≤ 294648)
+
+-- what the marks of a reading show
+abbrev pub ReadingsAreSnapshots : Type 0
+ReadingsAreSnapshots = (history : List Entry) (low high : ℕ) (reading : Reading) (ms : List Mark) → IsLegal history → high ≤ length history → Follows history low ms high → (marks : ReadingMarks reading ms) → IsReadFrom history low high reading ms marks
+
+-- the reply that the marks of a report show is that of the board of one thread
+abbrev pub ReportsAreSequential : Type 0
+ReportsAreSequential = (history : List Entry) (low high now : ℕ) (call : EventCall) (reply : Result Accepted Refusal) (ms : List Mark) → IsLegal history → Follows history low ms high → ReportMarks call reply ms now
+    → sequential_reply (take (decided_at reply now) history) call ≡ reply
+
+-- from rest on, a caller's call is made by steps of the machine that leave its marks, one after the other, while other callers enter what else came
+abbrev pub CallsAreSteps : Type 0
+CallsAreSteps = (cast : Cast) (c : Caller) (call : Call) (reply : Reply) (ms : List Mark) (before : List Entry) (low : ℕ) (state : MachineState) → cast.reporters ≡ 255 → IsInCast cast c → may_begin c call ≡ true
+    → IsLegal before → NoneOwn c low before → Leaves c call reply ms before low → IsAtRest cast (take low before) state → IsMadeBySteps cast state c call reply ms before
+
+-- steps of the machine lead to rest after any legal history
+abbrev pub HistoriesAreReached : Type 0
+HistoriesAreReached = (cast : Cast) (history : List Entry) → cast.reporters ≡ 255 → IsLegal history → (steps : List Step) × (state : MachineState) × (after_steps steps (initial_state cast) ≡ Some state) × IsAtRest cast history state
+
+-- the calls that all callers of a board made along one legal history are one run of the machine
+abbrev pub CallsAreOneRun : Type 0
+CallsAreOneRun = (cast : Cast) (history : List Entry) (calls_of : Caller → List CallMade) → IsLegal history → ((k : ℕ) (e : Entry) → slice_get history k ≡ Some e → IsInCast cast (Reporter e.reporter))
+    → ((c : Caller) → IsInCast cast c → AreCallsAlong history c 0 (calls_of c)) → IsOneRun cast history calls_of

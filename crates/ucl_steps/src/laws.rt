@@ -1,6 +1,6 @@
 //! What holds of every list of steps. The functions do nothing: each is there for its contract.
 
-ghost use Rattle.ucl_steps.specs.Laws.{RunsAreLinearizable, WordsAreOfTheHistory};
+ghost use Rattle.ucl_steps.specs.Laws.{RunsAreLinearizable, WordsAreOfTheHistory, UncleanTriesSeeMore, UncleanTriesAreFew, ReadingsAreSnapshots, ReportsAreSequential, CallsAreSteps, HistoriesAreReached};
 
 /// Whatever steps the callers take, in whatever order, and wherever the list is cut: one legal history of the board of
 /// one thread holds each finished call once, with the reply that it got, between its beginning and its end; each
@@ -13,4 +13,41 @@ pub fn runs_are_linearizable()
 /// After every list of steps the match words are those of the board of the history.
 pub fn words_are_of_the_history()
     ensures { WordsAreOfTheHistory }
+{}
+
+/// Where the second collect of a reading finds another word, the history has grown since the first collect loaded that
+/// match.
+pub fn unclean_tries_see_more()
+    ensures { UncleanTriesSeeMore }
+{}
+
+/// A reading begins anew no more often than entries come meanwhile.
+pub fn unclean_tries_are_few()
+    ensures { UncleanTriesAreFew }
+{}
+
+/// What a reading answers is the board of the first entries of the history, as many as its version says: those that
+/// there were when it loaded the twelfth word of its last first collect. It takes 24 steps at least, 24 more for each
+/// time that it begins anew at most, and never more than 294,648 (12,277 tries).
+pub fn readings_are_snapshots()
+    ensures { ReadingsAreSnapshots }
+{}
+
+/// What a report answers by its one or two steps is the reply of the board of one thread, to the entries that there were
+/// at its last step.
+pub fn reports_are_sequential()
+    ensures { ReportsAreSequential }
+{}
+
+/// The steps that a call makes on a shared board are steps of the machine. Let a caller's marks, reply and history agree
+/// as the calls of a shared board say. From every state with idle callers and an earlier part of that history there is a
+/// run of the machine in which the caller begins the call, takes the step of each mark, one after the other, which finds
+/// the mark's word at the mark's place, and ends the call with that reply. In between, other callers enter what else came.
+pub fn calls_are_steps()
+    ensures { CallsAreSteps }
+{}
+
+/// Steps of the machine lead from the fresh board to idle callers after any legal history.
+pub fn histories_are_reached()
+    ensures { HistoriesAreReached }
 {}

@@ -9,7 +9,10 @@ mod run;
 mod step;
 mod trace;
 
-pub use laws::{runs_are_linearizable, words_are_of_the_history};
+pub use laws::{
+    calls_are_steps, histories_are_reached, readings_are_snapshots, reports_are_sequential,
+    runs_are_linearizable, unclean_tries_are_few, unclean_tries_see_more, words_are_of_the_history,
+};
 pub use run::run_steps;
 pub use step::{Call, Caller, Cast, Step};
 pub use trace::{CallRecord, Reply, StepFault, Trace};

@@ -1,0 +1,5 @@
+use Rattle.ucl_steps.proofs.Marks.{tries_few}
+use Rattle.ucl_steps.proofs.laws.unclean_tries_are_few.Goals as goal
+
+pub returns : goal.returns
+returns c = tries_few

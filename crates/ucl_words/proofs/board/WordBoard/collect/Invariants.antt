@@ -1,0 +1,11 @@
+use Rattle.std.proofs.Common.{◌≡◌, length}
+use Rattle.ucl_steps.specs.Trails.{First}
+use Rattle.ucl_words.proofs.Collecting.{Collected}
+use Rattle.ucl_words.proofs.board.WordBoard.collect.Given as goal
+
+abbrev pub invariant-loop-i : goal.invariant-loop-i
+invariant-loop-i l = record {
+  same : l.seat.table_id ≡ l.fn.seat.table_id;
+  long : length l.words ≡ 12;
+  collected : Collected First l.fn.seat.me.0 l.words l.i l.seat.me.0;
+}

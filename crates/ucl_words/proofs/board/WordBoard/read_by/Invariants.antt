@@ -1,0 +1,13 @@
+use Rattle.std.proofs.Common.{◌≡◌, ◌-◌, length}
+use Rattle.ucl_words.proofs.Collecting.{Tried}
+use Rattle.ucl_words.proofs.board.WordBoard.read_by.Given as goal
+
+abbrev pub invariant-tries : goal.invariant-tries
+invariant-tries l = record {
+  same : l.seat.table_id ≡ l.fn.seat.table_id;
+  tried : Tried l.fn.seat.me.0 l.seat.me.0;
+}
+
+-- each try that is not clean has seen a longer history, and no history is longer than this
+abbrev pub decreases-tries : goal.decreases-tries
+decreases-tries l = 12277 - length l.seat.me.0.seen

@@ -1,0 +1,12 @@
+use Rattle.std.proofs.Common.{◌≡◌, ap, refl, sym, ◌∙◌, subst, arith}
+use Rattle.ucl_words.specs.declared.view.View.{View}
+use Rattle.ucl_words.specs.WordCalls.{IsSteady}
+use Rattle.ucl_words.proofs.Moves.{seconds}
+use Rattle.ucl_words.proofs.Enlisting.{second_steady}
+use Rattle.ucl_words.proofs.board.WordBoard.split_now.Goals as goal
+
+pub split_seat-seat-requires : goal.split_seat-seat-requires
+split_seat-seat-requires c = (ap (λ p. p.0) c.pass.view_is ∙ (c.requires ∙ sym c.self.view_is), omega (arith, c.self.invariant.0), seconds c.pass.inside.seat.id c.pass.inside.seat.me.0)
+
+pub invariant_of-result : goal.invariant_of-result
+invariant_of-result c = subst (λ (v : View). IsSteady v × (v.number ≡ 0)) (sym (ap (λ m. m.0) c.split_seat-seat.ensures.4)) (second_steady c.pass.inside.seat.me.0 c.pass.invariant.0, refl)

@@ -1,0 +1,30 @@
+use Rattle.std.proofs.Common.{ℕ, ◌==◌, ◌≤◌, refl, sym, ◌∙◌, subst, arith}
+use mathlib.Core.Option.{some}
+use prog.Atomic.{either}
+use Rattle.atomic_table.specs.Table.{step, Allows}
+use Rattle.ucl_board.specs.declared.entry.Entry.{Entry}
+use Rattle.ucl_words.specs.WordRule.{KeepsOneHistory}
+use Rattle.ucl_words.specs.WordSteps.{ExchangeStep, ExchangeMissed}
+use Rattle.ucl_words.proofs.Moves.{swaps}
+use Rattle.ucl_words.proofs.board.WordBoard.swap.Goals as goal
+
+pub compare_exchange_with-requires : goal.compare_exchange_with-requires
+compare_exchange_with-requires c =
+    let is = c.from-word.ensures in
+    let value = c.get.ensures.value in
+    let range = c.get.ensures.within in let a = range.0 in let b = range.1 in
+    let e : Entry = c.args.entry in
+    let low : 1 ≤ e.game = omega arith in
+    let slots : ℕ = c.self.inside.table.shared.table_id.slots in
+    let seat = c.args.seat.now in (
+      c.requires.table ∙ sym c.self.view_is,
+      omega (arith, c.self.invariant.0),
+      subst (λ (w : ℕ). Allows KeepsOneHistory slots seat.id seat.me w (λ n. either (n == c.args.loaded) c.args.next n) (ExchangeStep (step slots w c.args.loaded c.args.next (some e)) seat.me)) (sym (is ∙ value))
+          (swaps slots seat.id seat.me e c.args.loaded c.args.next low c.requires.me.0 c.requires.me.1 c.requires.next),
+    )
+
+pub returns-clause-won : goal.returns-clause-won
+returns-clause-won c hit = c.compare_exchange_with.ensures.2.won hit c.args.entry refl
+
+pub returns-clause-missed : goal.returns-clause-missed
+returns-clause-missed c miss = subst (λ (w : ℕ). ExchangeMissed w c.args.seat.now.me.0 c.compare_exchange_with.result c.compare_exchange_with.new.seat.me.0) (c.from-word.ensures ∙ c.get.ensures.value) (c.compare_exchange_with.ensures.2.missed miss)

@@ -1,0 +1,7 @@
+pub mod Views
+pub mod WordRule
+pub mod WordSteps
+pub mod Laws
+pub mod WordMachine
+pub mod WordCalls
+pub mod Collects

@@ -1,0 +1,355 @@
+//! The board over thirteen atomic words, and its calls.
+
+ghost use Rattle.std.specs.Prelude.{◌≡◌, ◌≢◌, ◌+◌, ◌<◌, ◌≤◌, ◌++◌, ◌∷◌, [], length, IfOk, IfErr, IfSome, IfNone, MatchResult, MatchBool};
+ghost use Rattle.atomic_table.specs.Seated.{TableId};
+ghost use Rattle.ucl_word.specs.Record.{IsValid};
+ghost use Rattle.ucl_word.specs.Layout.{IsWord, record_at};
+ghost use Rattle.ucl_board.specs.Fixtures.{IsMatch};
+ghost use Rattle.ucl_board.specs.Words.{AreWords, version_of};
+ghost use Rattle.ucl_steps.specs.Trails as trails;
+ghost use Rattle.ucl_pass.specs.Passes.{IsSound, Continues, AcceptedReport, RefusedReport, SharedReading, Enlistment, FullBoard, Meeting, opening_pass, split_pass};
+ghost use Rattle.ucl_words.specs.Views.{known_of};
+ghost use Rattle.ucl_words.specs.WordSteps.{Loads, ExchangeWon, ExchangeMissed, IsNextWord};
+ghost use Rattle.ucl_words.specs.Collects.{Collects, HasCollected, FindsAgain, FindsAnother};
+ghost use Rattle.ucl_words.specs.WordCalls.{IsSteady, ReportSteps, ReadingSteps, KeepsTrail};
+
+use crate::passes::{WordReaderPass, WordReporterPass};
+use crate::rule::{
+    CountEnlisted, Enlist, First, LastSecond, Look, Note, Seat, Second, SecondPass, Swap, Table,
+};
+use std::alloc::Global;
+use std::marker::Model;
+use ucl_board::{Board, Entry, Reading};
+use ucl_pass::TooManyReporters;
+use ucl_word::{
+    Accepted, EventCall, MatchNo, MatchRecord, OutOfMemory, Refusal, ReporterNo, apply, pack,
+    unpack,
+};
+
+/// Which word of the table is the number of enlisted reporters; words 1 to 12 are the matches.
+const ENLISTED: usize = 0;
+
+/// How many reporters a board can have.
+const MOST_REPORTERS: u64 = 255;
+
+/// A board of thirteen words that are loaded and exchanged one at a time: the number of enlisted reporters, and the twelve matches.
+/// Contracts see which table it is.
+#[derive(Drop)]
+pub struct WordBoard {
+    table: Table,
+}
+
+impl Model for WordBoard {
+    ghost Value = { TableId };
+
+    ghost view = { λ b. b.table.shared.table_id };
+
+    ghost invariant = { λ b. (b.table.shared.table_id.words ≡ 13) × (b.table.shared.table_id.slots ≡ 0) };
+}
+
+/// The record of a word that a valid record has.
+fn record_of(word: u64) -> MatchRecord
+    requires { IsWord word }
+    ensures value { result ≡ record_at word }
+    ensures valid { IsValid result }
+{
+    match unpack(word) {
+        Ok(game) => game,
+        Err(_) => unreachable!(),
+    }
+}
+
+/// The reading of twelve words, whose board they are.
+fn reading_of(words: &[u64; 12]) -> Reading
+    requires { AreWords words.now }
+    ensures board { result.board ≡ words.now }
+    ensures version { result.version ≡ version_of words.now }
+{
+    match Board::of_words(words) {
+        Ok(board) => {
+            let version = board.version();
+            Reading { board, version }
+        }
+        Err(_) => unreachable!(),
+    }
+}
+
+impl WordBoard {
+    /// The fresh board, and the reader's pass from which all its passes come. Where the memory of the table is refused the answer is
+    /// `OutOfMemory`, and there is no board. No other call takes memory.
+    pub fn open<R>(_rt: &R, alloc: Global) -> Result<(WordBoard, WordReaderPass), OutOfMemory>
+        ensures own { IfOk result (λ opened. opened.1.0 ≡ opened.0) }
+        ensures fresh { IfOk result (λ opened. known_of opened.1.1 ≡ opening_pass) }
+        ensures untaken { IfOk result (λ opened. (opened.1.1.taken ≡ 0) × (opened.1.1.trail ≡ [])) }
+    {
+        let (table, seat) = Table::of_words(alloc, &[0; 13], &())?;
+        Ok((WordBoard { table }, WordReaderPass { seat }))
+    }
+
+    /// Loads the word of a match, for a report.
+    fn look(&self, seat: &mut Seat, game: MatchNo) -> u64
+        requires { seat.old.table_id ≡ self.now }
+        ensures own { seat.new.table_id ≡ seat.old.table_id }
+        ensures game { IsMatch game }
+        ensures looks { Loads trails.Look game seat.old.me.0 result seat.new.me.0 }
+    {
+        let word = usize::from(game.get());
+        self.table.shared.load::<Look>(seat, word)
+    }
+
+    /// Puts the next word of a match in the place of the one that was loaded, where it is still there, and answers the word that was found.
+    fn swap(&self, seat: &mut Seat, loaded: u64, next: u64, entry: Entry) -> u64
+        requires table { seat.old.table_id ≡ self.now }
+        requires me { (0 < seat.old.me.0.number) × (entry.reporter ≡ seat.old.me.0.number) }
+        requires next { IsNextWord entry loaded next }
+        ensures own { seat.new.table_id ≡ seat.old.table_id }
+        ensures won { result ≡ loaded → ExchangeWon entry seat.old.me.0 result seat.new.me.0 }
+        ensures missed { result ≢ loaded → ExchangeMissed entry.game seat.old.me.0 result seat.new.me.0 }
+    {
+        let word = usize::from(entry.game.get());
+        self.table
+            .shared
+            .compare_exchange_with::<Swap>(seat, word, loaded, next, &entry)
+    }
+
+    /// Enters an event under the seat's number: one load, and where the rules accept the event, one exchange.
+    fn report_by(
+        &self,
+        seat: &mut Seat,
+        reporter: ReporterNo,
+        call: &EventCall,
+    ) -> Result<Accepted, Refusal>
+        requires table { seat.old.table_id ≡ self.now }
+        requires steady { IsSteady seat.old.me.0 }
+        requires me { (0 < reporter) × (reporter ≤ 255) × (seat.old.me.0.number ≡ reporter) }
+        ensures own { seat.new.table_id ≡ seat.old.table_id }
+        ensures steady { IsSteady seat.new.me.0 }
+        ensures always { Continues (known_of seat.old.me.0) (known_of seat.new.me.0) }
+        ensures accepted { IfOk result (λ reply. AcceptedReport (known_of seat.old.me.0) call.now reply (known_of seat.new.me.0)) }
+        ensures refused { IfErr result (λ refusal. RefusedReport (known_of seat.old.me.0) call.now refusal (known_of seat.new.me.0)) }
+        ensures steps { ReportSteps seat.old.me.0 call.now result seat.new.me.0 }
+    {
+        let loaded = self.look(seat, call.game);
+        let next = match apply(&record_of(loaded), reporter, call.expected, call.kind) {
+            Ok(next) => next,
+            Err(refusal) => return Err(refusal),
+        };
+        let entry = Entry {
+            game: call.game,
+            reporter,
+            kind: call.kind,
+        };
+        let found = self.swap(seat, loaded, pack(&next), entry);
+        if found == loaded {
+            Ok(Accepted {
+                number: next.number,
+            })
+        } else {
+            Err(Refusal::Stale {
+                found: record_of(found).number,
+            })
+        }
+    }
+
+    /// The first collect: loads words 1 to 12.
+    fn collect(&self, seat: &mut Seat) -> [u64; 12]
+        requires table { seat.old.table_id ≡ self.now }
+        requires steady { IsSteady seat.old.me.0 }
+        ensures own { seat.new.table_id ≡ seat.old.table_id }
+        ensures long { length result ≡ 12 }
+        ensures collects { Collects seat.old.me.0 result seat.new.me.0 }
+    {
+        let mut words = [0; 12];
+        for i in 0..12 {
+            words[i] = self.table.shared.load::<First>(seat, i + 1);
+        }
+        words
+    }
+
+    /// The second collect: loads words 1 to 12 again, up to the first that is another.
+    fn is_clean(&self, seat: &mut Seat, words: &[u64; 12]) -> bool
+        requires table { seat.old.table_id ≡ self.now }
+        requires steady { IsSteady seat.old.me.0 }
+        requires collected { HasCollected words.now seat.old.me.0 }
+        ensures own { seat.new.table_id ≡ seat.old.table_id }
+        ensures compared { MatchBool result (FindsAgain seat.old.me.0 words.now seat.new.me.0) (FindsAnother seat.old.me.0 words.now seat.new.me.0) }
+    {
+        for i in 0..11 {
+            if self.table.shared.load::<Second>(seat, i + 1) != words[i] {
+                return false;
+            }
+        }
+        if self.table.shared.load::<LastSecond>(seat, 12) != words[11] {
+            return false;
+        }
+        true
+    }
+
+    /// The clean double collect. Each try that is not clean has seen a longer history, so there are few.
+    fn read_by(&self, seat: &mut Seat) -> Reading
+        requires table { seat.old.table_id ≡ self.now }
+        requires steady { IsSteady seat.old.me.0 }
+        ensures own { seat.new.table_id ≡ seat.old.table_id }
+        ensures steady { IsSteady seat.new.me.0 }
+        ensures always { Continues (known_of seat.old.me.0) (known_of seat.new.me.0) }
+        ensures reading { SharedReading (known_of seat.old.me.0) result (known_of seat.new.me.0) }
+        ensures steps { ReadingSteps seat.old.me.0 result seat.new.me.0 }
+        ensures least { seat.old.me.0.taken + 24 ≤ seat.new.me.0.taken }
+        ensures most { seat.new.me.0.taken ≤ seat.old.me.0.taken + 294648 }
+    {
+        'tries: loop {
+            let words = self.collect(seat);
+            if self.is_clean(seat, &words) {
+                return reading_of(&words);
+            }
+        }
+    }
+
+    /// Makes a seat a reporter's, and answers its number. `None` where 255 are enlisted. The first exchange is tried from no reporter,
+    /// and each later one from as many as were found.
+    fn enlist_by(&self, seat: &mut Seat) -> Option<ReporterNo>
+        requires table { seat.old.table_id ≡ self.now }
+        requires steady { IsSteady seat.old.me.0 }
+        ensures own { seat.new.table_id ≡ seat.old.table_id }
+        ensures steady { IsSteady seat.new.me.0 }
+        ensures enlisted { IfSome result (λ number. Enlistment (known_of seat.old.me.0) (known_of seat.new.me.0) × (seat.new.me.0.number ≡ number)) }
+        ensures always { IfNone result (Continues (known_of seat.old.me.0) (known_of seat.new.me.0)) }
+        ensures full { IfNone result (FullBoard (known_of seat.old.me.0) (known_of seat.new.me.0)) }
+        ensures trail { KeepsTrail seat.old.me.0 seat.new.me.0 }
+        ensures most { seat.new.me.0.taken ≤ seat.old.me.0.taken + 255 }
+    {
+        let mut known = 0;
+        'tries: while known < MOST_REPORTERS {
+            let found = self
+                .table
+                .shared
+                .compare_exchange::<Enlist>(seat, ENLISTED, known, known + 1);
+            if found == known {
+                return ReporterNo::new((known + 1) as u8);
+            }
+            known = found;
+        }
+        None
+    }
+
+    /// A note of the first is split off and joined to the second, which then loads the enlist word.
+    fn meet_by(&self, first: &mut Seat, second: &mut Seat)
+        requires table { (first.old.table_id ≡ self.now) × (second.old.table_id ≡ self.now) }
+        requires steady { IsSteady second.old.me.0 }
+        ensures own { (first.new.table_id ≡ first.old.table_id) × (second.new.table_id ≡ second.old.table_id) }
+        ensures unchanged { first.new.me.0 ≡ first.old.me.0 }
+        ensures steady { IsSteady second.new.me.0 }
+        ensures always { Continues (known_of second.old.me.0) (known_of second.new.me.0) }
+        ensures meeting { Meeting (known_of first.old.me.0) (known_of second.old.me.0) (known_of second.new.me.0) }
+        ensures trail { KeepsTrail second.old.me.0 second.new.me.0 }
+        ensures taken { second.new.me.0.taken ≡ second.old.me.0.taken + 1 }
+    {
+        let note = self.table.shared.split_seat::<Note>(first);
+        self.table.shared.join_seat::<Note>(second, note);
+        self.table.shared.load::<CountEnlisted>(second, ENLISTED);
+    }
+
+    /// Enters an event under the number of the pass, by one load and at most one compare and exchange of its match word. An accepted
+    /// event is the last that the pass has seen. A refusal is the reply of a board of one thread after all that the pass has then seen,
+    /// and enters nothing; where another event of the match came between the load and the exchange, it is `Stale` with the number found.
+    pub fn report_now(
+        &self,
+        pass: &mut WordReporterPass,
+        call: &EventCall,
+    ) -> Result<Accepted, Refusal>
+        requires { pass.old.0 ≡ self.now }
+        ensures own { pass.new.0 ≡ self.now }
+        ensures always { Continues (known_of pass.old.1) (known_of pass.new.1) }
+        ensures accepted { IfOk result (λ reply. AcceptedReport (known_of pass.old.1) call.now reply (known_of pass.new.1)) }
+        ensures refused { IfErr result (λ refusal. RefusedReport (known_of pass.old.1) call.now refusal (known_of pass.new.1)) }
+        ensures steps { ReportSteps pass.old.1 call.now result pass.new.1 }
+        ensures most { pass.new.1.taken ≤ pass.old.1.taken + 2 }
+    {
+        let reporter = pass.number;
+        let result = self.report_by(&mut pass.seat, reporter, call);
+        if result.is_ok() {
+            pass.accepted += 1;
+        }
+        result
+    }
+
+    /// The board after a beginning of the history that has all that the pass had seen, and its version: loads all match words, and loads
+    /// them again, anew from the first where one is another, in at most 12,277 tries of at most 24 loads.
+    pub fn read_now(&self, pass: &mut WordReaderPass) -> Reading
+        requires { pass.old.0 ≡ self.now }
+        ensures own { pass.new.0 ≡ self.now }
+        ensures always { Continues (known_of pass.old.1) (known_of pass.new.1) }
+        ensures reading { SharedReading (known_of pass.old.1) result (known_of pass.new.1) }
+        ensures steps { ReadingSteps pass.old.1 result pass.new.1 }
+        ensures least { pass.old.1.taken + 24 ≤ pass.new.1.taken }
+        ensures most { pass.new.1.taken ≤ pass.old.1.taken + 294648 }
+    {
+        self.read_by(&mut pass.seat)
+    }
+
+    /// The same for a reporter.
+    pub fn read_own_now(&self, pass: &mut WordReporterPass) -> Reading
+        requires { pass.old.0 ≡ self.now }
+        ensures own { pass.new.0 ≡ self.now }
+        ensures always { Continues (known_of pass.old.1) (known_of pass.new.1) }
+        ensures reading { SharedReading (known_of pass.old.1) result (known_of pass.new.1) }
+        ensures steps { ReadingSteps pass.old.1 result pass.new.1 }
+        ensures least { pass.old.1.taken + 24 ≤ pass.new.1.taken }
+        ensures most { pass.new.1.taken ≤ pass.old.1.taken + 294648 }
+    {
+        let seat = &mut pass.seat;
+        self.read_by(seat)
+    }
+
+    /// A second pass, which has seen as much as the lent one, for another thread. It has a copy of the trail.
+    pub fn split_now(&self, pass: &mut WordReaderPass) -> WordReaderPass
+        requires { pass.old.0 ≡ self.now }
+        ensures own { (pass.new.0 ≡ self.now) × (result.0 ≡ self.now) }
+        ensures sound { IsSound (known_of pass.old.1) }
+        ensures unchanged { pass.new.1 ≡ pass.old.1 }
+        ensures given { known_of result.1 ≡ split_pass (known_of pass.old.1) }
+        ensures steps { (result.1.taken ≡ pass.old.1.taken) × (result.1.trail ≡ pass.old.1.trail) }
+    {
+        let seat = self.table.shared.split_seat::<SecondPass>(&mut pass.seat);
+        WordReaderPass { seat }
+    }
+
+    /// Makes a reader a reporter, under a number of its own, by at most 255 compare and exchanges of the enlist word. Where 255 are
+    /// enlisted the answer is 30 with the pass, which may have seen more.
+    pub fn enlist_now(
+        &self,
+        pass: WordReaderPass,
+    ) -> Result<WordReporterPass, TooManyReporters<WordReaderPass>>
+        requires { pass.0 ≡ self.now }
+        ensures own { MatchResult result (λ enlisted. enlisted.0 ≡ self.now) (λ full. full.0.0 ≡ self.now) }
+        ensures enlisted { IfOk result (λ enlisted. Enlistment (known_of pass.1) (known_of enlisted.1)) }
+        ensures always { IfErr result (λ full. Continues (known_of pass.1) (known_of full.0.1)) }
+        ensures full { IfErr result (λ full. FullBoard (known_of pass.1) (known_of full.0.1)) }
+        ensures trail { MatchResult result (λ enlisted. KeepsTrail pass.1 enlisted.1) (λ full. KeepsTrail pass.1 full.0.1) }
+        ensures most { MatchResult result (λ enlisted. enlisted.1.taken ≤ pass.1.taken + 255) (λ full. full.0.1.taken ≤ pass.1.taken + 255) }
+    {
+        let WordReaderPass { mut seat } = pass;
+        match self.enlist_by(&mut seat) {
+            Some(number) => Ok(WordReporterPass {
+                seat,
+                number,
+                accepted: 0,
+            }),
+            None => Err(TooManyReporters(WordReaderPass { seat })),
+        }
+    }
+
+    /// Afterwards the second pass has seen all that either had seen, by one load of the enlist word. The first is as it was.
+    pub fn meet_now(&self, first: &mut WordReporterPass, second: &mut WordReporterPass)
+        requires { (first.old.0 ≡ self.now) × (second.old.0 ≡ self.now) }
+        ensures own { (first.new.0 ≡ self.now) × (second.new.0 ≡ self.now) }
+        ensures sound { IsSound (known_of first.old.1) }
+        ensures always { Continues (known_of second.old.1) (known_of second.new.1) }
+        ensures unchanged { first.new.1 ≡ first.old.1 }
+        ensures meeting { Meeting (known_of first.old.1) (known_of second.old.1) (known_of second.new.1) }
+        ensures trail { KeepsTrail second.old.1 second.new.1 }
+        ensures taken { second.new.1.taken ≡ second.old.1.taken + 1 }
+    {
+        self.meet_by(&mut first.seat, &mut second.seat);
+    }
+}
