@@ -13,8 +13,8 @@ use std::alloc::Global;
 use std::io::Write;
 use std::sync::Wait;
 use std::thread::Threads;
-use ucl_pass::CellBoard;
 use ucl_screen::{Sink, Source, read_night};
+use ucl_words::WordBoard;
 
 /// The exit status where the words are refused.
 pub const REFUSED_WORDS: u8 = 2;
@@ -27,7 +27,7 @@ pub fn tell<E: Write>(errors: &mut E, fault: RunFault) -> u8
     status_of(&fault)
 }
 
-/// Reads a script from the source, runs its night on a board of its own, and writes the output to the sink.
+/// Reads a script from the source, runs its night on a word board of its own, and writes the output to the sink.
 fn play<S: Source, W: Sink, R: Threads + Wait + Sync>(
     rt: &R,
     alloc: Global,
@@ -39,7 +39,7 @@ fn play<S: Source, W: Sink, R: Threads + Wait + Sync>(
     requires { IsGroup group }
 {
     let night = read_night(alloc, source)?;
-    let (board, pass) = CellBoard::open(rt, alloc)?;
+    let (board, pass) = WordBoard::open(rt, alloc)?;
     let end = night_run(rt, alloc, &board, pass, &night, group, readings, &OpenGate)?;
     put_night(&end, sink)
 }

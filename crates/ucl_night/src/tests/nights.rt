@@ -13,6 +13,7 @@ use ucl_board::{Board, Reading};
 use ucl_pass::{CellBoard, CellReaderPass, LiveBoard};
 use ucl_screen::{FromRead, Night, ToWrite, read_night};
 use ucl_word::{EventCall, Kind, MatchNo};
+use ucl_words::WordBoard;
 
 /// How often a gate looks before it lets a worker pass all the same.
 const MOST_TURNS: u32 = 100_000_000;
@@ -78,6 +79,9 @@ fn all_four_workers_run_at_once(rt: HostRuntime) -> Result<(), Fail> {
     let (board, pass) = CellBoard::open(&rt, alloc)?;
     let answer = all_at_the_gate(&rt, alloc, &board, pass, &night);
     assert_eq!(rt; answer, Ok((40, false)));
+    let (board, pass) = WordBoard::open(&rt, alloc)?;
+    let answer = all_at_the_gate(&rt, alloc, &board, pass, &night);
+    assert_eq!(rt; answer, Ok((40, false)));
     Ok(())
 }
 
@@ -140,6 +144,9 @@ fn readers_see_what_was_reported_before(rt: HostRuntime) -> Result<(), Fail> {
     let script = head_to_head_script(alloc)?;
     let night = night_of(alloc, script.as_str())?;
     let (board, pass) = CellBoard::open(&rt, alloc)?;
+    let answer = readers_after_reporters(&rt, alloc, &board, pass, &night);
+    assert_eq!(rt; answer, Ok((40, 2, false, false)));
+    let (board, pass) = WordBoard::open(&rt, alloc)?;
     let answer = readers_after_reporters(&rt, alloc, &board, pass, &night);
     assert_eq!(rt; answer, Ok((40, 2, false, false)));
     Ok(())
@@ -225,12 +232,28 @@ fn night_of_twenty<B: LiveBoard, R: Threads + Wait + Sync>(
 }
 
 #[test]
-fn fifty_nights_settle_on_one_board(rt: HostRuntime) -> Result<(), Fail> {
+fn fifty_nights_on_cell_boards(rt: HostRuntime) -> Result<(), Fail> {
     let alloc = rt.alloc();
     let script = head_to_head_script(alloc)?;
     let night = night_of(alloc, script.as_str())?;
     for _ in 0..50 {
         let (board, pass) = CellBoard::open(&rt, alloc)?;
+        let Ok(Some((closing, version))) = night_of_twenty(&rt, alloc, &board, pass, &night) else {
+            return Err("no night".into());
+        };
+        assert_eq!(rt; closing.as_str(), HEAD_TO_HEAD_SCREEN);
+        assert_eq!(rt; version, 40);
+    }
+    Ok(())
+}
+
+#[test]
+fn fifty_nights_on_word_boards(rt: HostRuntime) -> Result<(), Fail> {
+    let alloc = rt.alloc();
+    let script = head_to_head_script(alloc)?;
+    let night = night_of(alloc, script.as_str())?;
+    for _ in 0..50 {
+        let (board, pass) = WordBoard::open(&rt, alloc)?;
         let Ok(Some((closing, version))) = night_of_twenty(&rt, alloc, &board, pass, &night) else {
             return Err("no night".into());
         };
