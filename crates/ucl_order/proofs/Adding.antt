@@ -11,9 +11,8 @@ use Rattle.ucl_word.specs.declared.record.MatchRecord.{MatchRecord}
 use Rattle.ucl_board.specs.Fixtures.{fixture_of, match_numbers}
 use Rattle.ucl_board.specs.Words.{game_at}
 use Rattle.ucl_order.specs.declared.mark.Mark.{Mark}
-use Rattle.ucl_order.specs.Marks.{reach, sure_points}
 use Rattle.ucl_order.specs.Rows.{row_with}
-use Rattle.ucl_order.specs.Results.{seen_by, is_won, is_drawn, is_lost, penalty, appearances, points, results_of, unfinished, match_at, matches_of}
+use Rattle.ucl_order.specs.Results.{seen_by, is_won, is_drawn, is_lost, penalty, appearances, results_of, match_at, matches_of}
 use Rattle.ucl_order.specs.Counting.{with_match, IsWithin}
 use Rattle.ucl_order.specs.Order.{among, is_in}
 use Rattle.ucl_order.specs.Keys.{seen_among}
