@@ -371,7 +371,7 @@ idle_in zero k l = absurd (omega arith)
 idle_in (suc n) zero l = refl
 idle_in (suc n) (suc k) l = idle_in n k (omega arith)
 
-rest_at_start : (cast : Cast) → IsAtRest cast [] (initial_state cast)
+pub rest_at_start : (cast : Cast) → IsAtRest cast [] (initial_state cast)
 rest_at_start cast = record { idle = idle; history_is = refl; words_are = board_none }
   where
     idle : (c : Caller) → IsInCast cast c → held_by (initial_state cast).callers c ≡ Some Idle
