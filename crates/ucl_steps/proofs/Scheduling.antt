@@ -1,11 +1,10 @@
 -- The calls of all callers, taken step by step along one history: what is left to do for each, and one step of one of them.
-use Rattle.std.proofs.Common.{◌≡◌, ◌≢◌, ℕ, zero, suc, ◌+◌, ◌-◌, ◌<◌, ◌≤◌, Bool, true, false, cond, List, [], ◌∷◌, ◌++◌, take, length, map, Option, Some, None, ◌⊎◌, inl, inr, refl, sym, ap, ◌∙◌, subst, arith, append_assoc, append-nil, le_refl, length-append}
+use Rattle.std.proofs.Common.{◌≡◌, ◌≢◌, ℕ, suc, ◌+◌, ◌<◌, ◌≤◌, Bool, true, cond, List, [], ◌∷◌, ◌++◌, take, length, map, Option, Some, None, inl, inr, refl, sym, ap, ◌∙◌, subst, arith, append_assoc, append-nil, le_refl, length-append}
 use Rattle.std.specs.Prelude.{slice_get, IsSome, is_some}
-use Rattle.std.proofs.lemmas.Option.{none-some, same_Some}
-use Rattle.std.proofs.lemmas.Bool.{cases_lt, false≢true}
+use Rattle.std.proofs.lemmas.Option.{same_Some}
+use Rattle.std.proofs.lemmas.Bool.{false≢true}
 use Rattle.std.proofs.lemmas.List.{take-append-le, length_push}
 use Rattle.std.proofs.lemmas.List.Elements.{filter-append}
-use Rattle.std.proofs.Math.Seq.{take-length}
 use mathlib.Core.List.{IsPrefix}
 use Rattle.ucl_word.proofs.Sequences.{at_below, at_longer, at_end}
 use Rattle.ucl_word.specs.declared.event.Accepted as word
@@ -22,17 +21,17 @@ use Rattle.ucl_steps.specs.declared.step.Step.TheVariants.{Begin, End}
 use Rattle.ucl_steps.specs.declared.trace.CallRecord.{CallRecord}
 use Rattle.ucl_steps.specs.declared.trace.Reply.{Reply}
 use Rattle.ucl_steps.specs.declared.trace.Reply.TheVariants.{Accepted, Refused, Copied}
-use Rattle.ucl_steps.specs.Machine.{Holds, Idle, Answered, MachineState, initial_state, held_by, with_held, with_reply, with_end, change_at, may_begin, held_at_begin, after_begin, after_end, after_step_holding, caller_of, after_step, after_steps}
+use Rattle.ucl_steps.specs.Machine.{Holds, Idle, Answered, MachineState, initial_state, held_by, with_held, with_reply, with_end, may_begin, held_at_begin, after_begin, after_end, after_step_holding, caller_of, after_step, after_steps}
 use Rattle.ucl_steps.specs.Trails.{Mark, Follows}
-use Rattle.ucl_steps.specs.Marking.{is_caller, own_steps, step_of, marks_of_step, marks_left, IsInCast, NoneOwn, entry_by, history_after, point_of, CallMarks, Leaves}
-use Rattle.ucl_steps.specs.Together.{CallMade, after_call, IsCallAlong, AreCallsAlong, steps_of_calls, marks_of_calls, IsRecorded, AreRecorded}
-use Rattle.ucl_steps.proofs.Lists.{get_some, get_back}
+use Rattle.ucl_steps.specs.Marking.{is_caller, own_steps, step_of, marks_of_step, marks_left, IsInCast, NoneOwn, entry_by, history_after, point_of, CallMarks}
+use Rattle.ucl_steps.specs.Together.{CallMade, after_call, AreCallsAlong, steps_of_calls, marks_of_calls, IsRecorded, AreRecorded}
+use Rattle.ucl_steps.proofs.Lists.{get_back}
 use Rattle.ucl_steps.proofs.Changing.{change_at_here, change_at_else, length-change_at}
 use Rattle.ucl_steps.proofs.Callers.{same_caller, held_here, held_else}
-use Rattle.ucl_steps.proofs.Marks.{follows_ends, follows_wider}
+use Rattle.ucl_steps.proofs.Marks.{follows_ends}
 use Rattle.ucl_steps.proofs.Walking.{is_caller_same, is_caller_else, steps_on, steps_append, marks_append, Amid}
-use Rattle.ucl_steps.proofs.Joining.{Leads, Through, Frame, Made, inner, amid_held, caller_of_act}
-use Rattle.ucl_steps.proofs.Calls.{Finishes, Plan, began, within_before, planned}
+use Rattle.ucl_steps.proofs.Joining.{Through, Frame, inner, caller_of_act}
+use Rattle.ucl_steps.proofs.Calls.{Finishes, began, within_before, planned}
 
 -- lists
 
@@ -362,22 +361,24 @@ module _ (cast : Cast) (H : List Entry) (legal : IsLegal H) where
           let held : held_by w.callers c ≡ Some (Answered k) = doing.held_is ∙ ap Some f.is in
           let count = length-change_at k (with_end n) w.calls in
           let below = at_below w.calls k b f.at in
-          let frame : Frame c k w w' = record { holds = λ d not. held_else w.callers c d Idle (Answered k) held not; calls = λ i a not at. change_at_else k (with_end n) w.calls i a not at; count = omega arith } in
-          (w', world_next p p R steps w w' c (End c) (Waiting ms) world refl (ap (λ (o : Option Holds). after_step_holding (End c) o w) held) (spares_frame c k w w' b frame f.at refl)
-          world.history_is world.words_are
-          (record {
-            holds = Idle;
-            held_is = held_here w.callers c (Answered k) Idle held;
-            high = k + 1;
-            fits = (refl, f.next, omega arith);
-            done = doing.done ++ m ∷ [];
-            calls = append_assoc doing.done (m ∷ []) ms ∙ doing.calls;
-            own = own_book c (End c) steps (steps_of_calls c ms) refl ∙ doing.own;
-            marks = marks_book c (End c) steps w [] (marks_of_calls ms) world.run refl refl ∙ doing.marks;
-            recorded = recorded_more w'.calls c 0 doing.done doing.high k m (with_end n b) (recorded_kept w.calls w'.calls c 0 doing.done doing.high (ended_frame c k w w' b frame f.at refl) doing.recorded) f.low
-                (change_at_here k (with_end n) w.calls b f.at) (record { caller = refl; call = refl; point = refl; reply = refl; ended = refl });
-          })
-          (λ d not in_cast calls x high fits. fits))
+          let frame : Frame c k w w' = record { holds = λ d not. held_else w.callers c d Idle (Answered k) held not; calls = λ i a not at. change_at_else k (with_end n) w.calls i a not at; count = omega arith } in (
+            w',
+            world_next p p R steps w w' c (End c) (Waiting ms) world refl (ap (λ (o : Option Holds). after_step_holding (End c) o w) held) (spares_frame c k w w' b frame f.at refl)
+                world.history_is world.words_are
+                (record {
+                  holds = Idle;
+                  held_is = held_here w.callers c (Answered k) Idle held;
+                  high = k + 1;
+                  fits = (refl, f.next, omega arith);
+                  done = doing.done ++ m ∷ [];
+                  calls = append_assoc doing.done (m ∷ []) ms ∙ doing.calls;
+                  own = own_book c (End c) steps (steps_of_calls c ms) refl ∙ doing.own;
+                  marks = marks_book c (End c) steps w [] (marks_of_calls ms) world.run refl refl ∙ doing.marks;
+                  recorded = recorded_more w'.calls c 0 doing.done doing.high k m (with_end n b) (recorded_kept w.calls w'.calls c 0 doing.done doing.high (ended_frame c k w w' b frame f.at refl) doing.recorded) f.low
+                      (change_at_here k (with_end n) w.calls b f.at) (record { caller = refl; call = refl; point = refl; reply = refl; ended = refl });
+                })
+                (λ d not in_cast calls x high fits. fits),
+          )
 
       module _ (m : CallMade) (left : List Mark) (ms : List CallMade) (is : R c ≡ Within m left ms) where
         -- a step of a mark that is not the call's last
@@ -400,38 +401,42 @@ module _ (cast : Cast) (H : List Entry) (legal : IsLegal H) where
             let amid = amid_at c k b doing.holds w p l.at m.before world.history_is world.words_are before (omega arith) doing.held_is f.at same in
             let y = through.0 in
             let w' = with_held y c w in
-            let made = inner nobody c k b m.before l within t.1 doing.holds w amid y through.1 in
-            (rest, w', ap length split, world_next p p R steps w w' c s (Within m rest ms) world (caller_of_act c l.act) made.done (spares_frame c k w w' b made.frame f.at refl)
-            world.history_is world.words_are
-            (record {
-              holds = y;
-              held_is = held_here w.callers c doing.holds y doing.held_is;
-              high = doing.high;
-              fits = record {
-                place = k;
-                begun = f.begun;
-                at = f.at;
-                low = f.low;
-                init = init;
-                last = f.last;
-                split = refl;
-                holds = f.holds;
-                through = through.2;
-                finishes = f.finishes;
-                whole = f.whole;
-                follows = subst (λ (z : ℕ). Follows m.before z rest (length m.before)) (sym same) t.2;
-                none = f.none;
-                along = f.along;
-                own = f.own;
-                next = f.next;
-              };
-              done = doing.done;
-              calls = doing.calls;
-              own = own_book c s steps (rest_steps c (Within m rest ms)) (caller_of_act c l.act) ∙ (ap (λ (z : List Mark). own_steps c steps ++ rest_steps c (Within m z ms)) (sym split) ∙ doing.own);
-              marks = marks_book c s steps w (l ∷ []) (rest ++ marks_of_calls ms) world.run (caller_of_act c l.act) made.left ∙ (ap (λ (z : List Mark). marks_left c steps (Some (initial_state cast)) ++ (z ++ marks_of_calls ms)) (sym split) ∙ doing.marks);
-              recorded = doing.recorded;
-            })
-            (λ d not in_cast calls x high fits. fits))
+            let made = inner nobody c k b m.before l within t.1 doing.holds w amid y through.1 in (
+              rest,
+              w',
+              ap length split,
+              world_next p p R steps w w' c s (Within m rest ms) world (caller_of_act c l.act) made.done (spares_frame c k w w' b made.frame f.at refl)
+                  world.history_is world.words_are
+                  (record {
+                    holds = y;
+                    held_is = held_here w.callers c doing.holds y doing.held_is;
+                    high = doing.high;
+                    fits = record {
+                      place = k;
+                      begun = f.begun;
+                      at = f.at;
+                      low = f.low;
+                      init = init;
+                      last = f.last;
+                      split = refl;
+                      holds = f.holds;
+                      through = through.2;
+                      finishes = f.finishes;
+                      whole = f.whole;
+                      follows = subst (λ (z : ℕ). Follows m.before z rest (length m.before)) (sym same) t.2;
+                      none = f.none;
+                      along = f.along;
+                      own = f.own;
+                      next = f.next;
+                    };
+                    done = doing.done;
+                    calls = doing.calls;
+                    own = own_book c s steps (rest_steps c (Within m rest ms)) (caller_of_act c l.act) ∙ (ap (λ (z : List Mark). own_steps c steps ++ rest_steps c (Within m z ms)) (sym split) ∙ doing.own);
+                    marks = marks_book c s steps w (l ∷ []) (rest ++ marks_of_calls ms) world.run (caller_of_act c l.act) made.left ∙ (ap (λ (z : List Mark). marks_left c steps (Some (initial_state cast)) ++ (z ++ marks_of_calls ms)) (sym split) ∙ doing.marks);
+                    recorded = doing.recorded;
+                  })
+                  (λ d not in_cast calls x high fits. fits),
+            )
 
         -- the step of the call's last mark
         pub finishes_at : (mine (Within m left ms) is).fits.init ≡ [] → (mine (Within m left ms) is).fits.last.at ≡ p → (q : ℕ) → history_after c m.call m.reply (take p m.before) ≡ take q H → AreCallsAlong H c q ms
@@ -454,18 +459,20 @@ module _ (cast : Cast) (H : List Entry) (legal : IsLegal H) where
             let w' = end.0 in
             let made = end.1 in
             let after = end.2 in
-            let history_is : history_after c m.call m.reply (take l.at m.before) ≡ take q H = ap (λ (z : ℕ). history_after c m.call m.reply (take z m.before)) here ∙ history in
-            (w', world_next p q R steps w w' c s (Ending m ms) world (caller_of_act c l.act) made.done (spares_frame c k w w' b made.frame f.at refl)
-            (after.history_is ∙ history_is) (after.words_are ∙ ap board_of history_is)
-            (record {
-              holds = Answered k;
-              held_is = after.held_is;
-              high = doing.high;
-              fits = record { place = k; begun = f.begun; at = after.call_is; low = f.low; is = refl; next = next };
-              done = doing.done;
-              calls = doing.calls;
-              own = own_book c s steps (End c ∷ steps_of_calls c ms) (caller_of_act c l.act) ∙ (ap (λ (z : List Mark). own_steps c steps ++ rest_steps c (Within m z ms)) (sym split) ∙ doing.own);
-              marks = marks_book c s steps w (l ∷ []) (marks_of_calls ms) world.run (caller_of_act c l.act) made.left ∙ (ap (λ (z : List Mark). marks_left c steps (Some (initial_state cast)) ++ (z ++ marks_of_calls ms)) (sym split) ∙ doing.marks);
-              recorded = recorded_kept w.calls w'.calls c 0 doing.done doing.high (ended_frame c k w w' b made.frame f.at refl) doing.recorded;
-            })
-            moved)
+            let history_is : history_after c m.call m.reply (take l.at m.before) ≡ take q H = ap (λ (z : ℕ). history_after c m.call m.reply (take z m.before)) here ∙ history in (
+              w',
+              world_next p q R steps w w' c s (Ending m ms) world (caller_of_act c l.act) made.done (spares_frame c k w w' b made.frame f.at refl)
+                  (after.history_is ∙ history_is) (after.words_are ∙ ap board_of history_is)
+                  (record {
+                    holds = Answered k;
+                    held_is = after.held_is;
+                    high = doing.high;
+                    fits = record { place = k; begun = f.begun; at = after.call_is; low = f.low; is = refl; next = next };
+                    done = doing.done;
+                    calls = doing.calls;
+                    own = own_book c s steps (End c ∷ steps_of_calls c ms) (caller_of_act c l.act) ∙ (ap (λ (z : List Mark). own_steps c steps ++ rest_steps c (Within m z ms)) (sym split) ∙ doing.own);
+                    marks = marks_book c s steps w (l ∷ []) (marks_of_calls ms) world.run (caller_of_act c l.act) made.left ∙ (ap (λ (z : List Mark). marks_left c steps (Some (initial_state cast)) ++ (z ++ marks_of_calls ms)) (sym split) ∙ doing.marks);
+                    recorded = recorded_kept w.calls w'.calls c 0 doing.done doing.high (ended_frame c k w w' b made.frame f.at refl) doing.recorded;
+                  })
+                  moved,
+            )

@@ -1,9 +1,9 @@
 -- The calls of all callers along one history are one run of the machine: at each place every caller takes its steps there, and then the next entry is made.
 use Rattle.std.proofs.Common.{◌≡◌, ◌≢◌, ℕ, zero, suc, ◌+◌, ◌<◌, ◌≤◌, Bool, true, false, List, [], ◌∷◌, ◌++◌, take, length, Some, ◌⊎◌, inl, inr, refl, sym, ap, ◌∙◌, subst, arith, append-nil, le_refl, length-append}
-use Rattle.std.specs.Prelude.{slice_get, replicate}
-use Rattle.std.proofs.lemmas.Option.{none-some, same_Some}
+use Rattle.std.specs.Prelude.{slice_get}
+use Rattle.std.proofs.lemmas.Option.{same_Some}
 use Rattle.std.proofs.lemmas.Bool.{cases_lt, false≢true}
-use Rattle.std.proofs.lemmas.List.{length_push, length-take-le}
+use Rattle.std.proofs.lemmas.List.{length_push}
 use Rattle.std.proofs.Math.Seq.{take-length}
 use mathlib.Core.List.{IsPrefix}
 use Rattle.ucl_word.proofs.Sequences.{at_end}
@@ -19,10 +19,10 @@ use Rattle.ucl_steps.specs.declared.step.Step.TheVariants.{Begin, End}
 use Rattle.ucl_steps.specs.declared.trace.CallRecord.{CallRecord}
 use Rattle.ucl_steps.specs.declared.trace.Reply.{Reply}
 use Rattle.ucl_steps.specs.declared.trace.Reply.TheVariants.{Accepted, Refused, Copied}
-use Rattle.ucl_steps.specs.Machine.{Holds, Idle, MachineState, initial_state, held_by, after_begin}
+use Rattle.ucl_steps.specs.Machine.{Holds, Idle, MachineState, initial_state, after_begin}
 use Rattle.ucl_steps.specs.Trails.{Mark, Follows}
 use Rattle.ucl_steps.specs.Linearizable.{is_accepted}
-use Rattle.ucl_steps.specs.Marking.{own_steps, marks_left, step_of, IsInCast, IsAtRest, NoneOwn, entry_by, history_after}
+use Rattle.ucl_steps.specs.Marking.{own_steps, marks_left, step_of, IsInCast, NoneOwn, history_after}
 use Rattle.ucl_steps.specs.Together.{CallMade, after_call, AreCallsAlong, AreRecorded, IsOneRun}
 use Rattle.ucl_steps.specs.Laws.{CallsAreOneRun}
 use Rattle.ucl_steps.proofs.Lists.{get_some}
@@ -76,12 +76,15 @@ module _ (cast : Cast) (H : List Entry) (legal : IsLegal H) (calls_of : Caller �
 
   calls_earlier : (c : Caller) (p q : ℕ) (before : List Entry) (ms : List CallMade) → p ≤ q → q ≡ length before → IsPrefix before H → NoneOwn c p before → AreCallsAlong H c q ms → AreCallsAlong H c p ms
   calls_earlier c p q before [] le whole is none calls = none_earlier c p q before H whole is ([], append-nil H) none calls
-  calls_earlier c p q before (m ∷ ms) le whole is none calls = (record {
-    may = calls.0.may;
-    along = calls.0.along;
-    none = none_earlier c p q before m.before whole is (prefix_trans m.before (after_call c m) H (before_prefix c m.call m.reply m.before) calls.0.along) none calls.0.none;
-    leaves = record { follows = follows_wider (after_call c m) q p (length (after_call c m)) (length (after_call c m)) m.marks le (le_refl (length (after_call c m))) calls.0.leaves.follows; shape = calls.0.leaves.shape };
-  }, calls.1)
+  calls_earlier c p q before (m ∷ ms) le whole is none calls = (
+    record {
+      may = calls.0.may;
+      along = calls.0.along;
+      none = none_earlier c p q before m.before whole is (prefix_trans m.before (after_call c m) H (before_prefix c m.call m.reply m.before) calls.0.along) none calls.0.none;
+      leaves = record { follows = follows_wider (after_call c m) q p (length (after_call c m)) (length (after_call c m)) m.marks le (le_refl (length (after_call c m))) calls.0.leaves.follows; shape = calls.0.leaves.shape };
+    },
+    calls.1,
+  )
 
   -- one step more of a caller, at this place
   record More (p : ℕ) (R : Caller → Rest) (c : Caller) (r : Rest) : Type 0 where
@@ -279,12 +282,15 @@ module _ (cast : Cast) (H : List Entry) (legal : IsLegal H) (calls_of : Caller �
     later d not (Waiting (m ∷ ms)) b calls x high f =
         let call = f.1.0 in (
           f.0,
-          (record {
-            may = call.may;
-            along = call.along;
-            none = λ k entry le at_k. call.none k entry (omega arith) at_k;
-            leaves = record { follows = follows_later (after_call d m) p (length (after_call d m)) m.marks p b call.leaves.follows; shape = call.leaves.shape };
-          }, f.1.1),
+          (
+            record {
+              may = call.may;
+              along = call.along;
+              none = λ k entry le at_k. call.none k entry (omega arith) at_k;
+              leaves = record { follows = follows_later (after_call d m) p (length (after_call d m)) m.marks p b call.leaves.follows; shape = call.leaves.shape };
+            },
+            f.1.1,
+          ),
           f.2,
         )
     later d not (Within m left ms) (inl after) calls x high f = later_within d calls x high m left ms after f
