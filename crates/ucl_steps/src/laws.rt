@@ -53,9 +53,9 @@ pub fn histories_are_reached()
 {}
 
 /// All calls that all callers of a board made along one legal history are, together, one run of the machine from the
-/// fresh board: in it each caller's steps are those whose marks its calls left, in their order, its calls have the
-/// replies that they had, and at the end all callers are idle after that history. So what holds of every run
-/// (`runs_are_linearizable`) holds of these calls.
+/// fresh board: each caller's own steps are those of its calls and leave their marks, each call begins with its first
+/// step, ends with its last and has its reply, and at the end all callers are idle after that history. So these calls
+/// are linearizable. Steps of two callers between two entries come in either order.
 pub fn calls_are_one_run()
     ensures { CallsAreOneRun }
 {}
