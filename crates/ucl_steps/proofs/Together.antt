@@ -1,9 +1,9 @@
 -- The calls of all callers along one history are one run of the machine: at each place every caller takes its steps there, and then the next entry is made.
 use Rattle.std.proofs.Common.{◌≡◌, ◌≢◌, ℕ, zero, suc, ◌+◌, ◌<◌, ◌≤◌, Bool, true, false, List, [], ◌∷◌, ◌++◌, take, length, Some, ◌⊎◌, inl, inr, refl, sym, ap, ◌∙◌, subst, arith, append-nil, le_refl, length-append}
-use Rattle.std.specs.Prelude.{slice_get, replicate}
-use Rattle.std.proofs.lemmas.Option.{none-some, same_Some}
+use Rattle.std.specs.Prelude.{slice_get}
+use Rattle.std.proofs.lemmas.Option.{same_Some}
 use Rattle.std.proofs.lemmas.Bool.{cases_lt, false≢true}
-use Rattle.std.proofs.lemmas.List.{length_push, length-take-le}
+use Rattle.std.proofs.lemmas.List.{length_push}
 use Rattle.std.proofs.Math.Seq.{take-length}
 use mathlib.Core.List.{IsPrefix}
 use Rattle.ucl_word.proofs.Sequences.{at_end}
@@ -19,18 +19,19 @@ use Rattle.ucl_steps.specs.declared.step.Step.TheVariants.{Begin, End}
 use Rattle.ucl_steps.specs.declared.trace.CallRecord.{CallRecord}
 use Rattle.ucl_steps.specs.declared.trace.Reply.{Reply}
 use Rattle.ucl_steps.specs.declared.trace.Reply.TheVariants.{Accepted, Refused, Copied}
-use Rattle.ucl_steps.specs.Machine.{Holds, Idle, MachineState, initial_state, held_by, after_begin}
+use Rattle.ucl_steps.specs.Machine.{Holds, Idle, MachineState, initial_state, after_begin}
 use Rattle.ucl_steps.specs.Trails.{Mark, Follows}
-use Rattle.ucl_steps.specs.Linearizable.{is_accepted}
-use Rattle.ucl_steps.specs.Marking.{own_steps, marks_left, step_of, IsInCast, IsAtRest, NoneOwn, entry_by, history_after}
-use Rattle.ucl_steps.specs.Together.{CallMade, after_call, AreCallsAlong, AreRecorded, IsOneRun}
+use Rattle.ucl_steps.specs.Linearizable.{is_accepted, IsLinearizable}
+use Rattle.ucl_steps.specs.Marking.{own_steps, marks_left, step_of, IsInCast, NoneOwn, history_after}
+use Rattle.ucl_steps.specs.Together.{first_place, last_place, place_after, CallMade, after_call, AreCallsAlong, AreRecorded, IsOneRun}
 use Rattle.ucl_steps.specs.Laws.{CallsAreOneRun}
 use Rattle.ucl_steps.proofs.Lists.{get_some}
 use Rattle.ucl_steps.proofs.Histories.{board_none}
 use Rattle.ucl_steps.proofs.Callers.{same_caller}
+use Rattle.ucl_steps.proofs.Runs.{linearizable_run}
 use Rattle.ucl_steps.proofs.Marks.{follows_ends, follows_wider}
-use Rattle.ucl_steps.proofs.Calls.{rest_at_start, within_before}
-use Rattle.ucl_steps.proofs.Scheduling.{prefix_take, prefix_get, prefix_long, prefix_length, prefix_trans, before_prefix, Rest, Waiting, Within, Ending, rest_steps, recorded_all, FitsWithin, Fits, Doing, World, set_rest, set_here, set_else, mine, begins, ends, goes_on, finishes_at}
+use Rattle.ucl_steps.proofs.Calls.{began, planned, rest_at_start, within_before}
+use Rattle.ucl_steps.proofs.Scheduling.{nobody, legal_prefix, prefix_take, prefix_get, prefix_long, prefix_length, prefix_trans, before_prefix, Rest, Waiting, Within, Ending, rest_steps, recorded_all, FitsWithin, Fits, Doing, World, set_rest, set_here, set_else, mine, begins, ends, goes_on, finishes_at}
 
 -- all marks are at later places
 abbrev StartsAfter : ℕ → List Mark → Type 0
@@ -49,6 +50,16 @@ history_plain : (c : Caller) (call : Call) (reply : Reply) (h : List Entry) → 
 history_plain c call (Accepted reply) h not = absurd (false≢true (sym not))
 history_plain c call (Refused refusal) h not = refl
 history_plain c call (Copied reading) h not = refl
+
+place_plain : (reply : Reply) (ms : List Mark) → is_accepted (Some reply) ≡ false → place_after reply ms ≡ last_place ms
+place_plain (Accepted reply) ms not = absurd (false≢true (sym not))
+place_plain (Refused refusal) ms not = refl
+place_plain (Copied reading) ms not = refl
+
+place_won : (reply : Reply) (ms : List Mark) → is_accepted (Some reply) ≡ true → place_after reply ms ≡ last_place ms + 1
+place_won (Accepted reply) ms is = refl
+place_won (Refused refusal) ms is = absurd (false≢true is)
+place_won (Copied reading) ms is = absurd (false≢true is)
 
 accepted_reply : (reply : Reply) → is_accepted (Some reply) ≡ true → (accepted : word.Accepted) × (reply ≡ Accepted accepted)
 accepted_reply (Accepted accepted) is = (accepted, refl)
@@ -76,12 +87,15 @@ module _ (cast : Cast) (H : List Entry) (legal : IsLegal H) (calls_of : Caller �
 
   calls_earlier : (c : Caller) (p q : ℕ) (before : List Entry) (ms : List CallMade) → p ≤ q → q ≡ length before → IsPrefix before H → NoneOwn c p before → AreCallsAlong H c q ms → AreCallsAlong H c p ms
   calls_earlier c p q before [] le whole is none calls = none_earlier c p q before H whole is ([], append-nil H) none calls
-  calls_earlier c p q before (m ∷ ms) le whole is none calls = (record {
-    may = calls.0.may;
-    along = calls.0.along;
-    none = none_earlier c p q before m.before whole is (prefix_trans m.before (after_call c m) H (before_prefix c m.call m.reply m.before) calls.0.along) none calls.0.none;
-    leaves = record { follows = follows_wider (after_call c m) q p (length (after_call c m)) (length (after_call c m)) m.marks le (le_refl (length (after_call c m))) calls.0.leaves.follows; shape = calls.0.leaves.shape };
-  }, calls.1)
+  calls_earlier c p q before (m ∷ ms) le whole is none calls = (
+    record {
+      may = calls.0.may;
+      along = calls.0.along;
+      none = none_earlier c p q before m.before whole is (prefix_trans m.before (after_call c m) H (before_prefix c m.call m.reply m.before) calls.0.along) none calls.0.none;
+      leaves = record { follows = follows_wider (after_call c m) q p (length (after_call c m)) (length (after_call c m)) m.marks le (le_refl (length (after_call c m))) calls.0.leaves.follows; shape = calls.0.leaves.shape };
+    },
+    calls.1,
+  )
 
   -- one step more of a caller, at this place
   record More (p : ℕ) (R : Caller → Rest) (c : Caller) (r : Rest) : Type 0 where
@@ -99,12 +113,24 @@ module _ (cast : Cast) (H : List Entry) (legal : IsLegal H) (calls_of : Caller �
     length_left c (x ∷ z ∷ xs) [] m ms e = absurd (omega arith)
     length_left c (x ∷ z ∷ xs) (y ∷ ys) m ms e = ap suc (length_left c (z ∷ xs) ys m ms (omega arith))
 
-    act_begin : (m : CallMade) (ms : List CallMade) → R c ≡ Waiting (m ∷ ms) → More p R c (Waiting (m ∷ ms))
-    act_begin m ms is = record { next = Within m m.marks ms; steps = steps ++ Begin c m.call ∷ []; state = after_begin c m.call w; world = begins cast H legal calls_of p R steps w world c inside m ms is; less = refl }
+    act_begin : (m : CallMade) (ms : List CallMade) → R c ≡ Waiting (m ∷ ms) → first_place m.marks ≡ p → More p R c (Waiting (m ∷ ms))
+    act_begin m ms is starts = record { next = Within m m.marks ms; steps = steps ++ Begin c m.call ∷ []; state = after_begin c m.call w; world = begins cast H legal calls_of p R steps w world c inside m ms is starts; less = refl }
 
     act_wait : (m : CallMade) (ms : List CallMade) (marks : List Mark) → m.marks ≡ marks → R c ≡ Waiting (m ∷ ms) → Blocked p (Waiting (m ∷ ms)) ⊎ More p R c (Waiting (m ∷ ms))
-    act_wait m ms [] e is = inr (act_begin m ms is)
-    act_wait m ms (l ∷ rest) e is = elim (cases_lt p l.at) [ inl later ↦ inl (subst (StartsAfter p) (sym e) later) | inr now ↦ inr (act_begin m ms is) ]
+    act_wait m ms [] e is =
+        let call = (mine cast H legal calls_of p R steps w world c inside (Waiting (m ∷ ms)) is).fits.1.0 in
+        let before = prefix_trans m.before (after_call c m) H (before_prefix c m.call m.reply m.before) call.along in
+        let plan = planned nobody c m.call m.reply m.marks m.before p 0 (began c m.call 0) cast inside call.may (legal_prefix cast H legal calls_of m.before before) call.leaves in
+        absurd (omega (arith, ap length e, ap length plan.split, length-append plan.init (plan.last ∷ [])))
+    act_wait m ms (l ∷ rest) e is = elim (cases_lt p l.at) [
+      | inl later ↦ inl (subst (StartsAfter p) (sym e) later)
+      | inr now ↦
+          let call = (mine cast H legal calls_of p R steps w world c inside (Waiting (m ∷ ms)) is).fits.1.0 in
+          let t : Follows m.before p (l ∷ rest) (length m.before) = subst (λ (z : List Mark). Follows m.before p z (length m.before)) e (within_before c m.call m.reply m.marks m.before p call.may call.leaves) in
+          let up = t.0 in
+          let here : l.at ≡ p = omega arith in
+          inr (act_begin m ms is (ap first_place e ∙ here))
+    ]
 
     abbrev doing_of : (r : Rest) → R c ≡ r → Doing cast H legal calls_of c p steps w r
     doing_of r is = mine cast H legal calls_of p R steps w world c inside r is
@@ -119,6 +145,7 @@ module _ (cast : Cast) (H : List Entry) (legal : IsLegal H) (calls_of : Caller �
         let t = finishes_at cast H legal calls_of p R steps w world c inside m left ms is e here p
         (history_plain c m.call m.reply (take p m.before) plain ∙ sym (prefix_take m.before H p before le))
         (calls_earlier c p (length (after_call c m)) m.before ms (omega arith) count before f.none f.next)
+        (place_plain m.reply m.marks plain ∙ (f.end ∙ here)) (let high = prefix_length m.before H before in omega arith)
         (λ d not in_cast calls x high fits. fits) in
         inr (record { next = Ending m ms; steps = steps ++ step_of c f.last.act ∷ []; state = t.0; world = t.1; less = ap (λ (z : List Mark). length (rest_steps c (Within m z ms))) split })
 
@@ -258,11 +285,13 @@ module _ (cast : Cast) (H : List Entry) (legal : IsLegal H) (calls_of : Caller �
     later_within d calls x high m left ms after f = record {
       place = f.place;
       begun = f.begun;
+      first = f.first;
       at = f.at;
       low = f.low;
       init = f.init;
       last = f.last;
       split = f.split;
+      end = f.end;
       holds = f.holds;
       through = f.through;
       finishes = f.finishes;
@@ -279,12 +308,15 @@ module _ (cast : Cast) (H : List Entry) (legal : IsLegal H) (calls_of : Caller �
     later d not (Waiting (m ∷ ms)) b calls x high f =
         let call = f.1.0 in (
           f.0,
-          (record {
-            may = call.may;
-            along = call.along;
-            none = λ k entry le at_k. call.none k entry (omega arith) at_k;
-            leaves = record { follows = follows_later (after_call d m) p (length (after_call d m)) m.marks p b call.leaves.follows; shape = call.leaves.shape };
-          }, f.1.1),
+          (
+            record {
+              may = call.may;
+              along = call.along;
+              none = λ k entry le at_k. call.none k entry (omega arith) at_k;
+              leaves = record { follows = follows_later (after_call d m) p (length (after_call d m)) m.marks p b call.leaves.follows; shape = call.leaves.shape };
+            },
+            f.1.1,
+          ),
           f.2,
         )
     later d not (Within m left ms) (inl after) calls x high f = later_within d calls x high m left ms after f
@@ -334,11 +366,13 @@ module _ (cast : Cast) (H : List Entry) (legal : IsLegal H) (calls_of : Caller �
             | inl after ↦ absurd (past m.before (in_history c m f.along) (omega arith) f.none)
             | inr here ↦
                 let place : length m.before ≡ p = omega arith in
+                let long = prefix_length (after_call c m) H f.along in
                 let count : length (after_call c m) ≡ p + 1 = omega (arith, ap length made.0.whole, length_push m.before made.0.entry) in
                 let all : take p m.before ≡ m.before = ap (λ (z : ℕ). take z m.before) (sym place) ∙ take-length m.before in
                 let history : after_call c m ≡ take (p + 1) H = sym (prefix_take (after_call c m) H (p + 1) f.along (omega arith) ∙ (ap (λ (z : ℕ). take z (after_call c m)) (sym count) ∙ take-length (after_call c m))) in
                 let t = finishes_at cast H legal calls_of p quiet.rests quiet.steps quiet.state quiet.world c inside m left ms is o.0 (omega arith) (p + 1)
                 (ap (history_after c m.call m.reply) all ∙ history) (subst (λ (z : ℕ). AreCallsAlong H c z ms) count f.next)
+                (place_won m.reply m.marks t.2 ∙ omega (arith, f.end)) (omega arith)
                 (λ d not in_cast calls x high fits. later d not (quiet.rests d) (quiet.blocked d in_cast) calls x high fits) in
                 (set_rest cast H legal calls_of quiet.rests c (Ending m ms), quiet.steps ++ step_of c f.last.act ∷ [], t.0, t.1)
           ]
@@ -383,6 +417,7 @@ module _ (cast : Cast) (H : List Entry) (legal : IsLegal H) (calls_of : Caller �
               marks = sym (append-nil (marks_left c quiet.steps (Some (initial_state cast)))) ∙ doing.marks;
               recorded = subst (AreRecorded quiet.state.calls c 0) (sym (append-nil doing.done) ∙ doing.calls) (recorded_all quiet.state.calls c 0 doing.done doing.high doing.recorded);
             };
+        linearizable = subst (λ (h : List Entry). IsLinearizable quiet.steps h quiet.state.calls) (quiet.world.history_is ∙ whole) (linearizable_run cast quiet.steps quiet.state quiet.world.run);
       }
 
   module _ (entries_in : (k : ℕ) (e : Entry) → slice_get H k ≡ Some e → IsInCast cast (Reporter e.reporter)) where
