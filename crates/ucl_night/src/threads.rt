@@ -25,6 +25,23 @@ pub struct Entering<B: LiveBoard> {
     reporter: u8,
 }
 
+impl<B: LiveBoard> Entering<B> {
+    /// The promise of a reporter who enters its rows with this pass.
+    fn of(board: &B, before: &B::ReporterPass, rows: &Vec<NightEvent>, reporter: u8) -> Entering<B>
+        ensures board { result.board.value ≡ board.now }
+        ensures before { result.before.value ≡ before.now }
+        ensures rows { result.rows.value ≡ rows.now }
+        ensures reporter { result.reporter ≡ reporter }
+    {
+        Entering {
+            board: Snapshot::of(board),
+            before: Snapshot::of(before),
+            rows: Snapshot::of(rows),
+            reporter,
+        }
+    }
+}
+
 impl<B: LiveBoard> Promise<B::ReporterPass> for Entering<B> {
     ghost kept_by = { λ p pass. B.is_reporter p.board.value pass × HasEntered (B.reporter p.before.value) (B.reporter pass) p.reporter p.rows.value.items };
 }
@@ -37,6 +54,31 @@ pub struct Showing<B: LiveBoard> {
     roster: Snapshot<Roster>,
     group: u8,
     readings: u32,
+}
+
+impl<B: LiveBoard> Showing<B> {
+    /// The promise of a reader who takes so many readings with this pass.
+    fn of(
+        board: &B,
+        before: &B::ReaderPass,
+        roster: &Roster,
+        group: u8,
+        readings: u32,
+    ) -> Showing<B>
+        ensures board { result.board.value ≡ board.now }
+        ensures before { result.before.value ≡ before.now }
+        ensures roster { result.roster.value ≡ roster.now }
+        ensures group { result.group ≡ group }
+        ensures readings { result.readings ≡ readings }
+    {
+        Showing {
+            board: Snapshot::of(board),
+            before: Snapshot::of(before),
+            roster: Snapshot::of(roster),
+            group,
+            readings,
+        }
+    }
 }
 
 impl<B: LiveBoard> Promise<Result<Shown<B::ReaderPass>, OutOfMemory>> for Showing<B> {
@@ -85,32 +127,10 @@ pub fn work<B: LiveBoard, G: Gate, R: Threads + Wait + Sync>(
             requires { (B.is_reporter board.now first × IsFresh (B.reporter first)) × (B.is_reporter board.now second × IsFresh (B.reporter second)) × (B.is_reader board.now left × ((B.reader left).shown ≡ [])) × (B.is_reader board.now right × ((B.reader right).shown ≡ [])) × IsGroup group }
             ensures { IfOk result (λ h. (B.is_reporter board.entry.now h.reporters.0 × HasEntered (B.reporter first) (B.reporter h.reporters.0) 1 rows.entry.now.items) × (B.is_reporter board.entry.now h.reporters.1 × HasEntered (B.reporter second) (B.reporter h.reporters.1) 2 rows.entry.now.items) × IfOk h.readers.0 (λ end. B.is_reader board.entry.now end.pass × HasShown (B.reader left) (B.reader end.pass) readings roster.entry.now group (option_map string_bytes end.last)) × IfOk h.readers.1 (λ end. B.is_reader board.entry.now end.pass × HasShown (B.reader right) (B.reader end.pass) readings roster.entry.now group (option_map string_bytes end.last))) }
         {
-            let enters_1 = Entering {
-                board: Snapshot::of(board),
-                before: Snapshot::of(&first),
-                rows: Snapshot::of(rows),
-                reporter: 1,
-            };
-            let enters_2 = Entering {
-                board: Snapshot::of(board),
-                before: Snapshot::of(&second),
-                rows: Snapshot::of(rows),
-                reporter: 2,
-            };
-            let shows_3 = Showing {
-                board: Snapshot::of(board),
-                before: Snapshot::of(&left),
-                roster: Snapshot::of(roster),
-                group,
-                readings,
-            };
-            let shows_4 = Showing {
-                board: Snapshot::of(board),
-                before: Snapshot::of(&right),
-                roster: Snapshot::of(roster),
-                group,
-                readings,
-            };
+            let enters_1 = Entering::of(board, &first, rows, 1);
+            let enters_2 = Entering::of(board, &second, rows, 2);
+            let shows_3 = Showing::of(board, &left, roster, group, readings);
+            let shows_4 = Showing::of(board, &right, roster, group, readings);
             let worker_1 = scope.spawn_with(
                 enters_1,
                 move || -> B::ReporterPass
