@@ -7,7 +7,7 @@ use Rattle.ucl_order.specs.declared.results.Results.{Results}
 use Rattle.ucl_order.specs.Results.{has_finished, finished, unfinished, played, results_of}
 use Rattle.ucl_order.specs.Order.{all_clubs}
 use Rattle.ucl_order.proofs.Limits.{played-cons}
-use Rattle.ucl_order.specs.Marks.{early_mark, mark_by, reach, sure_points}
+use Rattle.ucl_order.specs.Marks.{early_mark, mark_by, reach}
 
 pub four_clubs : (f : ℕ → ℕ) (a b c d : ℕ) → a ≡ f 1 → b ≡ f 2 → c ≡ f 3 → d ≡ f 4 → a ∷ b ∷ c ∷ d ∷ [] ≡ map f all_clubs
 four_clubs f a b c d is_a is_b is_c is_d = rw (is_a, is_b, is_c, is_d)
