@@ -4,7 +4,7 @@ ghost use Rattle.std.specs.Prelude.{◌≡◌, ◌≤◌, All, length};
 ghost use Rattle.ucl_word.specs.Record.{IsValid};
 ghost use Rattle.ucl_order.specs.Keys.{seen_among, slots_in};
 ghost use Rattle.ucl_order.specs.Order.{is_in};
-ghost use Rattle.ucl_order.specs.Results.{finished, has_finished, has_started, is_drawn, is_lost, is_won, matches_of, penalty, seen_by, started, unfinished};
+ghost use Rattle.ucl_order.specs.Results.{finished, has_finished, has_started, is_drawn, is_lost, is_won, matches_of, penalty, seen_by, started};
 
 use arrayvec::ArrayVec;
 use ucl_board::{Board, away_of, home_of};
@@ -174,20 +174,6 @@ pub(crate) fn finished(matches: &[Match]) -> ArrayVec<Match, 12>
     let mut chosen = ArrayVec::new();
     for game in matches {
         if game.has_finished() {
-            chosen.push(*game);
-        }
-    }
-    chosen
-}
-
-/// The matches that are not finished.
-pub(crate) fn unfinished(matches: &[Match]) -> ArrayVec<Match, 12>
-    requires { length matches.now ≤ 12 }
-    ensures { result.items ≡ unfinished matches.now }
-{
-    let mut chosen = ArrayVec::new();
-    for game in matches {
-        if !game.has_finished() {
             chosen.push(*game);
         }
     }
