@@ -371,7 +371,7 @@ idle_in zero k l = absurd (omega arith)
 idle_in (suc n) zero l = refl
 idle_in (suc n) (suc k) l = idle_in n k (omega arith)
 
-rest_at_start : (cast : Cast) → IsAtRest cast [] (initial_state cast)
+pub rest_at_start : (cast : Cast) → IsAtRest cast [] (initial_state cast)
 rest_at_start cast = record { idle = idle; history_is = refl; words_are = board_none }
   where
     idle : (c : Caller) → IsInCast cast c → held_by (initial_state cast).callers c ≡ Some Idle
@@ -525,7 +525,7 @@ module _ (cast : Cast) (k : ℕ) (a : CallRecord) (h : List Entry) (legal : IsLe
         holds = Checking k ws 11 p;
         through = through_append c (Collecting k []) (Collecting k []) (Checking k ws 11 p) (marks_of marks.tries) (firsts ++ again) (tries_lead c k marks.tries 0 marks.unclean)
             (through_append c (Collecting k []) (Checking k ws 0 p) (Checking k ws 11 p) firsts again (collect_leads c k reading.board firsts clean.twelve.1 clean.collected 0)
-                (again_leads c k reading.board firsts clean.twelve.1 clean.collected again 11 p (sym eleven) (omega arith) (λ j x at. clean.again j x (ap (λ (z : List Mark). slice_get z j) cut.2 ∙ at_longer again (m ∷ []) j x at))));
+            (again_leads c k reading.board firsts clean.twelve.1 clean.collected again 11 p (sym eleven) (omega arith) (λ j x at. clean.again j x (ap (λ (z : List Mark). slice_get z j) cut.2 ∙ at_longer again (m ∷ []) j x at))));
         finishes = subst (Finishes cast c k a h (Checking k ws 11 p) m Reading (Copied reading)) p_is
             (copied cast c k a h m tail.1.2 tail.1.1 ws p reading is_m.0 (is_m.1 ∙ ap (λ (z : List ℕ). slice_index z 11) board_is) board_is version);
         whole = not_accepted (Copied reading) h m.at refl;

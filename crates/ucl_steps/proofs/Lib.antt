@@ -16,4 +16,5 @@ pub mod Walking
 pub mod Joining
 pub mod Calls
 pub mod Scheduling
+pub mod Together
 pub mod Reachable

@@ -1,11 +1,10 @@
 -- The calls of all callers, taken step by step along one history: what is left to do for each, and one step of one of them.
-use Rattle.std.proofs.Common.{◌≡◌, ◌≢◌, ℕ, zero, suc, ◌+◌, ◌-◌, ◌<◌, ◌≤◌, Bool, true, false, cond, List, [], ◌∷◌, ◌++◌, take, length, map, Option, Some, None, ◌⊎◌, inl, inr, refl, sym, ap, ◌∙◌, subst, arith, append_assoc, append-nil, le_refl, length-append}
+use Rattle.std.proofs.Common.{◌≡◌, ◌≢◌, ℕ, suc, ◌+◌, ◌<◌, ◌≤◌, Bool, true, cond, List, [], ◌∷◌, ◌++◌, take, length, map, Option, Some, None, inl, inr, refl, sym, ap, ◌∙◌, subst, arith, append_assoc, append-nil, le_refl, length-append}
 use Rattle.std.specs.Prelude.{slice_get, IsSome, is_some}
-use Rattle.std.proofs.lemmas.Option.{none-some, same_Some}
-use Rattle.std.proofs.lemmas.Bool.{cases_lt, false≢true}
-use Rattle.std.proofs.lemmas.List.{take-append-le, length_push}
+use Rattle.std.proofs.lemmas.Option.{same_Some}
+use Rattle.std.proofs.lemmas.Bool.{false≢true}
+use Rattle.std.proofs.lemmas.List.{take-append-le, length_push, length-take-le}
 use Rattle.std.proofs.lemmas.List.Elements.{filter-append}
-use Rattle.std.proofs.Math.Seq.{take-length}
 use mathlib.Core.List.{IsPrefix}
 use Rattle.ucl_word.proofs.Sequences.{at_below, at_longer, at_end}
 use Rattle.ucl_word.specs.declared.event.Accepted as word
@@ -22,17 +21,17 @@ use Rattle.ucl_steps.specs.declared.step.Step.TheVariants.{Begin, End}
 use Rattle.ucl_steps.specs.declared.trace.CallRecord.{CallRecord}
 use Rattle.ucl_steps.specs.declared.trace.Reply.{Reply}
 use Rattle.ucl_steps.specs.declared.trace.Reply.TheVariants.{Accepted, Refused, Copied}
-use Rattle.ucl_steps.specs.Machine.{Holds, Idle, Answered, MachineState, initial_state, held_by, with_held, with_reply, with_end, change_at, may_begin, held_at_begin, after_begin, after_end, after_step_holding, caller_of, after_step, after_steps}
+use Rattle.ucl_steps.specs.Machine.{Holds, Idle, Answered, MachineState, initial_state, held_by, with_held, with_reply, with_end, may_begin, held_at_begin, after_begin, after_end, after_step_holding, caller_of, after_step, after_steps}
 use Rattle.ucl_steps.specs.Trails.{Mark, Follows}
-use Rattle.ucl_steps.specs.Marking.{is_caller, own_steps, step_of, marks_of_step, marks_left, IsInCast, NoneOwn, entry_by, history_after, point_of, CallMarks, Leaves}
-use Rattle.ucl_steps.specs.Together.{CallMade, after_call, IsCallAlong, AreCallsAlong, steps_of_calls, marks_of_calls, IsRecorded, AreRecorded}
-use Rattle.ucl_steps.proofs.Lists.{get_some, get_back}
+use Rattle.ucl_steps.specs.Marking.{is_caller, own_steps, step_of, marks_of_step, marks_left, IsInCast, NoneOwn, entry_by, history_after, point_of, CallMarks}
+use Rattle.ucl_steps.specs.Together.{CallMade, after_call, AreCallsAlong, steps_of_calls, marks_of_calls, first_place, last_place, place_after, IsRecorded, AreRecorded}
+use Rattle.ucl_steps.proofs.Lists.{get_back}
 use Rattle.ucl_steps.proofs.Changing.{change_at_here, change_at_else, length-change_at}
 use Rattle.ucl_steps.proofs.Callers.{same_caller, held_here, held_else}
-use Rattle.ucl_steps.proofs.Marks.{follows_ends, follows_wider}
+use Rattle.ucl_steps.proofs.Marks.{follows_ends}
 use Rattle.ucl_steps.proofs.Walking.{is_caller_same, is_caller_else, steps_on, steps_append, marks_append, Amid}
-use Rattle.ucl_steps.proofs.Joining.{Leads, Through, Frame, Made, inner, amid_held, caller_of_act}
-use Rattle.ucl_steps.proofs.Calls.{Finishes, Plan, began, within_before, planned}
+use Rattle.ucl_steps.proofs.Joining.{Through, Frame, inner, caller_of_act}
+use Rattle.ucl_steps.proofs.Calls.{Finishes, began, within_before, planned}
 
 -- lists
 
@@ -55,6 +54,11 @@ pub before_prefix : (c : Caller) (call : Call) (reply : Reply) (h : List Entry) 
 before_prefix c call (Accepted reply) h = (entry_by c call, refl)
 before_prefix c call (Refused refusal) h = ([], append-nil h)
 before_prefix c call (Copied reading) h = ([], append-nil h)
+
+last_at_end : (ms : List Mark) (m : Mark) → last_place (ms ++ m ∷ []) ≡ m.at
+last_at_end [] m = refl
+last_at_end (x ∷ []) m = refl
+last_at_end (x ∷ y ∷ ms) m = last_at_end (y ∷ ms) m
 
 -- what is left of a caller's calls: calls alone; marks of a call that was begun, and further calls; the end of a call, and further calls
 pub data Rest : Type 0 where
@@ -99,7 +103,7 @@ KeepsEnded c calls calls' = (i : ℕ) (a : CallRecord) → slice_get calls i ≡
 
 recorded_kept : (calls calls' : List CallRecord) (c : Caller) (low : ℕ) (ms : List CallMade) (high : ℕ) → KeepsEnded c calls calls' → AreRecordedTo calls c low ms high → AreRecordedTo calls' c low ms high
 recorded_kept calls calls' c low [] high kept r = r
-recorded_kept calls calls' c low (m ∷ ms) high kept r = (r.0, r.1, r.2, kept r.0 r.1 r.3 r.4.caller r.4.ended, r.4, recorded_kept calls calls' c (r.0 + 1) ms high kept r.5)
+recorded_kept calls calls' c low (m ∷ ms) high kept r = (r.0, r.1, r.2, kept r.0 r.1 r.3 r.4.caller (ap is_some r.4.ended), r.4, recorded_kept calls calls' c (r.0 + 1) ms high kept r.5)
 
 -- a cast with nobody in it: nothing is said of other callers
 abbrev pub nobody : Cast
@@ -120,11 +124,13 @@ module _ (cast : Cast) (H : List Entry) (legal : IsLegal H) where
   pub record FitsWithin (d : Caller) (p : ℕ) (calls : List CallRecord) (x : Holds) (high : ℕ) (m : CallMade) (left : List Mark) (ms : List CallMade) : Type 0 where
     pub place : ℕ
     pub begun : ℕ
+    pub first : begun ≡ first_place m.marks
     pub at : slice_get calls place ≡ Some (began d m.call begun)
     pub low : high ≤ place
     pub init : List Mark
     pub last : Mark
     pub split : left ≡ init ++ last ∷ []
+    pub end : last_place m.marks ≡ last.at
     pub holds : Holds
     pub through : Through d x init holds
     pub finishes : Finishes nobody d place (began d m.call begun) m.before holds last m.call m.reply (point_of m.reply m.before)
@@ -138,6 +144,9 @@ module _ (cast : Cast) (H : List Entry) (legal : IsLegal H) where
   pub record FitsEnding (d : Caller) (p : ℕ) (calls : List CallRecord) (x : Holds) (high : ℕ) (m : CallMade) (ms : List CallMade) : Type 0 where
     pub place : ℕ
     pub begun : ℕ
+    pub first : begun ≡ first_place m.marks
+    pub within : p ≤ length H
+    pub here : place_after m.reply m.marks ≡ p
     pub at : slice_get calls place ≡ Some (with_reply (point_of m.reply m.before) m.reply (began d m.call begun))
     pub low : high ≤ place
     pub is : x ≡ Answered place
@@ -201,11 +210,13 @@ module _ (cast : Cast) (H : List Entry) (legal : IsLegal H) where
     fits_else c d p w w' x high (Within m left ms) not spares f = record {
       place = f.place;
       begun = f.begun;
+      first = f.first;
       at = spares.calls f.place (began d m.call f.begun) not f.at;
       low = f.low;
       init = f.init;
       last = f.last;
       split = f.split;
+      end = f.end;
       holds = f.holds;
       through = f.through;
       finishes = f.finishes;
@@ -219,6 +230,9 @@ module _ (cast : Cast) (H : List Entry) (legal : IsLegal H) where
     fits_else c d p w w' x high (Ending m ms) not spares f = record {
       place = f.place;
       begun = f.begun;
+      first = f.first;
+      within = f.within;
+      here = f.here;
       at = spares.calls f.place (with_reply (point_of m.reply m.before) m.reply (began d m.call f.begun)) not f.at;
       low = f.low;
       is = f.is;
@@ -303,8 +317,8 @@ module _ (cast : Cast) (H : List Entry) (legal : IsLegal H) where
       mine r is = subst (Doing c p steps w) is (world.each c inside)
 
       -- a call begins
-      pub begins : (m : CallMade) (ms : List CallMade) → R c ≡ Waiting (m ∷ ms) → World p (set_rest R c (Within m m.marks ms)) (steps ++ Begin c m.call ∷ []) (after_begin c m.call w)
-      begins m ms is =
+      pub begins : (m : CallMade) (ms : List CallMade) → R c ≡ Waiting (m ∷ ms) → first_place m.marks ≡ p → World p (set_rest R c (Within m m.marks ms)) (steps ++ Begin c m.call ∷ []) (after_begin c m.call w)
+      begins m ms is starts =
           let doing = mine (Waiting (m ∷ ms)) is in
           let f = doing.fits in
           let call = f.1.0 in
@@ -316,6 +330,10 @@ module _ (cast : Cast) (H : List Entry) (legal : IsLegal H) where
           let one : after_step w s ≡ Some w' = ap (λ (o : Option Holds). after_step_holding s o w) held ∙ ap (λ (b : Bool). cond b (Some w') None) call.may in
           let long = length_push w.calls a in
           let before = prefix_trans m.before (after_call c m) H (before_prefix c m.call m.reply m.before) call.along in
+          let follows = within_before c m.call m.reply m.marks m.before p call.may call.leaves in
+          let low = follows_ends m.before p (length m.before) m.marks follows in
+          let high = prefix_length m.before H before in
+          let now : length w.history ≡ p = ap length world.history_is ∙ length-take-le p H (omega arith) in
           let plan = planned nobody c m.call m.reply m.marks m.before p k a cast inside call.may (legal_prefix m.before before) call.leaves in
           world_next p p R steps w w' c s (Within m m.marks ms) world refl one
           (record { holds = λ d not. held_else w.callers c d (held_at_begin m.call k) Idle held not; calls = λ i b not at. at_longer w.calls (a ∷ []) i b at; count = omega arith })
@@ -327,16 +345,18 @@ module _ (cast : Cast) (H : List Entry) (legal : IsLegal H) where
             fits = record {
               place = k;
               begun = length w.history;
+              first = now ∙ sym starts;
               at = at_end w.calls a;
               low = f.2;
               init = plan.init;
               last = plan.last;
               split = plan.split;
+              end = ap last_place plan.split ∙ last_at_end plan.init plan.last;
               holds = plan.holds;
               through = plan.through;
               finishes = plan.finishes;
               whole = plan.whole;
-              follows = within_before c m.call m.reply m.marks m.before p call.may call.leaves;
+              follows = follows;
               none = call.none;
               along = call.along;
               own = λ accepted same. own_entry c m.call accepted m.marks (length (after_call c m)) call.may (subst (λ (z : Reply). CallMarks m.call z m.marks (length (after_call c m))) same call.leaves.shape);
@@ -362,22 +382,31 @@ module _ (cast : Cast) (H : List Entry) (legal : IsLegal H) where
           let held : held_by w.callers c ≡ Some (Answered k) = doing.held_is ∙ ap Some f.is in
           let count = length-change_at k (with_end n) w.calls in
           let below = at_below w.calls k b f.at in
-          let frame : Frame c k w w' = record { holds = λ d not. held_else w.callers c d Idle (Answered k) held not; calls = λ i a not at. change_at_else k (with_end n) w.calls i a not at; count = omega arith } in
-          (w', world_next p p R steps w w' c (End c) (Waiting ms) world refl (ap (λ (o : Option Holds). after_step_holding (End c) o w) held) (spares_frame c k w w' b frame f.at refl)
-          world.history_is world.words_are
-          (record {
-            holds = Idle;
-            held_is = held_here w.callers c (Answered k) Idle held;
-            high = k + 1;
-            fits = (refl, f.next, omega arith);
-            done = doing.done ++ m ∷ [];
-            calls = append_assoc doing.done (m ∷ []) ms ∙ doing.calls;
-            own = own_book c (End c) steps (steps_of_calls c ms) refl ∙ doing.own;
-            marks = marks_book c (End c) steps w [] (marks_of_calls ms) world.run refl refl ∙ doing.marks;
-            recorded = recorded_more w'.calls c 0 doing.done doing.high k m (with_end n b) (recorded_kept w.calls w'.calls c 0 doing.done doing.high (ended_frame c k w w' b frame f.at refl) doing.recorded) f.low
-                (change_at_here k (with_end n) w.calls b f.at) (record { caller = refl; call = refl; point = refl; reply = refl; ended = refl });
-          })
-          (λ d not in_cast calls x high fits. fits))
+          let frame : Frame c k w w' = record { holds = λ d not. held_else w.callers c d Idle (Answered k) held not; calls = λ i a not at. change_at_else k (with_end n) w.calls i a not at; count = omega arith } in (
+            w',
+            world_next p p R steps w w' c (End c) (Waiting ms) world refl (ap (λ (o : Option Holds). after_step_holding (End c) o w) held) (spares_frame c k w w' b frame f.at refl)
+                world.history_is world.words_are
+                (record {
+                  holds = Idle;
+                  held_is = held_here w.callers c (Answered k) Idle held;
+                  high = k + 1;
+                  fits = (refl, f.next, omega arith);
+                  done = doing.done ++ m ∷ [];
+                  calls = append_assoc doing.done (m ∷ []) ms ∙ doing.calls;
+                  own = own_book c (End c) steps (steps_of_calls c ms) refl ∙ doing.own;
+                  marks = marks_book c (End c) steps w [] (marks_of_calls ms) world.run refl refl ∙ doing.marks;
+                  recorded = recorded_more w'.calls c 0 doing.done doing.high k m (with_end n b) (recorded_kept w.calls w'.calls c 0 doing.done doing.high (ended_frame c k w w' b frame f.at refl) doing.recorded) f.low
+                      (change_at_here k (with_end n) w.calls b f.at) (record {
+                        caller = refl;
+                        call = refl;
+                        begun = f.first;
+                        point = refl;
+                        reply = refl;
+                        ended = ap Some (ap length world.history_is ∙ (length-take-le p H f.within ∙ sym f.here));
+                      });
+                })
+                (λ d not in_cast calls x high fits. fits),
+          )
 
       module _ (m : CallMade) (left : List Mark) (ms : List CallMade) (is : R c ≡ Within m left ms) where
         -- a step of a mark that is not the call's last
@@ -400,44 +429,50 @@ module _ (cast : Cast) (H : List Entry) (legal : IsLegal H) where
             let amid = amid_at c k b doing.holds w p l.at m.before world.history_is world.words_are before (omega arith) doing.held_is f.at same in
             let y = through.0 in
             let w' = with_held y c w in
-            let made = inner nobody c k b m.before l within t.1 doing.holds w amid y through.1 in
-            (rest, w', ap length split, world_next p p R steps w w' c s (Within m rest ms) world (caller_of_act c l.act) made.done (spares_frame c k w w' b made.frame f.at refl)
-            world.history_is world.words_are
-            (record {
-              holds = y;
-              held_is = held_here w.callers c doing.holds y doing.held_is;
-              high = doing.high;
-              fits = record {
-                place = k;
-                begun = f.begun;
-                at = f.at;
-                low = f.low;
-                init = init;
-                last = f.last;
-                split = refl;
-                holds = f.holds;
-                through = through.2;
-                finishes = f.finishes;
-                whole = f.whole;
-                follows = subst (λ (z : ℕ). Follows m.before z rest (length m.before)) (sym same) t.2;
-                none = f.none;
-                along = f.along;
-                own = f.own;
-                next = f.next;
-              };
-              done = doing.done;
-              calls = doing.calls;
-              own = own_book c s steps (rest_steps c (Within m rest ms)) (caller_of_act c l.act) ∙ (ap (λ (z : List Mark). own_steps c steps ++ rest_steps c (Within m z ms)) (sym split) ∙ doing.own);
-              marks = marks_book c s steps w (l ∷ []) (rest ++ marks_of_calls ms) world.run (caller_of_act c l.act) made.left ∙ (ap (λ (z : List Mark). marks_left c steps (Some (initial_state cast)) ++ (z ++ marks_of_calls ms)) (sym split) ∙ doing.marks);
-              recorded = doing.recorded;
-            })
-            (λ d not in_cast calls x high fits. fits))
+            let made = inner nobody c k b m.before l within t.1 doing.holds w amid y through.1 in (
+              rest,
+              w',
+              ap length split,
+              world_next p p R steps w w' c s (Within m rest ms) world (caller_of_act c l.act) made.done (spares_frame c k w w' b made.frame f.at refl)
+                  world.history_is world.words_are
+                  (record {
+                    holds = y;
+                    held_is = held_here w.callers c doing.holds y doing.held_is;
+                    high = doing.high;
+                    fits = record {
+                      place = k;
+                      begun = f.begun;
+                      first = f.first;
+                      at = f.at;
+                      low = f.low;
+                      init = init;
+                      last = f.last;
+                      split = refl;
+                      end = f.end;
+                      holds = f.holds;
+                      through = through.2;
+                      finishes = f.finishes;
+                      whole = f.whole;
+                      follows = subst (λ (z : ℕ). Follows m.before z rest (length m.before)) (sym same) t.2;
+                      none = f.none;
+                      along = f.along;
+                      own = f.own;
+                      next = f.next;
+                    };
+                    done = doing.done;
+                    calls = doing.calls;
+                    own = own_book c s steps (rest_steps c (Within m rest ms)) (caller_of_act c l.act) ∙ (ap (λ (z : List Mark). own_steps c steps ++ rest_steps c (Within m z ms)) (sym split) ∙ doing.own);
+                    marks = marks_book c s steps w (l ∷ []) (rest ++ marks_of_calls ms) world.run (caller_of_act c l.act) made.left ∙ (ap (λ (z : List Mark). marks_left c steps (Some (initial_state cast)) ++ (z ++ marks_of_calls ms)) (sym split) ∙ doing.marks);
+                    recorded = doing.recorded;
+                  })
+                  (λ d not in_cast calls x high fits. fits),
+            )
 
         -- the step of the call's last mark
-        pub finishes_at : (mine (Within m left ms) is).fits.init ≡ [] → (mine (Within m left ms) is).fits.last.at ≡ p → (q : ℕ) → history_after c m.call m.reply (take p m.before) ≡ take q H → AreCallsAlong H c q ms
+        pub finishes_at : (mine (Within m left ms) is).fits.init ≡ [] → (mine (Within m left ms) is).fits.last.at ≡ p → (q : ℕ) → history_after c m.call m.reply (take p m.before) ≡ take q H → AreCallsAlong H c q ms → place_after m.reply m.marks ≡ q → q ≤ length H
             → ((d : Caller) → d ≢ c → IsInCast cast d → (calls : List CallRecord) (x : Holds) (high : ℕ) → Fits d p calls x high (R d) → Fits d q calls x high (R d))
             → (w' : MachineState) × World q (set_rest R c (Ending m ms)) (steps ++ step_of c (mine (Within m left ms) is).fits.last.act ∷ []) w'
-        finishes_at cut here q history next moved =
+        finishes_at cut here q history next there within moved =
             let doing = mine (Within m left ms) is in
             let f = doing.fits in
             let k = f.place in
@@ -454,18 +489,20 @@ module _ (cast : Cast) (H : List Entry) (legal : IsLegal H) where
             let w' = end.0 in
             let made = end.1 in
             let after = end.2 in
-            let history_is : history_after c m.call m.reply (take l.at m.before) ≡ take q H = ap (λ (z : ℕ). history_after c m.call m.reply (take z m.before)) here ∙ history in
-            (w', world_next p q R steps w w' c s (Ending m ms) world (caller_of_act c l.act) made.done (spares_frame c k w w' b made.frame f.at refl)
-            (after.history_is ∙ history_is) (after.words_are ∙ ap board_of history_is)
-            (record {
-              holds = Answered k;
-              held_is = after.held_is;
-              high = doing.high;
-              fits = record { place = k; begun = f.begun; at = after.call_is; low = f.low; is = refl; next = next };
-              done = doing.done;
-              calls = doing.calls;
-              own = own_book c s steps (End c ∷ steps_of_calls c ms) (caller_of_act c l.act) ∙ (ap (λ (z : List Mark). own_steps c steps ++ rest_steps c (Within m z ms)) (sym split) ∙ doing.own);
-              marks = marks_book c s steps w (l ∷ []) (marks_of_calls ms) world.run (caller_of_act c l.act) made.left ∙ (ap (λ (z : List Mark). marks_left c steps (Some (initial_state cast)) ++ (z ++ marks_of_calls ms)) (sym split) ∙ doing.marks);
-              recorded = recorded_kept w.calls w'.calls c 0 doing.done doing.high (ended_frame c k w w' b made.frame f.at refl) doing.recorded;
-            })
-            moved)
+            let history_is : history_after c m.call m.reply (take l.at m.before) ≡ take q H = ap (λ (z : ℕ). history_after c m.call m.reply (take z m.before)) here ∙ history in (
+              w',
+              world_next p q R steps w w' c s (Ending m ms) world (caller_of_act c l.act) made.done (spares_frame c k w w' b made.frame f.at refl)
+                  (after.history_is ∙ history_is) (after.words_are ∙ ap board_of history_is)
+                  (record {
+                    holds = Answered k;
+                    held_is = after.held_is;
+                    high = doing.high;
+                    fits = record { place = k; begun = f.begun; first = f.first; within = within; here = there; at = after.call_is; low = f.low; is = refl; next = next };
+                    done = doing.done;
+                    calls = doing.calls;
+                    own = own_book c s steps (End c ∷ steps_of_calls c ms) (caller_of_act c l.act) ∙ (ap (λ (z : List Mark). own_steps c steps ++ rest_steps c (Within m z ms)) (sym split) ∙ doing.own);
+                    marks = marks_book c s steps w (l ∷ []) (marks_of_calls ms) world.run (caller_of_act c l.act) made.left ∙ (ap (λ (z : List Mark). marks_left c steps (Some (initial_state cast)) ++ (z ++ marks_of_calls ms)) (sym split) ∙ doing.marks);
+                    recorded = recorded_kept w.calls w'.calls c 0 doing.done doing.high (ended_frame c k w w' b made.frame f.at refl) doing.recorded;
+                  })
+                  moved,
+            )

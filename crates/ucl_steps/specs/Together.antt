@@ -1,5 +1,5 @@
 -- The calls of all callers of a board, together, and the run of the machine that they are.
-use Rattle.std.specs.Prelude.{◌≡◌, ℕ, ◌+◌, ◌≤◌, true, List, [], ◌∷◌, ◌++◌, map, length, Some, IsSome, slice_get}
+use Rattle.std.specs.Prelude.{◌≡◌, ℕ, ◌+◌, ◌≤◌, true, List, [], ◌∷◌, ◌++◌, map, length, Some, slice_get}
 use mathlib.Core.List.{IsPrefix}
 use Rattle.ucl_board.specs.declared.entry.Entry.{Entry}
 use Rattle.ucl_steps.specs.declared.step.Cast.{Cast}
@@ -8,8 +8,10 @@ use Rattle.ucl_steps.specs.declared.step.Call.{Call}
 use Rattle.ucl_steps.specs.declared.step.Step.{Step}
 use Rattle.ucl_steps.specs.declared.step.Step.TheVariants.{Begin, End}
 use Rattle.ucl_steps.specs.declared.trace.Reply.{Reply}
+use Rattle.ucl_steps.specs.declared.trace.Reply.TheVariants.{Accepted, Refused, Copied}
 use Rattle.ucl_steps.specs.declared.trace.CallRecord.{CallRecord}
 use Rattle.ucl_steps.specs.Machine.{MachineState, initial_state, may_begin, after_steps}
+use Rattle.ucl_steps.specs.Linearizable.{IsLinearizable}
 use Rattle.ucl_steps.specs.Trails.{Mark}
 use Rattle.ucl_steps.specs.Marking.{own_steps, step_of, marks_left, IsInCast, IsAtRest, history_after, point_of, NoneOwn, Leaves}
 
@@ -44,13 +46,30 @@ abbrev pub marks_of_calls : List CallMade → List Mark
 marks_of_calls [] = []
 marks_of_calls (m ∷ ms) = m.marks ++ marks_of_calls ms
 
--- the machine's record of a call that has ended
+-- the place of the first mark, and of the last
+abbrev pub first_place : List Mark → ℕ
+first_place [] = 0
+first_place (m ∷ ms) = m.at
+
+abbrev pub last_place : List Mark → ℕ
+last_place [] = 0
+last_place (m ∷ []) = m.at
+last_place (m ∷ n ∷ ms) = last_place (n ∷ ms)
+
+-- the length of the history after the last step
+abbrev pub place_after : Reply → List Mark → ℕ
+place_after (Accepted reply) ms = last_place ms + 1
+place_after (Refused refusal) ms = last_place ms
+place_after (Copied reading) ms = last_place ms
+
+-- the machine's record of a call: it begins with the call's first step, and ends with its last
 pub record IsRecorded (c : Caller) (m : CallMade) (a : CallRecord) : Type 0 where
   pub caller : a.caller ≡ c
   pub call : a.call ≡ m.call
+  pub begun : a.begun ≡ first_place m.marks
   pub point : a.point ≡ Some (point_of m.reply m.before)
   pub reply : a.reply ≡ Some m.reply
-  pub ended : IsSome a.ended
+  pub ended : a.ended ≡ Some (place_after m.reply m.marks)
 
 -- the calls are among the machine's records, in their order
 abbrev pub AreRecorded : List CallRecord → Caller → ℕ → List CallMade → Type 0
@@ -63,10 +82,11 @@ pub record TakesPart (cast : Cast) (steps : List Step) (last : MachineState) (c 
   pub marks : marks_left c steps (Some (initial_state cast)) ≡ marks_of_calls ms
   pub recorded : AreRecorded last.calls c 0 ms
 
--- one run of the machine is all these calls of all callers
+-- one run of the machine is all these calls of all callers, and so they are linearizable
 pub record IsOneRun (cast : Cast) (history : List Entry) (calls_of : Caller → List CallMade) : Type 0 where
   pub steps : List Step
   pub last : MachineState
   pub run : after_steps steps (initial_state cast) ≡ Some last
   pub rest : IsAtRest cast history last
   pub parts : (c : Caller) → IsInCast cast c → TakesPart cast steps last c (calls_of c)
+  pub linearizable : IsLinearizable steps history last.calls

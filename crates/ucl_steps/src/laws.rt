@@ -1,6 +1,6 @@
 //! What holds of every list of steps. The functions do nothing: each is there for its contract.
 
-ghost use Rattle.ucl_steps.specs.Laws.{RunsAreLinearizable, WordsAreOfTheHistory, UncleanTriesSeeMore, UncleanTriesAreFew, ReadingsAreSnapshots, ReportsAreSequential, CallsAreSteps, HistoriesAreReached};
+ghost use Rattle.ucl_steps.specs.Laws.{RunsAreLinearizable, WordsAreOfTheHistory, UncleanTriesSeeMore, UncleanTriesAreFew, ReadingsAreSnapshots, ReportsAreSequential, CallsAreSteps, HistoriesAreReached, CallsAreOneRun};
 
 /// Whatever steps the callers take, in whatever order, and wherever the list is cut: one legal history of the board of
 /// one thread holds each finished call once, with the reply that it got, between its beginning and its end; each
@@ -50,4 +50,12 @@ pub fn calls_are_steps()
 /// Steps of the machine lead from the fresh board to idle callers after any legal history.
 pub fn histories_are_reached()
     ensures { HistoriesAreReached }
+{}
+
+/// All calls that all callers of a board made along one legal history are, together, one run of the machine from the
+/// fresh board: each caller's own steps are those of its calls and leave their marks, each call begins with its first
+/// step, ends with its last and has its reply, and at the end all callers are idle after that history. So these calls
+/// are linearizable. Steps of two callers between two entries come in either order.
+pub fn calls_are_one_run()
+    ensures { CallsAreOneRun }
 {}

@@ -1,0 +1,5 @@
+use Rattle.ucl_steps.proofs.Together.{calls_run}
+use Rattle.ucl_steps.proofs.laws.calls_are_one_run.Goals as goal
+
+pub returns : goal.returns
+returns c = calls_run
