@@ -22,7 +22,7 @@ use Rattle.ucl_words.specs.WordSteps.{Loads, LoadsLast, no_mark, twelfth_first, 
 use Rattle.ucl_words.specs.Collects.{Walks, Collects, HasCollected, FindsAgain, FindsAnother}
 use Rattle.ucl_words.specs.WordCalls.{IsSteady, ReadingSteps}
 use Rattle.ucl_words.proofs.Walking.{walks_none, walks_on, walks_load, walks_continue}
-use Rattle.ucl_words.proofs.Joining.{reading_machine}
+use Rattle.ucl_words.proofs.Joining.{reading_joined}
 
 -- after some loads of a collect
 pub record Collected (act : Act) (v : View) (words : List ℕ) (count : ℕ) (w : View) : Type 0 where
@@ -262,6 +262,7 @@ module _ (x u w : View) (words : List ℕ) (long : length words ≡ 12) (collect
 
     reads_clean : Reads v clean_reading w
     reads_clean =
+        let both = reading_joined v w clean_reading all_marks steady all_walks reading_marks in
         let taken = all_walks.leaves.taken in
         let steps = whole.steps.0 in
         let bound = whole.bound.1 in
@@ -276,7 +277,7 @@ module _ (x u w : View) (words : List ℕ) (long : length words ≡ 12) (collect
             mine = all_walks.mine;
             shown = again.shown ∙ ap (λ (l : List ℕ). l ++ length u.seen ∷ []) (collects.shown ∙ tried.shown);
           };
-          steps = record { marks = all_marks; leaves = all_walks.leaves; collects = reading_marks; few = omega arith; machine = reading_machine v w clean_reading all_marks steady all_walks reading_marks };
+          steps = record { marks = all_marks; leaves = all_walks.leaves; collects = reading_marks; few = omega arith; machine = both.machine; along = both.along };
           least = omega arith;
           most = omega arith;
         }

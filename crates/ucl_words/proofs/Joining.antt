@@ -20,12 +20,12 @@ use Rattle.ucl_steps.specs.declared.trace.Reply.{Reply}
 use Rattle.ucl_steps.specs.declared.trace.Reply.TheVariants as replies
 use Rattle.ucl_steps.specs.Machine.{may_begin}
 use Rattle.ucl_steps.specs.Trails.{Mark, Follows, ReportMarks, ReadingMarks}
-use Rattle.ucl_steps.specs.Marking.{IsAtRest, NoneOwn, Leaves}
+use Rattle.ucl_steps.specs.Marking.{IsAtRest, NoneOwn, history_after, Leaves}
 use Rattle.ucl_steps.proofs.Calls.{calls_made}
 use Rattle.ucl_pass.specs.Passes.{entries_by}
-use Rattle.ucl_pass.proofs.Lists.{by_more, by_own}
+use Rattle.ucl_pass.proofs.Lists.{begins_same, by_more, by_own}
 use Rattle.ucl_words.specs.declared.view.View.{View}
-use Rattle.ucl_words.specs.WordMachine.{IsCallerOf, IsMadeByMachine}
+use Rattle.ucl_words.specs.WordMachine.{IsCallerOf, IsMadeByMachine, IsAlong}
 use Rattle.ucl_words.specs.Collects.{Walks}
 use Rattle.ucl_words.specs.WordCalls.{IsSteady}
 
@@ -71,12 +71,23 @@ none_own v (Reader n) h is p same k e le at own = true≢false (ap is_reporter o
 front : (s h : List Entry) → IsPrefix s h → take (length s) h ≡ s
 front s h p = ap (take (length s)) (sym p.1) ∙ take-append_seam s p.0
 
--- a call, from what its pass says
-made : (v : View) (call : Call) (reply : Reply) (marks : List Mark) (before : List Entry) → IsLegal before → IsPrefix v.seen before → length (entries_by v.number before) ≡ length (entries_by v.number v.seen)
-    → ((c : Caller) → IsCallerOf v c → (may_begin c call ≡ true) × Leaves c call reply marks before (length v.seen))
-    → IsMadeByMachine v call reply marks before
-made v call reply marks before legal p same leaves cast c state all inside is rest =
-    calls_made cast c call reply marks before (length v.seen) state all inside (leaves c is).0 legal (none_own v c before is p same) (leaves c is).1 (subst (λ (h : List Entry). IsAtRest cast h state) (sym (front v.seen before p)) rest)
+-- a call, by the machine and along what its pass has seen
+pub record IsJoined (v : View) (call : Call) (reply : Reply) (marks : List Mark) (before : List Entry) (w : View) : Type 0 where
+  pub machine : IsMadeByMachine v call reply marks before
+  pub along : IsAlong v call reply marks before w
+
+-- from what its pass says
+joined : (v w : View) (call : Call) (reply : Reply) (marks : List Mark) (before : List Entry) → IsLegal before → IsPrefix v.seen before → length (entries_by v.number before) ≡ length (entries_by v.number v.seen)
+    → ((c : Caller) → IsCallerOf v c → (may_begin c call ≡ true) × Leaves c call reply marks before (length v.seen) × (history_after c call reply before ≡ w.seen))
+    → IsJoined v call reply marks before w
+joined v w call reply marks before legal p same leaves = record {
+  machine = λ cast c state all inside is rest.
+      calls_made cast c call reply marks before (length v.seen) state all inside (leaves c is).0 legal (none_own v c before is p same) (leaves c is).1 (subst (λ (h : List Entry). IsAtRest cast h state) (sym (front v.seen before p)) rest);
+  along = λ c is. (
+    record { may = (leaves c is).0; along = subst (λ (h : List Entry). IsPrefix h w.seen) (sym (leaves c is).2) (begins_same w.seen); none = none_own v c before is p same; leaves = (leaves c is).1 },
+    (leaves c is).2,
+  );
+}
 
 both_true : (a b : Bool) → a ≡ true → b ≡ true → (a && b) ≡ true
 both_true true b x y = y
@@ -94,23 +105,23 @@ as_many : (v w : View) (marks : List Mark) → IsSteady v → Walks v marks w �
 as_many v w marks steady walk =
     ap length (ap (λ (n : ℕ). entries_by n w.seen) (sym walk.number) ∙ (sym walk.steady.sound.own ∙ (walk.mine ∙ steady.sound.own)))
 
-pub refused_machine : (v w : View) (call : EventCall) (refusal : Refusal) (marks : List Mark) → 0 < v.number → v.number ≤ 255 → IsMatch call.game → IsSteady v → Walks v marks w → ReportMarks call (Err refusal) marks (length w.seen)
-    → IsMadeByMachine v (calls.Event call) (replies.Refused refusal) marks (take (length w.seen) w.seen)
-refused_machine v w call refusal marks pos few game steady walk report =
-    subst (λ (h : List Entry). IsMadeByMachine v (calls.Event call) (replies.Refused refusal) marks h) (sym (take-length w.seen))
-    (made v (calls.Event call) (replies.Refused refusal) marks w.seen walk.steady.sound.legal walk.on.seen (as_many v w marks steady walk) leaves)
+pub refused_joined : (v w : View) (call : EventCall) (refusal : Refusal) (marks : List Mark) → 0 < v.number → v.number ≤ 255 → IsMatch call.game → IsSteady v → Walks v marks w → ReportMarks call (Err refusal) marks (length w.seen)
+    → IsJoined v (calls.Event call) (replies.Refused refusal) marks (take (length w.seen) w.seen) w
+refused_joined v w call refusal marks pos few game steady walk report =
+    subst (λ (h : List Entry). IsJoined v (calls.Event call) (replies.Refused refusal) marks h w) (sym (take-length w.seen))
+    (joined v w (calls.Event call) (replies.Refused refusal) marks w.seen walk.steady.sound.legal walk.on.seen (as_many v w marks steady walk) leaves)
   where
-    leaves : (c : Caller) → IsCallerOf v c → (may_begin c (calls.Event call) ≡ true) × Leaves c (calls.Event call) (replies.Refused refusal) marks w.seen (length v.seen)
-    leaves (Reporter n) is = (may_report n call game (omega arith), record { follows = walk.leaves.follows; shape = report })
+    leaves : (c : Caller) → IsCallerOf v c → (may_begin c (calls.Event call) ≡ true) × Leaves c (calls.Event call) (replies.Refused refusal) marks w.seen (length v.seen) × (history_after c (calls.Event call) (replies.Refused refusal) w.seen ≡ w.seen)
+    leaves (Reporter n) is = (may_report n call game (omega arith), record { follows = walk.leaves.follows; shape = report }, refl)
     leaves (Reader n) is = absurd (omega arith)
 
-pub accepted_machine : (v z : View) (call : EventCall) (reply : Accepted) (marks : List Mark) (before : List Entry) → 0 < v.number → v.number ≤ 255 → IsMatch call.game → IsSteady v → IsSteady z
+pub accepted_joined : (v z : View) (call : EventCall) (reply : Accepted) (marks : List Mark) (before : List Entry) → 0 < v.number → v.number ≤ 255 → IsMatch call.game → IsSteady v → IsSteady z
     → z.seen ≡ followed_by before (entry_of (v.number, call)) → IsPrefix v.seen before → IsLegal before → z.mine ≡ followed_by v.mine (entry_of (v.number, call)) → z.number ≡ v.number
     → Follows z.seen (length v.seen) marks (length z.seen) → ReportMarks call (Ok reply) marks (length z.seen)
-    → IsMadeByMachine v (calls.Event call) (replies.Accepted reply) marks (take (length z.seen - 1) z.seen)
-accepted_machine v z call reply marks before pos few game steady steady_z last p legal mine number follows report =
-    subst (λ (h : List Entry). IsMadeByMachine v (calls.Event call) (replies.Accepted reply) marks h) (sym all_but_last)
-    (made v (calls.Event call) (replies.Accepted reply) marks before legal p same leaves)
+    → IsJoined v (calls.Event call) (replies.Accepted reply) marks (take (length z.seen - 1) z.seen) z
+accepted_joined v z call reply marks before pos few game steady steady_z last p legal mine number follows report =
+    subst (λ (h : List Entry). IsJoined v (calls.Event call) (replies.Accepted reply) marks h z) (sym all_but_last)
+    (joined v z (calls.Event call) (replies.Accepted reply) marks before legal p same leaves)
   where
     e : Entry
     e = entry_of (v.number, call)
@@ -132,7 +143,7 @@ accepted_machine v z call reply marks before pos few game steady steady_z last p
         let f = ap length steady.sound.own in
         omega arith
 
-    leaves : (c : Caller) → IsCallerOf v c → (may_begin c (calls.Event call) ≡ true) × Leaves c (calls.Event call) (replies.Accepted reply) marks before (length v.seen)
+    leaves : (c : Caller) → IsCallerOf v c → (may_begin c (calls.Event call) ≡ true) × Leaves c (calls.Event call) (replies.Accepted reply) marks before (length v.seen) × (history_after c (calls.Event call) (replies.Accepted reply) before ≡ z.seen)
     leaves (Reporter n) is =
         let now : z.seen ≡ before ++ entry_of (n, call) ∷ [] = last ∙ ap (λ (k : ℕ). before ++ entry_of (k, call) ∷ []) (sym is) in (
           may_report n call game (omega arith),
@@ -140,9 +151,10 @@ accepted_machine v z call reply marks before pos few game steady steady_z last p
             follows = subst (λ (h : List Entry). Follows h (length v.seen) marks (length h)) now follows;
             shape = subst (λ (h : List Entry). ReportMarks call (Ok reply) marks (length h)) now report;
           },
+          sym now,
         )
     leaves (Reader n) is = absurd (omega arith)
 
-pub reading_machine : (v w : View) (reading : Reading) (marks : List Mark) → IsSteady v → Walks v marks w → ReadingMarks reading marks → IsMadeByMachine v calls.Reading (replies.Copied reading) marks w.seen
-reading_machine v w reading marks steady walk collects =
-    made v calls.Reading (replies.Copied reading) marks w.seen walk.steady.sound.legal walk.on.seen (as_many v w marks steady walk) (λ c is. (may_read c, record { follows = walk.leaves.follows; shape = collects }))
+pub reading_joined : (v w : View) (reading : Reading) (marks : List Mark) → IsSteady v → Walks v marks w → ReadingMarks reading marks → IsJoined v calls.Reading (replies.Copied reading) marks w.seen w
+reading_joined v w reading marks steady walk collects =
+    joined v w calls.Reading (replies.Copied reading) marks w.seen walk.steady.sound.legal walk.on.seen (as_many v w marks steady walk) (λ c is. (may_read c, record { follows = walk.leaves.follows; shape = collects }, refl))

@@ -29,7 +29,7 @@ use Rattle.ucl_words.specs.WordSteps.{Loads, ExchangeMissed, ExchangeWon, IsNext
 use Rattle.ucl_words.specs.Collects.{Walks}
 use Rattle.ucl_words.specs.WordCalls.{HasTrail, IsSteady, ReportSteps}
 use Rattle.ucl_words.proofs.Walking.{trail_on, found_word, walks_on, walks_load}
-use Rattle.ucl_words.proofs.Joining.{refused_machine, accepted_machine}
+use Rattle.ucl_words.proofs.Joining.{refused_joined, accepted_joined}
 
 -- the word of the record with one event more, whatever the history is
 pub next_word : (game reporter : ℕ) (kind : Kind) (loaded next : ℕ) (before m : MatchRecord) → IsMatch game → before ≡ record_at loaded → next ≡ word_of m
@@ -54,7 +54,9 @@ module _ (v u : View) (call : EventCall) (loaded : ℕ) (is : IsMatch call.game)
     look_report = inl (record { looked = look_mark; marks = refl; act = (refl, refl); answer = sym (refused_reply (record_at loaded) (record_at loaded) call refusal refl refused); last = refl })
 
     pub look_steps : ReportSteps v call (Err refusal) u
-    look_steps = record { marks = look_mark ∷ []; leaves = look_walks.leaves; report = look_report; machine = refused_machine v u call refusal (look_mark ∷ []) me.0 me.1 is steady look_walks look_report }
+    look_steps =
+        let both = refused_joined v u call refusal (look_mark ∷ []) me.0 me.1 is steady look_walks look_report in
+        record { marks = look_mark ∷ []; leaves = look_walks.leaves; report = look_report; machine = both.machine; along = both.along }
 
     pub look_refuses : RefusedReport (known_of v) call refusal (known_of u)
     look_refuses = record {
@@ -81,12 +83,9 @@ module _ (v u : View) (call : EventCall) (loaded : ℕ) (is : IsMatch call.game)
       miss_report refusal stale = inr (record { looked = look_mark; swapped = swap_mark; marks = refl; acts = ((refl, refl), (refl, refl)); may = may; other = other; answer = stale; last = refl })
 
       pub miss_steps : (refusal : Refusal) → refusal ≡ Stale (record_at found).number → ReportSteps v call (Err refusal) z
-      miss_steps refusal stale = record {
-        marks = look_mark ∷ swap_mark ∷ [];
-        leaves = miss_walks.leaves;
-        report = miss_report refusal stale;
-        machine = refused_machine v z call refusal (look_mark ∷ swap_mark ∷ []) me.0 me.1 is steady miss_walks (miss_report refusal stale);
-      }
+      miss_steps refusal stale =
+          let both = refused_joined v z call refusal (look_mark ∷ swap_mark ∷ []) me.0 me.1 is steady miss_walks (miss_report refusal stale) in
+          record { marks = look_mark ∷ swap_mark ∷ []; leaves = miss_walks.leaves; report = miss_report refusal stale; machine = both.machine; along = both.along }
 
       pub miss_refuses : (refusal : Refusal) → refusal ≡ Stale (record_at found).number → RefusedReport (known_of v) call refusal (known_of z)
       miss_refuses refusal stale = record {
@@ -152,12 +151,15 @@ module _ (v u : View) (call : EventCall) (loaded : ℕ) (is : IsMatch call.game)
       won_report = record { looked = look_mark; swapped = won_mark; marks = refl; acts = ((refl, refl), (refl, refl)); answer = accepts; same = same; last = sym one_more }
 
       pub won_steps : ReportSteps v call (Ok reply) z
-      won_steps = record {
-        marks = look_mark ∷ won_mark ∷ [];
-        leaves = record { trail = won_trail; taken = (let a = look_walks.leaves.taken in let b = won.taken in omega arith); follows = won_follows; whole = won_whole };
-        report = won_report;
-        machine = accepted_machine v z call reply (look_mark ∷ won_mark ∷ []) won.before me.0 me.1 is steady won_steady won.last since before_legal won_mine (won.number ∙ look_walks.number) won_follows won_report;
-      }
+      won_steps =
+          let both = accepted_joined v z call reply (look_mark ∷ won_mark ∷ []) won.before me.0 me.1 is steady won_steady won.last since before_legal won_mine (won.number ∙ look_walks.number) won_follows won_report in
+          record {
+            marks = look_mark ∷ won_mark ∷ [];
+            leaves = record { trail = won_trail; taken = (let a = look_walks.leaves.taken in let b = won.taken in omega arith); follows = won_follows; whole = won_whole };
+            report = won_report;
+            machine = both.machine;
+            along = both.along;
+          }
 
       pub won_accepts : AcceptedReport (known_of v) call reply (known_of z)
       won_accepts = record {

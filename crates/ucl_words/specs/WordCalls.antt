@@ -10,7 +10,7 @@ use Rattle.ucl_steps.specs.Trails.{Mark, Follows, ReportMarks, decided_at, Readi
 use Rattle.ucl_pass.specs.Passes.{IsSound}
 use Rattle.ucl_words.specs.declared.view.View.{View}
 use Rattle.ucl_words.specs.Views.{known_of}
-use Rattle.ucl_words.specs.WordMachine.{report_reply, IsMadeByMachine}
+use Rattle.ucl_words.specs.WordMachine.{report_reply, IsMadeByMachine, IsAlong}
 
 -- along the whole trail the places never fall, and each word that was found is that of its match at its place
 abbrev pub HasTrail : View → Type 0
@@ -35,6 +35,7 @@ pub record ReportSteps (v : View) (call : EventCall) (reply : Result Accepted Re
   pub leaves : LeavesMarks v marks w
   pub report : ReportMarks call reply marks (length w.seen)
   pub machine : IsMadeByMachine v (calls.Event call) (report_reply reply) marks (take (decided_at reply (length w.seen)) w.seen)
+  pub along : IsAlong v (calls.Event call) (report_reply reply) marks (take (decided_at reply (length w.seen)) w.seen) w
 
 -- the steps of a reading, each of them a step of the machine, in at most 12,277 tries
 pub record ReadingSteps (v : View) (reading : Reading) (w : View) : Type 0 where
@@ -43,6 +44,7 @@ pub record ReadingSteps (v : View) (reading : Reading) (w : View) : Type 0 where
   pub collects : ReadingMarks reading marks
   pub few : length collects.tries + 1 ≤ 12277
   pub machine : IsMadeByMachine v calls.Reading (replies.Copied reading) marks w.seen
+  pub along : IsAlong v calls.Reading (replies.Copied reading) marks w.seen w
 
 -- a call that leaves no mark
 pub record KeepsTrail (v w : View) : Type 0 where

@@ -1,5 +1,5 @@
 -- A call of the word board as a call of the protocol's machine.
-use Rattle.std.specs.Prelude.{◌≡◌, List, Result, Ok, Err}
+use Rattle.std.specs.Prelude.{◌≡◌, List, length, Result, Ok, Err}
 use Rattle.ucl_word.specs.declared.event.Accepted.{Accepted}
 use Rattle.ucl_word.specs.declared.refusal.Refusal.{Refusal}
 use Rattle.ucl_board.specs.declared.entry.Entry.{Entry}
@@ -12,6 +12,7 @@ use Rattle.ucl_steps.specs.declared.trace.Reply.TheVariants as replies
 use Rattle.ucl_steps.specs.Machine.{MachineState}
 use Rattle.ucl_steps.specs.Trails.{Mark}
 use Rattle.ucl_steps.specs.Marking.{IsInCast, IsAtRest, IsMadeBySteps}
+use Rattle.ucl_steps.specs.Together.{CallMade, after_call, IsCallAlong}
 use Rattle.ucl_words.specs.declared.view.View.{View}
 
 -- the answer of a report, as the machine's reply
@@ -30,3 +31,10 @@ IsCallerOf v (Reader n) = v.number ≡ 0
 abbrev pub IsMadeByMachine : View → Call → Reply → List Mark → List Entry → Type 0
 IsMadeByMachine v call reply marks before =
     (cast : Cast) (c : Caller) (state : MachineState) → cast.reporters ≡ 255 → IsInCast cast c → IsCallerOf v c → IsAtRest cast v.seen state → IsMadeBySteps cast state c call reply marks before
+
+-- The call is one of its caller's calls along what the pass w has then seen, from what the pass v had seen on: calls of all callers along one
+-- history are one run of the machine.
+abbrev pub IsAlong : View → Call → Reply → List Mark → List Entry → View → Type 0
+IsAlong v call reply marks before w =
+    let made : CallMade = record { call = call; reply = reply; marks = marks; before = before } in
+    (c : Caller) → IsCallerOf v c → IsCallAlong w.seen c (length v.seen) made × (after_call c made ≡ w.seen)

@@ -34,6 +34,10 @@ const MOST_REPORTERS: u64 = 255;
 
 /// A board of thirteen words that are loaded and exchanged one at a time: the number of enlisted reporters, and the twelve matches.
 /// Contracts see which table it is.
+///
+/// Each load and exchange of a match word leaves a mark on the trail of its pass: what it did, of which match, the word that it found,
+/// and how many events had been accepted. A report or a reading is a call of the protocol's machine (`ucl_steps`), which is made by
+/// the steps of these marks and ends with the answer that was given. None of the six calls whose names end in `_now` can wait.
 #[derive(Drop)]
 pub struct WordBoard {
     table: Table,
