@@ -1,5 +1,6 @@
 -- One match more in what a club has done.
-use Rattle.std.proofs.Common.{◌≡◌, ℕ, zero, suc, ◌+◌, ◌-◌, ◌*◌, ◌<◌, ◌≤◌, ◌&&◌, Bool, true, false, cond, List, [], ◌∷◌, ◌++◌, Some, None, length, get_or, take, map, filter, count_by, sum_by, refl, sym, ap, ◌∙◌, arith, append-nil, add-zero}
+use Rattle.std.proofs.Common.{◌≡◌, ℕ, zero, suc, ◌+◌, ◌-◌, ◌*◌, ◌<◌, ◌≤◌, ◌&&◌, Bool, true, false, cond, if◌then◌else◌, Option, List, [], ◌∷◌, ◌++◌, Some, None, length, get_or, take, map, filter, count_by, sum_by, refl, sym, ap, ◌∙◌, arith, append-nil, add-zero}
+use Rattle.std.specs.List.{cons_option, filter_map}
 use Rattle.std.proofs.lemmas.List.{take_more, length_push, map-append}
 use Rattle.std.proofs.lemmas.List.Sums.{sum_by_push}
 use Rattle.std.proofs.lemmas.List.Elements.{filter_map-append, filter-append}
@@ -14,6 +15,8 @@ use Rattle.ucl_order.specs.Marks.{reach, sure_points}
 use Rattle.ucl_order.specs.Rows.{row_with}
 use Rattle.ucl_order.specs.Results.{seen_by, is_won, is_drawn, is_lost, penalty, appearances, points, results_of, unfinished, match_at, matches_of}
 use Rattle.ucl_order.specs.Counting.{with_match, IsWithin}
+use Rattle.ucl_order.specs.Order.{among, is_in}
+use Rattle.ucl_order.specs.Keys.{seen_among}
 
 -- the same of matches as the club saw them
 totals : List Appearance → Results
@@ -66,21 +69,46 @@ pub results_none : (club : ℕ) → results_of club [] ≡ record { played = 0; 
 unfolding results_of
 results_none club = refl
 
-seen_more : (club : ℕ) (ms : List Match) (i : ℕ) (d : Match) (a : Appearance) → i < length ms → Some a ≡ seen_by club (get_or ms i d) → appearances club (take (i + 1) ms) ≡ appearances club (take i ms) ++ a ∷ []
-seen_more club ms i d a h e = rw (take_more ms i d h, filter_map-append (seen_by club) (take i ms) (get_or ms i d ∷ []), ← e)
+-- a match more in a list, where f says how the club sees one
+module _ (f : Match → Option Appearance) (ms : List Match) (i : ℕ) (d : Match) (h : i < length ms) where
+  seen_more : (a : Appearance) → Some a ≡ f (get_or ms i d) → filter_map f (take (i + 1) ms) ≡ filter_map f (take i ms) ++ a ∷ []
+  seen_more a e = rw (take_more ms i d h, filter_map-append f (take i ms) (get_or ms i d ∷ []), ← e)
 
-not_seen : (club : ℕ) (ms : List Match) (i : ℕ) (d : Match) → i < length ms → None ≡ seen_by club (get_or ms i d) → appearances club (take (i + 1) ms) ≡ appearances club (take i ms)
-not_seen club ms i d h e = rw (take_more ms i d h, filter_map-append (seen_by club) (take i ms) (get_or ms i d ∷ []), ← e) (append-nil (appearances club (take i ms)))
+  not_seen : None ≡ f (get_or ms i d) → filter_map f (take (i + 1) ms) ≡ filter_map f (take i ms)
+  not_seen e = rw (take_more ms i d h, filter_map-append f (take i ms) (get_or ms i d ∷ []), ← e) (append-nil (filter_map f (take i ms)))
 
 -- the loop over the matches: one in which the club plays
 pub results_more : (club : ℕ) (ms : List Match) (i : ℕ) (d : Match) (a : Appearance) (before after : Results) → i < length ms → before ≡ results_of club (take i ms) → Some a ≡ seen_by club (get_or ms i d) → after ≡ with_match before a →
     after ≡ results_of club (take (i + 1) ms)
 results_more club ms i d a before after h is seen next =
-    next ∙ ap (λ r. with_match r a) (is ∙ results_are club (take i ms)) ∙ totals_push (appearances club (take i ms)) a ∙ sym (ap totals (seen_more club ms i d a h seen)) ∙ sym (results_are club (take (i + 1) ms))
+    next ∙ ap (λ r. with_match r a) (is ∙ results_are club (take i ms)) ∙ totals_push (appearances club (take i ms)) a ∙ sym (ap totals (seen_more (seen_by club) ms i d h a seen)) ∙ sym (results_are club (take (i + 1) ms))
 
 -- ... and one in which it does not
 pub results_same : (club : ℕ) (ms : List Match) (i : ℕ) (d : Match) (before : Results) → i < length ms → before ≡ results_of club (take i ms) → None ≡ seen_by club (get_or ms i d) → before ≡ results_of club (take (i + 1) ms)
-results_same club ms i d before h is seen = is ∙ results_are club (take i ms) ∙ sym (ap totals (not_seen club ms i d h seen)) ∙ sym (results_are club (take (i + 1) ms))
+results_same club ms i d before h is seen = is ∙ results_are club (take i ms) ∙ sym (ap totals (not_seen (seen_by club) ms i d h seen)) ∙ sym (results_are club (take (i + 1) ms))
+
+-- The same over the matches among some clubs. --
+
+seen_among_is : (both : Bool) (club : ℕ) (m : Match) (rest : List Match) → filter_map (seen_by club) (cond both (m ∷ rest) rest) ≡ cons_option (if both then seen_by club m else None) (filter_map (seen_by club) rest)
+seen_among_is true club m rest = refl
+seen_among_is false club m rest = refl
+
+among_seen : (club : ℕ) (clubs : List ℕ) (ms : List Match) → appearances club (among clubs ms) ≡ filter_map (seen_among club clubs) ms
+among_seen club clubs [] = refl
+among_seen club clubs (m ∷ ms) =
+    seen_among_is (is_in clubs m.home && is_in clubs m.away) club m (among clubs ms) ∙ ap (cons_option (seen_among club clubs m)) (among_seen club clubs ms)
+
+module _ (club : ℕ) (clubs : List ℕ) where
+  tied_are : (ms : List Match) → results_of club (among clubs ms) ≡ totals (filter_map (seen_among club clubs) ms)
+  tied_are ms = results_are club (among clubs ms) ∙ ap totals (among_seen club clubs ms)
+
+  pub among_more : (ms : List Match) (i : ℕ) (d : Match) (a : Appearance) (before after : Results) → i < length ms → before ≡ results_of club (among clubs (take i ms)) → Some a ≡ seen_among club clubs (get_or ms i d) → after ≡ with_match before a →
+      after ≡ results_of club (among clubs (take (i + 1) ms))
+  among_more ms i d a before after h is seen next =
+      next ∙ ap (λ r. with_match r a) (is ∙ tied_are (take i ms)) ∙ totals_push (filter_map (seen_among club clubs) (take i ms)) a ∙ sym (ap totals (seen_more (seen_among club clubs) ms i d h a seen)) ∙ sym (tied_are (take (i + 1) ms))
+
+  pub among_same : (ms : List Match) (i : ℕ) (d : Match) (before : Results) → i < length ms → before ≡ results_of club (among clubs (take i ms)) → None ≡ seen_among club clubs (get_or ms i d) → before ≡ results_of club (among clubs (take (i + 1) ms))
+  among_same ms i d before h is seen = is ∙ tied_are (take i ms) ∙ sym (ap totals (not_seen (seen_among club clubs) ms i d h seen)) ∙ sym (tied_are (take (i + 1) ms))
 
 bit : (b : Bool) → cond b 1 0 ≤ 1
 bit true = omega arith
@@ -124,14 +152,6 @@ within_later m n r e h = record {
 }
 
 -- What is read off such results. --
-
-pub points_of : (club : ℕ) (ms now : List Match) (r : Results) (p : ℕ) → now ≡ ms → r ≡ results_of club now → p ≡ 3 * r.wins + r.draws → p ≡ points club ms
-unfolding results_of
-points_of club ms now r p same is h = rw (h, is, same)
-
-pub reach_of : (club : ℕ) (ms now : List Match) (r : Results) (p : ℕ) → now ≡ unfinished ms → r ≡ results_of club now → p ≡ sure_points ms club → p + 3 * r.played ≡ reach ms club
-unfolding results_of
-reach_of club ms now r p same is h = rw (h, is, same)
 
 pub row_of_results : (place slot : ℕ) (mark : Mark) (ms : List Match) (r : Results) (p : ℕ) → r ≡ results_of slot ms → p ≡ 3 * r.wins + r.draws →
     record { slot = slot; place = place; mark = mark; played = r.played; wins = r.wins; draws = r.draws; losses = r.losses; goals_for = r.goals_for; goals_against = r.goals_against; points = p } ≡ row_with place slot mark ms

@@ -1,6 +1,5 @@
 pub mod Clubs
 pub mod Adding
-pub mod Comparing
 pub mod Rankings
 pub mod Classes
 pub mod Counting
@@ -12,3 +11,10 @@ pub mod Descending
 pub mod TieBreaks
 pub mod Unique
 pub mod Completions
+pub mod Packing
+pub mod Fitting
+pub mod Sets
+pub mod Alone
+pub mod Rounds
+pub mod Sorting
+pub mod Marking

@@ -82,12 +82,14 @@ six board (suc (suc (suc zero))) h = refl
 six board (suc (suc (suc (suc zero)))) h = refl
 six board (suc (suc (suc (suc (suc n))))) h = absurd (omega arith)
 
--- Goals. --
+-- Goals and cards. --
 
--- at most 63 goals on either side
+-- at most 63 goals on either side, 63 yellow cards that stand and 31 expulsions
 pub record AreFew (a : Appearance) : Type 0 where
   pub scored : a.scored ≤ 63
   pub conceded : a.conceded ≤ 63
+  pub yellows : a.yellows ≤ 63
+  pub expulsions : a.expulsions ≤ 31
 
 few_one : (o : Option Appearance) (games : List Appearance) → ((a : Appearance) → o ≡ Some a → AreFew a) → All AreFew games → All AreFew (cons_option o games)
 few_one None games h rest = rest
@@ -101,7 +103,8 @@ seen_parts false false h v a e few_h few_v = absurd (cc)
 seen_few : (club : ℕ) (m : Match) (a : Appearance) → IsValid m.result → seen_by club m ≡ Some a → AreFew a
 seen_few club m a h e =
     seen_parts (m.home == club) (m.away == club) _ _ a e
-    (record { scored = h.within.home_goals; conceded = h.within.away_goals }) (record { scored = h.within.away_goals; conceded = h.within.home_goals })
+    (record { scored = h.within.home_goals; conceded = h.within.away_goals; yellows = h.within.home_yellows; expulsions = h.within.home_expulsions })
+    (record { scored = h.within.away_goals; conceded = h.within.home_goals; yellows = h.within.away_yellows; expulsions = h.within.away_expulsions })
 
 pub all_few : (club : ℕ) (ms : List Match) → All (λ m. IsValid m.result) ms → All AreFew (appearances club ms)
 all_few club [] h = All-nil AreFew

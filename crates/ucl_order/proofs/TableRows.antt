@@ -1,13 +1,14 @@
 -- The rows, from what the calls answered.
-use Rattle.std.proofs.Common.{◌≡◌, ℕ, ◌-◌, List, [], ◌∷◌, flat_map}
+use Rattle.std.proofs.Common.{◌≡◌, ℕ, ◌-◌, List, [], ◌∷◌}
 use Rattle.std.specs.List.{slice_index}
 use Rattle.ucl_order.specs.declared.game.Match.{Match}
 use Rattle.ucl_order.specs.declared.mark.Mark.{Mark}
 use Rattle.ucl_order.specs.declared.table.Row.{Row}
 use Rattle.ucl_order.specs.Roster.{ClubEntry}
 use Rattle.ucl_order.specs.Results.{matches_of, started}
-use Rattle.ucl_order.specs.Order.{all_clubs, by_points, order_of, settled, split}
+use Rattle.ucl_order.specs.Order.{order_of}
 use Rattle.ucl_order.specs.Marks.{mark_by, mark_of}
+use Rattle.ucl_order.specs.Rounds.{order_by}
 use Rattle.ucl_order.specs.Rows.{row_of, row_with}
 
 pub row_is : (place n : ℕ) (order : List ℕ) (ms now : List Match) (mark : Mark) (r : Row) → n ≡ place → now ≡ started ms →
@@ -15,10 +16,9 @@ pub row_is : (place n : ℕ) (order : List ℕ) (ms now : List Match) (mark : Ma
     r ≡ row_with place (slice_index order (place - 1)) (mark_by ms order (slice_index order (place - 1))) (started ms)
 row_is place n order ms now mark r is_n is_now is_mark is = rw (is, is_mark, is_now, is_n)
 
-pub order_is : (board : List ℕ) (roster : List ClubEntry) (ms now : List Match) (order : List ℕ) → ms ≡ matches_of board → now ≡ started ms →
-    order ≡ flat_map (settled now roster) (split (by_points now) all_clubs) → order ≡ order_of board roster
-unfolding order_of
-order_is board roster ms now order is_ms is_now is = rw (is, is_now, is_ms)
+pub order_is : (board : List ℕ) (roster : List ClubEntry) (now : List Match) (order : List ℕ) → now ≡ started (matches_of board) → order ≡ order_by now roster → order ≡ order_of board roster
+unfolding order_of order_by
+order_is board roster now order is_now is = rw (is, is_now)
 
 pub row_of_place : (board : List ℕ) (roster : List ClubEntry) (place : ℕ) (ms given : List Match) (order : List ℕ) (r : Row) → ms ≡ matches_of board → given ≡ ms → order ≡ order_of board roster →
     r ≡ row_with place (slice_index order (place - 1)) (mark_by given order (slice_index order (place - 1))) (started given) → r ≡ row_of board roster place

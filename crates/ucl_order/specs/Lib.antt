@@ -3,8 +3,10 @@ pub mod Members
 pub mod Results
 pub mod Order
 pub mod Counting
-pub mod Criteria
 pub mod Standing
 pub mod Marks
+pub mod Prospects
 pub mod Rows
+pub mod Keys
+pub mod Rounds
 pub mod Laws

@@ -2,7 +2,8 @@
 
 ghost use Rattle.std.specs.Prelude.{◌≡◌, ◌≤◌, All, length};
 ghost use Rattle.ucl_word.specs.Record.{IsValid};
-ghost use Rattle.ucl_order.specs.Order.{among};
+ghost use Rattle.ucl_order.specs.Keys.{seen_among, slots_in};
+ghost use Rattle.ucl_order.specs.Order.{is_in};
 ghost use Rattle.ucl_order.specs.Results.{finished, has_finished, has_started, is_drawn, is_lost, is_won, matches_of, penalty, seen_by, started, unfinished};
 
 use arrayvec::ArrayVec;
@@ -59,6 +60,17 @@ impl Match {
         }
     }
 
+    /// The match as the club sees it, if it plays in it and both clubs are of the set.
+    pub(crate) fn seen_among(&self, club: u8, clubs: &[bool; 4]) -> Option<Appearance>
+        ensures { result ≡ seen_among club (slots_in clubs.now) self.now }
+    {
+        if is_in(clubs, self.home) && is_in(clubs, self.away) {
+            self.seen_by(club)
+        } else {
+            None
+        }
+    }
+
     /// Whether the match is in play or finished.
     fn has_started(&self) -> bool
         ensures { result ≡ has_started self.now }
@@ -108,6 +120,16 @@ impl Appearance {
         ensures few { result ≤ 1020 }
     {
         u16::from(self.yellows) + 3 * u16::from(self.expulsions)
+    }
+}
+
+/// Whether the slot is in the set, of which place i says whether slot i + 1 is in it.
+fn is_in(clubs: &[bool; 4], slot: u8) -> bool
+    ensures { result ≡ is_in (slots_in clubs.now) slot }
+{
+    match slot {
+        1..=4 => clubs[usize::from(slot - 1)],
+        _ => false,
     }
 }
 
@@ -166,20 +188,6 @@ pub(crate) fn unfinished(matches: &[Match]) -> ArrayVec<Match, 12>
     let mut chosen = ArrayVec::new();
     for game in matches {
         if !game.has_finished() {
-            chosen.push(*game);
-        }
-    }
-    chosen
-}
-
-/// The matches in which both clubs are of the set.
-pub(crate) fn among(clubs: &[u8], matches: &[Match]) -> ArrayVec<Match, 12>
-    requires { length matches.now ≤ 12 }
-    ensures { result.items ≡ among clubs.now matches.now }
-{
-    let mut chosen = ArrayVec::new();
-    for game in matches {
-        if clubs.contains(&game.home) && clubs.contains(&game.away) {
             chosen.push(*game);
         }
     }

@@ -1,6 +1,6 @@
 //! What holds of every order and of every mark. The functions do nothing: each is there for its contract.
 
-ghost use Rattle.ucl_order.specs.Laws.{ClassesAreLevel, MinusIsCertain, OrderGoesByStanding, OrderHasEachClub, OrderIsUnique, PlusIsCertain, RankingsAreOrders, TiesFollowRule};
+ghost use Rattle.ucl_order.specs.Laws.{BoardsFitKeys, ClassesAreLevel, HigherHasGreaterKey, MinusIsCertain, OrderGoesByStanding, OrderHasEachClub, OrderIsUnique, PlusIsCertain, RankingsAreOrders, TiesFollowRule};
 
 /// The order has each of the four clubs once.
 pub fn order_has_each_club()
@@ -32,6 +32,17 @@ pub fn order_goes_by_standing()
 /// No other list of the four clubs has each above all that follow.
 pub fn order_is_unique()
     ensures { OrderIsUnique }
+{}
+
+/// Each number of a board's clubs has room in its field of a key, over all matches and over those of any set of clubs.
+pub fn boards_fit_keys()
+    ensures { BoardsFitKeys }
+{}
+
+/// Of two clubs of a board the one that is higher by the criteria over all matches has the greater `overall_key`, and the one with the
+/// greater triple in a set of clubs has the greater `tie_key` in that set; and the other way round.
+pub fn higher_has_greater_key()
+    ensures { HigherHasGreaterKey }
 {}
 
 /// A club marked `Plus` is among the first two however the group ends.

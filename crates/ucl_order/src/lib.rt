@@ -2,6 +2,7 @@
 #![tactic(auto)]
 
 mod game;
+mod keys;
 mod laws;
 mod mark;
 mod order;
@@ -9,9 +10,11 @@ mod results;
 mod roster;
 mod table;
 
+pub use keys::{overall_key, tie_key};
 pub use laws::{
-    classes_are_level, minus_is_certain, order_goes_by_standing, order_has_each_club,
-    order_is_unique, plus_is_certain, rankings_are_orders, ties_follow_rule,
+    boards_fit_keys, classes_are_level, higher_has_greater_key, minus_is_certain,
+    order_goes_by_standing, order_has_each_club, order_is_unique, plus_is_certain,
+    rankings_are_orders, ties_follow_rule,
 };
 pub use mark::Mark;
 pub use roster::{BadRoster, Club, Roster};

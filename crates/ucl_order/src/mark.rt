@@ -1,12 +1,14 @@
 //! Which clubs are sure of their places.
 
-ghost use Rattle.std.specs.Prelude.{◌≡◌, ◌+◌, ◌*◌, ◌≤◌, length};
+ghost use Rattle.std.specs.Prelude.{◌≡◌, ◌≤◌, All, List, length, map};
 ghost use Rattle.std.specs.List.{list_all};
+ghost use Rattle.ucl_board.specs.Fixtures.{IsSlot};
+ghost use Rattle.ucl_order.specs.declared.game.Match.{Match};
 ghost use Rattle.ucl_order.specs.Results.{has_finished};
 ghost use Rattle.ucl_order.specs.Marks.{early_mark, escaped, final_mark, has_escaped, is_rival, mark_by, reach, rivals, sure_points};
+ghost use Rattle.ucl_order.specs.Prospects.{AreProspects};
 
 use crate::game::{Match, finished, unfinished};
-use crate::order::CLUBS;
 use crate::results::Results;
 
 /// Whether a club is sure of its place among the first two of its group, who go through to the round of 16.
@@ -20,6 +22,111 @@ pub enum Mark {
     Blank,
 }
 
+/// What the clubs can still become, by slot.
+#[derive(Clone, Copy, Debug, PartialEq, Eq)]
+struct Prospects {
+    /// The points from finished matches.
+    sure: [u8; 4],
+    /// The points if each match that is left were won.
+    reach: [u8; 4],
+}
+
+impl Prospects {
+    /// What the clubs can still become after these matches.
+    fn of(matches: &[Match]) -> Prospects
+        requires { length matches.now ≤ 12 }
+        ensures { AreProspects matches.now result }
+    {
+        let done = Results::of_clubs(&finished(matches));
+        let left = Results::of_clubs(&unfinished(matches));
+        let [a, b, c, d] = [
+            done[0].points(),
+            done[1].points(),
+            done[2].points(),
+            done[3].points(),
+        ];
+        Prospects {
+            sure: [a, b, c, d],
+            reach: [
+                a + 3 * left[0].played,
+                b + 3 * left[1].played,
+                c + 3 * left[2].played,
+                d + 3 * left[3].played,
+            ],
+        }
+    }
+
+    /// The points of the club from finished matches.
+    fn sure_points(&self, club: u8) -> u8
+        requires { IsSlot club }
+        ensures { (matches : List Match) → AreProspects matches self.now → result ≡ sure_points matches club }
+    {
+        self.sure[usize::from(club - 1)]
+    }
+
+    /// The points of the club if it wins each match that it has left.
+    fn reach(&self, club: u8) -> u8
+        requires { IsSlot club }
+        ensures { (matches : List Match) → AreProspects matches self.now → result ≡ reach matches club }
+    {
+        self.reach[usize::from(club - 1)]
+    }
+
+    /// Whether the other club can reach the club's points.
+    fn is_rival(&self, club: u8, other: u8) -> bool
+        requires club { IsSlot club }
+        requires other { IsSlot other }
+        ensures { (matches : List Match) → AreProspects matches self.now → result ≡ is_rival matches club other }
+    {
+        other != club && self.sure_points(club) <= self.reach(other)
+    }
+
+    /// Whether the other club has more points than the club can reach.
+    fn has_escaped(&self, club: u8, other: u8) -> bool
+        requires club { IsSlot club }
+        requires other { IsSlot other }
+        ensures { (matches : List Match) → AreProspects matches self.now → result ≡ has_escaped matches club other }
+    {
+        other != club && self.reach(club) < self.sure_points(other)
+    }
+
+    /// How many other clubs can reach the club's points.
+    fn rivals(&self, club: u8) -> u8
+        requires { IsSlot club }
+        ensures { (matches : List Match) → AreProspects matches self.now → result ≡ rivals matches club }
+    {
+        u8::from(self.is_rival(club, 1))
+            + u8::from(self.is_rival(club, 2))
+            + u8::from(self.is_rival(club, 3))
+            + u8::from(self.is_rival(club, 4))
+    }
+
+    /// How many other clubs have more points than the club can reach.
+    fn escaped(&self, club: u8) -> u8
+        requires { IsSlot club }
+        ensures { (matches : List Match) → AreProspects matches self.now → result ≡ escaped matches club }
+    {
+        u8::from(self.has_escaped(club, 1))
+            + u8::from(self.has_escaped(club, 2))
+            + u8::from(self.has_escaped(club, 3))
+            + u8::from(self.has_escaped(club, 4))
+    }
+
+    /// The mark before the last match is finished: by points alone.
+    fn early_mark(&self, club: u8) -> Mark
+        requires { IsSlot club }
+        ensures { (matches : List Match) → AreProspects matches self.now → result ≡ early_mark matches club }
+    {
+        if self.rivals(club) <= 1 {
+            Mark::Plus
+        } else if self.escaped(club) >= 2 {
+            Mark::Minus
+        } else {
+            Mark::Blank
+        }
+    }
+}
+
 /// Whether the group has ended.
 fn are_all_finished(matches: &[Match]) -> bool
     ensures { result ≡ list_all has_finished matches.now }
@@ -27,79 +134,8 @@ fn are_all_finished(matches: &[Match]) -> bool
     matches.iter().all(|game| game.has_finished())
 }
 
-/// The points from finished matches.
-fn sure_points(matches: &[Match], club: u8) -> u8
-    requires { length matches.now ≤ 12 }
-    ensures value { result ≡ sure_points matches.now club }
-    ensures few { result ≤ 48 }
-{
-    Results::of(club, &finished(matches)).points()
-}
-
-/// The points if each match that is left were won.
-fn reach(matches: &[Match], club: u8) -> u8
-    requires { length matches.now ≤ 12 }
-    ensures { result ≡ reach matches.now club }
-{
-    let left = Results::of(club, &unfinished(matches)).played;
-    sure_points(matches, club) + 3 * left
-}
-
-/// Whether the other club can reach the club's points.
-fn is_rival(matches: &[Match], club: u8, other: u8) -> bool
-    requires { length matches.now ≤ 12 }
-    ensures { result ≡ is_rival matches.now club other }
-{
-    other != club && sure_points(matches, club) <= reach(matches, other)
-}
-
-/// Whether the other club has more points than the club can reach.
-fn has_escaped(matches: &[Match], club: u8, other: u8) -> bool
-    requires { length matches.now ≤ 12 }
-    ensures { result ≡ has_escaped matches.now club other }
-{
-    other != club && reach(matches, club) < sure_points(matches, other)
-}
-
-/// How many other clubs can reach the club's points.
-fn rivals(matches: &[Match], club: u8) -> usize
-    requires { length matches.now ≤ 12 }
-    ensures { result ≡ rivals matches.now club }
-{
-    CLUBS
-        .iter()
-        .filter(|other| is_rival(matches, club, **other))
-        .count()
-}
-
-/// How many other clubs have more points than the club can reach.
-fn escaped(matches: &[Match], club: u8) -> usize
-    requires { length matches.now ≤ 12 }
-    ensures { result ≡ escaped matches.now club }
-{
-    CLUBS
-        .iter()
-        .filter(|other| has_escaped(matches, club, **other))
-        .count()
-}
-
-/// The mark before the last match is finished: by points alone.
-fn early_mark(matches: &[Match], club: u8) -> Mark
-    requires { length matches.now ≤ 12 }
-    ensures { result ≡ early_mark matches.now club }
-{
-    if rivals(matches, club) <= 1 {
-        Mark::Plus
-    } else if escaped(matches, club) >= 2 {
-        Mark::Minus
-    } else {
-        Mark::Blank
-    }
-}
-
 /// The mark when all matches are finished: by the order.
-fn final_mark(order: &[u8], club: u8) -> Mark
-    requires { 2 ≤ length order.now }
+fn final_mark(order: &[u8; 4], club: u8) -> Mark
     ensures { result ≡ final_mark order.now club }
 {
     if order[..2].contains(&club) {
@@ -109,15 +145,27 @@ fn final_mark(order: &[u8], club: u8) -> Mark
     }
 }
 
-/// The mark of a club of this order.
-pub(crate) fn mark_of(matches: &[Match], order: &[u8], club: u8) -> Mark
+/// The marks of the clubs, by place of this order.
+#[tactic(auto, using(crate::proofs::Marking::early_marks))]
+pub(crate) fn marks_of(matches: &[Match], order: &[u8; 4]) -> [Mark; 4]
     requires short { length matches.now ≤ 12 }
-    requires two { 2 ≤ length order.now }
-    ensures { result ≡ mark_by matches.now order.now club }
+    requires slots { All IsSlot order.now }
+    ensures { result ≡ map (mark_by matches.now order.now) order.now }
 {
+    let [a, b, c, d] = *order;
     if are_all_finished(matches) {
-        final_mark(order, club)
-    } else {
-        early_mark(matches, club)
+        return [
+            final_mark(order, a),
+            final_mark(order, b),
+            final_mark(order, c),
+            final_mark(order, d),
+        ];
     }
+    let prospects = Prospects::of(matches);
+    [
+        prospects.early_mark(a),
+        prospects.early_mark(b),
+        prospects.early_mark(c),
+        prospects.early_mark(d),
+    ]
 }

@@ -1,12 +1,13 @@
 //! What a club has done.
 
-ghost use Rattle.std.specs.Prelude.{◌≡◌, ℕ, ◌≤◌, ◌+◌, ◌*◌, ◌-ℤ◌, pos, length};
-ghost use Rattle.std.specs.Ordering.{int_cmp};
+ghost use Rattle.std.specs.Prelude.{◌≡◌, ℕ, ◌≤◌, ◌+◌, ◌*◌, All, length};
 ghost use Rattle.ucl_order.specs.Results.{results_of};
 ghost use Rattle.ucl_order.specs.Counting.{IsWithin, with_match};
+ghost use Rattle.ucl_order.specs.Keys.{slots_in};
+ghost use Rattle.ucl_order.specs.Order.{among};
+ghost use Rattle.ucl_order.specs.Rounds.{results_of_clubs};
 
 use crate::game::{Appearance, Match};
-use std::cmp::Ordering;
 
 /// What a club has done in some matches.
 #[derive(Clone, Copy, Debug, PartialEq, Eq)]
@@ -71,6 +72,35 @@ impl Results {
         results
     }
 
+    /// What the club has done in the matches between clubs of the set.
+    pub(crate) fn among(club: u8, clubs: &[bool; 4], matches: &[Match]) -> Results
+        requires { length matches.now ≤ 12 }
+        ensures value { result ≡ results_of club (among (slots_in clubs.now) matches.now) }
+        ensures few { IsWithin 12 result }
+    {
+        let mut results = Results::NONE;
+        for game in matches {
+            if let Some(seen) = game.seen_among(club, clubs) {
+                results.add(&seen);
+            }
+        }
+        results
+    }
+
+    /// What each club has done in these matches.
+    pub(crate) fn of_clubs(matches: &[Match]) -> [Results; 4]
+        requires { length matches.now ≤ 12 }
+        ensures value { result ≡ results_of_clubs matches.now }
+        ensures few { All (IsWithin 12) result }
+    {
+        [
+            Results::of(1, matches),
+            Results::of(2, matches),
+            Results::of(3, matches),
+            Results::of(4, matches),
+        ]
+    }
+
     /// Three for a win, one for a draw.
     pub(crate) fn points(&self) -> u8
         requires { IsWithin 12 self.now }
@@ -78,20 +108,5 @@ impl Results {
         ensures few { result ≤ 48 }
     {
         3 * self.wins + self.draws
-    }
-
-    /// Compares goal differences.
-    pub(crate) fn by_difference(&self, other: &Results) -> Ordering
-        ensures { result ≡ int_cmp (pos self.now.goals_for -ℤ pos self.now.goals_against)
-            (pos other.now.goals_for -ℤ pos other.now.goals_against) }
-    {
-        self.difference().cmp(&other.difference())
-    }
-
-    /// Goals for less goals against.
-    fn difference(&self) -> i32
-        ensures { result ≡ pos self.now.goals_for -ℤ pos self.now.goals_against }
-    {
-        i32::from(self.goals_for) - i32::from(self.goals_against)
     }
 }

@@ -1,12 +1,16 @@
 //! The table of a group.
 
-ghost use Rattle.std.specs.Prelude.{◌≡◌, ◌-◌, ◌≤◌, [], ◌∷◌, All, length, map, slice_index};
+ghost use Rattle.std.specs.Prelude.{◌≡◌, ◌-◌, ◌≤◌, List, [], ◌∷◌, All, length, map, slice_index};
+ghost use Rattle.ucl_board.specs.Fixtures.{IsSlot};
+ghost use Rattle.ucl_order.specs.declared.game.Match.{Match};
+ghost use Rattle.ucl_order.specs.Counting.{IsWithin};
 ghost use Rattle.ucl_order.specs.Marks.{mark_by};
-ghost use Rattle.ucl_order.specs.Results.{started};
+ghost use Rattle.ucl_order.specs.Results.{results_of, started};
+ghost use Rattle.ucl_order.specs.Rounds.{results_of_clubs};
 ghost use Rattle.ucl_order.specs.Rows.{IsWithinTable, row_with, rows_of};
 
-use crate::game::{Match, matches_of, started};
-use crate::mark::{Mark, mark_of};
+use crate::game::{matches_of, started};
+use crate::mark::{Mark, marks_of};
 use crate::order::order;
 use crate::results::Results;
 use crate::roster::Roster;
@@ -37,12 +41,11 @@ pub struct Row {
     pub points: u8,
 }
 
-/// The row of a club at its place, by these matches.
-fn row_with(place: u8, slot: u8, mark: Mark, matches: &[Match]) -> Row
-    requires { length matches.now ≤ 12 }
-    ensures { result ≡ row_with place slot mark matches.now }
+/// The row of a club at its place, by what it has done.
+fn row_with(place: u8, slot: u8, mark: Mark, results: &Results) -> Row
+    requires { IsWithin 12 results.now }
+    ensures { (matches : List Match) → results.now ≡ results_of slot matches → result ≡ row_with place slot mark matches }
 {
-    let results = Results::of(slot, matches);
     Row {
         slot,
         place,
@@ -57,18 +60,20 @@ fn row_with(place: u8, slot: u8, mark: Mark, matches: &[Match]) -> Row
     }
 }
 
-/// The row at this place of the order.
-fn row_at(place: u8, order: &[u8], matches: &[Match]) -> Row
+/// The row at this place of the order. The marks are by place, and the results are those of all clubs in the matches in play and
+/// finished.
+fn row_at(place: u8, order: &[u8; 4], marks: &[Mark; 4], results: &[Results; 4]) -> Row
     requires at_least { 1 ≤ place }
     requires at_most { place ≤ 4 }
-    requires four { length order.now ≡ 4 }
-    requires short { length matches.now ≤ 12 }
-    ensures { let slot = slice_index order.now (place - 1) in
-        result ≡ row_with place slot (mark_by matches.now order.now slot) (started matches.now) }
+    requires slots { All IsSlot order.now }
+    requires few { All (IsWithin 12) results.now }
+    ensures { (matches : List Match) → marks.now ≡ map (mark_by matches order.now) order.now → results.now ≡ results_of_clubs (started matches) →
+        let slot = slice_index order.now (place - 1) in
+        result ≡ row_with place slot (mark_by matches order.now slot) (started matches) }
 {
-    let slot = order[usize::from(place) - 1];
-    let mark = mark_of(matches, order, slot);
-    row_with(place, slot, mark, &started(matches))
+    let index = usize::from(place - 1);
+    let slot = order[index];
+    row_with(place, slot, marks[index], &results[usize::from(slot - 1)])
 }
 
 /// The table of a board, in order of place.
@@ -90,11 +95,14 @@ pub fn standings(board: &Board, roster: &Roster) -> [Row; 4]
     ensures within { All IsWithinTable result }
 {
     let matches = matches_of(board);
-    let order = order(&started(&matches), roster);
+    let started = started(&matches);
+    let results = Results::of_clubs(&started);
+    let order = order(&started, &results, roster);
+    let marks = marks_of(&matches, &order);
     [
-        row_at(1, &order, &matches),
-        row_at(2, &order, &matches),
-        row_at(3, &order, &matches),
-        row_at(4, &order, &matches),
+        row_at(1, &order, &marks, &results),
+        row_at(2, &order, &marks, &results),
+        row_at(3, &order, &marks, &results),
+        row_at(4, &order, &marks, &results),
     ]
 }

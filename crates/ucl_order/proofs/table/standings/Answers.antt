@@ -1,26 +1,34 @@
-use Rattle.std.proofs.Common.{◌≡◌, ◌∙◌, subst, All, List}
+use Rattle.std.proofs.Common.{◌≡◌, ◌∙◌, ap, refl, subst, All, List, map}
 use Rattle.std.proofs.lemmas.List.Elements.{All-same}
 use Rattle.ucl_order.specs.declared.game.Match.{Match}
 use Rattle.ucl_word.specs.Record.{IsValid}
-use Rattle.ucl_order.specs.Results.{matches_of}
+use Rattle.ucl_order.specs.Results.{matches_of, started}
+use Rattle.ucl_order.specs.Marks.{mark_by}
+use Rattle.ucl_order.specs.Rounds.{results_of_clubs}
 use Rattle.ucl_order.specs.Order.{order_of}
 use Rattle.ucl_order.specs.Rows.{rows_of, row_of, IsWithinTable}
+use Rattle.ucl_order.proofs.Fitting.{started_is}
 use Rattle.ucl_order.proofs.Limits.{rows_within}
 use Rattle.ucl_order.proofs.TableRows.{four_rows, order_is, row_of_place}
 use Rattle.ucl_order.proofs.table.standings.Goals as goal
 
 pub returns-clause-rows : goal.returns-clause-rows
 returns-clause-rows c =
-    let order : c.order-order.result.items ≡ order_of c.args.board.now c.args.roster.now =
-    order_is c.args.board.now c.args.roster.now c.deref.result.now c.deref-2.result.now c.order-order.result.items (c.deref.ensures.0 ∙ c.matches_of-matches.ensures.value) (c.deref-2.ensures.0 ∙ c.started.ensures) c.order-order.ensures.value in
+    let ms : List Match = c.matches_of-matches.result.items in
+    let order : c.order-order.result ≡ order_of c.args.board.now c.args.roster.now =
+    order_is c.args.board.now c.args.roster.now c.deref-3.result.now c.order-order.result
+    (started_is c.args.board.now c.matches_of-matches.result.items c.deref.result.now c.started-started.result.items c.deref-3.result.now c.matches_of-matches.ensures.value c.deref.ensures.0 c.started-started.ensures c.deref-3.ensures.0)
+    c.order-order.ensures.value in
+    let marks = c.marks_of-marks.ensures ∙ ap (λ m. map (mark_by m c.order-order.result) c.order-order.result) c.deref-4.ensures.0 in
+    let results = c.of_clubs-results.ensures.value ∙ ap results_of_clubs (c.deref-2.ensures.0 ∙ c.started-started.ensures ∙ ap started c.deref.ensures.0) in
     let first : c.row_at.result ≡ row_of c.args.board.now c.args.roster.now 1 =
-    row_of_place c.args.board.now c.args.roster.now 1 c.matches_of-matches.result.items c.deref-4.result.now c.deref-3.result.now c.row_at.result c.matches_of-matches.ensures.value c.deref-4.ensures.0 (c.deref-3.ensures.0 ∙ order) c.row_at.ensures in
+    row_of_place c.args.board.now c.args.roster.now 1 ms ms c.order-order.result c.row_at.result c.matches_of-matches.ensures.value refl order (c.row_at.ensures ms marks results) in
     let second : c.row_at-2.result ≡ row_of c.args.board.now c.args.roster.now 2 =
-    row_of_place c.args.board.now c.args.roster.now 2 c.matches_of-matches.result.items c.deref-6.result.now c.deref-5.result.now c.row_at-2.result c.matches_of-matches.ensures.value c.deref-6.ensures.0 (c.deref-5.ensures.0 ∙ order) c.row_at-2.ensures in
+    row_of_place c.args.board.now c.args.roster.now 2 ms ms c.order-order.result c.row_at-2.result c.matches_of-matches.ensures.value refl order (c.row_at-2.ensures ms marks results) in
     let third : c.row_at-3.result ≡ row_of c.args.board.now c.args.roster.now 3 =
-    row_of_place c.args.board.now c.args.roster.now 3 c.matches_of-matches.result.items c.deref-8.result.now c.deref-7.result.now c.row_at-3.result c.matches_of-matches.ensures.value c.deref-8.ensures.0 (c.deref-7.ensures.0 ∙ order) c.row_at-3.ensures in
+    row_of_place c.args.board.now c.args.roster.now 3 ms ms c.order-order.result c.row_at-3.result c.matches_of-matches.ensures.value refl order (c.row_at-3.ensures ms marks results) in
     let fourth : c.row_at-4.result ≡ row_of c.args.board.now c.args.roster.now 4 =
-    row_of_place c.args.board.now c.args.roster.now 4 c.matches_of-matches.result.items c.deref-10.result.now c.deref-9.result.now c.row_at-4.result c.matches_of-matches.ensures.value c.deref-10.ensures.0 (c.deref-9.ensures.0 ∙ order) c.row_at-4.ensures in
+    row_of_place c.args.board.now c.args.roster.now 4 ms ms c.order-order.result c.row_at-4.result c.matches_of-matches.ensures.value refl order (c.row_at-4.ensures ms marks results) in
     four_rows first second third fourth
 
 pub returns-clause-within : goal.returns-clause-within
