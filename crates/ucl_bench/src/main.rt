@@ -1,0 +1,23 @@
+//! Measures the boards and the table, beside plain references in the same program: `ucl_bench list` prints what can be measured, and
+//! `ucl_bench run SUBJECT WORKLOAD MS [FILE]` measures for about so many milliseconds and prints one line of JSON.
+#![tactic(auto)]
+
+mod cell_subject;
+mod clock;
+mod command;
+mod events;
+mod locked_words;
+mod nights;
+mod one_thread;
+mod plain_words;
+mod starts;
+mod subject;
+mod tally;
+mod word_subject;
+
+use std::env;
+
+fn main(rt: HostRuntime) -> anyhow::Result<()> {
+    let words = env::args(&rt)?.collect::<Vec<String>>(rt.alloc())?;
+    command::run(rt, rt.alloc(), &words)
+}

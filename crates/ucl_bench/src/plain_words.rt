@@ -1,0 +1,247 @@
+//! A reference: twelve match words as plain atomics, read by a double collect and reported to by a compare and exchange, with no proof.
+
+use crate::subject::Subject;
+use std::alloc::Global;
+use std::hint::spin_loop;
+use std::sync::atomic::{AtomicU64, Ordering};
+use std::sync::{Arc, Wait};
+use ucl_word::{EventCall, Kind, OutOfMemory, Side};
+
+/// The event number of a word.
+const NUMBER: u64 = 1023;
+
+const IN_PLAY: u64 = 1 << 10;
+
+const FINISHED: u64 = 2 << 10;
+
+const STATE: u64 = 3 << 10;
+
+/// A field of a word: its lowest bit, and all its bits.
+#[derive(Clone, Copy)]
+struct Field {
+    one: u64,
+    all: u64,
+}
+
+const HOME_GOALS: Field = Field {
+    one: 1 << 12,
+    all: 63 << 12,
+};
+
+const AWAY_GOALS: Field = Field {
+    one: 1 << 18,
+    all: 63 << 18,
+};
+
+const HOME_YELLOWS: Field = Field {
+    one: 1 << 24,
+    all: 63 << 24,
+};
+
+const AWAY_YELLOWS: Field = Field {
+    one: 1 << 30,
+    all: 63 << 30,
+};
+
+const HOME_EXPULSIONS: Field = Field {
+    one: 1 << 36,
+    all: 31 << 36,
+};
+
+const AWAY_EXPULSIONS: Field = Field {
+    one: 1 << 41,
+    all: 31 << 41,
+};
+
+const REPORTER: u64 = 255 << 46;
+
+const FIRST_REPORTER: u64 = 1 << 46;
+
+/// A reading of the twelve words, and the sum of their event numbers.
+#[derive(Clone, Copy)]
+pub struct PlainReading {
+    pub words: [u64; 12],
+    pub version: u16,
+}
+
+/// Twelve words that threads share.
+#[derive(Drop)]
+pub struct PlainWords {
+    words: [AtomicU64; 12],
+}
+
+impl PlainWords {
+    fn fresh() -> PlainWords {
+        PlainWords {
+            words: [
+                AtomicU64::new(0),
+                AtomicU64::new(0),
+                AtomicU64::new(0),
+                AtomicU64::new(0),
+                AtomicU64::new(0),
+                AtomicU64::new(0),
+                AtomicU64::new(0),
+                AtomicU64::new(0),
+                AtomicU64::new(0),
+                AtomicU64::new(0),
+                AtomicU64::new(0),
+                AtomicU64::new(0),
+            ],
+        }
+    }
+
+    fn collect(&self) -> [u64; 12] {
+        let mut words = [0; 12];
+        for i in 0..12 {
+            words[i] = self.words[i].load(Ordering::SeqCst);
+        }
+        words
+    }
+
+    fn still_has(&self, words: &[u64; 12]) -> bool {
+        for i in 0..12 {
+            if self.words[i].load(Ordering::SeqCst) != words[i] {
+                return false;
+            }
+        }
+        true
+    }
+
+    fn read<R: Wait>(&self, rt: &R) -> PlainReading {
+        for _ in rt.forever() {
+            let words = self.collect();
+            if self.still_has(&words) {
+                let version = version_of(&words);
+                return PlainReading { words, version };
+            }
+            spin_loop();
+        }
+        unreachable!()
+    }
+
+    fn report(&self, reporter: u8, call: &EventCall) -> bool {
+        let word = &self.words[usize::from(call.game.get() - 1)];
+        let before = word.load(Ordering::SeqCst);
+        match next_word(before, reporter, call.expected, call.kind) {
+            Some(next) => word
+                .compare_exchange(before, next, Ordering::SeqCst, Ordering::SeqCst)
+                .is_ok(),
+            None => false,
+        }
+    }
+}
+
+/// The sum of the event numbers.
+pub fn version_of(words: &[u64; 12]) -> u16 {
+    let mut version = 0u64;
+    for word in words {
+        version = version.wrapping_add(*word & NUMBER);
+    }
+    (version & 0xffff) as u16
+}
+
+/// The word with one more in a field, unless it is at its greatest value.
+fn raised(word: u64, field: Field) -> Option<u64> {
+    if word & field.all == field.all {
+        None
+    } else {
+        Some(word.wrapping_add(field.one))
+    }
+}
+
+/// The word with one less in a field, unless that is 0.
+fn lowered(word: u64, field: Field) -> Option<u64> {
+    if word & field.all == 0 {
+        None
+    } else {
+        Some(word.wrapping_sub(field.one))
+    }
+}
+
+/// The word with what the kind of an event changes; nothing where the kind is refused.
+fn changed(word: u64, kind: Kind) -> Option<u64> {
+    match kind {
+        Kind::KickOff => Some(word | IN_PLAY),
+        Kind::FullTime => Some(word & !STATE | FINISHED),
+        Kind::Goal(Side::Home) => raised(word, HOME_GOALS),
+        Kind::Goal(Side::Away) => raised(word, AWAY_GOALS),
+        Kind::Disallow(Side::Home) => lowered(word, HOME_GOALS),
+        Kind::Disallow(Side::Away) => lowered(word, AWAY_GOALS),
+        Kind::Yellow(Side::Home) => raised(word, HOME_YELLOWS),
+        Kind::Yellow(Side::Away) => raised(word, AWAY_YELLOWS),
+        Kind::SecondYellow(Side::Home) => raised(lowered(word, HOME_YELLOWS)?, HOME_EXPULSIONS),
+        Kind::SecondYellow(Side::Away) => raised(lowered(word, AWAY_YELLOWS)?, AWAY_EXPULSIONS),
+        Kind::Red(Side::Home) => raised(word, HOME_EXPULSIONS),
+        Kind::Red(Side::Away) => raised(word, AWAY_EXPULSIONS),
+    }
+}
+
+/// The word after an event; nothing where the event is refused.
+pub fn next_word(word: u64, reporter: u8, expected: u16, kind: Kind) -> Option<u64> {
+    let number = word & NUMBER;
+    let state = word & STATE;
+    if number != u64::from(expected)
+        || state == FINISHED
+        || (state == 0) != (kind == Kind::KickOff)
+        || number >= 1022 && kind != Kind::FullTime
+    {
+        return None;
+    }
+    let next = changed(word, kind)?.wrapping_add(1);
+    Some(next & !REPORTER | u64::from(reporter).wrapping_mul(FIRST_REPORTER))
+}
+
+/// A reader of plain words.
+pub type PlainReader = Arc<PlainWords>;
+
+/// A reporter of plain words.
+#[derive(Drop)]
+pub struct PlainReporter {
+    words: Arc<PlainWords>,
+    number: u8,
+}
+
+/// Plain words.
+pub struct PlainSubject;
+
+impl Subject for PlainSubject {
+    type Reader = Arc<PlainWords>;
+
+    type Reporter = PlainReporter;
+
+    type Reading = PlainReading;
+
+    fn open<R: Wait>(_rt: &R, alloc: Global) -> Result<Arc<PlainWords>, OutOfMemory> {
+        Ok(Arc::new(alloc, PlainWords::fresh())?)
+    }
+
+    fn split<R: Wait>(
+        _rt: &R,
+        reader: &mut Arc<PlainWords>,
+    ) -> Result<Arc<PlainWords>, OutOfMemory> {
+        Ok(Arc::try_clone(reader)?)
+    }
+
+    fn enlist<R: Wait>(_rt: &R, reader: Arc<PlainWords>) -> Option<PlainReporter> {
+        Some(PlainReporter {
+            words: reader,
+            number: 1,
+        })
+    }
+
+    fn read<R: Wait>(rt: &R, reader: &mut Arc<PlainWords>) -> PlainReading {
+        reader.read(rt)
+    }
+
+    fn report<R: Wait>(_rt: &R, reporter: &mut PlainReporter, call: &EventCall) -> bool {
+        reporter.words.report(reporter.number, call)
+    }
+
+    fn version_of(reading: &PlainReading) -> u16 {
+        reading.version
+    }
+
+    fn words_of(reading: &PlainReading) -> [u64; 12] {
+        reading.words
+    }
+}

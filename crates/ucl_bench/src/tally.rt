@@ -1,0 +1,153 @@
+//! What readings took, and whether one was torn.
+
+use crate::events::{ALL_EVENTS, MATCHES, is_of};
+use std::alloc::{AllocError, Global};
+
+/// How many times a counted time can fall on: 64 single nanoseconds, and then 32 for each power of two.
+const PLACES: usize = 64 + 58 * 32;
+
+/// The place of a time.
+fn place_of(nanos: u64) -> usize {
+    let bits = nanos.checked_ilog2().unwrap_or(0);
+    if bits < 6 {
+        return nanos as usize;
+    }
+    let above = bits - 5;
+    let fine = (nanos >> above) & 31;
+    (fine as usize).wrapping_add((bits as usize).wrapping_sub(4).wrapping_mul(32))
+}
+
+/// The least time of a place.
+fn time_of(place: usize) -> u64 {
+    if place < 64 {
+        return place as u64;
+    }
+    let above = place / 32 - 1;
+    let fine = (place % 32 + 32) as u64;
+    fine.wrapping_mul(2u64.wrapping_pow(u32::try_from(above).unwrap_or(0)))
+}
+
+/// How a night is cut: so many events for each match, whose reporters are so many.
+#[derive(Clone, Copy)]
+pub struct Cut {
+    pub events: u16,
+    pub reporters: u8,
+}
+
+/// What readings took, and what was found of them.
+#[derive(Drop)]
+pub struct Tally {
+    counts: Vec<u64>,
+    /// How many readings were taken.
+    pub reads: u64,
+    /// For how long readers read.
+    pub nanos: u64,
+    /// How many readings were timed, and checked word by word.
+    pub checked: u64,
+    /// How many readings can't be.
+    pub torn: u64,
+    /// The longest of the timed readings.
+    pub longest: u64,
+}
+
+impl Tally {
+    pub fn new(alloc: Global) -> Result<Tally, AllocError> {
+        let counts = vec![in alloc; 0; PLACES]?;
+        Ok(Tally {
+            counts,
+            reads: 0,
+            nanos: 0,
+            checked: 0,
+            torn: 0,
+            longest: 0,
+        })
+    }
+
+    /// Counts the time of a reading.
+    pub fn add_time(&mut self, nanos: u64) {
+        self.longest = self.longest.max(nanos);
+        if let Some(count) = self.counts.get_mut(place_of(nanos)) {
+            *count = count.wrapping_add(1);
+        }
+    }
+
+    /// Counts a reading that was checked.
+    pub fn add_check(&mut self, right: bool) {
+        self.checked = self.checked.wrapping_add(1);
+        self.torn = self.torn.wrapping_add(u64::from(!right));
+    }
+
+    /// Adds what another reader found.
+    pub fn add_all(&mut self, other: &Tally) {
+        for (count, more) in self.counts.iter_mut().zip(other.counts.iter()) {
+            *count = count.wrapping_add(*more);
+        }
+        self.reads = self.reads.wrapping_add(other.reads);
+        self.nanos = self.nanos.wrapping_add(other.nanos);
+        self.checked = self.checked.wrapping_add(other.checked);
+        self.torn = self.torn.wrapping_add(other.torn);
+        self.longest = self.longest.max(other.longest);
+    }
+
+    /// The time that so many thousandths of the timed readings did not pass.
+    pub fn time_at(&self, thousandths: u64) -> u64 {
+        let wanted = self.checked.wrapping_mul(thousandths) / 1000;
+        let mut seen = 0u64;
+        for (place, count) in self.counts.iter().enumerate() {
+            seen = seen.wrapping_add(*count);
+            if seen > wanted {
+                return time_of(place);
+            }
+        }
+        self.longest
+    }
+}
+
+/// The event number of a word.
+fn number_of(word: u64) -> u16 {
+    (word & 1023) as u16
+}
+
+/// Whether a match of the night can have this word: no more than one home goal, as the event number has it, and nothing else.
+fn can_be(word: u64) -> bool {
+    let number = number_of(word);
+    let goals = (word >> 12) & 63;
+    let state = (word >> 10) & 3;
+    let scored = number == ALL_EVENTS || number != 0 && number % 2 == 0;
+    let in_state = match number {
+        0 => state == 0,
+        ALL_EVENTS => state == 2,
+        _ => state == 1,
+    };
+    in_state && goals == u64::from(scored) && (word >> 18) & 0xfff_ffff == 0
+}
+
+/// Whether these words can stand on a board at one moment of the night, with this version. A reporter begins a match only when it has
+/// ended the one before, so a reading that mixes two moments shows as a match that stands while the next has begun.
+pub fn is_whole(words: &[u64; 12], version: u16, cut: Cut) -> bool {
+    let mut sum = 0u32;
+    for word in words {
+        if !can_be(*word) {
+            return false;
+        }
+        sum = sum.wrapping_add(u32::from(number_of(*word)));
+    }
+    sum == u32::from(version) && stand_in_turn(words, cut)
+}
+
+/// Whether each reporter has ended each match before its next.
+fn stand_in_turn(words: &[u64; 12], cut: Cut) -> bool {
+    for reporter in 0..cut.reporters {
+        let mut is_open = false;
+        for (game, word) in (1..=MATCHES).zip(words.iter()) {
+            if is_of(game, reporter, cut.reporters) {
+                let number = number_of(*word);
+                if is_open && number != 0 {
+                    return false;
+                }
+                is_open = number != cut.events;
+            }
+        }
+    }
+    true
+}
