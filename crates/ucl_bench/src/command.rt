@@ -6,10 +6,12 @@ use crate::nights::{Nights, Plan};
 use crate::one_thread::{Chunks, measure_read, measure_report};
 use crate::plain_words::PlainSubject;
 use crate::starts::{cell_nights, locked_nights, plain_nights, word_nights};
+use crate::tables::{boards_of, measure_screens, measure_standings};
 use crate::word_subject::WordSubject;
 use anyhow::{Context, Result};
 use std::alloc::Global;
-use std::rt::Clock;
+use std::fs;
+use std::rt::{Clock, Files};
 use std::sync::Wait;
 use std::thread::Threads;
 
@@ -18,6 +20,7 @@ const LIST: &str = "word_board read report mix-R-W paced-R-W
 cell_board read report mix-R-W paced-R-W
 plain_words read report mix-R-W paced-R-W
 locked_words read report mix-R-W paced-R-W
+our_table standings screen
 ";
 
 /// A workload of a board.
@@ -95,6 +98,25 @@ fn nights_of<R: Threads + Wait + Clock + Copy + Send + 'static>(
     }
 }
 
+/// Measures the table or the screen of the boards of a file, and prints a line of JSON.
+fn run_table<R: Print + Files + AllocGlobal + Wait + Clock>(
+    rt: &R,
+    alloc: Global,
+    name: &str,
+    millis: u64,
+    path: &str,
+) -> Result<()> {
+    let text = fs::read_to_string(rt, path)?;
+    let boards = boards_of(alloc, text.as_str())?;
+    let rounds = match name {
+        "standings" => measure_standings(rt, alloc, boards.as_slice(), millis)?,
+        "screen" => measure_screens(rt, alloc, boards.as_slice(), millis)?,
+        _ => anyhow::bail!("no such workload"),
+    };
+    println!(rt; "{{\"subject\":\"our_table\",\"workload\":\"{name}\",{rounds}}}")?;
+    Ok(())
+}
+
 /// A word; empty where there is none.
 fn word_at(words: &[String], i: usize) -> &str {
     match words.get(i) {
@@ -104,7 +126,7 @@ fn word_at(words: &[String], i: usize) -> &str {
 }
 
 /// Does what the words ask for; the first of them is the program's name.
-pub fn run<R: Print + Threads + Wait + Clock + Copy + Send + 'static>(
+pub fn run<R: Print + Files + AllocGlobal + Threads + Wait + Clock + Copy + Send + 'static>(
     rt: R,
     alloc: Global,
     words: &[String],
@@ -122,6 +144,9 @@ pub fn run<R: Print + Threads + Wait + Clock + Copy + Send + 'static>(
         .parse::<u64>()
         .ok()
         .context("how many milliseconds?")?;
+    if subject == "our_table" {
+        return run_table(&rt, alloc, name, millis, word_at(words, 5));
+    }
     let head = format!(in alloc; "{{\"subject\":\"{subject}\",\"workload\":\"{name}\",")?;
     match workload_of(name).context("no such workload")? {
         Workload::Read => {

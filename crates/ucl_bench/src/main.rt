@@ -12,6 +12,7 @@ mod one_thread;
 mod plain_words;
 mod starts;
 mod subject;
+mod tables;
 mod tally;
 mod word_subject;
 

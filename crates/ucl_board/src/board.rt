@@ -85,6 +85,16 @@ impl Board {
         Ok(Board { words: *words })
     }
 
+    /// The board with these words for matches 1 to 12, each of which has to be the packing of a valid record. They are not looked at
+    /// again: `of_words` is the test.
+    pub fn of_packed(words: &[u64; 12]) -> Board
+        requires { AreWords words.now }
+        ensures { result ≡ words.now }
+    {
+        let packed = *words;
+        Board { words: packed }
+    }
+
     /// The words of matches 1 to 12, each the packing of a valid record.
     pub fn words(&self) -> [u64; 12]
         ensures words { result ≡ self.now }

@@ -40,10 +40,7 @@ fn board_at(words: &[u64; 13]) -> Board
 {
     let mut matches = [0; 12];
     matches.copy_from_slice(&words[..12]);
-    match Board::of_words(&matches) {
-        Ok(board) => board,
-        Err(_) => unreachable!(),
-    }
+    Board::of_packed(&matches)
 }
 
 /// The words of a board, and the number of enlisted reporters.

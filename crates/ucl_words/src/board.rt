@@ -69,13 +69,9 @@ fn reading_of(words: &[u64; 12]) -> Reading
     ensures board { result.board ≡ words.now }
     ensures version { result.version ≡ version_of words.now }
 {
-    match Board::of_words(words) {
-        Ok(board) => {
-            let version = board.version();
-            Reading { board, version }
-        }
-        Err(_) => unreachable!(),
-    }
+    let board = Board::of_packed(words);
+    let version = board.version();
+    Reading { board, version }
 }
 
 impl WordBoard {

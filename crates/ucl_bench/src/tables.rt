@@ -1,0 +1,144 @@
+//! The table and the screen of boards that a file lists.
+
+use crate::clock::{Quotient, nanos, nanos_since};
+use anyhow::{Context, Result};
+use std::alloc::Global;
+use std::fmt;
+use std::sync::Wait;
+use std::time::Clock;
+use ucl_board::Board;
+use ucl_order::{Club, Roster, Row, standings};
+use ucl_screen::screen;
+
+/// How often all boards were taken, and the least time that it took.
+#[derive(Clone, Copy)]
+pub struct Rounds {
+    boards: u64,
+    rounds: u64,
+    least: u64,
+    all: u64,
+    answers: u64,
+}
+
+impl fmt::Display for Rounds {
+    fn fmt<W: fmt::Write>(&self, f: &mut fmt::Formatter<W>) -> fmt::Result {
+        let boards = self.boards;
+        let calls = boards.wrapping_mul(self.rounds);
+        let per_s = Quotient(calls.wrapping_mul(1_000_000), self.all / 1000);
+        let ns_min = Quotient(self.least, boards);
+        let answers = self.answers;
+        write!(
+            f,
+            "\"boards\":{boards},\"ops\":{calls},\"per_s\":{per_s},\"ns_min\":{ns_min},\"answers\":{answers}"
+        )
+    }
+}
+
+/// The board of a line: twelve words of hexadecimal digits.
+fn board_of(line: &str) -> Option<Board> {
+    let mut digits = line.split(' ');
+    let mut words = [0; 12];
+    for word in words.iter_mut() {
+        *word = u64::from_str_radix(digits.next()?, 16).ok()?;
+    }
+    Board::of_words(&words).ok()
+}
+
+/// The boards of a text, one a line.
+pub fn boards_of(alloc: Global, text: &str) -> Result<Vec<Board>> {
+    let mut boards = Vec::new(alloc);
+    for line in text.lines() {
+        boards.push(board_of(line).context("a line is no board")?)?;
+    }
+    Ok(boards)
+}
+
+/// A club of the roster.
+fn club(alloc: Global, name: &[u8], coefficient: u32) -> Result<Club> {
+    Ok(Club {
+        name: name.to_vec(alloc)?,
+        coefficient,
+    })
+}
+
+/// The roster of all boards.
+fn roster(alloc: Global) -> Result<Roster> {
+    let clubs = [
+        club(alloc, b"Alpha", 60_000)?,
+        club(alloc, b"Bravo", 95_000)?,
+        club(alloc, b"Charlie", 60_000)?,
+        club(alloc, b"Delta", 81_500)?,
+    ];
+    Roster::new(clubs).ok().context("no roster")
+}
+
+#[inline(never)]
+fn standings_once(board: &Board, roster: &Roster) -> [Row; 4] {
+    standings(board, roster)
+}
+
+/// Takes the table of all boards, again and again, for so many milliseconds.
+pub fn measure_standings<R: Wait + Clock>(
+    rt: &R,
+    alloc: Global,
+    boards: &[Board],
+    millis: u64,
+) -> Result<Rounds> {
+    let roster = roster(alloc)?;
+    let mut answers = 0u64;
+    let mut least = u64::MAX;
+    let mut rounds = 0u64;
+    let begun = nanos(rt);
+    for _ in rt.forever() {
+        let from = nanos(rt);
+        for board in boards {
+            let [first, ..] = standings_once(board, &roster);
+            answers = answers.wrapping_add(u64::from(first.slot));
+        }
+        least = least.min(nanos_since(rt, from));
+        rounds = rounds.wrapping_add(1);
+        if nanos_since(rt, begun) / 1_000_000 >= millis {
+            break;
+        }
+    }
+    Ok(Rounds {
+        boards: boards.len() as u64,
+        rounds,
+        least,
+        all: nanos_since(rt, begun),
+        answers,
+    })
+}
+
+/// Takes the screen of all boards, again and again, for so many milliseconds.
+pub fn measure_screens<R: Wait + Clock>(
+    rt: &R,
+    alloc: Global,
+    boards: &[Board],
+    millis: u64,
+) -> Result<Rounds> {
+    let roster = roster(alloc)?;
+    let mut answers = 0u64;
+    let mut least = u64::MAX;
+    let mut rounds = 0u64;
+    let begun = nanos(rt);
+    for _ in rt.forever() {
+        let from = nanos(rt);
+        for board in boards {
+            let text = screen(alloc, board, &roster, b'A')?;
+            answers = answers.wrapping_add(text.len() as u64);
+        }
+        least = least.min(nanos_since(rt, from));
+        rounds = rounds.wrapping_add(1);
+        if nanos_since(rt, begun) / 1_000_000 >= millis {
+            break;
+        }
+    }
+    Ok(Rounds {
+        boards: boards.len() as u64,
+        rounds,
+        least,
+        all: nanos_since(rt, begun),
+        answers,
+    })
+}
