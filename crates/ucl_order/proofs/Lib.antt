@@ -1,5 +1,7 @@
 pub mod Clubs
 pub mod Adding
+pub mod Gathering
+pub mod Reaching
 pub mod Rankings
 pub mod Classes
 pub mod Counting

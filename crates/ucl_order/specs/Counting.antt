@@ -1,5 +1,5 @@
 -- One match more in what a club has done.
-use Rattle.std.specs.Prelude.{ℕ, ◌+◌, ◌*◌, ◌≤◌, ◌&&◌, if◌then◌else◌}
+use Rattle.std.specs.Prelude.{ℕ, ◌+◌, ◌*◌, ◌≤◌, ◌&&◌, if◌then◌else◌, Bool}
 use Rattle.ucl_order.specs.declared.game.Appearance.{Appearance}
 use Rattle.ucl_order.specs.declared.results.Results.{Results}
 use Rattle.ucl_order.specs.Results.{is_won, is_drawn, is_lost, penalty}
@@ -17,6 +17,14 @@ with_match r a = record {
   away_wins = r.away_wins + (if a.is_away && is_won a then 1 else 0);
   discipline = r.discipline + penalty a;
 }
+
+-- three for a win, one for a draw
+abbrev pub worth : Appearance → ℕ
+worth a = 3 * (if is_won a then 1 else 0) + (if is_drawn a then 1 else 0)
+
+-- the points that the club is sure of from a match, and the most that it can give
+abbrev pub prospect : Bool → Appearance → ℕ × ℕ
+prospect over a = if over then (worth a, worth a) else (0, 3)
 
 -- no more than a club can do in so many matches, whatever their records hold
 pub record IsWithin (matches : ℕ) (r : Results) : Type 0 where

@@ -1,8 +1,8 @@
 -- What a club has done in a list of matches.
-use Rattle.std.specs.Prelude.{ℕ, ◌+◌, ◌*◌, ◌==◌, not, nat_lt, Bool, true, false, if◌then◌else◌, List, Option, Some, None, length, map, filter, count_by, sum_by, ℤ, pos, ◌-ℤ◌}
+use Rattle.std.specs.Prelude.{◌≢◌, ℕ, ◌+◌, ◌*◌, ◌==◌, not, nat_lt, Bool, true, false, if◌then◌else◌, List, Option, Some, None, length, map, filter, count_by, sum_by, ℤ, pos, ◌-ℤ◌}
 use Rattle.std.specs.List.{filter_map}
 use Rattle.ucl_word.specs.Rules.{is_scheduled, is_finished}
-use Rattle.ucl_board.specs.Fixtures.{fixture_of, match_numbers}
+use Rattle.ucl_board.specs.Fixtures.{IsSlot, fixture_of, match_numbers}
 use Rattle.ucl_board.specs.Words.{game_at}
 use Rattle.ucl_order.specs.declared.game.Match.{Match}
 use Rattle.ucl_order.specs.declared.game.Appearance.{Appearance}
@@ -24,6 +24,10 @@ has_started m = not (is_scheduled m.result.state)
 abbrev pub has_finished : Match → Bool
 has_finished m = is_finished m.result.state
 
+-- two different clubs of the group play
+abbrev pub IsPairing : Match → Type 0
+IsPairing m = IsSlot m.home × IsSlot m.away × (m.home ≢ m.away)
+
 -- those in play and those that are finished
 abbrev pub started : List Match → List Match
 started ms = filter has_started ms
@@ -37,12 +41,16 @@ unfinished ms = filter (λ m. not (has_finished m)) ms
 
 -- One match as one of its clubs sees it. --
 
+abbrev pub seen_from_home : Match → Appearance
+seen_from_home m = record { is_away = false; scored = m.result.home_goals; conceded = m.result.away_goals; yellows = m.result.home_yellows; expulsions = m.result.home_expulsions }
+
+abbrev pub seen_from_away : Match → Appearance
+seen_from_away m = record { is_away = true; scored = m.result.away_goals; conceded = m.result.home_goals; yellows = m.result.away_yellows; expulsions = m.result.away_expulsions }
+
 abbrev pub seen_by : ℕ → Match → Option Appearance
 seen_by club m =
-    if m.home == club
-    then Some (record { is_away = false; scored = m.result.home_goals; conceded = m.result.away_goals; yellows = m.result.home_yellows; expulsions = m.result.home_expulsions })
-    else (if m.away == club
-    then Some (record { is_away = true; scored = m.result.away_goals; conceded = m.result.home_goals; yellows = m.result.away_yellows; expulsions = m.result.away_expulsions })
+    if m.home == club then Some (seen_from_home m)
+    else (if m.away == club then Some (seen_from_away m)
     else None)
 
 abbrev pub is_won : Appearance → Bool

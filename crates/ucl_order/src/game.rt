@@ -2,13 +2,17 @@
 
 ghost use Rattle.std.specs.Prelude.{◌≡◌, ◌≤◌, All, length};
 ghost use Rattle.ucl_word.specs.Record.{IsValid};
+ghost use Rattle.ucl_order.specs.Counting.{prospect, worth};
 ghost use Rattle.ucl_order.specs.Keys.{seen_among, slots_in};
 ghost use Rattle.ucl_order.specs.Order.{is_in};
-ghost use Rattle.ucl_order.specs.Results.{finished, has_finished, has_started, is_drawn, is_lost, is_won, matches_of, penalty, seen_by, started};
+ghost use Rattle.ucl_order.specs.Results.{IsPairing, has_finished, has_started, is_drawn, is_lost, is_won, matches_of, penalty, seen_by, seen_from_away, seen_from_home, started};
 
 use arrayvec::ArrayVec;
 use ucl_board::{Board, away_of, home_of};
 use ucl_word::{MatchNo, MatchRecord, State};
+
+/// The points for a win.
+const WIN: u8 = 3;
 
 /// A match of the group: the slots of its clubs, and what is known of it.
 #[derive(Clone, Copy, Debug, Default, PartialEq, Eq)]
@@ -34,27 +38,42 @@ pub(crate) struct Appearance {
 }
 
 impl Match {
+    /// The match as the home club sees it.
+    pub(crate) fn seen_from_home(&self) -> Appearance
+        ensures { result ≡ seen_from_home self.now }
+    {
+        let game = &self.result;
+        Appearance {
+            is_away: false,
+            scored: game.home_goals,
+            conceded: game.away_goals,
+            yellows: game.home_yellows,
+            expulsions: game.home_expulsions,
+        }
+    }
+
+    /// The match as the visiting club sees it.
+    pub(crate) fn seen_from_away(&self) -> Appearance
+        ensures { result ≡ seen_from_away self.now }
+    {
+        let game = &self.result;
+        Appearance {
+            is_away: true,
+            scored: game.away_goals,
+            conceded: game.home_goals,
+            yellows: game.away_yellows,
+            expulsions: game.away_expulsions,
+        }
+    }
+
     /// The match as the club sees it, if it plays in it.
     pub(crate) fn seen_by(&self, club: u8) -> Option<Appearance>
         ensures { result ≡ seen_by club self.now }
     {
-        let game = &self.result;
         if self.home == club {
-            Some(Appearance {
-                is_away: false,
-                scored: game.home_goals,
-                conceded: game.away_goals,
-                yellows: game.home_yellows,
-                expulsions: game.home_expulsions,
-            })
+            Some(self.seen_from_home())
         } else if self.away == club {
-            Some(Appearance {
-                is_away: true,
-                scored: game.away_goals,
-                conceded: game.home_goals,
-                yellows: game.away_yellows,
-                expulsions: game.away_expulsions,
-            })
+            Some(self.seen_from_away())
         } else {
             None
         }
@@ -114,6 +133,24 @@ impl Appearance {
         self.scored < self.conceded
     }
 
+    /// Three for a win, one for a draw.
+    fn points(&self) -> u8
+        ensures value { result ≡ worth self.now }
+        ensures few { result ≤ 3 }
+    {
+        WIN * u8::from(self.is_won()) + u8::from(self.is_drawn())
+    }
+
+    /// The points that the club is sure of from the match, and the most that it can give: what a match that is over gave, and else no
+    /// point and those of a win.
+    pub(crate) fn prospect(&self, is_over: bool) -> (u8, u8)
+        ensures value { result ≡ prospect is_over self.now }
+        ensures few { (result.0 ≤ 3) × (result.1 ≤ 3) }
+    {
+        let points = self.points();
+        if is_over { (points, points) } else { (0, WIN) }
+    }
+
     /// What the match adds to the disciplinary total of the club: 1 for each yellow card that stands, 3 for each expulsion.
     pub(crate) fn penalty(&self) -> u16
         ensures value { result ≡ penalty self.now }
@@ -138,6 +175,7 @@ pub(crate) fn matches_of(board: &Board) -> ArrayVec<Match, 12>
     ensures value { result.items ≡ matches_of board.now }
     ensures twelve { length result.items ≡ 12 }
     ensures valid { All (λ m. IsValid m.result) result.items }
+    ensures pairings { All IsPairing result.items }
 {
     let mut matches = ArrayVec::new();
     for number in 1..13 {
@@ -160,20 +198,6 @@ pub(crate) fn started(matches: &[Match]) -> ArrayVec<Match, 12>
     let mut chosen = ArrayVec::new();
     for game in matches {
         if game.has_started() {
-            chosen.push(*game);
-        }
-    }
-    chosen
-}
-
-/// The finished matches.
-pub(crate) fn finished(matches: &[Match]) -> ArrayVec<Match, 12>
-    requires { length matches.now ≤ 12 }
-    ensures { result.items ≡ finished matches.now }
-{
-    let mut chosen = ArrayVec::new();
-    for game in matches {
-        if game.has_finished() {
             chosen.push(*game);
         }
     }

@@ -1,16 +1,14 @@
 //! Which clubs are sure of their places.
 
-ghost use Rattle.std.specs.Prelude.{◌≡◌, ℕ, ◌+◌, ◌-◌, ◌*◌, ◌≤◌, All, List, length, map};
+ghost use Rattle.std.specs.Prelude.{◌≡◌, ◌≤◌, All, List, length, map};
 ghost use Rattle.std.specs.List.{list_all};
 ghost use Rattle.ucl_board.specs.Fixtures.{IsSlot};
 ghost use Rattle.ucl_order.specs.declared.game.Match.{Match};
-ghost use Rattle.ucl_order.specs.Counting.{IsWithin};
-ghost use Rattle.ucl_order.specs.Results.{has_finished, played};
+ghost use Rattle.ucl_order.specs.Results.{IsPairing, has_finished};
 ghost use Rattle.ucl_order.specs.Marks.{early_mark, escaped, final_mark, has_escaped, is_rival, mark_by, reach, rivals, sure_points};
 ghost use Rattle.ucl_order.specs.Prospects.{AreProspects};
 
-use crate::game::{Match, finished};
-use crate::results::Results;
+use crate::game::Match;
 
 /// Whether a club is sure of its place among the first two of its group, who go through to the round of 16.
 #[derive(Clone, Copy, Debug, PartialEq, Eq)]
@@ -23,18 +21,6 @@ pub enum Mark {
     Blank,
 }
 
-/// The matches of each club in a group.
-const MATCHES_EACH: u8 = 6;
-
-/// The points of a club that has done this in its finished matches, if it wins each match that it has left.
-fn most_points(done: &Results) -> u8
-    requires within { IsWithin 12 done.now }
-    requires few { done.now.played ≤ 6 }
-    ensures { result ≡ 3 * done.now.wins + done.now.draws + 3 * (6 - done.now.played) }
-{
-    done.points() + 3 * (MATCHES_EACH - done.played)
-}
-
 /// What the clubs can still become, by slot.
 #[derive(Clone, Copy, Debug, PartialEq, Eq)]
 struct Prospects {
@@ -45,27 +31,26 @@ struct Prospects {
 }
 
 impl Prospects {
-    /// What the clubs can still become after these matches, of which each club has six.
+    /// What the clubs can still become after these matches.
     fn of(matches: &[Match]) -> Prospects
         requires short { length matches.now ≤ 12 }
-        requires six { (club : ℕ) → IsSlot club → played club matches.now ≡ 6 }
+        requires pairings { All IsPairing matches.now }
         ensures { AreProspects matches.now result }
     {
-        let done = Results::of_clubs(&finished(matches));
-        Prospects {
-            sure: [
-                done[0].points(),
-                done[1].points(),
-                done[2].points(),
-                done[3].points(),
-            ],
-            reach: [
-                most_points(&done[0]),
-                most_points(&done[1]),
-                most_points(&done[2]),
-                most_points(&done[3]),
-            ],
+        let mut sure = [0; 4];
+        let mut reach = [0; 4];
+        for game in matches {
+            let home = usize::from(game.home - 1);
+            let away = usize::from(game.away - 1);
+            let is_over = game.has_finished();
+            let (home_sure, home_most) = game.seen_from_home().prospect(is_over);
+            let (away_sure, away_most) = game.seen_from_away().prospect(is_over);
+            sure[home] += home_sure;
+            sure[away] += away_sure;
+            reach[home] += home_most;
+            reach[away] += away_most;
         }
+        Prospects { sure, reach }
     }
 
     /// The points of the club from finished matches.
@@ -157,12 +142,12 @@ fn final_mark(order: &[u8; 4], club: u8) -> Mark
     }
 }
 
-/// The marks of the clubs, by place of this order, by matches of which each club has six.
+/// The marks of the clubs, by place of this order, by these matches.
 #[tactic(auto, using(crate::proofs::Marking::early_marks))]
 pub(crate) fn marks_of(matches: &[Match], order: &[u8; 4]) -> [Mark; 4]
     requires short { length matches.now ≤ 12 }
+    requires pairings { All IsPairing matches.now }
     requires slots { All IsSlot order.now }
-    requires six { (club : ℕ) → IsSlot club → played club matches.now ≡ 6 }
     ensures { result ≡ map (mark_by matches.now order.now) order.now }
 {
     let [a, b, c, d] = *order;

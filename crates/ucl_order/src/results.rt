@@ -1,7 +1,7 @@
 //! What a club has done.
 
 ghost use Rattle.std.specs.Prelude.{◌≡◌, ℕ, ◌≤◌, ◌+◌, ◌*◌, All, length};
-ghost use Rattle.ucl_order.specs.Results.{results_of};
+ghost use Rattle.ucl_order.specs.Results.{IsPairing, results_of};
 ghost use Rattle.ucl_order.specs.Counting.{IsWithin, with_match};
 ghost use Rattle.ucl_order.specs.Keys.{slots_in};
 ghost use Rattle.ucl_order.specs.Order.{among};
@@ -89,16 +89,17 @@ impl Results {
 
     /// What each club has done in these matches.
     pub(crate) fn of_clubs(matches: &[Match]) -> [Results; 4]
-        requires { length matches.now ≤ 12 }
+        requires short { length matches.now ≤ 12 }
+        requires pairings { All IsPairing matches.now }
         ensures value { result ≡ results_of_clubs matches.now }
         ensures few { All (IsWithin 12) result }
     {
-        [
-            Results::of(1, matches),
-            Results::of(2, matches),
-            Results::of(3, matches),
-            Results::of(4, matches),
-        ]
+        let mut results = [Results::NONE; 4];
+        for game in matches {
+            results[usize::from(game.home - 1)].add(&game.seen_from_home());
+            results[usize::from(game.away - 1)].add(&game.seen_from_away());
+        }
+        results
     }
 
     /// Three for a win, one for a draw.

@@ -78,14 +78,18 @@ impl MatchRecord {
     fn suits_state(&self) -> bool
         ensures { IsTrue result ↔ SuitsState self.now.state self.now }
     {
-        match self.state {
-            State::Scheduled => *self == MatchRecord::default(),
-            State::InPlay => {
-                1 <= self.number && self.number <= LAST_NUMBER_IN_PLAY && self.reporter != 0
-            }
-            State::Finished => {
-                2 <= self.number && self.number <= LAST_NUMBER && self.reporter != 0
-            }
-        }
+        // All three cases are worked out, with no jump: the state of the next match that is read can't be foreseen.
+        let number = self.number;
+        let has_reporter = self.reporter != 0;
+        let is_scheduled = (self.state == State::Scheduled) & (*self == MatchRecord::default());
+        let is_in_play = (self.state == State::InPlay)
+            & has_reporter
+            & (1 <= number)
+            & (number <= LAST_NUMBER_IN_PLAY);
+        let is_finished = (self.state == State::Finished)
+            & has_reporter
+            & (2 <= number)
+            & (number <= LAST_NUMBER);
+        is_scheduled | is_in_play | is_finished
     }
 }

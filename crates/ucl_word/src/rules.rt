@@ -137,6 +137,8 @@ fn changed(before: &MatchRecord, kind: Kind) -> MatchRecord
 /// `before` has to be a valid record. An accepted event raises the event number by one, sets the reporter, and
 /// changes what its kind names; the record is valid again. A refusal enters nothing. Over counting: where `before`
 /// is the count of a legal list of the match's entries, the new record is the count of that list with this entry.
+// As a call of its own it would hand both records over through memory, byte by byte, which a report on a shared board would wait for.
+#[inline(always)]
 pub fn apply(
     before: &MatchRecord,
     reporter: ReporterNo,

@@ -1,21 +1,22 @@
-use Rattle.std.proofs.Common.{◌≡◌, ◌∙◌, ap, refl, subst, All, List, map}
-use Rattle.std.proofs.lemmas.List.Elements.{All-same}
+use Rattle.std.proofs.Common.{◌≡◌, ◌∙◌, ap, refl, sym, subst, All, List, map}
+use Rattle.std.proofs.lemmas.List.Elements.{All-filter, All-same}
 use Rattle.ucl_order.specs.declared.game.Match.{Match}
 use Rattle.ucl_word.specs.Record.{IsValid}
-use Rattle.ucl_order.specs.Results.{matches_of, played, started}
+use Rattle.ucl_order.specs.Results.{IsPairing, has_started, matches_of, started}
 use Rattle.ucl_order.specs.Marks.{mark_by}
 use Rattle.ucl_order.specs.Rounds.{results_of_clubs}
 use Rattle.ucl_order.specs.Order.{order_of}
 use Rattle.ucl_order.specs.Rows.{rows_of, row_of, IsWithinTable}
 use Rattle.ucl_order.proofs.Fitting.{started_is}
-use Rattle.ucl_order.proofs.Limits.{rows_within, six}
+use Rattle.ucl_order.proofs.Limits.{rows_within}
 use Rattle.ucl_order.proofs.TableRows.{four_rows, order_is, row_of_place}
 use Rattle.ucl_order.proofs.table.standings.Goals as goal
 
-pub marks_of-marks-requires-clause-six : goal.marks_of-marks-requires-clause-six
-marks_of-marks-requires-clause-six c club slot =
-    let same : c.deref-4.result.now ≡ matches_of c.args.board.now = c.deref-4.ensures.0 ∙ c.matches_of-matches.ensures.value in
-    ap (played club) same ∙ six c.args.board.now club slot
+pub of_clubs-results-requires-clause-pairings : goal.of_clubs-results-requires-clause-pairings
+of_clubs-results-requires-clause-pairings c =
+    let P : List Match → Type 0 = All IsPairing in
+    let same : c.deref-2.result.now ≡ started c.matches_of-matches.result.items = c.deref-2.ensures.0 ∙ c.started-started.ensures ∙ ap started c.deref.ensures.0 in
+    subst P (sym same) (All-filter has_started IsPairing c.matches_of-matches.result.items c.matches_of-matches.ensures.pairings)
 
 pub returns-clause-rows : goal.returns-clause-rows
 returns-clause-rows c =

@@ -1,0 +1,10 @@
+use Rattle.std.proofs.Common.{◌≡◌, All, take}
+use Rattle.ucl_order.specs.Counting.{IsWithin}
+use Rattle.ucl_order.specs.Rounds.{results_of_clubs}
+use Rattle.ucl_order.proofs.results.Results.of_clubs.Given as goal
+
+abbrev pub invariant-loop-game : goal.invariant-loop-game
+invariant-loop-game l = record {
+  are : l.results ≡ results_of_clubs (take l.game-index l.matches);
+  within : All (IsWithin l.game-index) l.results;
+}
