@@ -3,6 +3,7 @@ pub mod Faults
 pub mod Lines
 pub mod Feed
 pub mod Nights
+pub mod Workers
 pub mod Show
 pub mod Run
 pub mod Headline

@@ -87,6 +87,10 @@ pub record IsOwnRow (number reporter : ℕ) (rows : List NightEvent) (point : �
 abbrev pub IsFresh : Known → Type 0
 IsFresh k = IsSound k × (k.mine ≡ [])
 
+-- a reader's pass that has shown nothing yet
+abbrev pub IsNew : Known → Type 0
+IsNew k = IsLegal k.seen × (k.shown ≡ [])
+
 -- a reporter's pass, k before and m after, has entered its rows of a script in their order: each has its point, and each entry under the
 -- number of the pass is one of them
 pub record HasEntered (k m : Known) (reporter : ℕ) (rows : List NightEvent) : Type 0 where
@@ -109,8 +113,10 @@ abbrev pub IsLastScreen : List Entry → List ℕ → List ClubEntry → ℕ →
 IsLastScreen seen versions roster group None = versions ≡ []
 IsLastScreen seen versions roster group (Some text) = IsScreenOfLast seen versions roster group text
 
--- a reader's pass m, which came from k, has shown so many versions, none below what k had seen, and this is its last screen
+-- a reader's pass m, which came from k, has seen a legal history and has shown so many versions, none below what k had seen, and this is
+-- its last screen
 pub record HasShown (k m : Known) (readings : ℕ) (roster : List ClubEntry) (group : ℕ) (last : Option (List ℕ)) : Type 0 where
+  pub legal : IsLegal m.seen
   pub on : SeesOn k m
   pub many : length m.shown ≡ readings
   pub low : All (λ version. length k.seen ≤ version) m.shown

@@ -1,8 +1,8 @@
 //! A thread for each worker of a night.
 
-ghost use Rattle.std.specs.Prelude.{◌≡◌, [], IfOk, option_map, string_bytes};
+ghost use Rattle.std.specs.Prelude.{◌≡◌, IfOk};
 ghost use Rattle.ucl_screen.specs.Screen.{IsGroup};
-ghost use Rattle.ucl_night.specs.Nights.{IsFresh, HasEntered, HasShown};
+ghost use Rattle.ucl_night.specs.Workers.{IsFreshOn, IsNewOn, HasEnteredOn, HasShownOn};
 
 use crate::gate::Gate;
 use crate::workers::{Shown, enter_rows, show_screens};
@@ -10,7 +10,7 @@ use std::alloc::Global;
 use std::snapshot::Snapshot;
 use std::sync::Wait;
 use std::thread;
-use std::thread::{Promise, Threads};
+use std::thread::{Promise, PromisedHandle, Scope, Threads};
 use ucl_order::Roster;
 use ucl_pass::LiveBoard;
 use ucl_screen::NightEvent;
@@ -43,7 +43,7 @@ impl<B: LiveBoard> Entering<B> {
 }
 
 impl<B: LiveBoard> Promise<B::ReporterPass> for Entering<B> {
-    ghost kept_by = { λ p pass. B.is_reporter p.board.value pass × HasEntered (B.reporter p.before.value) (B.reporter pass) p.reporter p.rows.value.items };
+    ghost kept_by = { λ p. HasEnteredOn B.LiveBoard p.board.value p.before.value p.reporter p.rows.value.items };
 }
 
 /// What a reader's thread promises of what it hands back.
@@ -82,12 +82,79 @@ impl<B: LiveBoard> Showing<B> {
 }
 
 impl<B: LiveBoard> Promise<Result<Shown<B::ReaderPass>, OutOfMemory>> for Showing<B> {
-    ghost kept_by = { λ p end. IfOk end (λ end. B.is_reader p.board.value end.pass × HasShown (B.reader p.before.value) (B.reader end.pass) p.readings p.roster.value p.group (option_map string_bytes end.last)) };
+    ghost kept_by = { λ p end. IfOk end (HasShownOn B.LiveBoard p.board.value p.before.value p.readings p.roster.value p.group) };
 }
 
 /// No thread could be had for a worker.
 #[derive(Clone, Copy, Debug, PartialEq, Eq)]
 pub struct NoThread;
+
+/// Starts the thread of a reporter, who enters its rows of the script.
+fn start_reporter<'s, E, B: LiveBoard, G: Gate, R: Wait + Sync>(
+    scope: &Scope<'s, E>,
+    rt: &'s R,
+    board: &'s B,
+    pass: B::ReporterPass,
+    reporter: u8,
+    rows: &'s Vec<NightEvent>,
+    gate: &'s G,
+) -> Result<PromisedHandle<B::ReporterPass, Entering<B>>, NoThread>
+where
+    B::ReporterPass: 's,
+    requires fresh { IsFreshOn B.LiveBoard board.now pass }
+    ensures board { IfOk result (λ worker. worker.promise.board.value ≡ board.now) }
+    ensures before { IfOk result (λ worker. worker.promise.before.value ≡ pass) }
+    ensures rows { IfOk result (λ worker. worker.promise.rows.value ≡ rows.now) }
+    ensures reporter { IfOk result (λ worker. worker.promise.reporter ≡ reporter) }
+{
+    let promise = Entering::of(board, &pass, rows, reporter);
+    let started = scope.spawn_with(
+        promise,
+        move || -> B::ReporterPass
+            requires { IsFreshOn B.LiveBoard board.now pass }
+            ensures { HasEnteredOn B.LiveBoard board.entry.now pass reporter rows.entry.now.items result }
+        { enter_rows(rt, board, pass, reporter, rows, gate) },
+    );
+    started.map_err(|_| NoThread)
+}
+
+/// Starts the thread of a reader, who takes so many readings.
+fn start_reader<'s, E, B: LiveBoard, G: Gate, R: Wait + Sync>(
+    scope: &Scope<'s, E>,
+    rt: &'s R,
+    alloc: Global,
+    board: &'s B,
+    pass: B::ReaderPass,
+    worker: u8,
+    readings: u32,
+    roster: &'s Roster,
+    group: u8,
+    gate: &'s G,
+) -> Result<PromisedHandle<Result<Shown<B::ReaderPass>, OutOfMemory>, Showing<B>>, NoThread>
+where
+    B::ReaderPass: 's,
+    requires new { IsNewOn B.LiveBoard board.now pass }
+    requires group { IsGroup group }
+    ensures board { IfOk result (λ worker. worker.promise.board.value ≡ board.now) }
+    ensures before { IfOk result (λ worker. worker.promise.before.value ≡ pass) }
+    ensures roster { IfOk result (λ worker. worker.promise.roster.value ≡ roster.now) }
+    ensures group { IfOk result (λ worker. worker.promise.group ≡ group) }
+    ensures readings { IfOk result (λ worker. worker.promise.readings ≡ readings) }
+{
+    let promise = Showing::of(board, &pass, roster, group, readings);
+    let started = scope.spawn_with(
+        promise,
+        move || -> Result<Shown<B::ReaderPass>, OutOfMemory>
+            requires { IsNewOn B.LiveBoard board.now pass × IsGroup group }
+            ensures { IfOk result (HasShownOn B.LiveBoard board.entry.now pass readings roster.entry.now group) }
+        {
+            show_screens(
+                rt, alloc, board, pass, worker, readings, roster, group, gate,
+            )
+        },
+    );
+    started.map_err(|_| NoThread)
+}
 
 /// What the four workers hand back.
 #[derive(Drop)]
@@ -110,13 +177,13 @@ pub fn work<B: LiveBoard, G: Gate, R: Threads + Wait + Sync>(
     readings: u32,
     gate: &G,
 ) -> Result<Handed<B::ReaderPass, B::ReporterPass>, NoThread>
-    requires reporters { (B.is_reporter board.now reporters.0 × IsFresh (B.reporter reporters.0)) × (B.is_reporter board.now reporters.1 × IsFresh (B.reporter reporters.1)) }
-    requires readers { (B.is_reader board.now readers.0 × ((B.reader readers.0).shown ≡ [])) × (B.is_reader board.now readers.1 × ((B.reader readers.1).shown ≡ [])) }
+    requires reporters { IsFreshOn B.LiveBoard board.now reporters.0 × IsFreshOn B.LiveBoard board.now reporters.1 }
+    requires readers { IsNewOn B.LiveBoard board.now readers.0 × IsNewOn B.LiveBoard board.now readers.1 }
     requires group { IsGroup group }
-    ensures first { IfOk result (λ h. B.is_reporter board.entry.now h.reporters.0 × HasEntered (B.reporter reporters.0) (B.reporter h.reporters.0) 1 rows.entry.now.items) }
-    ensures second { IfOk result (λ h. B.is_reporter board.entry.now h.reporters.1 × HasEntered (B.reporter reporters.1) (B.reporter h.reporters.1) 2 rows.entry.now.items) }
-    ensures left { IfOk result (λ h. IfOk h.readers.0 (λ end. B.is_reader board.entry.now end.pass × HasShown (B.reader readers.0) (B.reader end.pass) readings roster.entry.now group (option_map string_bytes end.last))) }
-    ensures right { IfOk result (λ h. IfOk h.readers.1 (λ end. B.is_reader board.entry.now end.pass × HasShown (B.reader readers.1) (B.reader end.pass) readings roster.entry.now group (option_map string_bytes end.last))) }
+    ensures first { IfOk result (λ h. HasEnteredOn B.LiveBoard board.entry.now reporters.0 1 rows.entry.now.items h.reporters.0) }
+    ensures second { IfOk result (λ h. HasEnteredOn B.LiveBoard board.entry.now reporters.1 2 rows.entry.now.items h.reporters.1) }
+    ensures left { IfOk result (λ h. IfOk h.readers.0 (HasShownOn B.LiveBoard board.entry.now readers.0 readings roster.entry.now group)) }
+    ensures right { IfOk result (λ h. IfOk h.readers.1 (HasShownOn B.LiveBoard board.entry.now readers.1 readings roster.entry.now group)) }
 {
     let (first, second) = reporters;
     let (left, right) = readers;
@@ -124,40 +191,20 @@ pub fn work<B: LiveBoard, G: Gate, R: Threads + Wait + Sync>(
         thread::scope_env(),
         rt,
         move |scope| -> Result<Handed<B::ReaderPass, B::ReporterPass>, NoThread>
-            requires { (B.is_reporter board.now first × IsFresh (B.reporter first)) × (B.is_reporter board.now second × IsFresh (B.reporter second)) × (B.is_reader board.now left × ((B.reader left).shown ≡ [])) × (B.is_reader board.now right × ((B.reader right).shown ≡ [])) × IsGroup group }
-            ensures { IfOk result (λ h. (B.is_reporter board.entry.now h.reporters.0 × HasEntered (B.reporter first) (B.reporter h.reporters.0) 1 rows.entry.now.items) × (B.is_reporter board.entry.now h.reporters.1 × HasEntered (B.reporter second) (B.reporter h.reporters.1) 2 rows.entry.now.items) × IfOk h.readers.0 (λ end. B.is_reader board.entry.now end.pass × HasShown (B.reader left) (B.reader end.pass) readings roster.entry.now group (option_map string_bytes end.last)) × IfOk h.readers.1 (λ end. B.is_reader board.entry.now end.pass × HasShown (B.reader right) (B.reader end.pass) readings roster.entry.now group (option_map string_bytes end.last))) }
+            requires reporters { IsFreshOn B.LiveBoard board.now first × IsFreshOn B.LiveBoard board.now second }
+            requires readers { IsNewOn B.LiveBoard board.now left × IsNewOn B.LiveBoard board.now right × IsGroup group }
+            ensures first { IfOk result (λ h. HasEnteredOn B.LiveBoard board.entry.now first 1 rows.entry.now.items h.reporters.0) }
+            ensures second { IfOk result (λ h. HasEnteredOn B.LiveBoard board.entry.now second 2 rows.entry.now.items h.reporters.1) }
+            ensures left { IfOk result (λ h. IfOk h.readers.0 (HasShownOn B.LiveBoard board.entry.now left readings roster.entry.now group)) }
+            ensures right { IfOk result (λ h. IfOk h.readers.1 (HasShownOn B.LiveBoard board.entry.now right readings roster.entry.now group)) }
         {
-            let enters_1 = Entering::of(board, &first, rows, 1);
-            let enters_2 = Entering::of(board, &second, rows, 2);
-            let shows_3 = Showing::of(board, &left, roster, group, readings);
-            let shows_4 = Showing::of(board, &right, roster, group, readings);
-            let worker_1 = scope.spawn_with(
-                enters_1,
-                move || -> B::ReporterPass
-                    requires { B.is_reporter board.now first × IsFresh (B.reporter first) }
-                    ensures { B.is_reporter board.entry.now result × HasEntered (B.reporter first) (B.reporter result) 1 rows.entry.now.items }
-                { enter_rows(rt, board, first, 1, rows, gate) },
+            let worker_1 = start_reporter(scope, rt, board, first, 1, rows, gate);
+            let worker_2 = start_reporter(scope, rt, board, second, 2, rows, gate);
+            let worker_3 = start_reader(
+                scope, rt, alloc, board, left, 3, readings, roster, group, gate,
             );
-            let worker_2 = scope.spawn_with(
-                enters_2,
-                move || -> B::ReporterPass
-                    requires { B.is_reporter board.now second × IsFresh (B.reporter second) }
-                    ensures { B.is_reporter board.entry.now result × HasEntered (B.reporter second) (B.reporter result) 2 rows.entry.now.items }
-                { enter_rows(rt, board, second, 2, rows, gate) },
-            );
-            let worker_3 = scope.spawn_with(
-                shows_3,
-                move || -> Result<Shown<B::ReaderPass>, OutOfMemory>
-                    requires { (B.is_reader board.now left × ((B.reader left).shown ≡ [])) × IsGroup group }
-                    ensures { IfOk result (λ end. B.is_reader board.entry.now end.pass × HasShown (B.reader left) (B.reader end.pass) readings roster.entry.now group (option_map string_bytes end.last)) }
-                { show_screens(rt, alloc, board, left, 3, readings, roster, group, gate) },
-            );
-            let worker_4 = scope.spawn_with(
-                shows_4,
-                move || -> Result<Shown<B::ReaderPass>, OutOfMemory>
-                    requires { (B.is_reader board.now right × ((B.reader right).shown ≡ [])) × IsGroup group }
-                    ensures { IfOk result (λ end. B.is_reader board.entry.now end.pass × HasShown (B.reader right) (B.reader end.pass) readings roster.entry.now group (option_map string_bytes end.last)) }
-                { show_screens(rt, alloc, board, right, 4, readings, roster, group, gate) },
+            let worker_4 = start_reader(
+                scope, rt, alloc, board, right, 4, readings, roster, group, gate,
             );
             match (worker_1, worker_2, worker_3, worker_4) {
                 (Ok(one), Ok(two), Ok(three), Ok(four)) => Ok(Handed {

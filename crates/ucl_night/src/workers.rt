@@ -1,8 +1,8 @@
 //! What each thread of a night does.
 
-ghost use Rattle.std.specs.Prelude.{◌≡◌, [], IfOk, option_map, string_bytes};
+ghost use Rattle.std.specs.Prelude.{IfOk, option_map, string_bytes};
 ghost use Rattle.ucl_screen.specs.Screen.{IsGroup};
-ghost use Rattle.ucl_night.specs.Nights.{IsFresh, HasEntered, HasShown};
+ghost use Rattle.ucl_night.specs.Nights.{IsFresh, IsNew, HasEntered, HasShown};
 
 use crate::gate::Gate;
 use std::alloc::Global;
@@ -59,7 +59,7 @@ pub fn show_screens<B: LiveBoard, G: Gate, R: Wait>(
     gate: &G,
 ) -> Result<Shown<B::ReaderPass>, OutOfMemory>
     requires own { B.is_reader board.now pass }
-    requires fresh { (B.reader pass).shown ≡ [] }
+    requires new { IsNew (B.reader pass) }
     requires group { IsGroup group }
     ensures own { IfOk result (λ end. B.is_reader board.entry.now end.pass) }
     ensures shown { IfOk result (λ end. HasShown (B.reader pass) (B.reader end.pass) readings roster.entry.now group (option_map string_bytes end.last)) }
