@@ -87,7 +87,7 @@ pub record IsOwnRow (number reporter : ℕ) (rows : List NightEvent) (point : �
 abbrev pub IsFresh : Known → Type 0
 IsFresh k = IsSound k × (k.mine ≡ [])
 
--- a reader's pass that has shown nothing yet
+-- a reader's pass that has seen a legal history and has shown nothing yet
 abbrev pub IsNew : Known → Type 0
 IsNew k = IsLegal k.seen × (k.shown ≡ [])
 

@@ -11,7 +11,7 @@ module _ {B R P : Type 0} (live : Ghosts B R P) (board : B) where
   abbrev pub IsFreshOn : P → Type 0
   IsFreshOn pass = live.is_reporter board pass × IsFresh (live.reporter pass)
 
-  -- a reader's pass of the board that has shown nothing yet
+  -- a reader's pass of the board that has seen a legal history and has shown nothing yet
   abbrev pub IsNewOn : R → Type 0
   IsNewOn pass = live.is_reader board pass × IsNew (live.reader pass)
 
