@@ -1,43 +1,38 @@
-//! Nights of each subject, with a thread for each worker. What a thread takes in has to be of types that are known, so each subject has
-//! functions of its own.
+//! Nights of each subject, with a thread for each worker. What a thread takes in has to be of types that are known, so a macro writes
+//! the same body for each subject.
 
-use crate::cell_subject::{CellReader, CellReporter, CellSubject};
-use crate::locked_words::{Locked, LockedReporter, LockedSubject};
-use crate::nights::{Nights, Plan, ReaderStart, ReporterStart, Staff, enter_nights, read_nights};
-use crate::plain_words::{PlainReader, PlainReporter, PlainSubject};
-use crate::tally::{Cut, Tally};
-use crate::word_subject::{WordReader, WordReporter, WordSubject};
+use crate::cell_subject::CellSubject;
+use crate::locked_words::LockedSubject;
+use crate::nights::{Nights, Plan, Staff, enter_nights, read_nights};
+use crate::plain_words::PlainSubject;
+use crate::word_subject::WordSubject;
 use anyhow::Result;
 use std::alloc::Global;
 use std::sync::Wait;
 use std::thread;
-use std::thread::{JoinHandle, Threads};
+use std::thread::Threads;
 use std::time::Clock;
 
-fn start_word_reader<R: Threads + Wait + Clock + Copy + Send + 'static>(
-    rt: R,
-    start: ReaderStart<WordReader>,
-    cut: Cut,
-) -> Option<JoinHandle<Tally>> {
-    let (nights, tally) = start;
-    thread::spawn(
-        &rt,
-        move || read_nights::<WordSubject, R>(&rt, nights, cut, tally),
-    )
-    .ok()
-}
-
-fn start_word_reporter<R: Threads + Wait + Clock + Copy + Send + 'static>(
-    rt: R,
-    start: ReporterStart<WordReporter>,
-    index: u8,
-    plan: Plan,
-) -> Option<JoinHandle<()>> {
-    let (nights, told) = start;
-    thread::spawn(&rt, move || {
-        enter_nights::<WordSubject, R>(&rt, nights, index, plan, told)
-    })
-    .ok()
+/// Starts the workers of a plan, and holds nights of the subject. `R` is the runtime's type where the macro is called.
+macro_rules! hold_nights {
+    ($subject:ty, $rt:ident, $alloc:ident, $plan:ident, $millis:ident) => {{
+        let mut staff: Staff<$subject> = Staff::new($alloc, $plan)?;
+        for _ in 0..$plan.readers {
+            let (nights, tally) = staff.next_reader()?;
+            let reader = thread::spawn(&$rt, move || {
+                read_nights::<$subject, R>(&$rt, nights, $plan.cut(), tally)
+            });
+            staff.add_reader(reader.ok())?;
+        }
+        for index in 0..$plan.reporters {
+            let (nights, told) = staff.next_reporter()?;
+            let reporter = thread::spawn(&$rt, move || {
+                enter_nights::<$subject, R>(&$rt, nights, index, $plan, told)
+            });
+            staff.add_reporter(reporter.ok())?;
+        }
+        staff.work(&$rt, $millis)
+    }};
 }
 
 /// Nights of the word board.
@@ -47,42 +42,7 @@ pub fn word_nights<R: Threads + Wait + Clock + Copy + Send + 'static>(
     plan: Plan,
     millis: u64,
 ) -> Result<Nights> {
-    let mut staff: Staff<WordSubject> = Staff::new(alloc, plan)?;
-    for _ in 0..plan.readers {
-        let start = staff.next_reader()?;
-        staff.add_reader(start_word_reader(rt, start, plan.cut()))?;
-    }
-    for index in 0..plan.reporters {
-        let start = staff.next_reporter()?;
-        staff.add_reporter(start_word_reporter(rt, start, index, plan))?;
-    }
-    staff.work(&rt, millis)
-}
-
-fn start_cell_reader<R: Threads + Wait + Clock + Copy + Send + 'static>(
-    rt: R,
-    start: ReaderStart<CellReader>,
-    cut: Cut,
-) -> Option<JoinHandle<Tally>> {
-    let (nights, tally) = start;
-    thread::spawn(
-        &rt,
-        move || read_nights::<CellSubject, R>(&rt, nights, cut, tally),
-    )
-    .ok()
-}
-
-fn start_cell_reporter<R: Threads + Wait + Clock + Copy + Send + 'static>(
-    rt: R,
-    start: ReporterStart<CellReporter>,
-    index: u8,
-    plan: Plan,
-) -> Option<JoinHandle<()>> {
-    let (nights, told) = start;
-    thread::spawn(&rt, move || {
-        enter_nights::<CellSubject, R>(&rt, nights, index, plan, told)
-    })
-    .ok()
+    hold_nights!(WordSubject, rt, alloc, plan, millis)
 }
 
 /// Nights of the cell board.
@@ -92,42 +52,7 @@ pub fn cell_nights<R: Threads + Wait + Clock + Copy + Send + 'static>(
     plan: Plan,
     millis: u64,
 ) -> Result<Nights> {
-    let mut staff: Staff<CellSubject> = Staff::new(alloc, plan)?;
-    for _ in 0..plan.readers {
-        let start = staff.next_reader()?;
-        staff.add_reader(start_cell_reader(rt, start, plan.cut()))?;
-    }
-    for index in 0..plan.reporters {
-        let start = staff.next_reporter()?;
-        staff.add_reporter(start_cell_reporter(rt, start, index, plan))?;
-    }
-    staff.work(&rt, millis)
-}
-
-fn start_plain_reader<R: Threads + Wait + Clock + Copy + Send + 'static>(
-    rt: R,
-    start: ReaderStart<PlainReader>,
-    cut: Cut,
-) -> Option<JoinHandle<Tally>> {
-    let (nights, tally) = start;
-    thread::spawn(
-        &rt,
-        move || read_nights::<PlainSubject, R>(&rt, nights, cut, tally),
-    )
-    .ok()
-}
-
-fn start_plain_reporter<R: Threads + Wait + Clock + Copy + Send + 'static>(
-    rt: R,
-    start: ReporterStart<PlainReporter>,
-    index: u8,
-    plan: Plan,
-) -> Option<JoinHandle<()>> {
-    let (nights, told) = start;
-    thread::spawn(&rt, move || {
-        enter_nights::<PlainSubject, R>(&rt, nights, index, plan, told)
-    })
-    .ok()
+    hold_nights!(CellSubject, rt, alloc, plan, millis)
 }
 
 /// Nights of plain words.
@@ -137,42 +62,7 @@ pub fn plain_nights<R: Threads + Wait + Clock + Copy + Send + 'static>(
     plan: Plan,
     millis: u64,
 ) -> Result<Nights> {
-    let mut staff: Staff<PlainSubject> = Staff::new(alloc, plan)?;
-    for _ in 0..plan.readers {
-        let start = staff.next_reader()?;
-        staff.add_reader(start_plain_reader(rt, start, plan.cut()))?;
-    }
-    for index in 0..plan.reporters {
-        let start = staff.next_reporter()?;
-        staff.add_reporter(start_plain_reporter(rt, start, index, plan))?;
-    }
-    staff.work(&rt, millis)
-}
-
-fn start_locked_reader<R: Threads + Wait + Clock + Copy + Send + 'static>(
-    rt: R,
-    start: ReaderStart<Locked>,
-    cut: Cut,
-) -> Option<JoinHandle<Tally>> {
-    let (nights, tally) = start;
-    thread::spawn(
-        &rt,
-        move || read_nights::<LockedSubject, R>(&rt, nights, cut, tally),
-    )
-    .ok()
-}
-
-fn start_locked_reporter<R: Threads + Wait + Clock + Copy + Send + 'static>(
-    rt: R,
-    start: ReporterStart<LockedReporter>,
-    index: u8,
-    plan: Plan,
-) -> Option<JoinHandle<()>> {
-    let (nights, told) = start;
-    thread::spawn(&rt, move || {
-        enter_nights::<LockedSubject, R>(&rt, nights, index, plan, told)
-    })
-    .ok()
+    hold_nights!(PlainSubject, rt, alloc, plan, millis)
 }
 
 /// Nights of words under a lock.
@@ -182,14 +72,5 @@ pub fn locked_nights<R: Threads + Wait + Clock + Copy + Send + 'static>(
     plan: Plan,
     millis: u64,
 ) -> Result<Nights> {
-    let mut staff: Staff<LockedSubject> = Staff::new(alloc, plan)?;
-    for _ in 0..plan.readers {
-        let start = staff.next_reader()?;
-        staff.add_reader(start_locked_reader(rt, start, plan.cut()))?;
-    }
-    for index in 0..plan.reporters {
-        let start = staff.next_reporter()?;
-        staff.add_reporter(start_locked_reporter(rt, start, index, plan))?;
-    }
-    staff.work(&rt, millis)
+    hold_nights!(LockedSubject, rt, alloc, plan, millis)
 }
