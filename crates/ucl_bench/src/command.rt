@@ -4,9 +4,10 @@ use crate::cell_subject::CellSubject;
 use crate::locked_words::LockedSubject;
 use crate::nights::{Nights, Plan};
 use crate::one_thread::{Chunks, measure_read, measure_report};
+use crate::plain_table::PlainTable;
 use crate::plain_words::PlainSubject;
 use crate::starts::{cell_nights, locked_nights, plain_nights, word_nights};
-use crate::tables::{boards_of, measure_screens, measure_standings};
+use crate::tables::{OurTable, boards_of, measure_screens, measure_standings};
 use crate::word_subject::WordSubject;
 use anyhow::{Context, Result};
 use std::alloc::Global;
@@ -21,6 +22,7 @@ cell_board read report mix-R-W paced-R-W
 plain_words read report mix-R-W paced-R-W
 locked_words read report mix-R-W paced-R-W
 our_table standings screen
+plain_table standings screen
 ";
 
 /// A workload of a board.
@@ -102,18 +104,24 @@ fn nights_of<R: Threads + Wait + Clock + Copy + Send + 'static>(
 fn run_table<R: Print + Files + AllocGlobal + Wait + Clock>(
     rt: &R,
     alloc: Global,
+    subject: &str,
     name: &str,
     millis: u64,
     path: &str,
 ) -> Result<()> {
     let text = fs::read_to_string(rt, path)?;
     let boards = boards_of(alloc, text.as_str())?;
-    let rounds = match name {
-        "standings" => measure_standings(rt, alloc, boards.as_slice(), millis)?,
-        "screen" => measure_screens(rt, alloc, boards.as_slice(), millis)?,
+    let boards = boards.as_slice();
+    let rounds = match (subject, name) {
+        ("our_table", "standings") => measure_standings::<OurTable, R>(rt, alloc, boards, millis)?,
+        ("our_table", "screen") => measure_screens::<OurTable, R>(rt, alloc, boards, millis)?,
+        ("plain_table", "standings") => {
+            measure_standings::<PlainTable, R>(rt, alloc, boards, millis)?
+        }
+        ("plain_table", "screen") => measure_screens::<PlainTable, R>(rt, alloc, boards, millis)?,
         _ => anyhow::bail!("no such workload"),
     };
-    println!(rt; "{{\"subject\":\"our_table\",\"workload\":\"{name}\",{rounds}}}")?;
+    println!(rt; "{{\"subject\":\"{subject}\",\"workload\":\"{name}\",{rounds}}}")?;
     Ok(())
 }
 
@@ -144,8 +152,8 @@ pub fn run<R: Print + Files + AllocGlobal + Threads + Wait + Clock + Copy + Send
         .parse::<u64>()
         .ok()
         .context("how many milliseconds?")?;
-    if subject == "our_table" {
-        return run_table(&rt, alloc, name, millis, word_at(words, 5));
+    if subject == "our_table" || subject == "plain_table" {
+        return run_table(&rt, alloc, subject, name, millis, word_at(words, 5));
     }
     let head = format!(in alloc; "{{\"subject\":\"{subject}\",\"workload\":\"{name}\",")?;
     match workload_of(name).context("no such workload")? {

@@ -9,6 +9,7 @@ mod events;
 mod locked_words;
 mod nights;
 mod one_thread;
+mod plain_table;
 mod plain_words;
 mod starts;
 mod subject;

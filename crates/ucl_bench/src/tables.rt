@@ -1,7 +1,7 @@
 //! The table and the screen of boards that a file lists.
 
 use crate::clock::{Quotient, nanos, nanos_since};
-use anyhow::{Context, Result};
+use anyhow::{Context, Result, ensure};
 use std::alloc::Global;
 use std::fmt;
 use std::sync::Wait;
@@ -9,6 +9,7 @@ use std::time::Clock;
 use ucl_board::Board;
 use ucl_order::{Club, Roster, Row, standings};
 use ucl_screen::screen;
+use ucl_word::OutOfMemory;
 
 /// How often all boards were taken, and the least time that it took.
 #[derive(Clone, Copy)]
@@ -72,19 +73,77 @@ fn roster(alloc: Global) -> Result<Roster> {
     Roster::new(clubs).ok().context("no roster")
 }
 
-#[inline(never)]
-fn standings_once(board: &Board, roster: &Roster) -> [Row; 4] {
-    standings(board, roster)
+/// A table under measure.
+pub trait Table {
+    fn standings(board: &Board, roster: &Roster) -> [Row; 4];
+
+    /// The screen of group A.
+    fn screen(alloc: Global, board: &Board, roster: &Roster) -> Result<String, OutOfMemory>;
 }
 
-/// Takes the table of all boards, again and again, for so many milliseconds.
-pub fn measure_standings<R: Wait + Clock>(
+/// The table that is proved.
+pub struct OurTable;
+
+impl Table for OurTable {
+    fn standings(board: &Board, roster: &Roster) -> [Row; 4] {
+        standings(board, roster)
+    }
+
+    fn screen(alloc: Global, board: &Board, roster: &Roster) -> Result<String, OutOfMemory> {
+        screen(alloc, board, roster, b'A')
+    }
+}
+
+/// A table that is really taken: the call is not put into the caller, so its answer is made in full.
+#[inline(never)]
+fn standings_once<T: Table>(board: &Board, roster: &Roster) -> [Row; 4] {
+    T::standings(board, roster)
+}
+
+/// A screen that is really made.
+#[inline(never)]
+fn screen_once<T: Table>(
+    alloc: Global,
+    board: &Board,
+    roster: &Roster,
+) -> Result<String, OutOfMemory> {
+    T::screen(alloc, board, roster)
+}
+
+/// Stops where the table of a board is not that of `standings`.
+fn compare_standings<T: Table>(boards: &[Board], roster: &Roster) -> Result<()> {
+    for (index, board) in boards.iter().enumerate() {
+        let rows = standings_once::<T>(board, roster);
+        ensure!(
+            rows == standings(board, roster),
+            "board {index}, from 0: another table"
+        );
+    }
+    Ok(())
+}
+
+/// Stops where the screen of a board is not that of `screen`.
+fn compare_screens<T: Table>(alloc: Global, boards: &[Board], roster: &Roster) -> Result<()> {
+    for (index, board) in boards.iter().enumerate() {
+        let text = screen_once::<T>(alloc, board, roster)?;
+        let ours = screen(alloc, board, roster, b'A')?;
+        ensure!(
+            text.as_str() == ours.as_str(),
+            "board {index}, from 0: another screen"
+        );
+    }
+    Ok(())
+}
+
+/// Takes the table of all boards, again and again, for so many milliseconds, once each table is seen to be that of `standings`.
+pub fn measure_standings<T: Table, R: Wait + Clock>(
     rt: &R,
     alloc: Global,
     boards: &[Board],
     millis: u64,
 ) -> Result<Rounds> {
     let roster = roster(alloc)?;
+    compare_standings::<T>(boards, &roster)?;
     let mut answers = 0u64;
     let mut least = u64::MAX;
     let mut rounds = 0u64;
@@ -92,7 +151,7 @@ pub fn measure_standings<R: Wait + Clock>(
     for _ in rt.forever() {
         let from = nanos(rt);
         for board in boards {
-            let [first, ..] = standings_once(board, &roster);
+            let [first, ..] = standings_once::<T>(board, &roster);
             answers = answers.wrapping_add(u64::from(first.slot));
         }
         least = least.min(nanos_since(rt, from));
@@ -110,14 +169,15 @@ pub fn measure_standings<R: Wait + Clock>(
     })
 }
 
-/// Takes the screen of all boards, again and again, for so many milliseconds.
-pub fn measure_screens<R: Wait + Clock>(
+/// Makes the screen of all boards, again and again, for so many milliseconds, once each screen is seen to be that of `screen`.
+pub fn measure_screens<T: Table, R: Wait + Clock>(
     rt: &R,
     alloc: Global,
     boards: &[Board],
     millis: u64,
 ) -> Result<Rounds> {
     let roster = roster(alloc)?;
+    compare_screens::<T>(alloc, boards, &roster)?;
     let mut answers = 0u64;
     let mut least = u64::MAX;
     let mut rounds = 0u64;
@@ -125,7 +185,7 @@ pub fn measure_screens<R: Wait + Clock>(
     for _ in rt.forever() {
         let from = nanos(rt);
         for board in boards {
-            let text = screen(alloc, board, &roster, b'A')?;
+            let text = screen_once::<T>(alloc, board, &roster)?;
             answers = answers.wrapping_add(text.len() as u64);
         }
         least = least.min(nanos_since(rt, from));
