@@ -35,18 +35,20 @@ pub enum Workload {
 
 /// A workload by its name: `read`, `report`, `mix-R-W` or `paced-R-W`, with R readers and W reporters, each 0 to 12.
 pub fn workload_of(name: &str) -> Option<Workload> {
-    let mut parts = name.split('-');
-    let kind = parts.next()?;
-    let is_paced = match kind {
+    match name {
         "read" => return Some(Workload::Read),
         "report" => return Some(Workload::Report),
+        _ => {}
+    }
+    let mut parts = name.split('-');
+    let is_paced = match parts.next()? {
         "mix" => false,
         "paced" => true,
         _ => return None,
     };
     let readers = parts.next()?.parse::<u8>().ok()?;
     let reporters = parts.next()?.parse::<u8>().ok()?;
-    if readers > 12 || reporters > 12 {
+    if readers > 12 || reporters > 12 || parts.next().is_some() {
         return None;
     }
     Some(Workload::Nights(Plan {
@@ -172,3 +174,6 @@ pub fn run<R: Print + Files + AllocGlobal + Threads + Wait + Clock + Copy + Send
     }
     Ok(())
 }
+
+#[cfg(test)]
+mod tests;

@@ -151,3 +151,6 @@ fn stand_in_turn(words: &[u64; 12], cut: Cut) -> bool {
     }
     true
 }
+
+#[cfg(test)]
+mod tests;

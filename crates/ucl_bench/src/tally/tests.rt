@@ -1,0 +1,154 @@
+//! The check of readings, and the places of times.
+
+use super::{Cut, PLACES, is_whole, place_of, time_of};
+
+// Words of the events of a night, by reporter 1: a kick-off, then a home goal and a home goal disallowed in turn, and last full time.
+const KICKED_OFF: u64 = 0x0000400000000401;
+
+const AFTER_2: u64 = 0x0000400000001402;
+
+const AFTER_99: u64 = 0x0000400000000463;
+
+const AFTER_100: u64 = 0x0000400000001464;
+
+const AFTER_1022: u64 = 0x00004000000017fe;
+
+const ENDED: u64 = 0x0000400000001bff;
+
+const PACED_BY_ONE: Cut = Cut {
+    events: 100,
+    reporters: 1,
+};
+
+const PACED_BY_TWO: Cut = Cut {
+    events: 100,
+    reporters: 2,
+};
+
+const WHOLE_BY_ONE: Cut = Cut {
+    events: 1023,
+    reporters: 1,
+};
+
+/// The words of a night whose first matches have these, and whose others are scheduled.
+fn first_words(first: [u64; 3]) -> [u64; 12] {
+    let [a, b, c] = first;
+    [a, b, c, 0, 0, 0, 0, 0, 0, 0, 0, 0]
+}
+
+#[test]
+fn words_of_one_moment(rt: HostRuntime) {
+    for (name, first, version, cut) in [
+        ("fresh", [0, 0, 0], 0, PACED_BY_ONE),
+        ("kicked off", [KICKED_OFF, 0, 0], 1, PACED_BY_ONE),
+        ("second match", [AFTER_100, AFTER_2, 0], 102, PACED_BY_ONE),
+        ("next is due", [AFTER_100, 0, 0], 100, PACED_BY_ONE),
+        ("two at once", [AFTER_99, KICKED_OFF, 0], 100, PACED_BY_TWO),
+        (
+            "two go on",
+            [AFTER_100, AFTER_99, AFTER_2],
+            201,
+            PACED_BY_TWO,
+        ),
+        ("to full time", [ENDED, AFTER_1022, 0], 2045, WHOLE_BY_ONE),
+    ] {
+        assert!(rt; is_whole(&first_words(first), version, cut), "{name}");
+    }
+    assert!(rt; is_whole(&[ENDED; 12], 12276, WHOLE_BY_ONE), "all ended");
+}
+
+/// What a single collect can give: it copies a match, and a later one when that has gone on.
+#[test]
+fn words_of_two_moments(rt: HostRuntime) {
+    for (name, first, version, cut) in [
+        ("stands", [AFTER_99, KICKED_OFF, 0], 100, PACED_BY_ONE),
+        ("not begun", [0, KICKED_OFF, 0], 1, PACED_BY_ONE),
+        ("passed over", [AFTER_100, 0, AFTER_2], 102, PACED_BY_ONE),
+        (
+            "no full time",
+            [AFTER_1022, KICKED_OFF, 0],
+            1023,
+            WHOLE_BY_ONE,
+        ),
+        (
+            "of reporter 2",
+            [AFTER_99, 0, KICKED_OFF],
+            100,
+            PACED_BY_TWO,
+        ),
+    ] {
+        assert!(rt; !is_whole(&first_words(first), version, cut), "{name}");
+    }
+}
+
+#[test]
+fn versions_that_are_no_sum(rt: HostRuntime) {
+    let words = first_words([AFTER_100, AFTER_2, 0]);
+    for version in [0, 2, 100, 101, 103] {
+        assert!(rt;
+            !is_whole(&words, version, PACED_BY_ONE),
+            "version {version}"
+        );
+    }
+}
+
+/// Words that no event of a night leaves: a goal too few or too many, a wrong state, a goal of the visitors, a card.
+#[test]
+fn words_of_no_event(rt: HostRuntime) {
+    for (word, version) in [
+        (0x0000400000000402, 2),
+        (0x0000400000001401, 1),
+        (0x0000400000002402, 2),
+        (0x0000400000000801, 1),
+        (0x0000400000000001, 1),
+        (0x0000000000000400, 0),
+        (0x0000400000040401, 1),
+        (0x0000400001000401, 1),
+    ] {
+        let words = first_words([word, 0, 0]);
+        assert!(rt;
+            !is_whole(&words, version, PACED_BY_ONE),
+            "word {word:016x}"
+        );
+    }
+}
+
+/// Whether the time of a place is the time that it was counted for, or less by no more than 1/32 of itself.
+fn is_near(nanos: u64) -> bool {
+    let place = place_of(nanos);
+    let least = time_of(place);
+    match nanos.checked_sub(least) {
+        Some(over) => place < PLACES && over <= least / 32,
+        None => false,
+    }
+}
+
+#[test]
+fn times_are_near(rt: HostRuntime) {
+    for nanos in 0..5000 {
+        assert!(rt; is_near(nanos), "at {nanos}");
+    }
+    for bit in 0..64u32 {
+        let power = 1u64 << bit;
+        for nanos in [power, power - 1, power | power >> 1, power | (power - 1)] {
+            assert!(rt; is_near(nanos), "at {nanos}");
+        }
+    }
+}
+
+#[test]
+fn times_of_places(rt: HostRuntime) {
+    for (nanos, least) in [
+        (0, 0),
+        (63, 63),
+        (64, 64),
+        (65, 64),
+        (127, 126),
+        (131, 128),
+        (1000, 992),
+        (1_000_000, 999_424),
+        (u64::MAX, 18_158_513_697_557_839_872),
+    ] {
+        assert_eq!(rt; time_of(place_of(nanos)), least, "at {nanos}");
+    }
+}
