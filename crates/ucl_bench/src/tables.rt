@@ -202,3 +202,6 @@ pub fn measure_screens<T: Table, R: Wait + Clock>(
         answers,
     })
 }
+
+#[cfg(test)]
+mod tests;
