@@ -113,13 +113,14 @@ abbrev pub IsLastScreen : List Entry → List ℕ → List ClubEntry → ℕ →
 IsLastScreen seen versions roster group None = versions ≡ []
 IsLastScreen seen versions roster group (Some text) = IsScreenOfLast seen versions roster group text
 
--- a reader's pass m, which came from k, has seen a legal history and has shown so many versions, none below what k had seen, and this is
--- its last screen
+-- a reader's pass m, which came from k, has seen a legal history and has shown so many versions, none below what k had seen and none above
+-- what m has, and this is its last screen
 pub record HasShown (k m : Known) (readings : ℕ) (roster : List ClubEntry) (group : ℕ) (last : Option (List ℕ)) : Type 0 where
   pub legal : IsLegal m.seen
   pub on : SeesOn k m
   pub many : length m.shown ≡ readings
   pub low : All (λ version. length k.seen ≤ version) m.shown
+  pub high : All (λ version. version ≤ length m.seen) m.shown
   pub last_is : IsLastScreen m.seen m.shown roster group last
 
 -- a row is the first whose reporter is not on duty: event i, counted from 1, is row i + 4
