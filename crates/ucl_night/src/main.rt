@@ -1,6 +1,7 @@
 //! The program for the board of one group of the UEFA Champions League: `ucl_night feed` enters a script of events, and
 //! writes what became of each event and how the twelve matches stand; `ucl_night show` writes the screen of a board that
-//! was written down.
+//! was written down; `ucl_night night` has two reporters enter a script in threads of their own while two readers look on,
+//! and writes their last screens and the closing one.
 #![tactic(auto)]
 
 mod command_line;

@@ -1,6 +1,6 @@
 //! The matches of a group, and how each of its clubs sees one.
 
-ghost use Rattle.std.specs.Prelude.{◌≡◌, ◌≤◌, All, length};
+ghost use Rattle.std.specs.Prelude.{◌≡◌, ◌≤◌, [], All, length};
 ghost use Rattle.ucl_word.specs.Record.{IsValid};
 ghost use Rattle.ucl_order.specs.Counting.{prospect, worth};
 ghost use Rattle.ucl_order.specs.Keys.{seen_among, slots_in};
@@ -170,14 +170,15 @@ fn is_in(clubs: &[bool; 4], slot: u8) -> bool
     }
 }
 
-/// The twelve matches of the board.
-pub(crate) fn matches_of(board: &Board) -> ArrayVec<Match, 12>
-    ensures value { result.items ≡ matches_of board.now }
-    ensures twelve { length result.items ≡ 12 }
-    ensures valid { All (λ m. IsValid m.result) result.items }
-    ensures pairings { All IsPairing result.items }
+/// Puts the twelve matches of the board into an empty list. The list is filled in place, since a copy of what was just written would wait
+/// for it.
+pub(crate) fn fill_matches(board: &Board, matches: &mut ArrayVec<Match, 12>)
+    requires { matches.old.items ≡ [] }
+    ensures value { matches.new.items ≡ matches_of board.now }
+    ensures twelve { length matches.new.items ≡ 12 }
+    ensures valid { All (λ m. IsValid m.result) matches.new.items }
+    ensures pairings { All IsPairing matches.new.items }
 {
-    let mut matches = ArrayVec::new();
     for number in 1..13 {
         if let Some(game) = MatchNo::new(number) {
             matches.push(Match {
@@ -187,19 +188,17 @@ pub(crate) fn matches_of(board: &Board) -> ArrayVec<Match, 12>
             });
         }
     }
-    matches
 }
 
-/// The matches in play and finished.
-pub(crate) fn started(matches: &[Match]) -> ArrayVec<Match, 12>
-    requires { length matches.now ≤ 12 }
-    ensures { result.items ≡ started matches.now }
+/// Puts the matches in play and finished into an empty list.
+pub(crate) fn fill_started(matches: &[Match], chosen: &mut ArrayVec<Match, 12>)
+    requires short { length matches.now ≤ 12 }
+    requires empty { chosen.old.items ≡ [] }
+    ensures { chosen.new.items ≡ started matches.now }
 {
-    let mut chosen = ArrayVec::new();
     for game in matches {
         if game.has_started() {
             chosen.push(*game);
         }
     }
-    chosen
 }

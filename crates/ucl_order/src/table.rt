@@ -9,11 +9,12 @@ ghost use Rattle.ucl_order.specs.Results.{results_of, started};
 ghost use Rattle.ucl_order.specs.Rounds.{results_of_clubs};
 ghost use Rattle.ucl_order.specs.Rows.{IsWithinTable, row_with, rows_of};
 
-use crate::game::{matches_of, started};
+use crate::game::{fill_matches, fill_started};
 use crate::mark::{Mark, marks_of};
 use crate::order::order;
 use crate::results::Results;
 use crate::roster::Roster;
+use arrayvec::ArrayVec;
 use ucl_board::Board;
 
 /// A club at its place of the table. All numbers but the slot, the place and the mark are of the matches in play and finished.
@@ -94,8 +95,10 @@ pub fn standings(board: &Board, roster: &Roster) -> [Row; 4]
     ensures places { map (λ row. row.place) result ≡ 1 ∷ 2 ∷ 3 ∷ 4 ∷ [] }
     ensures within { All IsWithinTable result }
 {
-    let matches = matches_of(board);
-    let started = started(&matches);
+    let mut matches = ArrayVec::new();
+    fill_matches(board, &mut matches);
+    let mut started = ArrayVec::new();
+    fill_started(&matches, &mut started);
     let results = Results::of_clubs(&started);
     let order = order(&started, &results, roster);
     let marks = marks_of(&matches, &order);

@@ -78,18 +78,17 @@ impl MatchRecord {
     fn suits_state(&self) -> bool
         ensures { IsTrue result ↔ SuitsState self.now.state self.now }
     {
-        // All three cases are worked out, with no jump: the state of the next match that is read can't be foreseen.
-        let number = self.number;
-        let has_reporter = self.reporter != 0;
-        let is_scheduled = (self.state == State::Scheduled) & (*self == MatchRecord::default());
-        let is_in_play = (self.state == State::InPlay)
-            & has_reporter
-            & (1 <= number)
-            & (number <= LAST_NUMBER_IN_PLAY);
-        let is_finished = (self.state == State::Finished)
-            & has_reporter
-            & (2 <= number)
-            & (number <= LAST_NUMBER);
-        is_scheduled | is_in_play | is_finished
+        // Both cases are worked out, with no jump: the state of the next match that is read can't be foreseen.
+        let (first, last) = match self.state {
+            State::Scheduled => (0, 0),
+            State::InPlay => (1, LAST_NUMBER_IN_PLAY),
+            State::Finished => (2, LAST_NUMBER),
+        };
+        let is_scheduled = *self == MatchRecord::default();
+        let has_begun = (self.state != State::Scheduled)
+            & (self.reporter != 0)
+            & (first <= self.number)
+            & (self.number <= last);
+        is_scheduled | has_begun
     }
 }

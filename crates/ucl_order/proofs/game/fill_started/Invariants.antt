@@ -1,6 +1,6 @@
 use Rattle.std.proofs.Common.{◌≡◌, ◌≤◌, take, filter, length}
 use Rattle.ucl_order.specs.Results.{has_started}
-use Rattle.ucl_order.proofs.game.started.Given as goal
+use Rattle.ucl_order.proofs.game.fill_started.Given as goal
 
 abbrev pub invariant-loop-game : goal.invariant-loop-game
 invariant-loop-game l = record {

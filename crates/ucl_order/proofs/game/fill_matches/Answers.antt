@@ -2,8 +2,8 @@ use Rattle.std.proofs.Common.{◌≡◌, arith, rules}
 use Rattle.std.proofs.lemmas.List.Elements.{All-push}
 use Rattle.ucl_word.specs.Record.{IsValid}
 use Rattle.ucl_order.proofs.Adding.{match_is, matches_more, matches_all}
-use Rattle.ucl_order.proofs.game.matches_of.Goals as goal
-use Rattle.ucl_order.proofs.game.matches_of.Goals.{in-Some, in_default}
+use Rattle.ucl_order.proofs.game.fill_matches.Goals as goal
+use Rattle.ucl_order.proofs.game.fill_matches.Goals.{in-Some, in_default}
 
 pub loop-number-preserved : goal.loop-number-preserved
 loop-number-preserved c = elim c.match-new.branch [
