@@ -1,9 +1,10 @@
 //! The events of a night.
 
+use crate::layout::{LAST_NUMBER, LAST_NUMBER_IN_PLAY};
 use ucl_word::{EventCall, Kind, MatchNo, Side};
 
 /// How many events a match takes.
-pub const ALL_EVENTS: u16 = 1023;
+pub const ALL_EVENTS: u16 = LAST_NUMBER;
 
 /// How many matches a group has.
 pub const MATCHES: u8 = 12;
@@ -12,7 +13,7 @@ pub const MATCHES: u8 = 12;
 pub fn event_at(game: MatchNo, expected: u16) -> EventCall {
     let kind = match expected {
         0 => Kind::KickOff,
-        1022 => Kind::FullTime,
+        LAST_NUMBER_IN_PLAY => Kind::FullTime,
         _ if expected % 2 == 1 => Kind::Goal(Side::Home),
         _ => Kind::Disallow(Side::Home),
     };

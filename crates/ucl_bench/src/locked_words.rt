@@ -1,5 +1,6 @@
 //! A reference: twelve match words under a lock.
 
+use crate::layout::SCHEDULED;
 use crate::plain_words::{PlainReading, next_word, version_of};
 use crate::subject::Subject;
 use std::alloc::Global;
@@ -27,7 +28,7 @@ impl Subject for LockedSubject {
     type Reading = PlainReading;
 
     fn open<R: Wait>(_rt: &R, alloc: Global) -> Result<Locked, OutOfMemory> {
-        Ok(Arc::new(alloc, Mutex::new([0; 12]))?)
+        Ok(Arc::new(alloc, Mutex::new([SCHEDULED; 12]))?)
     }
 
     fn split<R: Wait>(_rt: &R, reader: &mut Locked) -> Result<Locked, OutOfMemory> {

@@ -6,6 +6,7 @@ mod cell_subject;
 mod clock;
 mod command;
 mod events;
+mod layout;
 mod locked_words;
 mod nights;
 mod one_thread;

@@ -1,5 +1,10 @@
 //! A reference: twelve match words as plain atomics, read by a double collect and reported to by a compare and exchange, with no proof.
 
+use crate::layout::{
+    AWAY_EXPULSIONS_LOW, AWAY_GOALS_LOW, AWAY_YELLOWS_LOW, EXPULSIONS, GOALS, HOME_EXPULSIONS_LOW,
+    HOME_GOALS_LOW, HOME_YELLOWS_LOW, LAST_NUMBER_IN_PLAY, NUMBER, REPORTER, REPORTER_LOW,
+    SCHEDULED, STATE, STATE_LOW, YELLOWS,
+};
 use crate::subject::Subject;
 use std::alloc::Global;
 use std::hint::spin_loop;
@@ -7,14 +12,11 @@ use std::sync::atomic::{AtomicU64, Ordering};
 use std::sync::{Arc, Wait};
 use ucl_word::{EventCall, Kind, OutOfMemory, Side};
 
-/// The event number of a word.
-const NUMBER: u64 = 1023;
+const IN_PLAY: u64 = 1 << STATE_LOW;
 
-const IN_PLAY: u64 = 1 << 10;
+const FINISHED: u64 = 2 << STATE_LOW;
 
-const FINISHED: u64 = 2 << 10;
-
-const STATE: u64 = 3 << 10;
+const ALL_STATES: u64 = STATE << STATE_LOW;
 
 /// A field of a word: its lowest bit, and all its bits.
 #[derive(Clone, Copy)]
@@ -24,38 +26,38 @@ struct Field {
 }
 
 const HOME_GOALS: Field = Field {
-    one: 1 << 12,
-    all: 63 << 12,
+    one: 1 << HOME_GOALS_LOW,
+    all: GOALS << HOME_GOALS_LOW,
 };
 
 const AWAY_GOALS: Field = Field {
-    one: 1 << 18,
-    all: 63 << 18,
+    one: 1 << AWAY_GOALS_LOW,
+    all: GOALS << AWAY_GOALS_LOW,
 };
 
 const HOME_YELLOWS: Field = Field {
-    one: 1 << 24,
-    all: 63 << 24,
+    one: 1 << HOME_YELLOWS_LOW,
+    all: YELLOWS << HOME_YELLOWS_LOW,
 };
 
 const AWAY_YELLOWS: Field = Field {
-    one: 1 << 30,
-    all: 63 << 30,
+    one: 1 << AWAY_YELLOWS_LOW,
+    all: YELLOWS << AWAY_YELLOWS_LOW,
 };
 
 const HOME_EXPULSIONS: Field = Field {
-    one: 1 << 36,
-    all: 31 << 36,
+    one: 1 << HOME_EXPULSIONS_LOW,
+    all: EXPULSIONS << HOME_EXPULSIONS_LOW,
 };
 
 const AWAY_EXPULSIONS: Field = Field {
-    one: 1 << 41,
-    all: 31 << 41,
+    one: 1 << AWAY_EXPULSIONS_LOW,
+    all: EXPULSIONS << AWAY_EXPULSIONS_LOW,
 };
 
-const REPORTER: u64 = 255 << 46;
+const ALL_REPORTERS: u64 = REPORTER << REPORTER_LOW;
 
-const FIRST_REPORTER: u64 = 1 << 46;
+const FIRST_REPORTER: u64 = 1 << REPORTER_LOW;
 
 /// A reading of the twelve words, and the sum of their event numbers.
 #[derive(Clone, Copy)]
@@ -74,18 +76,18 @@ impl PlainWords {
     fn fresh() -> PlainWords {
         PlainWords {
             words: [
-                AtomicU64::new(0),
-                AtomicU64::new(0),
-                AtomicU64::new(0),
-                AtomicU64::new(0),
-                AtomicU64::new(0),
-                AtomicU64::new(0),
-                AtomicU64::new(0),
-                AtomicU64::new(0),
-                AtomicU64::new(0),
-                AtomicU64::new(0),
-                AtomicU64::new(0),
-                AtomicU64::new(0),
+                AtomicU64::new(SCHEDULED),
+                AtomicU64::new(SCHEDULED),
+                AtomicU64::new(SCHEDULED),
+                AtomicU64::new(SCHEDULED),
+                AtomicU64::new(SCHEDULED),
+                AtomicU64::new(SCHEDULED),
+                AtomicU64::new(SCHEDULED),
+                AtomicU64::new(SCHEDULED),
+                AtomicU64::new(SCHEDULED),
+                AtomicU64::new(SCHEDULED),
+                AtomicU64::new(SCHEDULED),
+                AtomicU64::new(SCHEDULED),
             ],
         }
     }
@@ -162,7 +164,8 @@ fn lowered(word: u64, field: Field) -> Option<u64> {
 fn changed(word: u64, kind: Kind) -> Option<u64> {
     match kind {
         Kind::KickOff => Some(word | IN_PLAY),
-        Kind::FullTime => Some(word & !STATE | FINISHED),
+        Kind::FullTime => Some(word & !ALL_STATES | FINISHED),
+        Kind::Reopen => Some(word & !ALL_STATES | IN_PLAY),
         Kind::Goal(Side::Home) => raised(word, HOME_GOALS),
         Kind::Goal(Side::Away) => raised(word, AWAY_GOALS),
         Kind::Disallow(Side::Home) => lowered(word, HOME_GOALS),
@@ -179,16 +182,16 @@ fn changed(word: u64, kind: Kind) -> Option<u64> {
 /// The word after an event; nothing where the event is refused.
 pub fn next_word(word: u64, reporter: u8, expected: u16, kind: Kind) -> Option<u64> {
     let number = word & NUMBER;
-    let state = word & STATE;
+    let state = word & ALL_STATES;
     if number != u64::from(expected)
-        || state == FINISHED
+        || (state == FINISHED) != (kind == Kind::Reopen)
         || (state == 0) != (kind == Kind::KickOff)
-        || number >= 1022 && kind != Kind::FullTime
+        || number >= u64::from(LAST_NUMBER_IN_PLAY) && kind != Kind::FullTime
     {
         return None;
     }
     let next = changed(word, kind)?.wrapping_add(1);
-    Some(next & !REPORTER | u64::from(reporter).wrapping_mul(FIRST_REPORTER))
+    Some(next & !ALL_REPORTERS | u64::from(reporter).wrapping_mul(FIRST_REPORTER))
 }
 
 /// A reader of plain words.

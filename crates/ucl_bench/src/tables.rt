@@ -7,7 +7,7 @@ use std::fmt;
 use std::sync::Wait;
 use std::time::Clock;
 use ucl_board::Board;
-use ucl_order::{Club, Roster, Row, standings};
+use ucl_order::{Club, Profile, Roster, Row, standings};
 use ucl_screen::screen;
 use ucl_word::OutOfMemory;
 
@@ -86,11 +86,11 @@ pub struct OurTable;
 
 impl Table for OurTable {
     fn standings(board: &Board, roster: &Roster) -> [Row; 4] {
-        standings(board, roster)
+        standings(board, roster, Profile::Uefa)
     }
 
     fn screen(alloc: Global, board: &Board, roster: &Roster) -> Result<String, OutOfMemory> {
-        screen(alloc, board, roster, b'A')
+        screen(alloc, board, roster, b'A', Profile::Uefa)
     }
 }
 
@@ -115,7 +115,7 @@ fn compare_standings<T: Table>(boards: &[Board], roster: &Roster) -> Result<()> 
     for (index, board) in boards.iter().enumerate() {
         let rows = standings_once::<T>(board, roster);
         ensure!(
-            rows == standings(board, roster),
+            rows == standings(board, roster, Profile::Uefa),
             "board {index}, from 0: another table"
         );
     }
@@ -126,7 +126,7 @@ fn compare_standings<T: Table>(boards: &[Board], roster: &Roster) -> Result<()> 
 fn compare_screens<T: Table>(alloc: Global, boards: &[Board], roster: &Roster) -> Result<()> {
     for (index, board) in boards.iter().enumerate() {
         let text = screen_once::<T>(alloc, board, roster)?;
-        let ours = screen(alloc, board, roster, b'A')?;
+        let ours = screen(alloc, board, roster, b'A', Profile::Uefa)?;
         ensure!(
             text.as_str() == ours.as_str(),
             "board {index}, from 0: another screen"

@@ -1,6 +1,10 @@
 //! What readings took, and whether one was torn.
 
-use crate::events::{ALL_EVENTS, MATCHES, is_of};
+use crate::events::{MATCHES, is_of};
+use crate::layout::{
+    AWAY_EXPULSIONS_LOW, AWAY_GOALS_LOW, AWAY_YELLOWS_LOW, EXPULSIONS, GOALS, HOME_EXPULSIONS_LOW,
+    HOME_GOALS_LOW, HOME_YELLOWS_LOW, LAST_NUMBER, NUMBER, STATE, STATE_LOW, YELLOWS,
+};
 use std::alloc::{AllocError, Global};
 
 /// How many times a counted time can fall on: 64 single nanoseconds, and then 32 for each power of two.
@@ -105,21 +109,28 @@ impl Tally {
 
 /// The event number of a word.
 fn number_of(word: u64) -> u16 {
-    (word & 1023) as u16
+    (word & NUMBER) as u16
 }
+
+/// The fields that no event of a night changes: the goals of the visitors, and the cards.
+const NO_EVENT: u64 = GOALS << AWAY_GOALS_LOW
+    | YELLOWS << HOME_YELLOWS_LOW
+    | YELLOWS << AWAY_YELLOWS_LOW
+    | EXPULSIONS << HOME_EXPULSIONS_LOW
+    | EXPULSIONS << AWAY_EXPULSIONS_LOW;
 
 /// Whether a match of the night can have this word: no more than one home goal, as the event number has it, and nothing else.
 fn can_be(word: u64) -> bool {
     let number = number_of(word);
-    let goals = (word >> 12) & 63;
-    let state = (word >> 10) & 3;
-    let scored = number == ALL_EVENTS || number != 0 && number % 2 == 0;
+    let goals = word >> HOME_GOALS_LOW & GOALS;
+    let state = word >> STATE_LOW & STATE;
+    let scored = number == LAST_NUMBER || number != 0 && number % 2 == 0;
     let in_state = match number {
         0 => state == 0,
-        ALL_EVENTS => state == 2,
+        LAST_NUMBER => state == 2,
         _ => state == 1,
     };
-    in_state && goals == u64::from(scored) && (word >> 18) & 0xfff_ffff == 0
+    in_state && goals == u64::from(scored) && word & NO_EVENT == 0
 }
 
 /// Whether these words can stand on a board at one moment of the night, with this version. A reporter begins a match only when it has

@@ -1,16 +1,17 @@
 -- The entries of a match and the words of the board after one entry more.
-use Rattle.std.proofs.Common.{◌≡◌, ◌≢◌, ℕ, ◌+◌, ◌-◌, ◌<◌, Bool, cond, ◌==◌, List, [], ◌∷◌, ◌++◌, length, map, filter, get_or, set, Option, Some, None, Ok, Err, refl, sym, ap, ◌∙◌, subst, arith, append-nil, eq-eqb, ne_eqb}
+use Rattle.std.proofs.Common.{◌≡◌, ◌≢◌, ℕ, ◌+◌, ◌-◌, ◌<◌, Bool, cond, ◌==◌, List, [], ◌∷◌, ◌++◌, length, map, filter, get_or, set, replicate, Option, Some, None, Ok, Err, refl, sym, ap, ◌∙◌, subst, arith, append-nil, eq-eqb, ne_eqb}
 use Rattle.std.proofs.lemmas.List.{map-append, get_or-map, get_or-set_same, get_or-set_other, length-set}
 use Rattle.std.proofs.lemmas.List.Elements.{filter-append}
 use Rattle.std.proofs.lemmas.Grind.{same_number_lists}
 use mathlib.Core.Logic.{dite}
 use native.Mathlib.Decide.{ℕ_discrete}
 use Rattle.ucl_word.specs.declared.record.MatchRecord.{MatchRecord}
+use Rattle.ucl_word.specs.declared.record.State.TheVariants.{Scheduled}
 use Rattle.ucl_word.specs.declared.event.Kind.{Kind}
 use Rattle.ucl_word.specs.declared.event.EventCall.{EventCall}
 use Rattle.ucl_word.specs.declared.refusal.Refusal.{Refusal}
 use Rattle.ucl_word.specs.Rules.{refusal_of, answer, reply_of}
-use Rattle.ucl_word.specs.Record.{IsValid}
+use Rattle.ucl_word.specs.Record.{scheduled, IsValid}
 use Rattle.ucl_word.specs.Layout.{word_of, record_at}
 use Rattle.ucl_word.specs.Counts.{MatchEntry, counted_match, entered, IsAccepted, IsLegalMatch}
 use Rattle.ucl_word.proofs.Sequences.{may_none, may_next, may_last, may_induction}
@@ -49,6 +50,17 @@ each_match P a b c d e f g h i j k l n is = or_else P 1 a n (λ not_1. or_else P
 number_listed : (g d : ℕ) → IsMatch g → get_or match_numbers (g - 1) d ≡ g
 number_listed g d is = each_match (λ g. get_or match_numbers (g - 1) d ≡ g) refl refl refl refl refl refl refl refl refl refl refl refl g is
 
+-- a record with these fields is that of a match that has not kicked off
+pub is_scheduled : (m : MatchRecord) → m.number ≡ 0 → m.state ≡ Scheduled → m.home_goals ≡ 0 → m.away_goals ≡ 0 → m.home_yellows ≡ 0 → m.away_yellows ≡ 0 → m.home_expulsions ≡ 0 → m.away_expulsions ≡ 0 → m.reporter ≡ 0 → m ≡ scheduled
+is_scheduled m a b c d e f g h i =
+    let same : record { number = m.number; state = m.state; home_goals = m.home_goals; away_goals = m.away_goals; home_yellows = m.home_yellows; away_yellows = m.away_yellows; home_expulsions = m.home_expulsions; away_expulsions = m.away_expulsions; reporter = m.reporter } ≡ scheduled = cc in
+    same
+
+-- the board of no event
+pub board_none : replicate 12 (word_of scheduled) ≡ board_of []
+unfolding board_of counted_match
+board_none = refl
+
 pub board_length : (h : List Entry) → length (board_of h) ≡ 12
 unfolding board_of
 board_length h = refl
@@ -64,7 +76,7 @@ pub game_after : (h : List Entry) (g : ℕ) → IsLegal h → IsMatch g → game
 game_after h g legal is = ap record_at (word_after h g is) ∙ record_back (match_after h g) (match_valid g h legal)
 
 -- boards with the same word for each match are equal
-same_boards : (xs ys : List ℕ) → length xs ≡ 12 → length ys ≡ 12 → ((g : ℕ) → IsMatch g → word_at xs g ≡ word_at ys g) → xs ≡ ys
+pub same_boards : (xs ys : List ℕ) → length xs ≡ 12 → length ys ≡ 12 → ((g : ℕ) → IsMatch g → word_at xs g ≡ word_at ys g) → xs ≡ ys
 same_boards xs ys a b each = same_number_lists xs ys (a ∙ sym b) (λ k l. let e : k + 1 - 1 ≡ k = omega arith in subst (λ (k : ℕ). get_or xs k 0 ≡ get_or ys k 0) e (each (k + 1) (omega arith, omega arith)))
 
 pub board_next : (h : List Entry) (e : Entry) → IsMatch e.game → board_of (followed_by h e) ≡ set (board_of h) (e.game - 1) (word_of (match_after (followed_by h e) e.game))

@@ -10,6 +10,7 @@ use native.Mathlib.Decide.{ℕ_discrete, dec_le}
 use Rattle.ucl_word.specs.declared.record.MatchRecord.{MatchRecord}
 use Rattle.ucl_word.specs.declared.event.Kind.{Kind}
 use Rattle.ucl_word.specs.declared.refusal.Refusal.{Refusal}
+use Rattle.ucl_word.specs.Record.{last_number}
 use Rattle.ucl_word.specs.Rules.{refusal_of, answer, after}
 use Rattle.ucl_word.specs.Layout.{word_of, record_at}
 use Rattle.ucl_word.specs.Counts.{MatchEntry, counted_match, IsAccepted}
@@ -90,7 +91,7 @@ total_length = may_induction MayFollow (λ h. total 12 h ≡ length h) total_non
 number_shown : (h : List Entry) (g : ℕ) → IsLegal h → (record_at (word_of (match_after h g))).number ≡ length (entries_of g h)
 number_shown h g legal = ap (λ (m : MatchRecord). m.number) (record_back (match_after h g) (match_valid g h legal)) ∙ number_of_count (entries_of g h)
 
-number_bound : (h : List Entry) (g : ℕ) → IsLegal h → length (entries_of g h) ≤ 1023
+number_bound : (h : List Entry) (g : ℕ) → IsLegal h → length (entries_of g h) ≤ last_number
 number_bound h g legal = let v = number_valid (match_after h g) (match_valid g h legal) in let n = number_of_count (entries_of g h) in omega arith
 
 version_total : (h : List Entry) → IsLegal h → version_of (board_of h) ≡ total 12 h
@@ -110,7 +111,7 @@ version_total h legal =
     let n12 = number_shown h 12 legal in
     omega arith
 
-total_bound : (n : ℕ) (h : List Entry) → IsLegal h → total n h ≤ n * 1023
+total_bound : (n : ℕ) (h : List Entry) → IsLegal h → total n h ≤ n * last_number
 unfolding total
 total_bound zero h legal = omega arith
 total_bound (suc n) h legal = let a = total_bound n h legal in let b = number_bound h (suc n) legal in omega arith

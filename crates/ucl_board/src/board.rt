@@ -1,20 +1,21 @@
 //! The board as one thread sees it.
 
-ghost use Rattle.std.specs.Prelude.{◌≡◌, ℕ, ◌+◌, ◌-◌, ◌≤◌, List, [], ◌↔◌, IsOk, IfOk, IfErr};
+ghost use Rattle.std.specs.Prelude.{◌≡◌, ℕ, ◌+◌, ◌-◌, ◌≤◌, List, [], ◌↔◌, Ok, IsOk, IfOk, IfErr};
 ghost use Rattle.ucl_word.specs.Record.{IsValid};
 ghost use Rattle.ucl_word.specs.Layout.{IsWord, record_at};
 ghost use Rattle.ucl_word.specs.Rules.{reply_of};
 ghost use Rattle.ucl_board.specs.declared.entry.Entry.{Entry};
-ghost use Rattle.ucl_board.specs.Words.{AreWords, IsFirstBad, game_at, version_of};
+ghost use Rattle.ucl_board.specs.Words.{AreWords, AreReadable, AreReadAs, IsFirstBad, game_at, greatest_version, version_of};
 ghost use Rattle.ucl_board.specs.History.{IsLegal, board_of, board_after, sequential_reply, followed_by, entry_of};
 
 use std::marker::Model;
 use thiserror::Error;
 use ucl_word::{
-    Accepted, EventCall, MatchNo, MatchRecord, Refusal, ReporterNo, apply, pack, unpack,
+    Accepted, EventCall, MatchNo, MatchRecord, Refusal, ReporterNo, apply, migrate, number_of,
+    pack, unpack,
 };
 
-/// 10: the first of twelve words that is the packing of no valid record.
+/// 10: the first of twelve words that is the packing of no valid record, in neither layout.
 #[derive(Clone, Copy, Debug, PartialEq, Eq, Error)]
 #[error("bad word 10: word {index}")]
 pub struct BadWordAt {
@@ -53,40 +54,37 @@ fn record_of(word: u64) -> MatchRecord
     }
 }
 
-/// The event number of a word.
-#[tactic(auto, unfolding(ucl_word::specs::Layout::record_at))]
-fn number_of(word: u64) -> u16
-    ensures value { result ≡ (record_at word).number }
-    ensures bound { result ≤ 1023 }
-{
-    (word & 1023) as u16
-}
-
 impl Board {
     /// The board before any event: twelve scheduled matches.
     pub fn fresh() -> Board
         ensures { result ≡ board_of [] }
     {
-        Board { words: [0; 12] }
+        let scheduled = pack(&MatchRecord::default());
+        Board {
+            words: [scheduled; 12],
+        }
     }
 
-    /// The board with these words for matches 1 to 12, or the least index of a word that is the packing of no valid
-    /// record. `of_words` of a board's `words` is that board.
+    /// The board that these words for matches 1 to 12 are read as, each by `migrate`: words of the first layout, of the one that
+    /// `words` gives, or of both. Else the least index of a word that is of neither. `of_words` of a board's `words` is that board.
     pub fn of_words(words: &[u64; 12]) -> Result<Board, BadWordAt>
-        ensures board { IfOk result (λ b. b ≡ words.now) }
-        ensures exactly { IsOk result ↔ AreWords words.now }
+        ensures board { IfOk result (λ b. AreReadAs words.now b) }
+        ensures again { AreWords words.now → result ≡ Ok words.now }
+        ensures exactly { IsOk result ↔ AreReadable words.now }
         ensures refused { IfErr result (λ bad. IsFirstBad words.now bad.index) }
     {
+        let mut read = [0; 12];
         for i in 0..12u8 {
-            if unpack(words[usize::from(i)]).is_err() {
-                return Err(BadWordAt { index: i + 1 });
+            match migrate(words[usize::from(i)]) {
+                Ok(word) => read[usize::from(i)] = word,
+                Err(_) => return Err(BadWordAt { index: i + 1 }),
             }
         }
-        Ok(Board { words: *words })
+        Ok(Board { words: read })
     }
 
     /// The board with these words for matches 1 to 12, each of which has to be the packing of a valid record. They are not looked at
-    /// again: `of_words` is the test.
+    /// again, as `of_words` does.
     pub fn of_packed(words: &[u64; 12]) -> Board
         requires { AreWords words.now }
         ensures { result ≡ words.now }
@@ -112,11 +110,11 @@ impl Board {
         record_of(self.words[usize::from(game.get() - 1)])
     }
 
-    /// The sum of the event numbers of the matches, 0 to 12,276. On a board that came from `fresh` by events it is how
+    /// The sum of the event numbers of the matches, at most twelve times the greatest number. On a board that came from `fresh` by events it is how
     /// many were accepted.
     pub fn version(&self) -> u16
         ensures sum { result ≡ version_of self.now }
-        ensures bound { result ≤ 12276 }
+        ensures bound { result ≤ greatest_version }
     {
         let mut version = 0;
         for word in &self.words {

@@ -7,6 +7,6 @@ use crate::board::Board;
 pub struct Reading {
     /// The board.
     pub board: Board,
-    /// The version of the board, 0 to 12,276: the sum of its twelve event numbers.
+    /// The version of the board: the sum of its twelve event numbers.
     pub version: u16,
 }

@@ -8,3 +8,5 @@ pub mod WorkSteps
 pub mod Entering
 pub mod Merging
 pub mod Merges
+pub mod Playing
+pub mod ToldLines

@@ -7,5 +7,5 @@ use Rattle.ucl_night.specs.declared.command_line.Line.TheVariants.{Feed, Show, N
 -- a group that is asked for is A to H, and at most 1,000 readings are asked for
 abbrev pub IsInRange : Line → Type 0
 IsInRange Feed = ⊤
-IsInRange (Show group) = IsGroup group
-IsInRange (Night group readings) = IsGroup group × (readings ≤ 1000)
+IsInRange (Show group profile) = IsGroup group
+IsInRange (Night group readings profile) = IsGroup group × (readings ≤ 1000)

@@ -3,6 +3,7 @@ use Rattle.std.specs.Prelude.{◌≡◌, ℕ, ◌++◌, List, All, take, flat_ma
 use Rattle.ucl_board.specs.declared.entry.Entry.{Entry}
 use Rattle.ucl_board.specs.declared.reading.Reading.{Reading}
 use Rattle.ucl_board.specs.History.{board_of}
+use Rattle.ucl_order.specs.declared.profile.Profile.{Profile}
 use Rattle.ucl_order.specs.Roster.{ClubEntry}
 use Rattle.ucl_order.specs.Rows.{rows_of}
 use Rattle.ucl_screen.specs.Lines.{header}
@@ -15,19 +16,20 @@ use Rattle.ucl_steps.specs.Machine.{MachineState, initial_state, after_steps}
 use Rattle.ucl_steps.specs.Linearizable.{IsDecided, IsLinearizable}
 
 -- the board after the first k entries of a history, as a screen shows it: version k, and the clubs in the order of the
--- Regulations, each with its numbers and its mark
-abbrev pub screen_at : List Entry → ℕ → List ClubEntry → ℕ → List ℕ
-screen_at history k roster group =
+-- profile, each with its numbers and its mark
+abbrev pub screen_at : Profile → List Entry → ℕ → List ClubEntry → ℕ → List ℕ
+screen_at profile history k roster group =
     let board = board_of (take k history) in
-    header group k (in_play board) ++ columns ++ flat_map (row_line roster) (rows_of board roster)
+    header group k (in_play board) ++ columns ++ flat_map (row_line roster) (rows_of profile board roster)
 
--- the screen of a reading, whatever the roster and the group, is that of the board at the reading's place in the history
+-- the screen of a reading, whatever the profile, the roster and the group, is that of the board at the reading's place in the history
 abbrev pub ScreenIsOfItsPlace : List Entry → CallRecord → Type 0
 ScreenIsOfItsPlace history c =
-    (k : ℕ) (reading : Reading) → IsDecided c k (Copied reading) → (roster : List ClubEntry) (group : ℕ) → screen_text reading.board roster group ≡ screen_at history k roster group
+    (k : ℕ) (reading : Reading) → IsDecided c k (Copied reading) → (profile : Profile) (roster : List ClubEntry) (group : ℕ)
+    → screen_text profile reading.board roster group ≡ screen_at profile history k roster group
 
 -- one history of the board of one thread holds each finished call once, with the reply that it got, between its beginning and
--- its end; and each screen is the text of the order of the board that its reading copied
+-- its end; and each screen is the text of the chosen order of the board that its reading copied
 pub record HasOneHistory (steps : List Step) (history : List Entry) (calls : List CallRecord) : Type 0 where
   pub linearizable : IsLinearizable steps history calls
   pub screens : All (ScreenIsOfItsPlace history) calls

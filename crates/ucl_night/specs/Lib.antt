@@ -7,3 +7,4 @@ pub mod Workers
 pub mod Show
 pub mod Run
 pub mod Headline
+pub mod Program

@@ -3,6 +3,7 @@ use Rattle.std.specs.Prelude.{◌≡◌, ◌⊎◌, ℕ, ◌+◌, ◌<◌, ◌�
 use Rattle.std.specs.Result.{is_ok}
 use Rattle.ucl_board.specs.declared.entry.Entry.{Entry}
 use Rattle.ucl_board.specs.History.{IsLegal, Attempt, entry_of, sequential_reply, accepted_of, board_of}
+use Rattle.ucl_order.specs.declared.profile.Profile.{Profile}
 use Rattle.ucl_order.specs.Roster.{ClubEntry}
 use Rattle.ucl_screen.specs.declared.night.NightEvent.{NightEvent}
 use Rattle.ucl_screen.specs.Screen.{screen_text}
@@ -102,26 +103,27 @@ pub record HasEntered (k m : Known) (reporter : ℕ) (rows : List NightEvent) : 
       → ComesFirst m.seen (k.number, row.call) (point i) (point j)
   pub entries : (p : ℕ) (e : Entry) → slice_get m.seen p ≡ Some e → e.reporter ≡ k.number → IsOwnRow k.number reporter rows point m.seen p
 
--- the last screen of a reader: none where no version was shown, else the screen of the board of the last version
-pub record IsScreenOfLast (seen : List Entry) (versions : List ℕ) (roster : List ClubEntry) (group : ℕ) (text : List ℕ) : Type 0 where
+-- the last screen of a reader: none where no version was shown, else the screen of the board of the last version, in the order of the
+-- profile
+pub record IsScreenOfLast (profile : Profile) (seen : List Entry) (versions : List ℕ) (roster : List ClubEntry) (group : ℕ) (text : List ℕ) : Type 0 where
   pub before : List ℕ
   pub version : ℕ
   pub last : versions ≡ before ++ version ∷ []
-  pub text_is : text ≡ screen_text (board_of (take version seen)) roster group
+  pub text_is : text ≡ screen_text profile (board_of (take version seen)) roster group
 
-abbrev pub IsLastScreen : List Entry → List ℕ → List ClubEntry → ℕ → Option (List ℕ) → Type 0
-IsLastScreen seen versions roster group None = versions ≡ []
-IsLastScreen seen versions roster group (Some text) = IsScreenOfLast seen versions roster group text
+abbrev pub IsLastScreen : Profile → List Entry → List ℕ → List ClubEntry → ℕ → Option (List ℕ) → Type 0
+IsLastScreen profile seen versions roster group None = versions ≡ []
+IsLastScreen profile seen versions roster group (Some text) = IsScreenOfLast profile seen versions roster group text
 
 -- a reader's pass m, which came from k, has seen a legal history and has shown so many versions, none below what k had seen and none above
 -- what m has, and this is its last screen
-pub record HasShown (k m : Known) (readings : ℕ) (roster : List ClubEntry) (group : ℕ) (last : Option (List ℕ)) : Type 0 where
+pub record HasShown (profile : Profile) (k m : Known) (readings : ℕ) (roster : List ClubEntry) (group : ℕ) (last : Option (List ℕ)) : Type 0 where
   pub legal : IsLegal m.seen
   pub on : SeesOn k m
   pub many : length m.shown ≡ readings
   pub low : All (λ version. length k.seen ≤ version) m.shown
   pub high : All (λ version. version ≤ length m.seen) m.shown
-  pub last_is : IsLastScreen m.seen m.shown roster group last
+  pub last_is : IsLastScreen profile m.seen m.shown roster group last
 
 -- a row is the first whose reporter is not on duty: event i, counted from 1, is row i + 4
 pub record IsFirstOffDuty (rows : List NightEvent) (row : ℕ) : Type 0 where

@@ -8,6 +8,7 @@ ghost use Rattle.ucl_night.specs.CommandLine.{IsInRange};
 use clap::error::ErrorKind;
 use clap::{Arg, ArgAction, ArgMatches, Command, Error, value_parser};
 use std::alloc::{AllocError, Global};
+use ucl_order::Profile;
 use ucl_screen::is_group;
 
 /// What the program is to do.
@@ -19,6 +20,8 @@ pub enum Line {
     Show {
         /// The letter of the group, `A` to `H`.
         group: u8,
+        /// The order of the clubs.
+        profile: Profile,
     },
     /// Enter a script by two reporters in threads while two readers look on, and write the screens.
     Night {
@@ -26,6 +29,8 @@ pub enum Line {
         group: u8,
         /// How many readings each reader takes, 0 to 1,000.
         readings: u32,
+        /// The order of the clubs.
+        profile: Profile,
     },
 }
 
@@ -42,6 +47,13 @@ pub enum LineFault {
 
 /// The letters that `--group` takes.
 static GROUPS: [&str; 8] = ["A", "B", "C", "D", "E", "F", "G", "H"];
+
+/// The orders that `--order` takes, the UEFA order first.
+static ORDERS: [&str; 2] = [UEFA, AWAY_IN_TIE];
+
+const UEFA: &str = "uefa";
+
+const AWAY_IN_TIE: &str = "away-in-tie";
 
 /// The group where none is named.
 const FIRST_GROUP: u8 = b'A';
@@ -67,6 +79,15 @@ fn readings_option<'a>(alloc: Global) -> Arg<'a> {
         .default_value("0")
 }
 
+/// The option `--order`.
+fn order_option<'a>(alloc: Global) -> Arg<'a> {
+    Arg::new(alloc, "order")
+        .long("order")
+        .action(ArgAction::Set)
+        .value_parser(ORDERS.as_slice())
+        .default_value(UEFA)
+}
+
 /// The program's command, with a subcommand for each line.
 fn command<'a>(alloc: Global) -> Result<Command<'a>, AllocError> {
     let feed = Command::new(alloc, "feed").about(
@@ -74,11 +95,13 @@ fn command<'a>(alloc: Global) -> Result<Command<'a>, AllocError> {
     );
     let show = Command::new(alloc, "show")
         .about("Writes the screen of a board")
-        .arg(group_option(alloc))?;
+        .arg(group_option(alloc))?
+        .arg(order_option(alloc))?;
     let night = Command::new(alloc, "night")
         .about("Enters a script by two reporters in threads, and writes the screens")
         .arg(group_option(alloc))?
-        .arg(readings_option(alloc))?;
+        .arg(readings_option(alloc))?
+        .arg(order_option(alloc))?;
     Command::new(alloc, "ucl_night")
         .subcommand_required(true)
         .subcommand(feed)?
@@ -106,6 +129,14 @@ fn readings_of(matches: &ArgMatches<'_>) -> u32
     }
 }
 
+/// The order that was named. The parser has taken no other word than those of orders.
+fn profile_of(matches: &ArgMatches<'_>) -> Profile {
+    match matches.get_str("order") {
+        Some(AWAY_IN_TIE) => Profile::AwayInTie,
+        _ => Profile::Uefa,
+    }
+}
+
 /// What to tell of words that were not taken.
 fn fault_of(alloc: Global, error: &Error) -> LineFault
     ensures { kind_of error.now ≡ ErrorKind.OutOfMemory → result ≡ LineFault.OutOfMemory }
@@ -120,11 +151,20 @@ fn fault_of(alloc: Global, error: &Error) -> LineFault
     }
 }
 
+/// What to tell of words without a subcommand. The parser has taken none such.
+fn no_subcommand(alloc: Global) -> LineFault {
+    match String::from_str(alloc, "error: no subcommand\n") {
+        Ok(text) => LineFault::Refused(text),
+        Err(_) => LineFault::OutOfMemory,
+    }
+}
+
 /// What the program's words ask for. The first word is the program's name.
 ///
 /// The words are read by `clap`: the name is followed by the subcommand `feed`, `show` or `night`. The latter two take
-/// `--group` with a letter from `A` to `H`, which is `A` where it is left out, and `night` also `--readings` with a number
-/// from 0 to 1,000, which is 0 where it is left out. `Help` comes where help is asked for, and `Refused` where the words
+/// `--group` with a letter from `A` to `H`, which is `A` where it is left out, and `--order` with `uefa` or `away-in-tie`, which
+/// is `uefa` where it is left out, and `night` also `--readings` with a number from 0 to 1,000, which is 0 where it is left out.
+/// `Help` comes where help is asked for, and `Refused` where the words
 /// have no subcommand, an unknown one, or what it does not take.
 pub fn line_of(alloc: Global, words: &[String]) -> Result<Line, LineFault>
     ensures { IfOk result IsInRange }
@@ -139,11 +179,14 @@ pub fn line_of(alloc: Global, words: &[String]) -> Result<Line, LineFault>
     match matches.subcommand() {
         Some(("show", found)) => Ok(Line::Show {
             group: group_of(found),
+            profile: profile_of(found),
         }),
         Some(("night", found)) => Ok(Line::Night {
             group: group_of(found),
             readings: readings_of(found),
+            profile: profile_of(found),
         }),
-        _ => Ok(Line::Feed),
+        Some(("feed", _)) => Ok(Line::Feed),
+        _ => Err(no_subcommand(alloc)),
     }
 }

@@ -1,38 +1,52 @@
 //! Why a run fails.
 
-ghost use Rattle.std.specs.Prelude.{◌≡◌};
+ghost use Rattle.std.specs.Prelude.{◌≡◌, Some};
 ghost use Rattle.ucl_night.specs.declared.fault.RunFault.TheVariants.{OutOfMemory, NoThread, TooManyReporters, Strangers};
-ghost use Rattle.ucl_night.specs.Faults.{handed_on, status};
+ghost use Rattle.ucl_night.specs.Faults.{fault_text, handed_on, status};
 
 use std::alloc::AllocError;
-use thiserror::Error;
+use std::{error, fmt};
 use ucl_screen::InputFault;
 
 /// Why a run failed. Its text is the line that the program writes to standard error.
-#[derive(Clone, Copy, Debug, PartialEq, Eq, Error)]
+#[derive(Clone, Copy, Debug, PartialEq, Eq)]
 pub enum RunFault {
     /// 10, 20 to 22 and 24: the input was refused, or could not be read.
-    #[error("{0}")]
     Input(InputFault),
     /// 23: memory was asked for, and there was none.
-    #[error("out of memory 23")]
     OutOfMemory,
     /// 26: the output failed, and took exactly the first `written` bytes of the text.
-    #[error("writing failed 26: after {written} bytes")]
     WriteFailed { written: usize },
     /// 25: a row of a night is of a reporter other than 1 and 2. `row` is the first such row, counted from 1.
-    #[error("input refused 25: row {row}")]
     NotOnDuty { row: usize },
     /// 27: no thread could be had for a worker of a night.
-    #[error("no thread 27")]
     NoThread,
     /// 30: the board of a night has no number left for a reporter.
-    #[error("board refused 30")]
     TooManyReporters,
     /// 31: the board of a night has events of a third reporter. `version` is that of the reading that was taken.
-    #[error("board refused 31: version {version}")]
     Strangers { version: u16 },
 }
+
+/// The line that the program writes to standard error, without its line feed.
+impl fmt::Display for RunFault {
+    ghost output = { λ fault. Some (fault_text fault) };
+
+    fn fmt<W: fmt::Write>(&self, f: &mut fmt::Formatter<W>) -> fmt::Result {
+        match self {
+            RunFault::Input(fault) => write!(f, "{fault}"),
+            RunFault::OutOfMemory => write!(f, "out of memory 23"),
+            RunFault::WriteFailed { written } => {
+                write!(f, "writing failed 26: after {written} bytes")
+            }
+            RunFault::NotOnDuty { row } => write!(f, "input refused 25: row {row}"),
+            RunFault::NoThread => write!(f, "no thread 27"),
+            RunFault::TooManyReporters => write!(f, "board refused 30"),
+            RunFault::Strangers { version } => write!(f, "board refused 31: version {version}"),
+        }
+    }
+}
+
+impl error::Error for RunFault {}
 
 /// A fault of the input is handed on, and want of memory there is want of memory of the run.
 impl From<InputFault> for RunFault {

@@ -3,9 +3,11 @@
 ghost use Rattle.std.specs.Prelude.{◌≡◌, ◌≤◌, ◌+◌, ◌++◌, List, [], map, length, IfOk, IfErr, IsErrOf, OnOk, true, string_bytes};
 ghost use Rattle.std.specs.Io.KnownBytes.{Appends};
 ghost use Rattle.ucl_board.specs.declared.entry.Entry.{Entry};
+ghost use Rattle.ucl_board.specs.Words.{greatest_version};
 ghost use Rattle.ucl_board.specs.History.{IsLegal, after_attempt, accepted_of, board_of};
 ghost use Rattle.ucl_screen.specs.Input.{Reads};
 ghost use Rattle.ucl_screen.specs.Meaning.{MeansNight, night_seen};
+ghost use Rattle.ucl_night.specs.Faults.{IsOfOneThread};
 ghost use Rattle.ucl_night.specs.Feed.{IsBoardAfter, IsFed, attempt_of, feed_text, reply_line, reply_lines, word_lines};
 ghost use Rattle.ucl_night.specs.Run.{IfInput, IfWriteFailed, TextHas, UnlessWriteFailed, WroteFirst, is_read_failed};
 
@@ -25,7 +27,7 @@ fn push_reply(
     row: u32,
     event: &NightEvent,
 ) -> Result<u16, AllocError>
-    requires { version ≤ 12276 }
+    requires { version ≤ greatest_version }
     ensures line { (h : List Entry) → IsBoardAfter h board.old version → OnOk result (string_bytes out.new ≡ string_bytes out.old ++ reply_line row h event.now.call) }
     ensures after { (h : List Entry) → IsBoardAfter h board.old version → IfOk result (IsBoardAfter (after_attempt h (attempt_of event.now)) board.new) }
 {
@@ -97,6 +99,9 @@ pub fn feed_run<S: Source, W: Sink>(
     sink: &mut W,
 ) -> Result<(), RunFault>
     ensures text { OnOk result (TextHas IsFed (S.left source.old) (Appends (W.taken sink.old) (W.taken sink.new))) }
+
+    // Only the input, memory and the output can fail.
+    ensures kinds { IfErr result IsOfOneThread }
 
     // Why the input is refused, and that then, as where there is no memory, nothing is written.
     ensures input { IfErr result (λ f. IfInput f (λ e. Reads MeansNight night_seen (S.left source.old) (S.left source.new) (S.failed source.new) (Err e))) }

@@ -3,7 +3,8 @@
 use ucl_board::Reading;
 
 /// What the workers of a night tell of their calls, in threads of their own. Workers 1 and 2 are the reporters, 3 and 4 the
-/// readers. What a gate does changes no result of a night: it may wait, count or write down what it is told.
+/// readers. What a night promises holds whatever a gate does: it may wait, count or write down what it is told. But it can hold workers up, and
+/// so decide which merge of the rows comes out, and whether the night ends.
 pub trait Gate: Sync {
     /// Comes before each of a worker's calls on the board, which are counted from 0 (and, past `u32::MAX`, from 0 again).
     fn come(&self, worker: u8, call: u32);

@@ -14,6 +14,7 @@ mod night;
 mod output;
 mod program;
 mod show;
+mod telling;
 mod threads;
 mod workers;
 
@@ -23,23 +24,36 @@ pub use feed::feed_run;
 pub use gate::{Gate, OpenGate};
 pub use laws::{every_run_has_one_history, schedule_does_not_matter};
 pub use night::{NightEnd, night_run, put_night};
+pub use program::{obey, run};
 pub use show::show_run;
 use std::env;
+use std::io::ErrorKind;
 use std::process::ExitCode;
+use telling::{tell, tell_refusal};
 use ucl_screen::{FromRead, ToWrite};
+
+/// What is told where a word of the command line is no text.
+const NOT_UTF_8: &str = "error: a word of the command line is not UTF-8\n";
 
 /// Runs the program over the standard streams. Standard output has no buffer, so that nothing is left to flush.
 fn main(rt: HostRuntime) -> ExitCode {
     let alloc = rt.alloc();
-    let Ok(words) = env::args(&rt) else {
-        return ExitCode::from(program::REFUSED_WORDS);
-    };
     let mut source = FromRead::new(rt.stdin());
     let mut sink = ToWrite::new(rt.stdout());
-    let mut errors = rt.stderr();
+    let mut errors = ToWrite::new(rt.stderr());
+    let words = match env::args(&rt) {
+        Ok(words) => words,
+        Err(error) if error.kind() == ErrorKind::OutOfMemory => {
+            return ExitCode::from(tell(&mut errors, RunFault::OutOfMemory));
+        }
+        Err(_) => return ExitCode::from(tell_refusal(&mut errors, NOT_UTF_8)),
+    };
     let status = match words.collect::<Vec<String>>(alloc) {
-        Ok(words) => program::run(&rt, alloc, &words, &mut source, &mut sink, &mut errors),
-        Err(_) => program::tell(&mut errors, RunFault::OutOfMemory),
+        Ok(words) => {
+            let asked = line_of(alloc, &words);
+            run(&rt, alloc, asked, &mut source, &mut sink, &mut errors)
+        }
+        Err(_) => tell(&mut errors, RunFault::OutOfMemory),
     };
     ExitCode::from(status)
 }

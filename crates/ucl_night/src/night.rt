@@ -1,9 +1,10 @@
 //! Nights: two reporters and two readers over one live board.
 
-ghost use Rattle.std.specs.Prelude.{◌≡◌, ◌≢◌, All, None, IfOk, IfErr, MatchResult, OnOk, take, slice_index_or, option_map, string_bytes};
+ghost use Rattle.std.specs.Prelude.{◌≡◌, ◌≢◌, ◌≤◌, ◌+◌, length, All, None, IfOk, IfErr, MatchResult, OnOk, take, slice_index_or, option_map, string_bytes};
 ghost use Rattle.std.specs.Io.KnownBytes.{Appends};
 ghost use Rattle.ucl_board.specs.History.{snapshot_at};
 ghost use Rattle.ucl_screen.specs.Screen.{IsGroup, screen_text};
+ghost use Rattle.ucl_night.specs.Faults.{IsOfNight};
 ghost use Rattle.ucl_night.specs.Nights.{EachMatchHasOneReporter, HasShown, IsFirstOffDuty, IsMerge, IsOnDuty, night_board, night_text, number_of_two};
 ghost use Rattle.ucl_night.specs.Run.{IsStopped, MatchDuty};
 
@@ -15,6 +16,7 @@ use std::alloc::Global;
 use std::sync::Wait;
 use std::thread::Threads;
 use ucl_board::Reading;
+use ucl_order::Profile;
 use ucl_pass::{LiveBoard, settle};
 use ucl_screen::{Night, NightEvent, Sink, screen};
 
@@ -61,7 +63,8 @@ fn check_duty(rows: &[NightEvent]) -> Result<(), RunFault>
 /// order, while two readers take so many readings and render the screen of each; then the reporters settle.
 ///
 /// `pass` is a reader's pass of the board. It is split three times, and it and one of the others are enlisted, before any
-/// thread starts. `group` has to be the letter of a group. The gate is told of each call and each screen. Replies to reporters
+/// thread starts. `group` has to be the letter of a group. All screens are in the order of
+/// the profile. The gate is told of each call and each screen. Replies to reporters
 /// are not looked at. The call may wait, and what it promises holds where it returns.
 ///
 /// # Errors
@@ -80,9 +83,13 @@ pub fn night_run<B: LiveBoard, G: Gate, R: Threads + Wait + Sync>(
     group: u8,
     readings: u32,
     gate: &G,
+    profile: Profile,
 ) -> Result<NightEnd<B::ReaderPass, B::ReporterPass>, RunFault>
     requires own { B.is_reader board.now pass }
     requires group { IsGroup group }
+
+    // A night reads no input and writes no output, so it has no fault of these.
+    ensures kinds { IfErr result IsOfNight }
 
     // A row of a reporter who is not on duty is told exactly where there is one, and the first is.
     ensures duty { MatchResult result (λ _. All IsOnDuty night.entry.now.events.items) (λ f. MatchDuty f (IsFirstOffDuty night.entry.now.events.items) (All IsOnDuty night.entry.now.events.items)) }
@@ -95,14 +102,17 @@ pub fn night_run<B: LiveBoard, G: Gate, R: Threads + Wait + Sync>(
     // The history that was settled is a merge of the rows, the settled reading is of it, and the closing screen is of that.
     ensures merge { IfOk result (λ end. IsMerge (number_of_two (B.reporter end.reporter_1).number (B.reporter end.reporter_2).number) night.entry.now.events.items (take end.settled.version (B.reporter end.reporter_2).seen)) }
     ensures settled { IfOk result (λ end. end.settled ≡ snapshot_at (B.reporter end.reporter_2).seen end.settled.version) }
-    ensures closing { IfOk result (λ end. string_bytes end.closing ≡ screen_text end.settled.board night.entry.now.roster group) }
+    ensures closing { IfOk result (λ end. string_bytes end.closing ≡ screen_text profile end.settled.board night.entry.now.roster group) }
+
+    // Reporter 2's pass has seen the settled history, and both reporters have entered just its events: none after it.
+    ensures count { IfOk result (λ end. (end.settled.version ≤ length (B.reporter end.reporter_2).seen) × (length (B.reporter end.reporter_1).mine + length (B.reporter end.reporter_2).mine ≡ end.settled.version)) }
 
     // Where each match has one reporter, the schedule does not matter.
     ensures board { IfOk result (λ end. EachMatchHasOneReporter night.entry.now.events.items → end.settled.board ≡ night_board (number_of_two (B.reporter end.reporter_1).number (B.reporter end.reporter_2).number) night.entry.now.events.items) }
 
     // What the readers showed.
-    ensures shown_1 { IfOk result (λ end. HasShown (B.reader pass) (B.reader end.reader_1) readings night.entry.now.roster group (option_map string_bytes (slice_index_or end.last 0 None))) }
-    ensures shown_2 { IfOk result (λ end. HasShown (B.reader pass) (B.reader end.reader_2) readings night.entry.now.roster group (option_map string_bytes (slice_index_or end.last 1 None))) }
+    ensures shown_1 { IfOk result (λ end. HasShown profile (B.reader pass) (B.reader end.reader_1) readings night.entry.now.roster group (option_map string_bytes (slice_index_or end.last 0 None))) }
+    ensures shown_2 { IfOk result (λ end. HasShown profile (B.reader pass) (B.reader end.reader_2) readings night.entry.now.roster group (option_map string_bytes (slice_index_or end.last 1 None))) }
 {
     check_duty(&night.events)?;
     let second = board.split(rt, &mut pass);
@@ -124,11 +134,12 @@ pub fn night_run<B: LiveBoard, G: Gate, R: Threads + Wait + Sync>(
         group,
         readings,
         gate,
+        profile,
     )?;
     let left = left?;
     let right = right?;
     let settled = settle(board, rt, &mut reporter_1, &mut reporter_2)?;
-    let closing = screen(alloc, &settled.board, &night.roster, group)?;
+    let closing = screen(alloc, &settled.board, &night.roster, group, profile)?;
     Ok(NightEnd {
         last: [left.last, right.last],
         settled,

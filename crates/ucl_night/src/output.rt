@@ -1,6 +1,6 @@
 //! Writing texts.
 
-ghost use Rattle.std.specs.Prelude.{◌≡◌, ◌+◌, ◌-◌, ◌^◌, ◌++◌, min, length, None, OnOk, IfOk, IfErr, slice_index_or, option_map, string_bytes};
+ghost use Rattle.std.specs.Prelude.{◌≡◌, ◌+◌, ◌-◌, ◌^◌, ◌++◌, codes, min, length, None, OnOk, IfOk, IfErr, slice_index_or, option_map, string_bytes};
 ghost use Rattle.std.specs.Io.KnownBytes.{Appends};
 ghost use Rattle.ucl_night.specs.Nights.{last_text, lasts_text};
 ghost use Rattle.ucl_night.specs.Run.{IsCutShort, IsStopped};
@@ -48,6 +48,21 @@ pub fn put_under<W: Sink>(
 {
     let before = put_part(sink, before, heading)?;
     put_part(sink, before, text)
+}
+
+/// Writes a line of three parts.
+#[tactic(auto, using(crate::proofs::Parts::stopped_first, crate::proofs::Parts::stopped_second))]
+pub fn put_line<W: Sink>(
+    sink: &mut W,
+    before: &str,
+    number: &str,
+    after: &str,
+) -> Result<usize, RunFault>
+    ensures all { OnOk result (Appends (W.taken sink.old) (W.taken sink.new) ((before.now ++ number.now) ++ (after.now ++ codes "\n"))) }
+    ensures part { IfErr result (IsStopped 0 (W.failed sink.new) (W.taken sink.old) (W.taken sink.new) ((before.now ++ number.now) ++ (after.now ++ codes "\n"))) }
+{
+    let written = put_under(sink, 0, before, number)?;
+    put_under(sink, written, after, "\n")
 }
 
 /// Writes the last screen of a reader under its heading, where there is one.

@@ -5,15 +5,18 @@ ghost use Rattle.std.specs.Io.KnownBytes.{Appends};
 ghost use Rattle.ucl_screen.specs.Input.{Reads};
 ghost use Rattle.ucl_screen.specs.Meaning.{MeansSheet, sheet_seen};
 ghost use Rattle.ucl_screen.specs.Screen.{IsGroup};
+ghost use Rattle.ucl_night.specs.Faults.{IsOfOneThread};
 ghost use Rattle.ucl_night.specs.Show.{IsShown};
 ghost use Rattle.ucl_night.specs.Run.{IfInput, IfWriteFailed, TextHas, UnlessWriteFailed, WroteFirst, is_read_failed};
 
 use crate::RunFault;
 use crate::output::put_text;
 use std::alloc::Global;
+use ucl_order::Profile;
 use ucl_screen::{InputFault, Sink, Source, read_words, screen};
 
-/// Reads a sheet from the source, and writes the screen of its board to the sink, for a group, `A` to `H`.
+/// Reads a sheet from the source, and writes the screen of its board to the sink, for a group, `A` to `H`, in the order of the
+/// profile.
 ///
 /// The whole input is read before anything is written.
 ///
@@ -26,9 +29,13 @@ pub fn show_run<S: Source, W: Sink>(
     source: &mut S,
     sink: &mut W,
     group: u8,
+    profile: Profile,
 ) -> Result<(), RunFault>
     requires { IsGroup group }
-    ensures text { OnOk result (TextHas (IsShown group) (S.left source.old) (Appends (W.taken sink.old) (W.taken sink.new))) }
+    ensures text { OnOk result (TextHas (IsShown profile group) (S.left source.old) (Appends (W.taken sink.old) (W.taken sink.new))) }
+
+    // Only the input, memory and the output can fail.
+    ensures kinds { IfErr result IsOfOneThread }
 
     // Why the input is refused, and that then, as where there is no memory, nothing is written.
     ensures input { IfErr result (λ f. IfInput f (λ e. Reads MeansSheet sheet_seen (S.left source.old) (S.left source.new) (S.failed source.new) (Err e))) }
@@ -40,11 +47,11 @@ pub fn show_run<S: Source, W: Sink>(
     // A failed read is answered exactly where the source has failed, and a failed write only where the sink has.
     ensures read_failed { S.failed source.new ≡ is_read_failed result }
     ensures write_failed { IfErr result (λ f. IfWriteFailed f (λ written. W.failed sink.new ≡ true)) }
-    ensures written { IfErr result (λ f. IfWriteFailed f (λ written. TextHas (IsShown group) (S.left source.old) (WroteFirst (W.taken sink.old) (W.taken sink.new) written))) }
+    ensures written { IfErr result (λ f. IfWriteFailed f (λ written. TextHas (IsShown profile group) (S.left source.old) (WroteFirst (W.taken sink.old) (W.taken sink.new) written))) }
 
     ensures calls { S.calls source.new ≤ S.calls source.old + 4194306 }
 {
     let sheet = read_words(alloc, source)?;
-    let text = screen(alloc, &sheet.board, &sheet.roster, group)?;
+    let text = screen(alloc, &sheet.board, &sheet.roster, group, profile)?;
     put_text(sink, text.as_str())
 }

@@ -2,12 +2,13 @@
 
 mod nights;
 
-use crate::{Line, LineFault, RunFault, feed_run, line_of, program, show_run, status_of};
+use crate::{Line, LineFault, RunFault, feed_run, line_of, run, show_run, status_of};
 use std::alloc::Global;
 use std::io;
 use std::sync::Wait;
 use std::test::Fail;
 use std::thread::Threads;
+use ucl_order::Profile;
 use ucl_screen::{FromRead, InputFault, ToWrite, read_night, screen};
 use ucl_steps::{Call, Caller, Cast, Reply, Step, run_steps};
 use ucl_word::{EventCall, Kind, MatchNo, ReporterNo};
@@ -19,13 +20,17 @@ const TWO_MATCHES: &str =
     "1,1,0,kickoff\n1,1,1,goal-home\n2,1,1,goal-away\n2,2,0,goal-home\n2,2,0,kickoff\n1,1,2,yellow-away\n1,1,3,second-yellow-away\n1,1,4,disallow-home\n1,1,5,disallow-home\n1,1,5,fulltime\n";
 
 const TWO_MATCHES_OUT: &str =
-    "5 ok 1 1 1\n6 ok 1 2 2\n7 refused 1 stale 2\n8 refused 3 not-started\n9 ok 2 1 3\n10 ok 1 3 4\n11 ok 1 4 5\n12 ok 1 5 6\n13 refused 6 no-goal\n14 ok 1 6 7\nword,1,0000420000000806,\nword,2,0000800000000401,\nword,3,0000000000000000,\nword,4,0000000000000000,\nword,5,0000000000000000,\nword,6,0000000000000000,\nword,7,0000000000000000,\nword,8,0000000000000000,\nword,9,0000000000000000,\nword,10,0000000000000000,\nword,11,0000000000000000,\nword,12,0000000000000000,\n";
+    "5 ok 1 1 1\n6 ok 1 2 2\n7 refused 1 stale 2\n8 refused 3 not-started\n9 ok 2 1 3\n10 ok 1 3 4\n11 ok 1 4 5\n12 ok 1 5 6\n13 refused 6 no-goal\n14 ok 1 6 7\nword,1,2001080000002006,\nword,2,2002000000001001,\nword,3,2000000000000000,\nword,4,2000000000000000,\nword,5,2000000000000000,\nword,6,2000000000000000,\nword,7,2000000000000000,\nword,8,2000000000000000,\nword,9,2000000000000000,\nword,10,2000000000000000,\nword,11,2000000000000000,\nword,12,2000000000000000,\n";
 
 const NO_EVENT_OUT: &str =
-    "word,1,0000000000000000,\nword,2,0000000000000000,\nword,3,0000000000000000,\nword,4,0000000000000000,\nword,5,0000000000000000,\nword,6,0000000000000000,\nword,7,0000000000000000,\nword,8,0000000000000000,\nword,9,0000000000000000,\nword,10,0000000000000000,\nword,11,0000000000000000,\nword,12,0000000000000000,\n";
+    "word,1,2000000000000000,\nword,2,2000000000000000,\nword,3,2000000000000000,\nword,4,2000000000000000,\nword,5,2000000000000000,\nword,6,2000000000000000,\nword,7,2000000000000000,\nword,8,2000000000000000,\nword,9,2000000000000000,\nword,10,2000000000000000,\nword,11,2000000000000000,\nword,12,2000000000000000,\n";
 
 /// The word lines of the stored run.
 const TWO_MATCHES_WORDS: &str =
+    "word,1,2001080000002006,\nword,2,2002000000001001,\nword,3,2000000000000000,\nword,4,2000000000000000,\nword,5,2000000000000000,\nword,6,2000000000000000,\nword,7,2000000000000000,\nword,8,2000000000000000,\nword,9,2000000000000000,\nword,10,2000000000000000,\nword,11,2000000000000000,\nword,12,2000000000000000,\n";
+
+/// The same matches in words of the first layout.
+const TWO_MATCHES_OLD_WORDS: &str =
     "word,1,0000420000000806,\nword,2,0000800000000401,\nword,3,0000000000000000,\nword,4,0000000000000000,\nword,5,0000000000000000,\nword,6,0000000000000000,\nword,7,0000000000000000,\nword,8,0000000000000000,\nword,9,0000000000000000,\nword,10,0000000000000000,\nword,11,0000000000000000,\nword,12,0000000000000000,\n";
 
 const TWO_MATCHES_SCREEN: &str = "\
@@ -114,7 +119,7 @@ fn shown<R: io::Read + Drop>(
             piece: 64,
             room,
         });
-        show_run(alloc, &mut source, &mut sink, b'A')
+        show_run(alloc, &mut source, &mut sink, b'A', Profile::Uefa)
     };
     (answer, out)
 }
@@ -198,14 +203,47 @@ fn command_lines(rt: HostRuntime) -> Result<(), Fail> {
     let alloc = rt.alloc();
     let taken = [
         ("ucl_night feed", Line::Feed),
-        ("ucl_night show", Line::Show { group: b'A' }),
-        ("ucl_night show --group A", Line::Show { group: b'A' }),
-        ("ucl_night show --group H", Line::Show { group: b'H' }),
+        (
+            "ucl_night show",
+            Line::Show {
+                group: b'A',
+                profile: Profile::Uefa,
+            },
+        ),
+        (
+            "ucl_night show --group A",
+            Line::Show {
+                group: b'A',
+                profile: Profile::Uefa,
+            },
+        ),
+        (
+            "ucl_night show --group H",
+            Line::Show {
+                group: b'H',
+                profile: Profile::Uefa,
+            },
+        ),
+        (
+            "ucl_night show --order away-in-tie",
+            Line::Show {
+                group: b'A',
+                profile: Profile::AwayInTie,
+            },
+        ),
+        (
+            "ucl_night show --order uefa --group C",
+            Line::Show {
+                group: b'C',
+                profile: Profile::Uefa,
+            },
+        ),
         (
             "ucl_night night",
             Line::Night {
                 group: b'A',
                 readings: 0,
+                profile: Profile::Uefa,
             },
         ),
         (
@@ -213,6 +251,15 @@ fn command_lines(rt: HostRuntime) -> Result<(), Fail> {
             Line::Night {
                 group: b'B',
                 readings: 3,
+                profile: Profile::Uefa,
+            },
+        ),
+        (
+            "ucl_night night --order away-in-tie --readings 2",
+            Line::Night {
+                group: b'A',
+                readings: 2,
+                profile: Profile::AwayInTie,
             },
         ),
         (
@@ -220,6 +267,7 @@ fn command_lines(rt: HostRuntime) -> Result<(), Fail> {
             Line::Night {
                 group: b'H',
                 readings: 1000,
+                profile: Profile::Uefa,
             },
         ),
     ];
@@ -229,6 +277,18 @@ fn command_lines(rt: HostRuntime) -> Result<(), Fail> {
             line_of(alloc, &words).is_ok_and(|line| line == asked),
             "at {line}"
         );
+    }
+    for letter in b'A'..=b'H' {
+        for subcommand in ["show", "night"] {
+            let mut line = String::from_str(alloc, "ucl_night ")?;
+            write!(&mut line, "{subcommand} --group {}", char::from(letter))?;
+            let words = words_of(alloc, line.as_str())?;
+            let group = match line_of(alloc, &words) {
+                Ok(Line::Show { group, .. } | Line::Night { group, .. }) => Some(group),
+                _ => None,
+            };
+            assert_eq!(rt; group, Some(letter), "at {line}");
+        }
     }
     for line in [
         "ucl_night --help",
@@ -255,6 +315,11 @@ fn command_lines(rt: HostRuntime) -> Result<(), Fail> {
         "ucl_night show --group",
         "ucl_night show --group I",
         "ucl_night show --group a",
+        "ucl_night show --order",
+        "ucl_night show --order away",
+        "ucl_night show --order UEFA",
+        "ucl_night night --order goals",
+        "ucl_night feed --order uefa",
         "ucl_night show --group AB",
         "ucl_night feed --group A",
         "ucl_night other",
@@ -381,13 +446,27 @@ fn head_to_head(rt: HostRuntime) -> Result<(), Fail> {
     }
     assert_eq!(rt; accepted, 40);
     let rows = [
-        "\n44 ok 12 3 40\nword,1,0000400000001803,\n",
-        "\nword,4,0000800000005807,\n",
-        "\nword,11,0000400000080804,\n",
+        "\n44 ok 12 3 40\nword,1,2001000000006003,\n",
+        "\nword,4,2002000000016007,\n",
+        "\nword,11,2001000000202004,\n",
     ];
     for row in rows {
         assert!(rt; text.contains(row), "at {row}");
     }
+    Ok(())
+}
+
+/// A reopening of the first match, and one of a match that has not kicked off.
+#[test]
+fn two_reopenings(rt: HostRuntime) -> Result<(), Fail> {
+    let alloc = rt.alloc();
+    let script = joined(alloc, CLUBS, TWO_MATCHES)?;
+    let script = joined(alloc, script.as_str(), "1,1,6,reopen\n1,3,0,reopen\n")?;
+    let (answer, out) = fed(alloc, script.as_bytes(), usize::MAX);
+    assert_eq!(rt; answer, Ok(()));
+    let text = std::str::from_utf8(out.as_slice())?;
+    let row = "\n14 ok 1 6 7\n15 ok 1 7 8\n16 refused 9 not-finished\nword,1,2001080000001007,\n";
+    assert!(rt; text.contains(row));
     Ok(())
 }
 
@@ -423,20 +502,43 @@ GROUP A v00040 IN PLAY 0
 4 - Delta                 6  1  1  4   1   8   -7   4
 ";
 
-#[test]
-fn screens_of_sheets(rt: HostRuntime) -> Result<(), Fail> {
-    let alloc = rt.alloc();
-    let script = head_to_head_script(alloc)?;
-    let (answer, out) = fed(alloc, script.as_bytes(), usize::MAX);
-    assert_eq!(rt; answer, Ok(()));
-    let text = std::str::from_utf8(out.as_slice())?;
+/// The same with the last match reopened: who was sure of a place may lose it now.
+const REOPENED_SCREEN: &str = "\
+GROUP A v00041 IN PLAY 1
+    Club                  P  W  D  L  GF  GA   GD Pts
+1   Alpha                 6  3  1  2   5   2   +3  10
+2   Bravo                 6  3  1  2   3   3   +0  10
+3   Charlie               6  3  1  2   7   3   +4  10
+4 - Delta                 6  1  1  4   1   8   -7   4
+";
+
+/// The word lines of what `feed` writes.
+fn word_lines(alloc: Global, text: &str) -> Result<String, Fail> {
     let mut words = String::new(alloc);
     for line in text.lines().filter(|line| line.starts_with("word,")) {
         write!(&mut words, "{line}\n")?;
     }
+    Ok(words)
+}
+
+#[test]
+fn screens_of_sheets(rt: HostRuntime) -> Result<(), Fail> {
+    let alloc = rt.alloc();
+    let mut script = head_to_head_script(alloc)?;
+    let (answer, out) = fed(alloc, script.as_bytes(), usize::MAX);
+    assert_eq!(rt; answer, Ok(()));
+    let text = std::str::from_utf8(out.as_slice())?;
+    let words = word_lines(alloc, text)?;
+    write!(&mut script, "2,12,3,reopen\n")?;
+    let (answer, out) = fed(alloc, script.as_bytes(), usize::MAX);
+    assert_eq!(rt; answer, Ok(()));
+    let text = std::str::from_utf8(out.as_slice())?;
+    let reopened = word_lines(alloc, text)?;
     let sheets = [
         (words.as_str(), HEAD_TO_HEAD_SCREEN),
+        (reopened.as_str(), REOPENED_SCREEN),
         (TWO_MATCHES_WORDS, TWO_MATCHES_SCREEN),
+        (TWO_MATCHES_OLD_WORDS, TWO_MATCHES_SCREEN),
     ];
     for (words, screen) in sheets {
         let sheet = joined(alloc, CLUBS, words)?;
@@ -459,9 +561,9 @@ fn screens_of_sheets(rt: HostRuntime) -> Result<(), Fail> {
 fn sheet_faults(rt: HostRuntime) -> Result<(), Fail> {
     let alloc = rt.alloc();
     let rows = [
-        ("word,2,0000000000000000,\n", InputFault::BadRow { row: 5 }),
+        ("word,2,2000000000000000,\n", InputFault::BadRow { row: 5 }),
         ("word,1,000000000000000,\n", InputFault::BadRow { row: 5 }),
-        ("word,1,0000000000000000,\n", InputFault::BadRow { row: 6 }),
+        ("word,1,2000000000000000,\n", InputFault::BadRow { row: 6 }),
     ];
     for (words, fault) in rows {
         let sheet = joined(alloc, CLUBS, words)?;
@@ -525,7 +627,7 @@ fn screen_of_a_reading(rt: HostRuntime) -> Result<(), Fail> {
         return Err("no reading".into());
     };
     let night = read_night(alloc, &mut FromRead::new(CLUBS.as_bytes()))?;
-    let text = screen(alloc, &reading.board, &night.roster, b'A')?;
+    let text = screen(alloc, &reading.board, &night.roster, b'A', Profile::Uefa)?;
     assert_eq!(rt; text.as_str(), TWO_KICK_OFFS_SCREEN);
     Ok(())
 }
@@ -548,7 +650,13 @@ fn ran<R: Threads + Wait + Sync>(
             piece: 64,
             room,
         });
-        program::run(rt, alloc, &words, &mut source, &mut sink, &mut errors)
+        let mut told = ToWrite::new(Full {
+            taken: &mut errors,
+            piece: 7,
+            room: usize::MAX,
+        });
+        let asked = line_of(alloc, &words);
+        run(rt, alloc, asked, &mut source, &mut sink, &mut told)
     };
     Ok((status, out, errors))
 }

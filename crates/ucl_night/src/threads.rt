@@ -11,7 +11,7 @@ use std::snapshot::Snapshot;
 use std::sync::Wait;
 use std::thread;
 use std::thread::{Promise, PromisedHandle, Scope, Threads};
-use ucl_order::Roster;
+use ucl_order::{Profile, Roster};
 use ucl_pass::LiveBoard;
 use ucl_screen::NightEvent;
 use ucl_word::OutOfMemory;
@@ -54,6 +54,7 @@ pub struct Showing<B: LiveBoard> {
     roster: Snapshot<Roster>,
     group: u8,
     readings: u32,
+    profile: Profile,
 }
 
 impl<B: LiveBoard> Showing<B> {
@@ -64,12 +65,14 @@ impl<B: LiveBoard> Showing<B> {
         roster: &Roster,
         group: u8,
         readings: u32,
+        profile: Profile,
     ) -> Showing<B>
         ensures board { result.board.value ≡ board.now }
         ensures before { result.before.value ≡ before.now }
         ensures roster { result.roster.value ≡ roster.now }
         ensures group { result.group ≡ group }
         ensures readings { result.readings ≡ readings }
+        ensures profile { result.profile ≡ profile }
     {
         Showing {
             board: Snapshot::of(board),
@@ -77,12 +80,13 @@ impl<B: LiveBoard> Showing<B> {
             roster: Snapshot::of(roster),
             group,
             readings,
+            profile,
         }
     }
 }
 
 impl<B: LiveBoard> Promise<Result<Shown<B::ReaderPass>, OutOfMemory>> for Showing<B> {
-    ghost kept_by = { λ p end. IfOk end (HasShownOn B.LiveBoard p.board.value p.before.value p.readings p.roster.value p.group) };
+    ghost kept_by = { λ p end. IfOk end (HasShownOn B.LiveBoard p.board.value p.profile p.before.value p.readings p.roster.value p.group) };
 }
 
 /// No thread could be had for a worker.
@@ -130,6 +134,7 @@ fn start_reader<'s, E, B: LiveBoard, G: Gate, R: Wait + Sync>(
     roster: &'s Roster,
     group: u8,
     gate: &'s G,
+    profile: Profile,
 ) -> Result<PromisedHandle<Result<Shown<B::ReaderPass>, OutOfMemory>, Showing<B>>, NoThread>
 where
     B::ReaderPass: 's,
@@ -140,16 +145,17 @@ where
     ensures roster { IfOk result (λ worker. worker.promise.roster.value ≡ roster.now) }
     ensures group { IfOk result (λ worker. worker.promise.group ≡ group) }
     ensures readings { IfOk result (λ worker. worker.promise.readings ≡ readings) }
+    ensures profile { IfOk result (λ worker. worker.promise.profile ≡ profile) }
 {
-    let promise = Showing::of(board, &pass, roster, group, readings);
+    let promise = Showing::of(board, &pass, roster, group, readings, profile);
     let started = scope.spawn_with(
         promise,
         move || -> Result<Shown<B::ReaderPass>, OutOfMemory>
             requires { IsNewOn B.LiveBoard board.now pass × IsGroup group }
-            ensures { IfOk result (HasShownOn B.LiveBoard board.entry.now pass readings roster.entry.now group) }
+            ensures { IfOk result (HasShownOn B.LiveBoard board.entry.now profile pass readings roster.entry.now group) }
         {
             show_screens(
-                rt, alloc, board, pass, worker, readings, roster, group, gate,
+                rt, alloc, board, pass, worker, readings, roster, group, gate, profile,
             )
         },
     );
@@ -176,14 +182,15 @@ pub fn work<B: LiveBoard, G: Gate, R: Threads + Wait + Sync>(
     group: u8,
     readings: u32,
     gate: &G,
+    profile: Profile,
 ) -> Result<Handed<B::ReaderPass, B::ReporterPass>, NoThread>
     requires reporters { IsFreshOn B.LiveBoard board.now reporters.0 × IsFreshOn B.LiveBoard board.now reporters.1 }
     requires readers { IsNewOn B.LiveBoard board.now readers.0 × IsNewOn B.LiveBoard board.now readers.1 }
     requires group { IsGroup group }
     ensures first { IfOk result (λ h. HasEnteredOn B.LiveBoard board.entry.now reporters.0 1 rows.entry.now.items h.reporters.0) }
     ensures second { IfOk result (λ h. HasEnteredOn B.LiveBoard board.entry.now reporters.1 2 rows.entry.now.items h.reporters.1) }
-    ensures left { IfOk result (λ h. IfOk h.readers.0 (HasShownOn B.LiveBoard board.entry.now readers.0 readings roster.entry.now group)) }
-    ensures right { IfOk result (λ h. IfOk h.readers.1 (HasShownOn B.LiveBoard board.entry.now readers.1 readings roster.entry.now group)) }
+    ensures left { IfOk result (λ h. IfOk h.readers.0 (HasShownOn B.LiveBoard board.entry.now profile readers.0 readings roster.entry.now group)) }
+    ensures right { IfOk result (λ h. IfOk h.readers.1 (HasShownOn B.LiveBoard board.entry.now profile readers.1 readings roster.entry.now group)) }
 {
     let (first, second) = reporters;
     let (left, right) = readers;
@@ -195,16 +202,16 @@ pub fn work<B: LiveBoard, G: Gate, R: Threads + Wait + Sync>(
             requires readers { IsNewOn B.LiveBoard board.now left × IsNewOn B.LiveBoard board.now right × IsGroup group }
             ensures first { IfOk result (λ h. HasEnteredOn B.LiveBoard board.entry.now first 1 rows.entry.now.items h.reporters.0) }
             ensures second { IfOk result (λ h. HasEnteredOn B.LiveBoard board.entry.now second 2 rows.entry.now.items h.reporters.1) }
-            ensures left { IfOk result (λ h. IfOk h.readers.0 (HasShownOn B.LiveBoard board.entry.now left readings roster.entry.now group)) }
-            ensures right { IfOk result (λ h. IfOk h.readers.1 (HasShownOn B.LiveBoard board.entry.now right readings roster.entry.now group)) }
+            ensures left { IfOk result (λ h. IfOk h.readers.0 (HasShownOn B.LiveBoard board.entry.now profile left readings roster.entry.now group)) }
+            ensures right { IfOk result (λ h. IfOk h.readers.1 (HasShownOn B.LiveBoard board.entry.now profile right readings roster.entry.now group)) }
         {
             let worker_1 = start_reporter(scope, rt, board, first, 1, rows, gate);
             let worker_2 = start_reporter(scope, rt, board, second, 2, rows, gate);
             let worker_3 = start_reader(
-                scope, rt, alloc, board, left, 3, readings, roster, group, gate,
+                scope, rt, alloc, board, left, 3, readings, roster, group, gate, profile,
             );
             let worker_4 = start_reader(
-                scope, rt, alloc, board, right, 4, readings, roster, group, gate,
+                scope, rt, alloc, board, right, 4, readings, roster, group, gate, profile,
             );
             match (worker_1, worker_2, worker_3, worker_4) {
                 (Ok(one), Ok(two), Ok(three), Ok(four)) => Ok(Handed {

@@ -7,7 +7,7 @@ ghost use Rattle.ucl_night.specs.Nights.{IsFresh, IsNew, HasEntered, HasShown};
 use crate::gate::Gate;
 use std::alloc::Global;
 use std::sync::Wait;
-use ucl_order::Roster;
+use ucl_order::{Profile, Roster};
 use ucl_pass::LiveBoard;
 use ucl_screen::{NightEvent, screen};
 use ucl_word::OutOfMemory;
@@ -57,18 +57,19 @@ pub fn show_screens<B: LiveBoard, G: Gate, R: Wait>(
     roster: &Roster,
     group: u8,
     gate: &G,
+    profile: Profile,
 ) -> Result<Shown<B::ReaderPass>, OutOfMemory>
     requires own { B.is_reader board.now pass }
     requires new { IsNew (B.reader pass) }
     requires group { IsGroup group }
     ensures own { IfOk result (λ end. B.is_reader board.entry.now end.pass) }
-    ensures shown { IfOk result (λ end. HasShown (B.reader pass) (B.reader end.pass) readings roster.entry.now group (option_map string_bytes end.last)) }
+    ensures shown { IfOk result (λ end. HasShown profile (B.reader pass) (B.reader end.pass) readings roster.entry.now group (option_map string_bytes end.last)) }
 {
     let mut last = None;
     for call in 0..readings {
         gate.come(worker, call);
         let reading = board.read(rt, &mut pass);
-        let text = screen(alloc, &reading.board, roster, group)?;
+        let text = screen(alloc, &reading.board, roster, group, profile)?;
         gate.shown(worker, &reading, text.as_str());
         last = Some(text);
     }

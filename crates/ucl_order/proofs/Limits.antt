@@ -7,6 +7,7 @@ use Rattle.std.proofs.lemmas.List.Sorted.{All-permutation, length_permutation}
 use Rattle.std.proofs.lemmas.List.Elements.{All-head, All-tail, All-cons, All-nil, All-filter}
 use Rattle.ucl_word.specs.Record.{IsValid}
 use Rattle.ucl_board.specs.Fixtures.{IsSlot}
+use Rattle.ucl_order.specs.declared.profile.Profile.{Profile}
 use Rattle.ucl_order.specs.declared.game.Match.{Match}
 use Rattle.ucl_order.specs.declared.game.Appearance.{Appearance}
 use Rattle.ucl_order.specs.declared.mark.Mark.{Mark}
@@ -138,16 +139,16 @@ at_most_six board club slot =
     let all : played club (matches_of board) ≡ 6 = six board club slot in
     omega arith
 
-module _ (board : List ℕ) (roster : List ClubEntry) (valid : All (λ m. IsValid m.result) (matches_of board)) where
-  row_within : (place : ℕ) → 1 ≤ place → place ≤ 4 → IsWithinTable (row_of board roster place)
+module _ (profile : Profile) (board : List ℕ) (roster : List ClubEntry) (valid : All (λ m. IsValid m.result) (matches_of board)) where
+  row_within : (place : ℕ) → 1 ≤ place → place ≤ 4 → IsWithinTable (row_of profile board roster place)
   unfolding row_of
   row_within place low high =
-      let order : List ℕ = order_of board roster in
-      let long : length order ≡ 4 = length_permutation _ _ (IsPermutation-order board roster) in
-      let slot : IsSlot (slice_index order (place - 1)) = All-permutation IsSlot all_clubs order (IsPermutation-order board roster) slots (place - 1) 0 (omega arith) in
+      let order : List ℕ = order_of profile board roster in
+      let long : length order ≡ 4 = length_permutation _ _ (IsPermutation-order profile board roster) in
+      let slot : IsSlot (slice_index order (place - 1)) = All-permutation IsSlot all_clubs order (IsPermutation-order profile board roster) slots (place - 1) 0 (omega arith) in
       within_table place (slice_index order (place - 1)) _ (started (matches_of board)) slot (All-filter has_started (λ m. IsValid m.result) (matches_of board) valid) (at_most_six board (slice_index order (place - 1)) slot)
 
-  pub rows_within : All IsWithinTable (rows_of board roster)
+  pub rows_within : All IsWithinTable (rows_of profile board roster)
   rows_within zero d h = row_within 1 (omega arith) (omega arith)
   rows_within (suc zero) d h = row_within 2 (omega arith) (omega arith)
   rows_within (suc (suc zero)) d h = row_within 3 (omega arith) (omega arith)

@@ -1,6 +1,7 @@
 -- The rows, from what the calls answered.
 use Rattle.std.proofs.Common.{◌≡◌, ℕ, ◌-◌, List, [], ◌∷◌}
 use Rattle.std.specs.List.{slice_index}
+use Rattle.ucl_order.specs.declared.profile.Profile.{Profile}
 use Rattle.ucl_order.specs.declared.game.Match.{Match}
 use Rattle.ucl_order.specs.declared.mark.Mark.{Mark}
 use Rattle.ucl_order.specs.declared.table.Row.{Row}
@@ -16,14 +17,14 @@ pub row_is : (place n : ℕ) (order : List ℕ) (ms now : List Match) (mark : Ma
     r ≡ row_with place (slice_index order (place - 1)) (mark_by ms order (slice_index order (place - 1))) (started ms)
 row_is place n order ms now mark r is_n is_now is_mark is = rw (is, is_mark, is_now, is_n)
 
-pub order_is : (board : List ℕ) (roster : List ClubEntry) (now : List Match) (order : List ℕ) → now ≡ started (matches_of board) → order ≡ order_by now roster → order ≡ order_of board roster
+pub order_is : (profile : Profile) (board : List ℕ) (roster : List ClubEntry) (now : List Match) (order : List ℕ) → now ≡ started (matches_of board) → order ≡ order_by profile now roster → order ≡ order_of profile board roster
 unfolding order_of order_by
-order_is board roster now order is_now is = rw (is, is_now)
+order_is profile board roster now order is_now is = rw (is, is_now)
 
-pub row_of_place : (board : List ℕ) (roster : List ClubEntry) (place : ℕ) (ms given : List Match) (order : List ℕ) (r : Row) → ms ≡ matches_of board → given ≡ ms → order ≡ order_of board roster →
-    r ≡ row_with place (slice_index order (place - 1)) (mark_by given order (slice_index order (place - 1))) (started given) → r ≡ row_of board roster place
+pub row_of_place : (profile : Profile) (board : List ℕ) (roster : List ClubEntry) (place : ℕ) (ms given : List Match) (order : List ℕ) (r : Row) → ms ≡ matches_of board → given ≡ ms → order ≡ order_of profile board roster →
+    r ≡ row_with place (slice_index order (place - 1)) (mark_by given order (slice_index order (place - 1))) (started given) → r ≡ row_of profile board roster place
 unfolding row_of mark_of
-row_of_place board roster place ms given order r is_ms is_given is_order is = rw (is, is_given, is_ms, is_order)
+row_of_place profile board roster place ms given order r is_ms is_given is_order is = rw (is, is_given, is_ms, is_order)
 
 pub four_rows : {a b c d a' b' c' d' : Row} → a ≡ a' → b ≡ b' → c ≡ c' → d ≡ d' → ◌≡◌ {A = List Row} (a ∷ b ∷ c ∷ d ∷ []) (a' ∷ b' ∷ c' ∷ d' ∷ [])
 four_rows p q r s = cc

@@ -7,6 +7,7 @@ use Rattle.ucl_board.specs.Words.{AreWords, game_at}
 use Rattle.ucl_order.specs.declared.game.Match.{Match}
 use Rattle.ucl_order.specs.declared.mark.Mark.{Mark}
 use Rattle.ucl_order.specs.declared.mark.Mark.TheVariants.{Plus, Minus, Blank}
+use Rattle.ucl_order.specs.declared.profile.Profile.{Profile}
 use Rattle.ucl_order.specs.Roster.{ClubEntry}
 use Rattle.ucl_order.specs.Results.{matches_of, has_finished, finished, unfinished, played, points}
 use Rattle.ucl_order.specs.Order.{is_in, all_clubs, order_of}
@@ -49,12 +50,12 @@ abbrev pub mark_by : List Match → List ℕ → ℕ → Mark
 mark_by ms order club = if list_all has_finished ms then final_mark order club else early_mark ms club
 
 -- the mark of a club
-unfoldable pub mark_of : List ℕ → List ClubEntry → ℕ → Mark
-mark_of board roster club = mark_by (matches_of board) (order_of board roster) club
+unfoldable pub mark_of : Profile → List ℕ → List ClubEntry → ℕ → Mark
+mark_of profile board roster club = mark_by (matches_of board) (order_of profile board roster) club
 
 -- the club is among the first two of the order
-abbrev pub GoesThrough : List ℕ → List ClubEntry → ℕ → Type 0
-GoesThrough board roster club = Contains (take 2 (order_of board roster)) club
+abbrev pub GoesThrough : Profile → List ℕ → List ClubEntry → ℕ → Type 0
+GoesThrough profile board roster club = Contains (take 2 (order_of profile board roster)) club
 
 -- how a group may end: all matches are finished, each with some valid record, and those that were finished stay as they are
 pub record IsCompletion (board later : List ℕ) : Type 0 where

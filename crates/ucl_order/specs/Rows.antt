@@ -3,6 +3,7 @@ use Rattle.std.specs.Prelude.{ℕ, ◌-◌, ◌≤◌, List, [], ◌∷◌, map,
 use Rattle.ucl_board.specs.Fixtures.{IsSlot}
 use Rattle.ucl_order.specs.declared.game.Match.{Match}
 use Rattle.ucl_order.specs.declared.mark.Mark.{Mark}
+use Rattle.ucl_order.specs.declared.profile.Profile.{Profile}
 use Rattle.ucl_order.specs.declared.table.Row.{Row}
 use Rattle.ucl_order.specs.Roster.{ClubEntry}
 use Rattle.ucl_order.specs.Results.{matches_of, started, played, wins, draws, losses, goals_for, goals_against, points}
@@ -25,18 +26,18 @@ row_with place slot mark ms = record {
 }
 
 -- the club at a place of the order
-abbrev pub club_at : List ℕ → List ClubEntry → ℕ → ℕ
-club_at board roster place = slice_index (order_of board roster) (place - 1)
+abbrev pub club_at : Profile → List ℕ → List ClubEntry → ℕ → ℕ
+club_at profile board roster place = slice_index (order_of profile board roster) (place - 1)
 
 -- the row at a place: the club's mark, and what it has done in the matches in play and finished
-unfoldable pub row_of : List ℕ → List ClubEntry → ℕ → Row
-row_of board roster place =
-    let slot = club_at board roster place in
-    row_with place slot (mark_of board roster slot) (started (matches_of board))
+unfoldable pub row_of : Profile → List ℕ → List ClubEntry → ℕ → Row
+row_of profile board roster place =
+    let slot = club_at profile board roster place in
+    row_with place slot (mark_of profile board roster slot) (started (matches_of board))
 
--- the table of a board and a roster, by place
-abbrev pub rows_of : List ℕ → List ClubEntry → List Row
-rows_of board roster = map (row_of board roster) (1 ∷ 2 ∷ 3 ∷ 4 ∷ [])
+-- the table of a board and a roster, by place, in the order of the profile
+abbrev pub rows_of : Profile → List ℕ → List ClubEntry → List Row
+rows_of profile board roster = map (row_of profile board roster) (1 ∷ 2 ∷ 3 ∷ 4 ∷ [])
 
 -- a row of a group of four clubs, each with six matches of at most 63 goals a side
 pub record IsWithinTable (row : Row) : Type 0 where

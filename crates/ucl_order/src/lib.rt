@@ -6,6 +6,7 @@ mod keys;
 mod laws;
 mod mark;
 mod order;
+mod profile;
 mod results;
 mod roster;
 mod table;
@@ -17,6 +18,7 @@ pub use laws::{
     rankings_are_orders, ties_follow_rule,
 };
 pub use mark::Mark;
+pub use profile::Profile;
 pub use roster::{BadRoster, Club, Roster};
 pub use table::{Row, standings};
 

@@ -12,6 +12,7 @@ ghost use Rattle.ucl_order.specs.Rows.{IsWithinTable, row_with, rows_of};
 use crate::game::{fill_matches, fill_started};
 use crate::mark::{Mark, marks_of};
 use crate::order::order;
+use crate::profile::Profile;
 use crate::results::Results;
 use crate::roster::Roster;
 use arrayvec::ArrayVec;
@@ -83,14 +84,15 @@ fn row_at(place: u8, order: &[u8; 4], marks: &[Mark; 4], results: &[Results; 4])
 /// stand in the order of the Regulations of the UEFA Champions League 2021/22, equality of points in the group stage: (a) points,
 /// (b) goal difference and (c) goals scored in the matches among them; (d) the same again among each smaller class that stays level;
 /// then, over all matches, (e) goal difference, (f) goals scored, (g) away goals, (h) wins, (i) away wins, (j) the lower
-/// disciplinary total and (k) the higher coefficient; and at last by slot.
+/// disciplinary total and (k) the higher coefficient; and at last by slot. With `AwayInTie` away goals in the matches among the clubs
+/// come after (c), also where (d) applies them again.
 ///
 /// Marks go by finished matches. When all twelve are finished, the first two clubs have `Plus` and the others `Minus`. Before, a club
 /// can reach its points and three more for each match that it has left: `Plus` where at most one other club can reach the club's
 /// points, `Minus` where at least two others have more points than the club can reach, else `Blank`. What `Plus` and `Minus` say then
 /// holds in every completion (`plus_is_certain`, `minus_is_certain`).
-pub fn standings(board: &Board, roster: &Roster) -> [Row; 4]
-    ensures rows { result ≡ rows_of board.now roster.now }
+pub fn standings(board: &Board, roster: &Roster, profile: Profile) -> [Row; 4]
+    ensures rows { result ≡ rows_of profile board.now roster.now }
     ensures four { length result ≡ 4 }
     ensures places { map (λ row. row.place) result ≡ 1 ∷ 2 ∷ 3 ∷ 4 ∷ [] }
     ensures within { All IsWithinTable result }
@@ -100,7 +102,7 @@ pub fn standings(board: &Board, roster: &Roster) -> [Row; 4]
     let mut started = ArrayVec::new();
     fill_started(&matches, &mut started);
     let results = Results::of_clubs(&started);
-    let order = order(&started, &results, roster);
+    let order = order(&started, &results, roster, profile);
     let marks = marks_of(&matches, &order);
     [
         row_at(1, &order, &marks, &results),

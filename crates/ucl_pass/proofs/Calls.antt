@@ -1,82 +1,212 @@
 -- From what steps on the cell tell to what a call says of its pass.
-use Rattle.std.proofs.Common.{◌≡◌, ℕ, ◌+◌, ◌<◌, ◌≤◌, List, [], ◌∷◌, ◌++◌, length, take, refl, sym, ap, ◌∙◌, subst, arith, le_refl, true≢false, true, length-append}
-use Rattle.std.specs.Prelude.{slice_index, Result, Ok, Err, MatchResult, is_ok, Option, Some, None, IfSome, IfOk}
+use Rattle.std.proofs.Common.{◌≡◌, ℕ, ◌+◌, ◌<◌, ◌≤◌, List, [], ◌∷◌, ◌++◌, length, take, refl, sym, ap, ◌∙◌, subst, arith, le_refl, true≢false, true, false, length-append, append-nil, append_assoc}
+use Rattle.std.specs.Prelude.{slice_index, Result, Ok, Err, IsOk, MatchResult, is_ok, Option, Some, None, IfSome, IfOk}
+use Rattle.std.specs.List.{AllByRecursion, flat_map}
+use Rattle.std.proofs.lemmas.Grind.{flat_map-append}
 use Rattle.std.proofs.lemmas.List.{take_all}
+use Rattle.std.proofs.lemmas.List.Elements.{All-head, All-tail}
 use mathlib.Core.List.{IsPrefix}
 use Rattle.ucl_word.specs.declared.event.EventCall.{EventCall}
 use Rattle.ucl_word.specs.declared.event.Accepted.{Accepted}
 use Rattle.ucl_word.specs.declared.refusal.Refusal.{Refusal}
+use Rattle.ucl_word.specs.Rules.{reply_of}
+use Rattle.ucl_word.specs.Layout.{record_at}
 use Rattle.ucl_board.specs.declared.entry.Entry.{Entry}
 use Rattle.ucl_board.specs.declared.reading.Reading.{Reading}
-use Rattle.ucl_board.specs.Words.{AreWords, version_of}
+use Rattle.ucl_board.specs.Fixtures.{IsMatch}
+use Rattle.ucl_board.specs.Words.{AreWords, greatest_version, word_at, version_of}
 use Rattle.ucl_board.specs.History.{board_of, IsLegal, followed_by, entry_of, sequential_reply}
-use Rattle.ucl_board.proofs.Histories.{board_words}
+use Rattle.ucl_board.specs.Log.{Look, Swap, Match, Enlisted, Taken, step_taken}
+use Rattle.ucl_board.proofs.Histories.{board_words, word_after}
 use Rattle.ucl_board.proofs.HistoryLaws.{versions}
 use Rattle.ucl_pass.specs.declared.view.View.{View}
-use Rattle.ucl_pass.specs.Passes.{Known, IsSound, entries_by, SeesOn, Continues, AcceptedReport, RefusedReport, SharedReading, Enlistment, FullBoard, Meeting}
-use Rattle.ucl_pass.specs.Views.{known_of, note_of, told_by}
-use Rattle.ucl_pass.specs.CellRule.{words_after, SeesAll, IsUpToDate}
-use Rattle.ucl_pass.specs.CellSteps.{IsNextBoard, with_one_more, StoresEntry, StoresReporter, LooksOnly, LooksAndShows, Looks}
-use Rattle.ucl_pass.proofs.Lists.{begins_same, begins_more, begins_through, begins_length, none_by_zero, few_mine}
-use Rattle.ucl_pass.proofs.Moves.{match_words, last_word, one_more_last}
+use Rattle.ucl_pass.specs.Passes.{Known, IsSound, SeesOn, Continues, AcceptedReport, RefusedReport, SharedReading, Enlistment, FullBoard, Meeting}
+use Rattle.ucl_pass.specs.Views.{known_of, count_of, Takes, second_of, note_of, told_by}
+use Rattle.ucl_pass.specs.Steps.{Goes}
+use Rattle.ucl_pass.specs.CellSteps.{IsNextBoard, with_one_more, word_looked_at, IsWhole, StoresEntry, StoresReporter, LooksOnly, LooksAtMatch, LooksAtEnlisted, LooksAndShows}
+use Rattle.ucl_pass.specs.CallSteps.{IsOnEnlisted, EnlistSteps, MeetingSteps, CellMissed, CellReport, CellReading}
+use Rattle.ucl_pass.proofs.Lists.{begins_same, begins_through, begins_length, none_by_zero, few_mine}
+use Rattle.ucl_pass.proofs.CellMoves.{match_words, match_word, last_word, one_more_last}
 
 -- an exchange that was won
 pub won : (r : Result (List ℕ) (List ℕ)) (P Q : List ℕ → Type 0) → MatchResult r P Q → is_ok r ≡ true → (x : List ℕ) × P x
 won (Ok x) P Q m is = (x, m)
 won (Err x) P Q m is = absurd (true≢false (sym is))
 
+pub lost : (r : Result (List ℕ) (List ℕ)) (P Q : List ℕ → Type 0) → MatchResult r P Q → is_ok r ≡ false → (x : List ℕ) × Q x
+lost (Ok x) P Q m is = absurd (true≢false is)
+lost (Err x) P Q m is = (x, m)
+
 -- just after a load or an exchange
-module _ (words : List ℕ) (w : View) (all : SeesAll words w) where
-  pub words_seen : words ≡ words_after w.seen w.listed
-  words_seen = all.rule.words_are ∙ (ap (λ (h : List Entry). words_after h all.rule.enlisted) (sym all.whole) ∙ ap (λ (n : ℕ). words_after w.seen n) (sym all.counted))
-
-  pub legal_seen : IsLegal w.seen
-  legal_seen = subst IsLegal (sym all.whole) all.rule.legal
-
-  pub up_to_date : IsUpToDate w
-  up_to_date = subst (λ (ws : List ℕ). SeesAll ws w) words_seen all
-
+module _ (words : List ℕ) (v w : View) (whole : IsWhole words v w) (goes : Goes v w) where
   pub sound : IsSound (known_of w)
-  sound =
-      let f = all.rule.fits all.place w all.here in
-      let few = all.rule.few in
-      let n = all.counted in
-      record { legal = legal_seen; own = f.mine ∙ ap (λ (h : List Entry). entries_by w.number h) (sym all.whole); few = omega arith }
+  sound = record { legal = goes.legal; own = goes.own; few = goes.few }
 
   pub board_seen : take 12 words ≡ board_of w.seen
-  board_seen = ap (take 12) words_seen ∙ match_words w.seen w.listed
+  board_seen = ap (take 12) whole.words_are ∙ match_words w.seen w.listed
 
   pub are_words : AreWords (take 12 words)
-  are_words = subst AreWords (sym board_seen) (board_words w.seen legal_seen)
+  are_words = subst AreWords (sym board_seen) (board_words w.seen goes.legal)
+
+  -- the word of a match, among the twelve and among the thirteen
+  pub same_word : (game : ℕ) → IsMatch game → word_at (take 12 words) game ≡ word_at words game
+  same_word game is =
+      ap (λ (ws : List ℕ). word_at ws game) board_seen
+      ∙ (word_after w.seen game is ∙ sym (ap (λ (ws : List ℕ). word_at ws game) whole.words_are ∙ match_word w.seen w.listed game is))
 
   pub last_seen : slice_index words 12 ≡ w.listed
-  last_seen = ap (λ (ws : List ℕ). slice_index ws 12) words_seen ∙ last_word w.seen w.listed
+  last_seen = ap (λ (ws : List ℕ). slice_index ws 12) whole.words_are ∙ last_word w.seen w.listed
 
--- a pass after any number of loads that changed nothing else
-pub record Tried (v w : View) : Type 0 where
+-- steps, one after another
+
+pub takes_none : (v : View) → Takes v [] v
+takes_none v = record { own = sym (append-nil v.own); copied = refl }
+
+pub takes_on : (u v w : View) (xs ys : List Taken) → Takes u xs v → Takes v ys w → Takes u (xs ++ ys) w
+takes_on u v w xs ys a b = record { own = b.own ∙ (ap (λ (l : List Taken). l ++ ys) a.own ∙ append_assoc u.own xs ys); copied = b.copied ∙ a.copied }
+
+pub takes_count : (v w : View) (xs : List Taken) → Takes v xs w → count_of w ≡ count_of v + length xs
+takes_count v w xs t = omega (
+  arith,
+  ap length t.copied,
+  ap length t.own,
+  length-append v.own xs,
+  length-append v.copied v.own,
+  length-append w.copied w.own,
+)
+
+-- a pass after any number of steps that changed nothing else
+pub record Stays (v w : View) : Type 0 where
   pub on : SeesOn (known_of v) (known_of w)
   pub mine : w.mine ≡ v.mine
   pub number : w.number ≡ v.number
   pub shown : w.shown ≡ v.shown
-  pub acts : v.acts ≤ w.acts
 
-pub tried_none : (v : View) → Tried v v
-tried_none v = record { on = record { seen = begins_same v.seen; listed = le_refl v.listed }; mine = refl; number = refl; shown = refl; acts = le_refl v.acts }
+pub stays_none : (v : View) → Stays v v
+stays_none v = record { on = record { seen = begins_same v.seen; listed = le_refl v.listed }; mine = refl; number = refl; shown = refl }
 
-pub tried_more : (v w u : View) (x : List ℕ) → Tried v w → LooksOnly w x x u → Tried v u
-tried_more v w u x t l = record {
-  on = record { seen = begins_through v.seen w.seen u.seen t.on.seen l.seen; listed = (let a = t.on.listed in let b = l.listed in omega arith) };
-  mine = l.mine ∙ t.mine;
-  number = l.number ∙ t.number;
-  shown = l.shown_is ∙ t.shown;
-  acts = (let a = t.acts in let b = l.acts in omega arith);
+pub stays_more : (v w u : View) → Stays v w → Goes w u → w.listed ≤ u.listed → u.mine ≡ w.mine → u.number ≡ w.number → u.shown ≡ w.shown → Stays v u
+stays_more v w u t goes le mine number shown = record {
+  on = record { seen = begins_through v.seen w.seen u.seen t.on.seen goes.seen; listed = (let a = t.on.listed in omega arith) };
+  mine = mine ∙ t.mine;
+  number = number ∙ t.number;
+  shown = shown ∙ t.shown;
 }
 
-pub looked_more : (v w u : View) (x : List ℕ) → Tried v w → LooksOnly w x x u → v.acts < u.acts
-looked_more v w u x t l = let a = t.acts in let b = l.acts in omega arith
+pub stays_continues : (v u : View) → Stays v u → Goes v u → Continues (known_of v) (known_of u)
+stays_continues v u t goes = record { sound = record { legal = goes.legal; own = goes.own; few = goes.few }; on = t.on; number = t.number }
 
-pub continues : (v u : View) (x : List ℕ) → Tried v u → SeesAll x u → Continues (known_of v) (known_of u)
-continues v u x t all = record { sound = sound x u all; on = t.on; number = t.number }
+pub looked_stays : (v w u : View) (target : Rattle.ucl_board.specs.Log.Target) (x : List ℕ) → Stays v w → LooksOnly target w x x u → Stays v u
+looked_stays v w u target x t l = stays_more v w u t l.sees.goes l.whole.listed l.sees.mine l.sees.number l.shown_is
+
+-- a report, after tries in vain
+pub record TriedReport (call : EventCall) (v w : View) : Type 0 where
+  pub stays : Stays v w
+  pub tries : List (List Taken)
+  pub takes : Takes v (flat_map (λ t. t) tries) w
+  pub missed : AllByRecursion (CellMissed call) tries
+
+pub tried_none : (call : EventCall) (v : View) → TriedReport call v v
+tried_none call v = record { stays = stays_none v; tries = []; takes = takes_none v; missed = tt }
+
+all_more : {X : Type 0} (P : X → Type 0) (xs : List X) (x : X) → AllByRecursion P xs → P x → AllByRecursion P (xs ++ x ∷ [])
+all_more P [] x all one = (one, tt)
+all_more P (y ∷ xs) x all one = (all.0, all_more P xs x all.1 one)
+
+-- one load for a report, and what came of it
+module _ (call : EventCall) (v w u : View) (x : List ℕ) (tried : TriedReport call v w) (looked : LooksAtMatch call.game w x x u) where
+  abbrev look_step : Taken
+  look_step = step_taken (word_looked_at Look call.game x) (length u.seen) None
+
+  pub look_stays : Stays v u
+  look_stays = looked_stays v w u (word_looked_at Look call.game x) x tried.stays looked
+
+  look_takes : Takes v (flat_map (λ t. t) tried.tries ++ look_step ∷ []) u
+  look_takes = takes_on v w u (flat_map (λ t. t) tried.tries) (look_step ∷ []) tried.takes looked.sees.takes
+
+  pub look_continues : Continues (known_of v) (known_of u)
+  look_continues = record { sound = sound x w u looked.whole looked.sees.goes; on = look_stays.on; number = look_stays.number }
+
+  -- the rules refuse
+  module _ (refusal : Refusal) (said : (history : List Entry) → IsLegal history → board_of history ≡ take 12 x → Err refusal ≡ sequential_reply history call) (answer : reply_of (record_at (word_at x call.game)) call ≡ Err refusal) where
+    pub refuses : RefusedReport (known_of v) call refusal (known_of u)
+    refuses = record {
+      answer = sym (said u.seen looked.sees.goes.legal (sym (board_seen x w u looked.whole looked.sees.goes)));
+      mine = look_stays.mine;
+      shown = look_stays.shown;
+    }
+
+    pub refused_steps : CellReport v call (Err refusal) u
+    refused_steps = record { tries = tried.tries; last = look_step ∷ []; takes = look_takes; missed = tried.missed; answered = record { looked = word_at x call.game; steps_are = refl; answer = answer } }
+
+  -- they accept, and an exchange was missed
+  pub missed_again : (z : View) (y : List ℕ) → IsOk (reply_of (record_at (word_at x call.game)) call) → LooksOnly (word_looked_at Swap call.game y) u y y z → TriedReport call v z
+  missed_again z y may lost =
+      let swap_step = step_taken (word_looked_at Swap call.game y) (length z.seen) None in
+      let one : List Taken = look_step ∷ swap_step ∷ [] in
+      let all : flat_map (λ t. t) (tried.tries ++ one ∷ []) ≡ flat_map (λ t. t) tried.tries ++ one = flat_map-append (λ (t : List Taken). t) tried.tries (one ∷ []) in
+      record {
+        stays = looked_stays v u z (word_looked_at Swap call.game y) y look_stays lost;
+        tries = tried.tries ++ one ∷ [];
+        takes = subst (λ (l : List Taken). Takes v l z) (sym all) (subst (λ (l : List Taken). Takes v l z) (append_assoc (flat_map (λ t. t) tried.tries) (look_step ∷ []) (swap_step ∷ []))
+            (takes_on v u z (flat_map (λ t. t) tried.tries ++ look_step ∷ []) (swap_step ∷ []) look_takes lost.sees.takes));
+        missed = all_more (CellMissed call) tried.tries one tried.missed (record { looked = word_at x call.game; found = word_at y call.game; at = length u.seen; later = length z.seen; steps_are = refl; may = may });
+      }
+
+  -- they accept, and an exchange was won
+  module _ (z : View) (next : List ℕ) (stored : StoresEntry (entry_of (v.number, call)) u x next z) where
+    since : IsPrefix v.seen stored.before
+    since = begins_through v.seen u.seen stored.before look_stays.on.seen stored.adds.since
+
+    pub accepts : (reply : Accepted) → ((history : List Entry) → IsLegal history → board_of history ≡ take 12 x → Ok reply ≡ sequential_reply history call)
+        → AcceptedReport (known_of v) call reply (known_of z)
+    accepts reply said = record {
+      before = stored.before;
+      last = stored.adds.last;
+      since = since;
+      answer = sym (said stored.before stored.legal (sym (ap (take 12) stored.found ∙ match_words stored.before z.listed)));
+      mine = stored.adds.mine ∙ ap (λ (l : List Entry). followed_by l (entry_of (v.number, call))) look_stays.mine;
+      shown = stored.adds.shown ∙ look_stays.shown;
+    }
+
+    pub accepted_continues : Continues (known_of v) (known_of z)
+    accepted_continues = record {
+      sound = sound next u z stored.whole stored.adds.goes;
+      on = record {
+        seen = begins_through v.seen u.seen z.seen look_stays.on.seen stored.adds.goes.seen;
+        listed = (let a = look_stays.on.listed in let b = stored.whole.listed in omega arith);
+      };
+      number = stored.adds.number ∙ look_stays.number;
+    }
+
+    pub accepted_steps : (reply : Accepted) → reply_of (record_at (word_at x call.game)) call ≡ Ok reply → CellReport v call (Ok reply) z
+    accepted_steps reply answer =
+        let swap_step = step_taken (Match Swap call.game (word_at x call.game)) (length stored.before) (Some (entry_of (v.number, call))) in
+        record {
+          tries = tried.tries;
+          last = look_step ∷ swap_step ∷ [];
+          takes = subst (λ (l : List Taken). Takes v l z) (append_assoc (flat_map (λ t. t) tried.tries) (look_step ∷ []) (swap_step ∷ []))
+              (takes_on v u z (flat_map (λ t. t) tried.tries ++ look_step ∷ []) (swap_step ∷ []) look_takes stored.adds.takes);
+          missed = tried.missed;
+          answered = record {
+            looked = word_at x call.game;
+            at = length u.seen;
+            before = length stored.before;
+            steps_are = refl;
+            answer = answer;
+            last = sym (ap length stored.adds.last ∙ length-append stored.before (entry_of (v.number, call) ∷ []));
+          };
+        }
+
+-- a report takes a step at least
+some_steps : (n : ℕ) (call : EventCall) (r : Result Accepted Refusal) (now : ℕ) (steps : List Taken) → Rattle.ucl_pass.specs.CallSteps.CellAnswered n call r now steps → 0 < length steps
+some_steps n call (Ok reply) now steps a = let l = ap length a.steps_are in omega arith
+some_steps n call (Err refusal) now steps a = let l = ap length a.steps_are in omega arith
+
+pub report_counts : (v w : View) (call : EventCall) (r : Result Accepted Refusal) → CellReport v call r w → count_of v < count_of w
+report_counts v w call r s =
+    let n = some_steps v.number call r (length w.seen) s.last s.answered in
+    omega (arith, takes_count v w (flat_map (λ t. t) s.tries ++ s.last) s.takes, length-append (flat_map (λ t. t) s.tries) s.last)
 
 -- the words of the next board, with the number of the enlisted
 pub next_words : (x board next : List ℕ) (e : Entry)
@@ -87,110 +217,116 @@ next_words x board next e counted is h n legal words =
     let last : slice_index x 12 ≡ n = ap (λ (ws : List ℕ). slice_index ws 12) words ∙ last_word h n in
     (is ∙ (ap (λ (k : ℕ). board ++ k ∷ []) last ∙ ap (λ (b : List ℕ). b ++ n ∷ []) c.0), c.1)
 
--- an event that was stored, after loads that were in vain
-module _ (v u z : View) (x next : List ℕ) (call : EventCall) (tried : Tried v u) (stored : StoresEntry (entry_of (v.number, call)) u x next z) where
-  since : IsPrefix v.seen stored.before
-  since = begins_through v.seen u.seen stored.before tried.on.seen stored.seen
-
-  pub accepts : (reply : Accepted) → ((history : List Entry) → IsLegal history → board_of history ≡ take 12 x → Ok reply ≡ sequential_reply history call)
-      → AcceptedReport (known_of v) call reply (known_of z)
-  accepts reply said = record {
-    before = stored.before;
-    last = stored.last;
-    since = since;
-    answer = sym (said stored.before stored.legal (sym (ap (take 12) stored.found ∙ match_words stored.before z.listed)));
-    mine = stored.mine ∙ ap (λ (l : List Entry). followed_by l (entry_of (v.number, call))) tried.mine;
-    shown = stored.shown ∙ tried.shown;
-  }
-
-  pub stored_continues : Continues (known_of v) (known_of z)
-  stored_continues = record {
-    sound = sound next z stored.all;
-    on = record {
-      seen = subst (λ (h : List Entry). IsPrefix v.seen h) (sym stored.last) (begins_more v.seen stored.before (entry_of (v.number, call)) since);
-      listed = (let a = tried.on.listed in let b = stored.listed in omega arith);
-    };
-    number = stored.number ∙ tried.number;
-  }
-
-  pub stored_acts : v.acts < z.acts
-  stored_acts = let a = tried.acts in let b = stored.acts in omega arith
-
-pub refuses : (v u : View) (x : List ℕ) (call : EventCall) (refusal : Refusal) → Tried v u → SeesAll x u
-    → ((history : List Entry) → IsLegal history → board_of history ≡ take 12 x → Err refusal ≡ sequential_reply history call)
-    → RefusedReport (known_of v) call refusal (known_of u)
-refuses v u x call refusal t all said = record {
-  answer = sym (said u.seen (legal_seen x u all) (sym (board_seen x u all)));
-  mine = t.mine;
-  shown = t.shown;
-}
-
 -- a reading
 module _ (v w : View) (x : List ℕ) (reading : Reading) (shows : LooksAndShows v x x w) (board : reading.board ≡ take 12 x) (version : reading.version ≡ version_of reading.board) where
   pub version_seen : reading.version ≡ length w.seen
-  version_seen = version ∙ (ap version_of (board ∙ board_seen x w shows.all) ∙ (versions w.seen (legal_seen x w shows.all)).0)
+  version_seen = version ∙ (ap version_of (board ∙ board_seen x v w shows.whole shows.sees.goes) ∙ (versions w.seen shows.sees.goes.legal).0)
 
   pub read_says : SharedReading (known_of v) reading (known_of w)
   read_says =
-      let low = begins_length v.seen w.seen shows.seen in
+      let low = begins_length v.seen w.seen shows.sees.goes.seen in
       let n = version_seen in
-      let same : reading.board ≡ board_of (take reading.version w.seen) = board ∙ (board_seen x w shows.all ∙ ap board_of (sym (take_all reading.version w.seen (omega arith)))) in
+      let same : reading.board ≡ board_of (take reading.version w.seen) = board ∙ (board_seen x v w shows.whole shows.sees.goes ∙ ap board_of (sym (take_all reading.version w.seen (omega arith)))) in
       record {
         low = omega arith;
         high = omega arith;
         snapshot = λ i. record { board = same i; version = reading.version };
-        mine = shows.mine;
+        mine = shows.sees.mine;
         shown = shows.shown_is ∙ ap (λ (k : ℕ). v.shown ++ k ∷ []) (sym n);
       }
 
-pub look_continues : (v w : View) (shown x : List ℕ) → Looks v shown x w → Continues (known_of v) (known_of w)
-look_continues v w shown x l = record { sound = sound x w l.all; on = record { seen = l.seen; listed = l.listed }; number = l.number }
+  pub read_steps : CellReading v reading w
+  read_steps = subst (λ (k : ℕ). Takes v (step_taken Rattle.ucl_board.specs.Log.Whole k None ∷ []) w) (sym version_seen) shows.sees.takes
 
--- an enlistment
-pub enlisted_says : (v u z : View) (x next : List ℕ) → Tried v u → StoresReporter u x next z → Enlistment (known_of v) (known_of z)
-enlisted_says v u z x next t s =
-    let own = sound next z s.all in
-    record {
-      sound = own;
-      on = record { seen = begins_through v.seen u.seen z.seen t.on.seen s.seen; listed = (let a = t.on.listed in let b = s.above in omega arith) };
-      number = s.number;
-      above = (let a = t.on.listed in let b = s.above in omega arith);
-      fresh = sym own.own ∙ s.mine;
-      mine = s.mine;
-      shown = s.shown;
-    }
+  pub read_continues : Continues (known_of v) (known_of w)
+  read_continues = record { sound = sound x v w shows.whole shows.sees.goes; on = record { seen = shows.sees.goes.seen; listed = shows.whole.listed }; number = shows.sees.number }
 
-pub enlisted_acts : (v u z : View) (x next : List ℕ) → Tried v u → StoresReporter u x next z → v.acts < z.acts
-enlisted_acts v u z x next t s = let a = t.acts in let b = s.acts in omega arith
+-- an enlistment, after tries in vain
+pub record TriedEnlist (v w : View) : Type 0 where
+  pub stays : Stays v w
+  pub steps : EnlistSteps v w
 
--- the new number is one more than the last word that was found
-pub new_number : (u z : View) (x next : List ℕ) → SeesAll x u → StoresReporter u x next z → next ≡ with_one_more x → z.number ≡ slice_index x 12 + 1
-new_number u z x next before s is =
-    let more : slice_index next 12 ≡ slice_index x 12 + 1 = ap (λ (ws : List ℕ). slice_index ws 12) (is ∙ ap with_one_more (words_seen x u before)) ∙ (one_more_last u.seen u.listed ∙ ap (λ (n : ℕ). n + 1) (sym (last_seen x u before))) in
-    s.number ∙ (sym (last_seen next z s.all) ∙ more)
+pub untried : (v : View) → TriedEnlist v v
+untried v = record { stays = stays_none v; steps = record { steps = []; takes = takes_none v; on_enlisted = tt } }
+
+pub one_more : (v w u : View) (at : ℕ) → EnlistSteps v w → Takes w (step_taken Enlisted at None ∷ []) u → EnlistSteps v u
+one_more v w u at s t = record { steps = s.steps ++ step_taken Enlisted at None ∷ []; takes = takes_on v w u s.steps (step_taken Enlisted at None ∷ []) s.takes t; on_enlisted = all_more IsOnEnlisted s.steps (step_taken Enlisted at None) s.on_enlisted (refl, refl) }
+
+pub tried_enlist : (v w u : View) (x : List ℕ) → TriedEnlist v w → LooksAtEnlisted w x x u → TriedEnlist v u
+tried_enlist v w u x t l = record { stays = looked_stays v w u Enlisted x t.stays l; steps = one_more v w u (length u.seen) t.steps l.sees.takes }
+
+module _ (v w u : View) (x : List ℕ) (tried : TriedEnlist v w) (looked : LooksAtEnlisted w x x u) where
+  after_look : TriedEnlist v u
+  after_look = tried_enlist v w u x tried looked
+
+  pub look_counts : count_of v < count_of u
+  look_counts = omega (arith, takes_count v w tried.steps.steps tried.steps.takes, takes_count w u (step_taken Enlisted (length u.seen) None ∷ []) looked.sees.takes)
+
+  pub full_continues : Continues (known_of v) (known_of u)
+  full_continues = record { sound = sound x w u looked.whole looked.sees.goes; on = after_look.stays.on; number = after_look.stays.number }
+
+  pub full_says : 255 ≤ slice_index x 12 → FullBoard (known_of v) (known_of u)
+  full_says high =
+      let last = last_seen x w u looked.whole looked.sees.goes in
+      let few = looked.sees.goes.few in
+      record { listed = omega arith; mine = after_look.stays.mine; shown = after_look.stays.shown }
+
+  pub full_steps : EnlistSteps v u
+  full_steps = after_look.steps
+
+  module _ (z : View) (next : List ℕ) (stored : StoresReporter u next z) where
+    pub enlisted_says : Enlistment (known_of v) (known_of z)
+    enlisted_says =
+        let e = stored.enlists in
+        record {
+          sound = sound next u z stored.whole e.goes;
+          on = record { seen = begins_through v.seen u.seen z.seen after_look.stays.on.seen e.goes.seen; listed = (let a = after_look.stays.on.listed in let b = e.above in omega arith) };
+          number = e.number;
+          above = (let a = after_look.stays.on.listed in let b = e.above in omega arith);
+          fresh = sym e.goes.own ∙ e.mine;
+          mine = e.mine;
+          shown = e.shown;
+        }
+
+    pub enlisted_steps : EnlistSteps v z
+    enlisted_steps = one_more v u z (length z.seen) after_look.steps stored.enlists.takes
+
+    pub enlisted_counts : count_of v < count_of z
+    enlisted_counts = let before = look_counts in omega (arith, before, takes_count u z (step_taken Enlisted (length z.seen) None ∷ []) stored.enlists.takes)
+
+    -- the new number is one more than the last word that was found
+    pub new_number : next ≡ with_one_more x → z.number ≡ slice_index x 12 + 1
+    new_number is =
+        let more : slice_index next 12 ≡ slice_index x 12 + 1 = ap (λ (ws : List ℕ). slice_index ws 12) (is ∙ ap with_one_more looked.whole.words_are) ∙ (one_more_last u.seen u.listed ∙ ap (λ (n : ℕ). n + 1) (sym (last_seen x w u looked.whole looked.sees.goes))) in
+        stored.enlists.number ∙ (sym (last_seen next u z stored.whole stored.enlists.goes) ∙ more)
 
 pub number_told : (u v : View) (r : Option ℕ) (n : ℕ) → Enlistment (known_of u) (known_of v) → v.number ≡ n → IfSome r (λ k. k ≡ n) → IfSome r (λ k. Enlistment (known_of u) (known_of v) × (v.number ≡ k))
 number_told u v (Some k) n e is told = (e, is ∙ sym told)
 number_told u v None n e is told = tt
 
-pub full_says : (v u : View) (x : List ℕ) → Tried v u → SeesAll x u → 255 ≤ slice_index x 12 → FullBoard (known_of v) (known_of u)
-full_says v u x t all high =
-    let last = last_seen x u all in
-    let few = (sound x u all).few in
-    record { listed = omega arith; mine = t.mine; shown = t.shown }
-
 -- a meeting
-pub met_says : (a v w : View) (x : List ℕ) → LooksOnly (told_by v (note_of a)) x x w → Meeting (known_of a) (known_of v) (known_of w)
-met_says a v w x l = record { met = l.told; mine = l.mine; shown = l.shown_is }
+module _ (a v w : View) (x : List ℕ) (looked : LooksAtEnlisted (told_by v (note_of a)) x x w) where
+  own_first : IsPrefix v.seen w.seen
+  own_first = All-head (λ l. IsPrefix l w.seen) v.seen (a.seen ∷ v.kept) looked.sees.goes.told
 
-pub met_continues : (a v w : View) (x : List ℕ) → LooksOnly (told_by v (note_of a)) x x w → Continues (known_of v) (known_of w)
-met_continues a v w x l = record { sound = sound x w l.all; on = record { seen = l.seen; listed = l.listed }; number = l.number }
+  pub met_says : Meeting (known_of a) (known_of v) (known_of w)
+  met_says = record {
+    met = All-head (λ l. IsPrefix l w.seen) a.seen v.kept (All-tail (λ l. IsPrefix l w.seen) v.seen (a.seen ∷ v.kept) looked.sees.goes.told);
+    mine = looked.sees.mine;
+    shown = looked.shown_is;
+  }
 
-pub sound_note : (v : View) → IsSound (known_of v) → IsSound (known_of (note_of v))
-sound_note v s = record { legal = s.legal; own = sym (none_by_zero v.seen s.legal); few = s.few }
+  pub met_continues : Continues (known_of v) (known_of w)
+  met_continues = record { sound = sound x (told_by v (note_of a)) w looked.whole looked.sees.goes; on = record { seen = own_first; listed = looked.whole.listed }; number = looked.sees.number }
+
+  pub met_steps : MeetingSteps v w
+  met_steps = record { own = looked.sees.takes.own; copied = looked.sees.takes.copied }
+
+pub sound_second : (v : View) → IsSound (known_of v) → IsSound (known_of (second_of v))
+sound_second v s = record { legal = s.legal; own = sym (none_by_zero v.seen s.legal); few = s.few }
 
 -- the count of accepted events has room for one more
-pub room : (k m : Known) (call : EventCall) (r : Result Accepted Refusal) (n : ℕ) → IfOk r (λ reply. AcceptedReport k call reply m) → is_ok r ≡ true → IsSound m → length k.mine ≡ n → n + 1 ≤ 12276
+pub room : (k m : Known) (call : EventCall) (r : Result Accepted Refusal) (n : ℕ) → IfOk r (λ reply. AcceptedReport k call reply m) → is_ok r ≡ true → IsSound m → length k.mine ≡ n → n + 1 ≤ greatest_version
 room k m call (Ok reply) n a is s len =
     let l = ap length a.mine ∙ length-append k.mine (entry_of (k.number, call) ∷ []) in
     let f = few_mine m s in

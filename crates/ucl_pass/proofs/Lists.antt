@@ -6,24 +6,29 @@ use Rattle.std.proofs.lemmas.List.Filters.{length-filter_both}
 use mathlib.Core.List.{IsPrefix}
 use Rattle.ucl_word.proofs.Sequences.{may_induction}
 use Rattle.ucl_board.specs.declared.entry.Entry.{Entry}
+use Rattle.ucl_board.specs.Words.{greatest_version}
 use Rattle.ucl_board.specs.History.{MayFollow, IsLegal, followed_by}
 use Rattle.ucl_board.proofs.HistoryLaws.{versions}
 use Rattle.ucl_pass.specs.Passes.{Known, IsSound, Continues, entries_by}
 
-pub begins_none : (h : List Entry) → IsPrefix [] h
-begins_none h = (h, refl)
+module _ {X : Type 0} where
+  pub begins_none : (h : List X) → IsPrefix [] h
+  begins_none h = (h, refl)
 
-pub begins_same : (h : List Entry) → IsPrefix h h
-begins_same h = ([], append-nil h)
+  pub begins_same : (h : List X) → IsPrefix h h
+  begins_same h = ([], append-nil h)
 
-pub begins_more : (s h : List Entry) (e : Entry) → IsPrefix s h → IsPrefix s (followed_by h e)
-begins_more s h e p = (p.0 ++ e ∷ [], sym (append_assoc s p.0 (e ∷ [])) ∙ ap (λ l. l ++ e ∷ []) p.1)
+  pub begins_longer : (s h more : List X) → IsPrefix s h → IsPrefix s (h ++ more)
+  begins_longer s h more p = (p.0 ++ more, sym (append_assoc s p.0 more) ∙ ap (λ l. l ++ more) p.1)
 
-pub begins_through : (a b c : List Entry) → IsPrefix a b → IsPrefix b c → IsPrefix a c
-begins_through a b c p q = (p.0 ++ q.0, sym (append_assoc a p.0 q.0) ∙ (ap (λ l. l ++ q.0) p.1 ∙ q.1))
+  pub begins_more : (s h : List X) (e : X) → IsPrefix s h → IsPrefix s (h ++ e ∷ [])
+  begins_more s h e p = begins_longer s h (e ∷ []) p
 
-pub begins_length : (s h : List Entry) → IsPrefix s h → length s ≤ length h
-begins_length s h p = let l = ap length (sym p.1) ∙ length-append s p.0 in omega arith
+  pub begins_through : (a b c : List X) → IsPrefix a b → IsPrefix b c → IsPrefix a c
+  begins_through a b c p q = (p.0 ++ q.0, sym (append_assoc a p.0 q.0) ∙ (ap (λ l. l ++ q.0) p.1 ∙ q.1))
+
+  pub begins_length : (s h : List X) → IsPrefix s h → length s ≤ length h
+  begins_length s h p = let l = ap length (sym p.1) ∙ length-append s p.0 in omega arith
 
 take_front : (s r : List Entry) (v : ℕ) → length s ≤ v → (rest : List Entry) × (s ++ rest ≡ take v (s ++ r))
 take_front [] r v le = (take v r, refl)
@@ -48,7 +53,7 @@ pub none_by_zero : (h : List Entry) → IsLegal h → entries_by 0 h ≡ []
 none_by_zero = may_induction MayFollow (λ h. entries_by 0 h ≡ []) refl (λ h e legal may was. by_other 0 h e (λ z. let r = may.accepted.reporter.0 in omega arith) ∙ was)
 
 -- a pass has no more entries than a history can have
-pub few_mine : (k : Known) → IsSound k → length k.mine ≤ 12276
+pub few_mine : (k : Known) → IsSound k → length k.mine ≤ greatest_version
 few_mine k s =
     let v = versions k.seen s.legal in
     let l = v.1 in

@@ -1,58 +1,30 @@
--- Each kind of step on the cell keeps the rule, and tells its pass what it says.
-use Rattle.std.proofs.Common.{◌≡◌, ◌≢◌, ◌⊎◌, inl, inr, ⊎_elim, ℕ, zero, suc, ◌+◌, ◌<◌, ◌≤◌, Bool, true, false, cond, List, [], ◌∷◌, ◌++◌, length, set, take, nat_eq, if◌then◌else◌, refl, sym, ap, ◌∙◌, subst, arith, le_refl, true≢false, ne_eqb}
-use Rattle.std.specs.Prelude.{All, slice_index, Result, Ok, Err, MatchResult}
+-- Each kind of step on a shared board keeps the rule, whatever its words are.
+use Rattle.std.proofs.Common.{◌≡◌, ◌≢◌, ◌⊎◌, inl, inr, ⊎_elim, ℕ, zero, suc, ◌+◌, ◌<◌, ◌≤◌, Bool, true, false, cond, List, [], ◌∷◌, ◌++◌, length, take, set, nat_lt, if◌then◌else◌, Some, None, refl, sym, ap, ◌∙◌, subst, arith, le_refl, append-nil, length-append, length-set, ne_eqb}
+use Rattle.std.specs.Prelude.{All}
+use Rattle.std.proofs.Math.Seq.{take-append_seam}
+use Rattle.std.proofs.lemmas.Bool.{ltb-true}
+use Rattle.std.proofs.lemmas.List.Elements.{All-append, All-head, All-tail, All-cons, All-nil}
+use mathlib.Core.List.{IsPrefix}
+use mathlib.Core.Logic.{dite}
 use mathlib.Core.Option.{some, some-ne-none, some-injective}
 use lib.ListN.{get_elem?}
-use lib.Pointwise.{pointwise, bytes_decides}
-use Rattle.std.proofs.lemmas.List.Elements.{All-append, All-head, All-tail, All-cons, All-nil}
-use Rattle.crossbeam_utils.specs.Register.{Turns, Forks, Merges}
-use Rattle.atomic_table.proofs.Lists.{at_set, at_snoc, set_again, set_here}
-use Rattle.ucl_word.specs.Layout.{word_of}
-use Rattle.ucl_word.specs.Counts.{counted_match}
+use native.Mathlib.Decide.{ℕ_discrete}
+use Rattle.atomic_table.proofs.Lists.{at_set, at_longer, set_again, set_here, set_else}
 use Rattle.ucl_word.proofs.Sequences.{may_none}
 use Rattle.ucl_board.specs.declared.entry.Entry.{Entry}
-use Rattle.ucl_board.specs.Words.{word_at}
-use Rattle.ucl_board.specs.History.{MayFollow, board_of, IsLegal, followed_by}
-use Rattle.ucl_board.proofs.HistoryLaws.{one_word}
+use Rattle.ucl_board.specs.History.{MayFollow, IsLegal, followed_by}
+use Rattle.ucl_board.specs.Log.{Target, Match, Enlisted, Swap, Taken, step_taken, Log, taken_by, entry_list, added_by, history_of, IsThere, IsLog}
+use Rattle.ucl_board.proofs.Logs.{log_none, log_more, history_more, history_same, taken_own, taken_other, taken_none, added_more}
 use Rattle.ucl_pass.specs.declared.view.View.{View}
 use Rattle.ucl_pass.specs.Passes.{entries_by}
-use Rattle.ucl_pass.specs.Views.{newcomer, note_of, told_by}
-use Rattle.ucl_pass.specs.CellRule.{words_after, Fits, KeepsOneHistory, SeesAll}
-use Rattle.ucl_pass.specs.CellSteps.{IsNextBoard, with_one_more, Looks, StoresEntry, StoresReporter, LooksOnly, LooksAndShows, AddsOrLooks, EnlistsOrLooks}
-use Rattle.ucl_pass.proofs.Lists.{begins_none, begins_same, begins_more, by_own, by_other, none_by_zero}
-
--- the thirteen words
-
-pub match_words : (h : List Entry) (n : ℕ) → take 12 (words_after h n) ≡ board_of h
-unfolding board_of
-match_words h n = refl
-
-pub last_word : (h : List Entry) (n : ℕ) → slice_index (words_after h n) 12 ≡ n
-unfolding board_of
-last_word h n = refl
-
-more_words : (h : List Entry) (n : ℕ) → with_one_more (words_after h n) ≡ words_after h (n + 1)
-unfolding board_of
-more_words h n = refl
-
-pub one_more_last : (h : List Entry) (n : ℕ) → slice_index (with_one_more (words_after h n)) 12 ≡ n + 1
-one_more_last h n = ap (λ (ws : List ℕ). slice_index ws 12) (more_words h n) ∙ last_word h (n + 1)
-
-begun_words : 0 ∷ 0 ∷ 0 ∷ 0 ∷ 0 ∷ 0 ∷ 0 ∷ 0 ∷ 0 ∷ 0 ∷ 0 ∷ 0 ∷ 0 ∷ [] ≡ words_after [] 0
-unfolding board_of word_of counted_match
-begun_words = refl
-
-entry_differs : (h : List Entry) (n : ℕ) (e : Entry) → IsLegal (followed_by h e) → words_after h n ≢ words_after (followed_by h e) n
-entry_differs h n e legal same =
-    let boards : board_of h ≡ board_of (followed_by h e) = sym (match_words h n) ∙ (ap (take 12) same ∙ match_words (followed_by h e) n) in
-    (one_word h e legal).changed (sym (ap (λ (b : List ℕ). word_at b e.game) boards))
-
-reporter_differs : (h : List Entry) (n : ℕ) → words_after h n ≢ words_after h (n + 1)
-reporter_differs h n same = let e : n ≡ n + 1 = sym (last_word h n) ∙ (ap (λ (l : List ℕ). slice_index l 12) same ∙ last_word h (n + 1)) in omega arith
+use Rattle.ucl_pass.specs.Views.{newcomer, second_of, note_of, told_by}
+use Rattle.ucl_pass.specs.OneHistory.{Fits, KeepsOneHistory}
+use Rattle.ucl_pass.specs.Steps.{Sees, Adds, Enlists}
+use Rattle.ucl_pass.proofs.Lists.{begins_none, begins_same, begins_more, begins_through, begins_take, by_own, by_other, none_by_zero}
 
 -- the reporters of a history
 
-abbrev InRank : ℕ → Entry → Type 0
+abbrev pub InRank : ℕ → Entry → Type 0
 InRank enlisted e = e.reporter ≤ enlisted
 
 none_by : (n : ℕ) (h : List Entry) → All (λ (e : Entry). e.reporter ≢ n) h → entries_by n h ≡ []
@@ -62,273 +34,440 @@ none_by n (x ∷ h) a = ap (λ (b : Bool). cond b (x ∷ entries_by n h) (entrie
 pub none_by_more : (enlisted : ℕ) (h : List Entry) → All (InRank enlisted) h → entries_by (enlisted + 1) h ≡ []
 none_by_more enlisted h r = none_by (enlisted + 1) h (λ k d lt z. let q = r k d lt in omega arith)
 
-place_below : (views : List View) (at : ℕ) (v : View) → get_elem? views at ≡ some v → at < length views
+-- views by their places
+
+pub place_below : (views : List View) (at : ℕ) (v : View) → get_elem? views at ≡ some v → at < length views
 place_below [] at v e = absurd (some-ne-none v (sym e))
 place_below (x ∷ views) zero v e = omega arith
 place_below (x ∷ views) (suc at) v e = let r = place_below views at v e in omega arith
 
--- one pass gets the view w, and the others still fit
-stepped : (x y : List ℕ) (views : List View) (h : KeepsOneHistory x views) (at : ℕ) (w : View) (history : List Entry) (enlisted : ℕ)
-    → y ≡ words_after history enlisted → IsLegal history → enlisted ≤ 255 → All (InRank enlisted) history
-    → ((j : ℕ) (u : View) → j ≢ at → get_elem? views j ≡ some u → Fits history enlisted u) → Fits history enlisted w
-    → ((j : ℕ) (u : View) → j ≢ at → get_elem? views j ≡ some u → 0 < w.number → w.number ≢ u.number)
-    → KeepsOneHistory y (set views at w)
-stepped x y views h at w history enlisted words legal few ranked others mine alone = record {
-  history = history;
-  enlisted = enlisted;
-  words_are = words;
-  legal = legal;
-  few = few;
-  ranked = ranked;
-  fits = λ j u e. ⊎_elim
-      (λ (t : (j ≡ at) × (w ≡ u)). subst (Fits history enlisted) t.1 mine)
-      (λ (t : (j ≢ at) × (get_elem? views j ≡ some u)). others j u t.0 t.1)
-      (at_set views at j w u e);
-  apart = λ i j u z e f pos same. ⊎_elim
-      (λ (s : (i ≡ at) × (w ≡ u)). ⊎_elim
-      (λ (t : (j ≡ at) × (w ≡ z)). s.0 ∙ sym t.0)
-      (λ (t : (j ≢ at) × (get_elem? views j ≡ some z)). absurd (alone j z t.0 t.1 (subst (λ (q : View). 0 < q.number) (sym s.1) pos) (ap (λ (q : View). q.number) s.1 ∙ same)))
-      (at_set views at j w z f))
-      (λ (s : (i ≢ at) × (get_elem? views i ≡ some u)). ⊎_elim
-      (λ (t : (j ≡ at) × (w ≡ z)). absurd (alone i u s.0 s.1 (subst (λ (n : ℕ). 0 < n) (same ∙ sym (ap (λ (q : View). q.number) t.1)) pos) (ap (λ (q : View). q.number) t.1 ∙ sym same)))
-      (λ (t : (j ≢ at) × (get_elem? views j ≡ some z)). h.apart i j u z s.1 t.1 pos same)
-      (at_set views at j w z f))
-      (at_set views at i w u e);
+at_last : (views : List View) (w u : View) (j : ℕ) → get_elem? (views ++ w ∷ []) j ≡ some u → (get_elem? views j ≡ some u) ⊎ ((j ≡ length views) × (w ≡ u))
+at_last [] w u zero e = inr (refl, some-injective w u e)
+at_last [] w u (suc j) e = absurd (some-ne-none u (sym e))
+at_last (x ∷ views) w u zero e = inl e
+at_last (x ∷ views) w u (suc j) e = ⊎_elim (λ was. inl was) (λ (t : (j ≡ length views) × (w ≡ u)). inr (ap suc t.0, t.1)) (at_last views w u j e)
+
+-- the log with one step more
+abbrev logged : Log → ℕ → Taken → Log
+logged log seat t = log ++ (seat, t) ∷ []
+
+-- the view of a pass after a step of its own
+abbrev pub after_step : View → Log → ℕ → Taken → List Entry → ℕ → ℕ → List ℕ → View
+after_step v log seat t mine number listed shown = record {
+  seen = history_of (log ++ (seat, t) ∷ []);
+  kept = [];
+  mine = mine;
+  number = number;
+  listed = listed;
+  shown = shown;
+  copied = v.copied;
+  own = v.own ++ t ∷ [];
+  log = log ++ (seat, t) ∷ [];
 }
 
--- the pass stands at its place, under the rule that was kept
-all_seen : (y : List ℕ) (views : List View) (at : ℕ) (v w : View) (kept : KeepsOneHistory y (set views at w)) → get_elem? views at ≡ some v → w.seen ≡ kept.history → w.listed ≡ kept.enlisted → SeesAll y w
-all_seen y views at v w kept here whole counted = record { views = set views at w; place = at; here = set_here views at w (place_below views at v here); rule = kept; whole = whole; counted = counted }
-
--- what a load leaves
-abbrev looked : View → List Entry → ℕ → List ℕ → View
-looked v history enlisted shown = record { seen = history; told = []; mine = v.mine; number = v.number; listed = enlisted; shown = shown; acts = v.acts + 1 }
-
-module _ (x : List ℕ) (views : List View) (h : KeepsOneHistory x views) (at : ℕ) (v : View) (here : get_elem? views at ≡ some v) where
-  look_keeps : (shown : List ℕ) → KeepsOneHistory x (set views at (looked v h.history h.enlisted shown))
-  look_keeps shown =
-      let f = h.fits at v here in
-      stepped x x views h at (looked v h.history h.enlisted shown) h.history h.enlisted h.words_are h.legal h.few h.ranked
-      (λ j u ne e. h.fits j u e)
-      (record { seen = begins_same h.history; told = begins_none h.history; mine = f.mine; number = f.number; listed = le_refl h.enlisted })
-      (λ j u ne e pos same. ne (sym (h.apart at j v u here e pos same)))
-
-  look_tells : (shown : List ℕ) → Looks v shown x (looked v h.history h.enlisted shown)
-  unfolding look_keeps stepped
-  look_tells shown =
-      let f = h.fits at v here in
-      record {
-        all = all_seen x views at v (looked v h.history h.enlisted shown) (look_keeps shown) here refl refl;
-        seen = f.seen;
-        told = f.told;
-        listed = f.listed;
-        mine = refl;
-        number = refl;
-        shown_is = refl;
-        acts = refl;
-      }
-
-pub looks : (at : ℕ) (v : View) → Turns KeepsOneHistory at v (λ x. x) LooksOnly
-looks at v x views h here = (looked v h.history h.enlisted v.shown, look_keeps x views h at v here v.shown, look_tells x views h at v here v.shown)
-
-pub reads : (at : ℕ) (v : View) → Turns KeepsOneHistory at v (λ x. x) LooksAndShows
-reads at v x views h here = let shown : List ℕ = v.shown ++ length h.history ∷ [] in (looked v h.history h.enlisted shown, look_keeps x views h at v here shown, look_tells x views h at v here shown)
-
-pub begins : KeepsOneHistory (0 ∷ 0 ∷ 0 ∷ 0 ∷ 0 ∷ 0 ∷ 0 ∷ 0 ∷ 0 ∷ 0 ∷ 0 ∷ 0 ∷ 0 ∷ []) (newcomer ∷ [])
-begins = record {
-  history = [];
-  enlisted = 0;
-  words_are = begun_words;
-  legal = may_none MayFollow;
-  few = omega arith;
-  ranked = All-nil (InRank 0);
-  fits = one;
-  apart = λ i j v w e f pos same. absurd (none i v e pos);
-}
-  where
-    one : (at : ℕ) (v : View) → get_elem? (newcomer ∷ []) at ≡ some v → Fits [] 0 v
-    one zero v e = subst (Fits [] 0) (some-injective _ _ e) (record { seen = begins_none []; told = begins_none []; mine = refl; number = le_refl 0; listed = le_refl 0 })
-    one (suc at) v e = absurd (some-ne-none v (sym e))
-
-    none : (at : ℕ) (v : View) → get_elem? (newcomer ∷ []) at ≡ some v → ¬ (0 < v.number)
-    none zero v e pos = let z : 0 ≡ v.number = ap (λ (q : View). q.number) (some-injective newcomer v e) in omega arith
-    none (suc at) v e pos = absurd (some-ne-none v (sym e))
-
--- the exchange, by whether the words are those that were expected
-by_exchange : (current next : List ℕ) (P : List ℕ → List ℕ → Type 0) (x : List ℕ) → (x ≡ current → P x next) → (x ≢ current → P x x) → P x (if pointwise nat_eq x current then next else x)
-by_exchange current next P x hit miss = go (pointwise nat_eq x current) refl
-  where
-    go : (b : Bool) → pointwise nat_eq x current ≡ b → P x (if b then next else x)
-    go true e = hit ((bytes_decides x current).0 e)
-    go false e = miss (λ same. true≢false (sym ((bytes_decides x current).1 same) ∙ e))
-
--- what an exchange that adds an entry leaves
-abbrev entered : View → List Entry → ℕ → Entry → View
-entered v history enlisted e = record { seen = followed_by history e; told = []; mine = followed_by v.mine e; number = v.number; listed = enlisted; shown = v.shown; acts = v.acts + 1 }
-
-module _ (x next : List ℕ) (views : List View) (h : KeepsOneHistory x views) (at : ℕ) (v : View) (e : Entry) (here : get_elem? views at ≡ some v) (pos : 0 < v.number) (me : e.reporter ≡ v.number) (is : IsNextBoard e x next) where
-  add_keeps : KeepsOneHistory next (set views at (entered v h.history h.enlisted e))
-  add_keeps =
-      let f = h.fits at v here in
-      let log : List Entry = followed_by h.history e in
-      let n = is h.history h.enlisted h.legal h.words_are in
-      let rank : e.reporter ≤ h.enlisted = (let a = f.number in omega arith) in
-      let alone : (j : ℕ) (u : View) → j ≢ at → get_elem? views j ≡ some u → 0 < v.number → v.number ≢ u.number = (λ j u ne q p same. ne (sym (h.apart at j v u here q p same))) in
-      stepped x next views h at (entered v h.history h.enlisted e) log h.enlisted n.0 n.1 h.few
-      (All-append (InRank h.enlisted) h.history (e ∷ []) h.ranked (All-cons (InRank h.enlisted) e [] rank (All-nil (InRank h.enlisted))))
-      (λ j u ne q. let g = h.fits j u q in record {
-        seen = begins_more u.seen h.history e g.seen;
-        told = begins_more u.told h.history e g.told;
-        mine = g.mine ∙ sym (by_other u.number h.history e (λ same. alone j u ne q pos (sym me ∙ same)));
-        number = g.number;
-        listed = g.listed;
-      })
-      (record {
-        seen = begins_same log;
-        told = begins_none log;
-        mine = ap (λ (l : List Entry). followed_by l e) f.mine ∙ sym (by_own v.number h.history e me);
-        number = f.number;
-        listed = le_refl h.enlisted;
-      })
-      alone
-
-  add_tells : StoresEntry e v x next (entered v h.history h.enlisted e)
-  unfolding add_keeps stepped
-  add_tells =
-      let f = h.fits at v here in
-      record {
-        all = all_seen next views at v (entered v h.history h.enlisted e) add_keeps here refl refl;
-        before = h.history;
-        legal = h.legal;
-        found = h.words_are;
-        last = refl;
-        seen = f.seen;
-        listed = f.listed;
-        mine = refl;
-        number = refl;
-        shown = refl;
-        acts = refl;
-      }
-
-  add_differs : x ≢ next
-  add_differs same = let n = is h.history h.enlisted h.legal h.words_are in entry_differs h.history h.enlisted e n.1 (sym h.words_are ∙ (same ∙ n.0))
-
-pub adds : (at : ℕ) (v : View) (e : Entry) (current next : List ℕ) → 0 < v.number → e.reporter ≡ v.number → IsNextBoard e current next
-    → Turns KeepsOneHistory at v (λ x. if pointwise nat_eq x current then next else x) (AddsOrLooks e)
-adds at v e current next pos me is x views h here =
-    by_exchange current next (λ x' y. (w : View) × KeepsOneHistory y (set views at w) × AddsOrLooks e v x' y w) x
-    (λ same.
-    let is' : IsNextBoard e x next = subst (λ (ws : List ℕ). IsNextBoard e ws next) (sym same) is in
-    (entered v h.history h.enlisted e, add_keeps x next views h at v e here pos me is', inr (add_differs x next views h at v e here pos me is', add_tells x next views h at v e here pos me is')))
-    (λ _. (looked v h.history h.enlisted v.shown, look_keeps x views h at v here v.shown, inl (refl, look_tells x views h at v here v.shown)))
-
--- what an exchange that adds a reporter leaves
-abbrev enlisted_as : View → List Entry → ℕ → View
-enlisted_as v history number = record { seen = history; told = []; mine = []; number = number; listed = number; shown = []; acts = v.acts + 1 }
-
-module _ (x : List ℕ) (views : List View) (h : KeepsOneHistory x views) (at : ℕ) (v : View) (here : get_elem? views at ≡ some v) (room : slice_index x 12 < 255) where
-  enlist_keeps : KeepsOneHistory (with_one_more x) (set views at (enlisted_as v h.history (h.enlisted + 1)))
-  enlist_keeps =
-      let n : ℕ = h.enlisted + 1 in
-      let few : n ≤ 255 = (let r : h.enlisted < 255 = subst (λ (k : ℕ). k < 255) (ap (λ (ws : List ℕ). slice_index ws 12) h.words_are ∙ last_word h.history h.enlisted) room in omega arith) in
-      stepped x (with_one_more x) views h at (enlisted_as v h.history n) h.history n (ap with_one_more h.words_are ∙ more_words h.history h.enlisted) h.legal few
-      (λ k d lt. let q = h.ranked k d lt in omega arith)
-      (λ j u ne q. let g = h.fits j u q in record { seen = g.seen; told = g.told; mine = g.mine; number = (let l = g.number in omega arith); listed = (let l = g.listed in omega arith) })
-      (record { seen = begins_same h.history; told = begins_none h.history; mine = sym (none_by_more h.enlisted h.history h.ranked); number = le_refl n; listed = le_refl n })
-      (λ j u ne q pos same. let g = h.fits j u q in let a = g.number in omega arith)
-
-  enlist_tells : StoresReporter v x (with_one_more x) (enlisted_as v h.history (h.enlisted + 1))
-  unfolding enlist_keeps stepped
-  enlist_tells =
-      let f = h.fits at v here in
-      record {
-        all = all_seen (with_one_more x) views at v (enlisted_as v h.history (h.enlisted + 1)) enlist_keeps here refl refl;
-        seen = f.seen;
-        number = refl;
-        above = (let l = f.listed in omega arith);
-        mine = refl;
-        shown = refl;
-        acts = refl;
-      }
-
-  enlist_differs : x ≢ with_one_more x
-  enlist_differs same = reporter_differs h.history h.enlisted (sym h.words_are ∙ (same ∙ (ap with_one_more h.words_are ∙ more_words h.history h.enlisted)))
-
-pub enlists : (at : ℕ) (v : View) (current next : List ℕ) → slice_index current 12 < 255 → next ≡ with_one_more current
-    → Turns KeepsOneHistory at v (λ x. if pointwise nat_eq x current then next else x) EnlistsOrLooks
-enlists at v current next room is x views h here =
-    by_exchange current next (λ x' y. (w : View) × KeepsOneHistory y (set views at w) × EnlistsOrLooks v x' y w) x
-    (λ same.
-    let next' : next ≡ with_one_more x = is ∙ ap with_one_more (sym same) in
-    let room' : slice_index x 12 < 255 = subst (λ (ws : List ℕ). slice_index ws 12 < 255) (sym same) room in
-    subst (λ (y : List ℕ). (w : View) × KeepsOneHistory y (set views at w) × EnlistsOrLooks v x y w) (sym next')
-    (enlisted_as v h.history (h.enlisted + 1), enlist_keeps x views h at v here room', inr (enlist_differs x views h at v here room', enlist_tells x views h at v here room')))
-    (λ _. (looked v h.history h.enlisted v.shown, look_keeps x views h at v here v.shown, inl (refl, look_tells x views h at v here v.shown)))
-
--- a second pass, or a note, whose number is 0
-pub splits : (at : ℕ) (v : View) → Forks KeepsOneHistory at v v (note_of v)
-splits at v x views h here =
-    let f = h.fits at v here in
-    let back : (j : ℕ) (u : View) → get_elem? (set views at v ++ note_of v ∷ []) j ≡ some u → (get_elem? views j ≡ some u) ⊎ (note_of v ≡ u) =
-    (λ j u e. ⊎_elim (λ was. inl (subst (λ l. get_elem? l j ≡ some u) (set_again views at v here) was)) (λ (new : note_of v ≡ u). inr new) (at_snoc (set views at v) (note_of v) u j e)) in
+-- another pass fits the longer log
+other_fits : (log : Log) (enlisted more seat : ℕ) (t : Taken) (j : ℕ) (u : View) → j ≢ seat → enlisted ≤ more → entries_by u.number (history_of (logged log seat t)) ≡ entries_by u.number (history_of log)
+    → Fits log enlisted j u → Fits (logged log seat t) more j u
+other_fits log enlisted more seat t j u not le same f =
+    let longer : IsPrefix (history_of log) (history_of (logged log seat t)) = (entry_list t.entry, sym (history_more log seat t)) in
+    let a = f.number in
+    let b = f.listed in
     record {
-      history = h.history;
-      enlisted = h.enlisted;
-      words_are = h.words_are;
-      legal = h.legal;
-      few = h.few;
-      ranked = h.ranked;
-      fits = λ j u e. ⊎_elim (λ was. h.fits j u was) (λ (new : note_of v ≡ u). subst (Fits h.history h.enlisted) new (record { seen = f.seen; told = begins_none h.history; mine = sym (none_by_zero h.history h.legal); number = omega arith; listed = f.listed })) (back j u e);
-      apart = λ i j u z e g pos same. ⊎_elim
-          (λ was. ⊎_elim (λ was'. h.apart i j u z was was' pos same) (λ (new : note_of v ≡ z). let n : 0 ≡ z.number = ap (λ (q : View). q.number) new in absurd (omega arith)) (back j z g))
-          (λ (new : note_of v ≡ u). let n : 0 ≡ u.number = ap (λ (q : View). q.number) new in absurd (omega arith))
-          (back i u e);
+      seen = begins_through u.seen (history_of log) (history_of (logged log seat t)) f.seen longer;
+      kept = λ k d lt. begins_through _ (history_of log) (history_of (logged log seat t)) (f.kept k d lt) longer;
+      mine = f.mine ∙ sym same;
+      made = f.made;
+      number = omega arith;
+      listed = omega arith;
+      own = f.own ∙ sym (taken_other j seat log t (λ e. not (sym e)));
+      knows = begins_more u.log log (seat, t) f.knows;
+      all_own = f.all_own;
+      sees = f.sees;
     }
 
-pub joins : (at : ℕ) (v : View) (other : ℕ) (u : View) → Merges KeepsOneHistory at v other u (told_by v u) newcomer
-joins at v other u x views h here apart there =
-    let f = h.fits at v here in
-    let theirs : get_elem? views other ≡ some u = ⊎_elim (λ (t : (other ≡ at) × (told_by v u ≡ u)). absurd (apart t.0)) (λ (t : (other ≢ at) × (get_elem? views other ≡ some u)). t.1) (at_set views at other (told_by v u) u there) in
-    let g = h.fits other u theirs in
-    let one : KeepsOneHistory x (set views at (told_by v u)) = stepped x x views h at (told_by v u) h.history h.enlisted h.words_are h.legal h.few h.ranked
-    (λ j z ne e. h.fits j z e)
-    (record { seen = f.seen; told = g.seen; mine = f.mine; number = f.number; listed = f.listed })
-    (λ j z ne e pos same. ne (sym (h.apart at j v z here e pos same))) in
-    stepped x x (set views at (told_by v u)) one other newcomer one.history one.enlisted one.words_are one.legal one.few one.ranked
-    (λ j z ne e. one.fits j z e)
-    (record { seen = begins_none one.history; told = begins_none one.history; mine = sym (none_by_zero one.history one.legal); number = omega arith; listed = omega arith })
-    (λ j z ne e pos same. omega arith)
+-- the pass that took the step fits it
+own_fits : (log : Log) (enlisted more seat : ℕ) (v : View) (t : Taken) (mine : List Entry) (number listed : ℕ) (shown : List ℕ) → Fits log enlisted seat v
+    → mine ≡ entries_by number (history_of (logged log seat t)) → mine ≡ added_by (v.own ++ t ∷ []) → number ≤ more → listed ≤ more
+    → Fits (logged log seat t) more seat (after_step v log seat t mine number listed shown)
+own_fits log enlisted more seat v t mine number listed shown f is made low few =
+    let own : v.own ++ t ∷ [] ≡ taken_by seat (logged log seat t) = ap (λ (l : List Taken). l ++ t ∷ []) f.own ∙ sym (taken_own seat log t) in
+    record {
+      seen = begins_same (history_of (logged log seat t));
+      kept = All-nil (λ (l : List Entry). IsPrefix l (history_of (logged log seat t)));
+      mine = is;
+      made = made;
+      number = low;
+      listed = few;
+      own = own;
+      knows = begins_same (logged log seat t);
+      all_own = sym own;
+      sees = begins_same (history_of (logged log seat t));
+    }
 
--- what an exchange for an event says by its answer
-pub add_says : (e : Entry) (v w : View) (current next : List ℕ) (r : Result (List ℕ) (List ℕ)) → IsNextBoard e current next
-    → MatchResult r (λ x. (pointwise nat_eq x current ≡ true) × AddsOrLooks e v x next w) (λ x. (pointwise nat_eq x current ≡ false) × AddsOrLooks e v x x w)
-    → MatchResult r (λ x. (x ≡ current) × StoresEntry e v current next w) (λ x. LooksOnly v x x w)
-add_says e v w current next (Ok x) is said =
-    let same : x ≡ current = (bytes_decides x current).0 said.0 in
-    ⊎_elim
-    (λ (t : (x ≡ next) × LooksOnly v x next w).
-    let rule = t.1.all.rule in
-    let was : current ≡ words_after rule.history rule.enlisted = sym same ∙ (t.0 ∙ rule.words_are) in
-    let n = is rule.history rule.enlisted rule.legal was in
-    absurd (entry_differs rule.history rule.enlisted e n.1 (sym rule.words_are ∙ n.0)))
-    (λ (t : (x ≢ next) × StoresEntry e v x next w). (same, subst (λ (c : List ℕ). StoresEntry e v c next w) same t.1))
-    said.1
-add_says e v w current next (Err x) is said =
-    ⊎_elim (λ (t : (x ≡ x) × LooksOnly v x x w). t.1) (λ (t : (x ≢ x) × StoresEntry e v x x w). absurd (t.0 refl)) said.1
+-- what a meeting leaves as seen
 
--- what an exchange for an enlistment says by its answer
-pub enlist_says : (v w : View) (current next : List ℕ) (r : Result (List ℕ) (List ℕ)) → next ≡ with_one_more current → slice_index current 12 < 255
-    → MatchResult r (λ x. (pointwise nat_eq x current ≡ true) × EnlistsOrLooks v x next w) (λ x. (pointwise nat_eq x current ≡ false) × EnlistsOrLooks v x x w)
-    → MatchResult r (λ x. (x ≡ current) × StoresReporter v current next w) (λ x. LooksOnly v x x w)
-enlist_says v w current next (Ok x) is room said =
-    let same : x ≡ current = (bytes_decides x current).0 said.0 in
-    ⊎_elim
-    (λ (t : (x ≡ next) × LooksOnly v x next w).
-    let rule = t.1.all.rule in
-    let was : current ≡ words_after rule.history rule.enlisted = sym same ∙ (t.0 ∙ rule.words_are) in
-    let more : next ≡ words_after rule.history (rule.enlisted + 1) = is ∙ (ap with_one_more was ∙ more_words rule.history rule.enlisted) in
-    absurd (reporter_differs rule.history rule.enlisted (sym rule.words_are ∙ more)))
-    (λ (t : (x ≢ next) × StoresReporter v x next w). (same, subst (λ (c : List ℕ). StoresReporter v c next w) same t.1))
-    said.1
-enlist_says v w current next (Err x) is room said =
-    ⊎_elim (λ (t : (x ≡ x) × LooksOnly v x x w). t.1) (λ (t : (x ≢ x) × StoresReporter v x x w). absurd (t.0 refl)) said.1
+longer_begins : (xs ys h : List Entry) → IsPrefix xs h → IsPrefix ys h → (b : Bool) → IsPrefix (if b then ys else xs) h
+longer_begins xs ys h p q true = q
+longer_begins xs ys h p q false = p
+
+shorter_begins : (xs ys h : List Entry) → IsPrefix xs h → IsPrefix ys h → length xs ≤ length ys → IsPrefix xs ys
+shorter_begins xs ys h p q le = subst (IsPrefix xs) (ap (take (length ys)) (sym q.1) ∙ take-append_seam ys q.0) (begins_take xs h (length ys) p le)
+
+begins_longer_of : (s xs ys h : List Entry) → IsPrefix s xs → IsPrefix xs h → IsPrefix ys h → (b : Bool) → nat_lt (length xs) (length ys) ≡ b → IsPrefix s (if b then ys else xs)
+begins_longer_of s xs ys h p q z true is = let less = ltb-true (length xs) (length ys) is in begins_through s xs ys p (shorter_begins xs ys h q z (omega arith))
+begins_longer_of s xs ys h p q z false is = p
+
+module _ (words_after : List Entry → ℕ → List ℕ) where
+  abbrev pub Rule : List ℕ → List View → Type 0
+  Rule = KeepsOneHistory words_after
+
+  -- one pass gets the view w, and the others still fit
+  stepped : (words after : List ℕ) (views : List View) (r : Rule words views) (seat : ℕ) (w : View) (log : Log) (enlisted : ℕ)
+      → after ≡ words_after (history_of log) enlisted → IsLog log → IsLegal (history_of log) → enlisted ≤ 255 → All (InRank enlisted) (history_of log) → All (λ (x : ℕ × Taken). x.0 < length views) log
+      → ((j : ℕ) (u : View) → j ≢ seat → get_elem? views j ≡ some u → Fits log enlisted j u) → Fits log enlisted seat w
+      → ((j : ℕ) (u : View) → j ≢ seat → get_elem? views j ≡ some u → 0 < w.number → w.number ≢ u.number)
+      → ((n : ℕ) → 1 ≤ n → n ≤ enlisted → (j : ℕ) × (u : View) × (get_elem? (set views seat w) j ≡ some u) × (u.number ≡ n))
+      → Rule after (set views seat w)
+  stepped words after views r seat w log enlisted are is_log legal few ranked seated others mine alone given = record {
+    log = log;
+    enlisted = enlisted;
+    words_are = are;
+    is_log = is_log;
+    legal = legal;
+    few = few;
+    ranked = ranked;
+    seated = subst (λ (n : ℕ). All (λ (x : ℕ × Taken). x.0 < n) log) (sym (length-set views seat w)) seated;
+    fits = λ j u e. ⊎_elim
+        (λ (t : (j ≡ seat) × (w ≡ u)). subst (λ (k : ℕ). Fits log enlisted k u) (sym t.0) (subst (Fits log enlisted seat) t.1 mine))
+        (λ (t : (j ≢ seat) × (get_elem? views j ≡ some u)). others j u t.0 t.1)
+        (at_set views seat j w u e);
+    apart = λ i j u z e f pos same. ⊎_elim
+        (λ (a : (i ≡ seat) × (w ≡ u)). ⊎_elim
+        (λ (t : (j ≡ seat) × (w ≡ z)). a.0 ∙ sym t.0)
+        (λ (t : (j ≢ seat) × (get_elem? views j ≡ some z)). absurd (alone j z t.0 t.1 (subst (λ (q : View). 0 < q.number) (sym a.1) pos) (ap (λ (q : View). q.number) a.1 ∙ same)))
+        (at_set views seat j w z f))
+        (λ (a : (i ≢ seat) × (get_elem? views i ≡ some u)). ⊎_elim
+        (λ (t : (j ≡ seat) × (w ≡ z)). absurd (alone i u a.0 a.1 (subst (λ (n : ℕ). 0 < n) (same ∙ sym (ap (λ (q : View). q.number) t.1)) pos) (ap (λ (q : View). q.number) t.1 ∙ sym same)))
+        (λ (t : (j ≢ seat) × (get_elem? views j ≡ some z)). r.apart i j u z a.1 t.1 pos same)
+        (at_set views seat j w z f))
+        (at_set views seat i w u e);
+    given = given;
+  }
+
+  module _ (words : List ℕ) (views : List View) (r : Rule words views) (seat : ℕ) (v : View) (here : get_elem? views seat ≡ some v) where
+    below : seat < length views
+    below = place_below views seat v here
+
+    -- numbers stay with their passes where this pass keeps its own
+    still_given : (w : View) (enlisted : ℕ) → w.number ≡ v.number → enlisted ≤ r.enlisted → (n : ℕ) → 1 ≤ n → n ≤ enlisted → (j : ℕ) × (u : View) × (get_elem? (set views seat w) j ≡ some u) × (u.number ≡ n)
+    still_given w enlisted same le n low high =
+        let g = r.given n low (omega arith) in
+        dite (ℕ_discrete g.0 seat)
+        (λ is. (seat, w, set_here views seat w below, same ∙ (ap (λ (u : View). u.number) (some-injective v g.1 (sym here ∙ (ap (get_elem? views) (sym is) ∙ g.2))) ∙ g.3)))
+        (λ not. (g.0, g.1, set_else views seat g.0 w not ∙ g.2, g.3))
+
+    still_alone : (w : View) → w.number ≡ v.number → (j : ℕ) (u : View) → j ≢ seat → get_elem? views j ≡ some u → 0 < w.number → w.number ≢ u.number
+    still_alone w is j u ne e pos same = ne (sym (r.apart seat j v u here e (subst (λ (n : ℕ). 0 < n) is pos) (sym is ∙ same)))
+
+    module _ (t : Taken) where
+      all_seated : All (λ (x : ℕ × Taken). x.0 < length views) (logged r.log seat t)
+      all_seated = All-append (λ (x : ℕ × Taken). x.0 < length views) r.log ((seat, t) ∷ []) r.seated (All-cons (λ (x : ℕ × Taken). x.0 < length views) (seat, t) [] below (All-nil (λ (x : ℕ × Taken). x.0 < length views)))
+
+      now : t.entry ≡ None → history_of (logged r.log seat t) ≡ history_of r.log
+      now = history_same r.log seat t
+
+    -- a step that stored nothing
+    module _ (target : Target) (there : IsThere (history_of r.log) target) (listed : ℕ) (shown : List ℕ) (le : listed ≤ r.enlisted) where
+      abbrev pub look : Taken
+      look = step_taken target (length (history_of r.log)) None
+
+      abbrev pub looked : View
+      looked = after_step v r.log seat look v.mine v.number listed shown
+
+      pub same_history : history_of (logged r.log seat look) ≡ history_of r.log
+      same_history = history_same r.log seat look refl
+
+      pub look_keeps : Rule words (set views seat looked)
+      look_keeps =
+          let f = r.fits seat v here in
+          let h = same_history in
+          stepped words words views r seat looked (logged r.log seat look) r.enlisted
+          (r.words_are ∙ ap (λ (l : List Entry). words_after l r.enlisted) (sym h))
+          (log_more r.log (seat, look) r.is_log (record { place = refl; there = there; adds = tt }))
+          (subst IsLegal (sym h) r.legal)
+          r.few
+          (subst (All (InRank r.enlisted)) (sym h) r.ranked)
+          (all_seated look)
+          (λ j u ne e. other_fits r.log r.enlisted r.enlisted seat look j u ne (le_refl r.enlisted) (ap (entries_by u.number) h) (r.fits j u e))
+          (own_fits r.log r.enlisted r.enlisted seat v look v.mine v.number listed shown f (f.mine ∙ ap (entries_by v.number) (sym h)) (f.made ∙ sym (added_more v.own look ∙ append-nil (added_by v.own))) f.number le)
+          (still_alone looked refl)
+          (still_given looked r.enlisted refl (le_refl r.enlisted))
+
+      pub look_tells : Sees target v looked
+      look_tells =
+          let f = r.fits seat v here in
+          let h = same_history in
+          let few = r.few in
+          record {
+            goes = record {
+              legal = subst IsLegal (sym h) r.legal;
+              seen = subst (IsPrefix v.seen) (sym h) f.seen;
+              told = subst (λ (l : List Entry). All (λ (k : List Entry). IsPrefix k l) v.kept) (sym h) f.kept;
+              kept = refl;
+              own = f.mine ∙ ap (entries_by v.number) (sym h);
+              few = omega arith;
+            };
+            there = subst (λ (l : List Entry). IsThere l target) (sym h) there;
+            takes = record { own = ap (λ (l : List Entry). v.own ++ step_taken target (length l) None ∷ []) (sym h); copied = refl };
+            mine = refl;
+            number = refl;
+          }
+
+    -- an exchange that adds an entry
+    module _ (e : Entry) (found : ℕ) (there : IsThere (history_of r.log) (Match Swap e.game found)) (pos : 0 < v.number) (me : e.reporter ≡ v.number) (legal : IsLegal (followed_by (history_of r.log) e)) (listed : ℕ) (le : listed ≤ r.enlisted) where
+      abbrev pub add : Taken
+      add = step_taken (Match Swap e.game found) (length (history_of r.log)) (Some e)
+
+      abbrev pub entered : View
+      entered = after_step v r.log seat add (followed_by v.mine e) v.number listed v.shown
+
+      pub longer_history : history_of (logged r.log seat add) ≡ followed_by (history_of r.log) e
+      longer_history = history_more r.log seat add
+
+      own_more : followed_by v.mine e ≡ entries_by v.number (history_of (logged r.log seat add))
+      own_more = let f = r.fits seat v here in ap (λ (l : List Entry). followed_by l e) f.mine ∙ (sym (by_own v.number (history_of r.log) e me) ∙ ap (entries_by v.number) (sym longer_history))
+
+      pub add_keeps : (after : List ℕ) → after ≡ words_after (followed_by (history_of r.log) e) r.enlisted → Rule after (set views seat entered)
+      add_keeps after are =
+          let f = r.fits seat v here in
+          let h = longer_history in
+          let rank : e.reporter ≤ r.enlisted = (let a = f.number in omega arith) in
+          stepped words after views r seat entered (logged r.log seat add) r.enlisted
+          (are ∙ ap (λ (l : List Entry). words_after l r.enlisted) (sym h))
+          (log_more r.log (seat, add) r.is_log (record { place = refl; there = there; adds = (found, refl) }))
+          (subst IsLegal (sym h) legal)
+          r.few
+          (subst (All (InRank r.enlisted)) (sym h) (All-append (InRank r.enlisted) (history_of r.log) (e ∷ []) r.ranked (All-cons (InRank r.enlisted) e [] rank (All-nil (InRank r.enlisted)))))
+          (all_seated add)
+          (λ j u ne q. other_fits r.log r.enlisted r.enlisted seat add j u ne (le_refl r.enlisted)
+          (ap (entries_by u.number) h ∙ by_other u.number (history_of r.log) e (λ same. still_alone v refl j u ne q pos (sym me ∙ same)))
+          (r.fits j u q))
+          (own_fits r.log r.enlisted r.enlisted seat v add (followed_by v.mine e) v.number listed v.shown f own_more (ap (λ (l : List Entry). l ++ e ∷ []) f.made ∙ sym (added_more v.own add)) f.number le)
+          (still_alone entered refl)
+          (still_given entered r.enlisted refl (le_refl r.enlisted))
+
+      pub add_tells : Adds e (history_of r.log) found v entered
+      add_tells =
+          let f = r.fits seat v here in
+          let h = longer_history in
+          let few = r.few in
+          let one : IsPrefix (history_of r.log) (history_of (logged r.log seat add)) = (e ∷ [], sym h) in
+          record {
+            last = h;
+            since = f.seen;
+            goes = record {
+              legal = subst IsLegal (sym h) legal;
+              seen = begins_through v.seen (history_of r.log) (history_of (logged r.log seat add)) f.seen one;
+              told = λ k d lt. begins_through _ (history_of r.log) (history_of (logged r.log seat add)) (f.kept k d lt) one;
+              kept = refl;
+              own = own_more;
+              few = omega arith;
+            };
+            there = there;
+            takes = record { own = refl; copied = refl };
+            mine = refl;
+            number = refl;
+            shown = refl;
+          }
+
+    -- an exchange that adds a reporter
+    module _ (reader : v.number ≡ 0) (room : r.enlisted < 255) where
+      abbrev pub count : Taken
+      count = step_taken Enlisted (length (history_of r.log)) None
+
+      abbrev pub enlisted_as : View
+      enlisted_as = after_step v r.log seat count [] (r.enlisted + 1) (r.enlisted + 1) []
+
+      pub unchanged_history : history_of (logged r.log seat count) ≡ history_of r.log
+      unchanged_history = history_same r.log seat count refl
+
+      no_entry_yet : [] ≡ entries_by (r.enlisted + 1) (history_of (logged r.log seat count))
+      no_entry_yet = sym (ap (entries_by (r.enlisted + 1)) unchanged_history ∙ none_by_more r.enlisted (history_of r.log) r.ranked)
+
+      none_made : [] ≡ added_by (v.own ++ count ∷ [])
+      none_made =
+          let f = r.fits seat v here in
+          sym (added_more v.own count ∙ (append-nil (added_by v.own) ∙ (sym f.made ∙ (f.mine ∙ (ap (λ (n : ℕ). entries_by n (history_of r.log)) reader ∙ none_by_zero (history_of r.log) r.legal)))))
+
+      all_given : (n : ℕ) → 1 ≤ n → n ≤ r.enlisted + 1 → (j : ℕ) × (u : View) × (get_elem? (set views seat enlisted_as) j ≡ some u) × (u.number ≡ n)
+      all_given n low high = dite (ℕ_discrete n (r.enlisted + 1))
+          (λ is. (seat, enlisted_as, set_here views seat enlisted_as below, sym is))
+          (λ not.
+          let g = r.given n low (omega arith) in
+          (g.0, g.1, set_else views seat g.0 enlisted_as (λ is. let same : v.number ≡ n = ap (λ (u : View). u.number) (some-injective v g.1 (sym here ∙ (ap (get_elem? views) (sym is) ∙ g.2))) ∙ g.3 in omega arith) ∙ g.2, g.3))
+
+      pub enlist_keeps : (after : List ℕ) → after ≡ words_after (history_of r.log) (r.enlisted + 1) → Rule after (set views seat enlisted_as)
+      enlist_keeps after are =
+          let f = r.fits seat v here in
+          let h = unchanged_history in
+          stepped words after views r seat enlisted_as (logged r.log seat count) (r.enlisted + 1)
+          (are ∙ ap (λ (l : List Entry). words_after l (r.enlisted + 1)) (sym h))
+          (log_more r.log (seat, count) r.is_log (record { place = refl; there = tt; adds = tt }))
+          (subst IsLegal (sym h) r.legal)
+          (omega arith)
+          (subst (All (InRank (r.enlisted + 1))) (sym h) (λ k d lt. let q = r.ranked k d lt in omega arith))
+          (all_seated count)
+          (λ j u ne q. other_fits r.log r.enlisted (r.enlisted + 1) seat count j u ne (omega arith) (ap (entries_by u.number) h) (r.fits j u q))
+          (own_fits r.log r.enlisted (r.enlisted + 1) seat v count [] (r.enlisted + 1) (r.enlisted + 1) [] f no_entry_yet none_made (le_refl (r.enlisted + 1)) (le_refl (r.enlisted + 1)))
+          (λ j u ne q pos same. let g = r.fits j u q in let a = g.number in omega arith)
+          all_given
+
+      pub enlist_tells : Enlists v enlisted_as
+      enlist_tells =
+          let f = r.fits seat v here in
+          let h = unchanged_history in
+          record {
+            goes = record {
+              legal = subst IsLegal (sym h) r.legal;
+              seen = subst (IsPrefix v.seen) (sym h) f.seen;
+              told = subst (λ (l : List Entry). All (λ (k : List Entry). IsPrefix k l) v.kept) (sym h) f.kept;
+              kept = refl;
+              own = no_entry_yet;
+              few = omega arith;
+            };
+            takes = record { own = ap (λ (l : List Entry). v.own ++ step_taken Enlisted (length l) None ∷ []) (sym h); copied = refl };
+            above = (let l = f.listed in omega arith);
+            number = refl;
+            mine = refl;
+            shown = refl;
+          }
+
+    -- one pass more, without a number and without a step
+    added : (w : View) → w.number ≡ 0 → w.own ≡ [] → w.log ≡ [] → w.mine ≡ [] → IsPrefix w.seen (history_of r.log) → w.kept ≡ [] → w.listed ≤ r.enlisted → Rule words (set views seat v ++ w ∷ [])
+    added w number own log mine seen kept listed =
+        let same : set views seat v ≡ views = set_again views seat v here in
+        let back : (j : ℕ) (u : View) → get_elem? (set views seat v ++ w ∷ []) j ≡ some u → (get_elem? views j ≡ some u) ⊎ ((j ≡ length views) × (w ≡ u)) =
+        (λ j u e. at_last views w u j (subst (λ (l : List View). get_elem? (l ++ w ∷ []) j ≡ some u) same e)) in
+        let fit : Fits r.log r.enlisted (length views) w = record {
+          seen = seen;
+          kept = subst (All (λ (l : List Entry). IsPrefix l (history_of r.log))) (sym kept) (All-nil (λ (l : List Entry). IsPrefix l (history_of r.log)));
+          mine = mine ∙ sym (ap (λ (n : ℕ). entries_by n (history_of r.log)) number ∙ none_by_zero (history_of r.log) r.legal);
+          made = mine ∙ sym (ap added_by own);
+          number = omega arith;
+          listed = listed;
+          own = own ∙ sym (taken_none (length views) r.log r.seated);
+          knows = subst (λ (l : Log). IsPrefix l r.log) (sym log) (begins_none r.log);
+          all_own = ap (taken_by (length views)) log ∙ sym own;
+          sees = subst (λ (l : Log). IsPrefix (history_of l) w.seen) (sym log) (begins_none w.seen);
+        } in
+        record {
+          log = r.log;
+          enlisted = r.enlisted;
+          words_are = r.words_are;
+          is_log = r.is_log;
+          legal = r.legal;
+          few = r.few;
+          ranked = r.ranked;
+          seated = λ k d lt. let b = r.seated k d lt in omega (arith, ap length same, length-append (set views seat v) (w ∷ []));
+          fits = λ j u e. ⊎_elim (λ was. r.fits j u was) (λ (new : (j ≡ length views) × (w ≡ u)). subst (λ (k : ℕ). Fits r.log r.enlisted k u) (sym new.0) (subst (Fits r.log r.enlisted (length views)) new.1 fit)) (back j u e);
+          apart = λ i j u z e g pos eq. ⊎_elim
+              (λ was. ⊎_elim (λ was'. r.apart i j u z was was' pos eq) (λ (new : (j ≡ length views) × (w ≡ z)). let n : w.number ≡ z.number = ap (λ (q : View). q.number) new.1 in absurd (omega arith)) (back j z g))
+              (λ (new : (i ≡ length views) × (w ≡ u)). let n : w.number ≡ u.number = ap (λ (q : View). q.number) new.1 in absurd (omega arith))
+              (back i u e);
+          given = λ n low high. let g = r.given n low high in (g.0, g.1, subst (λ (l : List View). get_elem? (l ++ w ∷ []) g.0 ≡ some g.1) (sym same) (at_longer views (w ∷ []) g.0 g.1 g.2), g.3);
+        }
+
+    pub second_added : Rule words (set views seat v ++ second_of v ∷ [])
+    second_added = let f = r.fits seat v here in added (second_of v) refl refl refl refl f.seen refl f.listed
+
+    pub note_added : Rule words (set views seat v ++ note_of v ∷ [])
+    note_added = let f = r.fits seat v here in added (note_of v) refl refl refl refl f.seen refl (omega arith)
+
+  -- a note was taken in: it has no number, and took no step
+
+  told_fits : (log : Log) (enlisted seat other : ℕ) (v u : View) → Fits log enlisted seat v → Fits log enlisted other u → Fits log enlisted seat (told_by v u)
+  told_fits log enlisted seat other v u f g =
+      let begins : List Entry → Type 0 = (λ l. IsPrefix l (history_of log)) in
+      record {
+        seen = longer_begins v.seen u.seen (history_of log) f.seen g.seen (nat_lt (length v.seen) (length u.seen));
+        kept = All-cons begins v.seen (u.seen ∷ v.kept) f.seen (All-cons begins u.seen v.kept g.seen f.kept);
+        mine = f.mine;
+        made = f.made;
+        number = f.number;
+        listed = f.listed;
+        own = f.own;
+        knows = f.knows;
+        all_own = f.all_own;
+        sees = begins_longer_of (history_of v.log) v.seen u.seen (history_of log) f.sees f.seen g.seen (nat_lt (length v.seen) (length u.seen)) refl;
+      }
+
+  module _ (words : List ℕ) (views : List View) (r : Rule words views) (seat : ℕ) (v : View) (here : get_elem? views seat ≡ some v) where
+    module _ (other : ℕ) (u : View) (apart : ¬ (other ≡ seat)) (there : get_elem? (set views seat (told_by v u)) other ≡ some u) (number : u.number ≡ 0) (own : u.own ≡ []) where
+      theirs : get_elem? views other ≡ some u
+      theirs = ⊎_elim (λ (t : (other ≡ seat) × (told_by v u ≡ u)). absurd (apart t.0)) (λ (t : (other ≢ seat) × (get_elem? views other ≡ some u)). t.1) (at_set views seat other (told_by v u) u there)
+
+      told : Rule words (set views seat (told_by v u))
+      told = stepped words words views r seat (told_by v u) r.log r.enlisted r.words_are r.is_log r.legal r.few r.ranked r.seated
+          (λ j z ne e. r.fits j z e)
+          (told_fits r.log r.enlisted seat other v u (r.fits seat v here) (r.fits other u theirs))
+          (still_alone words views r seat v here (told_by v u) refl)
+          (still_given words views r seat v here (told_by v u) r.enlisted refl (le_refl r.enlisted))
+
+      pub note_joined : Rule words (set (set views seat (told_by v u)) other newcomer)
+      unfolding told stepped
+      note_joined =
+          let g = told.fits other u there in
+          stepped words words (set views seat (told_by v u)) told other newcomer told.log told.enlisted told.words_are told.is_log told.legal told.few told.ranked told.seated
+          (λ j z ne e. told.fits j z e)
+          (record {
+            seen = begins_none (history_of told.log);
+            kept = All-nil (λ (l : List Entry). IsPrefix l (history_of told.log));
+            mine = sym (none_by_zero (history_of told.log) told.legal);
+            made = refl;
+            number = omega arith;
+            listed = omega arith;
+            own = sym own ∙ g.own;
+            knows = begins_none told.log;
+            all_own = refl;
+            sees = begins_none [];
+          })
+          (λ j z ne e pos same. omega arith)
+          (still_given words (set views seat (told_by v u)) told other u there newcomer told.enlisted (sym number) (le_refl told.enlisted))
+
+  -- a board opens with no event, no reporter and no step
+  pub opens : (words : List ℕ) → words ≡ words_after [] 0 → Rule words (newcomer ∷ [])
+  opens words are = record {
+    log = [];
+    enlisted = 0;
+    words_are = are;
+    is_log = log_none;
+    legal = may_none MayFollow;
+    few = omega arith;
+    ranked = All-nil (InRank 0);
+    seated = All-nil (λ (x : ℕ × Taken). x.0 < 1);
+    fits = one;
+    apart = λ i j v w e f pos same. absurd (numberless i v e pos);
+    given = λ n low high. absurd (omega arith);
+  }
+    where
+      fit : Fits [] 0 0 newcomer
+      fit = record {
+        seen = begins_none [];
+        kept = All-nil (λ (l : List Entry). IsPrefix l []);
+        mine = refl;
+        made = refl;
+        number = le_refl 0;
+        listed = le_refl 0;
+        own = refl;
+        knows = begins_none [];
+        all_own = refl;
+        sees = begins_none [];
+      }
+
+      one : (seat : ℕ) (v : View) → get_elem? (newcomer ∷ []) seat ≡ some v → Fits [] 0 seat v
+      one zero v e = subst (Fits [] 0 0) (some-injective _ _ e) fit
+      one (suc seat) v e = absurd (some-ne-none v (sym e))
+
+      numberless : (seat : ℕ) (v : View) → get_elem? (newcomer ∷ []) seat ≡ some v → ¬ (0 < v.number)
+      numberless zero v e pos = let z : 0 ≡ v.number = ap (λ (q : View). q.number) (some-injective newcomer v e) in omega arith
+      numberless (suc seat) v e pos = absurd (some-ne-none v (sym e))

@@ -3,19 +3,23 @@
 ghost use Rattle.std.specs.Prelude.{◌≡◌, ◌+◌, ◌<◌, ◌≤◌, ◌++◌, ◌∷◌, [], take, length, slice_index, IfOk, IfErr, IfSome, IfNone, MatchResult};
 ghost use Rattle.atomic_table.specs.Seated.{TableId};
 ghost use Rattle.crossbeam_utils.specs.Seq.{cell_view};
-ghost use Rattle.ucl_board.specs.Words.{AreWords};
+ghost use Rattle.ucl_board.specs.Fixtures.{IsMatch};
+ghost use Rattle.ucl_board.specs.Words.{AreWords, word_at};
+ghost use Rattle.ucl_board.specs.Log.{Look, Swap, Enlisted};
 ghost use Rattle.ucl_pass.specs.Passes.{Continues, AcceptedReport, RefusedReport, SharedReading, Enlistment, FullBoard, Meeting, opening_pass};
-ghost use Rattle.ucl_pass.specs.Views.{known_of, note_of, told_by};
-ghost use Rattle.ucl_pass.specs.CellRule.{IsUpToDate};
-ghost use Rattle.ucl_pass.specs.CellSteps.{IsNextBoard, with_one_more, LooksOnly, LooksAndShows, StoresEntry, StoresReporter};
+ghost use Rattle.ucl_pass.specs.Views.{known_of, count_of, second_of, note_of};
+ghost use Rattle.ucl_pass.specs.OneHistory.{BoardsOpenFresh};
+ghost use Rattle.ucl_pass.specs.CellRule.{words_after, IsUpToDate};
+ghost use Rattle.ucl_pass.specs.CellSteps.{IsNextBoard, with_one_more, word_looked_at, LooksOnly, LooksAtMatch, LooksAtEnlisted, LooksAndShows, StoresEntry, StoresReporter};
+ghost use Rattle.ucl_pass.specs.CallSteps.{EnlistSteps, MeetingSteps, CellReport, CellReading};
 
 use crate::passes::CellReaderPass;
-use crate::rule::{Adding, Adds, Cell, Enlists, Looks, Notes, Reads, Seat};
+use crate::rule::{Adding, Adds, Cell, Counts, Enlists, LooksAt, Note, Reads, Seat, SecondPass};
 use std::alloc::Global;
 use std::marker::{Brand, Model};
 use std::sync::Wait;
 use ucl_board::{Board, Entry, Reading};
-use ucl_word::{Accepted, EventCall, OutOfMemory, Refusal, ReporterNo};
+use ucl_word::{Accepted, EventCall, MatchNo, OutOfMemory, Refusal, ReporterNo};
 
 /// How many reporters a board can have.
 const MOST_REPORTERS: u64 = 255;
@@ -63,24 +67,37 @@ fn one_more_reporter(words: [u64; 13]) -> [u64; 13]
 }
 
 impl CellBoard {
-    /// The fresh board, and the reader's pass from which all its passes come. Where the memory of the cell is refused the answer is
-    /// `OutOfMemory`, and there is no board.
+    /// The fresh board, and the reader's pass from which all its passes come. The rule of the cell lets no board open but one of no event,
+    /// no reporter and no step. Where the memory of the cell is refused the answer is `OutOfMemory`, and there is no board.
     pub fn open<R>(_rt: &R, alloc: Global) -> Result<(CellBoard, CellReaderPass), OutOfMemory>
         ensures own { IfOk result (λ opened. opened.1.0 ≡ opened.0) }
         ensures fresh { IfOk result (λ opened. known_of opened.1.1 ≡ opening_pass) }
-        ensures acts { IfOk result (λ opened. opened.1.1.acts ≡ 0) }
+        ensures acts { IfOk result (λ opened. (opened.1.1.copied ≡ []) × (opened.1.1.own ≡ [])) }
+        ensures rule { BoardsOpenFresh words_after }
     {
-        let (cell, seat) = Cell::ruled(alloc, [0; 13])?;
+        let (cell, seat) = Cell::ruled(alloc, words_with(&Board::fresh(), 0))?;
         Ok((CellBoard { cell }, CellReaderPass { seat }))
     }
 
-    /// Loads the words, and shows nothing.
-    fn look<R: Wait>(&self, rt: &R, seat: &mut Seat) -> [u64; 13]
+    /// Loads the words, for a report that would add this entry.
+    fn look<K: Adding, R: Wait>(&self, rt: &R, seat: &mut Seat, game: MatchNo) -> [u64; 13]
+        requires cell { seat.old.table_id ≡ self.now }
+        requires game { K.entry.game ≡ game }
+        ensures own { seat.new.table_id ≡ seat.old.table_id }
+        ensures game { IsMatch game }
+        ensures looks { LooksAtMatch game (cell_view seat.old) result result (cell_view seat.new) }
+    {
+        let _number = game.get();
+        self.cell.load_as::<LooksAt<K>, R>(rt, seat)
+    }
+
+    /// Loads the words, for an enlistment or a meeting.
+    fn count<R: Wait>(&self, rt: &R, seat: &mut Seat) -> [u64; 13]
         requires { seat.old.table_id ≡ self.now }
         ensures own { seat.new.table_id ≡ seat.old.table_id }
-        ensures looks { LooksOnly (cell_view seat.old) result result (cell_view seat.new) }
+        ensures looks { LooksAtEnlisted (cell_view seat.old) result result (cell_view seat.new) }
     {
-        self.cell.load_as::<Looks, R>(rt, seat)
+        self.cell.load_as::<Counts, R>(rt, seat)
     }
 
     /// Loads the words, whose version is shown.
@@ -104,9 +121,10 @@ impl CellBoard {
         requires cell { seat.old.table_id ≡ self.now }
         requires entry { K.entry ≡ entry }
         requires me { (0 < (cell_view seat.old).number) × (K.entry.reporter ≡ (cell_view seat.old).number) }
+        requires game { IsMatch K.entry.game }
         requires next { IsNextBoard K.entry current next }
         ensures own { seat.new.table_id ≡ seat.old.table_id }
-        ensures stored { MatchResult result (λ found. (found ≡ current) × StoresEntry K.entry (cell_view seat.old) current next (cell_view seat.new)) (λ found. LooksOnly (cell_view seat.old) found found (cell_view seat.new)) }
+        ensures stored { MatchResult result (λ found. (found ≡ current) × StoresEntry K.entry (cell_view seat.old) current next (cell_view seat.new)) (λ found. LooksOnly (word_looked_at Swap K.entry.game found) (cell_view seat.old) found found (cell_view seat.new)) }
     {
         self.cell
             .compare_exchange_as::<Adds<K>, R>(rt, seat, current, next)
@@ -123,8 +141,9 @@ impl CellBoard {
         requires cell { seat.old.table_id ≡ self.now }
         requires next { next ≡ with_one_more current }
         requires room { slice_index current 12 < 255 }
+        requires reader { (cell_view seat.old).number ≡ 0 }
         ensures own { seat.new.table_id ≡ seat.old.table_id }
-        ensures stored { MatchResult result (λ found. (found ≡ current) × StoresReporter (cell_view seat.old) current next (cell_view seat.new)) (λ found. LooksOnly (cell_view seat.old) found found (cell_view seat.new)) }
+        ensures stored { MatchResult result (λ found. (found ≡ current) × StoresReporter (cell_view seat.old) next (cell_view seat.new)) (λ found. LooksAtEnlisted (cell_view seat.old) found found (cell_view seat.new)) }
     {
         self.cell
             .compare_exchange_as::<Enlists, R>(rt, seat, current, next)
@@ -144,11 +163,11 @@ impl CellBoard {
         ensures always { Continues (known_of (cell_view seat.old)) (known_of (cell_view seat.new)) }
         ensures accepted { IfOk result (λ reply. AcceptedReport (known_of (cell_view seat.old)) call.now reply (known_of (cell_view seat.new))) }
         ensures refused { IfErr result (λ refusal. RefusedReport (known_of (cell_view seat.old)) call.now refusal (known_of (cell_view seat.new))) }
-        ensures acts { (cell_view seat.old).acts < (cell_view seat.new).acts }
+        ensures steps { CellReport (cell_view seat.old) call.now result (cell_view seat.new) }
         ensures whole { IsUpToDate (cell_view seat.new) }
     {
         'retry: for _ in rt.forever() {
-            let words = self.look(rt, seat);
+            let words = self.look::<Brand, R>(rt, seat, call.game);
             let mut board = board_at(&words);
             let accepted = match board.report(reporter, call) {
                 Ok(accepted) => accepted,
@@ -175,7 +194,7 @@ impl CellBoard {
         ensures always { Continues (known_of (cell_view seat.old)) (known_of (cell_view seat.new)) }
         ensures reading { SharedReading (known_of (cell_view seat.old)) result (known_of (cell_view seat.new)) }
         ensures version { result.version ≡ length (cell_view seat.new).seen }
-        ensures acts { (cell_view seat.new).acts ≡ (cell_view seat.old).acts + 1 }
+        ensures steps { CellReading (cell_view seat.old) result (cell_view seat.new) }
         ensures whole { IsUpToDate (cell_view seat.new) }
     {
         let words = self.look_to_show(rt, seat);
@@ -186,16 +205,18 @@ impl CellBoard {
 
     /// Makes a seat a reporter's, and answers its number. `None` where 255 are enlisted.
     pub(crate) fn enlist_by<R: Wait>(&self, rt: &R, seat: &mut Seat) -> Option<ReporterNo>
-        requires { seat.old.table_id ≡ self.now }
+        requires cell { seat.old.table_id ≡ self.now }
+        requires reader { (cell_view seat.old).number ≡ 0 }
         ensures own { seat.new.table_id ≡ seat.old.table_id }
         ensures enlisted { IfSome result (λ number. Enlistment (known_of (cell_view seat.old)) (known_of (cell_view seat.new)) × ((cell_view seat.new).number ≡ number)) }
         ensures always { IfNone result (Continues (known_of (cell_view seat.old)) (known_of (cell_view seat.new))) }
         ensures full { IfNone result (FullBoard (known_of (cell_view seat.old)) (known_of (cell_view seat.new))) }
-        ensures acts { (cell_view seat.old).acts < (cell_view seat.new).acts }
+        ensures acts { count_of (cell_view seat.old) < count_of (cell_view seat.new) }
+        ensures steps { EnlistSteps (cell_view seat.old) (cell_view seat.new) }
         ensures whole { IsUpToDate (cell_view seat.new) }
     {
         'retry: for _ in rt.forever() {
-            let words = self.look(rt, seat);
+            let words = self.count(rt, seat);
             let enlisted = words[12];
             if enlisted >= MOST_REPORTERS {
                 return None;
@@ -213,23 +234,23 @@ impl CellBoard {
         requires { seat.old.table_id ≡ self.now }
         ensures own { seat.new.table_id ≡ seat.old.table_id }
         ensures unchanged { cell_view seat.new ≡ cell_view seat.old }
-        ensures given { (result.table_id ≡ seat.old.table_id) × (cell_view result ≡ note_of (cell_view seat.old)) × (result.me.1 ≡ []) }
+        ensures given { (result.table_id ≡ seat.old.table_id) × (cell_view result ≡ second_of (cell_view seat.old)) × (result.me.1 ≡ []) }
     {
-        self.cell.split_pass::<Notes>(seat)
+        self.cell.split_pass::<SecondPass>(seat)
     }
 
-    /// A note of the first is split off and joined to the second, which then looks.
+    /// A note of the first is split off and joined to the second, which then loads the words.
     pub(crate) fn meet_by<R: Wait>(&self, rt: &R, first: &mut Seat, second: &mut Seat)
         requires { (first.old.table_id ≡ self.now) × (second.old.table_id ≡ self.now) }
         ensures own { (first.new.table_id ≡ first.old.table_id) × (second.new.table_id ≡ second.old.table_id) }
         ensures unchanged { cell_view first.new ≡ cell_view first.old }
         ensures always { Continues (known_of (cell_view second.old)) (known_of (cell_view second.new)) }
         ensures meeting { Meeting (known_of (cell_view first.old)) (known_of (cell_view second.old)) (known_of (cell_view second.new)) }
-        ensures acts { (cell_view second.new).acts ≡ (cell_view second.old).acts + 1 }
+        ensures steps { MeetingSteps (cell_view second.old) (cell_view second.new) }
         ensures whole { IsUpToDate (cell_view second.new) }
     {
-        let note = self.split_seat(first);
-        self.cell.join_pass::<Notes>(second, note);
-        self.look(rt, second);
+        let note = self.cell.split_pass::<Note>(first);
+        self.cell.join_pass::<Note>(second, note);
+        self.count(rt, second);
     }
 }

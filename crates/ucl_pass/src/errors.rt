@@ -11,6 +11,6 @@ pub struct TooManyReporters<P>(pub P);
 #[derive(Clone, Copy, Debug, PartialEq, Eq, Error)]
 #[error("board refused 31: version {version}")]
 pub struct Strangers {
-    /// The version of the reading that was taken, 0 to 12,276.
+    /// The version of the reading that was taken.
     pub version: u16,
 }

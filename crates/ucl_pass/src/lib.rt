@@ -3,6 +3,7 @@
 
 mod cell_board;
 mod errors;
+mod laws;
 mod live_board;
 mod live_cell;
 mod passes;
@@ -12,6 +13,7 @@ mod view;
 
 pub use cell_board::CellBoard;
 pub use errors::{Strangers, TooManyReporters};
+pub use laws::{last_steps_see_all, steps_come_last};
 pub use live_board::LiveBoard;
 pub use passes::{CellReaderPass, CellReporterPass};
 pub use settling::settle;

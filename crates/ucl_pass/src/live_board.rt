@@ -92,7 +92,7 @@ pub trait LiveBoard: Sync {
     fn number_of(pass: &Self::ReporterPass) -> ReporterNo
         ensures { result ≡ (reporter_figures (reporter pass.now)).0 };
 
-    /// How many events of a reporter's pass were accepted, 0 to 12,276.
+    /// How many events of a reporter's pass were accepted.
     fn accepted_of(pass: &Self::ReporterPass) -> u16
         ensures { result ≡ (reporter_figures (reporter pass.now)).1 };
 }

@@ -2,8 +2,9 @@
 
 ghost use Rattle.std.specs.Prelude.{◌≡◌, ◌+◌, ◌<◌, length, IfOk, IfErr, MatchResult};
 ghost use Rattle.ucl_pass.specs.Passes.{IsSound, Continues, AcceptedReport, RefusedReport, SharedReading, split_pass, Enlistment, FullBoard, Meeting, reporter_figures};
-ghost use Rattle.ucl_pass.specs.Views.{known_of};
+ghost use Rattle.ucl_pass.specs.Views.{known_of, count_of};
 ghost use Rattle.ucl_pass.specs.CellRule.{IsUpToDate};
+ghost use Rattle.ucl_pass.specs.CallSteps.{EnlistSteps, MeetingSteps, HasCopyOf, CellReport, CellReading};
 
 use crate::cell_board::CellBoard;
 use crate::errors::TooManyReporters;
@@ -13,10 +14,10 @@ use std::sync::Wait;
 use ucl_board::Reading;
 use ucl_word::{Accepted, EventCall, Refusal, ReporterNo};
 
-/// Beside what every live board says, each load and exchange raises the `acts` of its pass by one, and afterwards the pass has seen
-/// the whole history: there is one legal history behind the words of the cell, and every pass has seen a beginning of it. The
-/// version that is read is the length of what the pass has then seen. The calls may wait inside the cell; an event or an enlistment
-/// is tried again, without a bound, where another call changed a word of the cell.
+/// Beside what every live board says, the clause `steps` says which steps a call takes, each of them in the log of the board; `acts` counts
+/// them; and by `whole` the pass has then seen the whole history, up to its last step. The version that is read is the length of what the
+/// pass has then seen. The calls may wait inside the cell; an event or an enlistment is tried again, without a bound, where another call
+/// changed a word of the cell.
 impl LiveBoard for CellBoard {
     type ReaderPass = CellReaderPass;
 
@@ -41,7 +42,8 @@ impl LiveBoard for CellBoard {
         ensures always { Continues (known_of pass.old.1) (known_of pass.new.1) }
         ensures accepted { IfOk result (λ reply. AcceptedReport (known_of pass.old.1) call.now reply (known_of pass.new.1)) }
         ensures refused { IfErr result (λ refusal. RefusedReport (known_of pass.old.1) call.now refusal (known_of pass.new.1)) }
-        ensures acts { pass.old.1.acts < pass.new.1.acts }
+        ensures acts { count_of pass.old.1 < count_of pass.new.1 }
+        ensures steps { CellReport pass.old.1 call.now result pass.new.1 }
         ensures whole { IsUpToDate pass.new.1 }
     {
         let reporter = pass.number;
@@ -58,7 +60,8 @@ impl LiveBoard for CellBoard {
         ensures always { Continues (known_of pass.old.1) (known_of pass.new.1) }
         ensures reading { SharedReading (known_of pass.old.1) result (known_of pass.new.1) }
         ensures version { result.version ≡ length pass.new.1.seen }
-        ensures acts { pass.new.1.acts ≡ pass.old.1.acts + 1 }
+        ensures acts { count_of pass.new.1 ≡ count_of pass.old.1 + 1 }
+        ensures steps { CellReading pass.old.1 result pass.new.1 }
         ensures whole { IsUpToDate pass.new.1 }
     {
         self.read_by(rt, &mut pass.seat)
@@ -70,7 +73,8 @@ impl LiveBoard for CellBoard {
         ensures always { Continues (known_of pass.old.1) (known_of pass.new.1) }
         ensures reading { SharedReading (known_of pass.old.1) result (known_of pass.new.1) }
         ensures version { result.version ≡ length pass.new.1.seen }
-        ensures acts { pass.new.1.acts ≡ pass.old.1.acts + 1 }
+        ensures acts { count_of pass.new.1 ≡ count_of pass.old.1 + 1 }
+        ensures steps { CellReading pass.old.1 result pass.new.1 }
         ensures whole { IsUpToDate pass.new.1 }
     {
         let seat = &mut pass.seat;
@@ -83,7 +87,8 @@ impl LiveBoard for CellBoard {
         ensures sound { IsSound (known_of pass.old.1) }
         ensures unchanged { pass.new.1 ≡ pass.old.1 }
         ensures given { known_of result.1 ≡ split_pass (known_of pass.old.1) }
-        ensures acts { result.1.acts ≡ pass.old.1.acts }
+        ensures acts { count_of result.1 ≡ count_of pass.old.1 }
+        ensures steps { HasCopyOf result.1 pass.old.1 }
     {
         let seat = self.split_seat(&mut pass.seat);
         CellReaderPass { seat }
@@ -99,7 +104,8 @@ impl LiveBoard for CellBoard {
         ensures enlisted { IfOk result (λ enlisted. Enlistment (known_of pass.1) (known_of enlisted.1)) }
         ensures always { IfErr result (λ full. Continues (known_of pass.1) (known_of full.0.1)) }
         ensures full { IfErr result (λ full. FullBoard (known_of pass.1) (known_of full.0.1)) }
-        ensures acts { MatchResult result (λ enlisted. pass.1.acts < enlisted.1.acts) (λ full. pass.1.acts < full.0.1.acts) }
+        ensures acts { MatchResult result (λ enlisted. count_of pass.1 < count_of enlisted.1) (λ full. count_of pass.1 < count_of full.0.1) }
+        ensures steps { MatchResult result (λ enlisted. EnlistSteps pass.1 enlisted.1) (λ full. EnlistSteps pass.1 full.0.1) }
         ensures whole { MatchResult result (λ enlisted. IsUpToDate enlisted.1) (λ full. IsUpToDate full.0.1) }
     {
         let CellReaderPass { mut seat } = pass;
@@ -120,7 +126,8 @@ impl LiveBoard for CellBoard {
         ensures always { Continues (known_of second.old.1) (known_of second.new.1) }
         ensures unchanged { first.new.1 ≡ first.old.1 }
         ensures meeting { Meeting (known_of first.old.1) (known_of second.old.1) (known_of second.new.1) }
-        ensures acts { second.new.1.acts ≡ second.old.1.acts + 1 }
+        ensures acts { count_of second.new.1 ≡ count_of second.old.1 + 1 }
+        ensures steps { MeetingSteps second.old.1 second.new.1 }
         ensures whole { IsUpToDate second.new.1 }
     {
         self.meet_by(rt, &mut first.seat, &mut second.seat);

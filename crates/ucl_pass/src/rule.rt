@@ -6,37 +6,19 @@ use crossbeam_utils::atomic::seq_cell::{Pass, RuledSeqCell};
 use crossbeam_utils::rule::{Outcome, Protocol};
 use std::marker::{Brand, PhantomData};
 
-/// One legal history behind the twelve match words and the number of enlisted reporters.
+/// One log of all steps, whose history has the twelve match words and whose reporters are as many as the thirteenth.
 pub struct OneHistory;
 
 impl Protocol<[u64; 13], View> for OneHistory {
     ghost use Rattle.ucl_pass.specs.Views.{newcomer};
-    ghost use Rattle.ucl_pass.specs.CellRule.{KeepsOneHistory};
+    ghost use Rattle.ucl_pass.specs.CellRule.{CellKeepsOneHistory};
 
-    ghost holds = { KeepsOneHistory };
+    ghost holds = { CellKeepsOneHistory };
 
     ghost first = { newcomer };
 }
 
-/// A load that shows nothing.
-pub struct Looks;
-
-impl Outcome<[u64; 13], View> for Looks {
-    ghost use Rattle.ucl_pass.specs.CellSteps.{LooksOnly};
-
-    ghost then = { LooksOnly };
-}
-
-/// A load whose version is shown.
-pub struct Reads;
-
-impl Outcome<[u64; 13], View> for Reads {
-    ghost use Rattle.ucl_pass.specs.CellSteps.{LooksAndShows};
-
-    ghost then = { LooksAndShows };
-}
-
-/// The entry that an exchange adds. Each call picks it.
+/// The entry that a report would add. Each call picks it.
 pub trait Adding {
     ghost use Rattle.ucl_board.specs.declared.entry.Entry.{Entry};
 
@@ -49,7 +31,16 @@ impl Adding for Brand {
     ghost entry = { no_entry };
 }
 
-/// An exchange that stores one event, or nothing.
+/// A report's load.
+pub struct LooksAt<K>(PhantomData<K>);
+
+impl<K: Adding> Outcome<[u64; 13], View> for LooksAt<K> {
+    ghost use Rattle.ucl_pass.specs.CellSteps.{LooksAtMatch};
+
+    ghost then = { LooksAtMatch K.entry.game };
+}
+
+/// A report's exchange, which stores one event, or nothing.
 pub struct Adds<K>(PhantomData<K>);
 
 impl<K: Adding> Outcome<[u64; 13], View> for Adds<K> {
@@ -58,7 +49,25 @@ impl<K: Adding> Outcome<[u64; 13], View> for Adds<K> {
     ghost then = { AddsOrLooks K.entry };
 }
 
-/// An exchange that stores one enlistment, or nothing.
+/// A reading's load, whose version is shown.
+pub struct Reads;
+
+impl Outcome<[u64; 13], View> for Reads {
+    ghost use Rattle.ucl_pass.specs.CellSteps.{LooksAndShows};
+
+    ghost then = { LooksAndShows };
+}
+
+/// The load of an enlistment or a meeting.
+pub struct Counts;
+
+impl Outcome<[u64; 13], View> for Counts {
+    ghost use Rattle.ucl_pass.specs.CellSteps.{LooksAtEnlisted};
+
+    ghost then = { LooksAtEnlisted };
+}
+
+/// The exchange of an enlistment, which stores it, or nothing.
 pub struct Enlists;
 
 impl Outcome<[u64; 13], View> for Enlists {
@@ -67,10 +76,21 @@ impl Outcome<[u64; 13], View> for Enlists {
     ghost then = { EnlistsOrLooks };
 }
 
-/// The split of a pass or a note, and the join of a note.
-pub struct Notes;
+/// The split of a second reader's pass.
+pub struct SecondPass;
 
-impl Split<View> for Notes {
+impl Split<View> for SecondPass {
+    ghost use Rattle.ucl_pass.specs.Views.{second_of};
+
+    ghost left = { λ v. v };
+
+    ghost right = { second_of };
+}
+
+/// The split and the join of a note.
+pub struct Note;
+
+impl Split<View> for Note {
     ghost use Rattle.ucl_pass.specs.Views.{note_of};
 
     ghost left = { λ v. v };
@@ -78,7 +98,7 @@ impl Split<View> for Notes {
     ghost right = { note_of };
 }
 
-impl Join<View> for Notes {
+impl Join<View> for Note {
     ghost use Rattle.ucl_pass.specs.Views.{told_by, newcomer};
 
     ghost both = { told_by };

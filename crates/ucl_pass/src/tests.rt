@@ -10,7 +10,7 @@ use std::test::Fail;
 use std::thread;
 use std::thread::Threads;
 use ucl_board::Reading;
-use ucl_word::{EventCall, Kind, MatchNo, Refusal, Side};
+use ucl_word::{Accepted, EventCall, Kind, MatchNo, Refusal, Side};
 
 /// A new reporter of the board.
 fn enlisted<R: Wait>(
@@ -112,7 +112,7 @@ fn read_back(rt: HostRuntime) -> Result<(), Fail> {
     }
     let own = board.read_own(&rt, &mut reporter);
     assert_eq!(rt; own.version, 7);
-    assert_eq!(rt; own.board.words()[0], 0x0000400041042807);
+    assert_eq!(rt; own.board.words()[0], 0x200100010410a007);
     assert_eq!(rt; board.read(&rt, &mut reader).version, 7);
     let second = board.split(&rt, &mut reader);
     assert_eq!(rt; read_in_thread(&rt, &board, second), Some(7));
@@ -187,7 +187,7 @@ fn enlist_255(rt: HostRuntime) -> Result<(), Fail> {
 
 const MATCHES: u8 = 12;
 
-const EVENTS_OF_A_MATCH: u16 = 1023;
+const EVENTS_OF_A_MATCH: u16 = 4095;
 
 /// Enters a kick-off, home goals and home goals disallowed in turn, and full time in each match, and counts those that are accepted.
 fn enter_all<R: Wait>(rt: &R, board: &CellBoard, pass: &mut CellReporterPass) -> u32
@@ -203,7 +203,7 @@ fn enter_all<R: Wait>(rt: &R, board: &CellBoard, pass: &mut CellReporterPass) ->
         for expected in 0..EVENTS_OF_A_MATCH {
             let kind = match expected {
                 0 => Kind::KickOff,
-                1022 => Kind::FullTime,
+                4094 => Kind::FullTime,
                 _ if expected % 2 == 1 => Kind::Goal(Side::Home),
                 _ => Kind::Disallow(Side::Home),
             };
@@ -280,11 +280,11 @@ fn all_events_with_two_readers(rt: HostRuntime) -> Result<(), Fail> {
     let first = board.split(&rt, &mut reader);
     let second = board.split(&rt, &mut reader);
     let (reporter, accepted, rise, rise_too) = all_events(&rt, &board, reporter, first, second);
-    assert_eq!(rt; accepted, 12276);
+    assert_eq!(rt; accepted, 49140);
     assert!(rt; rise && rise_too);
     let mut reporter = reporter;
-    assert_eq!(rt; board.read_own(&rt, &mut reporter).version, 12276);
-    assert_eq!(rt; CellBoard::accepted_of(&reporter), 12276);
+    assert_eq!(rt; board.read_own(&rt, &mut reporter).version, 49140);
+    assert_eq!(rt; CellBoard::accepted_of(&reporter), 49140);
     for (number, kind) in [
         (1, Kind::KickOff),
         (6, Kind::Goal(Side::Away)),
@@ -302,6 +302,15 @@ fn all_events_with_two_readers(rt: HostRuntime) -> Result<(), Fail> {
             "at {number}"
         );
     }
+    let reopening = EventCall {
+        game: MatchNo::new(1).expect(&rt, "there is a match 1"),
+        expected: EVENTS_OF_A_MATCH,
+        kind: Kind::Reopen,
+    };
+    assert_eq!(rt;
+        board.report(&rt, &mut reporter, &reopening),
+        Err(Refusal::NumberFull)
+    );
     Ok(())
 }
 
@@ -310,10 +319,62 @@ fn texts(rt: HostRuntime) -> Result<(), Fail> {
     let alloc = rt.alloc();
     let full = TooManyReporters(7u8);
     assert_eq!(rt; full.to_string(alloc)?.as_str(), "board refused 30");
-    let strangers = Strangers { version: 12276 };
+    let strangers = Strangers { version: 49140 };
     assert_eq!(rt;
         strangers.to_string(alloc)?.as_str(),
-        "board refused 31: version 12276"
+        "board refused 31: version 49140"
     );
+    Ok(())
+}
+
+/// A finished match goes on, and is ended again: replies, and the word of the match after each.
+#[test]
+fn reopened(rt: HostRuntime) -> Result<(), Fail> {
+    let (board, mut reader) = CellBoard::open(&rt, rt.alloc())?;
+    let mut reporter = enlisted(&rt, &board, &mut reader).expect(&rt, "a number is left");
+    let game = MatchNo::new(1).expect(&rt, "there is a match 1");
+    let accepted = |number: u16| Ok(Accepted { number });
+    let home_goal = Kind::Goal(Side::Home);
+    let away_yellow = Kind::Yellow(Side::Away);
+    let second_yellow = Kind::SecondYellow(Side::Away);
+    let not_finished = Err(Refusal::NotFinished);
+    let rows = [
+        (0, Kind::Reopen, not_finished, 0x2000000000000000),
+        (0, Kind::KickOff, accepted(1), 0x2001000000001001),
+        (1, home_goal, accepted(2), 0x2001000000005002),
+        (2, away_yellow, accepted(3), 0x2001000100005003),
+        (3, second_yellow, accepted(4), 0x2001080000005004),
+        (
+            4,
+            Kind::Disallow(Side::Home),
+            accepted(5),
+            0x2001080000001005,
+        ),
+        (5, Kind::FullTime, accepted(6), 0x2001080000002006),
+        (6, Kind::Reopen, accepted(7), 0x2001080000001007),
+        (
+            6,
+            Kind::Reopen,
+            Err(Refusal::Stale { found: 7 }),
+            0x2001080000001007,
+        ),
+        (7, Kind::Reopen, not_finished, 0x2001080000001007),
+        (7, home_goal, accepted(8), 0x2001080000005008),
+        (8, Kind::FullTime, accepted(9), 0x2001080000006009),
+    ];
+    for (expected, kind, reply, word) in rows {
+        let call = EventCall {
+            game,
+            expected,
+            kind,
+        };
+        assert_eq!(rt;
+            board.report(&rt, &mut reporter, &call),
+            reply,
+            "{kind:?} at {expected}"
+        );
+        let own = board.read_own(&rt, &mut reporter);
+        assert_eq!(rt; own.board.words()[0], word, "{kind:?} at {expected}");
+    }
     Ok(())
 }

@@ -1,17 +1,18 @@
-//! What a pass of the cell board knows.
+//! What a pass of a shared board knows.
 
 ghost use Rattle.std.specs.Prelude.{ℕ, List};
 ghost use Rattle.std.specs.Borrow.{ftrue};
 ghost use Rattle.ucl_board.specs.declared.entry.Entry.{Entry};
+ghost use Rattle.ucl_board.specs.Log.{Taken, Log};
 
 use std::marker::Model;
 
-/// What contracts see of a pass of the cell board. It is there for proofs alone: no value of it is ever made.
+/// What contracts see of a pass of a shared board. It is there for proofs alone: no value of it is ever made.
 pub struct View {
     // The history that it has seen.
     pub ghost seen: { List Entry },
-    // What a note told it since its last load or exchange.
-    pub ghost told: { List Entry },
+    // The histories of both sides of a meeting, until its next step.
+    pub ghost kept: { List (List Entry) },
     // Its own entries in the history.
     pub ghost mine: { List Entry },
     // Its number, 0 for a reader.
@@ -20,8 +21,12 @@ pub struct View {
     pub ghost listed: { ℕ },
     // The versions that its readings answered.
     pub ghost shown: { List ℕ },
-    // The number of its loads and exchanges.
-    pub ghost acts: { ℕ },
+    // The steps of the passes that it comes from, before it was split off.
+    pub ghost copied: { List Taken },
+    // Its own steps.
+    pub ghost own: { List Taken },
+    // The log of the board, up to its last own step.
+    pub ghost log: { Log },
 }
 
 impl Model for View {

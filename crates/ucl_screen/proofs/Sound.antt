@@ -5,7 +5,7 @@ use Rattle.std.specs.Prelude.{Result, Ok, Err, IfSome, ⊤}
 use Rattle.ucl_order.specs.Roster.{ClubEntry, bad_slot}
 use Rattle.ucl_screen.specs.declared.fault.InputFault.{InputFault}
 use Rattle.ucl_screen.specs.declared.fault.InputFault.TheVariants as fault
-use Rattle.ucl_board.specs.Words.{AreWords, IsFirstBad}
+use Rattle.ucl_board.specs.Words.{AreReadAs, IsFirstBad}
 use Rattle.ucl_screen.specs.declared.night.Night.{Night}
 use Rattle.ucl_screen.specs.declared.sheet.Sheet.{Sheet}
 use Rattle.ucl_screen.specs.Input.{Reads, whole_input}
@@ -121,10 +121,11 @@ both-known : (old : Option (List ℕ)) (P Q : List ℕ → Type 0) → IfSome ol
 both-known None P Q p q = tt
 both-known (Some xs) P Q p q = q xs p
 
-pub sheet-taken : (sheet : Sheet) (old new : Option (List ℕ)) (failed : Bool) (bytes : List ℕ) → failed ≡ false
-    → IfSome old (λ xs. whole_input xs ≡ Ok bytes) → rows_say bytes (Ok (sheet_seen sheet)) → AreWords sheet.board → Reads MeansSheet sheet_seen old new failed (Ok sheet)
-sheet-taken sheet old new failed bytes f h g words =
-    (f, both-known old (λ xs. sheet_of xs ≡ Ok (sheet_seen sheet)) (λ xs. MeansSheet xs (Ok (sheet_seen sheet))) (sheet-known old bytes (Ok (sheet_seen sheet)) h g) (λ xs e. (e, words)))
+pub sheet-taken : (sheet : Sheet) (words : List ℕ) (old new : Option (List ℕ)) (failed : Bool) (bytes : List ℕ) → failed ≡ false
+    → IfSome old (λ xs. whole_input xs ≡ Ok bytes) → rows_say bytes (Ok (record { clubs = sheet.roster; words = words })) → AreReadAs words sheet.board → Reads MeansSheet sheet_seen old new failed (Ok sheet)
+sheet-taken sheet words old new failed bytes f h g read =
+    let written : SheetEntry = record { clubs = sheet.roster; words = words } in
+    (f, both-known old (λ xs. sheet_of xs ≡ Ok written) (λ xs. MeansSheet xs (Ok (sheet_seen sheet))) (sheet-known old bytes (Ok written) h g) (λ xs e. (written, e, refl, read)))
 
 pub sheet-tested : (sheet : SheetEntry) (index : ℕ) (old new : Option (List ℕ)) (failed : Bool) (bytes : List ℕ) → failed ≡ false
     → IfSome old (λ xs. whole_input xs ≡ Ok bytes) → rows_say bytes (Ok sheet) → IsFirstBad sheet.words index → Reads MeansSheet sheet_seen old new failed (Err (fault.BadWordAt index))

@@ -3,7 +3,7 @@ use Rattle.std.specs.Prelude.{ℕ, if◌then◌else◌, List, [], ◌∷◌, cod
 use Rattle.std.specs.Str.{bytes_eq}
 use Rattle.ucl_word.specs.declared.event.Side.TheVariants.{Home, Away}
 use Rattle.ucl_word.specs.declared.event.Kind.{Kind}
-use Rattle.ucl_word.specs.declared.event.Kind.TheVariants.{KickOff, Goal, Disallow, Yellow, SecondYellow, Red, FullTime}
+use Rattle.ucl_word.specs.declared.event.Kind.TheVariants.{KickOff, Goal, Disallow, Yellow, SecondYellow, Red, FullTime, Reopen}
 use Rattle.ucl_screen.specs.declared.night.NightEvent.{NightEvent}
 use Rattle.ucl_screen.specs.Numbers.{number, in_range}
 use Rattle.ucl_screen.specs.Rows.{FourFields}
@@ -22,6 +22,7 @@ event_words =
     ∷ (codes "red-home", Red Home)
     ∷ (codes "red-away", Red Away)
     ∷ (codes "fulltime", FullTime)
+    ∷ (codes "reopen", Reopen)
     ∷ []
 
 abbrev pub find_word : List (List ℕ × Kind) → List ℕ → Option Kind

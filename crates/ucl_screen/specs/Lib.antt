@@ -9,3 +9,4 @@ pub mod Meaning
 pub mod Lines
 pub mod Screen
 pub mod Laws
+pub mod Texts

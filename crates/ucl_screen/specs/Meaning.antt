@@ -1,6 +1,6 @@
 -- What an input means, and what the code gives of it.
 use Rattle.std.specs.Prelude.{◌≡◌, ⊤, ℕ, List, Result, Ok, Err}
-use Rattle.ucl_board.specs.Words.{AreWords, IsFirstBad}
+use Rattle.ucl_board.specs.Words.{AreReadAs, IsFirstBad}
 use Rattle.ucl_screen.specs.declared.fault.InputFault.{InputFault}
 use Rattle.ucl_screen.specs.declared.fault.InputFault.TheVariants.{BadWordAt, OutOfMemory}
 use Rattle.ucl_screen.specs.declared.night.Night.{Night}
@@ -17,9 +17,9 @@ sheet_seen sheet = record { clubs = sheet.roster; words = sheet.board }
 abbrev pub MeansNight : List ℕ → Result NightEntry InputFault → Type 0
 MeansNight bytes night = night_of bytes ≡ night
 
--- a sheet, once its words are tested: each is the word of a valid record, or the least that is not is a fault
+-- a sheet, once its words are read: the board that they are read as, or the least that is of neither layout is a fault
 abbrev pub Tested : Result SheetEntry InputFault → Result SheetEntry InputFault → Type 0
-Tested said (Ok sheet) = (said ≡ Ok sheet) × AreWords sheet.words
+Tested said (Ok sheet) = (written : SheetEntry) × (said ≡ Ok written) × (sheet.clubs ≡ written.clubs) × AreReadAs written.words sheet.words
 Tested said (Err (BadWordAt index)) = (sheet : SheetEntry) × (said ≡ Ok sheet) × IsFirstBad sheet.words index
 Tested said (Err fault) = said ≡ Err fault
 

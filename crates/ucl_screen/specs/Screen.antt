@@ -3,6 +3,7 @@ use Rattle.std.specs.Prelude.{ℕ, ◌≤◌, ◌++◌, List, codes, count_by, f
 use Rattle.ucl_word.specs.Rules.{is_in_play}
 use Rattle.ucl_word.specs.Layout.{record_at}
 use Rattle.ucl_board.specs.Words.{version_of}
+use Rattle.ucl_order.specs.declared.profile.Profile.{Profile}
 use Rattle.ucl_order.specs.declared.table.Row.{Row}
 use Rattle.ucl_order.specs.Roster.{ClubEntry, name_of}
 use Rattle.ucl_order.specs.Rows.{rows_of}
@@ -24,7 +25,7 @@ columns = codes "    Club                  P  W  D  L  GF  GA   GD Pts\n"
 abbrev pub row_line : List ClubEntry → Row → List ℕ
 row_line roster row = place_line row (name_of roster row.slot)
 
--- the six lines: the header, the names of the columns, and a line for each row of the table
-unfoldable pub screen_text : List ℕ → List ClubEntry → ℕ → List ℕ
-screen_text board roster group =
-    header group (version_of board) (in_play board) ++ columns ++ flat_map (row_line roster) (rows_of board roster)
+-- the six lines: the header, the names of the columns, and a line for each row of the table, in the order of the profile
+unfoldable pub screen_text : Profile → List ℕ → List ClubEntry → ℕ → List ℕ
+screen_text profile board roster group =
+    header group (version_of board) (in_play board) ++ columns ++ flat_map (row_line roster) (rows_of profile board roster)

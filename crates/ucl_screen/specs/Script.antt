@@ -100,6 +100,6 @@ sheet_of_rows rows = do
 abbrev pub night_of : List ℕ → Result NightEntry InputFault
 night_of bytes = whole_input bytes >>= λ text. night_of_rows (rows_of text)
 
--- the sheet that an input says before its words are tested, or its first fault
+-- the sheet that an input says before its words are read, or its first fault
 abbrev pub sheet_of : List ℕ → Result SheetEntry InputFault
 sheet_of bytes = whole_input bytes >>= λ text. sheet_of_rows (rows_of text)

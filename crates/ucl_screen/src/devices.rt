@@ -1,11 +1,32 @@
 //! Sources and sinks over std's readers and writers.
 
 ghost use Rattle.std.specs.Prelude.{◌≡◌, false};
-ghost use Rattle.ucl_screen.specs.Devices.{reader_of, read_failed, writer_of, write_failed};
+ghost use Rattle.ucl_screen.specs.Devices.{given_by, reader_of, read_failed, taken_by, writer_of, write_failed};
 
 use crate::calls::Tally;
 use crate::stream::{Sink, Source};
+use std::io;
 use std::io::{Read, Write};
+
+/// What a source answers where its reader answered this.
+fn taken_by(answer: &io::Result<usize>) -> Option<usize>
+    ensures { result ≡ taken_by answer.now }
+{
+    match answer {
+        Ok(n) => Some(*n),
+        Err(_) => None,
+    }
+}
+
+/// What a sink answers where its writer answered this.
+fn given_by(answer: &io::Result<usize>) -> Option<usize>
+    ensures { result ≡ given_by answer.now }
+{
+    match answer {
+        Ok(0) | Err(_) => None,
+        Ok(count) => Some(*count),
+    }
+}
 
 /// A reader as a source. Any error of the reader is a failure, and after it the reader is not called again. A buffer
 /// without room does not reach the reader.
@@ -45,13 +66,9 @@ impl<R: Read> Source for FromRead<R> {
         if buf.is_empty() {
             return Some(0);
         }
-        match self.reader.read(buf) {
-            Ok(n) => Some(n),
-            Err(_) => {
-                self.has_failed = true;
-                None
-            }
-        }
+        let taken = taken_by(&self.reader.read(buf));
+        self.has_failed = taken.is_none();
+        taken
     }
 }
 
@@ -93,12 +110,8 @@ impl<W: Write> Sink for ToWrite<W> {
         if text.is_empty() {
             return Some(0);
         }
-        match self.writer.write(text) {
-            Ok(n) if n > 0 => Some(n),
-            _ => {
-                self.has_failed = true;
-                None
-            }
-        }
+        let given = given_by(&self.writer.write(text));
+        self.has_failed = given.is_none();
+        given
     }
 }

@@ -94,6 +94,8 @@ pub(crate) fn kind_of(text: &[u8]) -> Option<Kind>
         Some(Kind::Red(Side::Away))
     } else if text == b"fulltime".as_slice() {
         Some(Kind::FullTime)
+    } else if text == b"reopen".as_slice() {
+        Some(Kind::Reopen)
     } else {
         None
     }

@@ -209,8 +209,8 @@ fn roster_and_words(alloc: Global, text: &[u8]) -> Result<(Roster, [u64; 12]), I
 ///
 /// The input is read whole and taken apart into rows as by `read_night`, and rows 1 to 4 are the same. The rows of the
 /// twelve matches follow, row m + 4 for match m: `word`, the match in 1 or 2 digits, its word in 16 hexadecimal digits
-/// of either case, and an empty field. A row 17 is `BadRow`. Once all rows are good, the words are tested: the least
-/// match whose word is that of no valid record is `BadWordAt`.
+/// of either case, and an empty field. A row 17 is `BadRow`. Once all rows are good, the words are read by
+/// `Board::of_words`, so words of the first layout are taken too: the least match whose word is of neither layout is `BadWordAt`.
 ///
 /// `OutOfMemory` can come in place of any answer. A refusal leaves nothing but a source that has given bytes.
 pub fn read_words<S: Source>(alloc: Global, source: &mut S) -> Result<Sheet, InputFault>

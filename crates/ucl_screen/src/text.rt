@@ -9,7 +9,7 @@ use crate::lines::{push_header, push_row};
 use std::alloc::{AllocError, Global};
 use std::str;
 use ucl_board::Board;
-use ucl_order::{Roster, Row, standings};
+use ucl_order::{Profile, Roster, Row, standings};
 use ucl_word::{OutOfMemory, State, unpack};
 
 /// The names of the columns, 53 bytes and a line feed.
@@ -60,7 +60,8 @@ fn push_rows(out: &mut String, rows: &[Row], roster: &Roster) -> Result<(), Allo
     Ok(())
 }
 
-/// The screen of a group: a header, the names of the columns, and a line for each place of the table.
+/// The screen of a group: a header, the names of the columns, and a line for each place of the table, in the order
+/// of the profile.
 ///
 /// `group` has to be the letter of a group. Where an allocation was refused, the answer is `OutOfMemory`.
 pub fn screen(
@@ -68,11 +69,12 @@ pub fn screen(
     board: &Board,
     roster: &Roster,
     group: u8,
+    profile: Profile,
 ) -> Result<String, OutOfMemory>
     requires { IsGroup group }
-    ensures { IfOk result (λ text. string_bytes text ≡ screen_text board.now roster.now group) }
+    ensures { IfOk result (λ text. string_bytes text ≡ screen_text profile board.now roster.now group) }
 {
-    let rows = standings(board, roster);
+    let rows = standings(board, roster, profile);
     let mut text = String::new(alloc);
     push_header(&mut text, group, board.version(), matches_in_play(board))?;
     text.push_str(COLUMNS)?;

@@ -35,8 +35,9 @@ use Rattle.ucl_steps.specs.declared.trace.Reply.TheVariants.{Accepted, Refused, 
 use Rattle.ucl_steps.specs.Machine.{Holds, Idle, Wanting, Holding, Collecting, Checking, Answered, MachineState, initial_state, held_by, with_held, with_reply, with_end, may_begin, held_at_begin, after_begin, after_rules, after_reply, after_end, after_step_holding, after_steps}
 use Rattle.ucl_steps.specs.Linearizable.{is_accepted}
 use Rattle.ucl_steps.specs.Laws.{CallsAreSteps, HistoriesAreReached}
-use Rattle.ucl_steps.specs.Trails as trail
-use Rattle.ucl_steps.specs.Trails.{LookRefused, SwapMissed, SwapWon, Act, Mark, Does, IsFoundIn, Follows, IsCollect, IsUnclean, IsClean, marks_of, ReadingMarks}
+use Rattle.ucl_board.specs.Log as trail
+use Rattle.ucl_board.specs.Log.{Act, Mark}
+use Rattle.ucl_steps.specs.Trails.{LookRefused, SwapMissed, SwapWon, Does, IsFoundIn, Follows, IsCollect, IsUnclean, marks_of, ReadingMarks}
 use Rattle.ucl_steps.specs.Marking.{step_of, IsInCast, IsAtRest, NoneOwn, entry_by, history_after, point_of, Leaves, IsMadeBySteps}
 use Rattle.ucl_steps.proofs.Lists.{get_some, take_one}
 use Rattle.ucl_steps.proofs.Histories.{number_expected, legal_beginning, legal_snoc, number_is, match_next, read_back, board_next, board_none, version_is}
@@ -136,12 +137,58 @@ module _ (c : Caller) (k : ℕ) where
   tries_lead [] n all = refl
   tries_lead (ms ∷ tries) n all = through_append c (Collecting k []) (Collecting k []) (Collecting k []) ms (marks_of tries) (try_leads ms n all.0) (tries_lead tries n all.1)
 
+-- the marks of a reading lead to the last Second, which finds again the twelfth word
+pub record ReadingPath (c : Caller) (k : ℕ) (reading : board.Reading) (ms : List Mark) : Type 0 where
+  pub init : List Mark
+  pub last : Mark
+  pub split : ms ≡ init ++ last ∷ []
+  pub words : List ℕ
+  pub point : ℕ
+  pub through : Through c (Collecting k []) init (Checking k words 11 point)
+  pub does : Does trail.Second 12 last
+  pub same : last.found ≡ slice_index words 11
+  pub board_is : reading.board ≡ words
+  pub point_is : point ≡ reading.version
+
+pub reading_path : (c : Caller) (k : ℕ) (reading : board.Reading) (ms : List Mark) → ReadingMarks reading ms → ReadingPath c k reading ms
+reading_path c k reading ms marks =
+    let clean = marks.clean in
+    let firsts = clean.firsts in
+    let twelve = clean.twelve.1 in
+    let twelve' = clean.twelve.2 in
+    let cut = last_of clean.seconds 11 clean.twelve.2 in
+    let again = cut.0 in
+    let m = cut.1 in
+    let eleven : length again ≡ 11 = omega (arith, ap length cut.2, length_push again m) in
+    let ws = loaded c k reading.board firsts clean.twelve.1 clean.collected in
+    let p = end_of 0 firsts in
+    let last_first = get_some firsts 11 (omega arith) in
+    let board_is : reading.board ≡ ws = ext_get_or 0 reading.board ws (clean.twelve.0 ∙ (sym clean.twelve.1 ∙ sym (length-map firsts (λ (z : Mark). z.found))))
+    (λ j l. let few = clean.twelve.0 in sym (loaded_at c k reading.board firsts clean.twelve.1 clean.collected j (omega arith))) in
+    let at_m : slice_get clean.seconds 11 ≡ Some m = ap (λ (z : List Mark). slice_get z 11) cut.2 ∙ (ap (slice_get (again ++ m ∷ [])) (sym eleven) ∙ at_end again m) in
+    let is_m = clean.again 11 m at_m in
+    record {
+      init = marks_of marks.tries ++ (firsts ++ again);
+      last = m;
+      split = marks.marks ∙ (ap (λ (z : List Mark). marks_of marks.tries ++ z) (clean.marks ∙ (ap (λ (z : List Mark). firsts ++ z) cut.2 ∙ sym (append_assoc firsts again (m ∷ []))))
+          ∙ sym (append_assoc (marks_of marks.tries) (firsts ++ again) (m ∷ [])));
+      words = ws;
+      point = p;
+      through = through_append c (Collecting k []) (Collecting k []) (Checking k ws 11 p) (marks_of marks.tries) (firsts ++ again) (tries_lead c k marks.tries 0 marks.unclean)
+          (through_append c (Collecting k []) (Checking k ws 0 p) (Checking k ws 11 p) firsts again (collect_leads c k reading.board firsts clean.twelve.1 clean.collected 0)
+          (again_leads c k reading.board firsts clean.twelve.1 clean.collected again 11 p (sym eleven) (omega arith) (λ j x at. clean.again j x (ap (λ (z : List Mark). slice_get z j) cut.2 ∙ at_longer again (m ∷ []) j x at))));
+      does = is_m.0;
+      same = is_m.1 ∙ ap (λ (z : List ℕ). slice_index z 11) board_is;
+      board_is = board_is;
+      point_is = end_last 0 firsts 11 last_first.0 last_first.1 (omega arith) ∙ clean.version last_first.0 last_first.1;
+    }
+
 -- a call's last step: it leaves its mark, and the call has the reply
 abbrev pub Finishes : Cast → Caller → ℕ → CallRecord → List Entry → Holds → Mark → Call → Reply → ℕ → Type 0
 Finishes cast c k a h y m call reply point = (w : MachineState) → Amid cast c k a y (take m.at h) w
     → (w' : MachineState) × Made c k w m w' × Amid cast c k (with_reply point reply a) (Answered k) (history_after c call reply (take m.at h)) w'
 
-none_of : (n : ℕ) (o : Option Refusal) (reply : word.Accepted) → answer n o ≡ Ok reply → (o ≡ None) × (reply ≡ record { number = n + 1 })
+pub none_of : (n : ℕ) (o : Option Refusal) (reply : word.Accepted) → answer n o ≡ Ok reply → (o ≡ None) × (reply ≡ record { number = n + 1 })
 none_of n None reply e = (refl, sym (ap got e))
   where
     got : Result word.Accepted Refusal → word.Accepted
@@ -149,7 +196,7 @@ none_of n None reply e = (refl, sym (ap got e))
     got (Err r) = reply
 none_of n (Some r) reply e = absurd (false≢true (ap is_ok e))
 
-some_of : (n : ℕ) (o : Option Refusal) (refusal : Refusal) → answer n o ≡ Err refusal → o ≡ Some refusal
+pub some_of : (n : ℕ) (o : Option Refusal) (refusal : Refusal) → answer n o ≡ Err refusal → o ≡ Some refusal
 some_of n None refusal e = absurd (false≢true (sym (ap is_ok e)))
 some_of n (Some r) refusal e = ap got e
   where
@@ -169,7 +216,7 @@ module _ (cast : Cast) (r k : ℕ) (a : CallRecord) (h : List Entry) (e : EventC
   word_is : (x : Holds) (w : MachineState) → Amid cast me k a x (take m.at h) w → m.game ≡ e.game → word_at w.words e.game ≡ m.found
   word_is x w amid is = ap (word_at w.words) (sym is) ∙ there cast me k a h m within found x w amid (subst IsMatch (sym is) game)
 
-  look_refused : (refusal : Refusal) → Does trail.Look e.game m → refusal_of (record_at m.found) e.expected e.kind ≡ Some refusal → Finishes cast me k a h (Wanting k e) m (Event e) (Refused refusal) m.at
+  pub look_refused : (refusal : Refusal) → Does trail.Look e.game m → refusal_of (record_at m.found) e.expected e.kind ≡ Some refusal → Finishes cast me k a h (Wanting k e) m (Event e) (Refused refusal) m.at
   look_refused refusal does refused w amid = (
     after_reply me k m.at (Refused refusal) w,
     made cast me k a h m within found (Wanting k e) w amid (Look me) trail.Look e.game (after_reply me k m.at (Refused refusal) w) refl does.0 refl does.1 game refl (frame_replied me k (Wanting k e) w w m.at (Refused refusal) amid.held_is refl refl)
@@ -195,7 +242,7 @@ module _ (cast : Cast) (r k : ℕ) (a : CallRecord) (h : List Entry) (e : EventC
         out true = refl
         out false = refl
 
-  swap_missed : (old new : ℕ) → Does trail.Swap e.game m → m.found ≢ old → Finishes cast me k a h (Holding k e old new) m (Event e) (Refused (Stale (record_at m.found).number)) m.at
+  pub swap_missed : (old new : ℕ) → Does trail.Swap e.game m → m.found ≢ old → Finishes cast me k a h (Holding k e old new) m (Event e) (Refused (Stale (record_at m.found).number)) m.at
   swap_missed old new does other w amid =
       let is = word_is (Holding k e old new) w amid does.1 in
       let reply = Refused (Stale (record_at m.found).number) in (
@@ -207,7 +254,7 @@ module _ (cast : Cast) (r k : ℕ) (a : CallRecord) (h : List Entry) (e : EventC
         amid_replied cast me k a (Holding k e old new) (take m.at h) (take m.at h) w w m.at reply amid refl refl amid.history_is amid.words_are,
       )
 
-  swap_won : (legal : IsLegal h) → IsReporter r → (reply : word.Accepted) → Does trail.Swap e.game m → reply_of (record_at m.found) e ≡ Ok reply
+  pub swap_won : (legal : IsLegal h) → IsReporter r → (reply : word.Accepted) → Does trail.Swap e.game m → reply_of (record_at m.found) e ≡ Ok reply
       → Finishes cast me k a h (Holding k e m.found (word_of (after (record_at m.found) r e.kind))) m (Event e) (Accepted reply) m.at
   swap_won legal reporter reply does won w amid =
       let old = m.found in
@@ -240,7 +287,7 @@ module _ (cast : Cast) (r k : ℕ) (a : CallRecord) (h : List Entry) (e : EventC
       )
 
 -- the last Second of a clean try
-copied : (cast : Cast) (c : Caller) (k : ℕ) (a : CallRecord) (h : List Entry) (m : Mark) (within : m.at ≤ length h) (found : IsFoundIn h m) (words : List ℕ) (point : ℕ) (reading : board.Reading)
+pub copied : (cast : Cast) (c : Caller) (k : ℕ) (a : CallRecord) (h : List Entry) (m : Mark) (within : m.at ≤ length h) (found : IsFoundIn h m) (words : List ℕ) (point : ℕ) (reading : board.Reading)
     → Does trail.Second 12 m → m.found ≡ slice_index words 11 → reading.board ≡ words → reading.version ≡ version_of words → Finishes cast c k a h (Checking k words 11 point) m Reading (Copied reading) point
 copied cast c k a h m within found words point reading does same board_is version_is w amid =
     let game : IsMatch 12 = (omega arith, omega arith) in
@@ -494,41 +541,22 @@ module _ (cast : Cast) (k : ℕ) (a : CallRecord) (h : List Entry) (legal : IsLe
 
   plan_reading : (c : Caller) (reading : board.Reading) (ms : List Mark) → Follows h low ms (length h) → ReadingMarks reading ms → Plan cast c Reading (Copied reading) ms h k a
   plan_reading c reading ms follows marks =
-      let clean = marks.clean in
-      let firsts = clean.firsts in
-      let twelve = clean.twelve.1 in
-      let twelve' = clean.twelve.2 in
+      let path = reading_path c k reading ms marks in
       let parts = follows_parts h low (length h) (marks_of marks.tries) marks.last (subst (λ (z : List Mark). Follows h low z (length h)) marks.marks follows) in
-      let shows = clean_shows h parts.middle (length h) reading marks.last legal parts.latter clean in
+      let shows = clean_shows h parts.middle (length h) reading marks.last legal parts.latter marks.clean in
       let v_high = shows.within.1 in
-      let cut = last_of clean.seconds 11 clean.twelve.2 in
-      let again = cut.0 in
-      let m = cut.1 in
-      let eleven : length again ≡ 11 = omega (arith, ap length cut.2, length_push again m) in
-      let ws = loaded c k reading.board firsts clean.twelve.1 clean.collected in
-      let p = end_of 0 firsts in
-      let last_first = get_some firsts 11 (omega arith) in
-      let p_is : p ≡ reading.version = end_last 0 firsts 11 last_first.0 last_first.1 (omega arith) ∙ clean.version last_first.0 last_first.1 in
-      let board_is : reading.board ≡ ws = ext_get_or 0 reading.board ws (clean.twelve.0 ∙ (sym clean.twelve.1 ∙ sym (length-map firsts (λ (z : Mark). z.found))))
-      (λ j l. let few = clean.twelve.0 in sym (loaded_at c k reading.board firsts clean.twelve.1 clean.collected j (omega arith))) in
-      let version : reading.version ≡ version_of ws = sym (length-take-le reading.version h v_high) ∙ (sym (version_is (take reading.version h) (legal_beginning h reading.version legal)) ∙ ap version_of (sym shows.board ∙ board_is)) in
-      let init = marks_of marks.tries ++ (firsts ++ again) in
-      let split : ms ≡ init ++ m ∷ [] = marks.marks ∙ (ap (λ (z : List Mark). marks_of marks.tries ++ z) (clean.marks ∙ (ap (λ (z : List Mark). firsts ++ z) cut.2 ∙ sym (append_assoc firsts again (m ∷ []))))
-      ∙ sym (append_assoc (marks_of marks.tries) (firsts ++ again) (m ∷ []))) in
-      let at_m : slice_get clean.seconds 11 ≡ Some m = ap (λ (z : List Mark). slice_get z 11) cut.2 ∙ (ap (slice_get (again ++ m ∷ [])) (sym eleven) ∙ at_end again m) in
-      let is_m = clean.again 11 m at_m in
-      let tail = follows_rest h low (length h) init (m ∷ []) (subst (λ (z : List Mark). Follows h low z (length h)) split follows) in
+      let version : reading.version ≡ version_of path.words = sym (length-take-le reading.version h v_high)
+      ∙ (sym (version_is (take reading.version h) (legal_beginning h reading.version legal)) ∙ ap version_of (sym shows.board ∙ path.board_is)) in
+      let tail = follows_rest h low (length h) path.init (path.last ∷ []) (subst (λ (z : List Mark). Follows h low z (length h)) path.split follows) in
       record {
-        init = init;
-        last = m;
-        split = split;
-        holds = Checking k ws 11 p;
-        through = through_append c (Collecting k []) (Collecting k []) (Checking k ws 11 p) (marks_of marks.tries) (firsts ++ again) (tries_lead c k marks.tries 0 marks.unclean)
-            (through_append c (Collecting k []) (Checking k ws 0 p) (Checking k ws 11 p) firsts again (collect_leads c k reading.board firsts clean.twelve.1 clean.collected 0)
-            (again_leads c k reading.board firsts clean.twelve.1 clean.collected again 11 p (sym eleven) (omega arith) (λ j x at. clean.again j x (ap (λ (z : List Mark). slice_get z j) cut.2 ∙ at_longer again (m ∷ []) j x at))));
-        finishes = subst (Finishes cast c k a h (Checking k ws 11 p) m Reading (Copied reading)) p_is
-            (copied cast c k a h m tail.1.2 tail.1.1 ws p reading is_m.0 (is_m.1 ∙ ap (λ (z : List ℕ). slice_index z 11) board_is) board_is version);
-        whole = not_accepted (Copied reading) h m.at refl;
+        init = path.init;
+        last = path.last;
+        split = path.split;
+        holds = Checking k path.words 11 path.point;
+        through = path.through;
+        finishes = subst (Finishes cast c k a h (Checking k path.words 11 path.point) path.last Reading (Copied reading)) path.point_is
+            (copied cast c k a h path.last tail.1.2 tail.1.1 path.words path.point reading path.does path.same path.board_is version);
+        whole = not_accepted (Copied reading) h path.last.at refl;
       }
 
 -- an accepted event's marks are within the history before its entry

@@ -5,14 +5,14 @@ use Rattle.std.proofs.lemmas.Bool.{eqb-true, not-false, not_from_false}
 use Rattle.std.proofs.lemmas.List.{take-append-drop, ext_get_or}
 use Rattle.ucl_word.specs.declared.record.MatchRecord.{MatchRecord}
 use Rattle.ucl_word.specs.declared.event.Kind.{Kind}
-use Rattle.ucl_word.specs.declared.refusal.Refusal.TheVariants.{Stale, Finished, NotStarted, AlreadyStarted, NumberFull, NoGoal, NoCaution, LimitReached}
-use Rattle.ucl_word.specs.Record.{scheduled}
-use Rattle.ucl_word.specs.Rules.{is_scheduled, is_in_play, is_finished, is_kick_off, is_full_time, lacks_goal, lacks_caution, passes_limit, first_of, refusal_of, after}
+use Rattle.ucl_word.specs.declared.refusal.Refusal.TheVariants.{Stale, Finished, NotFinished, NotStarted, AlreadyStarted, NumberFull, NoGoal, NoCaution, LimitReached}
+use Rattle.ucl_word.specs.Record.{scheduled, last_in_play}
+use Rattle.ucl_word.specs.Rules.{is_scheduled, is_in_play, is_finished, is_kick_off, is_full_time, is_reopen, lacks_goal, lacks_caution, passes_limit, first_of, refusal_of, after}
 use Rattle.ucl_word.specs.Counts.{counted_match}
 use Rattle.ucl_word.specs.Layout.{word_of, record_at}
 use Rattle.ucl_word.proofs.Accepting.{accepts}
 use Rattle.ucl_word.proofs.Sequences.{may_none, may_next, may_begin}
-use Rattle.ucl_word.proofs.Counting.{legal_balanced, record_next, number_of_count}
+use Rattle.ucl_word.proofs.Counting.{legal_balanced, legal_case, record_next, number_of_count}
 use Rattle.ucl_word.proofs.Words.{record_back}
 use Rattle.ucl_board.specs.declared.entry.Entry.{Entry}
 use Rattle.ucl_board.specs.Fixtures.{IsMatch}
@@ -32,8 +32,8 @@ pub is_stale : (m : MatchRecord) (expected : ℕ) (kind : Kind) → (expected �
 unfolding refusal_of
 is_stale m expected kind not-that =
     let t : not (expected == m.number) ≡ true = not_from_false (expected == m.number) (ne_eqb expected m.number not-that) in
-    let cs = first_of ((is_finished m.state, Finished) ∷ (is_scheduled m.state && not (is_kick_off kind), NotStarted) ∷ (is_in_play m.state && is_kick_off kind, AlreadyStarted)
-    ∷ (nat_le 1022 m.number && not (is_full_time kind), NumberFull) ∷ (lacks_goal m kind, NoGoal) ∷ (lacks_caution m kind, NoCaution) ∷ (passes_limit m kind, LimitReached) ∷ []) in
+    let cs = first_of ((is_finished m.state && not (is_reopen kind), Finished) ∷ (not (is_finished m.state) && is_reopen kind, NotFinished) ∷ (is_scheduled m.state && not (is_kick_off kind), NotStarted) ∷ (is_in_play m.state && is_kick_off kind, AlreadyStarted)
+    ∷ (nat_le last_in_play m.number && not (is_full_time kind), NumberFull) ∷ (lacks_goal m kind, NoGoal) ∷ (lacks_caution m kind, NoCaution) ∷ (passes_limit m kind, LimitReached) ∷ []) in
     ap (λ (b : Bool). cond b (Some (Stale m.number)) cs) t
 
 pub legal_none : IsLegal []
@@ -50,7 +50,7 @@ number_is h g = number_of_count (entries_of g h)
 
 pub match_next : (h : List Entry) (e : Entry) → IsLegal h → MayFollow h e → match_after (h ++ e ∷ []) e.game ≡ after (match_after h e.game) e.reporter e.kind
 match_next h e legal may = ap counted_match (entries_same h e e.game refl)
-    ∙ record_next (entries_of e.game h) e.reporter e.kind (legal_balanced (entries_of e.game h) (legal_match e.game h legal)) (accepts (match_after h e.game) (length (entries_of e.game h)) e.kind may.accepted.accepted)
+    ∙ record_next (entries_of e.game h) e.reporter e.kind (legal_balanced (entries_of e.game h) (legal_match e.game h legal)) (legal_case (entries_of e.game h) (legal_match e.game h legal)) (accepts (match_after h e.game) (length (entries_of e.game h)) e.kind may.accepted.accepted)
 
 -- a word is of one record
 pub read_back : (h : List Entry) (g : ℕ) → IsLegal h → record_at (word_of (match_after h g)) ≡ match_after h g
@@ -85,8 +85,7 @@ pub board_from : (h : List Entry) (words : List ℕ) → length words ≡ 12 →
 board_from h words twelve each = ext_get_or 0 words (board_of h) (twelve ∙ sym (board_length h)) (λ k l. each k (omega arith) ∙ sym (board_get h k (omega arith)))
 
 pub board_none : replicate 12 (word_of scheduled) ≡ board_of []
-unfolding counted_match board_of
-board_none = refl
+board_none = low.board_none
 
 -- the version of the board is the length of the history
 pub version_is : (h : List Entry) → IsLegal h → version_of (board_of h) ≡ length h

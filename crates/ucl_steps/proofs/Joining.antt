@@ -20,8 +20,9 @@ use Rattle.ucl_steps.specs.declared.trace.CallRecord.{CallRecord}
 use Rattle.ucl_steps.specs.declared.trace.Reply.{Reply}
 use Rattle.ucl_steps.specs.declared.trace.Reply.TheVariants.{Copied}
 use Rattle.ucl_steps.specs.Machine.{Holds, Idle, Wanting, Holding, Collecting, Checking, Answered, MachineState, held_by, with_held, with_reply, after_rules, after_reply, after_step_holding, caller_of, after_step}
-use Rattle.ucl_steps.specs.Trails as trail
-use Rattle.ucl_steps.specs.Trails.{Act, Mark, mark, Does, IsFoundIn, Follows, IsCollect, IsUnclean, IsClean, marks_of, ReadingMarks}
+use Rattle.ucl_board.specs.Log as trail
+use Rattle.ucl_board.specs.Log.{Act, Mark, mark}
+use Rattle.ucl_steps.specs.Trails.{Does, IsFoundIn, Follows}
 use Rattle.ucl_steps.specs.Marking.{step_of, marks_holding, marks_of_step, NoneOwn}
 use Rattle.ucl_steps.proofs.Changing.{change_at_here, change_at_else, length-change_at}
 use Rattle.ucl_steps.proofs.Callers.{held_here, held_else}

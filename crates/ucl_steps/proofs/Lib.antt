@@ -18,3 +18,6 @@ pub mod Calls
 pub mod Scheduling
 pub mod Together
 pub mod Reachable
+pub mod LogRunsCalls
+pub mod LogRunsSeats
+pub mod LogRuns

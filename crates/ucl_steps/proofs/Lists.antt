@@ -14,6 +14,10 @@ module _ {A : Type 0} where
   get_some (x ∷ xs) zero l = (x, refl)
   get_some (x ∷ xs) (suc k) l = get_some xs k (omega arith)
 
+  pub at_middle : (xs : List A) (x : A) (ys : List A) → slice_get (xs ++ x ∷ ys) (length xs) ≡ Some x
+  at_middle [] x ys = refl
+  at_middle (y ∷ xs) x ys = at_middle xs x ys
+
   pub get_back : (xs ys : List A) (k : ℕ) (x : A) → k < length xs → slice_get (xs ++ ys) k ≡ Some x → slice_get xs k ≡ Some x
   get_back [] ys k x l e = absurd (omega arith)
   get_back (y ∷ xs) ys zero x l e = e

@@ -20,7 +20,8 @@ use Rattle.ucl_board.specs.History.{match_after, board_of, IsLegal}
 use Rattle.ucl_board.proofs.HistoryLaws.{versions, same_number}
 use Rattle.ucl_steps.proofs.Lists.{get_some}
 use Rattle.ucl_steps.proofs.Histories.{number_expected, is_stale, legal_beginning, read_back, squeezed, board_from}
-use Rattle.ucl_steps.specs.Trails.{Act, Mark, Does, IsFoundIn, Follows, IsCollect, IsUnclean, IsClean, marks_of}
+use Rattle.ucl_board.specs.Log.{Act, Mark}
+use Rattle.ucl_steps.specs.Trails.{Does, IsFoundIn, Follows, IsCollect, IsUnclean, IsClean, marks_of}
 use Rattle.ucl_steps.specs.Laws.{UncleanTriesSeeMore, UncleanTriesAreFew, ReadingsAreSnapshots, ReportsAreSequential}
 
 -- marks along a history

@@ -8,8 +8,8 @@ use Rattle.std.proofs.lemmas.List.{get_or_default, take_more_set, take_all, leng
 use Rattle.ucl_word.specs.declared.event.EventCall.{EventCall}
 use Rattle.ucl_word.specs.Layout.{word_of, record_at, IsWord}
 use Rattle.ucl_board.specs.Fixtures.{IsMatch}
-use Rattle.ucl_board.specs.Words.{AreWords, word_at}
-use Rattle.ucl_board.specs.History.{match_after}
+use Rattle.ucl_board.specs.Words.{AreWords, word_at, greatest_version}
+use Rattle.ucl_board.specs.History.{match_after, board_of}
 use Rattle.ucl_board.proofs.Histories.{match_valid}
 use Rattle.ucl_board.proofs.HistoryLaws.{versions}
 use Rattle.ucl_steps.specs.declared.step.Cast.{Cast}
@@ -26,16 +26,16 @@ use Rattle.ucl_word.proofs.Sequences.{at_below}
 use Rattle.ucl_steps.proofs.Keeping.{Keeps}
 use Rattle.ucl_steps.proofs.Knowing.{in_call}
 use Rattle.ucl_steps.proofs.Stepping.{word_now, no_asker}
-use Rattle.ucl_steps.proofs.Histories.{legal_beginning, read_back}
+use Rattle.ucl_steps.proofs.Histories.{legal_beginning, read_back, board_none}
 use Rattle.ucl_word.specs.Rules.{after}
-use Rattle.ucl_word.specs.Record.{IsValid}
+use Rattle.ucl_word.specs.Record.{scheduled, IsValid}
 use Rattle.ucl_word.proofs.Accepting.{accepts, after_valid}
 use Rattle.ucl_steps.proofs.Runs.{kept_at_start, run_kept}
 
 pub reached_kept : (w : MachineState) (r : IsReachable w) → Keeps r.1 w
 reached_kept w r = run_kept r.1 [] (initial_state r.0) w (kept_at_start r.0) r.2
 
-pub reached_short : (w : MachineState) → IsReachable w → length w.history ≤ 12276
+pub reached_short : (w : MachineState) → IsReachable w → length w.history ≤ greatest_version
 reached_short w r = (versions w.history (reached_kept w r).legal).1
 
 pub word_is : (w : MachineState) (r : IsReachable w) (g : ℕ) → IsMatch g → IsWord (word_at w.words g)
@@ -112,15 +112,14 @@ module _ (w : MachineState) (c : Caller) (k : ℕ) (ws : List ℕ) (n : ℕ) (tw
       sym (ap (λ (z : List ℕ). with_held (cond (length z == 12) (Checking k z 0 (length w.history)) (Collecting k z)) c w) one_longer
       ∙ ap (λ (b : Bool). with_held (cond b (Checking k (take (n + 1) filled) 0 (length w.history)) (Collecting k (take (n + 1) filled))) c w) test)
 
-zeros : List ℕ
-zeros = 0 ∷ 0 ∷ 0 ∷ 0 ∷ 0 ∷ 0 ∷ 0 ∷ 0 ∷ 0 ∷ 0 ∷ 0 ∷ 0 ∷ []
-
-pub start_is : (cast : Cast) (history : List Entry) (calls : List CallRecord) (reporters readers : List Holds) → history ≡ [] → calls ≡ [] → reporters ≡ replicate cast.reporters Idle → readers ≡ replicate cast.readers Idle
-    → state (0 ∷ 0 ∷ 0 ∷ 0 ∷ 0 ∷ 0 ∷ 0 ∷ 0 ∷ 0 ∷ 0 ∷ 0 ∷ 0 ∷ []) history calls reporters readers ≡ initial_state cast
-unfolding word_of zeros
-start_is cast history calls reporters readers a b c d =
-    ap (λ (z : List Entry). state zeros z calls reporters readers) a ∙ (ap (λ (z : List CallRecord). state zeros [] z reporters readers) b
-    ∙ (ap (λ (z : List Holds). state zeros [] [] z readers) c ∙ ap (λ (z : List Holds). state zeros [] [] (replicate cast.reporters Idle) z) d))
+pub start_is : (cast : Cast) (words : List ℕ) (history : List Entry) (calls : List CallRecord) (reporters readers : List Holds) → words ≡ board_of [] → history ≡ [] → calls ≡ [] → reporters ≡ replicate cast.reporters Idle → readers ≡ replicate cast.readers Idle
+    → state words history calls reporters readers ≡ initial_state cast
+start_is cast words history calls reporters readers w a b c d =
+    ap (λ (z : List ℕ). state z history calls reporters readers) (w ∙ sym board_none) ∙ (ap (λ (z : List Entry). state start z calls reporters readers) a ∙ (ap (λ (z : List CallRecord). state start [] z reporters readers) b
+    ∙ (ap (λ (z : List Holds). state start [] [] z readers) c ∙ ap (λ (z : List Holds). state start [] [] (replicate cast.reporters Idle) z) d)))
+  where
+    start : List ℕ
+    start = replicate 12 (word_of scheduled)
 
 -- what a step makes of the state, where its caller holds this
 pub step_is : (s : Step) (w w' : MachineState) (x : Holds) → held_by w.callers (caller_of s) ≡ Some x → after_step_holding s (Some x) w ≡ Some w' → after_step w s ≡ Some w'

@@ -89,7 +89,7 @@ stands_before h i j a b ea eb by l = if_some a.point (λ p. IfSome b.point (λ q
       | inr t ↦ let le = t.0 in elim (cases_lt p q) [ inl less ↦ inl less | inr more ↦ inr (omega arith, t.1, inr l) ]
     ]))
 
-version_point : (h : List Entry) (c : CallRecord) (p : Option ℕ) (r : Option Reply) (v : ℕ) → IsExplained h c p r → version_read r ≡ Some v → p ≡ Some v
+pub version_point : (h : List Entry) (c : CallRecord) (p : Option ℕ) (r : Option Reply) (v : ℕ) → IsExplained h c p r → version_read r ≡ Some v → p ≡ Some v
 version_point h c (Some p) (Some (Copied a)) v s e = ap Some (sym (version_of_reading c.caller c.call s.1) ∙ same_Some a.version v e)
   where
     version_of_reading : (d : Caller) (call : Call) → IsSequential h p d call (Copied a) → a.version ≡ p

@@ -22,7 +22,8 @@ use Rattle.ucl_steps.specs.declared.trace.CallRecord.{CallRecord}
 use Rattle.ucl_steps.specs.declared.trace.Reply.{Reply}
 use Rattle.ucl_steps.specs.declared.trace.Reply.TheVariants.{Accepted, Refused, Copied}
 use Rattle.ucl_steps.specs.Machine.{Holds, Idle, Answered, MachineState, initial_state, held_by, with_held, with_reply, with_end, may_begin, held_at_begin, after_begin, after_end, after_step_holding, caller_of, after_step, after_steps}
-use Rattle.ucl_steps.specs.Trails.{Mark, Follows}
+use Rattle.ucl_board.specs.Log.{Mark}
+use Rattle.ucl_steps.specs.Trails.{Follows}
 use Rattle.ucl_steps.specs.Marking.{is_caller, own_steps, step_of, marks_of_step, marks_left, IsInCast, NoneOwn, entry_by, history_after, point_of, CallMarks}
 use Rattle.ucl_steps.specs.Together.{CallMade, after_call, AreCallsAlong, steps_of_calls, marks_of_calls, first_place, last_place, place_after, IsRecorded, AreRecorded}
 use Rattle.ucl_steps.proofs.Lists.{get_back}
@@ -55,7 +56,7 @@ before_prefix c call (Accepted reply) h = (entry_by c call, refl)
 before_prefix c call (Refused refusal) h = ([], append-nil h)
 before_prefix c call (Copied reading) h = ([], append-nil h)
 
-last_at_end : (ms : List Mark) (m : Mark) → last_place (ms ++ m ∷ []) ≡ m.at
+pub last_at_end : (ms : List Mark) (m : Mark) → last_place (ms ++ m ∷ []) ≡ m.at
 last_at_end [] m = refl
 last_at_end (x ∷ []) m = refl
 last_at_end (x ∷ y ∷ ms) m = last_at_end (y ∷ ms) m
@@ -109,7 +110,7 @@ recorded_kept calls calls' c low (m ∷ ms) high kept r = (r.0, r.1, r.2, kept r
 abbrev pub nobody : Cast
 nobody = record { reporters = 0; readers = 0 }
 
-none_in : (d : Caller) → IsInCast nobody d → ⊥
+pub none_in : (d : Caller) → IsInCast nobody d → ⊥
 none_in (Reporter n) inside = let a = inside.0 in let b = inside.1 in absurd (omega arith)
 none_in (Reader n) inside = let a = inside.0 in let b = inside.1 in absurd (omega arith)
 

@@ -20,7 +20,8 @@ use Rattle.ucl_steps.specs.declared.trace.CallRecord.{CallRecord}
 use Rattle.ucl_steps.specs.declared.trace.Reply.{Reply}
 use Rattle.ucl_steps.specs.declared.trace.Reply.TheVariants.{Accepted, Refused, Copied}
 use Rattle.ucl_steps.specs.Machine.{Holds, Idle, MachineState, initial_state, after_begin}
-use Rattle.ucl_steps.specs.Trails.{Mark, Follows}
+use Rattle.ucl_board.specs.Log.{Mark}
+use Rattle.ucl_steps.specs.Trails.{Follows}
 use Rattle.ucl_steps.specs.Linearizable.{is_accepted, IsLinearizable}
 use Rattle.ucl_steps.specs.Marking.{own_steps, marks_left, step_of, IsInCast, NoneOwn, history_after}
 use Rattle.ucl_steps.specs.Together.{first_place, last_place, place_after, CallMade, after_call, AreCallsAlong, AreRecorded, IsOneRun}

@@ -26,7 +26,7 @@ use Rattle.ucl_steps.specs.declared.step.Step.TheVariants.{Begin, Look, Swap, En
 use Rattle.ucl_steps.specs.declared.trace.CallRecord.{CallRecord}
 use Rattle.ucl_steps.specs.declared.trace.Reply.TheVariants.{Accepted, Refused}
 use Rattle.ucl_steps.specs.Machine.{Holds, Idle, Wanting, Holding, Answered, MachineState, held_by, with_held, change_at, with_reply, with_end, may_begin, after_begin, after_rules, after_reply, after_end, after_step_holding, caller_of, after_step, after_steps}
-use Rattle.ucl_steps.specs.Trails.{Mark}
+use Rattle.ucl_board.specs.Log.{Mark}
 use Rattle.ucl_steps.specs.Marking.{is_caller, own_steps, marks_of_step, marks_left, IsInCast, NoneOwn}
 use Rattle.ucl_steps.proofs.Lists.{get_some, take_one}
 use Rattle.ucl_steps.proofs.Histories.{legal_beginning, read_back, board_next}
@@ -106,7 +106,7 @@ reaches_else c d w w' steps not all run = record { steps = steps; run = run; own
 
 -- an idle reporter enters an event by four steps
 
-and_true : (a b : Bool) → a ≡ true → b ≡ true → (a && b) ≡ true
+pub and_true : (a b : Bool) → a ≡ true → b ≡ true → (a && b) ≡ true
 and_true a b p q = ap (λ (z : Bool). z && b) p ∙ q
 
 pub record Entered (w : MachineState) (e : Entry) (w' : MachineState) : Type 0 where

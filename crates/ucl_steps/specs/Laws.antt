@@ -17,7 +17,8 @@ use Rattle.ucl_steps.specs.Machine.{MachineState, initial_state, may_begin, afte
 use Rattle.ucl_steps.specs.Marking.{IsAtRest, IsInCast, NoneOwn, Leaves, IsMadeBySteps}
 use Rattle.ucl_steps.specs.Together.{CallMade, AreCallsAlong, IsOneRun}
 use Rattle.ucl_steps.specs.Linearizable.{IsLinearizable}
-use Rattle.ucl_steps.specs.Trails.{Mark, Follows, ReportMarks, decided_at, IsUnclean, marks_of, ReadingMarks}
+use Rattle.ucl_board.specs.Log.{Mark}
+use Rattle.ucl_steps.specs.Trails.{Follows, ReportMarks, decided_at, most_tries, most_loads, IsUnclean, marks_of, ReadingMarks}
 
 -- for every list of steps of any reporters and readers, cut anywhere, its history explains every call
 abbrev pub RunsAreLinearizable : Type 0
@@ -41,7 +42,7 @@ pub record IsReadFrom (history : List Entry) (low high : ℕ) (reading : Reading
   pub within : (low ≤ reading.version) × (reading.version ≤ high)
   pub tries : low + length marks.tries ≤ high
   pub steps : (24 ≤ length ms) × (length ms ≤ 24 * (length marks.tries + 1))
-  pub bound : (length marks.tries < 12277) × (length ms ≤ 294648)
+  pub bound : (length marks.tries < most_tries) × (length ms ≤ most_loads)
 
 -- what the marks of a reading show
 abbrev pub ReadingsAreSnapshots : Type 0

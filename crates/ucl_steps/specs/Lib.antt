@@ -6,3 +6,4 @@ pub mod Linearizable
 pub mod Traces
 pub mod Laws
 pub mod Running
+pub mod LogRuns

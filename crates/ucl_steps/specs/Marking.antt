@@ -13,8 +13,9 @@ use Rattle.ucl_steps.specs.declared.step.Step.TheVariants.{Begin, Look, Swap, Fi
 use Rattle.ucl_steps.specs.declared.trace.Reply.{Reply}
 use Rattle.ucl_steps.specs.declared.trace.Reply.TheVariants.{Accepted, Refused, Copied}
 use Rattle.ucl_steps.specs.Machine.{Holds, Idle, Wanting, Holding, Collecting, Checking, MachineState, held_by, caller_of, after_step, after_steps}
-use Rattle.ucl_steps.specs.Trails as trail
-use Rattle.ucl_steps.specs.Trails.{Act, Mark, mark, Follows, ReportMarks, ReadingMarks}
+use Rattle.ucl_board.specs.Log as trail
+use Rattle.ucl_board.specs.Log.{Act, Mark, mark}
+use Rattle.ucl_steps.specs.Trails.{Follows, ReportMarks, ReadingMarks}
 
 abbrev pub is_caller : Caller → Caller → Bool
 is_caller (Reporter n) (Reporter m) = n == m

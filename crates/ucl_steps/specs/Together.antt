@@ -12,7 +12,7 @@ use Rattle.ucl_steps.specs.declared.trace.Reply.TheVariants.{Accepted, Refused, 
 use Rattle.ucl_steps.specs.declared.trace.CallRecord.{CallRecord}
 use Rattle.ucl_steps.specs.Machine.{MachineState, initial_state, may_begin, after_steps}
 use Rattle.ucl_steps.specs.Linearizable.{IsLinearizable}
-use Rattle.ucl_steps.specs.Trails.{Mark}
+use Rattle.ucl_board.specs.Log.{Mark}
 use Rattle.ucl_steps.specs.Marking.{own_steps, step_of, marks_left, IsInCast, IsAtRest, history_after, point_of, NoneOwn, Leaves}
 
 -- a call that was made: what it asked, its reply, the marks of its steps, and the history after its last step but for its own entry

@@ -1,5 +1,5 @@
 -- What a pass remembers of its steps on match words, and which marks each call leaves.
-use Rattle.std.specs.Prelude.{◌≡◌, ◌≢◌, ℕ, ◌+◌, ◌-◌, ◌<◌, ◌≤◌, ◌⊎◌, List, [], ◌∷◌, ◌++◌, take, length, Some, Result, Ok, Err, IsOk, slice_get, slice_index}
+use Rattle.std.specs.Prelude.{◌≡◌, ◌≢◌, ℕ, ◌+◌, ◌-◌, ◌*◌, ◌<◌, ◌≤◌, ◌⊎◌, List, [], ◌∷◌, ◌++◌, take, length, Some, Result, Ok, Err, IsOk, slice_get, slice_index}
 use Rattle.std.specs.List.{AllByRecursion}
 use Rattle.ucl_word.specs.declared.event.EventCall.{EventCall}
 use Rattle.ucl_word.specs.declared.event.Accepted.{Accepted}
@@ -9,24 +9,9 @@ use Rattle.ucl_word.specs.Rules.{reply_of}
 use Rattle.ucl_word.specs.Layout.{word_of, record_at}
 use Rattle.ucl_board.specs.declared.entry.Entry.{Entry}
 use Rattle.ucl_board.specs.declared.reading.Reading.{Reading}
+use Rattle.ucl_board.specs.Words.{greatest_version}
 use Rattle.ucl_board.specs.History.{match_after}
-
--- what a step on a match word is: the load and the exchange of a report, and the loads of a reading's first and second collect
-pub data Act : Type 0 where
-  Look : Act
-  Swap : Act
-  First : Act
-  Second : Act
-
--- a step on a match word: what it was, of which match, the word that it found, and the length of the history just before it
-pub record Mark : Type 0 where
-  pub act : Act
-  pub game : ℕ
-  pub found : ℕ
-  pub at : ℕ
-
-abbrev pub mark : Act → ℕ → ℕ → ℕ → Mark
-mark act game found at = record { act = act; game = game; found = found; at = at }
+use Rattle.ucl_board.specs.Log.{Act, Look, Swap, First, Second, Mark}
 
 abbrev pub Does : Act → ℕ → Mark → Type 0
 Does act game m = (m.act ≡ act) × (m.game ≡ game)
@@ -81,6 +66,14 @@ decided_at (Ok reply) now = now - 1
 decided_at (Err refusal) now = now
 
 -- a reading's marks
+
+-- the most tries of a reading: each that is not clean has seen a longer history, and no history is longer than the greatest version
+abbrev pub most_tries : ℕ
+most_tries = greatest_version + 1
+
+-- the most loads of a reading: 24 of each try
+abbrev pub most_loads : ℕ
+most_loads = 24 * most_tries
 
 -- the matches 1, 2 and so on, with these words, by the same act
 abbrev pub IsCollect : Act → List ℕ → List Mark → Type 0

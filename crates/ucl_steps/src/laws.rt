@@ -1,6 +1,7 @@
 //! What holds of every list of steps. The functions do nothing: each is there for its contract.
 
 ghost use Rattle.ucl_steps.specs.Laws.{RunsAreLinearizable, WordsAreOfTheHistory, UncleanTriesSeeMore, UncleanTriesAreFew, ReadingsAreSnapshots, ReportsAreSequential, CallsAreSteps, HistoriesAreReached, CallsAreOneRun};
+ghost use Rattle.ucl_steps.specs.LogRuns.{LogsAreRuns};
 
 /// Whatever steps the callers take, in whatever order, and wherever the list is cut: one legal history of the board of
 /// one thread holds each finished call once, with the reply that it got, between its beginning and its end; each
@@ -28,7 +29,7 @@ pub fn unclean_tries_are_few()
 
 /// What a reading answers is the board of the first entries of the history, as many as its version says: those that
 /// there were when it loaded the twelfth word of its last first collect. It takes 24 steps at least, 24 more for each
-/// time that it begins anew at most, and never more than 294,648 (12,277 tries).
+/// time that it begins anew at most, and never more than the most loads, 24 of each of the most tries.
 pub fn readings_are_snapshots()
     ensures { ReadingsAreSnapshots }
 {}
@@ -58,4 +59,13 @@ pub fn histories_are_reached()
 /// are linearizable. Steps of two callers between two entries come in either order.
 pub fn calls_are_one_run()
     ensures { CallsAreOneRun }
+{}
+
+/// The log of a board is one run of the machine. Let each pass's steps in a log be those of its calls, one after the other,
+/// the last perhaps unfinished. With a beginning put before the first step of each call, and an end after the last step of
+/// each finished one, the log is a list of steps that the machine takes from the fresh board, to the history of the log and
+/// the words of its board, and each call has its reply. So the calls are linearizable in real time, also where the passes of
+/// two calls never met.
+pub fn logs_are_runs()
+    ensures { LogsAreRuns }
 {}

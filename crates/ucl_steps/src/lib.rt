@@ -10,9 +10,9 @@ mod step;
 mod trace;
 
 pub use laws::{
-    calls_are_one_run, calls_are_steps, histories_are_reached, readings_are_snapshots,
-    reports_are_sequential, runs_are_linearizable, unclean_tries_are_few, unclean_tries_see_more,
-    words_are_of_the_history,
+    calls_are_one_run, calls_are_steps, histories_are_reached, logs_are_runs,
+    readings_are_snapshots, reports_are_sequential, runs_are_linearizable, unclean_tries_are_few,
+    unclean_tries_see_more, words_are_of_the_history,
 };
 pub use run::run_steps;
 pub use step::{Call, Caller, Cast, Step};

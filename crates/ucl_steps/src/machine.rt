@@ -92,13 +92,9 @@ fn reading_of(words: &[u64; 12]) -> Reading
     requires { AreWords words.now }
     ensures { result ≡ record { board = words.now; version = version_of words.now } }
 {
-    match Board::of_words(words) {
-        Ok(board) => Reading {
-            board,
-            version: board.version(),
-        },
-        Err(_) => unreachable!(),
-    }
+    let board = Board::of_packed(words);
+    let version = board.version();
+    Reading { board, version }
 }
 
 impl Machine {
@@ -109,7 +105,7 @@ impl Machine {
         let reporters = vec![in alloc; Held::Idle; usize::from(cast.reporters)]?;
         let readers = vec![in alloc; Held::Idle; usize::from(cast.readers)]?;
         Ok(Machine {
-            words: [0; 12],
+            words: Board::fresh().words(),
             history: Vec::new(alloc),
             calls: Vec::new(alloc),
             reporters,

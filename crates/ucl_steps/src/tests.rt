@@ -112,9 +112,9 @@ fn torn_reading(rt: HostRuntime) -> Result<(), Fail> {
     steps.push(Step::End(READER))?;
     assert_eq!(rt; steps.len(), 47);
     let trace = run_steps(rt.alloc(), &TWO_REPORTERS, &steps)?;
-    let mut words = [0; 12];
-    words[0] = 0x0000400000000401;
-    words[1] = 0x0000800000000401;
+    let mut words = [0x2000000000000000; 12];
+    words[0] = 0x2001000000001001;
+    words[1] = 0x2002000000001001;
     assert_eq!(rt; trace.words, words);
     let outcomes = [
         (0, Some(2), reading(&words, 2), Some(2)),
@@ -140,15 +140,15 @@ fn changed_and_changed_back(rt: HostRuntime) -> Result<(), Fail> {
     steps.push(Step::Begin(READER, Call::Reading))?;
     repeat(&mut steps, Step::First(READER), 12)?;
     let before = run_steps(rt.alloc(), &ONE_REPORTER, &steps)?;
-    assert_eq!(rt; before.words[0], 0x0000400000000401);
+    assert_eq!(rt; before.words[0], 0x2001000000001001);
     enter(&mut steps, &one, &goal)?;
     enter(&mut steps, &one, &disallow)?;
     steps.push(Step::Second(READER))?;
     repeat(&mut steps, Step::First(READER), 12)?;
     repeat(&mut steps, Step::Second(READER), 12)?;
     let trace = run_steps(rt.alloc(), &ONE_REPORTER, &steps)?;
-    let mut words = [0; 12];
-    words[0] = 0x0000400000000403;
+    let mut words = [0x2000000000000000; 12];
+    words[0] = 0x2001000000001003;
     assert_eq!(rt; trace.words, words);
     let outcomes = [
         (0, Some(0), accepted(1), Some(1)),
@@ -188,9 +188,9 @@ fn changed_back_within_a_collect(rt: HostRuntime) -> Result<(), Fail> {
     repeat(&mut steps, Step::Second(READER), 12)?;
     steps.push(Step::End(READER))?;
     let trace = run_steps(rt.alloc(), &TWO_REPORTERS, &steps)?;
-    let mut words = [0; 12];
-    words[0] = 0x0000400000000403;
-    words[1] = 0x0000800000000401;
+    let mut words = [0x2000000000000000; 12];
+    words[0] = 0x2001000000001003;
+    words[1] = 0x2002000000001001;
     let outcomes = [
         (0, Some(0), accepted(1), Some(1)),
         (1, Some(4), reading(&words, 4), Some(4)),
@@ -217,7 +217,7 @@ fn two_exchanges(rt: HostRuntime) -> Result<(), Fail> {
         enter(&mut steps, &one, &event(3, expected, kind).ok_or("event")?)?;
     }
     let before = run_steps(rt.alloc(), &TWO_REPORTERS, &steps)?;
-    assert_eq!(rt; before.words[2], 0x0000400001041404);
+    assert_eq!(rt; before.words[2], 0x2001000004105004);
     let home = event(3, 4, Kind::Goal(Side::Home)).ok_or("event")?;
     let away = event(3, 4, Kind::Goal(Side::Away)).ok_or("event")?;
     look(&mut steps, &one, &home)?;
@@ -234,7 +234,7 @@ fn two_exchanges(rt: HostRuntime) -> Result<(), Fail> {
         (4, Some(5), stale(5), None),
     ];
     assert_calls(&rt, &trace, &outcomes);
-    assert_eq!(rt; trace.words[2], 0x0000400001042405);
+    assert_eq!(rt; trace.words[2], 0x2001000004109005);
     assert_eq!(rt; trace.history.len(), 5);
     Ok(())
 }
@@ -252,7 +252,7 @@ fn unfinished_report(rt: HostRuntime) -> Result<(), Fail> {
     let trace = run_steps(rt.alloc(), &ONE_REPORTER, &steps)?;
     let outcomes = [
         (0, None, None, None),
-        (0, Some(0), reading(&[0; 12], 0), Some(0)),
+        (0, Some(0), reading(&[0x2000000000000000; 12], 0), Some(0)),
     ];
     assert_calls(&rt, &trace, &outcomes);
     assert_eq!(rt; trace.history.len(), 0);
@@ -273,8 +273,8 @@ fn late_exchange(rt: HostRuntime) -> Result<(), Fail> {
     steps.push(Step::End(one))?;
     assert_eq!(rt; steps.len(), 34);
     let trace = run_steps(rt.alloc(), &TWO_REPORTERS, &steps)?;
-    let mut words = [0; 12];
-    words[0] = 0x0000800000000401;
+    let mut words = [0x2000000000000000; 12];
+    words[0] = 0x2002000000001001;
     let outcomes = [
         (0, Some(1), stale(1), Some(1)),
         (0, Some(0), accepted(1), Some(1)),
@@ -300,8 +300,8 @@ fn stopped_reporter(rt: HostRuntime) -> Result<(), Fail> {
         read(&mut steps, &READER)?;
     }
     let trace = run_steps(rt.alloc(), &TWO_REPORTERS, &steps)?;
-    let mut words = [0; 12];
-    words[0] = 0x0000800000000401;
+    let mut words = [0x2000000000000000; 12];
+    words[0] = 0x2002000000001001;
     let mut outcomes = Vec::new(rt.alloc());
     outcomes.push((0, None, None, None))?;
     outcomes.push((0, Some(0), accepted(1), Some(1)))?;
@@ -321,10 +321,10 @@ fn bound_of_tries(rt: HostRuntime) -> Result<(), Fail> {
     let mut steps = Vec::new(rt.alloc());
     steps.push(Step::Begin(READER, Call::Reading))?;
     for game in 1..=12 {
-        for expected in 0..1023 {
+        for expected in 0..4095 {
             let kind = match expected {
                 0 => Kind::KickOff,
-                1022 => Kind::FullTime,
+                4094 => Kind::FullTime,
                 _ if expected % 2 == 1 => Kind::Goal(Side::Home),
                 _ => Kind::Disallow(Side::Home),
             };
@@ -340,13 +340,13 @@ fn bound_of_tries(rt: HostRuntime) -> Result<(), Fail> {
     repeat(&mut steps, Step::First(READER), 12)?;
     repeat(&mut steps, Step::Second(READER), 12)?;
     steps.push(Step::End(READER))?;
-    assert_eq!(rt; steps.len(), 276_236);
+    assert_eq!(rt; steps.len(), 1_105_676);
     let trace = run_steps(rt.alloc(), &ONE_REPORTER, &steps)?;
-    let words = [0x0000400000001bff; 12];
+    let words = [0x2001000000006fff; 12];
     assert_eq!(rt; trace.words, words);
-    assert_eq!(rt; trace.history.len(), 12_276);
+    assert_eq!(rt; trace.history.len(), 49_140);
     let reply = trace.calls.first().ok_or("call")?.reply;
-    assert_eq!(rt; reply, reading(&words, 12_276));
+    assert_eq!(rt; reply, reading(&words, 49_140));
     Ok(())
 }
 
@@ -368,7 +368,7 @@ fn steps_not_enabled(rt: HostRuntime) -> Result<(), Fail> {
     let trace = run_steps(rt.alloc(), &ONE_REPORTER, &[])?;
     assert_eq!(rt; trace.history.len(), 0);
     assert_eq!(rt; trace.calls.len(), 0);
-    assert_eq!(rt; trace.words, [0; 12]);
+    assert_eq!(rt; trace.words, [0x2000000000000000; 12]);
     Ok(())
 }
 

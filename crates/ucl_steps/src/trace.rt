@@ -20,7 +20,7 @@ pub enum Reply {
     Copied(Reading),
 }
 
-/// What became of a call. Places in time are lengths of the history, 0 to 12,276.
+/// What became of a call. Places in time are lengths of the history.
 #[derive(Clone, Copy, Debug, PartialEq, Eq)]
 pub struct CallRecord {
     /// Who called.

@@ -7,18 +7,19 @@ use Rattle.ucl_word.specs.declared.record.State.{State}
 use Rattle.ucl_word.specs.declared.record.State.TheVariants.{Scheduled, InPlay, Finished}
 use Rattle.ucl_word.specs.declared.event.Side.TheVariants.{Home, Away}
 use Rattle.ucl_word.specs.declared.event.Kind.{Kind}
-use Rattle.ucl_word.specs.declared.event.Kind.TheVariants.{KickOff, Goal, Disallow, Yellow, SecondYellow, Red, FullTime}
+use Rattle.ucl_word.specs.declared.event.Kind.TheVariants.{KickOff, Goal, Disallow, Yellow, SecondYellow, Red, FullTime, Reopen}
 use Rattle.ucl_word.specs.declared.refusal.Refusal.{Refusal}
-use Rattle.ucl_word.specs.Record.{IsReporter, IsWithinLimits, SuitsState, IsValid}
-use Rattle.ucl_word.specs.Rules.{is_scheduled, is_in_play, is_finished, is_kick_off, is_full_time, lacks_goal, lacks_caution, passes_limit, refusal_of, after}
+use Rattle.ucl_word.specs.Record.{last_in_play, IsReporter, IsWithinLimits, SuitsState, IsValid}
+use Rattle.ucl_word.specs.Rules.{is_scheduled, is_in_play, is_finished, is_kick_off, is_full_time, is_reopen, lacks_goal, lacks_caution, passes_limit, refusal_of, after}
 
 -- no condition of a refusal holds
 pub record Accepts (m : MatchRecord) (expected : ℕ) (kind : Kind) : Type 0 where
   pub current : not (expected == m.number) ≡ false
-  pub unfinished : is_finished m.state ≡ false
+  pub unfinished : (is_finished m.state && not (is_reopen kind)) ≡ false
+  pub finished : (not (is_finished m.state) && is_reopen kind) ≡ false
   pub started : (is_scheduled m.state && not (is_kick_off kind)) ≡ false
   pub not_started : (is_in_play m.state && is_kick_off kind) ≡ false
-  pub room : (nat_le 1022 m.number && not (is_full_time kind)) ≡ false
+  pub room : (nat_le last_in_play m.number && not (is_full_time kind)) ≡ false
   pub goal : lacks_goal m kind ≡ false
   pub caution : lacks_caution m kind ≡ false
   pub limit : passes_limit m kind ≡ false
@@ -38,28 +39,37 @@ accepts m expected kind h =
     let f = skip _ _ _ e.1 in
     let g = skip _ _ _ f.1 in
     let i = skip _ _ _ g.1 in
-    record { current = a.0; unfinished = b.0; started = c.0; not_started = d.0; room = e.0; goal = f.0; caution = g.0; limit = i.0 }
+    let j = skip _ _ _ i.1 in
+    record { current = a.0; unfinished = b.0; finished = c.0; started = d.0; not_started = e.0; room = f.0; goal = g.0; caution = i.0; limit = j.0 }
 
-begun : (s : State) → is_finished s ≡ false → (is_scheduled s && true) ≡ false → s ≡ InPlay
+pub begun : (s : State) → (is_finished s && true) ≡ false → (is_scheduled s && true) ≡ false → s ≡ InPlay
 begun Scheduled f h = absurd cc
 begun InPlay f h = refl
 begun Finished f h = absurd cc
 
-pub unbegun : (s : State) → is_finished s ≡ false → (is_in_play s && true) ≡ false → s ≡ Scheduled
+pub unbegun : (s : State) → (is_finished s && true) ≡ false → (is_in_play s && true) ≡ false → s ≡ Scheduled
 unbegun Scheduled f h = refl
 unbegun InPlay f h = absurd cc
 unbegun Finished f h = absurd cc
 
+pub over : (s : State) → (not (is_finished s) && true) ≡ false → s ≡ Finished
+over Scheduled h = absurd cc
+over InPlay h = absurd cc
+over Finished h = refl
+
 pub under : (k n : ℕ) → nat_le k n ≡ false → n < k
 under k n h = grind (arith, nat_tests)
 
-room_left : (n : ℕ) → (nat_le 1022 n && true) ≡ false → n < 1022
+room_left : (n : ℕ) → (nat_le last_in_play n && true) ≡ false → n < last_in_play
 room_left n h = grind (arith, nat_tests)
 
-in_play : (m : MatchRecord) → m.state ≡ InPlay → IsValid m → (1 ≤ m.number) × (m.number ≤ 1022)
+in_play : (m : MatchRecord) → m.state ≡ InPlay → IsValid m → (1 ≤ m.number) × (m.number ≤ last_in_play)
 in_play m e v = let s = subst (λ (s : State). SuitsState s m) e v.suits in (s.0, s.1)
 
-suits_in_play : (s : State) (m : MatchRecord) → s ≡ InPlay → 1 ≤ m.number → m.number ≤ 1022 → IsReporter m.reporter → SuitsState s m
+finished : (m : MatchRecord) → m.state ≡ Finished → IsValid m → 2 ≤ m.number
+finished m e v = (subst (λ (s : State). SuitsState s m) e v.suits).0
+
+suits_in_play : (s : State) (m : MatchRecord) → s ≡ InPlay → 1 ≤ m.number → m.number ≤ last_in_play → IsReporter m.reporter → SuitsState s m
 suits_in_play s m e low high r = subst (λ (s : State). SuitsState s m) (sym e) (low, high, r)
 
 module _ (m : MatchRecord) (reporter expected : ℕ) where
@@ -67,6 +77,7 @@ module _ (m : MatchRecord) (reporter expected : ℕ) where
   unfolding after
   after_within KickOff v a = let w = v.within in record { home_goals = omega arith; away_goals = omega arith; home_yellows = omega arith; away_yellows = omega arith; home_expulsions = omega arith; away_expulsions = omega arith }
   after_within FullTime v a = let w = v.within in record { home_goals = omega arith; away_goals = omega arith; home_yellows = omega arith; away_yellows = omega arith; home_expulsions = omega arith; away_expulsions = omega arith }
+  after_within Reopen v a = let w = v.within in record { home_goals = omega arith; away_goals = omega arith; home_yellows = omega arith; away_yellows = omega arith; home_expulsions = omega arith; away_expulsions = omega arith }
   after_within (Goal Home) v a = let w = v.within in let l = under 63 m.home_goals a.limit in record { home_goals = omega arith; away_goals = omega arith; home_yellows = omega arith; away_yellows = omega arith; home_expulsions = omega arith; away_expulsions = omega arith }
   after_within (Goal Away) v a = let w = v.within in let l = under 63 m.away_goals a.limit in record { home_goals = omega arith; away_goals = omega arith; home_yellows = omega arith; away_yellows = omega arith; home_expulsions = omega arith; away_expulsions = omega arith }
   after_within (Disallow Home) v a = let w = v.within in record { home_goals = omega arith; away_goals = omega arith; home_yellows = omega arith; away_yellows = omega arith; home_expulsions = omega arith; away_expulsions = omega arith }
@@ -79,7 +90,7 @@ module _ (m : MatchRecord) (reporter expected : ℕ) where
   after_within (Red Away) v a = let w = v.within in let l = under 31 m.away_expulsions a.limit in record { home_goals = omega arith; away_goals = omega arith; home_yellows = omega arith; away_yellows = omega arith; home_expulsions = omega arith; away_expulsions = omega arith }
 
   -- a match that goes on
-  goes_on : (m' : MatchRecord) → IsValid m → IsReporter reporter → is_finished m.state ≡ false → (is_scheduled m.state && true) ≡ false → (nat_le 1022 m.number && true) ≡ false
+  goes_on : (m' : MatchRecord) → IsValid m → IsReporter reporter → (is_finished m.state && true) ≡ false → (is_scheduled m.state && true) ≡ false → (nat_le last_in_play m.number && true) ≡ false
       → m'.state ≡ m.state → m'.number ≡ m.number + 1 → m'.reporter ≡ reporter → SuitsState m'.state m'
   goes_on m' v r f s n is_state is_number is_reporter =
       let e = begun m.state f s in
@@ -95,6 +106,10 @@ module _ (m : MatchRecord) (reporter expected : ℕ) where
       (omega arith, omega arith, r)
   after_suits FullTime v r a =
       let now = in_play m (begun m.state a.unfinished a.started) v in
+      (omega arith, omega arith, r)
+  after_suits Reopen v r a =
+      let low = finished m (over m.state a.finished) v in
+      let room = room_left m.number a.room in
       (omega arith, omega arith, r)
   after_suits (Goal Home) v r a = goes_on (after m reporter (Goal Home)) v r a.unfinished a.started a.room refl refl refl
   after_suits (Goal Away) v r a = goes_on (after m reporter (Goal Away)) v r a.unfinished a.started a.room refl refl refl
@@ -116,7 +131,13 @@ and_no false = refl
 
 pub full_time : (m : MatchRecord) → IsValid m → m.state ≡ InPlay → refusal_of m m.number FullTime ≡ None
 unfolding refusal_of
-full_time m v e = rw (eq-eqb m.number m.number refl, e, and_no (nat_le 1022 m.number)) refl
+full_time m v e = rw (eq-eqb m.number m.number refl, e, and_no (nat_le last_in_play m.number)) refl
+
+-- what is reopened can be ended
+pub ends_again : (m : MatchRecord) (reporter : ℕ) → IsValid m → IsReporter reporter → refusal_of m m.number Reopen ≡ None
+    → IsValid (after m reporter Reopen) × (refusal_of (after m reporter Reopen) (m.number + 1) FullTime ≡ None)
+unfolding after
+ends_again m reporter v is none = let valid = after_valid m reporter m.number Reopen v is (accepts m m.number Reopen none) in (valid, full_time (after m reporter Reopen) valid refl)
 
 pub after_number : (m : MatchRecord) (reporter : ℕ) (kind : Kind) → (after m reporter kind).number ≡ m.number + 1
 unfolding after

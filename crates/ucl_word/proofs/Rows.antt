@@ -12,17 +12,17 @@ use Rattle.ucl_word.specs.Record.{scheduled}
 use Rattle.ucl_word.specs.Counts.{counted_match}
 
 largest : MatchRecord
-largest = record { number = 1023; state = state.Finished; home_goals = 63; away_goals = 63; home_yellows = 63; away_yellows = 63; home_expulsions = 31; away_expulsions = 31; reporter = 255 }
+largest = record { number = 4095; state = state.Finished; home_goals = 63; away_goals = 63; home_yellows = 63; away_yellows = 63; home_expulsions = 31; away_expulsions = 31; reporter = 255 }
 
-row2 : word_of largest ≡ 0x003ffffffffffbff
+row2 : word_of largest ≡ 0x20ffffffffffefff
 unfolding word_of largest
 row2 = refl
 
-row1a : word_of (after scheduled 1 KickOff) ≡ 0x0000400000000401
+row1a : word_of (after scheduled 1 KickOff) ≡ 0x2001000000001001
 unfolding word_of after
 row1a = refl
 
-row1b : word_of (after (after scheduled 1 KickOff) 1 (Goal Home)) ≡ 0x0000400000001402
+row1b : word_of (after (after scheduled 1 KickOff) 1 (Goal Home)) ≡ 0x2001000000005002
 unfolding word_of after
 row1b = refl
 

@@ -1,5 +1,5 @@
 -- A match after a list of its events, by counting.
-use Rattle.std.specs.Prelude.{◌≡◌, ℕ, ◌+◌, ◌-◌, nat_le, Bool, true, false, if◌then◌else◌, List, [], ◌∷◌, ◌++◌, length, None, count_by}
+use Rattle.std.specs.Prelude.{◌≡◌, ℕ, ◌+◌, ◌-◌, ◌==◌, Bool, true, false, if◌then◌else◌, List, [], ◌∷◌, ◌++◌, length, None, count_by}
 use Rattle.ucl_word.specs.declared.record.MatchRecord.{MatchRecord}
 use Rattle.ucl_word.specs.declared.record.State.{State}
 use Rattle.ucl_word.specs.declared.record.State.TheVariants.{Scheduled, InPlay, Finished}
@@ -9,7 +9,7 @@ use Rattle.ucl_word.specs.declared.event.Kind.{Kind}
 use Rattle.ucl_word.specs.declared.event.Kind.TheVariants.{Goal, Disallow, Yellow, SecondYellow, Red}
 use Rattle.ucl_word.specs.Record.{IsReporter}
 use Rattle.ucl_word.specs.Sequence.{EachMay}
-use Rattle.ucl_word.specs.Rules.{is_kick_off, is_full_time, refusal_of}
+use Rattle.ucl_word.specs.Rules.{is_kick_off, is_full_time, is_reopen, refusal_of}
 
 -- an event of one match that was accepted: who entered it, and what it said
 pub record MatchEntry : Type 0 where
@@ -46,8 +46,9 @@ is_red side _ = false
 abbrev pub count : (Kind → Bool) → List MatchEntry → ℕ
 count is_such es = count_by (λ e. is_such e.kind) es
 
+-- with a kick-off, in play where full times and reopenings are equally many: else a full time is not reopened
 abbrev pub state_of : List MatchEntry → State
-state_of es = if nat_le 1 (count is_full_time es) then Finished else (if nat_le 1 (count is_kick_off es) then InPlay else Scheduled)
+state_of es = if count is_kick_off es == 0 then Scheduled else (if count is_full_time es == count is_reopen es then InPlay else Finished)
 
 -- who entered the last one, 0 where there is none
 abbrev pub last_reporter : List MatchEntry → ℕ

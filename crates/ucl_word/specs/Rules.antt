@@ -7,11 +7,12 @@ use Rattle.ucl_word.specs.declared.record.State.TheVariants as state
 use Rattle.ucl_word.specs.declared.event.Side.{Side}
 use Rattle.ucl_word.specs.declared.event.Side.TheVariants.{Home, Away}
 use Rattle.ucl_word.specs.declared.event.Kind.{Kind}
-use Rattle.ucl_word.specs.declared.event.Kind.TheVariants.{KickOff, Goal, Disallow, Yellow, SecondYellow, Red, FullTime}
+use Rattle.ucl_word.specs.declared.event.Kind.TheVariants.{KickOff, Goal, Disallow, Yellow, SecondYellow, Red, FullTime, Reopen}
 use Rattle.ucl_word.specs.declared.event.EventCall.{EventCall}
 use Rattle.ucl_word.specs.declared.event.Accepted.{Accepted}
 use Rattle.ucl_word.specs.declared.refusal.Refusal.{Refusal}
-use Rattle.ucl_word.specs.declared.refusal.Refusal.TheVariants.{Stale, Finished, NotStarted, AlreadyStarted, NumberFull, NoGoal, NoCaution, LimitReached}
+use Rattle.ucl_word.specs.declared.refusal.Refusal.TheVariants.{Stale, Finished, NotFinished, NotStarted, AlreadyStarted, NumberFull, NoGoal, NoCaution, LimitReached}
+use Rattle.ucl_word.specs.Record.{last_in_play}
 
 abbrev pub goals : Side → MatchRecord → ℕ
 goals Home m = m.home_goals
@@ -48,6 +49,10 @@ abbrev pub is_full_time : Kind → Bool
 is_full_time FullTime = true
 is_full_time _ = false
 
+abbrev pub is_reopen : Kind → Bool
+is_reopen Reopen = true
+is_reopen _ = false
+
 -- a goal is disallowed where there is none
 abbrev pub lacks_goal : MatchRecord → Kind → Bool
 lacks_goal m (Disallow side) = goals side m == 0
@@ -75,10 +80,11 @@ first_of (c ∷ cs) = if c.0 then Some c.1 else first_of cs
 unfoldable pub refusal_of : MatchRecord → ℕ → Kind → Option Refusal
 refusal_of m expected kind = first_of (
     (not (expected == m.number), Stale m.number)
-    ∷ (is_finished m.state, Finished)
+    ∷ (is_finished m.state && not (is_reopen kind), Finished)
+    ∷ (not (is_finished m.state) && is_reopen kind, NotFinished)
     ∷ (is_scheduled m.state && not (is_kick_off kind), NotStarted)
     ∷ (is_in_play m.state && is_kick_off kind, AlreadyStarted)
-    ∷ (nat_le 1022 m.number && not (is_full_time kind), NumberFull)
+    ∷ (nat_le last_in_play m.number && not (is_full_time kind), NumberFull)
     ∷ (lacks_goal m kind, NoGoal)
     ∷ (lacks_caution m kind, NoCaution)
     ∷ (passes_limit m kind, LimitReached)
@@ -88,6 +94,7 @@ refusal_of m expected kind = first_of (
 abbrev pub changed_by : Kind → MatchRecord → MatchRecord
 changed_by KickOff m = record m { state = InPlay }
 changed_by FullTime m = record m { state = state.Finished }
+changed_by Reopen m = record m { state = InPlay }
 changed_by (Goal Home) m = record m { home_goals = m.home_goals + 1 }
 changed_by (Goal Away) m = record m { away_goals = m.away_goals + 1 }
 changed_by (Disallow Home) m = record m { home_goals = m.home_goals - 1 }

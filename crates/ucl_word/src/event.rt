@@ -28,6 +28,8 @@ pub enum Kind {
     Red(Side),
     /// The match is over.
     FullTime,
+    /// The match is not over after all, and goes on.
+    Reopen,
 }
 
 /// An event for one match, with the event number that its reporter last saw there.
@@ -44,6 +46,6 @@ pub struct EventCall {
 /// The reply to an event that was entered.
 #[derive(Clone, Copy, Debug, PartialEq, Eq)]
 pub struct Accepted {
-    /// The match's event number after the event, 1 to 1023.
+    /// The match's event number after the event, 1 to `LAST_NUMBER`.
     pub number: u16,
 }

@@ -5,6 +5,7 @@
 mod event;
 mod laws;
 mod match_no;
+mod migration;
 mod record;
 mod refusal;
 mod reporter_no;
@@ -13,15 +14,17 @@ mod word;
 
 pub use event::{Accepted, EventCall, Kind, Side};
 pub use laws::{
-    a_match_in_play_can_be_ended, counts_are_balanced, counts_are_valid, words_are_read,
+    a_match_in_play_can_be_ended, a_reopened_match_can_be_ended, counts_are_balanced,
+    counts_are_valid, layouts_differ, one_case_holds, words_are_read, words_are_read_one_way,
     words_differ,
 };
 pub use match_no::MatchNo;
+pub use migration::migrate;
 pub use record::{MatchRecord, State};
 pub use refusal::{BadWord, OutOfMemory, Refusal};
 pub use reporter_no::ReporterNo;
 pub use rules::apply;
-pub use word::{pack, unpack};
+pub use word::{number_of, pack, unpack};
 
 #[cfg(test)]
 mod tests;

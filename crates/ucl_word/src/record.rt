@@ -12,11 +12,11 @@ pub(crate) const MOST_YELLOWS: u8 = 63;
 /// The most expulsions of a side.
 pub(crate) const MOST_EXPULSIONS: u8 = 31;
 
-/// The greatest event number of a match in play. From it on, only full time is accepted.
-pub(crate) const LAST_NUMBER_IN_PLAY: u16 = 1022;
+/// The greatest event number of all.
+const LAST_NUMBER: u16 = 4095;
 
-/// The greatest event number of all, which a match finished by full time at the last number in play has.
-const LAST_NUMBER: u16 = 1023;
+/// The greatest event number of a match in play. From it on, only full time is accepted, which has one number left.
+pub(crate) const LAST_NUMBER_IN_PLAY: u16 = LAST_NUMBER - 1;
 
 /// Whether a match has begun or ended.
 #[derive(Clone, Copy, Debug, Default, PartialEq, Eq)]
@@ -34,7 +34,7 @@ pub enum State {
 /// The default is the record of a match that has not kicked off.
 #[derive(Clone, Copy, Debug, Default, PartialEq, Eq)]
 pub struct MatchRecord {
-    /// How many events were accepted: 0 before kick-off, 1 to 1022 in play, 2 to 1023 at the end.
+    /// How many events were accepted: 0 before kick-off, 1 to `LAST_NUMBER_IN_PLAY` in play, 2 to `LAST_NUMBER` at the end.
     pub number: u16,
     /// Whether the match has begun or ended.
     pub state: State,
@@ -56,8 +56,8 @@ pub struct MatchRecord {
 
 impl MatchRecord {
     /// Whether a match can have this record: goals and yellows of a side are at most 63 and expulsions at most 31,
-    /// and it is scheduled with every number 0, or in play with an event number from 1 to 1022 and a reporter,
-    /// or finished with an event number from 2 to 1023 and a reporter.
+    /// and it is scheduled with every number 0, or in play with an event number from 1 to `LAST_NUMBER_IN_PLAY` and a
+    /// reporter, or finished with an event number from 2 to `LAST_NUMBER` and a reporter.
     pub fn is_valid(&self) -> bool
         ensures { IsTrue result ↔ IsValid self.now }
     {

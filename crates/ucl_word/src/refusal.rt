@@ -12,13 +12,15 @@ use thiserror::Error;
 pub enum Refusal {
     /// 1: the expected number is not the match's event number, which is `found`.
     Stale { found: u16 },
-    /// 2: the match is finished.
+    /// 2: the match is finished, and the event is no reopening.
     Finished,
+    /// 9: the match is not finished, and the event is a reopening.
+    NotFinished,
     /// 3: the match has not kicked off, and the event is no kick-off.
     NotStarted,
     /// 4: the match is in play, and the event is a kick-off.
     AlreadyStarted,
-    /// 5: the match's number is 1022 or more, and the event is not full time.
+    /// 5: the match's number is `LAST_NUMBER_IN_PLAY` or more, and the event is not full time.
     NumberFull,
     /// 6: a goal is disallowed for a side that has none.
     NoGoal,
@@ -36,6 +38,7 @@ impl fmt::Display for Refusal {
         match self {
             Refusal::Stale { found } => write!(f, "1 stale {found}"),
             Refusal::Finished => write!(f, "2 finished"),
+            Refusal::NotFinished => write!(f, "9 not-finished"),
             Refusal::NotStarted => write!(f, "3 not-started"),
             Refusal::AlreadyStarted => write!(f, "4 already-started"),
             Refusal::NumberFull => write!(f, "5 number-full"),

@@ -81,7 +81,10 @@ fn refused(before: &MatchRecord, expected: u16, kind: Kind) -> Option<Refusal>
         });
     }
     match before.state {
-        State::Finished => return Some(Refusal::Finished),
+        State::Finished if kind != Kind::Reopen => return Some(Refusal::Finished),
+        State::Scheduled | State::InPlay if kind == Kind::Reopen => {
+            return Some(Refusal::NotFinished);
+        }
         State::Scheduled if kind != Kind::KickOff => return Some(Refusal::NotStarted),
         State::InPlay if kind == Kind::KickOff => return Some(Refusal::AlreadyStarted),
         _ => {}
@@ -112,6 +115,7 @@ fn changed(before: &MatchRecord, kind: Kind) -> MatchRecord
     match kind {
         Kind::KickOff => next.state = State::InPlay,
         Kind::FullTime => next.state = State::Finished,
+        Kind::Reopen => next.state = State::InPlay,
         Kind::Goal(Side::Home) => next.home_goals += 1,
         Kind::Goal(Side::Away) => next.away_goals += 1,
         Kind::Disallow(Side::Home) => next.home_goals -= 1,

@@ -2,7 +2,7 @@
 
 use crate::{
     BadWord, Kind, MatchNo, MatchRecord, OutOfMemory, Refusal, ReporterNo, Side, State, apply,
-    pack, unpack,
+    migrate, pack, unpack,
 };
 use std::test::Fail;
 
@@ -19,7 +19,7 @@ const SCHEDULED: MatchRecord = MatchRecord {
 };
 
 const LARGEST: MatchRecord = MatchRecord {
-    number: 1023,
+    number: 4095,
     state: State::Finished,
     home_goals: 63,
     away_goals: 63,
@@ -60,10 +60,10 @@ fn words_of_the_layout(rt: HostRuntime) {
         ..SCHEDULED
     };
     let rows = [
-        (0x0000000000000000, SCHEDULED),
-        (0x0000400000000401, in_play),
+        (0x2000000000000000, SCHEDULED),
+        (0x2001000000001001, in_play),
         (
-            0x0000400000001402,
+            0x2001000000005002,
             MatchRecord {
                 number: 2,
                 home_goals: 1,
@@ -71,21 +71,21 @@ fn words_of_the_layout(rt: HostRuntime) {
             },
         ),
         (
-            0x0000800000000401,
+            0x2002000000001001,
             MatchRecord {
                 reporter: 2,
                 ..in_play
             },
         ),
         (
-            0x0000420000000806,
+            0x2001080000002006,
             MatchRecord {
                 away_expulsions: 1,
                 ..finished
             },
         ),
         (
-            0x0000400041042807,
+            0x200100010410a007,
             MatchRecord {
                 number: 7,
                 home_goals: 2,
@@ -95,7 +95,7 @@ fn words_of_the_layout(rt: HostRuntime) {
                 ..finished
             },
         ),
-        (0x003ffffffffffbff, LARGEST),
+        (0x20ffffffffffefff, LARGEST),
     ];
     for (word, game) in rows {
         assert_eq!(rt; unpack(word), Ok(game), "at {word:x}");
@@ -106,20 +106,43 @@ fn words_of_the_layout(rt: HostRuntime) {
 
 #[test]
 fn bad_words(rt: HostRuntime) {
-    let state_3 = 0x0000000000000c00;
-    let bit_54 = 0x0040000000000000;
-    let in_play_by_nobody = 0x0000000000000401;
-    for word in [state_3, bit_54, in_play_by_nobody] {
+    let state_3 = 0x2000000000003000;
+    let bit_56 = 0x2100000000000000;
+    let in_play_by_nobody = 0x2000000000001001;
+    let mark_1 = 0x1000000000000000;
+    let first_layout = 0x0000420000000806;
+    for word in [state_3, bit_56, in_play_by_nobody, mark_1, first_layout] {
         assert_eq!(rt; unpack(word), Err(BadWord), "at {word:x}");
     }
+}
+
+#[test]
+fn words_of_the_first_layout(rt: HostRuntime) {
+    let rows = [
+        (0x0000000000000000, Ok(0x2000000000000000)),
+        (0x0000420000000806, Ok(0x2001080000002006)),
+        (0x003ffffffffffbff, Ok(0x20ffffffffffe3ff)),
+        (0x2001080000002006, Ok(0x2001080000002006)),
+        (0x20ffffffffffefff, Ok(0x20ffffffffffefff)),
+        (0x0000000000000c00, Err(BadWord)),
+        (0x0000000000000401, Err(BadWord)),
+        (0x0040000000000000, Err(BadWord)),
+        (0x2000000000003000, Err(BadWord)),
+    ];
+    for (word, read) in rows {
+        assert_eq!(rt; migrate(word), read, "at {word:x}");
+    }
+    let full = 0x00004000000017fe;
+    assert_eq!(rt; migrate(full), Ok(0x20010000000053fe));
+    assert_eq!(rt; migrate(full + 1), Err(BadWord));
 }
 
 #[test]
 fn kick_off_and_goal_words(rt: HostRuntime) {
     let goal = Kind::Goal(Side::Home);
     let rows = [
-        (0x0000000000000000, 0, Kind::KickOff, 0x0000400000000401),
-        (0x0000400000000401, 1, goal, 0x0000400000001402),
+        (0x2000000000000000, 0, Kind::KickOff, 0x2001000000001001),
+        (0x2001000000001001, 1, goal, 0x2001000000005002),
     ];
     for (word, expected, kind, after) in rows {
         assert_eq!(rt;
@@ -133,8 +156,8 @@ fn kick_off_and_goal_words(rt: HostRuntime) {
 #[test]
 fn order_of_refusals(rt: HostRuntime) -> Result<(), Fail> {
     let unpacked = |word: u64| unpack(word);
-    let finished = unpacked(0x0000420000000806)?;
-    let kicked_off = unpacked(0x0000400000000401)?;
+    let finished = unpacked(0x2001080000002006)?;
+    let kicked_off = unpacked(0x2001000000001001)?;
     let sent_off = MatchRecord {
         home_expulsions: 31,
         ..LONG
@@ -178,8 +201,8 @@ fn order_of_refusals(rt: HostRuntime) -> Result<(), Fail> {
 
 #[test]
 fn number_full(rt: HostRuntime) {
-    let mut word = 0x0000400000000401;
-    for number in 1..1022 {
+    let mut word = 0x2001000000001001;
+    for number in 1..4094 {
         let kind = if number % 2 == 1 {
             Kind::Goal(Side::Home)
         } else {
@@ -189,15 +212,81 @@ fn number_full(rt: HostRuntime) {
             word = next;
         }
     }
-    let full = 0x00004000000017fe;
+    let full = 0x2001000000005ffe;
     assert_eq!(rt; word, full);
     let rows = [
         (Kind::Goal(Side::Home), Err(Refusal::NumberFull)),
         (Kind::KickOff, Err(Refusal::AlreadyStarted)),
-        (Kind::FullTime, Ok(0x0000400000001bff)),
+        (Kind::FullTime, Ok(0x2001000000006fff)),
     ];
     for (kind, answer) in rows {
-        assert_eq!(rt; entered(full, 1022, kind), Some(answer), "{kind:?}");
+        assert_eq!(rt; entered(full, 4094, kind), Some(answer), "{kind:?}");
+    }
+}
+
+#[test]
+fn reopened_words(rt: HostRuntime) {
+    let goal = Kind::Goal(Side::Home);
+    let rows = [
+        (0x2001080000002006, 6, Kind::Reopen, Ok(0x2001080000001007)),
+        (
+            0x2001080000001007,
+            6,
+            Kind::Reopen,
+            Err(Refusal::Stale { found: 7 }),
+        ),
+        (
+            0x2001080000001007,
+            7,
+            Kind::Reopen,
+            Err(Refusal::NotFinished),
+        ),
+        (0x2001080000001007, 7, goal, Ok(0x2001080000005008)),
+        (
+            0x2001080000005008,
+            8,
+            Kind::FullTime,
+            Ok(0x2001080000006009),
+        ),
+        (0x2001080000006009, 9, Kind::KickOff, Err(Refusal::Finished)),
+        (
+            0x2000000000000000,
+            0,
+            Kind::Reopen,
+            Err(Refusal::NotFinished),
+        ),
+    ];
+    for (word, expected, kind, answer) in rows {
+        assert_eq!(rt;
+            entered(word, expected, kind),
+            Some(answer),
+            "{kind:?} at {word:x}"
+        );
+    }
+}
+
+/// A match that has no number left for full time is not reopened.
+#[test]
+fn reopened_at_the_limit(rt: HostRuntime) {
+    let goal = Kind::Goal(Side::Home);
+    let finished_4095 = 0x2001000000002fff;
+    let finished_4094 = 0x2001000000002ffe;
+    let finished_4093 = 0x2001000000002ffd;
+    let in_play_4094 = 0x2001000000001ffe;
+    let rows = [
+        (finished_4095, 4095, Kind::Reopen, Err(Refusal::NumberFull)),
+        (finished_4094, 4094, Kind::Reopen, Err(Refusal::NumberFull)),
+        (finished_4093, 4093, Kind::Reopen, Ok(in_play_4094)),
+        (in_play_4094, 4094, goal, Err(Refusal::NumberFull)),
+        (in_play_4094, 4094, Kind::Reopen, Err(Refusal::NotFinished)),
+        (in_play_4094, 4094, Kind::FullTime, Ok(finished_4095)),
+    ];
+    for (word, expected, kind, answer) in rows {
+        assert_eq!(rt;
+            entered(word, expected, kind),
+            Some(answer),
+            "{kind:?} at {word:x}"
+        );
     }
 }
 
@@ -224,6 +313,7 @@ fn texts(rt: HostRuntime) -> Result<(), Fail> {
         (Refusal::NoGoal, "6 no-goal"),
         (Refusal::NoCaution, "7 no-caution"),
         (Refusal::LimitReached, "8 limit-reached"),
+        (Refusal::NotFinished, "9 not-finished"),
     ];
     for (refusal, text) in refusals {
         assert_eq!(rt; refusal.to_string(alloc)?.as_str(), text);

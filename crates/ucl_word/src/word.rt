@@ -1,44 +1,48 @@
 //! A match as one word.
 
-ghost use Rattle.std.specs.Prelude.{◌≡◌, ◌*◌, ◌+◌, ◌^◌, ◌<◌, ◌≤◌, ◌/◌, ◌%◌, Ok, IfOk, IfErr, MatchOption};
+ghost use Rattle.std.specs.Prelude.{◌≡◌, ◌*◌, ◌+◌, ◌^◌, ◌<◌, ◌≤◌, ◌/◌, ◌%◌, ◌↔◌, IsTrue, Ok, IfOk, IfErr, MatchOption};
 ghost use Rattle.ucl_word.specs.declared.record.MatchRecord.{MatchRecord};
-ghost use Rattle.ucl_word.specs.Record.{IsValid};
-ghost use Rattle.ucl_word.specs.Layout.{word_of, record_at, state_code, state_at, bits_at, IsWord};
+ghost use Rattle.ucl_word.specs.Record.{last_number, IsValid};
+ghost use Rattle.ucl_word.specs.Layout.{layout, word_of, record_at, state_code, state_at, bits_at, IsMarked, IsWord};
 
 use crate::record::{MatchRecord, State};
 use crate::refusal::BadWord;
 
-// The lowest bit of each field, and how many bits it has. The event number is the lowest field, and the bits from
-// `FIELDS_END` on are zero.
-const NUMBER_WIDTH: u32 = 10;
+// The lowest bit of each field, and how many bits it has. The event number is the lowest field.
+const NUMBER_WIDTH: u32 = 12;
 
-const STATE_LOW: u32 = 10;
+const STATE_LOW: u32 = 12;
 
-const STATE_WIDTH: u32 = 2;
+pub(crate) const STATE_WIDTH: u32 = 2;
 
-const HOME_GOALS_LOW: u32 = 12;
+const HOME_GOALS_LOW: u32 = 14;
 
-const AWAY_GOALS_LOW: u32 = 18;
+const AWAY_GOALS_LOW: u32 = 20;
 
-const GOALS_WIDTH: u32 = 6;
+pub(crate) const GOALS_WIDTH: u32 = 6;
 
-const HOME_YELLOWS_LOW: u32 = 24;
+const HOME_YELLOWS_LOW: u32 = 26;
 
-const AWAY_YELLOWS_LOW: u32 = 30;
+const AWAY_YELLOWS_LOW: u32 = 32;
 
-const YELLOWS_WIDTH: u32 = 6;
+pub(crate) const YELLOWS_WIDTH: u32 = 6;
 
-const HOME_EXPULSIONS_LOW: u32 = 36;
+const HOME_EXPULSIONS_LOW: u32 = 38;
 
-const AWAY_EXPULSIONS_LOW: u32 = 41;
+const AWAY_EXPULSIONS_LOW: u32 = 43;
 
-const EXPULSIONS_WIDTH: u32 = 5;
+pub(crate) const EXPULSIONS_WIDTH: u32 = 5;
 
-const REPORTER_LOW: u32 = 46;
+const REPORTER_LOW: u32 = 48;
 
-const REPORTER_WIDTH: u32 = 8;
+pub(crate) const REPORTER_WIDTH: u32 = 8;
 
-const FIELDS_END: u32 = 54;
+/// The bits from here on hold the mark of the layout and nothing else.
+const FIELDS_END: u32 = 56;
+
+const MARK_LOW: u32 = 60;
+
+const MARK: u64 = 2;
 
 fn code_of(state: State) -> u64
     ensures { result ≡ state_code state }
@@ -60,11 +64,11 @@ fn put_at(value: u64, low: u32, below: u64) -> u64
     value << low | below
 }
 
-/// The word of a valid record: the sum of its fields, each times two to the power of the field's lowest bit.
+/// The word of a valid record: the sum of its fields and the mark of the layout, each times two to the power of its lowest bit.
 ///
-/// Bits 0 to 9 hold the event number, 10 to 11 the state (0 scheduled, 1 in play, 2 finished), 12 to 17 and 18 to 23
-/// the goals of the home and the visiting side, 24 to 29 and 30 to 35 their standing yellows, 36 to 40 and 41 to 45
-/// their expulsions, and 46 to 53 the reporter. Distinct valid records have distinct words.
+/// From the lowest bits on these are the event number, the state (0 scheduled, 1 in play, 2 finished), the goals of the
+/// home and the visiting side, their standing yellows, their expulsions, the reporter, and the mark, where the
+/// constants of this module have them. Distinct valid records have distinct words.
 pub fn pack(game: &MatchRecord) -> u64
     requires { IsValid game.now }
     ensures { result ≡ word_of game.now }
@@ -77,11 +81,12 @@ pub fn pack(game: &MatchRecord) -> u64
     let word = put_at(u64::from(game.away_yellows), AWAY_YELLOWS_LOW, word);
     let word = put_at(u64::from(game.home_expulsions), HOME_EXPULSIONS_LOW, word);
     let word = put_at(u64::from(game.away_expulsions), AWAY_EXPULSIONS_LOW, word);
-    put_at(u64::from(game.reporter), REPORTER_LOW, word)
+    let word = put_at(u64::from(game.reporter), REPORTER_LOW, word);
+    put_at(MARK, MARK_LOW, word)
 }
 
 /// The bits of the word from `low` on, as many as `width`.
-fn field(word: u64, low: u32, width: u32) -> u64
+pub(crate) fn field(word: u64, low: u32, width: u32) -> u64
     requires low { low < 64 }
     requires width { width < 64 }
     ensures value { result ≡ bits_at word low width }
@@ -90,7 +95,17 @@ fn field(word: u64, low: u32, width: u32) -> u64
     word >> low & (1 << width) - 1
 }
 
-fn state_of(code: u64) -> Option<State>
+/// The event number in a word, whatever its other fields hold.
+#[tactic(auto, unfolding(crate::specs::Layout::record_at))]
+#[inline]
+pub fn number_of(word: u64) -> u16
+    ensures value { result ≡ (record_at word).number }
+    ensures bound { result ≤ last_number }
+{
+    field(word, 0, NUMBER_WIDTH) as u16
+}
+
+pub(crate) fn state_of(code: u64) -> Option<State>
     ensures { MatchOption result (2 < code) (λ s. code ≡ state_code s) }
 {
     match code {
@@ -101,8 +116,15 @@ fn state_of(code: u64) -> Option<State>
     }
 }
 
-/// The valid record with this word. A word that no valid record packs to is a bad word: one with a bit set from bit
-/// 54 on, with state 3, or with fields that no match can have.
+/// Whether the mark of the layout, and nothing else, stands above the fields.
+fn is_marked(word: u64) -> bool
+    ensures { IsTrue result ↔ IsMarked layout word }
+{
+    word >> FIELDS_END == MARK << (MARK_LOW - FIELDS_END)
+}
+
+/// The valid record with this word. A word that no valid record packs to is a bad word: one whose bits from
+/// `FIELDS_END` on are not the mark, with state 3, or with fields that no match can have.
 pub fn unpack(word: u64) -> Result<MatchRecord, BadWord>
     ensures valid { IfOk result IsValid }
     ensures packed { IfOk result (λ m. word_of m ≡ word) }
@@ -124,7 +146,7 @@ pub fn unpack(word: u64) -> Result<MatchRecord, BadWord>
         away_expulsions: field(word, AWAY_EXPULSIONS_LOW, EXPULSIONS_WIDTH) as u8,
         reporter: field(word, REPORTER_LOW, REPORTER_WIDTH) as u8,
     };
-    if word >> FIELDS_END == 0 && game.is_valid() {
+    if is_marked(word) && game.is_valid() {
         Ok(game)
     } else {
         Err(BadWord)

@@ -6,18 +6,18 @@ use Rattle.std.proofs.lemmas.Option.{none-some, same_Some}
 use Rattle.std.proofs.Math.Seq.{take-append_seam}
 use Rattle.ucl_word.proofs.Sequences.{at_longer, at_either}
 use Rattle.ucl_board.specs.declared.reading.Reading.{Reading}
-use Rattle.ucl_board.specs.Fixtures.{IsMatch}
-use Rattle.ucl_board.specs.Words.{AreWords, version_of}
+use Rattle.ucl_board.specs.Words.{AreWords, greatest_version, version_of}
 use Rattle.ucl_board.specs.History.{board_of}
 use Rattle.ucl_board.proofs.Histories.{board_words}
 use Rattle.ucl_board.proofs.HistoryLaws.{versions}
-use Rattle.ucl_steps.specs.Trails.{Act, First, Second, Mark, mark, IsCollect, IsUnclean, IsClean, marks_of, ReadingMarks}
+use Rattle.ucl_board.specs.Log.{Act, First, Second, Mark, mark}
+use Rattle.ucl_steps.specs.Trails.{most_loads, IsCollect, IsUnclean, IsClean, marks_of, ReadingMarks}
 use Rattle.ucl_steps.specs.Laws.{IsReadFrom}
 use Rattle.ucl_steps.proofs.Lists.{get_some}
 use Rattle.ucl_steps.proofs.Marks.{collect_none, collect_more, collect_set, unclean_try, clean_shows, reading_whole}
 use Rattle.ucl_pass.specs.Passes.{Continues, SharedReading}
-use Rattle.ucl_words.specs.declared.view.View.{View}
-use Rattle.ucl_words.specs.Views.{known_of}
+use Rattle.ucl_pass.specs.declared.view.View.{View}
+use Rattle.ucl_pass.specs.Views.{known_of, count_of, trail_of}
 use Rattle.ucl_words.specs.WordSteps.{Loads, LoadsLast, no_mark, twelfth_first, version_shown}
 use Rattle.ucl_words.specs.Collects.{Walks, Collects, HasCollected, FindsAgain, FindsAnother}
 use Rattle.ucl_words.specs.WordCalls.{IsSteady, ReadingSteps}
@@ -41,11 +41,8 @@ module _ (act : Act) (v x w : View) (words : List ℕ) (i n : ℕ) (below : i < 
   abbrev new_mark : Mark
   new_mark = mark act (i + 1) n (length w.seen)
 
-  is_match : IsMatch (i + 1)
-  is_match = (omega arith, omega arith)
-
   pub more_walks : Walks v (was.marks ++ new_mark ∷ []) w
-  more_walks = walks_on v x w was.marks (new_mark ∷ []) was.walks (walks_load act (i + 1) n x w is_match was.walks.steady loads.loads)
+  more_walks = walks_on v x w was.marks (new_mark ∷ []) was.walks (walks_load act (i + 1) n x w was.walks.steady loads.loads)
 
   more_last : (m : Mark) → slice_get (was.marks ++ new_mark ∷ []) 11 ≡ Some m → m.at ≡ length w.seen
   more_last m e = elim (at_either was.marks new_mark 11 m e) [
@@ -98,7 +95,7 @@ pub collects_all : (v w : View) (words : List ℕ) → Collected First v words 1
 collects_all v w words all = record { marks = all.marks; walks = all.walks; collect = record { twelve = all.many; words_are = all.words_are; last = all.last }; shown = all.shown }
 
 pub has_collected : (v w : View) (words : List ℕ) → Collects v words w → HasCollected words w
-has_collected v w words c = record { before = v.trail; marks = c.marks; trail = c.walks.leaves.trail; collect = c.collect }
+has_collected v w words c = record { before = trail_of v; marks = c.marks; trail = c.walks.leaves.trail; collect = c.collect }
 
 -- what the last load of a second collect shows
 
@@ -124,9 +121,9 @@ module _ (v x w : View) (words : List ℕ) (n : ℕ) (collected : HasCollected w
   last_mark = mark Second 12 n (length w.seen)
 
   last_walks : Walks v (was.marks ++ last_mark ∷ []) w
-  last_walks = walks_on v x w was.marks (last_mark ∷ []) was.walks (walks_load Second 12 n x w (omega arith, omega arith) was.walks.steady loads.loads)
+  last_walks = walks_on v x w was.marks (last_mark ∷ []) was.walks (walks_load Second 12 n x w was.walks.steady loads.loads)
 
-  last_first : (m : Mark) × (twelfth_first x.trail ≡ m) × (m.found ≡ slice_index words 11) × (m.at ≡ length v.seen)
+  last_first : (m : Mark) × (twelfth_first (trail_of x) ≡ m) × (m.found ≡ slice_index words 11) × (m.at ≡ length v.seen)
   last_first =
       let c = collected.collect in
       let twelve = c.twelve in
@@ -137,7 +134,7 @@ module _ (v x w : View) (words : List ℕ) (n : ℕ) (collected : HasCollected w
         c.last f.0 f.1,
       )
 
-  shown_by : version_shown x.trail n ≡ cond (n == slice_index words 11) (length v.seen ∷ []) []
+  shown_by : version_shown (trail_of x) n ≡ cond (n == slice_index words 11) (length v.seen ∷ []) []
   shown_by = let f = last_first in ap (λ (m : Mark). cond (n == m.found) (m.at ∷ []) []) f.1 ∙ (ap (λ (k : ℕ). cond (n == k) (f.0.at ∷ []) []) f.2 ∙ ap (λ (k : ℕ). cond (n == slice_index words 11) (k ∷ []) []) f.3)
 
   pub finds_again : n ≡ slice_index words 11 → FindsAgain v words w
@@ -195,7 +192,7 @@ module _ (x u w : View) (words : List ℕ) (collects : Collects x words u) (anot
   is_unclean : IsUnclean (collects.marks ++ another.marks)
   is_unclean = record { words = words; firsts = collects.marks; seconds = another.marks; marks = refl; twelve = collects.collect.twelve; collected = collects.collect.words_are; broken = another.broken }
 
-  pub tried_longer : (length x.seen < length w.seen) × (length w.seen ≤ 12276)
+  pub tried_longer : (length x.seen < length w.seen) × (length w.seen ≤ greatest_version)
   tried_longer = ((unclean_try w.seen (length x.seen) (length w.seen) (collects.marks ++ another.marks) both_walks.leaves.follows is_unclean).0, (versions w.seen both_walks.steady.sound.legal).1)
 
   pub tried_again : (v : View) → Tried v x → Tried v w
@@ -212,8 +209,8 @@ pub record Reads (v : View) (reading : Reading) (w : View) : Type 0 where
   pub always : Continues (known_of v) (known_of w)
   pub shared : SharedReading (known_of v) reading (known_of w)
   pub steps : ReadingSteps v reading w
-  pub least : v.taken + 24 ≤ w.taken
-  pub most : w.taken ≤ v.taken + 294648
+  pub least : count_of v + 24 ≤ count_of w
+  pub most : count_of w ≤ count_of v + most_loads
 
 -- the clean try
 module _ (x u w : View) (words : List ℕ) (long : length words ≡ 12) (collects : Collects x words u) (again : FindsAgain u words w) where

@@ -19,12 +19,13 @@ use Rattle.ucl_steps.specs.declared.step.Call.TheVariants as calls
 use Rattle.ucl_steps.specs.declared.trace.Reply.{Reply}
 use Rattle.ucl_steps.specs.declared.trace.Reply.TheVariants as replies
 use Rattle.ucl_steps.specs.Machine.{may_begin}
-use Rattle.ucl_steps.specs.Trails.{Mark, Follows, ReportMarks, ReadingMarks}
+use Rattle.ucl_board.specs.Log.{Mark}
+use Rattle.ucl_steps.specs.Trails.{Follows, ReportMarks, ReadingMarks}
 use Rattle.ucl_steps.specs.Marking.{IsAtRest, NoneOwn, history_after, Leaves}
 use Rattle.ucl_steps.proofs.Calls.{calls_made}
 use Rattle.ucl_pass.specs.Passes.{entries_by}
 use Rattle.ucl_pass.proofs.Lists.{begins_same, by_more, by_own}
-use Rattle.ucl_words.specs.declared.view.View.{View}
+use Rattle.ucl_pass.specs.declared.view.View.{View}
 use Rattle.ucl_words.specs.WordMachine.{IsCallerOf, IsMadeByMachine, IsAlong}
 use Rattle.ucl_words.specs.Collects.{Walks}
 use Rattle.ucl_words.specs.WordCalls.{IsSteady}

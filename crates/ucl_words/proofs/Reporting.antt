@@ -18,17 +18,19 @@ use Rattle.ucl_board.specs.Fixtures.{IsMatch}
 use Rattle.ucl_board.specs.Words.{word_at}
 use Rattle.ucl_board.specs.History.{board_of, IsLegal, followed_by, entry_of, sequential_reply}
 use Rattle.ucl_board.proofs.HistoryLaws.{beginnings}
-use Rattle.ucl_board.proofs.Histories.{game_after, next_board, accepted_reply, refused_reply}
-use Rattle.ucl_steps.specs.Trails.{Look, Swap, Mark, mark, Follows, ReportMarks}
+use Rattle.ucl_board.proofs.Histories.{word_after, game_after, next_board, accepted_reply, refused_reply}
+use Rattle.ucl_board.specs.Log.{Look, Swap, Mark, mark, Match, Taken, step_taken}
+use Rattle.ucl_steps.specs.Trails.{Follows, ReportMarks}
 use Rattle.ucl_steps.proofs.Marks.{follows_longer, follows_wider, follows_append, follows_one, report_whole}
 use Rattle.ucl_pass.specs.Passes.{Continues, AcceptedReport, RefusedReport}
 use Rattle.ucl_pass.proofs.Lists.{begins_same, begins_more, begins_through, begins_length}
-use Rattle.ucl_words.specs.declared.view.View.{View}
-use Rattle.ucl_words.specs.Views.{known_of}
+use Rattle.ucl_pass.specs.declared.view.View.{View}
+use Rattle.ucl_pass.specs.Views.{known_of, trail_of, Takes}
+use Rattle.ucl_pass.proofs.Calls.{takes_on, takes_count}
 use Rattle.ucl_words.specs.WordSteps.{Loads, ExchangeMissed, ExchangeWon, IsNextWord}
 use Rattle.ucl_words.specs.Collects.{Walks}
-use Rattle.ucl_words.specs.WordCalls.{HasTrail, IsSteady, ReportSteps}
-use Rattle.ucl_words.proofs.Walking.{trail_on, found_word, walks_on, walks_load}
+use Rattle.ucl_words.specs.WordCalls.{HasTrail, IsSteady, steps_with, ReportSteps}
+use Rattle.ucl_words.proofs.Walking.{trail_on, takes_trail, walks_on, walks_load}
 use Rattle.ucl_words.proofs.Joining.{refused_joined, accepted_joined}
 
 -- the word of the record with one event more, whatever the history is
@@ -46,7 +48,7 @@ module _ (v u : View) (call : EventCall) (loaded : ℕ) (is : IsMatch call.game)
   look_mark = mark Look call.game loaded (length u.seen)
 
   pub look_walks : Walks v (look_mark ∷ []) u
-  look_walks = walks_load Look call.game loaded v u is steady looked.loads
+  look_walks = walks_load Look call.game loaded v u steady looked.loads
 
   -- on whose word the rules refuse
   module _ (refusal : Refusal) (refused : refusal_of (record_at loaded) call.expected call.kind ≡ Some refusal) where
@@ -56,7 +58,7 @@ module _ (v u : View) (call : EventCall) (loaded : ℕ) (is : IsMatch call.game)
     pub look_steps : ReportSteps v call (Err refusal) u
     look_steps =
         let both = refused_joined v u call refusal (look_mark ∷ []) me.0 me.1 is steady look_walks look_report in
-        record { marks = look_mark ∷ []; leaves = look_walks.leaves; report = look_report; machine = both.machine; along = both.along }
+        record { may = (me, is); marks = look_mark ∷ []; leaves = look_walks.leaves; report = look_report; machine = both.machine; along = both.along }
 
     pub look_refuses : RefusedReport (known_of v) call refusal (known_of u)
     look_refuses = record {
@@ -77,7 +79,7 @@ module _ (v u : View) (call : EventCall) (loaded : ℕ) (is : IsMatch call.game)
       swap_mark = mark Swap call.game found (length z.seen)
 
       pub miss_walks : Walks v (look_mark ∷ swap_mark ∷ []) z
-      miss_walks = walks_on v u z (look_mark ∷ []) (swap_mark ∷ []) look_walks (walks_load Swap call.game found u z is look_walks.steady missed.loads)
+      miss_walks = walks_on v u z (look_mark ∷ []) (swap_mark ∷ []) look_walks (walks_load Swap call.game found u z look_walks.steady missed.loads)
 
       miss_report : (refusal : Refusal) → refusal ≡ Stale (record_at found).number → ReportMarks call (Err refusal) (look_mark ∷ swap_mark ∷ []) (length z.seen)
       miss_report refusal stale = inr (record { looked = look_mark; swapped = swap_mark; marks = refl; acts = ((refl, refl), (refl, refl)); may = may; other = other; answer = stale; last = refl })
@@ -85,7 +87,7 @@ module _ (v u : View) (call : EventCall) (loaded : ℕ) (is : IsMatch call.game)
       pub miss_steps : (refusal : Refusal) → refusal ≡ Stale (record_at found).number → ReportSteps v call (Err refusal) z
       miss_steps refusal stale =
           let both = refused_joined v z call refusal (look_mark ∷ swap_mark ∷ []) me.0 me.1 is steady miss_walks (miss_report refusal stale) in
-          record { marks = look_mark ∷ swap_mark ∷ []; leaves = miss_walks.leaves; report = miss_report refusal stale; machine = both.machine; along = both.along }
+          record { may = (me, is); marks = look_mark ∷ swap_mark ∷ []; leaves = miss_walks.leaves; report = miss_report refusal stale; machine = both.machine; along = both.along }
 
       pub miss_refuses : (refusal : Refusal) → refusal ≡ Stale (record_at found).number → RefusedReport (known_of v) call refusal (known_of z)
       miss_refuses refusal stale = record {
@@ -101,36 +103,42 @@ module _ (v u : View) (call : EventCall) (loaded : ℕ) (is : IsMatch call.game)
       won_mark = mark Swap call.game found (length won.before)
 
       since : IsPrefix v.seen won.before
-      since = begins_through v.seen u.seen won.before look_walks.on.seen won.seen
+      since = begins_through v.seen u.seen won.before look_walks.on.seen won.adds.since
 
       begun : IsPrefix won.before z.seen
-      begun = subst (λ (h : List Entry). IsPrefix won.before h) (sym won.last) (begins_more won.before won.before (entry_of (v.number, call)) (begins_same won.before))
+      begun = subst (λ (h : List Entry). IsPrefix won.before h) (sym won.adds.last) (begins_more won.before won.before (entry_of (v.number, call)) (begins_same won.before))
 
       one_more : length z.seen ≡ length won.before + 1
-      one_more = ap length won.last ∙ length-append won.before (entry_of (v.number, call) ∷ [])
+      one_more = ap length won.adds.last ∙ length-append won.before (entry_of (v.number, call) ∷ [])
 
       won_follows : Follows z.seen (length v.seen) (look_mark ∷ won_mark ∷ []) (length z.seen)
       won_follows =
           let n = one_more in
           let one : Follows won.before (length u.seen) (won_mark ∷ []) (length won.before) =
-          follows_one won.before (length u.seen) won_mark (begins_length u.seen won.before won.seen) refl (found_word won.before call.game found is won.word) in
+          follows_one won.before (length u.seen) won_mark (begins_length u.seen won.before won.adds.since) refl won.adds.there.1 in
           let both : Follows won.before (length v.seen) (look_mark ∷ won_mark ∷ []) (length won.before) =
           follows_append won.before (length v.seen) (length u.seen) (length won.before) (look_mark ∷ []) (won_mark ∷ [])
-          (follows_longer u.seen won.before (length v.seen) (length u.seen) (look_mark ∷ []) won.seen (le_refl (length u.seen)) look_walks.leaves.follows) one in
+          (follows_longer u.seen won.before (length v.seen) (length u.seen) (look_mark ∷ []) won.adds.since (le_refl (length u.seen)) look_walks.leaves.follows) one in
           follows_wider z.seen (length v.seen) (length v.seen) (length won.before) (length z.seen) (look_mark ∷ won_mark ∷ []) (le_refl (length v.seen)) (omega arith)
           (follows_longer won.before z.seen (length v.seen) (length won.before) (look_mark ∷ won_mark ∷ []) begun (le_refl (length won.before)) both)
 
-      won_trail : z.trail ≡ v.trail ++ look_mark ∷ won_mark ∷ []
-      won_trail = won.trail ∙ (ap (λ (t : List Mark). t ++ won_mark ∷ []) look_walks.leaves.trail ∙ append_assoc v.trail (look_mark ∷ []) (won_mark ∷ []))
+      abbrev won_step : Taken
+      won_step = step_taken (Match Swap call.game found) (length won.before) (Some (entry_of (v.number, call)))
+
+      won_trail : trail_of z ≡ trail_of v ++ look_mark ∷ won_mark ∷ []
+      won_trail = takes_trail u z (won_step ∷ []) won.adds.takes ∙ (ap (λ (t : List Mark). t ++ won_mark ∷ []) look_walks.leaves.trail ∙ append_assoc (trail_of v) (look_mark ∷ []) (won_mark ∷ []))
+
+      won_takes : Takes v (steps_with (Some (entry_of (v.number, call))) (look_mark ∷ won_mark ∷ [])) z
+      won_takes = takes_on v u z (steps_with None (look_mark ∷ [])) (won_step ∷ []) look_walks.leaves.takes won.adds.takes
 
       won_whole : HasTrail z
       won_whole = subst (λ (t : List Mark). Follows z.seen 0 t (length z.seen)) (sym won_trail)
-          (trail_on v.seen z.seen v.trail (look_mark ∷ won_mark ∷ []) (begins_through v.seen won.before z.seen since begun) steady.trail won_follows)
+          (trail_on v.seen z.seen (trail_of v) (look_mark ∷ won_mark ∷ []) (begins_through v.seen won.before z.seen since begun) steady.trail won_follows)
 
       pub won_steady : IsSteady z
       won_steady = record {
-        sound = record { legal = won.legal; own = won.own; few = (let a = steady.sound.few in let b = looked.loads.listed in let d = won.listed in omega arith) };
-        kept = won.kept;
+        sound = record { legal = won.adds.goes.legal; own = won.adds.goes.own; few = won.adds.goes.few };
+        kept = won.adds.goes.kept;
         trail = won_whole;
       }
 
@@ -138,24 +146,25 @@ module _ (v u : View) (call : EventCall) (loaded : ℕ) (is : IsMatch call.game)
       won_continues = record {
         sound = won_steady.sound;
         on = record { seen = begins_through v.seen won.before z.seen since begun; listed = (let b = looked.loads.listed in let d = won.listed in omega arith) };
-        number = won.number ∙ look_walks.number;
+        number = won.adds.number ∙ look_walks.number;
       }
 
       before_legal : IsLegal won.before
-      before_legal = beginnings won.before (entry_of (v.number, call) ∷ []) (subst IsLegal won.last won.legal)
+      before_legal = beginnings won.before (entry_of (v.number, call) ∷ []) (subst IsLegal won.adds.last won.adds.goes.legal)
 
       won_mine : z.mine ≡ followed_by v.mine (entry_of (v.number, call))
-      won_mine = won.mine ∙ ap (λ (l : List Entry). followed_by l (entry_of (v.number, call))) look_walks.mine
+      won_mine = won.adds.mine ∙ ap (λ (l : List Entry). followed_by l (entry_of (v.number, call))) look_walks.mine
 
       won_report : ReportMarks call (Ok reply) (look_mark ∷ won_mark ∷ []) (length z.seen)
       won_report = record { looked = look_mark; swapped = won_mark; marks = refl; acts = ((refl, refl), (refl, refl)); answer = accepts; same = same; last = sym one_more }
 
       pub won_steps : ReportSteps v call (Ok reply) z
       won_steps =
-          let both = accepted_joined v z call reply (look_mark ∷ won_mark ∷ []) won.before me.0 me.1 is steady won_steady won.last since before_legal won_mine (won.number ∙ look_walks.number) won_follows won_report in
+          let both = accepted_joined v z call reply (look_mark ∷ won_mark ∷ []) won.before me.0 me.1 is steady won_steady won.adds.last since before_legal won_mine (won.adds.number ∙ look_walks.number) won_follows won_report in
           record {
+            may = (me, is);
             marks = look_mark ∷ won_mark ∷ [];
-            leaves = record { trail = won_trail; taken = (let a = look_walks.leaves.taken in let b = won.taken in omega arith); follows = won_follows; whole = won_whole };
+            leaves = record { takes = won_takes; trail = won_trail; taken = takes_count v z (steps_with (Some (entry_of (v.number, call))) (look_mark ∷ won_mark ∷ [])) won_takes; follows = won_follows; whole = won_whole };
             report = won_report;
             machine = both.machine;
             along = both.along;
@@ -164,11 +173,11 @@ module _ (v u : View) (call : EventCall) (loaded : ℕ) (is : IsMatch call.game)
       pub won_accepts : AcceptedReport (known_of v) call reply (known_of z)
       won_accepts = record {
         before = won.before;
-        last = won.last;
+        last = won.adds.last;
         since = since;
-        answer = ap (λ (m : MatchRecord). reply_of m call) (sym (ap record_at (sym same ∙ won.word) ∙ game_after won.before call.game before_legal is)) ∙ accepts;
+        answer = ap (λ (m : MatchRecord). reply_of m call) (sym (ap record_at (sym same ∙ (won.adds.there.1 ∙ sym (word_after won.before call.game is))) ∙ game_after won.before call.game before_legal is)) ∙ accepts;
         mine = won_mine;
-        shown = won.shown ∙ looked.shown;
+        shown = won.adds.shown ∙ looked.shown;
       }
 
 -- what the rules accept

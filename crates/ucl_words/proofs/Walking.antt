@@ -1,21 +1,24 @@
 -- Steps on match words, one after another.
-use Rattle.std.proofs.Common.{◌≡◌, ℕ, List, [], ◌∷◌, ◌++◌, length, refl, sym, ap, ◌∙◌, subst, arith, le_refl, append_assoc, append-nil, length-append}
+use Rattle.std.proofs.Common.{◌≡◌, ℕ, ◌+◌, List, [], ◌∷◌, ◌++◌, length, map, Option, None, refl, sym, ap, ◌∙◌, subst, arith, le_refl, append_assoc, append-nil, length-append}
+use Rattle.std.proofs.lemmas.List.{map-append}
 use mathlib.Core.List.{IsPrefix}
 use Rattle.ucl_word.specs.Layout.{word_of, IsWord}
 use Rattle.ucl_board.specs.declared.entry.Entry.{Entry}
 use Rattle.ucl_board.specs.Fixtures.{IsMatch}
-use Rattle.ucl_board.specs.Words.{word_at}
-use Rattle.ucl_board.specs.History.{match_after, board_of, IsLegal}
-use Rattle.ucl_board.proofs.Histories.{word_after, match_valid}
-use Rattle.ucl_steps.specs.Trails.{Act, Mark, mark, Follows}
+use Rattle.ucl_board.specs.History.{match_after, IsLegal}
+use Rattle.ucl_board.specs.Log.{Act, Mark, mark, Match, Taken, step_taken, marks_in, IsThere}
+use Rattle.ucl_board.proofs.Histories.{match_valid}
+use Rattle.ucl_board.proofs.Logs.{marks_append}
+use Rattle.ucl_steps.specs.Trails.{Follows}
 use Rattle.ucl_steps.proofs.Marks.{follows_longer, follows_wider, follows_append, follows_one}
+use Rattle.ucl_pass.specs.declared.view.View.{View}
 use Rattle.ucl_pass.specs.Passes.{Continues}
+use Rattle.ucl_pass.specs.Views.{known_of, steps_of, count_of, trail_of, Takes}
 use Rattle.ucl_pass.proofs.Lists.{begins_same, begins_through, begins_length}
-use Rattle.ucl_words.specs.declared.view.View.{View}
-use Rattle.ucl_words.specs.Views.{known_of}
+use Rattle.ucl_pass.proofs.Calls.{takes_none, takes_on, takes_count}
 use Rattle.ucl_words.specs.WordSteps.{LoadsMatch}
 use Rattle.ucl_words.specs.Collects.{Walks}
-use Rattle.ucl_words.specs.WordCalls.{HasTrail, IsSteady}
+use Rattle.ucl_words.specs.WordCalls.{HasTrail, IsSteady, steps_with}
 
 -- marks that follow what a trail has, over a history that is longer
 pub trail_on : (s h : List Entry) (old new : List Mark) → IsPrefix s h → Follows s 0 old (length s) → Follows h (length s) new (length h) → Follows h 0 (old ++ new) (length h)
@@ -25,13 +28,30 @@ trail_on s h old new p was more = follows_append h 0 (length s) (length h) old n
 pub trail_longer : (s h : List Entry) (trail : List Mark) → IsPrefix s h → Follows s 0 trail (length s) → Follows h 0 trail (length h)
 trail_longer s h trail p was = follows_wider h 0 0 (length s) (length h) trail (le_refl 0) (begins_length s h p) (follows_longer s h 0 (length s) trail p (le_refl (length s)) was)
 
+-- the trail after some steps
+pub takes_trail : (v w : View) (steps : List Taken) → Takes v steps w → trail_of w ≡ trail_of v ++ marks_in steps
+takes_trail v w steps t =
+    ap marks_in ((λ i. t.copied i ++ t.own i) ∙ sym (append_assoc v.copied v.own steps)) ∙ marks_append (v.copied ++ v.own) steps
+
+-- steps that add no entry
+abbrev plain : Mark → Taken
+plain m = step_taken (Match m.act m.game m.found) m.at None
+
+all_plain : (ms : List Mark) → steps_with None ms ≡ map plain ms
+all_plain [] = refl
+all_plain (m ∷ []) = refl
+all_plain (m ∷ n ∷ ms) = ap (λ (l : List Taken). plain m ∷ l) (all_plain (n ∷ ms))
+
+pub plain_append : (ms ns : List Mark) → steps_with None (ms ++ ns) ≡ steps_with None ms ++ steps_with None ns
+plain_append ms ns = all_plain (ms ++ ns) ∙ (map-append plain ms ns ∙ sym (λ i. all_plain ms i ++ all_plain ns i))
+
 pub walks_none : (v : View) → IsSteady v → Walks v [] v
 walks_none v steady = record {
   steady = steady;
   on = record { seen = begins_same v.seen; listed = le_refl v.listed };
   mine = refl;
   number = refl;
-  leaves = record { trail = sym (append-nil v.trail); taken = omega arith; follows = le_refl (length v.seen); whole = steady.trail };
+  leaves = record { takes = takes_none v; trail = sym (append-nil (trail_of v)); taken = omega arith; follows = le_refl (length v.seen); whole = steady.trail };
 }
 
 pub walks_on : (u v w : View) (ms ns : List Mark) → Walks u ms v → Walks v ns w → Walks u (ms ++ ns) w
@@ -41,34 +61,40 @@ walks_on u v w ms ns a b = record {
   mine = b.mine ∙ a.mine;
   number = b.number ∙ a.number;
   leaves = record {
-    trail = b.leaves.trail ∙ (ap (λ (x : List Mark). x ++ ns) a.leaves.trail ∙ append_assoc u.trail ms ns);
+    takes = subst (λ (l : List Taken). Takes u l w) (sym (plain_append ms ns)) (takes_on u v w (steps_with None ms) (steps_with None ns) a.leaves.takes b.leaves.takes);
+    trail = b.leaves.trail ∙ (ap (λ (x : List Mark). x ++ ns) a.leaves.trail ∙ append_assoc (trail_of u) ms ns);
     taken = (let s = a.leaves.taken in let t = b.leaves.taken in omega (arith, length-append ms ns));
     follows = follows_append w.seen (length u.seen) (length v.seen) (length w.seen) ms ns (follows_longer v.seen w.seen (length u.seen) (length v.seen) ms b.on.seen (le_refl (length v.seen)) a.leaves.follows) b.leaves.follows;
     whole = b.leaves.whole;
   };
 }
 
--- a word that a load found, as that of its match
-pub found_word : (h : List Entry) (game n : ℕ) → IsMatch game → n ≡ word_at (board_of h) game → n ≡ word_of (match_after h game)
-found_word h game n is word = word ∙ word_after h game is
-
-pub found_valid : (h : List Entry) (game n : ℕ) → IsMatch game → IsLegal h → n ≡ word_at (board_of h) game → IsWord n
-found_valid h game n is legal word = record { of = match_after h game; valid = match_valid game h legal; packed = sym (found_word h game n is word) }
+-- a word that a load found is that of a valid record
+pub found_valid : (h : List Entry) (game n : ℕ) → IsLegal h → IsMatch game → n ≡ word_of (match_after h game) → IsWord n
+found_valid h game n legal is word = record { of = match_after h game; valid = match_valid game h legal; packed = sym word }
 
 -- one load of a match word
-pub walks_load : (act : Act) (game n : ℕ) (v w : View) → IsMatch game → IsSteady v → LoadsMatch act game v n w → Walks v (mark act game n (length w.seen) ∷ []) w
-walks_load act game n v w is steady l =
+module _ (act : Act) (game n : ℕ) (v w : View) (l : LoadsMatch act game v n w) where
+  pub load_trail : trail_of w ≡ trail_of v ++ mark act game n (length w.seen) ∷ []
+  load_trail = takes_trail v w (step_taken (Match act game n) (length w.seen) None ∷ []) l.sees.takes
+
+  pub load_taken : count_of w ≡ count_of v + 1
+  load_taken = takes_count v w (step_taken (Match act game n) (length w.seen) None ∷ []) l.sees.takes
+
+pub walks_load : (act : Act) (game n : ℕ) (v w : View) → IsSteady v → LoadsMatch act game v n w → Walks v (mark act game n (length w.seen) ∷ []) w
+walks_load act game n v w steady l =
     let m : Mark = mark act game n (length w.seen) in
-    let one : Follows w.seen (length v.seen) (m ∷ []) (length w.seen) = follows_one w.seen (length v.seen) m (begins_length v.seen w.seen l.sees.seen) refl (found_word w.seen game n is l.word) in
-    let whole : HasTrail w = subst (λ (t : List Mark). Follows w.seen 0 t (length w.seen)) (sym l.trail) (trail_on v.seen w.seen v.trail (m ∷ []) l.sees.seen steady.trail one) in
+    let goes = l.sees.goes in
+    let one : Follows w.seen (length v.seen) (m ∷ []) (length w.seen) = follows_one w.seen (length v.seen) m (begins_length v.seen w.seen goes.seen) refl l.sees.there.1 in
+    let whole : HasTrail w = subst (λ (t : List Mark). Follows w.seen 0 t (length w.seen)) (sym (load_trail act game n v w l)) (trail_on v.seen w.seen (trail_of v) (m ∷ []) goes.seen steady.trail one) in
     let few = steady.sound.few in
     let listed = l.listed in
     record {
-      steady = record { sound = record { legal = l.sees.legal; own = l.sees.own; few = omega arith }; kept = l.sees.kept; trail = whole };
-      on = record { seen = l.sees.seen; listed = omega arith };
+      steady = record { sound = record { legal = goes.legal; own = goes.own; few = goes.few }; kept = goes.kept; trail = whole };
+      on = record { seen = goes.seen; listed = omega arith };
       mine = l.sees.mine;
       number = l.sees.number;
-      leaves = record { trail = l.trail; taken = l.sees.taken; follows = one; whole = whole };
+      leaves = record { takes = l.sees.takes; trail = load_trail act game n v w l; taken = load_taken act game n v w l; follows = one; whole = whole };
     }
 
 pub walks_continue : (v w : View) (ms : List Mark) → Walks v ms w → Continues (known_of v) (known_of w)

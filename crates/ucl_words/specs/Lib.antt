@@ -1,4 +1,3 @@
-pub mod Views
 pub mod WordRule
 pub mod WordSteps
 pub mod Laws

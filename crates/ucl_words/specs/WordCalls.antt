@@ -1,20 +1,25 @@
 -- What a call of the word board says of the steps that it takes, one by one: the pass was v and is w.
-use Rattle.std.specs.Prelude.{◌≡◌, ◌+◌, ◌≤◌, List, [], ◌++◌, length, take, Result}
+use Rattle.std.specs.Prelude.{◌≡◌, ℕ, ◌+◌, ◌≤◌, List, [], ◌∷◌, ◌++◌, length, take, Option, Some, None, Result, Ok, Err}
 use Rattle.ucl_word.specs.declared.event.EventCall.{EventCall}
 use Rattle.ucl_word.specs.declared.event.Accepted.{Accepted}
 use Rattle.ucl_word.specs.declared.refusal.Refusal.{Refusal}
+use Rattle.ucl_board.specs.declared.entry.Entry.{Entry}
 use Rattle.ucl_board.specs.declared.reading.Reading.{Reading}
+use Rattle.ucl_board.specs.History.{entry_of}
+use Rattle.ucl_board.specs.Log.{Mark, Match, Taken, step_taken}
 use Rattle.ucl_steps.specs.declared.step.Call.TheVariants as calls
 use Rattle.ucl_steps.specs.declared.trace.Reply.TheVariants as replies
-use Rattle.ucl_steps.specs.Trails.{Mark, Follows, ReportMarks, decided_at, ReadingMarks}
+use Rattle.ucl_steps.specs.LogRuns.{MayAsk}
+use Rattle.ucl_steps.specs.Trails.{Follows, ReportMarks, decided_at, most_tries, ReadingMarks}
+use Rattle.ucl_pass.specs.declared.view.View.{View}
 use Rattle.ucl_pass.specs.Passes.{IsSound}
-use Rattle.ucl_words.specs.declared.view.View.{View}
-use Rattle.ucl_words.specs.Views.{known_of}
+use Rattle.ucl_pass.specs.Views.{known_of, count_of, trail_of, Takes}
+use Rattle.ucl_pass.specs.CallSteps.{EnlistSteps}
 use Rattle.ucl_words.specs.WordMachine.{report_reply, IsMadeByMachine, IsAlong}
 
 -- along the whole trail the places never fall, and each word that was found is that of its match at its place
 abbrev pub HasTrail : View → Type 0
-HasTrail v = Follows v.seen 0 v.trail (length v.seen)
+HasTrail v = Follows v.seen 0 (trail_of v) (length v.seen)
 
 -- what holds of a pass between calls
 pub record IsSteady (v : View) : Type 0 where
@@ -22,31 +27,46 @@ pub record IsSteady (v : View) : Type 0 where
   pub kept : v.kept ≡ []
   pub trail : HasTrail v
 
--- the steps of a call are on match words alone: each leaves one mark, and these are between what was seen before and what is seen after
-pub record LeavesMarks (v : View) (marks : List Mark) (w : View) : Type 0 where
-  pub trail : w.trail ≡ v.trail ++ marks
-  pub taken : w.taken ≡ v.taken + length marks
+-- the steps of marks, of which the last may have added an entry
+abbrev pub steps_with : Option Entry → List Mark → List Taken
+steps_with entry [] = []
+steps_with entry (m ∷ []) = step_taken (Match m.act m.game m.found) m.at entry ∷ []
+steps_with entry (m ∷ n ∷ ms) = step_taken (Match m.act m.game m.found) m.at None ∷ steps_with entry (n ∷ ms)
+
+-- the steps of a call are on match words alone: each leaves one mark, these are between what was seen before and what is seen after, and
+-- the last may have added an entry
+pub record LeavesMarks (v : View) (marks : List Mark) (entry : Option Entry) (w : View) : Type 0 where
+  pub takes : Takes v (steps_with entry marks) w
+  pub trail : trail_of w ≡ trail_of v ++ marks
+  pub taken : count_of w ≡ count_of v + length marks
   pub follows : Follows w.seen (length v.seen) marks (length w.seen)
   pub whole : HasTrail w
 
+-- the entry of an accepted event
+abbrev pub entry_added : ℕ → EventCall → Result Accepted Refusal → Option Entry
+entry_added number call (Ok reply) = Some (entry_of (number, call))
+entry_added number call (Err refusal) = None
+
 -- the steps of a report, each of them a step of the machine
 pub record ReportSteps (v : View) (call : EventCall) (reply : Result Accepted Refusal) (w : View) : Type 0 where
+  pub may : MayAsk v.number (calls.Event call)
   pub marks : List Mark
-  pub leaves : LeavesMarks v marks w
+  pub leaves : LeavesMarks v marks (entry_added v.number call reply) w
   pub report : ReportMarks call reply marks (length w.seen)
   pub machine : IsMadeByMachine v (calls.Event call) (report_reply reply) marks (take (decided_at reply (length w.seen)) w.seen)
   pub along : IsAlong v (calls.Event call) (report_reply reply) marks (take (decided_at reply (length w.seen)) w.seen) w
 
--- the steps of a reading, each of them a step of the machine, in at most 12,277 tries
+-- the steps of a reading, each of them a step of the machine, in no more than the most tries
 pub record ReadingSteps (v : View) (reading : Reading) (w : View) : Type 0 where
   pub marks : List Mark
-  pub leaves : LeavesMarks v marks w
+  pub leaves : LeavesMarks v marks None w
   pub collects : ReadingMarks reading marks
-  pub few : length collects.tries + 1 ≤ 12277
+  pub few : length collects.tries + 1 ≤ most_tries
   pub machine : IsMadeByMachine v calls.Reading (replies.Copied reading) marks w.seen
   pub along : IsAlong v calls.Reading (replies.Copied reading) marks w.seen w
 
--- a call that leaves no mark
+-- a call that leaves no mark: its steps are on the number of enlisted reporters alone
 pub record KeepsTrail (v w : View) : Type 0 where
-  pub trail : w.trail ≡ v.trail
+  pub steps : EnlistSteps v w
+  pub trail : trail_of w ≡ trail_of v
   pub whole : HasTrail w

@@ -10,10 +10,10 @@ use Rattle.ucl_steps.specs.declared.step.Call.{Call}
 use Rattle.ucl_steps.specs.declared.trace.Reply.{Reply}
 use Rattle.ucl_steps.specs.declared.trace.Reply.TheVariants as replies
 use Rattle.ucl_steps.specs.Machine.{MachineState}
-use Rattle.ucl_steps.specs.Trails.{Mark}
+use Rattle.ucl_board.specs.Log.{Mark}
 use Rattle.ucl_steps.specs.Marking.{IsInCast, IsAtRest, IsMadeBySteps}
 use Rattle.ucl_steps.specs.Together.{CallMade, after_call, IsCallAlong}
-use Rattle.ucl_words.specs.declared.view.View.{View}
+use Rattle.ucl_pass.specs.declared.view.View.{View}
 
 -- the answer of a report, as the machine's reply
 abbrev pub report_reply : Result Accepted Refusal → Reply

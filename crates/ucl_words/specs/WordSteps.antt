@@ -1,32 +1,19 @@
 -- What each kind of atomic step on the table tells its pass: v before and w after, and n the word that was found.
-use Rattle.std.specs.Prelude.{◌≡◌, ◌≢◌, ℕ, ◌+◌, ◌-◌, ◌==◌, ◌≤◌, List, [], ◌∷◌, ◌++◌, All, length, slice_set, slice_index_or, if◌then◌else◌}
-use mathlib.Core.List.{IsPrefix}
+use Rattle.std.specs.Prelude.{◌≡◌, ◌≢◌, ℕ, ◌+◌, ◌-◌, ◌==◌, ◌≤◌, List, [], ◌∷◌, ◌++◌, length, slice_set, slice_index_or, if◌then◌else◌}
 use mathlib.Core.Option.{some}
 use Rattle.atomic_table.specs.Table.{Step, Me}
 use Rattle.ucl_board.specs.declared.entry.Entry.{Entry}
 use Rattle.ucl_board.specs.Words.{word_at}
 use Rattle.ucl_board.specs.History.{board_of, IsLegal, followed_by}
-use Rattle.ucl_pass.specs.Passes.{entries_by}
-use Rattle.ucl_words.specs.declared.view.View.{View}
-use Rattle.ucl_steps.specs.Trails.{Act, Mark, mark, Look, Second, Swap}
+use Rattle.ucl_board.specs.Log.{Act, Mark, mark, Look, Second, Swap, Match, Enlisted}
+use Rattle.ucl_pass.specs.declared.view.View.{View}
+use Rattle.ucl_pass.specs.Views.{trail_of}
+use Rattle.ucl_pass.specs.Steps.{Sees, Adds, Enlists}
 
--- a step that stored nothing: the pass has seen the whole history, in which all stands first that it had seen or been told
-pub record Sees (v w : View) : Type 0 where
-  pub legal : IsLegal w.seen
-  pub seen : IsPrefix v.seen w.seen
-  pub told : All (λ (l : List Entry). IsPrefix l w.seen) v.kept
-  pub kept : w.kept ≡ []
-  pub own : w.mine ≡ entries_by w.number w.seen
-  pub mine : w.mine ≡ v.mine
-  pub number : w.number ≡ v.number
-  pub taken : w.taken ≡ v.taken + 1
-
--- a load of the word of a match, which leaves a mark
+-- a load of the word of a match, or an exchange of it that was missed
 pub record LoadsMatch (act : Act) (game : ℕ) (v : View) (n : ℕ) (w : View) : Type 0 where
-  pub sees : Sees v w
-  pub word : n ≡ word_at (board_of w.seen) game
+  pub sees : Sees (Match act game n) v w
   pub listed : w.listed ≡ v.listed
-  pub trail : w.trail ≡ v.trail ++ mark act game n (length w.seen) ∷ []
 
 -- one that shows nothing
 pub record Loads (act : Act) (game : ℕ) (v : View) (n : ℕ) (w : View) : Type 0 where
@@ -47,7 +34,7 @@ version_shown trail n = if n == (twelfth_first trail).found then (twelfth_first 
 -- the twelfth load of a second collect
 pub record LoadsLast (game : ℕ) (v : View) (n : ℕ) (w : View) : Type 0 where
   pub loads : LoadsMatch Second game v n w
-  pub shown : w.shown ≡ v.shown ++ version_shown v.trail n
+  pub shown : w.shown ≡ v.shown ++ version_shown (trail_of v) n
 
 -- an exchange of a match word that was missed
 abbrev pub ExchangeMissed : ℕ → View → ℕ → View → Type 0
@@ -56,18 +43,8 @@ ExchangeMissed = Loads Swap
 -- an exchange of a match word that was won: its entry is the last that the pass has seen
 pub record ExchangeWon (e : Entry) (v : View) (n : ℕ) (w : View) : Type 0 where
   pub before : List Entry
-  pub word : n ≡ word_at (board_of before) e.game
-  pub last : w.seen ≡ followed_by before e
-  pub legal : IsLegal w.seen
-  pub seen : IsPrefix v.seen before
-  pub kept : w.kept ≡ []
-  pub own : w.mine ≡ entries_by w.number w.seen
-  pub mine : w.mine ≡ followed_by v.mine e
-  pub number : w.number ≡ v.number
+  pub adds : Adds e before n v w
   pub listed : w.listed ≡ v.listed
-  pub shown : w.shown ≡ v.shown
-  pub taken : w.taken ≡ v.taken + 1
-  pub trail : w.trail ≡ v.trail ++ mark Swap e.game n (length before) ∷ []
 
 -- the word that takes the place of another where an entry is added, whatever the history is
 abbrev pub IsNextWord : Entry → ℕ → ℕ → Type 0
@@ -76,33 +53,22 @@ IsNextWord e old new = (history : List Entry) → IsLegal history → word_at (b
 
 -- a load of the enlist word
 pub record LoadsEnlisted (v w : View) : Type 0 where
-  pub sees : Sees v w
+  pub sees : Sees Enlisted v w
   pub listed : w.listed ≡ v.listed
   pub shown : w.shown ≡ v.shown
-  pub trail : w.trail ≡ v.trail
 
 -- an exchange of the enlist word that was missed
 pub record EnlistMissed (v : View) (n : ℕ) (w : View) : Type 0 where
-  pub sees : Sees v w
+  pub sees : Sees Enlisted v w
   pub above : v.listed ≤ n
-  pub few : n ≤ 255
   pub listed : w.listed ≡ n
   pub shown : w.shown ≡ v.shown
-  pub trail : w.trail ≡ v.trail
 
 -- an exchange of the enlist word that was won: the pass is a reporter's
 pub record EnlistWon (v : View) (n : ℕ) (w : View) : Type 0 where
-  pub legal : IsLegal w.seen
-  pub seen : IsPrefix v.seen w.seen
-  pub kept : w.kept ≡ []
-  pub own : w.mine ≡ entries_by w.number w.seen
+  pub enlists : Enlists v w
   pub above : v.listed ≤ n
-  pub mine : w.mine ≡ []
-  pub number : w.number ≡ n + 1
   pub listed : w.listed ≡ n + 1
-  pub shown : w.shown ≡ []
-  pub taken : w.taken ≡ v.taken + 1
-  pub trail : w.trail ≡ v.trail
 
 -- the steps of the table, by what they found
 

@@ -6,10 +6,14 @@ ghost use Rattle.ucl_word.specs.Record.{IsValid};
 ghost use Rattle.ucl_word.specs.Layout.{IsWord, record_at};
 ghost use Rattle.ucl_board.specs.Fixtures.{IsMatch};
 ghost use Rattle.ucl_board.specs.Words.{AreWords, version_of};
-ghost use Rattle.ucl_steps.specs.Trails as trails;
+ghost use Rattle.ucl_board.specs.Log as trails;
+ghost use Rattle.ucl_steps.specs.Trails.{most_loads};
 ghost use Rattle.ucl_pass.specs.Passes.{IsSound, Continues, AcceptedReport, RefusedReport, SharedReading, Enlistment, FullBoard, Meeting, opening_pass, split_pass};
-ghost use Rattle.ucl_words.specs.Views.{known_of};
-ghost use Rattle.ucl_words.specs.WordSteps.{Loads, ExchangeWon, ExchangeMissed, IsNextWord};
+ghost use Rattle.ucl_pass.specs.Views.{known_of, count_of, trail_of};
+ghost use Rattle.ucl_pass.specs.CallSteps.{MeetingSteps, HasCopyOf};
+ghost use Rattle.ucl_pass.specs.OneHistory.{BoardsOpenFresh};
+ghost use Rattle.ucl_words.specs.WordRule.{words_after};
+ghost use Rattle.ucl_words.specs.WordSteps.{Loads, LoadsEnlisted, ExchangeWon, ExchangeMissed, IsNextWord};
 ghost use Rattle.ucl_words.specs.Collects.{Collects, HasCollected, FindsAgain, FindsAnother};
 ghost use Rattle.ucl_words.specs.WordCalls.{IsSteady, ReportSteps, ReadingSteps, KeepsTrail};
 
@@ -51,6 +55,15 @@ impl Model for WordBoard {
     ghost invariant = { λ b. (b.table.shared.table_id.words ≡ 13) × (b.table.shared.table_id.slots ≡ 0) };
 }
 
+/// The words before any event, with no reporter enlisted.
+fn fresh_words() -> [u64; 13]
+    ensures { result ≡ words_after [] 0 }
+{
+    let mut words = [0; 13];
+    words[1..].copy_from_slice(&Board::fresh().words());
+    words
+}
+
 /// The record of a word that a valid record has.
 fn record_of(word: u64) -> MatchRecord
     requires { IsWord word }
@@ -75,14 +88,16 @@ fn reading_of(words: &[u64; 12]) -> Reading
 }
 
 impl WordBoard {
-    /// The fresh board, and the reader's pass from which all its passes come. Where the memory of the table is refused the answer is
-    /// `OutOfMemory`, and there is no board. No other call takes memory.
+    /// The fresh board, and the reader's pass from which all its passes come. The rule of the table lets no board open but one of no event,
+    /// no reporter and no step. Where the memory of the table is refused the answer is `OutOfMemory`, and there is no board. No other call
+    /// takes memory.
     pub fn open<R>(_rt: &R, alloc: Global) -> Result<(WordBoard, WordReaderPass), OutOfMemory>
         ensures own { IfOk result (λ opened. opened.1.0 ≡ opened.0) }
         ensures fresh { IfOk result (λ opened. known_of opened.1.1 ≡ opening_pass) }
-        ensures untaken { IfOk result (λ opened. (opened.1.1.taken ≡ 0) × (opened.1.1.trail ≡ [])) }
+        ensures untaken { IfOk result (λ opened. (opened.1.1.copied ≡ []) × (opened.1.1.own ≡ [])) }
+        ensures rule { BoardsOpenFresh words_after }
     {
-        let (table, seat) = Table::of_words(alloc, &[0; 13], &())?;
+        let (table, seat) = Table::of_words(alloc, &fresh_words(), &())?;
         Ok((WordBoard { table }, WordReaderPass { seat }))
     }
 
@@ -194,8 +209,8 @@ impl WordBoard {
         ensures always { Continues (known_of seat.old.me.0) (known_of seat.new.me.0) }
         ensures reading { SharedReading (known_of seat.old.me.0) result (known_of seat.new.me.0) }
         ensures steps { ReadingSteps seat.old.me.0 result seat.new.me.0 }
-        ensures least { seat.old.me.0.taken + 24 ≤ seat.new.me.0.taken }
-        ensures most { seat.new.me.0.taken ≤ seat.old.me.0.taken + 294648 }
+        ensures least { count_of seat.old.me.0 + 24 ≤ count_of seat.new.me.0 }
+        ensures most { count_of seat.new.me.0 ≤ count_of seat.old.me.0 + most_loads }
     {
         'tries: loop {
             let words = self.collect(seat);
@@ -209,6 +224,7 @@ impl WordBoard {
     /// and each later one from as many as were found.
     fn enlist_by(&self, seat: &mut Seat) -> Option<ReporterNo>
         requires table { seat.old.table_id ≡ self.now }
+        requires reader { seat.old.me.0.number ≡ 0 }
         requires steady { IsSteady seat.old.me.0 }
         ensures own { seat.new.table_id ≡ seat.old.table_id }
         ensures steady { IsSteady seat.new.me.0 }
@@ -216,7 +232,7 @@ impl WordBoard {
         ensures always { IfNone result (Continues (known_of seat.old.me.0) (known_of seat.new.me.0)) }
         ensures full { IfNone result (FullBoard (known_of seat.old.me.0) (known_of seat.new.me.0)) }
         ensures trail { KeepsTrail seat.old.me.0 seat.new.me.0 }
-        ensures most { seat.new.me.0.taken ≤ seat.old.me.0.taken + 255 }
+        ensures most { count_of seat.new.me.0 ≤ count_of seat.old.me.0 + 255 }
     {
         let mut known = 0;
         'tries: while known < MOST_REPORTERS {
@@ -232,6 +248,16 @@ impl WordBoard {
         None
     }
 
+    /// Loads the number of enlisted reporters.
+    fn count(&self, seat: &mut Seat) -> u64
+        requires { seat.old.table_id ≡ self.now }
+        ensures own { seat.new.table_id ≡ seat.old.table_id }
+        ensures loads { LoadsEnlisted seat.old.me.0 seat.new.me.0 }
+        ensures steady { IsSteady seat.old.me.0 → IsSteady seat.new.me.0 }
+    {
+        self.table.shared.load::<CountEnlisted>(seat, ENLISTED)
+    }
+
     /// A note of the first is split off and joined to the second, which then loads the enlist word.
     fn meet_by(&self, first: &mut Seat, second: &mut Seat)
         requires table { (first.old.table_id ≡ self.now) × (second.old.table_id ≡ self.now) }
@@ -242,11 +268,12 @@ impl WordBoard {
         ensures always { Continues (known_of second.old.me.0) (known_of second.new.me.0) }
         ensures meeting { Meeting (known_of first.old.me.0) (known_of second.old.me.0) (known_of second.new.me.0) }
         ensures trail { KeepsTrail second.old.me.0 second.new.me.0 }
-        ensures taken { second.new.me.0.taken ≡ second.old.me.0.taken + 1 }
+        ensures steps { MeetingSteps second.old.me.0 second.new.me.0 }
+        ensures taken { count_of second.new.me.0 ≡ count_of second.old.me.0 + 1 }
     {
         let note = self.table.shared.split_seat::<Note>(first);
         self.table.shared.join_seat::<Note>(second, note);
-        self.table.shared.load::<CountEnlisted>(second, ENLISTED);
+        self.count(second);
     }
 
     /// Enters an event under the number of the pass, by one load and at most one compare and exchange of its match word. An accepted
@@ -263,7 +290,7 @@ impl WordBoard {
         ensures accepted { IfOk result (λ reply. AcceptedReport (known_of pass.old.1) call.now reply (known_of pass.new.1)) }
         ensures refused { IfErr result (λ refusal. RefusedReport (known_of pass.old.1) call.now refusal (known_of pass.new.1)) }
         ensures steps { ReportSteps pass.old.1 call.now result pass.new.1 }
-        ensures most { pass.new.1.taken ≤ pass.old.1.taken + 2 }
+        ensures most { count_of pass.new.1 ≤ count_of pass.old.1 + 2 }
     {
         let reporter = pass.number;
         let result = self.report_by(&mut pass.seat, reporter, call);
@@ -274,15 +301,15 @@ impl WordBoard {
     }
 
     /// The board after a beginning of the history that has all that the pass had seen, and its version: loads all match words, and loads
-    /// them again, anew from the first where one is another, in at most 12,277 tries of at most 24 loads.
+    /// them again, anew from the first where one is another, in no more tries than a history can have lengths, of at most 24 loads.
     pub fn read_now(&self, pass: &mut WordReaderPass) -> Reading
         requires { pass.old.0 ≡ self.now }
         ensures own { pass.new.0 ≡ self.now }
         ensures always { Continues (known_of pass.old.1) (known_of pass.new.1) }
         ensures reading { SharedReading (known_of pass.old.1) result (known_of pass.new.1) }
         ensures steps { ReadingSteps pass.old.1 result pass.new.1 }
-        ensures least { pass.old.1.taken + 24 ≤ pass.new.1.taken }
-        ensures most { pass.new.1.taken ≤ pass.old.1.taken + 294648 }
+        ensures least { count_of pass.old.1 + 24 ≤ count_of pass.new.1 }
+        ensures most { count_of pass.new.1 ≤ count_of pass.old.1 + most_loads }
     {
         self.read_by(&mut pass.seat)
     }
@@ -294,8 +321,8 @@ impl WordBoard {
         ensures always { Continues (known_of pass.old.1) (known_of pass.new.1) }
         ensures reading { SharedReading (known_of pass.old.1) result (known_of pass.new.1) }
         ensures steps { ReadingSteps pass.old.1 result pass.new.1 }
-        ensures least { pass.old.1.taken + 24 ≤ pass.new.1.taken }
-        ensures most { pass.new.1.taken ≤ pass.old.1.taken + 294648 }
+        ensures least { count_of pass.old.1 + 24 ≤ count_of pass.new.1 }
+        ensures most { count_of pass.new.1 ≤ count_of pass.old.1 + most_loads }
     {
         let seat = &mut pass.seat;
         self.read_by(seat)
@@ -308,7 +335,8 @@ impl WordBoard {
         ensures sound { IsSound (known_of pass.old.1) }
         ensures unchanged { pass.new.1 ≡ pass.old.1 }
         ensures given { known_of result.1 ≡ split_pass (known_of pass.old.1) }
-        ensures steps { (result.1.taken ≡ pass.old.1.taken) × (result.1.trail ≡ pass.old.1.trail) }
+        ensures steps { (count_of result.1 ≡ count_of pass.old.1) × (trail_of result.1 ≡ trail_of pass.old.1) }
+        ensures copy { HasCopyOf result.1 pass.old.1 }
     {
         let seat = self.table.shared.split_seat::<SecondPass>(&mut pass.seat);
         WordReaderPass { seat }
@@ -326,7 +354,7 @@ impl WordBoard {
         ensures always { IfErr result (λ full. Continues (known_of pass.1) (known_of full.0.1)) }
         ensures full { IfErr result (λ full. FullBoard (known_of pass.1) (known_of full.0.1)) }
         ensures trail { MatchResult result (λ enlisted. KeepsTrail pass.1 enlisted.1) (λ full. KeepsTrail pass.1 full.0.1) }
-        ensures most { MatchResult result (λ enlisted. enlisted.1.taken ≤ pass.1.taken + 255) (λ full. full.0.1.taken ≤ pass.1.taken + 255) }
+        ensures most { MatchResult result (λ enlisted. count_of enlisted.1 ≤ count_of pass.1 + 255) (λ full. count_of full.0.1 ≤ count_of pass.1 + 255) }
     {
         let WordReaderPass { mut seat } = pass;
         match self.enlist_by(&mut seat) {
@@ -348,7 +376,8 @@ impl WordBoard {
         ensures unchanged { first.new.1 ≡ first.old.1 }
         ensures meeting { Meeting (known_of first.old.1) (known_of second.old.1) (known_of second.new.1) }
         ensures trail { KeepsTrail second.old.1 second.new.1 }
-        ensures taken { second.new.1.taken ≡ second.old.1.taken + 1 }
+        ensures steps { MeetingSteps second.old.1 second.new.1 }
+        ensures taken { count_of second.new.1 ≡ count_of second.old.1 + 1 }
     {
         self.meet_by(&mut first.seat, &mut second.seat);
     }

@@ -7,12 +7,10 @@ mod laws;
 mod live_words;
 mod passes;
 mod rule;
-mod view;
 
 pub use board::WordBoard;
-pub use laws::words_tell_the_entry;
+pub use laws::{boards_are_runs, calls_add_work, words_tell_the_entry};
 pub use passes::{WordReaderPass, WordReporterPass};
-pub use view::View;
 
 #[cfg(test)]
 mod tests;

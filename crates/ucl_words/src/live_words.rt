@@ -1,7 +1,11 @@
 //! The word board is a live board.
 
-ghost use Rattle.std.specs.Prelude.{◌≡◌};
-ghost use Rattle.ucl_words.specs.Views.{known_of};
+ghost use Rattle.std.specs.Prelude.{◌≡◌, ◌+◌, ◌≤◌, IfOk, IfErr, MatchResult};
+ghost use Rattle.ucl_steps.specs.Trails.{most_loads};
+ghost use Rattle.ucl_pass.specs.Passes.{IsSound, Continues, AcceptedReport, RefusedReport, SharedReading, split_pass, Enlistment, FullBoard, Meeting, reporter_figures};
+ghost use Rattle.ucl_pass.specs.Views.{known_of, count_of, trail_of};
+ghost use Rattle.ucl_pass.specs.CallSteps.{MeetingSteps, HasCopyOf};
+ghost use Rattle.ucl_words.specs.WordCalls.{ReportSteps, ReadingSteps, KeepsTrail};
 
 use crate::board::WordBoard;
 use crate::passes::{WordReaderPass, WordReporterPass};
@@ -10,7 +14,7 @@ use ucl_board::Reading;
 use ucl_pass::{LiveBoard, TooManyReporters};
 use ucl_word::{Accepted, EventCall, Refusal, ReporterNo};
 
-/// Each call passes on to the board's own, which takes no `rt` and cannot wait.
+/// Each call passes on to the board's own, which takes no `rt` and cannot wait, and says of its steps what that one says.
 impl LiveBoard for WordBoard {
     type ReaderPass = WordReaderPass;
 
@@ -29,19 +33,51 @@ impl LiveBoard for WordBoard {
         _rt: &R,
         pass: &mut WordReporterPass,
         call: &EventCall,
-    ) -> Result<Accepted, Refusal> {
+    ) -> Result<Accepted, Refusal>
+        requires { pass.old.0 ≡ self.now }
+        ensures own { pass.new.0 ≡ self.now }
+        ensures always { Continues (known_of pass.old.1) (known_of pass.new.1) }
+        ensures accepted { IfOk result (λ reply. AcceptedReport (known_of pass.old.1) call.now reply (known_of pass.new.1)) }
+        ensures refused { IfErr result (λ refusal. RefusedReport (known_of pass.old.1) call.now refusal (known_of pass.new.1)) }
+        ensures steps { ReportSteps pass.old.1 call.now result pass.new.1 }
+        ensures most { count_of pass.new.1 ≤ count_of pass.old.1 + 2 }
+    {
         self.report_now(pass, call)
     }
 
-    fn read<R: Wait>(&self, _rt: &R, pass: &mut WordReaderPass) -> Reading {
+    fn read<R: Wait>(&self, _rt: &R, pass: &mut WordReaderPass) -> Reading
+        requires { pass.old.0 ≡ self.now }
+        ensures own { pass.new.0 ≡ self.now }
+        ensures always { Continues (known_of pass.old.1) (known_of pass.new.1) }
+        ensures reading { SharedReading (known_of pass.old.1) result (known_of pass.new.1) }
+        ensures steps { ReadingSteps pass.old.1 result pass.new.1 }
+        ensures least { count_of pass.old.1 + 24 ≤ count_of pass.new.1 }
+        ensures most { count_of pass.new.1 ≤ count_of pass.old.1 + most_loads }
+    {
         self.read_now(pass)
     }
 
-    fn read_own<R: Wait>(&self, _rt: &R, pass: &mut WordReporterPass) -> Reading {
+    fn read_own<R: Wait>(&self, _rt: &R, pass: &mut WordReporterPass) -> Reading
+        requires { pass.old.0 ≡ self.now }
+        ensures own { pass.new.0 ≡ self.now }
+        ensures always { Continues (known_of pass.old.1) (known_of pass.new.1) }
+        ensures reading { SharedReading (known_of pass.old.1) result (known_of pass.new.1) }
+        ensures steps { ReadingSteps pass.old.1 result pass.new.1 }
+        ensures least { count_of pass.old.1 + 24 ≤ count_of pass.new.1 }
+        ensures most { count_of pass.new.1 ≤ count_of pass.old.1 + most_loads }
+    {
         self.read_own_now(pass)
     }
 
-    fn split<R: Wait>(&self, _rt: &R, pass: &mut WordReaderPass) -> WordReaderPass {
+    fn split<R: Wait>(&self, _rt: &R, pass: &mut WordReaderPass) -> WordReaderPass
+        requires { pass.old.0 ≡ self.now }
+        ensures own { (pass.new.0 ≡ self.now) × (result.0 ≡ self.now) }
+        ensures sound { IsSound (known_of pass.old.1) }
+        ensures unchanged { pass.new.1 ≡ pass.old.1 }
+        ensures given { known_of result.1 ≡ split_pass (known_of pass.old.1) }
+        ensures steps { (count_of result.1 ≡ count_of pass.old.1) × (trail_of result.1 ≡ trail_of pass.old.1) }
+        ensures copy { HasCopyOf result.1 pass.old.1 }
+    {
         self.split_now(pass)
     }
 
@@ -49,19 +85,41 @@ impl LiveBoard for WordBoard {
         &self,
         _rt: &R,
         pass: WordReaderPass,
-    ) -> Result<WordReporterPass, TooManyReporters<WordReaderPass>> {
+    ) -> Result<WordReporterPass, TooManyReporters<WordReaderPass>>
+        requires { pass.0 ≡ self.now }
+        ensures own { MatchResult result (λ enlisted. enlisted.0 ≡ self.now) (λ full. full.0.0 ≡ self.now) }
+        ensures enlisted { IfOk result (λ enlisted. Enlistment (known_of pass.1) (known_of enlisted.1)) }
+        ensures always { IfErr result (λ full. Continues (known_of pass.1) (known_of full.0.1)) }
+        ensures full { IfErr result (λ full. FullBoard (known_of pass.1) (known_of full.0.1)) }
+        ensures trail { MatchResult result (λ enlisted. KeepsTrail pass.1 enlisted.1) (λ full. KeepsTrail pass.1 full.0.1) }
+        ensures most { MatchResult result (λ enlisted. count_of enlisted.1 ≤ count_of pass.1 + 255) (λ full. count_of full.0.1 ≤ count_of pass.1 + 255) }
+    {
         self.enlist_now(pass)
     }
 
-    fn meet<R: Wait>(&self, _rt: &R, first: &mut WordReporterPass, second: &mut WordReporterPass) {
+    fn meet<R: Wait>(&self, _rt: &R, first: &mut WordReporterPass, second: &mut WordReporterPass)
+        requires { (first.old.0 ≡ self.now) × (second.old.0 ≡ self.now) }
+        ensures own { (first.new.0 ≡ self.now) × (second.new.0 ≡ self.now) }
+        ensures sound { IsSound (known_of first.old.1) }
+        ensures always { Continues (known_of second.old.1) (known_of second.new.1) }
+        ensures unchanged { first.new.1 ≡ first.old.1 }
+        ensures meeting { Meeting (known_of first.old.1) (known_of second.old.1) (known_of second.new.1) }
+        ensures trail { KeepsTrail second.old.1 second.new.1 }
+        ensures steps { MeetingSteps second.old.1 second.new.1 }
+        ensures taken { count_of second.new.1 ≡ count_of second.old.1 + 1 }
+    {
         self.meet_now(first, second);
     }
 
-    fn number_of(pass: &WordReporterPass) -> ReporterNo {
+    fn number_of(pass: &WordReporterPass) -> ReporterNo
+        ensures { result ≡ (reporter_figures (known_of pass.now.1)).0 }
+    {
         pass.number
     }
 
-    fn accepted_of(pass: &WordReporterPass) -> u16 {
+    fn accepted_of(pass: &WordReporterPass) -> u16
+        ensures { result ≡ (reporter_figures (known_of pass.now.1)).1 }
+    {
         pass.accepted
     }
 }

@@ -2,7 +2,7 @@
 
 ghost use Rattle.std.specs.Prelude.{◌≡◌, length};
 ghost use Rattle.atomic_table.specs.Seated.{TableId};
-ghost use Rattle.ucl_words.specs.declared.view.View.{View};
+ghost use Rattle.ucl_pass.specs.declared.view.View.{View};
 ghost use Rattle.ucl_words.specs.WordCalls.{IsSteady};
 
 use crate::rule::Seat;

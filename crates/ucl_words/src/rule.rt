@@ -1,21 +1,21 @@
 //! The rule of the table, and the kinds of its atomic steps. The values named here exist in proofs alone.
 
-ghost use Rattle.ucl_steps.specs.Trails as trails;
-ghost use Rattle.ucl_words.specs.Views.{newcomer, second_of, note_of, told_by};
-ghost use Rattle.ucl_words.specs.WordRule.{KeepsOneHistory};
+ghost use Rattle.ucl_board.specs.Log as trails;
+ghost use Rattle.ucl_pass.specs.Views.{newcomer, second_of, note_of, told_by};
+ghost use Rattle.ucl_words.specs.WordRule.{TableKeepsOneHistory};
 ghost use Rattle.ucl_words.specs.WordSteps.{LoadStep, LastLoadStep, EnlistedStep, ExchangeStep, EnlistStep};
 
-use crate::view::View;
 use atomic_table::{Join, Play, Split, TableRule};
 use std::alloc::Global;
 use ucl_board::Entry;
+use ucl_pass::View;
 
-/// One legal history behind the twelve match words and the number of enlisted reporters.
+/// One log of all steps, whose history has the twelve match words and whose reporters are as many as the enlist word says.
 #[derive(Clone, Copy)]
 pub struct OneHistory;
 
 impl TableRule<Entry, View, ()> for OneHistory {
-    ghost holds = { λ _. KeepsOneHistory };
+    ghost holds = { λ _. TableKeepsOneHistory };
 
     ghost first = { λ _. newcomer };
 }

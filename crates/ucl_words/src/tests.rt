@@ -57,7 +57,7 @@ fn calls_that_cannot_wait(rt: HostRuntime) -> Result<(), Fail> {
     assert_eq!(rt; answers[0], Ok(Accepted { number: 1 }));
     assert_eq!(rt; answers[1], Err(Refusal::Stale { found: 1 }));
     assert_eq!(rt; own.version, 1);
-    assert_eq!(rt; own.board.words()[2], 0x0000400000000401);
+    assert_eq!(rt; own.board.words()[2], 0x2001000000001001);
     assert_eq!(rt; read, own);
     Ok(())
 }
@@ -118,7 +118,7 @@ fn read_back(rt: HostRuntime) -> Result<(), Fail> {
     }
     let own = board.read_own_now(&mut reporter);
     assert_eq!(rt; own.version, 7);
-    assert_eq!(rt; own.board.words()[0], 0x0000400041042807);
+    assert_eq!(rt; own.board.words()[0], 0x200100010410a007);
     assert_eq!(rt; board.read_now(&mut reader).version, 7);
     let second = board.split_now(&mut reader);
     assert_eq!(rt; read_in_thread(&rt, &board, second), Some(7));
@@ -224,7 +224,7 @@ fn enlist_255(rt: HostRuntime) -> Result<(), Fail> {
     Ok(())
 }
 
-const EVENTS_OF_A_MATCH: u16 = 1023;
+const EVENTS_OF_A_MATCH: u16 = 4095;
 
 /// Enters a kick-off, home goals and home goals disallowed in turn, and full time in a match, whatever the answers, and counts those
 /// that are accepted.
@@ -236,7 +236,7 @@ fn enter_all(board: &WordBoard, pass: &mut WordReporterPass, game: MatchNo) -> u
     for expected in 0..EVENTS_OF_A_MATCH {
         let kind = match expected {
             0 => Kind::KickOff,
-            1022 => Kind::FullTime,
+            4094 => Kind::FullTime,
             _ if expected % 2 == 1 => Kind::Goal(Side::Home),
             _ => Kind::Disallow(Side::Home),
         };
@@ -320,5 +320,57 @@ fn each_event_once(rt: HostRuntime) -> Result<(), Fail> {
         u32::from(EVENTS_OF_A_MATCH)
     );
     assert_eq!(rt; board.read_now(&mut reader).version, EVENTS_OF_A_MATCH);
+    Ok(())
+}
+
+/// A finished match goes on, and is ended again: replies, and the word of the match after each.
+#[test]
+fn reopened(rt: HostRuntime) -> Result<(), Fail> {
+    let (board, mut reader) = WordBoard::open(&rt, rt.alloc())?;
+    let mut reporter = enlisted(&board, &mut reader).expect(&rt, "a number is left");
+    let game = MatchNo::new(1).expect(&rt, "there is a match 1");
+    let accepted = |number: u16| Ok(Accepted { number });
+    let home_goal = Kind::Goal(Side::Home);
+    let away_yellow = Kind::Yellow(Side::Away);
+    let second_yellow = Kind::SecondYellow(Side::Away);
+    let not_finished = Err(Refusal::NotFinished);
+    let rows = [
+        (0, Kind::Reopen, not_finished, 0x2000000000000000),
+        (0, Kind::KickOff, accepted(1), 0x2001000000001001),
+        (1, home_goal, accepted(2), 0x2001000000005002),
+        (2, away_yellow, accepted(3), 0x2001000100005003),
+        (3, second_yellow, accepted(4), 0x2001080000005004),
+        (
+            4,
+            Kind::Disallow(Side::Home),
+            accepted(5),
+            0x2001080000001005,
+        ),
+        (5, Kind::FullTime, accepted(6), 0x2001080000002006),
+        (6, Kind::Reopen, accepted(7), 0x2001080000001007),
+        (
+            6,
+            Kind::Reopen,
+            Err(Refusal::Stale { found: 7 }),
+            0x2001080000001007,
+        ),
+        (7, Kind::Reopen, not_finished, 0x2001080000001007),
+        (7, home_goal, accepted(8), 0x2001080000005008),
+        (8, Kind::FullTime, accepted(9), 0x2001080000006009),
+    ];
+    for (expected, kind, reply, word) in rows {
+        let call = EventCall {
+            game,
+            expected,
+            kind,
+        };
+        assert_eq!(rt;
+            board.report_now(&mut reporter, &call),
+            reply,
+            "{kind:?} at {expected}"
+        );
+        let own = board.read_own_now(&mut reporter);
+        assert_eq!(rt; own.board.words()[0], word, "{kind:?} at {expected}");
+    }
     Ok(())
 }

@@ -3,17 +3,19 @@
 use super::{Cut, PLACES, is_whole, place_of, time_of};
 
 // Words of the events of a night, by reporter 1: a kick-off, then a home goal and a home goal disallowed in turn, and last full time.
-const KICKED_OFF: u64 = 0x0000400000000401;
+const SCHEDULED: u64 = 0x2000000000000000;
 
-const AFTER_2: u64 = 0x0000400000001402;
+const KICKED_OFF: u64 = 0x2001000000001001;
 
-const AFTER_99: u64 = 0x0000400000000463;
+const AFTER_2: u64 = 0x2001000000005002;
 
-const AFTER_100: u64 = 0x0000400000001464;
+const AFTER_99: u64 = 0x2001000000001063;
 
-const AFTER_1022: u64 = 0x00004000000017fe;
+const AFTER_100: u64 = 0x2001000000005064;
 
-const ENDED: u64 = 0x0000400000001bff;
+const AFTER_4094: u64 = 0x2001000000005ffe;
+
+const ENDED: u64 = 0x2001000000006fff;
 
 const PACED_BY_ONE: Cut = Cut {
     events: 100,
@@ -26,53 +28,94 @@ const PACED_BY_TWO: Cut = Cut {
 };
 
 const WHOLE_BY_ONE: Cut = Cut {
-    events: 1023,
+    events: 4095,
     reporters: 1,
 };
 
 /// The words of a night whose first matches have these, and whose others are scheduled.
 fn first_words(first: [u64; 3]) -> [u64; 12] {
-    let [a, b, c] = first;
-    [a, b, c, 0, 0, 0, 0, 0, 0, 0, 0, 0]
+    let mut words = [SCHEDULED; 12];
+    words[..3].copy_from_slice(&first);
+    words
 }
 
 #[test]
 fn words_of_one_moment(rt: HostRuntime) {
     for (name, first, version, cut) in [
-        ("fresh", [0, 0, 0], 0, PACED_BY_ONE),
-        ("kicked off", [KICKED_OFF, 0, 0], 1, PACED_BY_ONE),
-        ("second match", [AFTER_100, AFTER_2, 0], 102, PACED_BY_ONE),
-        ("next is due", [AFTER_100, 0, 0], 100, PACED_BY_ONE),
-        ("two at once", [AFTER_99, KICKED_OFF, 0], 100, PACED_BY_TWO),
+        ("fresh", [SCHEDULED; 3], 0, PACED_BY_ONE),
+        (
+            "kicked off",
+            [KICKED_OFF, SCHEDULED, SCHEDULED],
+            1,
+            PACED_BY_ONE,
+        ),
+        (
+            "second match",
+            [AFTER_100, AFTER_2, SCHEDULED],
+            102,
+            PACED_BY_ONE,
+        ),
+        (
+            "next is due",
+            [AFTER_100, SCHEDULED, SCHEDULED],
+            100,
+            PACED_BY_ONE,
+        ),
+        (
+            "two at once",
+            [AFTER_99, KICKED_OFF, SCHEDULED],
+            100,
+            PACED_BY_TWO,
+        ),
         (
             "two go on",
             [AFTER_100, AFTER_99, AFTER_2],
             201,
             PACED_BY_TWO,
         ),
-        ("to full time", [ENDED, AFTER_1022, 0], 2045, WHOLE_BY_ONE),
+        (
+            "to full time",
+            [ENDED, AFTER_4094, SCHEDULED],
+            8189,
+            WHOLE_BY_ONE,
+        ),
     ] {
         assert!(rt; is_whole(&first_words(first), version, cut), "{name}");
     }
-    assert!(rt; is_whole(&[ENDED; 12], 12276, WHOLE_BY_ONE), "all ended");
+    assert!(rt; is_whole(&[ENDED; 12], 49140, WHOLE_BY_ONE), "all ended");
 }
 
 /// What a single collect can give: it copies a match, and a later one when that has gone on.
 #[test]
 fn words_of_two_moments(rt: HostRuntime) {
     for (name, first, version, cut) in [
-        ("stands", [AFTER_99, KICKED_OFF, 0], 100, PACED_BY_ONE),
-        ("not begun", [0, KICKED_OFF, 0], 1, PACED_BY_ONE),
-        ("passed over", [AFTER_100, 0, AFTER_2], 102, PACED_BY_ONE),
+        (
+            "stands",
+            [AFTER_99, KICKED_OFF, SCHEDULED],
+            100,
+            PACED_BY_ONE,
+        ),
+        (
+            "not begun",
+            [SCHEDULED, KICKED_OFF, SCHEDULED],
+            1,
+            PACED_BY_ONE,
+        ),
+        (
+            "passed over",
+            [AFTER_100, SCHEDULED, AFTER_2],
+            102,
+            PACED_BY_ONE,
+        ),
         (
             "no full time",
-            [AFTER_1022, KICKED_OFF, 0],
-            1023,
+            [AFTER_4094, KICKED_OFF, SCHEDULED],
+            4095,
             WHOLE_BY_ONE,
         ),
         (
             "of reporter 2",
-            [AFTER_99, 0, KICKED_OFF],
+            [AFTER_99, SCHEDULED, KICKED_OFF],
             100,
             PACED_BY_TWO,
         ),
@@ -83,7 +126,7 @@ fn words_of_two_moments(rt: HostRuntime) {
 
 #[test]
 fn versions_that_are_no_sum(rt: HostRuntime) {
-    let words = first_words([AFTER_100, AFTER_2, 0]);
+    let words = first_words([AFTER_100, AFTER_2, SCHEDULED]);
     for version in [0, 2, 100, 101, 103] {
         assert!(rt;
             !is_whole(&words, version, PACED_BY_ONE),
@@ -96,16 +139,16 @@ fn versions_that_are_no_sum(rt: HostRuntime) {
 #[test]
 fn words_of_no_event(rt: HostRuntime) {
     for (word, version) in [
-        (0x0000400000000402, 2),
-        (0x0000400000001401, 1),
-        (0x0000400000002402, 2),
-        (0x0000400000000801, 1),
-        (0x0000400000000001, 1),
-        (0x0000000000000400, 0),
-        (0x0000400000040401, 1),
-        (0x0000400001000401, 1),
+        (0x2001000000001002, 2),
+        (0x2001000000005001, 1),
+        (0x2001000000009002, 2),
+        (0x2001000000002001, 1),
+        (0x2001000000000001, 1),
+        (0x2000000000001000, 0),
+        (0x2001000000101001, 1),
+        (0x2001000004001001, 1),
     ] {
-        let words = first_words([word, 0, 0]);
+        let words = first_words([word, SCHEDULED, SCHEDULED]);
         assert!(rt;
             !is_whole(&words, version, PACED_BY_ONE),
             "word {word:016x}"

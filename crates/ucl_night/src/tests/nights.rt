@@ -10,6 +10,7 @@ use std::sync::atomic::{AtomicBool, AtomicU32, Ordering};
 use std::test::Fail;
 use std::thread::Threads;
 use ucl_board::{Board, Reading};
+use ucl_order::Profile;
 use ucl_pass::{CellBoard, CellReaderPass, LiveBoard};
 use ucl_screen::{FromRead, Night, ToWrite, read_night};
 use ucl_word::{EventCall, Kind, MatchNo};
@@ -67,7 +68,7 @@ fn all_at_the_gate<B: LiveBoard, R: Threads + Wait + Sync>(
         come: AtomicU32::new(0),
         late: AtomicBool::new(false),
     };
-    let end = night_run(rt, alloc, board, pass, night, b'A', 1, &gate)?;
+    let end = night_run(rt, alloc, board, pass, night, b'A', 1, &gate, Profile::Uefa)?;
     Ok((end.settled.version, gate.late.load(Ordering::SeqCst)))
 }
 
@@ -129,7 +130,7 @@ fn readers_after_reporters<B: LiveBoard, R: Threads + Wait + Sync>(
         shown: AtomicU32::new(0),
         early: AtomicBool::new(false),
     };
-    let end = night_run(rt, alloc, board, pass, night, b'A', 1, &gate)?;
+    let end = night_run(rt, alloc, board, pass, night, b'A', 1, &gate, Profile::Uefa)?;
     Ok((
         end.settled.version,
         gate.shown.load(Ordering::SeqCst),
@@ -199,7 +200,17 @@ fn gate_is_told_of_each_call_and_screen(rt: HostRuntime) -> Result<(), Fail> {
         screens: AtomicU32::new(0),
         out_of_turn: AtomicBool::new(false),
     };
-    night_run(&rt, alloc, &board, pass, &night, b'B', 7, &gate)?;
+    night_run(
+        &rt,
+        alloc,
+        &board,
+        pass,
+        &night,
+        b'B',
+        7,
+        &gate,
+        Profile::Uefa,
+    )?;
     for (worker, calls) in [(0, 19), (1, 21), (2, 7), (3, 7)] {
         assert_eq!(rt;
             gate.calls[worker].load(Ordering::SeqCst),
@@ -224,7 +235,17 @@ fn night_of_twenty<B: LiveBoard, R: Threads + Wait + Sync>(
     requires { B.is_reader board.now pass }
 {
     let mut watcher = board.split(rt, &mut pass);
-    let end = night_run(rt, alloc, board, pass, night, b'A', 20, &OpenGate)?;
+    let end = night_run(
+        rt,
+        alloc,
+        board,
+        pass,
+        night,
+        b'A',
+        20,
+        &OpenGate,
+        Profile::Uefa,
+    )?;
     if end.last.iter().any(Option::is_none) {
         return Ok(None);
     }
@@ -271,7 +292,18 @@ fn row_of_a_third_reporter(rt: HostRuntime) -> Result<(), Fail> {
     let night = night_of(alloc, script.as_str())?;
     let (board, mut pass) = CellBoard::open(&rt, alloc)?;
     let mut watcher = board.split(&rt, &mut pass);
-    let fault = night_run(&rt, alloc, &board, pass, &night, b'A', 1, &OpenGate).err();
+    let fault = night_run(
+        &rt,
+        alloc,
+        &board,
+        pass,
+        &night,
+        b'A',
+        1,
+        &OpenGate,
+        Profile::Uefa,
+    )
+    .err();
     assert_eq!(rt; fault, Some(RunFault::NotOnDuty { row: 45 }));
     assert_eq!(rt; board.read(&rt, &mut watcher).version, 0);
     let Ok(reporter) = board.enlist(&rt, watcher) else {
@@ -282,14 +314,44 @@ fn row_of_a_third_reporter(rt: HostRuntime) -> Result<(), Fail> {
 }
 
 /// Enlists so many reporters.
-fn enlist_others<R: Wait>(rt: &R, board: &CellBoard, pass: &mut CellReaderPass, others: u8)
-    requires { pass.old.0 ≡ board.now }
-    ensures { pass.new.0 ≡ board.now }
+fn enlist_others<B: LiveBoard, R: Wait>(rt: &R, board: &B, pass: &mut B::ReaderPass, others: u8)
+    requires { B.is_reader board.now pass.old }
+    ensures { B.is_reader board.now pass.new }
 {
     for _ in 0..others {
         let reader = board.split(rt, pass);
         let _ = board.enlist(rt, reader);
     }
+}
+
+/// The numbers of a night's reporters on a board with so many others.
+fn numbers_after<B: LiveBoard, R: Threads + Wait + Sync>(
+    rt: &R,
+    alloc: Global,
+    board: &B,
+    mut pass: B::ReaderPass,
+    others: u8,
+) -> Result<(u8, u8), Fail>
+    requires { B.is_reader board.now pass }
+{
+    let night = night_of(alloc, CLUBS)?;
+    enlist_others(rt, board, &mut pass, others);
+    let profile = Profile::Uefa;
+    let Ok(end) = night_run(rt, alloc, board, pass, &night, b'A', 0, &OpenGate, profile) else {
+        return Err("no night".into());
+    };
+    let first = B::number_of(&end.reporter_1).get();
+    Ok((first, B::number_of(&end.reporter_2).get()))
+}
+
+#[test]
+fn last_two_numbers(rt: HostRuntime) -> Result<(), Fail> {
+    let alloc = rt.alloc();
+    let (board, pass) = CellBoard::open(&rt, alloc)?;
+    assert_eq!(rt; numbers_after(&rt, alloc, &board, pass, 253)?, (254, 255));
+    let (board, pass) = WordBoard::open(&rt, alloc)?;
+    assert_eq!(rt; numbers_after(&rt, alloc, &board, pass, 253)?, (254, 255));
+    Ok(())
 }
 
 #[test]
@@ -298,7 +360,18 @@ fn board_without_two_numbers_left(rt: HostRuntime) -> Result<(), Fail> {
     let night = night_of(alloc, CLUBS)?;
     let (board, mut pass) = CellBoard::open(&rt, alloc)?;
     enlist_others(&rt, &board, &mut pass, 254);
-    let fault = night_run(&rt, alloc, &board, pass, &night, b'A', 0, &OpenGate).err();
+    let fault = night_run(
+        &rt,
+        alloc,
+        &board,
+        pass,
+        &night,
+        b'A',
+        0,
+        &OpenGate,
+        Profile::Uefa,
+    )
+    .err();
     assert_eq!(rt; fault, Some(RunFault::TooManyReporters));
     Ok(())
 }
@@ -318,8 +391,50 @@ fn board_with_an_event_of_a_third_reporter(rt: HostRuntime) -> Result<(), Fail> 
         kind: Kind::KickOff,
     };
     assert!(rt; board.report(&rt, &mut third, &kick_off).is_ok());
-    let fault = night_run(&rt, alloc, &board, pass, &night, b'A', 0, &OpenGate).err();
+    let fault = night_run(
+        &rt,
+        alloc,
+        &board,
+        pass,
+        &night,
+        b'A',
+        0,
+        &OpenGate,
+        Profile::Uefa,
+    )
+    .err();
     assert_eq!(rt; fault, Some(RunFault::Strangers { version: 1 }));
+    Ok(())
+}
+
+/// Nothing is entered once the reporters have settled, also where a match has not begun.
+#[test]
+fn night_with_a_match_not_begun(rt: HostRuntime) -> Result<(), Fail> {
+    let alloc = rt.alloc();
+    let script = joined(
+        alloc,
+        CLUBS,
+        "1,1,0,kickoff\n2,2,0,kickoff\n1,1,1,goal-home\n",
+    )?;
+    let night = night_of(alloc, script.as_str())?;
+    let (board, mut pass) = WordBoard::open(&rt, alloc)?;
+    let mut watcher = board.split(&rt, &mut pass);
+    let end = night_run(
+        &rt,
+        alloc,
+        &board,
+        pass,
+        &night,
+        b'A',
+        0,
+        &OpenGate,
+        Profile::Uefa,
+    )?;
+    assert_eq!(rt; end.settled.version, 3);
+    let later = board.read(&rt, &mut watcher);
+    assert_eq!(rt; later.version, 3);
+    let game = MatchNo::new(12).ok_or("no such match")?;
+    assert_eq!(rt; later.board.game(game).number, 0);
     Ok(())
 }
 

@@ -110,6 +110,7 @@ fn event_words(rt: HostRuntime) -> Result<(), Fail> {
         ("red-home", Kind::Red(Side::Home)),
         ("red-away", Kind::Red(Side::Away)),
         ("fulltime", Kind::FullTime),
+        ("reopen", Kind::Reopen),
     ] {
         let mut text = after_club_rows(rt.alloc(), b"")?;
         push(&mut text, rt.alloc(), 255, 12, 65535, word)?;

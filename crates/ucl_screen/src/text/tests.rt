@@ -4,6 +4,7 @@ use super::{is_group, screen};
 use std::alloc::Global;
 use std::test::Fail;
 use ucl_board::Board;
+use ucl_order::Profile::{AwayInTie, Uefa};
 use ucl_order::{Club, Roster};
 use ucl_word::{EventCall, Kind, MatchNo, ReporterNo, Side};
 
@@ -80,8 +81,51 @@ fn head_to_head_again(rt: HostRuntime) -> Result<(), Fail> {
         (0, 1),
     ])?;
     let roster = sample_roster(rt.alloc())?;
-    let text = screen(rt.alloc(), &board, &roster, b'A')?;
+    let text = screen(rt.alloc(), &board, &roster, b'A', Uefa)?;
     assert_eq!(rt; text.as_str(), HEAD_TO_HEAD_AGAIN);
+    Ok(())
+}
+
+const BY_ALL_MATCHES: &str = "\
+GROUP A v00039 IN PLAY 0
+    Club                  P  W  D  L  GF  GA   GD Pts
+1 + Alpha                 6  5  0  1   8   2   +6  15
+2 + Bravo                 6  5  0  1   6   2   +4  15
+3 - Charlie               6  1  1  4   1   4   -3   4
+4 - Delta                 6  0  1  5   0   7   -7   1
+";
+
+const BY_AWAY_GOALS: &str = "\
+GROUP A v00039 IN PLAY 0
+    Club                  P  W  D  L  GF  GA   GD Pts
+1 + Bravo                 6  5  0  1   6   2   +4  15
+2 + Alpha                 6  5  0  1   8   2   +6  15
+3 - Charlie               6  1  1  4   1   4   -3   4
+4 - Delta                 6  0  1  5   0   7   -7   1
+";
+
+/// Clubs 1 and 2 are level head to head, where club 2 has the one away goal.
+#[test]
+fn screens_by_both_profiles(rt: HostRuntime) -> Result<(), Fail> {
+    let board = played(&[
+        (1, 0),
+        (0, 3),
+        (2, 1),
+        (1, 0),
+        (0, 1),
+        (1, 0),
+        (1, 0),
+        (0, 1),
+        (0, 1),
+        (1, 0),
+        (1, 0),
+        (0, 0),
+    ])?;
+    let roster = sample_roster(rt.alloc())?;
+    for (profile, expected) in [(Uefa, BY_ALL_MATCHES), (AwayInTie, BY_AWAY_GOALS)] {
+        let text = screen(rt.alloc(), &board, &roster, b'A', profile)?;
+        assert_eq!(rt; text.as_str(), expected);
+    }
     Ok(())
 }
 
@@ -97,7 +141,7 @@ GROUP H v00000 IN PLAY 0
 #[test]
 fn fresh_board_screen(rt: HostRuntime) -> Result<(), Fail> {
     let roster = sample_roster(rt.alloc())?;
-    let text = screen(rt.alloc(), &Board::fresh(), &roster, b'H')?;
+    let text = screen(rt.alloc(), &Board::fresh(), &roster, b'H', Uefa)?;
     assert_eq!(rt; text.as_str(), FRESH_BOARD);
     Ok(())
 }
@@ -111,8 +155,17 @@ GROUP A v00007 IN PLAY 1
 4   Charlie               1  0  1  0   0   0   +0   1
 ";
 
-const LARGEST_WORDS: &str = "\
+const LARGEST_OLD_WORDS: &str = "\
 GROUP A v12276 IN PLAY 0
+    Club                  P  W  D  L  GF  GA   GD Pts
+1 + Bravo                 6  0  6  0 378 378   +0   6
+2 + Delta                 6  0  6  0 378 378   +0   6
+3 - Alpha                 6  0  6  0 378 378   +0   6
+4 - Charlie               6  0  6  0 378 378   +0   6
+";
+
+const LARGEST_WORDS: &str = "\
+GROUP A v49140 IN PLAY 0
     Club                  P  W  D  L  GF  GA   GD Pts
 1 + Bravo                 6  0  6  0 378 378   +0   6
 2 + Delta                 6  0  6  0 378 378   +0   6
@@ -123,16 +176,21 @@ GROUP A v12276 IN PLAY 0
 #[test]
 fn screens_of_words(rt: HostRuntime) -> Result<(), Fail> {
     let roster = sample_roster(rt.alloc())?;
-    let mut two_matches = [0; 12];
-    two_matches[0] = 0x0000420000000806;
-    two_matches[1] = 0x0000800000000401;
+    let mut two_matches = [0x2000000000000000; 12];
+    two_matches[0] = 0x2001080000002006;
+    two_matches[1] = 0x2002000000001001;
+    let mut two_old_matches = [0; 12];
+    two_old_matches[0] = 0x0000420000000806;
+    two_old_matches[1] = 0x0000800000000401;
     let rows = [
         (two_matches, TWO_MATCHES),
-        ([0x003ffffffffffbff; 12], LARGEST_WORDS),
+        (two_old_matches, TWO_MATCHES),
+        ([0x003ffffffffffbff; 12], LARGEST_OLD_WORDS),
+        ([0x20ffffffffffefff; 12], LARGEST_WORDS),
     ];
     for (words, expected) in rows {
         let board = Board::of_words(&words)?;
-        let text = screen(rt.alloc(), &board, &roster, b'A')?;
+        let text = screen(rt.alloc(), &board, &roster, b'A', Uefa)?;
         assert_eq!(rt; text.as_str(), expected);
     }
     Ok(())

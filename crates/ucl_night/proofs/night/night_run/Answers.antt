@@ -1,4 +1,4 @@
-use Rattle.std.proofs.Common.{refl, subst, All}
+use Rattle.std.proofs.Common.{refl, subst, sym, All}
 use Rattle.ucl_night.specs.Nights.{IsOnDuty, number_of_two}
 use Rattle.ucl_night.proofs.Merging.{each_on_duty, merged_by_settlers}
 use Rattle.ucl_night.proofs.Merges.{night_board_read}
@@ -21,3 +21,8 @@ returns-clause-board g c one =
     let d = known c.settle.new.second in
     night_board_read (number_of_two (known c.settle.new.first).number d.number) c.args.night.now.events.items d.seen c.in_ok-settled.settled.version c.in_ok-settled.settled
     (returns-clause-merge g c) one c.in_ok-settled.ensures.reading
+
+pub returns-clause-count : goal.returns-clause-count
+returns-clause-count g c =
+    let settling = c.in_ok-settled.ensures in
+    (settling.settled.high, rw (settling.settled.mine_first, settling.settled.mine_second) (sym (settling.exactly.0 refl).1))

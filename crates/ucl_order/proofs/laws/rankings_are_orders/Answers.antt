@@ -4,9 +4,9 @@ use Rattle.ucl_order.proofs.TieBreaks.{overall-same}
 use Rattle.ucl_order.proofs.laws.rankings_are_orders.Goals as goal
 
 pub returns : goal.returns
-returns c board roster = record {
+returns c profile board roster = record {
   points = by_points_total (started (matches_of board));
-  among_some = λ clubs. head_to_head_total (started (matches_of board)) clubs;
+  among_some = λ clubs. head_to_head_total profile (started (matches_of board)) clubs;
   by_all = overall_total (started (matches_of board)) roster;
   decided = λ a b h. overall-same (started (matches_of board)) roster a b h;
 }

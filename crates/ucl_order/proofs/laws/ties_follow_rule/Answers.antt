@@ -4,9 +4,9 @@ use Rattle.ucl_order.proofs.Settling.{bound_unused, settled-few, settled-level, 
 use Rattle.ucl_order.proofs.laws.ties_follow_rule.Goals as goal
 
 pub returns : goal.returns
-returns c board roster tied = record {
-  alone = λ h. settled-few (started (matches_of board)) roster tied (omega arith);
-  one_class = λ two one. settled-level (started (matches_of board)) roster tied two one;
-  several = λ two many. settled-classes (started (matches_of board)) roster tied two many;
-  unbounded = λ most h. bound_unused (started (matches_of board)) roster most (length tied) tied h (omega arith);
+returns c profile board roster tied = record {
+  alone = λ h. settled-few profile (started (matches_of board)) roster tied (omega arith);
+  one_class = λ two one. settled-level profile (started (matches_of board)) roster tied two one;
+  several = λ two many. settled-classes profile (started (matches_of board)) roster tied two many;
+  unbounded = λ most h. bound_unused profile (started (matches_of board)) roster most (length tied) tied h (omega arith);
 }

@@ -21,23 +21,23 @@ of_clubs-results-requires-clause-pairings c =
 pub returns-clause-rows : goal.returns-clause-rows
 returns-clause-rows c =
     let ms : List Match = c.fill_matches.new.matches.items in
-    let order : c.order-order.result ≡ order_of c.args.board.now c.args.roster.now =
-    order_is c.args.board.now c.args.roster.now c.deref-3.result.now c.order-order.result
+    let order : c.order-order.result ≡ order_of c.args.profile c.args.board.now c.args.roster.now =
+    order_is c.args.profile c.args.board.now c.args.roster.now c.deref-3.result.now c.order-order.result
     (started_is c.args.board.now c.fill_matches.new.matches.items c.deref.result.now c.fill_started.new.chosen.items c.deref-3.result.now c.fill_matches.ensures.value c.deref.ensures.0 c.fill_started.ensures c.deref-3.ensures.0)
     c.order-order.ensures.value in
     let marks = c.marks_of-marks.ensures ∙ ap (λ m. map (mark_by m c.order-order.result) c.order-order.result) c.deref-4.ensures.0 in
     let results = c.of_clubs-results.ensures.value ∙ ap results_of_clubs (c.deref-2.ensures.0 ∙ c.fill_started.ensures ∙ ap started c.deref.ensures.0) in
-    let first : c.row_at.result ≡ row_of c.args.board.now c.args.roster.now 1 =
-    row_of_place c.args.board.now c.args.roster.now 1 ms ms c.order-order.result c.row_at.result c.fill_matches.ensures.value refl order (c.row_at.ensures ms marks results) in
-    let second : c.row_at-2.result ≡ row_of c.args.board.now c.args.roster.now 2 =
-    row_of_place c.args.board.now c.args.roster.now 2 ms ms c.order-order.result c.row_at-2.result c.fill_matches.ensures.value refl order (c.row_at-2.ensures ms marks results) in
-    let third : c.row_at-3.result ≡ row_of c.args.board.now c.args.roster.now 3 =
-    row_of_place c.args.board.now c.args.roster.now 3 ms ms c.order-order.result c.row_at-3.result c.fill_matches.ensures.value refl order (c.row_at-3.ensures ms marks results) in
-    let fourth : c.row_at-4.result ≡ row_of c.args.board.now c.args.roster.now 4 =
-    row_of_place c.args.board.now c.args.roster.now 4 ms ms c.order-order.result c.row_at-4.result c.fill_matches.ensures.value refl order (c.row_at-4.ensures ms marks results) in
+    let first : c.row_at.result ≡ row_of c.args.profile c.args.board.now c.args.roster.now 1 =
+    row_of_place c.args.profile c.args.board.now c.args.roster.now 1 ms ms c.order-order.result c.row_at.result c.fill_matches.ensures.value refl order (c.row_at.ensures ms marks results) in
+    let second : c.row_at-2.result ≡ row_of c.args.profile c.args.board.now c.args.roster.now 2 =
+    row_of_place c.args.profile c.args.board.now c.args.roster.now 2 ms ms c.order-order.result c.row_at-2.result c.fill_matches.ensures.value refl order (c.row_at-2.ensures ms marks results) in
+    let third : c.row_at-3.result ≡ row_of c.args.profile c.args.board.now c.args.roster.now 3 =
+    row_of_place c.args.profile c.args.board.now c.args.roster.now 3 ms ms c.order-order.result c.row_at-3.result c.fill_matches.ensures.value refl order (c.row_at-3.ensures ms marks results) in
+    let fourth : c.row_at-4.result ≡ row_of c.args.profile c.args.board.now c.args.roster.now 4 =
+    row_of_place c.args.profile c.args.board.now c.args.roster.now 4 ms ms c.order-order.result c.row_at-4.result c.fill_matches.ensures.value refl order (c.row_at-4.ensures ms marks results) in
     four_rows first second third fourth
 
 pub returns-clause-within : goal.returns-clause-within
 returns-clause-within c =
     let valid : All (λ m. IsValid m.result) (matches_of c.args.board.now) = (let P : List Match → Type 0 = All (λ m. IsValid m.result) in subst P c.fill_matches.ensures.value c.fill_matches.ensures.valid) in
-    All-same IsWithinTable _ (rows_of c.args.board.now c.args.roster.now) (returns-clause-rows c) (rows_within c.args.board.now c.args.roster.now valid)
+    All-same IsWithinTable _ (rows_of c.args.profile c.args.board.now c.args.roster.now) (returns-clause-rows c) (rows_within c.args.profile c.args.board.now c.args.roster.now valid)

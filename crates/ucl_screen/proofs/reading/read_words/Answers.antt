@@ -1,5 +1,5 @@
 use Rattle.std.proofs.lemmas.Result.{err_from_is_err_and}
-use Rattle.ucl_screen.proofs.Sound.{sheet-refused, sheet-tested}
+use Rattle.ucl_screen.proofs.Sound.{sheet-refused, sheet-taken, sheet-tested}
 use Rattle.ucl_screen.proofs.reading.read_words.Goals as goal
 
 pub returns-in_err-roster-clause-reads : goal.returns-in_err-roster-clause-reads
@@ -14,3 +14,10 @@ returns-clause-reads g c =
     let said = rw c.deref.ensures.value at c.in_ok-roster.ensures in
     sheet-tested (record { clubs = c.in_ok-roster.roster; words = c.in_ok-roster.words }) c.in-Err.bad.index
     (g.S.Source.left c.args.source.now) (g.S.Source.left c.read_all.new.source) (g.S.Source.failed c.read_all.new.source) c.in_ok-bytes.bytes.items r.0 r.1 said c.in-Err.ensures.refused
+
+pub returns-in-Ok-clause-reads : goal.returns-in-Ok-clause-reads
+returns-in-Ok-clause-reads g c =
+    let r = c.in_ok-bytes.ensures.reads in
+    let said = rw c.deref.ensures.value at c.in_ok-roster.ensures in
+    sheet-taken _ c.in_ok-roster.words
+    (g.S.Source.left c.args.source.now) (g.S.Source.left c.read_all.new.source) (g.S.Source.failed c.read_all.new.source) c.in_ok-bytes.bytes.items r.0 r.1 said c.in-Ok.ensures.board

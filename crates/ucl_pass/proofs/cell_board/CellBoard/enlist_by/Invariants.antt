@@ -1,6 +1,6 @@
 use Rattle.std.proofs.Common.{◌≡◌}
 use Rattle.crossbeam_utils.specs.Seq.{cell_view}
-use Rattle.ucl_pass.proofs.Calls.{Tried}
+use Rattle.ucl_pass.proofs.Calls.{TriedEnlist}
 use Rattle.ucl_pass.proofs.cell_board.CellBoard.enlist_by.Given as goal
 
 abbrev pub invariant-retry : goal.invariant-retry
@@ -8,5 +8,5 @@ invariant-retry g l = record {
   can : (goal.iterator-retry g).can_next l.iterator';
   ends : (goal.iterator-retry g).is_finite l.iterator';
   own : l.seat.table_id ≡ l.initial.seat.table_id;
-  tried : Tried (cell_view l.initial.seat) (cell_view l.seat);
+  tried : TriedEnlist (cell_view l.initial.seat) (cell_view l.seat);
 }

@@ -1,6 +1,15 @@
-use Rattle.std.proofs.Common.{rules}
-use Rattle.ucl_pass.proofs.Moves.{looks}
+use Rattle.std.proofs.Common.{rules, ℕ, ◌∙◌, sym, subst}
+use Rattle.ucl_board.specs.Fixtures.{IsMatch}
+use Rattle.crossbeam_utils.specs.Seq.{cell_view}
+use Rattle.ucl_pass.specs.CellSteps.{LooksAtMatch}
+use Rattle.ucl_pass.proofs.CellMoves.{looks}
 use Rattle.ucl_pass.proofs.cell_board.CellBoard.look.Goals as goal
 
 pub load_as-requires : goal.load_as-requires
-load_as-requires g c = (search rules, (search rules, (search rules, looks _ _)))
+load_as-requires g c = (search rules, (search rules, (search rules, looks _ _ _ (subst IsMatch (c.get-number.ensures.value ∙ sym c.requires.game) c.get-number.ensures.within))))
+
+pub returns-clause-game : goal.returns-clause-game
+returns-clause-game g c = subst IsMatch c.get-number.ensures.value c.get-number.ensures.within
+
+pub returns-clause-looks : goal.returns-clause-looks
+returns-clause-looks g c = subst (λ (n : ℕ). LooksAtMatch n (cell_view c.args.seat.now) c.load_as.result c.load_as.result (cell_view c.load_as.new.pass)) c.requires.game c.load_as.ensures.rule

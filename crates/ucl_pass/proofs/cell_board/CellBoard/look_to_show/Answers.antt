@@ -1,5 +1,5 @@
 use Rattle.std.proofs.Common.{rules}
-use Rattle.ucl_pass.proofs.Moves.{reads}
+use Rattle.ucl_pass.proofs.CellMoves.{reads}
 use Rattle.ucl_pass.proofs.cell_board.CellBoard.look_to_show.Goals as goal
 
 pub load_as-requires : goal.load_as-requires

@@ -1,6 +1,14 @@
-use Rattle.std.proofs.Common.{rules}
-use Rattle.ucl_pass.proofs.Moves.{begins}
+use Rattle.std.proofs.Common.{rules, List, ℕ, [], ◌∷◌, ◌++◌, ap, ◌∙◌}
+use Rattle.ucl_pass.specs.CellRule.{words_after}
+use Rattle.ucl_pass.proofs.Logging.{opens_fresh}
+use Rattle.ucl_pass.proofs.CellMoves.{begins}
 use Rattle.ucl_pass.proofs.cell_board.CellBoard.open.Goals as goal
 
 pub ruled-requires : goal.ruled-requires
-ruled-requires g c = (search rules, (search rules, begins))
+ruled-requires g c = (search rules, (search rules, begins _ (c.words_with.ensures ∙ ap (λ (b : List ℕ). b ++ 0 ∷ []) c.fresh.ensures)))
+
+pub returns-clause-rule : goal.returns-clause-rule
+returns-clause-rule g c = opens_fresh words_after
+
+pub returns-in_err-cell-clause-rule : goal.returns-in_err-cell-clause-rule
+returns-in_err-cell-clause-rule g c = opens_fresh words_after

@@ -1,6 +1,6 @@
 use Rattle.std.proofs.Common.{rules}
-use Rattle.ucl_pass.proofs.Moves.{splits}
+use Rattle.ucl_pass.proofs.CellMoves.{seconds}
 use Rattle.ucl_pass.proofs.cell_board.CellBoard.split_seat.Goals as goal
 
 pub split_pass-requires : goal.split_pass-requires
-split_pass-requires c = (search rules, (search rules, (search rules, splits _ _)))
+split_pass-requires c = (search rules, (search rules, (search rules, seconds _ _)))

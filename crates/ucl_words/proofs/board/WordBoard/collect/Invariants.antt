@@ -1,5 +1,5 @@
 use Rattle.std.proofs.Common.{◌≡◌, length}
-use Rattle.ucl_steps.specs.Trails.{First}
+use Rattle.ucl_board.specs.Log.{First}
 use Rattle.ucl_words.proofs.Collecting.{Collected}
 use Rattle.ucl_words.proofs.board.WordBoard.collect.Given as goal
 

@@ -1,5 +1,5 @@
 use Rattle.std.proofs.Common.{◌≡◌, ℕ, ◌≤◌, refl, sym, ◌∙◌, subst, arith}
-use Rattle.ucl_steps.specs.Trails.{Second}
+use Rattle.ucl_board.specs.Log.{Second}
 use Rattle.ucl_words.proofs.Moves.{loads, loads_last}
 use Rattle.ucl_words.proofs.Collecting.{Collected, collected_none, collected_same, collected_other, finds_again, finds_another}
 use Rattle.ucl_words.proofs.board.WordBoard.is_clean.Goals as goal
@@ -8,7 +8,7 @@ pub loop-i-init : goal.loop-i-init
 loop-i-init c = record { same = refl; collected = collected_none Second c.args.seat.now.me.0 c.args.words.now c.requires.steady }
 
 pub load-requires : goal.load-requires
-load-requires c = (c.loop-i.invariant.same ∙ (c.requires.table ∙ sym c.self.view_is), omega (arith, c.self.invariant.0), loads Second _ _ _ _ (omega arith))
+load-requires c = (c.loop-i.invariant.same ∙ (c.requires.table ∙ sym c.self.view_is), omega (arith, c.self.invariant.0), loads Second _ _ _ _ (omega arith, omega arith))
 
 pub loop-i-preserved : goal.loop-i-preserved
 loop-i-preserved c = record {
@@ -21,7 +21,7 @@ returns-then-load-words-clause-compared c = collected_other Second c.args.seat.n
 
 pub load-requires-2 : goal.load-requires-2
 load-requires-2 c =
-    let low : 1 ≤ 12 = omega arith in (
+    let low : (1 ≤ 12) × (12 ≤ 12) = (omega arith, omega arith) in (
       c.loop-i.invariant.same ∙ (c.requires.table ∙ sym c.self.view_is),
       omega (arith, c.self.invariant.0),
       loads_last c.self.inside.table.shared.table_id.slots c.loop-i.seat.id 12 c.loop-i.seat.me low,

@@ -1,5 +1,5 @@
 use Rattle.std.proofs.Common.{◌≡◌}
-use Rattle.ucl_steps.specs.Trails.{Second}
+use Rattle.ucl_board.specs.Log.{Second}
 use Rattle.ucl_words.proofs.Collecting.{Collected}
 use Rattle.ucl_words.proofs.board.WordBoard.is_clean.Given as goal
 

@@ -1,41 +1,56 @@
-use Rattle.std.proofs.Common.{rules, ap, sym, ◌∙◌, arith}
-use Rattle.ucl_words.proofs.Moves.{notes, joins, counts}
-use Rattle.ucl_words.proofs.Enlisting.{met_steady, met_continues, met_says, met_trail, after_told}
+use Rattle.std.proofs.Common.{rules, ap, sym, ◌∙◌, subst, arith}
+use Rattle.atomic_table.specs.Table.{Joins}
+use Rattle.ucl_pass.specs.declared.view.View.{View}
+use Rattle.ucl_pass.specs.Views.{newcomer, told_by}
+use Rattle.ucl_words.specs.WordRule.{TableKeepsOneHistory}
+use Rattle.ucl_words.proofs.Moves.{notes, joins}
+use Rattle.ucl_words.proofs.Enlisting.{met_steady, met_continues, met_says, met_trail, met_steps, after_told}
 use Rattle.ucl_words.proofs.board.WordBoard.meet_by.Goals as goal
 
 pub split_seat-note-requires : goal.split_seat-note-requires
 split_seat-note-requires c = (search rules, omega (arith, c.self.invariant.0), notes _ _)
 
 pub join_seat-requires : goal.join_seat-requires
-join_seat-requires c = (search rules, search rules, ap (λ m. m.1) c.split_seat-note.ensures.4, omega (arith, c.self.invariant.0), joins _ _ _ _)
-
-pub load-requires : goal.load-requires
-load-requires c = (c.join_seat.ensures.0 ∙ (c.requires.table.1 ∙ sym c.self.view_is), omega (arith, c.self.invariant.0), counts c.self.inside.table.shared.table_id.slots c.join_seat.new.seat.id c.join_seat.new.seat.me)
+join_seat-requires c = (
+  search rules,
+  search rules,
+  ap (λ m. m.1) c.split_seat-note.ensures.4,
+  omega (arith, c.self.invariant.0),
+  subst (λ (n : View). Joins TableKeepsOneHistory c.args.second.now.id c.args.second.now.me.0 c.split_seat-note.result.id n (told_by c.args.second.now.me.0 n) newcomer) (sym (ap (λ m. m.0) c.split_seat-note.ensures.4))
+      (joins _ _ _ c.args.first.now.me.0),
+)
 
 pub returns-clause-steady : goal.returns-clause-steady
 returns-clause-steady c =
     let a = c.args.first.now.me.0 in
     let v = c.args.second.now.me.0 in
-    let w = c.load.new.seat.me.0 in
-    met_steady a v w c.requires.steady (after_told a v c.split_seat-note.result.me.0 c.join_seat.new.seat.me.0 w (ap (λ m. m.0) c.split_seat-note.ensures.4) (ap (λ m. m.0) c.join_seat.ensures.2) c.load.ensures.2)
+    let w = c.count.new.seat.me.0 in
+    met_steady a v w c.requires.steady (after_told a v c.split_seat-note.result.me.0 c.join_seat.new.seat.me.0 w (ap (λ m. m.0) c.split_seat-note.ensures.4) (ap (λ m. m.0) c.join_seat.ensures.2) c.count.ensures.loads)
 
 pub returns-clause-always : goal.returns-clause-always
 returns-clause-always c =
     let a = c.args.first.now.me.0 in
     let v = c.args.second.now.me.0 in
-    let w = c.load.new.seat.me.0 in
-    met_continues a v w c.requires.steady (after_told a v c.split_seat-note.result.me.0 c.join_seat.new.seat.me.0 w (ap (λ m. m.0) c.split_seat-note.ensures.4) (ap (λ m. m.0) c.join_seat.ensures.2) c.load.ensures.2)
+    let w = c.count.new.seat.me.0 in
+    met_continues a v w c.requires.steady (after_told a v c.split_seat-note.result.me.0 c.join_seat.new.seat.me.0 w (ap (λ m. m.0) c.split_seat-note.ensures.4) (ap (λ m. m.0) c.join_seat.ensures.2) c.count.ensures.loads)
 
 pub returns-clause-meeting : goal.returns-clause-meeting
 returns-clause-meeting c =
     let a = c.args.first.now.me.0 in
     let v = c.args.second.now.me.0 in
-    let w = c.load.new.seat.me.0 in
-    met_says a v w c.requires.steady (after_told a v c.split_seat-note.result.me.0 c.join_seat.new.seat.me.0 w (ap (λ m. m.0) c.split_seat-note.ensures.4) (ap (λ m. m.0) c.join_seat.ensures.2) c.load.ensures.2)
+    let w = c.count.new.seat.me.0 in
+    met_says a v w c.requires.steady (after_told a v c.split_seat-note.result.me.0 c.join_seat.new.seat.me.0 w (ap (λ m. m.0) c.split_seat-note.ensures.4) (ap (λ m. m.0) c.join_seat.ensures.2) c.count.ensures.loads)
 
 pub returns-clause-trail : goal.returns-clause-trail
 returns-clause-trail c =
     let a = c.args.first.now.me.0 in
     let v = c.args.second.now.me.0 in
-    let w = c.load.new.seat.me.0 in
-    met_trail a v w c.requires.steady (after_told a v c.split_seat-note.result.me.0 c.join_seat.new.seat.me.0 w (ap (λ m. m.0) c.split_seat-note.ensures.4) (ap (λ m. m.0) c.join_seat.ensures.2) c.load.ensures.2)
+    let w = c.count.new.seat.me.0 in
+    met_trail a v w c.requires.steady (after_told a v c.split_seat-note.result.me.0 c.join_seat.new.seat.me.0 w (ap (λ m. m.0) c.split_seat-note.ensures.4) (ap (λ m. m.0) c.join_seat.ensures.2) c.count.ensures.loads)
+
+pub returns-clause-steps : goal.returns-clause-steps
+returns-clause-steps c =
+    let a = c.args.first.now.me.0 in
+    let v = c.args.second.now.me.0 in
+    let w = c.count.new.seat.me.0 in
+    met_steps a v w c.requires.steady (after_told a v c.split_seat-note.result.me.0 c.join_seat.new.seat.me.0 w (ap (λ m. m.0) c.split_seat-note.ensures.4) (ap (λ m. m.0) c.join_seat.ensures.2) c.count.ensures.loads)

@@ -1,4 +1,5 @@
 use Rattle.std.proofs.Common.{◌≡◌, ◌-◌, length}
+use Rattle.ucl_steps.specs.Trails.{most_tries}
 use Rattle.ucl_words.proofs.Collecting.{Tried}
 use Rattle.ucl_words.proofs.board.WordBoard.read_by.Given as goal
 
@@ -10,4 +11,4 @@ invariant-tries l = record {
 
 -- each try that is not clean has seen a longer history, and no history is longer than this
 abbrev pub decreases-tries : goal.decreases-tries
-decreases-tries l = 12277 - length l.seat.me.0.seen
+decreases-tries l = most_tries - length l.seat.me.0.seen

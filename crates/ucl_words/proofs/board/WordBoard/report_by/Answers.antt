@@ -9,7 +9,7 @@ pub record_of-requires : goal.record_of-requires
 record_of-requires c =
     let u = c.look-loaded.new.seat.me.0 in
     let said = c.look-loaded.ensures in
-    found_valid u.seen c.args.call.now.game c.look-loaded.result said.game said.looks.loads.sees.legal said.looks.loads.word
+    found_valid u.seen c.args.call.now.game c.look-loaded.result said.looks.loads.sees.goes.legal said.game said.looks.loads.sees.there.1
 
 pub returns-in-Err-clause-steady : goal.returns-in-Err-clause-steady
 returns-in-Err-clause-steady c =
@@ -39,7 +39,7 @@ pub record_of-requires-else-found-loaded : goal.record_of-requires-else-found-lo
 record_of-requires-else-found-loaded c =
     let z = c.swap-found.new.seat.me.0 in
     let missed = c.swap-found.ensures.missed c.if-found-loaded.false in
-    found_valid z.seen c.args.call.now.game c.swap-found.result c.look-loaded.ensures.game missed.loads.sees.legal missed.loads.word
+    found_valid z.seen c.args.call.now.game c.swap-found.result missed.loads.sees.goes.legal c.look-loaded.ensures.game missed.loads.sees.there.1
 
 pub returns-then-found-loaded-clause-steady : goal.returns-then-found-loaded-clause-steady
 returns-then-found-loaded-clause-steady c =

@@ -1,8 +1,9 @@
 use Rattle.std.proofs.Common.{◌≡◌, ap, refl, sym, ◌∙◌, subst, arith}
-use Rattle.ucl_words.specs.declared.view.View.{View}
+use Rattle.ucl_pass.specs.declared.view.View.{View}
+use Rattle.ucl_pass.specs.Views.{count_of, trail_of}
 use Rattle.ucl_words.specs.WordCalls.{IsSteady}
 use Rattle.ucl_words.proofs.Moves.{seconds}
-use Rattle.ucl_words.proofs.Enlisting.{second_steady}
+use Rattle.ucl_words.proofs.Enlisting.{second_steady, second_steps}
 use Rattle.ucl_words.proofs.board.WordBoard.split_now.Goals as goal
 
 pub split_seat-seat-requires : goal.split_seat-seat-requires
@@ -10,3 +11,9 @@ split_seat-seat-requires c = (ap (λ p. p.0) c.pass.view_is ∙ (c.requires ∙ 
 
 pub invariant_of-result : goal.invariant_of-result
 invariant_of-result c = subst (λ (v : View). IsSteady v × (v.number ≡ 0)) (sym (ap (λ m. m.0) c.split_seat-seat.ensures.4)) (second_steady c.pass.inside.seat.me.0 c.pass.invariant.0, refl)
+
+pub returns-clause-steps : goal.returns-clause-steps
+returns-clause-steps c =
+    let given = c.split_seat-seat.result.me.0 in
+    subst (λ (old : View). (count_of given ≡ count_of old) × (trail_of given ≡ trail_of old)) (ap (λ p. p.1) c.pass.view_is)
+    (subst (λ (v : View). (count_of v ≡ count_of c.pass.inside.seat.me.0) × (trail_of v ≡ trail_of c.pass.inside.seat.me.0)) (sym (ap (λ m. m.0) c.split_seat-seat.ensures.4)) (second_steps c.pass.inside.seat.me.0))

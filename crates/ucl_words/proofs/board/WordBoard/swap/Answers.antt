@@ -3,7 +3,7 @@ use mathlib.Core.Option.{some}
 use prog.Atomic.{either}
 use Rattle.atomic_table.specs.Table.{step, Allows}
 use Rattle.ucl_board.specs.declared.entry.Entry.{Entry}
-use Rattle.ucl_words.specs.WordRule.{KeepsOneHistory}
+use Rattle.ucl_words.specs.WordRule.{TableKeepsOneHistory}
 use Rattle.ucl_words.specs.WordSteps.{ExchangeStep, ExchangeMissed}
 use Rattle.ucl_words.proofs.Moves.{swaps}
 use Rattle.ucl_words.proofs.board.WordBoard.swap.Goals as goal
@@ -14,12 +14,12 @@ compare_exchange_with-requires c =
     let value = c.get.ensures.value in
     let range = c.get.ensures.within in let a = range.0 in let b = range.1 in
     let e : Entry = c.args.entry in
-    let low : 1 ≤ e.game = omega arith in
+    let low : (1 ≤ e.game) × (e.game ≤ 12) = (omega arith, omega arith) in
     let slots : ℕ = c.self.inside.table.shared.table_id.slots in
     let seat = c.args.seat.now in (
       c.requires.table ∙ sym c.self.view_is,
       omega (arith, c.self.invariant.0),
-      subst (λ (w : ℕ). Allows KeepsOneHistory slots seat.id seat.me w (λ n. either (n == c.args.loaded) c.args.next n) (ExchangeStep (step slots w c.args.loaded c.args.next (some e)) seat.me)) (sym (is ∙ value))
+      subst (λ (w : ℕ). Allows TableKeepsOneHistory slots seat.id seat.me w (λ n. either (n == c.args.loaded) c.args.next n) (ExchangeStep (step slots w c.args.loaded c.args.next (some e)) seat.me)) (sym (is ∙ value))
           (swaps slots seat.id seat.me e c.args.loaded c.args.next low c.requires.me.0 c.requires.me.1 c.requires.next),
     )
 

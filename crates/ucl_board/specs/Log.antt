@@ -1,0 +1,92 @@
+-- The log of a board that threads share: all steps that passes took on its words, oldest first.
+use Rattle.std.specs.Prelude.{◌≡◌, ℕ, ◌==◌, List, [], ◌∷◌, map, filter, length, Option, Some, None}
+use Rattle.std.specs.List.{flat_map}
+use Rattle.ucl_word.specs.Layout.{word_of}
+use Rattle.ucl_word.specs.Sequence.{EachMay}
+use Rattle.ucl_board.specs.declared.entry.Entry.{Entry}
+use Rattle.ucl_board.specs.Fixtures.{IsMatch}
+use Rattle.ucl_board.specs.History.{match_after}
+
+-- what a step on a match word is: the load and the exchange of a report, and the loads of a reading's first and second collect
+pub data Act : Type 0 where
+  Look : Act
+  Swap : Act
+  First : Act
+  Second : Act
+
+-- a step on a match word: what it was, of which match, the word that it found, and the length of the history just before it
+pub record Mark : Type 0 where
+  pub act : Act
+  pub game : ℕ
+  pub found : ℕ
+  pub at : ℕ
+
+abbrev pub mark : Act → ℕ → ℕ → ℕ → Mark
+mark act game found at = record { act = act; game = game; found = found; at = at }
+
+-- what a step looked at: the word of one match, by an act that found this word; the number of enlisted reporters; or the whole board at once
+pub data Target : Type 0 where
+  Match : (act : Act) (game found : ℕ) → Target
+  Enlisted : Target
+  Whole : Target
+
+-- a step: what it looked at, the length of the history just before it, and the entry that it added
+pub record Taken : Type 0 where
+  pub target : Target
+  pub at : ℕ
+  pub entry : Option Entry
+
+abbrev pub step_taken : Target → ℕ → Option Entry → Taken
+step_taken target at entry = record { target = target; at = at; entry = entry }
+
+-- the steps of all passes, each with the seat of the pass that took it
+abbrev pub Log : Type 0
+Log = List (ℕ × Taken)
+
+-- the steps of one seat
+abbrev pub taken_by : ℕ → Log → List Taken
+taken_by seat log = map (λ x. x.1) (filter (λ x. x.0 == seat) log)
+
+-- the entry of a step, where it added one
+abbrev pub entry_list : Option Entry → List Entry
+entry_list None = []
+entry_list (Some e) = e ∷ []
+
+-- the entries that steps added
+abbrev pub added_by : List Taken → List Entry
+added_by steps = flat_map (λ x. entry_list x.entry) steps
+
+-- the history is the entries of the log
+abbrev pub history_of : Log → List Entry
+history_of log = flat_map (λ x. entry_list x.1.entry) log
+
+-- the mark of a step on a match word
+abbrev pub mark_list : Target → ℕ → List Mark
+mark_list (Match act game found) at = mark act game found at ∷ []
+mark_list Enlisted at = []
+mark_list Whole at = []
+
+-- the marks of steps on match words
+abbrev pub marks_in : List Taken → List Mark
+marks_in steps = flat_map (λ x. mark_list x.target x.at) steps
+
+-- the word that was found is that of its match after the history
+abbrev pub IsThere : List Entry → Target → Type 0
+IsThere history (Match act game found) = IsMatch game × (found ≡ word_of (match_after history game))
+IsThere history Enlisted = Unit {0}
+IsThere history Whole = Unit {0}
+
+-- an entry is added by an exchange of its match's word, and by nothing else
+abbrev pub MayAdd : Target → Option Entry → Type 0
+MayAdd target None = Unit {0}
+MayAdd target (Some e) = (found : ℕ) × (target ≡ Match Swap e.game found)
+
+-- a step that may come next: it is after the whole history, whose words it found
+pub record MayBeTaken (log : Log) (x : ℕ × Taken) : Type 0 where
+  pub place : x.1.at ≡ length (history_of log)
+  pub there : IsThere (history_of log) x.1.target
+  pub adds : MayAdd x.1.target x.1.entry
+
+-- each step comes after the whole history of the steps before it
+abbrev pub IsLog : Log → Type 0
+IsLog log = EachMay MayBeTaken log

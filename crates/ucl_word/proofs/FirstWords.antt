@@ -1,0 +1,77 @@
+-- Words of the first layout: each is read back, no word is of both layouts, and what words are read as.
+use Rattle.std.proofs.Common.{◌≡◌, ℕ, ◌+◌, ◌-◌, ◌*◌, ◌/◌, ◌^◌, ◌<◌, ◌≤◌, refl, sym, ap, ◌∙◌, arith, inl, inr, true, true≢false}
+use Rattle.std.specs.Prelude.{Result, Ok, Err, IfOk, is_ok}
+use Rattle.ucl_word.specs.declared.refusal.BadWord.{BadWord}
+use Rattle.ucl_word.specs.declared.record.MatchRecord.{MatchRecord}
+use Rattle.ucl_word.specs.declared.record.State.{State}
+use Rattle.ucl_word.specs.declared.record.State.TheVariants.{Scheduled, InPlay, Finished}
+use Rattle.ucl_word.specs.Record.{IsValid}
+use Rattle.ucl_word.specs.Layout.{first_layout, IsMarked, word_in, word_of, state_code, held_at, IsWord}
+use Rattle.ucl_word.specs.Migration.{most_in_first, first_word_of, IsFirstValid, IsFirstWord, IsReadable, IsMoved, IsReadAs}
+use Rattle.ucl_word.specs.Laws.{LayoutsDiffer, WordsAreReadOneWay}
+use Rattle.ucl_word.proofs.Words.{Tells, tells, record_told, told_back, told_again, step, code_below, word_high}
+
+most_numbers : (s : State) (n : ℕ) → n ≤ most_in_first s → n < 2 ^ first_layout.number.width
+most_numbers Scheduled n h = omega arith
+most_numbers InPlay n h = omega arith
+most_numbers Finished n h = omega arith
+
+module _ (m : MatchRecord) (is : IsFirstValid m) where
+  pub first_told : Tells first_layout.number.width 0 (first_word_of m) m
+  unfolding first_word_of
+  first_told = tells first_layout.number.width 0 (first_word_of m) m is.valid (most_numbers m.state m.number is.number) (omega arith)
+
+  pub first_back : record_told first_layout.number.width (first_word_of m) ≡ m
+  first_back = told_back first_layout.number.width 0 (first_word_of m) m first_told
+
+pub first_again : (word : ℕ) (s : State) → IsMarked first_layout word → held_at word first_layout.state ≡ state_code s → first_word_of (record_told first_layout.number.width word) ≡ word
+unfolding first_word_of
+first_again word s high code = let t = told_again first_layout.number.width 0 word s high code in let a = step word 0 first_layout.number.width first_layout.number.width refl in omega arith
+
+pub first_code : (word : ℕ) → IsFirstWord word → held_at word first_layout.state < 3
+first_code word is = rw (← is.packed, (first_told is.of is.valid).code) (code_below is.of.state)
+
+pub first_high : (word : ℕ) → IsFirstWord word → IsMarked first_layout word
+first_high word is = rw (← is.packed) (first_told is.of is.valid).high_is
+
+pub first_valid : (word : ℕ) → IsFirstWord word → IsFirstValid (record_told first_layout.number.width word)
+first_valid word is = rw (← is.packed, first_back is.of is.valid) is.valid
+
+pub first_apart : (m n : MatchRecord) → IsFirstValid m → IsFirstValid n → first_word_of m ≡ first_word_of n → m ≡ n
+first_apart m n v w e = sym (first_back m v) ∙ (ap (record_told first_layout.number.width) e ∙ first_back n w)
+
+pub layouts_apart : LayoutsDiffer
+layouts_apart word is first = let a = word_high word is in let b = first_high word first in omega arith
+
+pub first_of_moved : (word new : ℕ) → IsMoved word new → IsFirstWord word
+first_of_moved word new moved = record { of = moved.of; valid = moved.valid; packed = moved.packed }
+
+word_of_moved : (word new : ℕ) → IsMoved word new → IsWord new
+word_of_moved word new moved = record { of = moved.of; valid = moved.valid.valid; packed = sym moved.moved }
+
+-- a word that was read is of a valid record
+pub read_word : (r : Result MatchRecord BadWord) (word : ℕ) → IfOk r IsValid → IfOk r (λ m. word_of m ≡ word) → is_ok r ≡ true → IsWord word
+read_word (Ok m) word valid packed is = record { of = m; valid = valid; packed = packed }
+read_word (Err bad) word valid packed is = absurd (true≢false (sym is))
+
+-- what is read is a word of this layout, and a word of this layout is read as it is
+pub read_valid : (word new : ℕ) → IsReadAs word new → IsWord new
+read_valid word new (inl kept) = rw kept.1 kept.0
+read_valid word new (inr moved) = word_of_moved word new moved
+
+pub read_kept : (word new : ℕ) → IsWord word → IsReadAs word new → new ≡ word
+read_kept word new is (inl kept) = kept.1
+read_kept word new is (inr moved) = absurd (layouts_apart word is (first_of_moved word new moved))
+
+pub readable : (word new : ℕ) → IsReadAs word new → IsReadable word
+readable word new (inl kept) = inl kept.0
+readable word new (inr moved) = inr (first_of_moved word new moved)
+
+pub read_one_way : WordsAreReadOneWay
+read_one_way word a b (inl kept) (inl bs) = (rw kept.1 kept.0, kept.1 ∙ sym bs.1)
+read_one_way word a b (inl kept) (inr moved) = absurd (layouts_apart word kept.0 (first_of_moved word b moved))
+read_one_way word a b (inr moved) (inl bs) = absurd (layouts_apart word bs.0 (first_of_moved word a moved))
+read_one_way word a b (inr m) (inr n) = (
+  word_of_moved word a m,
+  m.moved ∙ (ap word_of (first_apart m.of n.of m.valid n.valid (m.packed ∙ sym n.packed)) ∙ sym n.moved),
+)

@@ -1,0 +1,10 @@
+use Rattle.std.proofs.Common.{sym, ◌∙◌, arith}
+use Rattle.ucl_words.proofs.Moves.{counts}
+use Rattle.ucl_words.proofs.Enlisting.{counted_steady}
+use Rattle.ucl_words.proofs.board.WordBoard.count.Goals as goal
+
+pub load-requires : goal.load-requires
+load-requires c = (c.requires ∙ sym c.self.view_is, omega (arith, c.self.invariant.0), counts _ _ _)
+
+pub returns-clause-steady : goal.returns-clause-steady
+returns-clause-steady c = counted_steady c.args.seat.now.me.0 c.load.new.seat.me.0 c.load.ensures.2

@@ -1,0 +1,5 @@
+use Rattle.ucl_words.proofs.Working.{calls_work}
+use Rattle.ucl_words.proofs.laws.calls_add_work.Goals as goal
+
+pub returns : goal.returns
+returns c = calls_work
