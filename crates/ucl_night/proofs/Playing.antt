@@ -1,5 +1,5 @@
 -- What a night, and a line, does with its streams, from what its calls answer.
-use Rattle.std.proofs.Common.{◌≡◌, ◌≢◌, ℕ, Bool, false, List, Option, Some, None, ap, ◌∙◌}
+use Rattle.std.proofs.Common.{◌≡◌, ◌≢◌, ℕ, Bool, false, List, [], ◌∷◌, length, Option, Some, None, All, refl, ap, ◌∙◌, arith, length-append}
 use Rattle.std.specs.Prelude.{⊤, IfSome, IfErr, OnOk, Result, Ok, Err, take}
 use Rattle.std.specs.Io.KnownBytes.{Appends}
 use Rattle.ucl_board.specs.declared.entry.Entry.{Entry}
@@ -12,11 +12,12 @@ use Rattle.ucl_screen.specs.Meaning.{MeansNight}
 use Rattle.ucl_screen.specs.Screen.{screen_text}
 use Rattle.ucl_pass.specs.Passes.{Known}
 use Rattle.ucl_night.specs.declared.command_line.Line.TheVariants.{Night}
-use Rattle.ucl_night.specs.declared.fault.RunFault.{RunFault}
-use Rattle.ucl_night.specs.declared.fault.RunFault.TheVariants.{Input, OutOfMemory, WriteFailed, NotOnDuty, NoThread, TooManyReporters, Strangers}
-use Rattle.ucl_night.specs.Nights.{HasShown, IsMerge, night_text, number_of_two}
+use Rattle.ucl_runs.specs.declared.fault.RunFault.{RunFault}
+use Rattle.ucl_runs.specs.declared.fault.RunFault.TheVariants.{Input, OutOfMemory, WriteFailed, NotOnDuty, NoThread, TooManyReporters, Strangers}
+use Rattle.ucl_runs.specs.Nights.{EachMatchHasOneReporter, HasShown, IsLastScreen, IsMerge, IsOnDuty, night_text, number_of_two}
 use Rattle.ucl_night.specs.Program.{HasLooked, IsPlayed, Obeys, streams}
-use Rattle.ucl_night.specs.Run.{IsStopped, StoppedShort, TextHas}
+use Rattle.ucl_runs.specs.Run.{IsStopped, StoppedShort, TextHas}
+use Rattle.ucl_runs.proofs.Unsigned.{screen_of_script}
 
 -- The output of a night. --
 
@@ -27,13 +28,43 @@ pub closing-of : (profile : Profile) (settled : Reading) (seen : List Entry) (ro
     → closing ≡ screen_text profile settled.board roster group → closing ≡ screen_text profile (board_of (take settled.version seen)) roster group
 closing-of profile settled seen roster group closing is text = text ∙ ap (λ (r : Reading). screen_text profile r.board roster group) is
 
+-- a reader who took no reading has no last screen
+none_shown : (profile : Profile) (seen : List Entry) (versions : List ℕ) (roster : List ClubEntry) (group : ℕ) (last : Option (List ℕ)) → length versions ≡ 0 → IsLastScreen profile seen versions roster group last → last ≡ None
+none_shown profile seen versions roster group None none is = refl
+none_shown profile seen versions roster group (Some text) none is =
+    let many = length-append is.before (is.version ∷ []) in
+    let all = ap length is.last in
+    absurd (omega arith)
+
+unlooked : (profile : Profile) (readings : ℕ) (roster : List ClubEntry) (group : ℕ) (last : Option (List ℕ)) → HasLooked profile readings roster group last → readings ≡ 0 → last ≡ None
+unlooked profile readings roster group last looks none = none_shown profile looks.seen looks.versions roster group last (looks.many ∙ none) looks.last_is
+
 pub played : (profile : Profile) (known : Option (List ℕ)) (night : NightEntry) (group readings first second : ℕ) (history : List Entry) (left right : Option (List ℕ)) (closing : List ℕ)
-    → IfSome known (λ bytes. MeansNight bytes (Ok night)) → first ≢ second → IsMerge (number_of_two first second) night.events history
+    → IfSome known (λ bytes. MeansNight bytes (Ok night)) → All IsOnDuty night.events → first ≢ second → IsMerge (number_of_two first second) night.events history
     → HasLooked profile readings night.clubs group left → HasLooked profile readings night.clubs group right → closing ≡ screen_text profile (board_of history) night.clubs group
     → IfSome known (λ bytes. IsPlayed profile group readings bytes (night_text left right closing))
-played profile None night group readings first second history left right closing means apart merge one two is = tt
-played profile (Some bytes) night group readings first second history left right closing means apart merge one two is =
-    record { night = night; means = means; first = first; second = second; apart = apart; history = history; merge = merge; left = left; right = right; left_is = one; right_is = two; text_is = ap (night_text left right) is }
+played profile None night group readings first second history left right closing means duty apart merge one two is = tt
+played profile (Some bytes) night group readings first second history left right closing means duty apart merge one two is =
+    let screen = λ (alone : EachMatchHasOneReporter night.events). screen_of_script first second night.events history merge alone duty profile night.clubs group in
+    record {
+      night = night;
+      means = means;
+      first = first;
+      second = second;
+      apart = apart;
+      history = history;
+      merge = merge;
+      left = left;
+      right = right;
+      left_is = one;
+      right_is = two;
+      text_is = ap (night_text left right) is;
+      closing = screen;
+      unwatched = λ alone none.
+          ap (λ (l : Option (List ℕ)). night_text l right closing) (unlooked profile readings night.clubs group left one none)
+          ∙ (ap (λ (r : Option (List ℕ)). night_text None r closing) (unlooked profile readings night.clubs group right two none)
+          ∙ ap (night_text None None) (is ∙ screen alone));
+    }
 
 -- How a night ends. --
 

@@ -1,10 +1,2 @@
 pub mod CommandLine
-pub mod Faults
-pub mod Lines
-pub mod Feed
-pub mod Nights
-pub mod Workers
-pub mod Show
-pub mod Run
-pub mod Headline
 pub mod Program

@@ -1,8 +1,8 @@
 -- What the program does with what its words ask for.
-use Rattle.std.specs.Prelude.{◌≡◌, ◌≢◌, ◌⊎◌, ℕ, ◌<◌, ◌≤◌, ⊤, Bool, true, List, ◌++◌, All, length, take, Option, Some, None, [], decimal, IfSome, Result, Ok, Err, IfErr, IsErrOf, OnOk, codes, string_bytes}
+use Rattle.std.specs.Prelude.{◌≡◌, ◌≢◌, ℕ, ◌≤◌, ⊤, Bool, true, List, All, length, map, Option, None, IfSome, Result, Ok, Err, IfErr, IsErrOf, OnOk, string_bytes}
 use Rattle.std.specs.Io.KnownBytes.{Appends}
 use Rattle.ucl_board.specs.declared.entry.Entry.{Entry}
-use Rattle.ucl_board.specs.History.{IsLegal, board_of}
+use Rattle.ucl_board.specs.History.{IsLegal, accepted_of, board_of}
 use Rattle.ucl_order.specs.declared.profile.Profile.{Profile}
 use Rattle.ucl_order.specs.Roster.{ClubEntry}
 use Rattle.ucl_screen.specs.declared.fault.InputFault.{InputFault}
@@ -15,14 +15,14 @@ use Rattle.ucl_night.specs.declared.command_line.Line.{Line}
 use Rattle.ucl_night.specs.declared.command_line.Line.TheVariants.{Feed, Show, Night}
 use Rattle.ucl_night.specs.declared.command_line.LineFault.{LineFault}
 use Rattle.ucl_night.specs.declared.command_line.LineFault.TheVariants as words
-use Rattle.ucl_night.specs.declared.fault.RunFault.{RunFault}
-use Rattle.ucl_night.specs.declared.fault.RunFault.TheVariants.{Input, OutOfMemory, NotOnDuty}
-use Rattle.ucl_night.specs.declared.telling.FaultLine.{FaultLine}
-use Rattle.ucl_night.specs.Faults.{IsOfOneThread, fault_text, status}
-use Rattle.ucl_night.specs.Feed.{IsFed}
-use Rattle.ucl_night.specs.Show.{IsShown}
-use Rattle.ucl_night.specs.Nights.{IsFirstOffDuty, IsLastScreen, IsMerge, night_text, number_of_two}
-use Rattle.ucl_night.specs.Run.{IfInput, IfWriteFailed, IsCutShort, StoppedShort, TextHas, UnlessWriteFailed, WroteFirst, is_read_failed}
+use Rattle.ucl_runs.specs.declared.fault.RunFault.{RunFault}
+use Rattle.ucl_runs.specs.declared.fault.RunFault.TheVariants.{Input, OutOfMemory, NotOnDuty}
+use Rattle.ucl_runs.specs.Faults.{IsOfOneThread, status}
+use Rattle.ucl_runs.specs.Feed.{IsFed, attempt_of}
+use Rattle.ucl_runs.specs.Show.{IsShown}
+use Rattle.ucl_runs.specs.Telling.{Tells, fault_line}
+use Rattle.ucl_runs.specs.Nights.{EachMatchHasOneReporter, IsFirstOffDuty, IsLastScreen, IsMerge, night_text, number_of_two}
+use Rattle.ucl_runs.specs.Run.{IfInput, IfWriteFailed, IsCutShort, StoppedShort, TextHas, UnlessWriteFailed, WroteFirst, is_read_failed}
 
 -- The text that a line calls for. --
 
@@ -35,7 +35,13 @@ pub record HasLooked (profile : Profile) (readings : ℕ) (roster : List ClubEnt
   pub high : All (λ version. version ≤ length seen) versions
   pub last_is : IsLastScreen profile seen versions roster group last
 
--- the input is a script, and this is the output of a night of it: the last screens of both readers, and the screen of a merge of the rows
+-- the screen of the rows of a script, entered in script order by reporters 1 and 2
+abbrev pub script_screen : Profile → ℕ → NightEntry → List ℕ
+script_screen profile group night = screen_text profile (board_of (accepted_of (map attempt_of night.events))) night.clubs group
+
+-- the input is a script, and this is the output of a night of it: the last screens of both readers, and the screen of a merge of the rows.
+-- Where each match has one reporter, that is the screen of the script, whoever was faster; where besides no reading is asked for, the
+-- text is worked out from the input alone
 pub record IsPlayed (profile : Profile) (group readings : ℕ) (bytes text : List ℕ) : Type 0 where
   pub night : NightEntry
   pub means : MeansNight bytes (Ok night)
@@ -49,6 +55,8 @@ pub record IsPlayed (profile : Profile) (group readings : ℕ) (bytes text : Lis
   pub left_is : HasLooked profile readings night.clubs group left
   pub right_is : HasLooked profile readings night.clubs group right
   pub text_is : text ≡ night_text left right (screen_text profile (board_of history) night.clubs group)
+  pub closing : EachMatchHasOneReporter night.events → screen_text profile (board_of history) night.clubs group ≡ script_screen profile group night
+  pub unwatched : EachMatchHasOneReporter night.events → readings ≡ 0 → text ≡ night_text None None (script_screen profile group night)
 
 -- the text that a line calls for
 abbrev pub CallsFor : Line → List ℕ → List ℕ → Type 0
@@ -102,33 +110,10 @@ pub record Obeys (line : Line) (before after : Streams) (r : Result ⊤ RunFault
   pub write_failed : IfErr r (λ f. IfWriteFailed f (λ written. after.write_failed ≡ true))
   pub written : IfErr r (λ f. IfWriteFailed f (λ written. TextHas (CallsFor line) before.left (StopsWithin line after.write_failed before.taken after.taken written)))
 
--- the error sink has failed, and took the first bytes of a text and not all of them
-pub record BrokeOff (failed : Bool) (old new : Option (List ℕ)) (text : List ℕ) : Type 0 where
-  pub failed_is : failed ≡ true
-  pub count : ℕ
-  pub cut : count < length text
-  pub out : Appends old new (take count text)
-
--- a text was told on the error sink, as far as it took any
-abbrev pub Tells : Bool → Option (List ℕ) → Option (List ℕ) → List ℕ → Type 0
-Tells failed old new text = Appends old new text ⊎ BrokeOff failed old new text
-
--- the line of a fault
-abbrev pub fault_line : RunFault → List ℕ
-fault_line fault = fault_text fault ++ codes "\n"
-
 -- status 0 and nothing is told; or the line of the fault is told, and its status
 abbrev pub Ends : Result ⊤ RunFault → ℕ → Bool → Option (List ℕ) → Option (List ℕ) → Type 0
 Ends (Ok done) code failed old new = (code ≡ 0) × (new ≡ old)
 Ends (Err fault) code failed old new = (code ≡ status fault) × Tells failed old new (fault_line fault)
-
--- the text of a line of three parts, of which the second is a number, if any
-abbrev pub number_text : Option ℕ → List ℕ
-number_text None = []
-number_text (Some number) = decimal number
-
-abbrev pub parts_text : FaultLine → List ℕ
-parts_text line = line.before.now ++ number_text line.number ++ line.after.now
 
 -- a text was written whole, or has the fault r
 pub record WritesText (text : List ℕ) (before after : Streams) (r : Result ⊤ RunFault) : Type 0 where

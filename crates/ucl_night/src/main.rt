@@ -5,31 +5,20 @@
 #![tactic(auto)]
 
 mod command_line;
-mod fault;
-mod feed;
-mod gate;
-mod laws;
-mod lines;
-mod night;
-mod output;
 mod program;
-mod show;
-mod telling;
-mod threads;
-mod workers;
+mod refusal;
 
 pub use command_line::{Line, LineFault, line_of};
-pub use fault::{RunFault, status_of};
-pub use feed::feed_run;
-pub use gate::{Gate, OpenGate};
-pub use laws::{every_run_has_one_history, schedule_does_not_matter};
-pub use night::{NightEnd, night_run, put_night};
 pub use program::{obey, run};
-pub use show::show_run;
+use refusal::tell_refusal;
 use std::env;
 use std::io::ErrorKind;
 use std::process::ExitCode;
-use telling::{tell, tell_refusal};
+use ucl_runs::tell;
+pub use ucl_runs::{
+    Gate, NightEnd, OpenGate, RunFault, every_run_has_one_history, feed_run, night_run, put_night,
+    schedule_does_not_matter, show_run, status_of,
+};
 use ucl_screen::{FromRead, ToWrite};
 
 /// What is told where a word of the command line is no text.

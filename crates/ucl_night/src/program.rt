@@ -5,13 +5,13 @@ ghost use Rattle.ucl_screen.specs.Screen.{IsGroup};
 ghost use Rattle.ucl_night.specs.CommandLine.{IsInRange};
 ghost use Rattle.ucl_night.specs.Program.{Ends, Obeys, Runs, streams};
 
-use crate::output::put_text;
-use crate::telling::{tell, tell_refusal};
-use crate::{Line, LineFault, OpenGate, RunFault, feed_run, night_run, put_night, show_run};
+use crate::refusal::tell_refusal;
+use crate::{Line, LineFault};
 use std::alloc::Global;
 use std::sync::Wait;
 use std::thread::Threads;
 use ucl_order::Profile;
+use ucl_runs::{OpenGate, RunFault, feed_run, night_run, put_night, put_text, show_run, tell};
 use ucl_screen::{Sink, Source, read_night};
 use ucl_words::WordBoard;
 

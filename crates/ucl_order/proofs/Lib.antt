@@ -20,3 +20,4 @@ pub mod Alone
 pub mod Rounds
 pub mod Sorting
 pub mod Marking
+pub mod Unsigned

@@ -1,7 +1,7 @@
 -- What the rule says of a log: a board opens with none, each step is its end, and the last one has seen the whole history.
 use Rattle.std.proofs.Common.{◌≡◌, ◌≢◌, ◌⊎◌, inl, inr, ⊎_elim, ℕ, zero, suc, ◌<◌, ◌≤◌, ◌==◌, Bool, cond, List, [], ◌∷◌, ◌++◌, length, map, set, refl, sym, ap, ◌∙◌, subst, arith, append-nil, length-append, eq-eqb, ne_eqb}
 use Rattle.std.specs.Prelude.{All, drop, filter}
-use Rattle.std.proofs.lemmas.List.{nil_from_length}
+use Rattle.std.proofs.lemmas.List.{length-set, nil_from_length}
 use Rattle.std.proofs.lemmas.List.Elements.{All-head}
 use mathlib.Core.List.{IsPrefix}
 use mathlib.Core.Logic.{dite}
@@ -141,15 +141,10 @@ comes_last seat steps [] new knows more =
 comes_last seat steps ((j, t) ∷ old) new knows more = both_begin seat j t steps old new (comes_last seat steps old) knows more
 
 -- each place below the number of views has one
-view_at : (views : List View) (j : ℕ) → j < length views → (u : View) × (get_elem? views j ≡ some u)
+pub view_at : (views : List View) (j : ℕ) → j < length views → (u : View) × (get_elem? views j ≡ some u)
 view_at [] j below = absurd (omega arith)
 view_at (v ∷ views) zero below = (v, refl)
 view_at (v ∷ views) (suc j) below = view_at views j (omega arith)
-
-length_set : (views : List View) (k : ℕ) (w : View) → length (set views k w) ≡ length views
-length_set [] k w = refl
-length_set (v ∷ views) zero w = refl
-length_set (v ∷ views) (suc k) w = ap suc (length_set views k w)
 
 -- a seat that is not there took no step
 none_beyond : (n j : ℕ) (log : Log) → n ≤ j → All (λ (x : ℕ × Taken). x.0 < n) log → taken_by j log ≡ []
@@ -172,7 +167,7 @@ steps_last words_after before after views r seat v w steps here s more =
       begins_none r.log,
       begins_none s.log,
       sym (none_beyond (length views) j r.log (omega (arith, over)) r.seated),
-      sym (none_beyond (length views) j s.log (omega (arith, over)) (subst (λ (n : ℕ). All (λ (x : ℕ × Taken). x.0 < n) s.log) (length_set views seat w) s.seated)),
+      sym (none_beyond (length views) j s.log (omega (arith, over)) (subst (λ (n : ℕ). All (λ (x : ℕ × Taken). x.0 < n) s.log) (length-set views seat w) s.seated)),
     ))) in
     comes_last seat steps r.log s.log knows (sym g.own ∙ (more ∙ ap (λ (l : List Taken). l ++ steps) f.own))
 

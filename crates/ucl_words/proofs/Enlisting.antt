@@ -127,10 +127,6 @@ missed_full v x n was high = let few = was.steady.sound.few in let known = was.k
 pub missed_trail : (v x : View) (n : ℕ) → Missed v x n → KeepsTrail v x
 missed_trail v x n was = record { steps = was.steps; trail = was.trail; whole = was.steady.trail }
 
-pub number_told : (u v : View) (r : Option ℕ) (n : ℕ) → Enlistment (known_of u) (known_of v) → v.number ≡ n → IfSome r (λ k. k ≡ n) → IfSome r (λ k. Enlistment (known_of u) (known_of v) × (v.number ≡ k))
-number_told u v (Some k) n e is told = (e, is ∙ sym told)
-number_told u v None n e is told = tt
-
 -- a second pass
 second_trail : (v : View) → trail_of (second_of v) ≡ trail_of v
 second_trail v = ap marks_in (append-nil (steps_of v))

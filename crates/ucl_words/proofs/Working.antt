@@ -24,16 +24,11 @@ use Rattle.ucl_steps.specs.LogRuns.{Finished, Begun, Work, Done, done_list, on_m
 use Rattle.ucl_steps.proofs.LogRuns.{logs_run}
 use Rattle.ucl_pass.specs.declared.view.View.{View}
 use Rattle.ucl_pass.specs.CallSteps.{IsOnEnlisted}
+use Rattle.ucl_pass.proofs.Logging.{view_at}
 use Rattle.ucl_words.specs.WordRule.{TableKeepsOneHistory}
 use Rattle.ucl_words.specs.WordMachine.{report_reply}
 use Rattle.ucl_words.specs.WordCalls.{steps_with, entry_added, ReportSteps, ReadingSteps, KeepsTrail}
 use Rattle.ucl_words.specs.Laws.{HaveDone, IsRunOfBoard, BoardsAreRuns, AddsCall, CallsAddWork}
-
--- each place below the number of views has one
-view_at : (views : List View) (j : ℕ) → j < length views → (u : View) × (get_elem? views j ≡ some u)
-view_at [] j below = absurd (omega arith)
-view_at (v ∷ views) zero below = (v, refl)
-view_at (v ∷ views) (suc j) below = view_at views j (omega arith)
 
 pub boards_run : BoardsAreRuns
 boards_run s r works done =

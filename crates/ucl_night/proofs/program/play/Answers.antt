@@ -1,6 +1,6 @@
 use Rattle.std.specs.Prelude.{option_map, slice_index_or, string_bytes, None}
 use Rattle.ucl_screen.specs.Meaning.{night_seen}
-use Rattle.ucl_night.specs.Nights.{night_text}
+use Rattle.ucl_runs.specs.Nights.{night_text}
 use Rattle.ucl_night.proofs.Playing.{closing-of, looked, played, put}
 use Rattle.ucl_night.proofs.program.play.Goals as goal
 
@@ -13,6 +13,6 @@ returns g c =
     let right = option_map string_bytes (slice_index_or end.last 1 None) in
     let closing = string_bytes end.closing in
     let is =
-    played c.args.profile known (night_seen c.in_ok-night.night) c.args.group c.args.readings _ _ _ left right closing c.in_ok-night.ensures.reads.1 told.apart told.merge (looked _ _ _ _ _ _ _ told.shown_1) (looked _ _ _ _ _ _ _ told.shown_2)
+    played c.args.profile known (night_seen c.in_ok-night.night) c.args.group c.args.readings _ _ _ left right closing c.in_ok-night.ensures.reads.1 told.duty told.apart told.merge (looked _ _ _ _ _ _ _ told.shown_1) (looked _ _ _ _ _ _ _ told.shown_2)
     (closing-of c.args.profile end.settled _ _ _ _ told.settled told.closing) in
     put c.args.profile c.args.group c.args.readings known _ (g.W.Sink.taken c.args.sink.now) _ _ (night_text left right closing) _ _ _ c.put_night.result c.in_ok-night.ensures.reads.0 is c.put_night.ensures.all c.put_night.ensures.part

@@ -1,9 +1,0 @@
-use Rattle.std.specs.Prelude.{option_map, string_bytes}
-use Rattle.ucl_night.specs.Nights.{HasShown}
-use Rattle.ucl_night.proofs.workers.show_screens.Given as goal
-
-abbrev pub invariant-loop-call : goal.invariant-loop-call
-invariant-loop-call g l = record {
-  own : g.B.LiveBoard.is_reader l.board l.pass;
-  shown : HasShown l.profile (g.B.LiveBoard.reader l.initial.pass) (g.B.LiveBoard.reader l.pass) l.call l.roster l.group (option_map string_bytes l.last);
-}

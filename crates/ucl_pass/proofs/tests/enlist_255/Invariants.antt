@@ -1,5 +1,0 @@
-use Rattle.std.proofs.Common.{◌≡◌}
-use Rattle.ucl_pass.proofs.tests.enlist_255.Given as goal
-
-abbrev pub invariant-loop-number : goal.invariant-loop-number
-invariant-loop-number g l = l.reader.0 ≡ l.board-inside.cell.table.shared.table_id

@@ -1,0 +1,12 @@
+pub mod Texts
+pub mod RunFacts
+pub mod Screens
+pub mod Points
+pub mod Parts
+pub mod Duty
+pub mod WorkSteps
+pub mod Entering
+pub mod Merging
+pub mod Merges
+pub mod ToldLines
+pub mod Unsigned

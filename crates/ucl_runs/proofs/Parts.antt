@@ -1,0 +1,48 @@
+-- An output that failed in one of its parts.
+use Rattle.std.proofs.Common.{◌≡◌, ℕ, suc, ◌+◌, ◌-◌, ◌^◌, min, Bool, List, [], ◌∷◌, ◌++◌, length, take, Option, sym, ap, ◌∙◌, subst, arith, length-append}
+use Rattle.std.proofs.lemmas.List.{take-append-le}
+use Rattle.std.specs.Io.KnownBytes.{Appends}
+use Rattle.ucl_screen.proofs.Moves.{appends-then}
+use Rattle.ucl_runs.specs.declared.fault.RunFault.{RunFault}
+use Rattle.ucl_runs.specs.declared.fault.RunFault.TheVariants.{Input, OutOfMemory, WriteFailed, NotOnDuty, NoThread, TooManyReporters, Strangers}
+use Rattle.ucl_runs.specs.Run.{IsStopped}
+
+-- in the first of two parts
+pub stopped_first : (before : ℕ) (failed : Bool) (old new : Option (List ℕ)) (a b : List ℕ) (f : RunFault) → IsStopped before failed old new a f → IsStopped before failed old new (a ++ b) f
+stopped_first before failed old new a b (WriteFailed written) s = let cut = s.cut in let long = length-append a b in record {
+  failed_is = s.failed_is;
+  count = s.count;
+  cut = omega arith;
+  out = subst (Appends old new) (sym (take-append-le s.count a b (omega arith))) s.out;
+  told = s.told;
+}
+stopped_first before failed old new a b (Input e) s = s
+stopped_first before failed old new a b OutOfMemory s = s
+stopped_first before failed old new a b (NotOnDuty row) s = s
+stopped_first before failed old new a b NoThread s = s
+stopped_first before failed old new a b TooManyReporters s = s
+stopped_first before failed old new a b (Strangers version) s = s
+
+take_past : (a b : List ℕ) (n : ℕ) → take (length a + n) (a ++ b) ≡ a ++ take n b
+take_past [] b n = let none : length {A = ℕ} [] + n ≡ n = omega arith in ap (λ k. take k b) none
+take_past (x ∷ a) b n = let one : length (x ∷ a) + n ≡ suc (length a + n) = omega arith in ap (λ k. take k (x ∷ a ++ b)) one ∙ ap (λ (l : List ℕ). x ∷ l) (take_past a b n)
+
+told_past : (before total a n written : ℕ) → total ≡ min (before + a) (2 ^ 64 - 1) → written ≡ min (total + n) (2 ^ 64 - 1) → written ≡ min (before + (a + n)) (2 ^ 64 - 1)
+told_past before total a n written total_is told = omega arith
+
+-- in the second of two parts, after the first went out
+pub stopped_second : (before total : ℕ) (failed : Bool) (old mid new : Option (List ℕ)) (a b : List ℕ) (f : RunFault) → Appends old mid a → total ≡ min (before + length a) (2 ^ 64 - 1)
+    → IsStopped total failed mid new b f → IsStopped before failed old new (a ++ b) f
+stopped_second before total failed old mid new a b (WriteFailed written) out total_is s = let cut = s.cut in let long = length-append a b in record {
+  failed_is = s.failed_is;
+  count = length a + s.count;
+  cut = omega arith;
+  out = subst (Appends old new) (sym (take_past a b s.count)) (appends-then old mid new a (take s.count b) out s.out);
+  told = told_past before total (length a) s.count written total_is s.told;
+}
+stopped_second before total failed old mid new a b (Input e) out total_is s = s
+stopped_second before total failed old mid new a b OutOfMemory out total_is s = s
+stopped_second before total failed old mid new a b (NotOnDuty row) out total_is s = s
+stopped_second before total failed old mid new a b NoThread out total_is s = s
+stopped_second before total failed old mid new a b TooManyReporters out total_is s = s
+stopped_second before total failed old mid new a b (Strangers version) out total_is s = s

@@ -1,0 +1,51 @@
+-- The text of an input that was accepted.
+use Rattle.std.proofs.Common.{◌≡◌, ℕ, ◌≤◌, List, Option, Some, None}
+use Rattle.std.specs.Prelude.{Bool, Result, Ok, Err, IfSome, IfErr, OnOk}
+use Rattle.ucl_order.specs.declared.profile.Profile.{Profile}
+use Rattle.ucl_screen.specs.Script.{NightEntry, SheetEntry}
+use Rattle.ucl_screen.specs.Meaning.{MeansNight, MeansSheet}
+use Rattle.ucl_screen.specs.Screen.{screen_text}
+use Rattle.ucl_board.specs.declared.entry.Entry.{Entry}
+use Rattle.ucl_board.specs.Words.{greatest_version}
+use Rattle.ucl_board.proofs.HistoryLaws.{versions}
+use Rattle.ucl_runs.specs.Feed.{IsBoardAfter, IsFed, feed_text}
+use Rattle.ucl_runs.specs.Show.{IsShown}
+use Rattle.ucl_runs.specs.declared.fault.RunFault.{RunFault}
+use Rattle.ucl_runs.specs.declared.fault.RunFault.TheVariants.{Input, OutOfMemory, WriteFailed, NotOnDuty, NoThread, TooManyReporters, Strangers}
+use Rattle.ucl_runs.specs.Run.{IfWriteFailed, IsCutShort, TextHas, WroteFirst}
+
+-- a script's text, and a sheet's screen
+pub fed : (known : Option (List ℕ)) (night : NightEntry) (text : List ℕ) → IfSome known (λ bytes. MeansNight bytes (Ok night)) → text ≡ feed_text night.events → IfSome known (λ bytes. IsFed bytes text)
+fed None night text means is = tt
+fed (Some bytes) night text means is = record { night = night; means = means; text_is = is }
+
+pub shown : (profile : Profile) (known : Option (List ℕ)) (group : ℕ) (sheet : SheetEntry) (text : List ℕ) → IfSome known (λ bytes. MeansSheet bytes (Ok sheet)) → text ≡ screen_text profile sheet.words sheet.clubs group
+    → IfSome known (λ bytes. IsShown profile group bytes text)
+shown profile None group sheet text means is = tt
+shown profile (Some bytes) group sheet text means is = record { sheet = sheet; means = means; text_is = is }
+
+text-has : (CallsFor : List ℕ → List ℕ → Type 0) (known : Option (List ℕ)) (text : List ℕ) (P : List ℕ → Type 0) → IfSome known (λ bytes. CallsFor bytes text) → P text → TextHas CallsFor known P
+text-has CallsFor None text P is h = tt
+text-has CallsFor (Some bytes) text P is h = (text, is, h)
+
+-- the whole text went out
+pub text-out : {U : Type 0} (result : Result U RunFault) (CallsFor : List ℕ → List ℕ → Type 0) (known : Option (List ℕ)) (text : List ℕ) (P : List ℕ → Type 0)
+    → IfSome known (λ bytes. CallsFor bytes text) → OnOk result (P text) → OnOk result (TextHas CallsFor known P)
+text-out (Ok u) CallsFor known text P is h = text-has CallsFor known text P is h
+text-out (Err f) CallsFor known text P is h = tt
+
+-- its first bytes went out
+pub part-out : {U : Type 0} (result : Result U RunFault) (CallsFor : List ℕ → List ℕ → Type 0) (known : Option (List ℕ)) (text : List ℕ) (failed : Bool) (old new : Option (List ℕ))
+    → IfSome known (λ bytes. CallsFor bytes text) → IfErr result (IsCutShort failed old new text)
+    → IfErr result (λ f. IfWriteFailed f (λ written. TextHas CallsFor known (WroteFirst old new written)))
+part-out (Ok u) CallsFor known text failed old new is h = tt
+part-out (Err (Input e)) CallsFor known text failed old new is h = tt
+part-out (Err OutOfMemory) CallsFor known text failed old new is h = tt
+part-out (Err (NotOnDuty row)) CallsFor known text failed old new is h = tt
+part-out (Err NoThread) CallsFor known text failed old new is h = tt
+part-out (Err TooManyReporters) CallsFor known text failed old new is h = tt
+part-out (Err (Strangers version)) CallsFor known text failed old new is h = tt
+part-out (Err (WriteFailed written)) CallsFor known text failed old new is h = text-has CallsFor known text (WroteFirst old new written) is h.1
+
+pub version-bound : (history : List Entry) (words : List ℕ) (version : ℕ) → IsBoardAfter history words version → version ≤ greatest_version
+version-bound history words version is = rw is.version_is (versions history is.legal).1

@@ -1,0 +1,32 @@
+use Rattle.std.proofs.Common.{arith, sym}
+use Rattle.ucl_board.specs.History.{after_attempt}
+use Rattle.ucl_runs.specs.Feed.{attempt_of}
+use Rattle.ucl_runs.proofs.RunFacts.{version-bound}
+use Rattle.ucl_runs.proofs.Texts.{history-end, history-step, replies-end, replies-step}
+use Rattle.ucl_runs.proofs.feed.push_replies.Goals as goal
+
+pub push_reply-requires : goal.push_reply-requires
+push_reply-requires c = let so_far = c.loop-event.invariant in version-bound so_far.history _ _ so_far.board_is
+
+pub loop-event-preserved : goal.loop-event-preserved
+loop-event-preserved c =
+    let e = c.event-item.result in
+    let i = c.loop-event.event-index in
+    let so_far = c.loop-event.invariant in
+    let entered = c.in_ok-version.ensures in
+    let k = so_far.row_is in record {
+      row_is = omega arith;
+      history = after_attempt so_far.history (attempt_of e);
+      board_is = entered.after so_far.history so_far.board_is;
+      lines = replies-step c.loop-event.row i c.args.events.now e so_far.history _ _ _ c.loop-event-test.true c.event-item.is so_far.lines (entered.line so_far.history so_far.board_is);
+      entries = history-step i c.args.events.now e so_far.history _ c.loop-event-test.true c.event-item.is so_far.entries;
+    }
+
+pub returns-clause-lines : goal.returns-clause-lines
+returns-clause-lines c = let so_far = c.loop-event.invariant in replies-end c.loop-event.row c.loop-event.event-index c.args.events.now so_far.history _ _ c.loop-event-test.false so_far.lines
+
+pub returns-clause-after : goal.returns-clause-after
+returns-clause-after c =
+    let so_far = c.loop-event.invariant in
+    let whole = history-end c.loop-event.event-index c.args.events.now so_far.history _ c.loop-event-test.false so_far.entries in
+    rw (← whole) (sym so_far.board_is.words_are)

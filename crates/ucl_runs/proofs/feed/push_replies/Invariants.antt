@@ -1,0 +1,15 @@
+use Rattle.std.proofs.Common.{◌≡◌, List, [], ◌+◌, ◌++◌, drop, map, string_bytes}
+use Rattle.std.specs.List.{fold}
+use Rattle.ucl_board.specs.declared.entry.Entry.{Entry}
+use Rattle.ucl_board.specs.History.{accepted_of, after_attempt}
+use Rattle.ucl_runs.specs.Feed.{IsBoardAfter, attempt_of, reply_lines}
+use Rattle.ucl_runs.proofs.feed.push_replies.Given as goal
+
+abbrev pub invariant-loop-event : goal.invariant-loop-event
+invariant-loop-event l = record {
+  row_is : l.row ≡ 5 + l.event-index;
+  history : List Entry;
+  board_is : IsBoardAfter history l.board l.version;
+  lines : string_bytes l.out ++ reply_lines l.row history (drop l.event-index l.events) ≡ string_bytes l.initial.out ++ reply_lines 5 [] l.events;
+  entries : fold after_attempt history (map attempt_of (drop l.event-index l.events)) ≡ accepted_of (map attempt_of l.events);
+}

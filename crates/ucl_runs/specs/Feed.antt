@@ -1,0 +1,50 @@
+-- The text of `feed`: a reply line for each event of the script, in turn, and then the lines of the twelve match words.
+use Rattle.std.specs.Prelude.{◌≡◌, ℕ, ◌+◌, List, [], ◌∷◌, ◌++◌, length, map, Result, Ok, Err}
+use Rattle.ucl_word.specs.declared.event.EventCall.{EventCall}
+use Rattle.ucl_word.specs.declared.event.Accepted.{Accepted}
+use Rattle.ucl_word.specs.declared.refusal.Refusal.{Refusal}
+use Rattle.ucl_board.specs.declared.entry.Entry.{Entry}
+use Rattle.ucl_board.specs.History.{IsLegal, Attempt, after_attempt, accepted_of, board_of, sequential_reply}
+use Rattle.ucl_screen.specs.declared.night.NightEvent.{NightEvent}
+use Rattle.ucl_screen.specs.Script.{NightEntry}
+use Rattle.ucl_screen.specs.Meaning.{MeansNight}
+use Rattle.ucl_runs.specs.Lines.{accepted_line, refused_line, word_line}
+
+-- who enters the event of a row, and the event
+abbrev pub attempt_of : NightEvent → Attempt
+attempt_of event = (event.reporter, event.call)
+
+-- the line of a reply, where so many events were accepted before: an accepted one raises the version by one
+abbrev pub line_of_reply : ℕ → ℕ → ℕ → Result Accepted Refusal → List ℕ
+line_of_reply row game before (Ok accepted) = accepted_line row game accepted.number (before + 1)
+line_of_reply row game before (Err refusal) = refused_line row refusal
+
+-- the line of an event after a history: the reply of the board of one thread
+unfoldable pub reply_line : ℕ → List Entry → EventCall → List ℕ
+reply_line row history call = line_of_reply row call.game (length history) (sequential_reply history call)
+
+-- the lines of the events from a row on, each after the events that were accepted before it
+unfoldable pub reply_lines : ℕ → List Entry → List NightEvent → List ℕ
+reply_lines row history [] = []
+reply_lines row history (event ∷ events) = reply_line row history event.call ++ reply_lines (row + 1) (after_attempt history (attempt_of event)) events
+
+-- the lines of words, the first of which has this index
+unfoldable pub word_lines : ℕ → List ℕ → List ℕ
+word_lines index [] = []
+word_lines index (word ∷ words) = word_line index word ++ word_lines (index + 1) words
+
+-- the events of a script begin in row 5
+abbrev pub feed_text : List NightEvent → List ℕ
+feed_text events = reply_lines 5 [] events ++ word_lines 1 (board_of (accepted_of (map attempt_of events)))
+
+-- the input is a script, and this is the text of `feed`
+pub record IsFed (bytes text : List ℕ) : Type 0 where
+  pub night : NightEntry
+  pub means : MeansNight bytes (Ok night)
+  pub text_is : text ≡ feed_text night.events
+
+-- the words of the board after a legal history, and its version
+pub record IsBoardAfter (history : List Entry) (words : List ℕ) (version : ℕ) : Type 0 where
+  pub legal : IsLegal history
+  pub words_are : board_of history ≡ words
+  pub version_is : version ≡ length history

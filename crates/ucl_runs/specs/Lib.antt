@@ -1,0 +1,9 @@
+pub mod Faults
+pub mod Lines
+pub mod Feed
+pub mod Nights
+pub mod Workers
+pub mod Show
+pub mod Run
+pub mod Telling
+pub mod Headline

@@ -1,0 +1,29 @@
+-- What is told on an error sink.
+use Rattle.std.specs.Prelude.{◌≡◌, ◌⊎◌, ℕ, ◌<◌, Bool, true, List, [], ◌++◌, length, take, Option, Some, None, codes, decimal}
+use Rattle.std.specs.Io.KnownBytes.{Appends}
+use Rattle.ucl_runs.specs.declared.fault.RunFault.{RunFault}
+use Rattle.ucl_runs.specs.declared.telling.FaultLine.{FaultLine}
+use Rattle.ucl_runs.specs.Faults.{fault_text}
+
+-- the error sink has failed, and took the first bytes of a text and not all of them
+pub record BrokeOff (failed : Bool) (old new : Option (List ℕ)) (text : List ℕ) : Type 0 where
+  pub failed_is : failed ≡ true
+  pub count : ℕ
+  pub cut : count < length text
+  pub out : Appends old new (take count text)
+
+-- a text was told on the error sink, as far as it took any
+abbrev pub Tells : Bool → Option (List ℕ) → Option (List ℕ) → List ℕ → Type 0
+Tells failed old new text = Appends old new text ⊎ BrokeOff failed old new text
+
+-- the line of a fault
+abbrev pub fault_line : RunFault → List ℕ
+fault_line fault = fault_text fault ++ codes "\n"
+
+-- the text of a line of three parts, of which the second is a number, if any
+abbrev pub number_text : Option ℕ → List ℕ
+number_text None = []
+number_text (Some number) = decimal number
+
+abbrev pub parts_text : FaultLine → List ℕ
+parts_text line = line.before.now ++ number_text line.number ++ line.after.now

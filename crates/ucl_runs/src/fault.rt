@@ -1,0 +1,117 @@
+//! Why a run fails.
+
+ghost use Rattle.std.specs.Prelude.{◌≡◌, Some};
+ghost use Rattle.ucl_runs.specs.declared.fault.RunFault.TheVariants.{OutOfMemory, NoThread, TooManyReporters, Strangers};
+ghost use Rattle.ucl_runs.specs.Faults.{fault_text, handed_on, status};
+
+use std::alloc::AllocError;
+use std::{error, fmt};
+use ucl_screen::InputFault;
+
+/// Why a run failed. Its text is the line that the program writes to standard error.
+#[derive(Clone, Copy, Debug, PartialEq, Eq)]
+pub enum RunFault {
+    /// 10, 20 to 22 and 24: the input was refused, or could not be read.
+    Input(InputFault),
+    /// 23: memory was asked for, and there was none.
+    OutOfMemory,
+    /// 26: the output failed, and took exactly the first `written` bytes of the text.
+    WriteFailed { written: usize },
+    /// 25: a row of a night is of a reporter other than 1 and 2. `row` is the first such row, counted from 1.
+    NotOnDuty { row: usize },
+    /// 27: no thread could be had for a worker of a night.
+    NoThread,
+    /// 30: the board of a night has no number left for a reporter.
+    TooManyReporters,
+    /// 31: the board of a night has events of a third reporter. `version` is that of the reading that was taken.
+    Strangers { version: u16 },
+}
+
+/// The line that the program writes to standard error, without its line feed.
+impl fmt::Display for RunFault {
+    ghost output = { λ fault. Some (fault_text fault) };
+
+    fn fmt<W: fmt::Write>(&self, f: &mut fmt::Formatter<W>) -> fmt::Result {
+        match self {
+            RunFault::Input(fault) => write!(f, "{fault}"),
+            RunFault::OutOfMemory => write!(f, "out of memory 23"),
+            RunFault::WriteFailed { written } => {
+                write!(f, "writing failed 26: after {written} bytes")
+            }
+            RunFault::NotOnDuty { row } => write!(f, "input refused 25: row {row}"),
+            RunFault::NoThread => write!(f, "no thread 27"),
+            RunFault::TooManyReporters => write!(f, "board refused 30"),
+            RunFault::Strangers { version } => write!(f, "board refused 31: version {version}"),
+        }
+    }
+}
+
+impl error::Error for RunFault {}
+
+/// A fault of the input is handed on, and want of memory there is want of memory of the run.
+impl From<InputFault> for RunFault {
+    ghost from_gives = { λ fault f. f ≡ handed_on fault };
+
+    fn from(fault: InputFault) -> RunFault {
+        match fault {
+            InputFault::OutOfMemory => RunFault::OutOfMemory,
+            _ => RunFault::Input(fault),
+        }
+    }
+}
+
+impl From<AllocError> for RunFault {
+    ghost from_gives = { λ _ f. f ≡ OutOfMemory };
+
+    fn from(_error: AllocError) -> RunFault {
+        RunFault::OutOfMemory
+    }
+}
+
+impl From<ucl_word::OutOfMemory> for RunFault {
+    ghost from_gives = { λ _ f. f ≡ OutOfMemory };
+
+    fn from(_error: ucl_word::OutOfMemory) -> RunFault {
+        RunFault::OutOfMemory
+    }
+}
+
+impl From<crate::threads::NoThread> for RunFault {
+    ghost from_gives = { λ _ f. f ≡ NoThread };
+
+    fn from(_error: crate::threads::NoThread) -> RunFault {
+        RunFault::NoThread
+    }
+}
+
+/// The pass that came back is dropped.
+impl<P: Drop> From<ucl_pass::TooManyReporters<P>> for RunFault {
+    ghost from_gives = { λ _ f. f ≡ TooManyReporters };
+
+    fn from(_error: ucl_pass::TooManyReporters<P>) -> RunFault {
+        RunFault::TooManyReporters
+    }
+}
+
+impl From<ucl_pass::Strangers> for RunFault {
+    ghost from_gives = { λ error f. f ≡ Strangers error.version };
+
+    fn from(error: ucl_pass::Strangers) -> RunFault {
+        RunFault::Strangers {
+            version: error.version,
+        }
+    }
+}
+
+/// The exit status of the program for a fault: 3 where the input was refused, 4 where reading or writing failed, 5 where
+/// there was no memory or no thread, and 6 where a board refused its reporters.
+pub fn status_of(fault: &RunFault) -> u8
+    ensures { result ≡ status fault.now }
+{
+    match fault {
+        RunFault::Input(InputFault::ReadFailed { .. }) | RunFault::WriteFailed { .. } => 4,
+        RunFault::Input(InputFault::OutOfMemory) | RunFault::OutOfMemory | RunFault::NoThread => 5,
+        RunFault::Input(_) | RunFault::NotOnDuty { .. } => 3,
+        RunFault::TooManyReporters | RunFault::Strangers { .. } => 6,
+    }
+}

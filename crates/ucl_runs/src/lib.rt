@@ -1,0 +1,28 @@
+//! The runs of the board of one group of the UEFA Champions League, over any source of bytes and any sink: `feed_run` enters a script of
+//! events, and writes what became of each event and how the twelve matches stand; `show_run` writes the screen of a board that was
+//! written down; `night_run` has two reporters enter a script in threads of their own on any live board while two readers look on.
+#![tactic(auto)]
+
+mod fault;
+mod feed;
+mod gate;
+mod laws;
+mod lines;
+mod night;
+mod output;
+mod show;
+mod telling;
+mod threads;
+mod workers;
+
+pub use fault::{RunFault, status_of};
+pub use feed::feed_run;
+pub use gate::{Gate, OpenGate};
+pub use laws::{every_run_has_one_history, schedule_does_not_matter};
+pub use night::{NightEnd, night_run, put_night};
+pub use output::put_text;
+pub use show::show_run;
+pub use telling::tell;
+
+#[cfg(test)]
+mod tests;

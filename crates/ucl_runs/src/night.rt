@@ -1,0 +1,170 @@
+//! Nights: two reporters and two readers over one live board.
+
+ghost use Rattle.std.specs.Prelude.{◌≡◌, ◌≢◌, ◌≤◌, ◌+◌, length, All, None, IfOk, IfErr, MatchResult, OnOk, take, slice_index_or, option_map, string_bytes};
+ghost use Rattle.std.specs.Io.KnownBytes.{Appends};
+ghost use Rattle.ucl_board.specs.History.{snapshot_at};
+ghost use Rattle.ucl_screen.specs.Screen.{IsGroup, screen_text};
+ghost use Rattle.ucl_runs.specs.Faults.{IsOfNight};
+ghost use Rattle.ucl_runs.specs.Nights.{EachMatchHasOneReporter, HasShown, IsFirstOffDuty, IsMerge, IsOnDuty, night_board, night_text, number_of_two};
+ghost use Rattle.ucl_runs.specs.Run.{IsStopped, MatchDuty};
+
+use crate::RunFault;
+use crate::gate::Gate;
+use crate::output::{put_lasts, put_under};
+use crate::threads::{Handed, work};
+use std::alloc::Global;
+use std::sync::Wait;
+use std::thread::Threads;
+use ucl_board::Reading;
+use ucl_order::Profile;
+use ucl_pass::{LiveBoard, settle};
+use ucl_screen::{Night, NightEvent, Sink, screen};
+
+/// The row of the first event of a script.
+const FIRST_EVENT_ROW: usize = 5;
+
+/// The reporters of a night are 1 and this one.
+const LAST_ON_DUTY: u8 = 2;
+
+/// How a night ended: `R` is a reader's pass and `P` a reporter's, all of the board that was lent.
+#[derive(Drop)]
+pub struct NightEnd<R, P> {
+    /// The last screens of both readers; none where no reading was asked for.
+    pub last: [Option<String>; 2],
+    /// The reading of the settled board.
+    pub settled: Reading,
+    /// The screen of the settled board.
+    pub closing: String,
+    /// The pass of the first reader.
+    pub reader_1: R,
+    /// The pass of the second reader.
+    pub reader_2: R,
+    /// The pass that entered the rows of reporter 1.
+    pub reporter_1: P,
+    /// The pass that entered the rows of reporter 2, and read the settled board.
+    pub reporter_2: P,
+}
+
+/// Refuses a script with a row of a reporter who is not on duty, and tells the first such row.
+fn check_duty(rows: &[NightEvent]) -> Result<(), RunFault>
+    ensures { MatchResult result (λ _. All IsOnDuty rows.now) (λ f. MatchDuty f (IsFirstOffDuty rows.now) ⊥) }
+{
+    for (index, event) in rows.iter().enumerate() {
+        if event.reporter.get() > LAST_ON_DUTY {
+            return Err(RunFault::NotOnDuty {
+                row: FIRST_EVENT_ROW + index,
+            });
+        }
+    }
+    Ok(())
+}
+
+/// Runs a night on a live board: two reporters enter the rows of the script in threads of their own, each its rows in script
+/// order, while two readers take so many readings and render the screen of each; then the reporters settle.
+///
+/// `pass` is a reader's pass of the board. It is split three times, and it and one of the others are enlisted, before any
+/// thread starts. `group` has to be the letter of a group. All screens are in the order of
+/// the profile. The gate is told of each call and each screen. Replies to reporters
+/// are not looked at. The call may wait, and what it promises holds where it returns.
+///
+/// # Errors
+///
+/// In this order: `NotOnDuty` with the first row of a reporter other than 1 and 2, and then nothing was entered;
+/// `TooManyReporters` where the board has no two numbers left; `NoThread` where a worker had no thread; `OutOfMemory` where a
+/// reader had no memory for a screen; `Strangers` where the board has events of a third reporter; `OutOfMemory` where there was
+/// none for the closing screen. Workers that run go on to their end before the answer. The board keeps the events that it
+/// accepted, and no pass is handed back.
+pub fn night_run<B: LiveBoard, G: Gate, R: Threads + Wait + Sync>(
+    rt: &R,
+    alloc: Global,
+    board: &B,
+    mut pass: B::ReaderPass,
+    night: &Night,
+    group: u8,
+    readings: u32,
+    gate: &G,
+    profile: Profile,
+) -> Result<NightEnd<B::ReaderPass, B::ReporterPass>, RunFault>
+    requires own { B.is_reader board.now pass }
+    requires group { IsGroup group }
+
+    // A night reads no input and writes no output, so it has no fault of these.
+    ensures kinds { IfErr result IsOfNight }
+
+    // A row of a reporter who is not on duty is told exactly where there is one, and the first is.
+    ensures duty { MatchResult result (λ _. All IsOnDuty night.entry.now.events.items) (λ f. MatchDuty f (IsFirstOffDuty night.entry.now.events.items) (All IsOnDuty night.entry.now.events.items)) }
+
+    // The four passes are of the board that was lent, and the reporters' numbers differ.
+    ensures own_readers { IfOk result (λ end. B.is_reader board.entry.now end.reader_1 × B.is_reader board.entry.now end.reader_2) }
+    ensures own_reporters { IfOk result (λ end. B.is_reporter board.entry.now end.reporter_1 × B.is_reporter board.entry.now end.reporter_2) }
+    ensures apart { IfOk result (λ end. (B.reporter end.reporter_1).number ≢ (B.reporter end.reporter_2).number) }
+
+    // The history that was settled is a merge of the rows, the settled reading is of it, and the closing screen is of that.
+    ensures merge { IfOk result (λ end. IsMerge (number_of_two (B.reporter end.reporter_1).number (B.reporter end.reporter_2).number) night.entry.now.events.items (take end.settled.version (B.reporter end.reporter_2).seen)) }
+    ensures settled { IfOk result (λ end. end.settled ≡ snapshot_at (B.reporter end.reporter_2).seen end.settled.version) }
+    ensures closing { IfOk result (λ end. string_bytes end.closing ≡ screen_text profile end.settled.board night.entry.now.roster group) }
+
+    // Reporter 2's pass has seen the settled history, and both reporters have entered just its events: none after it.
+    ensures count { IfOk result (λ end. (end.settled.version ≤ length (B.reporter end.reporter_2).seen) × (length (B.reporter end.reporter_1).mine + length (B.reporter end.reporter_2).mine ≡ end.settled.version)) }
+
+    // Where each match has one reporter, the schedule does not matter.
+    ensures board { IfOk result (λ end. EachMatchHasOneReporter night.entry.now.events.items → end.settled.board ≡ night_board (number_of_two (B.reporter end.reporter_1).number (B.reporter end.reporter_2).number) night.entry.now.events.items) }
+
+    // What the readers showed.
+    ensures shown_1 { IfOk result (λ end. HasShown profile (B.reader pass) (B.reader end.reader_1) readings night.entry.now.roster group (option_map string_bytes (slice_index_or end.last 0 None))) }
+    ensures shown_2 { IfOk result (λ end. HasShown profile (B.reader pass) (B.reader end.reader_2) readings night.entry.now.roster group (option_map string_bytes (slice_index_or end.last 1 None))) }
+{
+    check_duty(&night.events)?;
+    let second = board.split(rt, &mut pass);
+    let left = board.split(rt, &mut pass);
+    let right = board.split(rt, &mut pass);
+    let first = board.enlist(rt, pass)?;
+    let second = board.enlist(rt, second)?;
+    let Handed {
+        reporters: (mut reporter_1, mut reporter_2),
+        readers: (left, right),
+    } = work(
+        rt,
+        alloc,
+        board,
+        (first, second),
+        (left, right),
+        &night.events,
+        &night.roster,
+        group,
+        readings,
+        gate,
+        profile,
+    )?;
+    let left = left?;
+    let right = right?;
+    let settled = settle(board, rt, &mut reporter_1, &mut reporter_2)?;
+    let closing = screen(alloc, &settled.board, &night.roster, group, profile)?;
+    Ok(NightEnd {
+        last: [left.last, right.last],
+        settled,
+        closing,
+        reader_1: left.pass,
+        reader_2: right.pass,
+        reporter_1,
+        reporter_2,
+    })
+}
+
+/// Writes the output of a night: where there are any, the last screens of both readers under the headings `READER 1` and
+/// `READER 2`, and the closing screen under the heading `FINAL`. No memory is taken.
+///
+/// # Errors
+///
+/// `WriteFailed`, only where the sink has failed: exactly the first `written` bytes of the output went out. (Were they more
+/// than `usize::MAX`, that would be told.)
+pub fn put_night<R, P, W: Sink>(end: &NightEnd<R, P>, sink: &mut W) -> Result<(), RunFault>
+    ensures all { OnOk result (Appends (W.taken sink.old) (W.taken sink.new) (night_text (option_map string_bytes (slice_index_or end.now.last 0 None)) (option_map string_bytes (slice_index_or end.now.last 1 None)) (string_bytes end.now.closing))) }
+    ensures part { IfErr result (IsStopped 0 (W.failed sink.new) (W.taken sink.old) (W.taken sink.new) (night_text (option_map string_bytes (slice_index_or end.now.last 0 None)) (option_map string_bytes (slice_index_or end.now.last 1 None)) (string_bytes end.now.closing))) }
+{
+    let written = put_lasts(sink, &end.last)?;
+    match put_under(sink, written, "FINAL\n", end.closing.as_str()) {
+        Ok(_) => Ok(()),
+        Err(fault) => Err(fault),
+    }
+}

@@ -1,0 +1,94 @@
+//! Writing texts.
+
+ghost use Rattle.std.specs.Prelude.{◌≡◌, ◌+◌, ◌-◌, ◌^◌, ◌++◌, codes, min, length, None, OnOk, IfOk, IfErr, slice_index_or, option_map, string_bytes};
+ghost use Rattle.std.specs.Io.KnownBytes.{Appends};
+ghost use Rattle.ucl_runs.specs.Nights.{last_text, lasts_text};
+ghost use Rattle.ucl_runs.specs.Run.{IsCutShort, IsStopped};
+
+use crate::RunFault;
+use ucl_screen::{Sink, give_all};
+
+/// Writes a whole text.
+pub fn put_text<W: Sink>(sink: &mut W, text: &str) -> Result<(), RunFault>
+    ensures all { OnOk result (Appends (W.taken sink.old) (W.taken sink.new) text.now) }
+    ensures part { IfErr result (IsCutShort (W.failed sink.new) (W.taken sink.old) (W.taken sink.new) text.now) }
+{
+    match give_all(sink, text.as_bytes()) {
+        Ok(()) => Ok(()),
+        Err(written) => Err(RunFault::WriteFailed { written }),
+    }
+}
+
+/// Writes a part of an output after so many bytes, and tells how many bytes are out then. A number past `usize::MAX` is told as
+/// that.
+pub fn put_part<W: Sink>(sink: &mut W, before: usize, part: &str) -> Result<usize, RunFault>
+    ensures all { OnOk result (Appends (W.taken sink.old) (W.taken sink.new) part.now) }
+    ensures count { IfOk result (λ after. after ≡ min (before + length part.now) (2 ^ 64 - 1)) }
+    ensures part { IfErr result (IsStopped before (W.failed sink.new) (W.taken sink.old) (W.taken sink.new) part.now) }
+{
+    match give_all(sink, part.as_bytes()) {
+        Ok(()) => Ok(before.saturating_add(part.len())),
+        Err(more) => Err(RunFault::WriteFailed {
+            written: before.saturating_add(more),
+        }),
+    }
+}
+
+/// Writes a heading and a text after so many bytes, and tells how many bytes are out then.
+#[tactic(auto, using(crate::proofs::Parts::stopped_first, crate::proofs::Parts::stopped_second))]
+pub fn put_under<W: Sink>(
+    sink: &mut W,
+    before: usize,
+    heading: &str,
+    text: &str,
+) -> Result<usize, RunFault>
+    ensures all { OnOk result (Appends (W.taken sink.old) (W.taken sink.new) (heading.now ++ text.now)) }
+    ensures count { IfOk result (λ after. after ≡ min (before + length (heading.now ++ text.now)) (2 ^ 64 - 1)) }
+    ensures part { IfErr result (IsStopped before (W.failed sink.new) (W.taken sink.old) (W.taken sink.new) (heading.now ++ text.now)) }
+{
+    let before = put_part(sink, before, heading)?;
+    put_part(sink, before, text)
+}
+
+/// Writes a line of three parts.
+#[tactic(auto, using(crate::proofs::Parts::stopped_first, crate::proofs::Parts::stopped_second))]
+pub fn put_line<W: Sink>(
+    sink: &mut W,
+    before: &str,
+    number: &str,
+    after: &str,
+) -> Result<usize, RunFault>
+    ensures all { OnOk result (Appends (W.taken sink.old) (W.taken sink.new) ((before.now ++ number.now) ++ (after.now ++ codes "\n"))) }
+    ensures part { IfErr result (IsStopped 0 (W.failed sink.new) (W.taken sink.old) (W.taken sink.new) ((before.now ++ number.now) ++ (after.now ++ codes "\n"))) }
+{
+    let written = put_under(sink, 0, before, number)?;
+    put_under(sink, written, after, "\n")
+}
+
+/// Writes the last screen of a reader under its heading, where there is one.
+pub fn put_last<W: Sink>(
+    sink: &mut W,
+    before: usize,
+    heading: &str,
+    last: &Option<String>,
+) -> Result<usize, RunFault>
+    ensures all { OnOk result (Appends (W.taken sink.old) (W.taken sink.new) (last_text heading.now (option_map string_bytes last.now))) }
+    ensures count { IfOk result (λ after. after ≡ min (before + length (last_text heading.now (option_map string_bytes last.now))) (2 ^ 64 - 1)) }
+    ensures part { IfErr result (IsStopped before (W.failed sink.new) (W.taken sink.old) (W.taken sink.new) (last_text heading.now (option_map string_bytes last.now))) }
+{
+    match last {
+        Some(text) => put_under(sink, before, heading, text.as_str()),
+        None => Ok(before),
+    }
+}
+
+/// Writes the last screens of both readers, where there are any, and tells how many bytes are out then.
+#[tactic(auto, using(crate::proofs::Parts::stopped_first, crate::proofs::Parts::stopped_second))]
+pub fn put_lasts<W: Sink>(sink: &mut W, last: &[Option<String>; 2]) -> Result<usize, RunFault>
+    ensures all { OnOk result (Appends (W.taken sink.old) (W.taken sink.new) (lasts_text (option_map string_bytes (slice_index_or last.now 0 None)) (option_map string_bytes (slice_index_or last.now 1 None)))) }
+    ensures count { IfOk result (λ after. after ≡ min (length (lasts_text (option_map string_bytes (slice_index_or last.now 0 None)) (option_map string_bytes (slice_index_or last.now 1 None)))) (2 ^ 64 - 1)) }
+    ensures part { IfErr result (IsStopped 0 (W.failed sink.new) (W.taken sink.old) (W.taken sink.new) (lasts_text (option_map string_bytes (slice_index_or last.now 0 None)) (option_map string_bytes (slice_index_or last.now 1 None)))) }
+{
+    let written = put_last(sink, 0, "READER 1\n", &last[0])?;
+    put_last(sink, written, "READER 2\n", &last[1])
+}

@@ -1,0 +1,77 @@
+//! What each thread of a night does.
+
+ghost use Rattle.std.specs.Prelude.{IfOk, option_map, string_bytes};
+ghost use Rattle.ucl_screen.specs.Screen.{IsGroup};
+ghost use Rattle.ucl_runs.specs.Nights.{IsFresh, IsNew, HasEntered, HasShown};
+
+use crate::gate::Gate;
+use std::alloc::Global;
+use std::sync::Wait;
+use ucl_order::{Profile, Roster};
+use ucl_pass::LiveBoard;
+use ucl_screen::{NightEvent, screen};
+use ucl_word::OutOfMemory;
+
+/// Enters the rows of one reporter of the script in their order, on a pass that has entered nothing yet. Replies are not
+/// looked at.
+pub fn enter_rows<B: LiveBoard, G: Gate, R: Wait>(
+    rt: &R,
+    board: &B,
+    mut pass: B::ReporterPass,
+    reporter: u8,
+    rows: &[NightEvent],
+    gate: &G,
+) -> B::ReporterPass
+    requires own { B.is_reporter board.now pass }
+    requires fresh { IsFresh (B.reporter pass) }
+    ensures own { B.is_reporter board.entry.now result }
+    ensures entered { HasEntered (B.reporter pass) (B.reporter result) reporter rows.entry.now }
+{
+    let mut call: u32 = 0;
+    for row in rows {
+        if row.reporter.get() == reporter {
+            gate.come(reporter, call);
+            let _ = board.report(rt, &mut pass, &row.call);
+            call = call.wrapping_add(1);
+        }
+    }
+    pass
+}
+
+/// What a reader of a night hands back: its pass, and its last screen.
+#[derive(Drop)]
+pub struct Shown<P> {
+    pub pass: P,
+    pub last: Option<String>,
+}
+
+/// Takes so many readings with a pass that has shown nothing yet, and renders each. Where there is no memory for a screen,
+/// no further reading is taken.
+pub fn show_screens<B: LiveBoard, G: Gate, R: Wait>(
+    rt: &R,
+    alloc: Global,
+    board: &B,
+    mut pass: B::ReaderPass,
+    worker: u8,
+    readings: u32,
+    roster: &Roster,
+    group: u8,
+    gate: &G,
+    profile: Profile,
+) -> Result<Shown<B::ReaderPass>, OutOfMemory>
+    requires own { B.is_reader board.now pass }
+    requires new { IsNew (B.reader pass) }
+    requires group { IsGroup group }
+    ensures own { IfOk result (λ end. B.is_reader board.entry.now end.pass) }
+    ensures shown { IfOk result (λ end. HasShown profile (B.reader pass) (B.reader end.pass) readings roster.entry.now group (option_map string_bytes end.last)) }
+{
+    let mut last = None;
+    for call in 0..readings {
+        gate.come(worker, call);
+        let reading = board.read(rt, &mut pass);
+        let text = screen(alloc, &reading.board, roster, group, profile)?;
+        gate.shown(worker, &reading, text.as_str());
+        last = Some(text);
+    }
+    Ok(Shown { pass, last })
+}

@@ -1,5 +1,0 @@
-use Rattle.std.proofs.Common.{◌≡◌}
-use Rattle.ucl_words.proofs.tests.read_back.Given as goal
-
-abbrev pub invariant-loop-expected : goal.invariant-loop-expected
-invariant-loop-expected g l = (l.reporter.0 ≡ l.board-inside.table.shared.table_id) × (l.reader.0 ≡ l.board-inside.table.shared.table_id)
