@@ -1,13 +1,14 @@
 //! Texts, statuses, and runs over memory in place of the standard streams.
 
+mod devices;
 mod nights;
 
-use crate::{RunFault, feed_run, show_run, status_of};
+use crate::{RunFault, status_of};
+use devices::{Cut, Full, fed, shown};
 use std::alloc::Global;
-use std::io;
 use std::test::Fail;
 use ucl_order::Profile;
-use ucl_screen::{FromRead, InputFault, ToWrite, read_night, screen};
+use ucl_screen::{FromRead, InputFault, read_night, screen};
 use ucl_steps::{Call, Caller, Cast, Reply, Step, run_steps};
 use ucl_word::{EventCall, Kind, MatchNo, ReporterNo};
 
@@ -39,88 +40,6 @@ GROUP A v00007 IN PLAY 1
 3   Alpha                 1  0  1  0   0   0   +0   1
 4   Charlie               1  0  1  0   0   0   +0   1
 ";
-
-/// A reader of a text, which fails after `room` bytes.
-#[derive(Drop)]
-struct Cut<'a> {
-    text: &'a [u8],
-    room: usize,
-}
-
-impl io::Read for Cut<'_> {
-    fn read(&mut self, buf: &mut [u8]) -> io::Result<usize> {
-        if self.room == 0 {
-            return Err(io::Error::from(io::ErrorKind::ConnectionReset));
-        }
-        let n = buf.len().min(self.text.len()).min(self.room);
-        let (front, rest) = self.text.split_at(n);
-        buf[..n].copy_from_slice(front);
-        self.text = rest;
-        self.room -= n;
-        Ok(n)
-    }
-}
-
-/// A writer that takes at most `piece` bytes at a time, and none after `room` bytes.
-#[derive(Drop)]
-struct Full<'a> {
-    taken: &'a mut Vec<u8>,
-    piece: usize,
-    room: usize,
-}
-
-impl io::Write for Full<'_> {
-    fn write(&mut self, buf: &[u8]) -> io::Result<usize> {
-        let n = buf.len().min(self.piece).min(self.room);
-        if self.taken.extend_from_slice(&buf[..n]).is_err() {
-            return Ok(0);
-        }
-        self.room -= n;
-        Ok(n)
-    }
-
-    fn flush(&mut self) -> io::Result<()> {
-        Ok(())
-    }
-}
-
-/// The answer of `feed` to an input, and what it wrote before an output with so much room.
-fn fed<R: io::Read + Drop>(
-    alloc: Global,
-    input: R,
-    room: usize,
-) -> (Result<(), RunFault>, Vec<u8>) {
-    let mut out = Vec::new(alloc);
-    let answer = {
-        let mut source = FromRead::new(input);
-        let mut sink = ToWrite::new(Full {
-            taken: &mut out,
-            piece: 64,
-            room,
-        });
-        feed_run(alloc, &mut source, &mut sink)
-    };
-    (answer, out)
-}
-
-/// The answer of `show` to a sheet, for group A, and what it wrote before an output with so much room.
-fn shown<R: io::Read + Drop>(
-    alloc: Global,
-    input: R,
-    room: usize,
-) -> (Result<(), RunFault>, Vec<u8>) {
-    let mut out = Vec::new(alloc);
-    let answer = {
-        let mut source = FromRead::new(input);
-        let mut sink = ToWrite::new(Full {
-            taken: &mut out,
-            piece: 64,
-            room,
-        });
-        show_run(alloc, &mut source, &mut sink, b'A', Profile::Uefa)
-    };
-    (answer, out)
-}
 
 fn joined(alloc: Global, first: &str, second: &str) -> Result<String, Fail> {
     let mut text = String::from_str(alloc, first)?;
@@ -192,7 +111,7 @@ fn fault_lines_and_statuses(rt: HostRuntime) -> Result<(), Fail> {
 fn stored_run(rt: HostRuntime) -> Result<(), Fail> {
     let alloc = rt.alloc();
     let script = joined(alloc, CLUBS, TWO_MATCHES)?;
-    let (answer, out) = fed(alloc, script.as_bytes(), usize::MAX);
+    let (answer, out) = fed(alloc, script.as_bytes(), usize::MAX, Full::Fails);
     assert_eq!(rt; answer, Ok(()));
     assert!(rt; out.as_slice() == TWO_MATCHES_OUT.as_bytes());
     Ok(())
@@ -214,7 +133,7 @@ fn script_faults(rt: HostRuntime) -> Result<(), Fail> {
         ),
     ];
     for (script, fault) in whole {
-        let (answer, out) = fed(alloc, script.as_bytes(), usize::MAX);
+        let (answer, out) = fed(alloc, script.as_bytes(), usize::MAX, Full::Fails);
         assert_eq!(rt; answer, Err(RunFault::Input(fault)), "at {script}");
         assert!(rt; out.is_empty(), "at {script}");
     }
@@ -227,12 +146,12 @@ fn script_faults(rt: HostRuntime) -> Result<(), Fail> {
     ];
     for row in fifth {
         let script = joined(alloc, CLUBS, row)?;
-        let (answer, out) = fed(alloc, script.as_bytes(), usize::MAX);
+        let (answer, out) = fed(alloc, script.as_bytes(), usize::MAX, Full::Fails);
         let fault = InputFault::BadRow { row: 5 };
         assert_eq!(rt; answer, Err(RunFault::Input(fault)), "at {row}");
         assert!(rt; out.is_empty(), "at {row}");
     }
-    let (answer, out) = fed(alloc, CLUBS.as_bytes(), usize::MAX);
+    let (answer, out) = fed(alloc, CLUBS.as_bytes(), usize::MAX, Full::Fails);
     assert_eq!(rt; answer, Ok(()));
     assert!(rt; out.as_slice() == NO_EVENT_OUT.as_bytes());
     Ok(())
@@ -287,7 +206,7 @@ fn head_to_head_script(alloc: Global) -> Result<String, Fail> {
 fn head_to_head(rt: HostRuntime) -> Result<(), Fail> {
     let alloc = rt.alloc();
     let script = head_to_head_script(alloc)?;
-    let (answer, out) = fed(alloc, script.as_bytes(), usize::MAX);
+    let (answer, out) = fed(alloc, script.as_bytes(), usize::MAX, Full::Fails);
     assert_eq!(rt; answer, Ok(()));
     let text = std::str::from_utf8(out.as_slice())?;
     let mut accepted = 0u32;
@@ -314,7 +233,7 @@ fn two_reopenings(rt: HostRuntime) -> Result<(), Fail> {
     let alloc = rt.alloc();
     let script = joined(alloc, CLUBS, TWO_MATCHES)?;
     let script = joined(alloc, script.as_str(), "1,1,6,reopen\n1,3,0,reopen\n")?;
-    let (answer, out) = fed(alloc, script.as_bytes(), usize::MAX);
+    let (answer, out) = fed(alloc, script.as_bytes(), usize::MAX, Full::Fails);
     assert_eq!(rt; answer, Ok(()));
     let text = std::str::from_utf8(out.as_slice())?;
     let row = "\n14 ok 1 6 7\n15 ok 1 7 8\n16 refused 9 not-finished\nword,1,2001080000001007,\n";
@@ -322,21 +241,24 @@ fn two_reopenings(rt: HostRuntime) -> Result<(), Fail> {
     Ok(())
 }
 
+/// A source or a sink that fails once is not asked again: the first failure is the answer, and tells exactly what had gone out or in.
 #[test]
 fn failing_devices(rt: HostRuntime) -> Result<(), Fail> {
     let alloc = rt.alloc();
     let script = joined(alloc, CLUBS, TWO_MATCHES)?;
-    for room in [0, 1, 10, 100, 448] {
-        let (answer, out) = fed(alloc, script.as_bytes(), room);
-        assert_eq!(rt; answer, Err(RunFault::WriteFailed { written: room }));
-        assert!(rt;
-            Some(out.as_slice()) == TWO_MATCHES_OUT.as_bytes().get(..room),
-            "at {room}"
-        );
+    for full in [Full::Fails, Full::TakesNone] {
+        for room in 0..TWO_MATCHES_OUT.len() {
+            let (answer, out) = fed(alloc, script.as_bytes(), room, full);
+            assert_eq!(rt; answer, Err(RunFault::WriteFailed { written: room }));
+            assert!(rt;
+                Some(out.as_slice()) == TWO_MATCHES_OUT.as_bytes().get(..room),
+                "{full:?} at {room}"
+            );
+        }
     }
-    for room in [0, 1, 100, 252] {
+    for room in [0, 1, 100, script.len()] {
         let text = script.as_bytes();
-        let (answer, out) = fed(alloc, Cut { text, room }, usize::MAX);
+        let (answer, out) = fed(alloc, Cut { text, room }, usize::MAX, Full::Fails);
         let fault = InputFault::ReadFailed { bytes: room };
         assert_eq!(rt; answer, Err(RunFault::Input(fault)));
         assert!(rt; out.is_empty(), "at {room}");
@@ -377,12 +299,12 @@ fn word_lines(alloc: Global, text: &str) -> Result<String, Fail> {
 fn screens_of_sheets(rt: HostRuntime) -> Result<(), Fail> {
     let alloc = rt.alloc();
     let mut script = head_to_head_script(alloc)?;
-    let (answer, out) = fed(alloc, script.as_bytes(), usize::MAX);
+    let (answer, out) = fed(alloc, script.as_bytes(), usize::MAX, Full::Fails);
     assert_eq!(rt; answer, Ok(()));
     let text = std::str::from_utf8(out.as_slice())?;
     let words = word_lines(alloc, text)?;
     write!(&mut script, "2,12,3,reopen\n")?;
-    let (answer, out) = fed(alloc, script.as_bytes(), usize::MAX);
+    let (answer, out) = fed(alloc, script.as_bytes(), usize::MAX, Full::Fails);
     assert_eq!(rt; answer, Ok(()));
     let text = std::str::from_utf8(out.as_slice())?;
     let reopened = word_lines(alloc, text)?;
@@ -394,18 +316,43 @@ fn screens_of_sheets(rt: HostRuntime) -> Result<(), Fail> {
     ];
     for (words, screen) in sheets {
         let sheet = joined(alloc, CLUBS, words)?;
-        let (answer, out) = shown(alloc, sheet.as_bytes(), usize::MAX);
+        let (answer, out) = shown(alloc, sheet.as_bytes(), usize::MAX, Full::Fails);
         assert_eq!(rt; answer, Ok(()));
         assert!(rt; out.as_slice() == screen.as_bytes());
-        for room in [0, 1, 53, 200] {
-            let (answer, out) = shown(alloc, sheet.as_bytes(), room);
-            assert_eq!(rt; answer, Err(RunFault::WriteFailed { written: room }));
-            assert!(rt;
-                Some(out.as_slice()) == screen.as_bytes().get(..room),
-                "at {room}"
-            );
+        for full in [Full::Fails, Full::TakesNone] {
+            for room in 0..screen.len() {
+                let (answer, out) = shown(alloc, sheet.as_bytes(), room, full);
+                assert_eq!(rt; answer, Err(RunFault::WriteFailed { written: room }));
+                assert!(rt;
+                    Some(out.as_slice()) == screen.as_bytes().get(..room),
+                    "{full:?} at {room}"
+                );
+            }
         }
     }
+    Ok(())
+}
+
+/// The largest words of the first layout.
+const LARGEST_SCREEN: &str = "\
+GROUP A v12276 IN PLAY 0
+    Club                  P  W  D  L  GF  GA   GD Pts
+1 + Bravo                 6  0  6  0 378 378   +0   6
+2 + Delta                 6  0  6  0 378 378   +0   6
+3 - Alpha                 6  0  6  0 378 378   +0   6
+4 - Charlie               6  0  6  0 378 378   +0   6
+";
+
+#[test]
+fn largest_words(rt: HostRuntime) -> Result<(), Fail> {
+    let alloc = rt.alloc();
+    let mut sheet = String::from_str(alloc, CLUBS)?;
+    for game in 1..=12 {
+        write!(&mut sheet, "word,{game},003FFFFFFFFFFBFF,\n")?;
+    }
+    let (answer, out) = shown(alloc, sheet.as_bytes(), usize::MAX, Full::Fails);
+    assert_eq!(rt; answer, Ok(()));
+    assert!(rt; out.as_slice() == LARGEST_SCREEN.as_bytes());
     Ok(())
 }
 
@@ -419,7 +366,7 @@ fn sheet_faults(rt: HostRuntime) -> Result<(), Fail> {
     ];
     for (words, fault) in rows {
         let sheet = joined(alloc, CLUBS, words)?;
-        let (answer, out) = shown(alloc, sheet.as_bytes(), usize::MAX);
+        let (answer, out) = shown(alloc, sheet.as_bytes(), usize::MAX, Full::Fails);
         assert_eq!(rt; answer, Err(RunFault::Input(fault)), "at {words}");
         assert!(rt; out.is_empty(), "at {words}");
     }

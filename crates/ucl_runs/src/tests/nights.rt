@@ -2,7 +2,8 @@
 
 ghost use Rattle.std.specs.Prelude.{◌≡◌};
 
-use super::{CLUBS, Full, HEAD_TO_HEAD_SCREEN, head_to_head_script, joined};
+use super::devices::{Full, Out};
+use super::{CLUBS, HEAD_TO_HEAD_SCREEN, head_to_head_script, joined};
 use crate::{Gate, NightEnd, OpenGate, RunFault, night_run, put_night};
 use std::alloc::Global;
 use std::sync::Wait;
@@ -10,9 +11,9 @@ use std::sync::atomic::{AtomicBool, AtomicU32, Ordering};
 use std::test::Fail;
 use std::thread::Threads;
 use ucl_board::{Board, Reading};
-use ucl_order::Profile;
+use ucl_order::{Profile, Roster};
 use ucl_pass::{CellBoard, CellReaderPass, LiveBoard};
-use ucl_screen::{FromRead, Night, ToWrite, read_night};
+use ucl_screen::{FromRead, Night, ToWrite, read_night, screen};
 use ucl_word::{EventCall, Kind, MatchNo};
 use ucl_words::WordBoard;
 
@@ -86,9 +87,11 @@ fn all_four_workers_run_at_once(rt: HostRuntime) -> Result<(), Fail> {
     Ok(())
 }
 
-/// Holds the first call of each reader until both reporters have come to their second.
+/// Holds the first call of each reader until both reporters have come to their second, and these at their first until both readers have
+/// come.
 #[derive(Drop)]
 struct ReportersFirst {
+    readers: AtomicU32,
     reported: AtomicU32,
     late: AtomicBool,
     shown: AtomicU32,
@@ -97,10 +100,19 @@ struct ReportersFirst {
 
 impl Gate for ReportersFirst {
     fn come(&self, worker: u8, call: u32) {
-        if worker <= 2 && call == 1 {
-            self.reported.fetch_add(1, Ordering::SeqCst);
-        }
-        if worker > 2 && call == 0 && !has_come_to(&self.reported, 2) {
+        let is_in_time = match (worker, call) {
+            (1 | 2, 0) => has_come_to(&self.readers, 2),
+            (1 | 2, 1) => {
+                self.reported.fetch_add(1, Ordering::SeqCst);
+                true
+            }
+            (3 | 4, 0) => {
+                self.readers.fetch_add(1, Ordering::SeqCst);
+                has_come_to(&self.reported, 2)
+            }
+            _ => true,
+        };
+        if !is_in_time {
             self.late.store(true, Ordering::SeqCst);
         }
     }
@@ -125,6 +137,7 @@ fn readers_after_reporters<B: LiveBoard, R: Threads + Wait + Sync>(
     requires { B.is_reader board.now pass }
 {
     let gate = ReportersFirst {
+        readers: AtomicU32::new(0),
         reported: AtomicU32::new(0),
         late: AtomicBool::new(false),
         shown: AtomicU32::new(0),
@@ -153,73 +166,143 @@ fn readers_see_what_was_reported_before(rt: HostRuntime) -> Result<(), Fail> {
     Ok(())
 }
 
-/// Counts what each worker tells, and notes what comes out of turn.
+/// How many readings are taken in step with the events.
+const READINGS_IN_STEP: u32 = 7;
+
+/// Leads all four workers step by step: each reader takes a reading, then each reporter enters an event, and so on. Notes who comes late,
+/// which call is out of turn, and a screen that is not that of the reading of its turn.
 #[derive(Drop)]
-struct Recorder {
+struct InStep<'a> {
+    alloc: Global,
+    roster: &'a Roster,
     calls: [AtomicU32; 4],
-    screens: AtomicU32,
+    screens: [AtomicU32; 2],
+    late: AtomicBool,
     out_of_turn: AtomicBool,
 }
 
-impl Gate for Recorder {
+impl InStep<'_> {
+    /// Whether both have come to a turn, counted from 0.
+    fn have_come(&self, first: &AtomicU32, second: &AtomicU32, turn: u32) -> bool {
+        let wanted = turn.saturating_add(1);
+        has_come_to(first, wanted) && has_come_to(second, wanted)
+    }
+
+    /// Whether a text is the screen of a reading.
+    fn is_screen_of(&self, reading: &Reading, text: &str) -> bool {
+        match screen(
+            self.alloc,
+            &reading.board,
+            self.roster,
+            b'B',
+            Profile::AwayInTie,
+        ) {
+            Ok(wanted) => wanted.as_str() == text,
+            Err(_) => false,
+        }
+    }
+}
+
+impl Gate for InStep<'_> {
     fn come(&self, worker: u8, call: u32) {
-        let counted = match worker {
-            1 => self.calls[0].fetch_add(1, Ordering::SeqCst),
-            2 => self.calls[1].fetch_add(1, Ordering::SeqCst),
-            3 => self.calls[2].fetch_add(1, Ordering::SeqCst),
-            4 => self.calls[3].fetch_add(1, Ordering::SeqCst),
-            _ => u32::MAX,
+        let [first, second, third, fourth] = &self.calls;
+        let own = match worker {
+            1 => first,
+            2 => second,
+            3 => third,
+            _ => fourth,
         };
-        if counted != call {
+        if own.fetch_add(1, Ordering::SeqCst) != call || worker > 4 {
             self.out_of_turn.store(true, Ordering::SeqCst);
+        }
+        let is_in_time = if worker > 2 {
+            self.have_come(first, second, call)
+        } else {
+            call >= READINGS_IN_STEP || self.have_come(&self.screens[0], &self.screens[1], call)
+        };
+        if !is_in_time {
+            self.late.store(true, Ordering::SeqCst);
         }
     }
 
     fn shown(&self, worker: u8, reading: &Reading, text: &str) {
-        self.screens.fetch_add(1, Ordering::SeqCst);
-        let is_header = text.starts_with("GROUP B v000") && text.contains(" IN PLAY ");
-        if worker < 3 || reading.version != reading.board.version() || !is_header {
+        let own = if worker == 3 {
+            &self.screens[0]
+        } else {
+            &self.screens[1]
+        };
+        let turn = own.load(Ordering::SeqCst);
+        let is_of_turn = u32::from(reading.version) == turn.saturating_mul(2);
+        let is_of_reader = worker == 3 || worker == 4;
+        if !is_of_turn || !is_of_reader || !self.is_screen_of(reading, text) {
             self.out_of_turn.store(true, Ordering::SeqCst);
         }
+        own.fetch_add(1, Ordering::SeqCst);
     }
 }
 
-#[test]
-fn gate_is_told_of_each_call_and_screen(rt: HostRuntime) -> Result<(), Fail> {
-    let alloc = rt.alloc();
-    let script = head_to_head_script(alloc)?;
-    let night = night_of(alloc, script.as_str())?;
-    let (board, pass) = CellBoard::open(&rt, alloc)?;
-    let gate = Recorder {
+/// A night whose workers are led step by step: how often each came, how many screens each reader showed, whether one came late, and whether
+/// a call or a screen was out of turn.
+fn night_in_step<B: LiveBoard, R: Threads + Wait + Sync>(
+    rt: &R,
+    alloc: Global,
+    board: &B,
+    pass: B::ReaderPass,
+    night: &Night,
+) -> Result<([u32; 6], bool, bool), RunFault>
+    requires { B.is_reader board.now pass }
+{
+    let gate = InStep {
+        alloc,
+        roster: &night.roster,
         calls: [
             AtomicU32::new(0),
             AtomicU32::new(0),
             AtomicU32::new(0),
             AtomicU32::new(0),
         ],
-        screens: AtomicU32::new(0),
+        screens: [AtomicU32::new(0), AtomicU32::new(0)],
+        late: AtomicBool::new(false),
         out_of_turn: AtomicBool::new(false),
     };
     night_run(
-        &rt,
+        rt,
         alloc,
-        &board,
+        board,
         pass,
-        &night,
+        night,
         b'B',
-        7,
+        READINGS_IN_STEP,
         &gate,
-        Profile::Uefa,
+        Profile::AwayInTie,
     )?;
-    for (worker, calls) in [(0, 19), (1, 21), (2, 7), (3, 7)] {
-        assert_eq!(rt;
-            gate.calls[worker].load(Ordering::SeqCst),
-            calls,
-            "at {worker}"
-        );
-    }
-    assert_eq!(rt; gate.screens.load(Ordering::SeqCst), 14);
-    assert!(rt; !gate.out_of_turn.load(Ordering::SeqCst));
+    let [first, second, third, fourth] = &gate.calls;
+    let counts = [
+        first.load(Ordering::SeqCst),
+        second.load(Ordering::SeqCst),
+        third.load(Ordering::SeqCst),
+        fourth.load(Ordering::SeqCst),
+        gate.screens[0].load(Ordering::SeqCst),
+        gate.screens[1].load(Ordering::SeqCst),
+    ];
+    Ok((
+        counts,
+        gate.late.load(Ordering::SeqCst),
+        gate.out_of_turn.load(Ordering::SeqCst),
+    ))
+}
+
+/// A gate is told before each call, of the call's worker and number, and after each reading of its screen.
+#[test]
+fn gate_leads_the_workers(rt: HostRuntime) -> Result<(), Fail> {
+    let alloc = rt.alloc();
+    let script = head_to_head_script(alloc)?;
+    let night = night_of(alloc, script.as_str())?;
+    let right = Ok(([19, 21, 7, 7, 7, 7], false, false));
+    let (board, pass) = CellBoard::open(&rt, alloc)?;
+    assert_eq!(rt; night_in_step(&rt, alloc, &board, pass, &night), right);
+    let (board, pass) = WordBoard::open(&rt, alloc)?;
+    assert_eq!(rt; night_in_step(&rt, alloc, &board, pass, &night), right);
     Ok(())
 }
 
@@ -455,28 +538,32 @@ fn output_with_both_last_screens(rt: HostRuntime) -> Result<(), Fail> {
         reporter_2: (),
     };
     let whole = "READER 1\none\nREADER 2\nanother\nFINAL\nthe end\n";
-    for room in 0..whole.len() {
-        let mut out = Vec::new(alloc);
-        let answer = {
-            let mut sink = ToWrite::new(Full {
-                taken: &mut out,
-                piece: 4,
-                room,
-            });
-            put_night(&end, &mut sink)
-        };
-        assert_eq!(rt; answer, Err(RunFault::WriteFailed { written: room }));
-        assert!(rt;
-            Some(out.as_slice()) == whole.as_bytes().get(..room),
-            "at {room}"
-        );
+    for full in [Full::Fails, Full::TakesNone] {
+        for room in 0..whole.len() {
+            let mut out = Vec::new(alloc);
+            let answer = {
+                let mut sink = ToWrite::new(Out {
+                    taken: &mut out,
+                    piece: 4,
+                    room,
+                    full,
+                });
+                put_night(&end, &mut sink)
+            };
+            assert_eq!(rt; answer, Err(RunFault::WriteFailed { written: room }));
+            assert!(rt;
+                Some(out.as_slice()) == whole.as_bytes().get(..room),
+                "{full:?} at {room}"
+            );
+        }
     }
     let mut out = Vec::new(alloc);
     let answer = {
-        let mut sink = ToWrite::new(Full {
+        let mut sink = ToWrite::new(Out {
             taken: &mut out,
             piece: 4,
             room: usize::MAX,
+            full: Full::Fails,
         });
         put_night(&end, &mut sink)
     };

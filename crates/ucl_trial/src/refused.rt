@@ -1,0 +1,306 @@
+//! Calls that may find no memory, each made twice.
+
+ghost use Rattle.std.specs.Prelude.{◌≡◌};
+
+use crate::marks::{begins, ends};
+use crate::room::{Filling, Room};
+use anyhow::Context;
+use std::alloc::Global;
+use std::fmt::Debug;
+use std::sync::Wait;
+use std::thread::Threads;
+use ucl_board::Board;
+use ucl_order::Profile;
+use ucl_pass::{CellBoard, LiveBoard};
+use ucl_runs::{OpenGate, RunFault, feed_run, night_run, show_run};
+use ucl_screen::{FromRead, InputFault, Night, ToWrite, read_night, read_words, screen};
+use ucl_steps::{Call, Caller, Cast, Step, StepFault, run_steps};
+use ucl_word::{EventCall, Kind, MatchNo, OutOfMemory, ReporterNo};
+use ucl_words::WordBoard;
+
+/// What came of two calls: the fault of the first, of which a request for memory may have been refused; whether what was lent to it, and
+/// what went out, is as it has to be; the fault of the second, and a text of what that gave.
+#[derive(Drop)]
+pub struct Outcome<E> {
+    first: Option<E>,
+    is_kept: bool,
+    second: Option<E>,
+    text: String,
+}
+
+/// Tells an outcome: three lines, and then the text.
+fn tell<E: Debug + Drop, R: Print>(rt: &R, outcome: Outcome<E>) -> anyhow::Result<()> {
+    println!(rt; "first {:?}", outcome.first)?;
+    println!(rt; "kept {}", outcome.is_kept)?;
+    println!(rt; "second {:?}", outcome.second)?;
+    print!(rt; "{}", outcome.text)?;
+    Ok(())
+}
+
+fn text_of(alloc: Global, bytes: &[u8]) -> anyhow::Result<String> {
+    Ok(String::from_str(alloc, std::str::from_utf8(bytes)?)?)
+}
+
+/// The night of a script, and the board after its rows.
+fn night_of(alloc: Global, input: &[u8]) -> anyhow::Result<(Night, Board)> {
+    let night = read_night(alloc, &mut FromRead::new(input))?;
+    let mut board = Board::fresh();
+    for event in &night.events {
+        let _ = board.report(event.reporter, &event.call);
+    }
+    Ok((night, board))
+}
+
+fn screens(alloc: Global, input: &[u8]) -> anyhow::Result<Outcome<OutOfMemory>> {
+    let (night, board) = night_of(alloc, input)?;
+    let words = board.words();
+    begins(alloc)?;
+    let first = screen(alloc, &board, &night.roster, b'A', Profile::Uefa);
+    ends(alloc)?;
+    Ok(Outcome {
+        first: first.err(),
+        is_kept: board.words() == words,
+        second: None,
+        text: screen(alloc, &board, &night.roster, b'A', Profile::Uefa)?,
+    })
+}
+
+fn scripts(alloc: Global, input: &[u8]) -> anyhow::Result<Outcome<InputFault>> {
+    begins(alloc)?;
+    let first = read_night(alloc, &mut FromRead::new(input));
+    ends(alloc)?;
+    let second = read_night(alloc, &mut FromRead::new(input));
+    let night = second?;
+    let events = night.events.len();
+    Ok(Outcome {
+        is_kept: first
+            .as_ref()
+            .is_ok_and(|night| night.events.len() == events)
+            || first.is_err(),
+        first: first.err(),
+        second: None,
+        text: format!(in alloc; "{events} events\n")?,
+    })
+}
+
+fn sheets(alloc: Global, input: &[u8]) -> anyhow::Result<Outcome<InputFault>> {
+    begins(alloc)?;
+    let first = read_words(alloc, &mut FromRead::new(input));
+    ends(alloc)?;
+    let second = read_words(alloc, &mut FromRead::new(input));
+    let sheet = second?;
+    Ok(Outcome {
+        is_kept: first.as_ref().is_ok_and(|other| other.board == sheet.board) || first.is_err(),
+        first: first.err(),
+        second: None,
+        text: screen(alloc, &sheet.board, &sheet.roster, b'A', Profile::Uefa)?,
+    })
+}
+
+/// Two reporters kick off a match each, and a reader reads.
+fn short_run(alloc: Global) -> anyhow::Result<Vec<Step>> {
+    let mut steps = Vec::new(alloc);
+    for number in 1..3u8 {
+        let reporter = Caller::Reporter(ReporterNo::new(number).context("no such reporter")?);
+        let kick_off = EventCall {
+            game: MatchNo::new(number).context("no such match")?,
+            expected: 0,
+            kind: Kind::KickOff,
+        };
+        steps.push(Step::Begin(reporter, Call::Event(kick_off)))?;
+        steps.push(Step::Look(reporter))?;
+        steps.push(Step::Swap(reporter))?;
+        steps.push(Step::End(reporter))?;
+    }
+    let reader = Caller::Reader(1);
+    steps.push(Step::Begin(reader, Call::Reading))?;
+    for _ in 0..12 {
+        steps.push(Step::First(reader))?;
+    }
+    for _ in 0..12 {
+        steps.push(Step::Second(reader))?;
+    }
+    steps.push(Step::End(reader))?;
+    Ok(steps)
+}
+
+fn steps(alloc: Global) -> anyhow::Result<Outcome<StepFault>> {
+    let cast = Cast {
+        reporters: 2,
+        readers: 1,
+    };
+    let steps = short_run(alloc)?;
+    let many = steps.len();
+    begins(alloc)?;
+    let first = run_steps(alloc, &cast, &steps);
+    ends(alloc)?;
+    let second = run_steps(alloc, &cast, &steps);
+    let trace = second?;
+    let (entries, calls) = (trace.history.len(), trace.calls.len());
+    Ok(Outcome {
+        first: first.err(),
+        is_kept: steps.len() == many,
+        second: None,
+        text: format!(in alloc; "{entries} entries, {calls} calls\n")?,
+    })
+}
+
+fn cells<R: Wait>(rt: &R, alloc: Global) -> anyhow::Result<Outcome<OutOfMemory>> {
+    begins(alloc)?;
+    let first = CellBoard::open(rt, alloc);
+    ends(alloc)?;
+    let second = CellBoard::open(rt, alloc);
+    let (board, mut pass) = second?;
+    let version = board.read(rt, &mut pass).version;
+    Ok(Outcome {
+        first: first.err(),
+        is_kept: true,
+        second: None,
+        text: format!(in alloc; "version {version}\n")?,
+    })
+}
+
+fn tables<R: Wait>(rt: &R, alloc: Global) -> anyhow::Result<Outcome<OutOfMemory>> {
+    begins(alloc)?;
+    let first = WordBoard::open(rt, alloc);
+    ends(alloc)?;
+    let second = WordBoard::open(rt, alloc);
+    let (board, mut pass) = second?;
+    let version = board.read(rt, &mut pass).version;
+    Ok(Outcome {
+        first: first.err(),
+        is_kept: true,
+        second: None,
+        text: format!(in alloc; "version {version}\n")?,
+    })
+}
+
+/// The answer of `feed` to an input, and what went out.
+fn fed(alloc: Global, input: &[u8]) -> (Result<(), RunFault>, Room) {
+    let mut room = Room::new();
+    let answer = {
+        let mut sink = ToWrite::new(Filling { room: &mut room });
+        feed_run(alloc, &mut FromRead::new(input), &mut sink)
+    };
+    (answer, room)
+}
+
+fn feeds(alloc: Global, input: &[u8]) -> anyhow::Result<Outcome<RunFault>> {
+    begins(alloc)?;
+    let (first, part) = fed(alloc, input);
+    ends(alloc)?;
+    let (second, whole) = fed(alloc, input);
+    Ok(Outcome {
+        first: first.err(),
+        is_kept: whole.written().starts_with(part.written()),
+        second: second.err(),
+        text: text_of(alloc, whole.written())?,
+    })
+}
+
+/// The answer of `show` to an input, and what went out.
+fn shown(alloc: Global, input: &[u8]) -> (Result<(), RunFault>, Room) {
+    let mut room = Room::new();
+    let answer = {
+        let mut sink = ToWrite::new(Filling { room: &mut room });
+        show_run(
+            alloc,
+            &mut FromRead::new(input),
+            &mut sink,
+            b'A',
+            Profile::Uefa,
+        )
+    };
+    (answer, room)
+}
+
+fn shows(alloc: Global, input: &[u8]) -> anyhow::Result<Outcome<RunFault>> {
+    begins(alloc)?;
+    let (first, part) = shown(alloc, input);
+    ends(alloc)?;
+    let (second, whole) = shown(alloc, input);
+    Ok(Outcome {
+        first: first.err(),
+        is_kept: whole.written().starts_with(part.written()),
+        second: second.err(),
+        text: text_of(alloc, whole.written())?,
+    })
+}
+
+/// A night of the script on a board, and then one on a fresh board of the same kind. A pass that was split off before the first reads
+/// what that board has kept: no more than the rows of the script, and all of them where the night ended well.
+fn nights<B: LiveBoard + Drop, R: Threads + Wait + Sync>(
+    rt: &R,
+    alloc: Global,
+    first: (B, B::ReaderPass),
+    second: (B, B::ReaderPass),
+    night: &Night,
+) -> anyhow::Result<Outcome<RunFault>>
+    requires { B.is_reader first.0 first.1 × B.is_reader second.0 second.1 }
+{
+    let (board, mut pass) = first;
+    let mut watcher = board.split(rt, &mut pass);
+    begins(alloc)?;
+    let one = night_run(
+        rt,
+        alloc,
+        &board,
+        pass,
+        night,
+        b'A',
+        1,
+        &OpenGate,
+        Profile::Uefa,
+    );
+    ends(alloc)?;
+    let kept = usize::from(board.read(rt, &mut watcher).version);
+    let rows = night.events.len();
+    let (board, pass) = second;
+    let other = night_run(
+        rt,
+        alloc,
+        &board,
+        pass,
+        night,
+        b'A',
+        1,
+        &OpenGate,
+        Profile::Uefa,
+    )?;
+    Ok(Outcome {
+        is_kept: kept <= rows && (one.is_err() || kept == rows),
+        first: one.err(),
+        second: None,
+        text: other.closing,
+    })
+}
+
+/// Makes the call that the word names.
+pub fn run<R: Print + Threads + Wait + Sync>(
+    rt: &R,
+    alloc: Global,
+    call: Option<&String>,
+    input: &[u8],
+) -> anyhow::Result<()> {
+    match call.map(String::as_str) {
+        Some("screen") => tell(rt, screens(alloc, input)?),
+        Some("read_night") => tell(rt, scripts(alloc, input)?),
+        Some("read_words") => tell(rt, sheets(alloc, input)?),
+        Some("feed_run") => tell(rt, feeds(alloc, input)?),
+        Some("show_run") => tell(rt, shows(alloc, input)?),
+        Some("night_run") => {
+            let night = read_night(alloc, &mut FromRead::new(input))?;
+            let (first, second) = (WordBoard::open(rt, alloc)?, WordBoard::open(rt, alloc)?);
+            tell(rt, nights(rt, alloc, first, second, &night)?)
+        }
+        Some("night_run_in_a_cell") => {
+            let night = read_night(alloc, &mut FromRead::new(input))?;
+            let (first, second) = (CellBoard::open(rt, alloc)?, CellBoard::open(rt, alloc)?);
+            tell(rt, nights(rt, alloc, first, second, &night)?)
+        }
+        Some("run_steps") => tell(rt, steps(alloc)?),
+        Some("CellBoard::open") => tell(rt, cells(rt, alloc)?),
+        Some("WordBoard::open") => tell(rt, tables(rt, alloc)?),
+        _ => anyhow::bail!("no such call"),
+    }
+}
