@@ -172,16 +172,16 @@ const READINGS_IN_STEP: u32 = 7;
 /// Leads all four workers step by step: each reader takes a reading, then each reporter enters an event, and so on. Notes who comes late,
 /// which call is out of turn, and a screen that is not that of the reading of its turn.
 #[derive(Drop)]
-struct InStep<'a> {
+struct InStep {
     alloc: Global,
-    roster: &'a Roster,
+    roster: Roster,
     calls: [AtomicU32; 4],
     screens: [AtomicU32; 2],
     late: AtomicBool,
     out_of_turn: AtomicBool,
 }
 
-impl InStep<'_> {
+impl InStep {
     /// Whether both have come to a turn, counted from 0.
     fn have_come(&self, first: &AtomicU32, second: &AtomicU32, turn: u32) -> bool {
         let wanted = turn.saturating_add(1);
@@ -193,7 +193,7 @@ impl InStep<'_> {
         match screen(
             self.alloc,
             &reading.board,
-            self.roster,
+            &self.roster,
             b'B',
             Profile::AwayInTie,
         ) {
@@ -203,7 +203,7 @@ impl InStep<'_> {
     }
 }
 
-impl Gate for InStep<'_> {
+impl Gate for InStep {
     fn come(&self, worker: u8, call: u32) {
         let [first, second, third, fourth] = &self.calls;
         let own = match worker {
@@ -249,12 +249,13 @@ fn night_in_step<B: LiveBoard, R: Threads + Wait + Sync>(
     board: &B,
     pass: B::ReaderPass,
     night: &Night,
+    roster: Roster,
 ) -> Result<([u32; 6], bool, bool), RunFault>
     requires { B.is_reader board.now pass }
 {
     let gate = InStep {
         alloc,
-        roster: &night.roster,
+        roster,
         calls: [
             AtomicU32::new(0),
             AtomicU32::new(0),
@@ -299,10 +300,18 @@ fn gate_leads_the_workers(rt: HostRuntime) -> Result<(), Fail> {
     let script = head_to_head_script(alloc)?;
     let night = night_of(alloc, script.as_str())?;
     let right = Ok(([19, 21, 7, 7, 7, 7], false, false));
+    let roster = night_of(alloc, CLUBS)?.roster;
     let (board, pass) = CellBoard::open(&rt, alloc)?;
-    assert_eq!(rt; night_in_step(&rt, alloc, &board, pass, &night), right);
+    assert_eq!(rt;
+        night_in_step(&rt, alloc, &board, pass, &night, roster),
+        right
+    );
+    let roster = night_of(alloc, CLUBS)?.roster;
     let (board, pass) = WordBoard::open(&rt, alloc)?;
-    assert_eq!(rt; night_in_step(&rt, alloc, &board, pass, &night), right);
+    assert_eq!(rt;
+        night_in_step(&rt, alloc, &board, pass, &night, roster),
+        right
+    );
     Ok(())
 }
 
