@@ -1,9 +1,9 @@
 //! The program's words, read by `clap`.
 
-ghost use Rattle.std.specs.Prelude.{◌≡◌, ◌≤◌, IfOk};
-ghost use Rattle.clap.specs.Words.{kind_of};
-ghost use Rattle.ucl_screen.specs.Screen.{IsGroup};
-ghost use Rattle.ucl_night.specs.CommandLine.{IsInRange};
+ghost use Rattle.std.specs.Prelude.{◌≡◌, IfErr, IfOk, false, map, option_and_then, string_bytes};
+ghost use Rattle.clap.specs.Words.{app_of, found_of, kind_of, rows_of, rule_of, subcommand_rows_of};
+ghost use Rattle.ucl_night.specs.CommandLine.{AreTaken, AskFor, IsFaultOf, IsInRange, Tables, Tells};
+ghost use Rattle.ucl_night.specs.CommandLine.{group_in, group_option, line_in, order_in, order_option, program, readings_in, readings_option};
 
 use clap::error::ErrorKind;
 use clap::{Arg, ArgAction, ArgMatches, Command, Error, value_parser};
@@ -55,53 +55,63 @@ const UEFA: &str = "uefa";
 
 const AWAY_IN_TIE: &str = "away-in-tie";
 
-/// The group where none is named.
-const FIRST_GROUP: u8 = b'A';
-
 /// The most readings that `--readings` asks of each reader.
-const MOST_READINGS: i64 = 1000;
+const MOST_READINGS: u32 = 1000;
 
-/// The option `--group`.
-fn group_option<'a>(alloc: Global) -> Arg<'a> {
+/// The option `--group`, with the letters that it takes.
+fn group_option<'a>(alloc: Global, letters: &'a [&'a str]) -> Arg<'a>
+    ensures rule { rule_of result ≡ group_option letters.entry }
+    ensures local { result.global ≡ false }
+{
     Arg::new(alloc, "group")
         .long("group")
         .action(ArgAction::Set)
-        .value_parser(GROUPS.as_slice())
+        .value_parser(letters)
         .default_value("A")
 }
 
 /// The option `--readings`.
-fn readings_option<'a>(alloc: Global) -> Arg<'a> {
+fn readings_option<'a>(alloc: Global) -> Arg<'a>
+    ensures rule { rule_of result ≡ readings_option }
+    ensures local { result.global ≡ false }
+{
     Arg::new(alloc, "readings")
         .long("readings")
         .action(ArgAction::Set)
-        .value_parser(value_parser!(u32).range(0..=MOST_READINGS))
+        .value_parser(value_parser!(u32).range(0..=i64::from(MOST_READINGS)))
         .default_value("0")
 }
 
-/// The option `--order`.
-fn order_option<'a>(alloc: Global) -> Arg<'a> {
+/// The option `--order`, with the names that it takes.
+fn order_option<'a>(alloc: Global, names: &'a [&'a str]) -> Arg<'a>
+    ensures rule { rule_of result ≡ order_option names.entry }
+    ensures local { result.global ≡ false }
+{
     Arg::new(alloc, "order")
         .long("order")
         .action(ArgAction::Set)
-        .value_parser(ORDERS.as_slice())
+        .value_parser(names)
         .default_value(UEFA)
 }
 
 /// The program's command, with a subcommand for each line.
-fn command<'a>(alloc: Global) -> Result<Command<'a>, AllocError> {
+fn command<'a>(alloc: Global) -> Result<Command<'a>, AllocError>
+    ensures { IfOk result (λ command. (t : Tables) × (app_of command ≡ program t)) }
+{
+    let letters = GROUPS.as_slice();
+    let orders = ORDERS.as_slice();
     let feed = Command::new(alloc, "feed").about(
         "Enters a script, and writes a reply for each event",
     );
     let show = Command::new(alloc, "show")
         .about("Writes the screen of a board")
-        .arg(group_option(alloc))?
-        .arg(order_option(alloc))?;
+        .arg(group_option(alloc, letters))?
+        .arg(order_option(alloc, orders))?;
     let night = Command::new(alloc, "night")
         .about("Enters a script by two reporters in threads, and writes the screens")
-        .arg(group_option(alloc))?
+        .arg(group_option(alloc, letters))?
         .arg(readings_option(alloc))?
-        .arg(order_option(alloc))?;
+        .arg(order_option(alloc, orders))?;
     Command::new(alloc, "ucl_night")
         .subcommand_required(true)
         .subcommand(feed)?
@@ -109,37 +119,59 @@ fn command<'a>(alloc: Global) -> Result<Command<'a>, AllocError> {
         .subcommand(night)
 }
 
-/// The group that was named. The parser has taken no other letter than those of groups.
-fn group_of(matches: &ArgMatches<'_>) -> u8
-    ensures { IsGroup result }
+/// The group that was named.
+fn group_of(matches: &ArgMatches<'_>) -> Option<u8>
+    ensures { result ≡ group_in (rows_of (found_of matches.now)) }
 {
-    match matches.get_str("group").map(str::as_bytes) {
-        Some([letter]) if is_group(*letter) => *letter,
-        _ => FIRST_GROUP,
+    match matches.get_str("group")?.as_bytes() {
+        [letter] if is_group(*letter) => Some(*letter),
+        _ => None,
     }
 }
 
-/// How many readings were asked for. The parser has taken no number past `MOST_READINGS`.
-fn readings_of(matches: &ArgMatches<'_>) -> u32
-    ensures { result ≤ 1000 }
+/// How many readings were asked for.
+fn readings_of(matches: &ArgMatches<'_>) -> Option<u32>
+    ensures { result ≡ readings_in (rows_of (found_of matches.now)) }
 {
-    match matches.get_one::<u32>("readings") {
-        Some(readings) if i64::from(readings) <= MOST_READINGS => readings,
-        _ => 0,
+    let readings = matches.get_one::<u32>("readings")?;
+    (readings <= MOST_READINGS).then_some(readings)
+}
+
+/// The order that was named.
+fn profile_of(matches: &ArgMatches<'_>) -> Option<Profile>
+    ensures { result ≡ order_in (rows_of (found_of matches.now)) }
+{
+    match matches.get_str("order")? {
+        UEFA => Some(Profile::Uefa),
+        AWAY_IN_TIE => Some(Profile::AwayInTie),
+        _ => None,
     }
 }
 
-/// The order that was named. The parser has taken no other word than those of orders.
-fn profile_of(matches: &ArgMatches<'_>) -> Profile {
-    match matches.get_str("order") {
-        Some(AWAY_IN_TIE) => Profile::AwayInTie,
-        _ => Profile::Uefa,
+/// The line that was named.
+fn line_in(matches: &ArgMatches<'_>) -> Option<Line>
+    ensures { result ≡ option_and_then line_in (subcommand_rows_of matches.now) }
+{
+    let (name, found) = matches.subcommand()?;
+    match name {
+        "feed" => Some(Line::Feed),
+        "show" => Some(Line::Show {
+            group: group_of(found)?,
+            profile: profile_of(found)?,
+        }),
+        "night" => Some(Line::Night {
+            group: group_of(found)?,
+            readings: readings_of(found)?,
+            profile: profile_of(found)?,
+        }),
+        _ => None,
     }
 }
 
 /// What to tell of words that were not taken.
 fn fault_of(alloc: Global, error: &Error) -> LineFault
-    ensures { kind_of error.now ≡ ErrorKind.OutOfMemory → result ≡ LineFault.OutOfMemory }
+    ensures memory { kind_of error.now ≡ ErrorKind.OutOfMemory → result ≡ LineFault.OutOfMemory }
+    ensures tells { Tells result (kind_of error.now) }
 {
     if error.kind() == ErrorKind::OutOfMemory {
         return LineFault::OutOfMemory;
@@ -151,23 +183,17 @@ fn fault_of(alloc: Global, error: &Error) -> LineFault
     }
 }
 
-/// What to tell of words without a subcommand. The parser has taken none such.
-fn no_subcommand(alloc: Global) -> LineFault {
-    match String::from_str(alloc, "error: no subcommand\n") {
-        Ok(text) => LineFault::Refused(text),
-        Err(_) => LineFault::OutOfMemory,
-    }
-}
-
 /// What the program's words ask for. The first word is the program's name.
 ///
 /// The words are read by `clap`: the name is followed by the subcommand `feed`, `show` or `night`. The latter two take
 /// `--group` with a letter from `A` to `H`, which is `A` where it is left out, and `--order` with `uefa` or `away-in-tie`, which
 /// is `uefa` where it is left out, and `night` also `--readings` with a number from 0 to 1,000, which is 0 where it is left out.
-/// `Help` comes where help is asked for, and `Refused` where the words
-/// have no subcommand, an unknown one, or what it does not take.
+/// `Help` comes where help is asked for, and `Refused` where the words have no subcommand, an unknown one, or what it does not take.
 pub fn line_of(alloc: Global, words: &[String]) -> Result<Line, LineFault>
-    ensures { IfOk result IsInRange }
+    ensures in_range { IfOk result IsInRange }
+    ensures meant { IfOk result (AskFor (map string_bytes words.now)) }
+    ensures taken { AreTaken (map string_bytes words.now) → IfErr result (λ fault. fault ≡ LineFault.OutOfMemory) }
+    ensures answers { IfErr result (IsFaultOf (map string_bytes words.now)) }
 {
     let Ok(command) = command(alloc) else {
         return Err(LineFault::OutOfMemory);
@@ -176,17 +202,8 @@ pub fn line_of(alloc: Global, words: &[String]) -> Result<Line, LineFault>
         Ok(matches) => matches,
         Err(error) => return Err(fault_of(alloc, &error)),
     };
-    match matches.subcommand() {
-        Some(("show", found)) => Ok(Line::Show {
-            group: group_of(found),
-            profile: profile_of(found),
-        }),
-        Some(("night", found)) => Ok(Line::Night {
-            group: group_of(found),
-            readings: readings_of(found),
-            profile: profile_of(found),
-        }),
-        Some(("feed", _)) => Ok(Line::Feed),
-        _ => Err(no_subcommand(alloc)),
-    }
+    let Some(line) = line_in(&matches) else {
+        unreachable!("what the parser has taken names a line")
+    };
+    Ok(line)
 }

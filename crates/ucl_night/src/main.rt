@@ -5,10 +5,12 @@
 #![tactic(auto)]
 
 mod command_line;
+mod laws;
 mod program;
 mod refusal;
 
 pub use command_line::{Line, LineFault, line_of};
+pub use laws::{words_that_are_refused, words_that_are_taken};
 pub use program::{obey, run};
 use refusal::tell_refusal;
 use std::env;
