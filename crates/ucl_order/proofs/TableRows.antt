@@ -1,5 +1,6 @@
 -- The rows, from what the calls answered.
-use Rattle.std.proofs.Common.{◌≡◌, ℕ, ◌-◌, List, [], ◌∷◌}
+use Rattle.std.proofs.Common.{◌≡◌, ◌∙◌, ℕ, ◌-◌, List, [], ◌∷◌, map, get_or, All, refl, sym}
+use Rattle.std.proofs.lemmas.List.Elements.{All-cons, All-nil}
 use Rattle.std.specs.List.{slice_index}
 use Rattle.ucl_order.specs.declared.profile.Profile.{Profile}
 use Rattle.ucl_order.specs.declared.game.Match.{Match}
@@ -10,7 +11,8 @@ use Rattle.ucl_order.specs.Results.{matches_of, started}
 use Rattle.ucl_order.specs.Order.{order_of}
 use Rattle.ucl_order.specs.Marks.{mark_by, mark_of}
 use Rattle.ucl_order.specs.Rounds.{order_by}
-use Rattle.ucl_order.specs.Rows.{row_of, row_with}
+use Rattle.ucl_order.specs.Rows.{IsWithinTable, MarkIsCertain, row_of, row_with, rows_of}
+use Rattle.ucl_order.proofs.Completions.{plus_is_certain, minus_is_certain}
 
 pub row_is : (place n : ℕ) (order : List ℕ) (ms now : List Match) (mark : Mark) (r : Row) → n ≡ place → now ≡ started ms →
     mark ≡ mark_by ms order (slice_index order (n - 1)) → r ≡ row_with place (slice_index order (n - 1)) mark now →
@@ -28,3 +30,28 @@ row_of_place profile board roster place ms given order r is_ms is_given is_order
 
 pub four_rows : {a b c d a' b' c' d' : Row} → a ≡ a' → b ≡ b' → c ≡ c' → d ≡ d' → ◌≡◌ {A = List Row} (a ∷ b ∷ c ∷ d ∷ []) (a' ∷ b' ∷ c' ∷ d' ∷ [])
 four_rows p q r s = cc
+
+-- the mark of each row is that of its club, and so is what it says
+module _ (profile : Profile) (board : List ℕ) (roster : List ClubEntry) where
+  marked : (place : ℕ) → (row_of profile board roster place).mark ≡ mark_of profile board roster (row_of profile board roster place).slot
+  unfolding row_of
+  marked place = refl
+
+  abbrev IsMarked : Row → Type 0
+  IsMarked row = row.mark ≡ mark_of profile board roster row.slot
+
+  all_marked : All IsMarked (rows_of profile board roster)
+  all_marked =
+      All-cons IsMarked (row_of profile board roster 1) (map (row_of profile board roster) (2 ∷ 3 ∷ 4 ∷ [])) (marked 1)
+      (All-cons IsMarked (row_of profile board roster 2) (map (row_of profile board roster) (3 ∷ 4 ∷ [])) (marked 2)
+      (All-cons IsMarked (row_of profile board roster 3) (map (row_of profile board roster) (4 ∷ [])) (marked 3)
+      (All-cons IsMarked (row_of profile board roster 4) [] (marked 4) (All-nil IsMarked))))
+
+  certain : (row : Row) → IsWithinTable row → IsMarked row → MarkIsCertain profile board roster row
+  certain row within is = record {
+    plus = λ mark later done. plus_is_certain profile board later done roster row.slot within.slot (sym is ∙ mark);
+    minus = λ mark later done. minus_is_certain profile board later done roster row.slot (sym is ∙ mark);
+  }
+
+  pub all_certain : All IsWithinTable (rows_of profile board roster) → All (MarkIsCertain profile board roster) (rows_of profile board roster)
+  all_certain within i d below = certain (get_or (rows_of profile board roster) i d) (within i d below) (all_marked i d below)

@@ -1,14 +1,15 @@
 -- The rows of the table.
-use Rattle.std.specs.Prelude.{ℕ, ◌-◌, ◌≤◌, List, [], ◌∷◌, map, slice_index}
+use Rattle.std.specs.Prelude.{◌≡◌, ℕ, ◌-◌, ◌≤◌, List, [], ◌∷◌, map, slice_index}
 use Rattle.ucl_board.specs.Fixtures.{IsSlot}
 use Rattle.ucl_order.specs.declared.game.Match.{Match}
 use Rattle.ucl_order.specs.declared.mark.Mark.{Mark}
+use Rattle.ucl_order.specs.declared.mark.Mark.TheVariants.{Plus, Minus}
 use Rattle.ucl_order.specs.declared.profile.Profile.{Profile}
 use Rattle.ucl_order.specs.declared.table.Row.{Row}
 use Rattle.ucl_order.specs.Roster.{ClubEntry}
 use Rattle.ucl_order.specs.Results.{matches_of, started, played, wins, draws, losses, goals_for, goals_against, points}
 use Rattle.ucl_order.specs.Order.{order_of}
-use Rattle.ucl_order.specs.Marks.{mark_of}
+use Rattle.ucl_order.specs.Marks.{IsCompletion, GoesThrough, mark_of}
 
 -- what a club has done in some matches, at its place
 abbrev pub row_with : ℕ → ℕ → Mark → List Match → Row
@@ -49,3 +50,8 @@ pub record IsWithinTable (row : Row) : Type 0 where
   pub goals_for : row.goals_for ≤ 378
   pub goals_against : row.goals_against ≤ 378
   pub points : row.points ≤ 18
+
+-- what the mark of a row says of its club, however the group ends: with a plus it is among the first two, with a minus it is not
+pub record MarkIsCertain (profile : Profile) (board : List ℕ) (roster : List ClubEntry) (row : Row) : Type 0 where
+  pub plus : row.mark ≡ Plus → (later : List ℕ) → IsCompletion board later → GoesThrough profile later roster row.slot
+  pub minus : row.mark ≡ Minus → (later : List ℕ) → IsCompletion board later → GoesThrough profile later roster row.slot → ⊥

@@ -7,7 +7,7 @@ ghost use Rattle.ucl_order.specs.Counting.{IsWithin};
 ghost use Rattle.ucl_order.specs.Marks.{mark_by};
 ghost use Rattle.ucl_order.specs.Results.{results_of, started};
 ghost use Rattle.ucl_order.specs.Rounds.{results_of_clubs};
-ghost use Rattle.ucl_order.specs.Rows.{IsWithinTable, row_with, rows_of};
+ghost use Rattle.ucl_order.specs.Rows.{IsWithinTable, MarkIsCertain, row_with, rows_of};
 
 use crate::game::{fill_matches, fill_started};
 use crate::mark::{Mark, marks_of};
@@ -96,6 +96,7 @@ pub fn standings(board: &Board, roster: &Roster, profile: Profile) -> [Row; 4]
     ensures four { length result ≡ 4 }
     ensures places { map (λ row. row.place) result ≡ 1 ∷ 2 ∷ 3 ∷ 4 ∷ [] }
     ensures within { All IsWithinTable result }
+    ensures certain { All (MarkIsCertain profile board.now roster.now) result }
 {
     let mut matches = ArrayVec::new();
     fill_matches(board, &mut matches);

@@ -6,10 +6,10 @@ use Rattle.ucl_order.specs.Results.{IsPairing, has_started, matches_of, started}
 use Rattle.ucl_order.specs.Marks.{mark_by}
 use Rattle.ucl_order.specs.Rounds.{results_of_clubs}
 use Rattle.ucl_order.specs.Order.{order_of}
-use Rattle.ucl_order.specs.Rows.{rows_of, row_of, IsWithinTable}
+use Rattle.ucl_order.specs.Rows.{rows_of, row_of, IsWithinTable, MarkIsCertain}
 use Rattle.ucl_order.proofs.Fitting.{started_is}
 use Rattle.ucl_order.proofs.Limits.{rows_within}
-use Rattle.ucl_order.proofs.TableRows.{four_rows, order_is, row_of_place}
+use Rattle.ucl_order.proofs.TableRows.{all_certain, four_rows, order_is, row_of_place}
 use Rattle.ucl_order.proofs.table.standings.Goals as goal
 
 pub of_clubs-results-requires-clause-pairings : goal.of_clubs-results-requires-clause-pairings
@@ -41,3 +41,9 @@ pub returns-clause-within : goal.returns-clause-within
 returns-clause-within c =
     let valid : All (λ m. IsValid m.result) (matches_of c.args.board.now) = (let P : List Match → Type 0 = All (λ m. IsValid m.result) in subst P c.fill_matches.ensures.value c.fill_matches.ensures.valid) in
     All-same IsWithinTable _ (rows_of c.args.profile c.args.board.now c.args.roster.now) (returns-clause-rows c) (rows_within c.args.profile c.args.board.now c.args.roster.now valid)
+
+pub returns-clause-certain : goal.returns-clause-certain
+returns-clause-certain c =
+    let valid : All (λ m. IsValid m.result) (matches_of c.args.board.now) = (let P : List Match → Type 0 = All (λ m. IsValid m.result) in subst P c.fill_matches.ensures.value c.fill_matches.ensures.valid) in
+    All-same (MarkIsCertain c.args.profile c.args.board.now c.args.roster.now) _ (rows_of c.args.profile c.args.board.now c.args.roster.now) (returns-clause-rows c)
+    (all_certain c.args.profile c.args.board.now c.args.roster.now (rows_within c.args.profile c.args.board.now c.args.roster.now valid))
