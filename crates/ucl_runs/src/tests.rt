@@ -295,6 +295,16 @@ fn word_lines(alloc: Global, text: &str) -> Result<String, Fail> {
     Ok(words)
 }
 
+/// The screen of a board of no event.
+const FRESH_SCREEN: &str = "\
+GROUP A v00000 IN PLAY 0
+    Club                  P  W  D  L  GF  GA   GD Pts
+1   Bravo                 0  0  0  0   0   0   +0   0
+2   Delta                 0  0  0  0   0   0   +0   0
+3   Alpha                 0  0  0  0   0   0   +0   0
+4   Charlie               0  0  0  0   0   0   +0   0
+";
+
 #[test]
 fn screens_of_sheets(rt: HostRuntime) -> Result<(), Fail> {
     let alloc = rt.alloc();
@@ -313,6 +323,7 @@ fn screens_of_sheets(rt: HostRuntime) -> Result<(), Fail> {
         (reopened.as_str(), REOPENED_SCREEN),
         (TWO_MATCHES_WORDS, TWO_MATCHES_SCREEN),
         (TWO_MATCHES_OLD_WORDS, TWO_MATCHES_SCREEN),
+        (NO_EVENT_OUT, FRESH_SCREEN),
     ];
     for (words, screen) in sheets {
         let sheet = joined(alloc, CLUBS, words)?;

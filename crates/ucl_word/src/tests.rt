@@ -208,8 +208,9 @@ fn number_full(rt: HostRuntime) {
         } else {
             Kind::Disallow(Side::Home)
         };
-        if let Some(Ok(next)) = entered(word, number, kind) {
-            word = next;
+        match entered(word, number, kind) {
+            Some(Ok(next)) => word = next,
+            _ => panic!(rt; "refused at {number}"),
         }
     }
     let full = 0x2001000000005ffe;
