@@ -15,8 +15,8 @@ use Rattle.ucl_word.specs.Rules.{refusal_of, answer, after}
 use Rattle.ucl_word.specs.Layout.{word_of, record_at}
 use Rattle.ucl_word.specs.Counts.{MatchEntry, counted_match, IsAccepted}
 use Rattle.ucl_word.proofs.Sequences.{may_none, may_next, may_begin, may_last, may_induction}
-use Rattle.ucl_word.proofs.Counting.{number_of_count, counted}
-use Rattle.ucl_word.proofs.Accepting.{Accepts, accepts}
+use Rattle.ucl_word.proofs.EntryCounts.{number_of_count, counted}
+use Rattle.ucl_word.proofs.AcceptedEvents.{Accepts, accepts}
 use Rattle.ucl_word.proofs.EventsApart.{events_apart}
 use Rattle.ucl_word.proofs.Words.{record_back, number_valid, words_apart}
 use Rattle.ucl_board.specs.declared.entry.Entry.{Entry}

@@ -6,7 +6,7 @@ use Rattle.std.proofs.lemmas.List.{map-append}
 use Rattle.std.proofs.lemmas.List.Elements.{filter-append, All-head, All-tail}
 use Rattle.ucl_word.proofs.Sequences.{may_none, may_next}
 use Rattle.ucl_board.specs.declared.entry.Entry.{Entry}
-use Rattle.ucl_board.specs.Log.{Mark, Taken, Log, taken_by, entry_list, added_by, history_of, mark_list, marks_in, MayBeTaken, IsLog}
+use Rattle.ucl_board.specs.Log.{Access, Taken, Log, taken_by, entry_list, added_by, history_of, access_list, accesses_in, MayBeTaken, IsLog}
 
 pub log_none : IsLog []
 log_none = may_none MayBeTaken
@@ -43,8 +43,8 @@ taken_none seat (x ∷ log) all =
 pub added_more : (steps : List Taken) (t : Taken) → added_by (steps ++ t ∷ []) ≡ added_by steps ++ entry_list t.entry
 added_more steps t = flat_map-append (λ (x : Taken). entry_list x.entry) steps (t ∷ []) ∙ ap (λ (l : List Entry). added_by steps ++ l) (append-nil (entry_list t.entry))
 
-pub marks_append : (xs ys : List Taken) → marks_in (xs ++ ys) ≡ marks_in xs ++ marks_in ys
-marks_append xs ys = flat_map-append (λ (x : Taken). mark_list x.target x.at) xs ys
+pub accesses_append : (xs ys : List Taken) → accesses_in (xs ++ ys) ≡ accesses_in xs ++ accesses_in ys
+accesses_append xs ys = flat_map-append (λ (x : Taken). access_list x.target x.at) xs ys
 
-pub marks_more : (steps : List Taken) (t : Taken) → marks_in (steps ++ t ∷ []) ≡ marks_in steps ++ mark_list t.target t.at
-marks_more steps t = marks_append steps (t ∷ []) ∙ ap (λ (l : List Mark). marks_in steps ++ l) (append-nil (mark_list t.target t.at))
+pub accesses_more : (steps : List Taken) (t : Taken) → accesses_in (steps ++ t ∷ []) ≡ accesses_in steps ++ access_list t.target t.at
+accesses_more steps t = accesses_append steps (t ∷ []) ∙ ap (λ (l : List Access). accesses_in steps ++ l) (append-nil (access_list t.target t.at))

@@ -8,25 +8,25 @@ use Rattle.ucl_board.specs.Fixtures.{IsMatch}
 use Rattle.ucl_board.specs.History.{match_after}
 
 -- what a step on a match word is: the load and the exchange of a report, and the loads of a reading's first and second collect
-pub data Act : Type 0 where
-  Look : Act
-  Swap : Act
-  First : Act
-  Second : Act
+pub data AccessKind : Type 0 where
+  Look : AccessKind
+  Swap : AccessKind
+  First : AccessKind
+  Second : AccessKind
 
 -- a step on a match word: what it was, of which match, the word that it found, and the length of the history just before it
-pub record Mark : Type 0 where
-  pub act : Act
+pub record Access : Type 0 where
+  pub kind : AccessKind
   pub game : ℕ
   pub found : ℕ
   pub at : ℕ
 
-abbrev pub mark : Act → ℕ → ℕ → ℕ → Mark
-mark act game found at = record { act = act; game = game; found = found; at = at }
+abbrev pub access : AccessKind → ℕ → ℕ → ℕ → Access
+access kind game found at = record { kind = kind; game = game; found = found; at = at }
 
--- what a step looked at: the word of one match, by an act that found this word; the number of enlisted reporters; or the whole board at once
+-- what a step looked at: the word of one match, by an access that found this word; the number of enlisted reporters; or the whole board at once
 pub data Target : Type 0 where
-  Match : (act : Act) (game found : ℕ) → Target
+  Match : (kind : AccessKind) (game found : ℕ) → Target
   Enlisted : Target
   Whole : Target
 
@@ -60,19 +60,19 @@ added_by steps = flat_map (λ x. entry_list x.entry) steps
 abbrev pub history_of : Log → List Entry
 history_of log = flat_map (λ x. entry_list x.1.entry) log
 
--- the mark of a step on a match word
-abbrev pub mark_list : Target → ℕ → List Mark
-mark_list (Match act game found) at = mark act game found at ∷ []
-mark_list Enlisted at = []
-mark_list Whole at = []
+-- the access of a step on a match word
+abbrev pub access_list : Target → ℕ → List Access
+access_list (Match kind game found) at = access kind game found at ∷ []
+access_list Enlisted at = []
+access_list Whole at = []
 
--- the marks of steps on match words
-abbrev pub marks_in : List Taken → List Mark
-marks_in steps = flat_map (λ x. mark_list x.target x.at) steps
+-- the accesses of steps on match words
+abbrev pub accesses_in : List Taken → List Access
+accesses_in steps = flat_map (λ x. access_list x.target x.at) steps
 
 -- the word that was found is that of its match after the history
 abbrev pub IsThere : List Entry → Target → Type 0
-IsThere history (Match act game found) = IsMatch game × (found ≡ word_of (match_after history game))
+IsThere history (Match kind game found) = IsMatch game × (found ≡ word_of (match_after history game))
 IsThere history Enlisted = Unit {0}
 IsThere history Whole = Unit {0}
 

@@ -1,8 +1,8 @@
-pub mod Playing
+pub mod NightOutput
 pub mod Matches
 pub mod Range
-pub mod Told
-pub mod Walking
+pub mod ToldErrors
+pub mod WalkFacts
 pub mod Values
 pub mod Lines
 pub mod Written

@@ -26,7 +26,7 @@ use Rattle.ucl_order.specs.declared.profile.Profile.{Profile}
 use Rattle.ucl_night.specs.CommandLine.{Tables, Texts, group_in, group_named, letters, line_in, line_named, night_of, number_named, order_in, order_named, order_names, program}
 use Rattle.ucl_night.specs.CommandLine.{readings_in, show_of}
 use Rattle.ucl_night.proofs.Matches.{digits_back, digits_from, number_is, up_to_most}
-use Rattle.ucl_night.proofs.Walking.{Keeps, StopsOn, neither, settled_keeps, walk_keeps, walk_on}
+use Rattle.ucl_night.proofs.WalkFacts.{Keeps, StopsOn, neither, settled_keeps, walk_keeps, walk_on}
 use Rattle.ucl_night.proofs.Values.{AreGood, Each, Fills, each_found, fill_help, fill_option, good-defaults, has_defaults, has_option, help_built, keep_help, keep_option}
 use Rattle.ucl_night.proofs.Values.{option_built, value_found}
 

@@ -14,7 +14,7 @@ use Rattle.clap.specs.declared.builder.value_parser.ValueParser.{ValueParser}
 use Rattle.clap.specs.declared.error.kind.ErrorKind.TheVariants as kind
 use Rattle.clap.specs.declared.parser.matches.ValueSource.{ValueSource}
 use Rattle.clap.specs.declared.parser.matches.ValueSource.TheVariants.{CommandLine, DefaultValue}
-use Rattle.ucl_night.proofs.Walking.{Keeps, neither}
+use Rattle.ucl_night.proofs.WalkFacts.{Keeps, neither}
 
 -- an option of one value as it is built, and the flag of help
 abbrev pub option_built : Text → ValueParser → Text → Rule

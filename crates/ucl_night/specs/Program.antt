@@ -4,12 +4,12 @@ use Rattle.std.specs.Io.KnownBytes.{Appends}
 use Rattle.ucl_board.specs.declared.entry.Entry.{Entry}
 use Rattle.ucl_board.specs.History.{IsLegal, accepted_of, board_of}
 use Rattle.ucl_order.specs.declared.profile.Profile.{Profile}
-use Rattle.ucl_order.specs.Roster.{ClubEntry}
+use Rattle.ucl_order.specs.Roster.{NamedClub}
 use Rattle.ucl_screen.specs.declared.fault.InputFault.{InputFault}
 use Rattle.ucl_screen.specs.declared.fault.InputFault.TheVariants as input
 use Rattle.ucl_screen.specs.Input.{Reads}
-use Rattle.ucl_screen.specs.Script.{NightEntry}
-use Rattle.ucl_screen.specs.Meaning.{MeansNight, MeansSheet, night_seen, sheet_seen}
+use Rattle.ucl_screen.specs.Script.{Script}
+use Rattle.ucl_screen.specs.Parsing.{MeansNight, MeansSheet, night_seen, sheet_seen}
 use Rattle.ucl_screen.specs.Screen.{screen_text}
 use Rattle.ucl_night.specs.declared.command_line.Line.{Line}
 use Rattle.ucl_night.specs.declared.command_line.Line.TheVariants.{Feed, Show, Night}
@@ -27,7 +27,7 @@ use Rattle.ucl_runs.specs.Run.{IfInput, IfWriteFailed, IsCutShort, StoppedShort,
 -- The text that a line calls for. --
 
 -- a reader took so many readings along a legal history, and this is its last screen
-pub record HasLooked (profile : Profile) (readings : ℕ) (roster : List ClubEntry) (group : ℕ) (last : Option (List ℕ)) : Type 0 where
+pub record HasLooked (profile : Profile) (readings : ℕ) (roster : List NamedClub) (group : ℕ) (last : Option (List ℕ)) : Type 0 where
   pub seen : List Entry
   pub versions : List ℕ
   pub legal : IsLegal seen
@@ -36,14 +36,14 @@ pub record HasLooked (profile : Profile) (readings : ℕ) (roster : List ClubEnt
   pub last_is : IsLastScreen profile seen versions roster group last
 
 -- the screen of the rows of a script, entered in script order by reporters 1 and 2
-abbrev pub script_screen : Profile → ℕ → NightEntry → List ℕ
+abbrev pub script_screen : Profile → ℕ → Script → List ℕ
 script_screen profile group night = screen_text profile (board_of (accepted_of (map attempt_of night.events))) night.clubs group
 
 -- the input is a script, and this is the output of a night of it: the last screens of both readers, and the screen of a merge of the rows.
 -- Where each match has one reporter, that is the screen of the script, whoever was faster; where besides no reading is asked for, the
 -- text is worked out from the input alone
 pub record IsPlayed (profile : Profile) (group readings : ℕ) (bytes text : List ℕ) : Type 0 where
-  pub night : NightEntry
+  pub night : Script
   pub means : MeansNight bytes (Ok night)
   pub first : ℕ
   pub second : ℕ
@@ -78,7 +78,7 @@ RefusesInput _ old new failed e = Reads MeansNight night_seen old new failed (Er
 
 -- a row that is told is the first of a script that is of no reporter on duty
 abbrev pub TellsDuty : Option (List ℕ) → RunFault → Type 0
-TellsDuty known (NotOnDuty row) = IfSome known (λ bytes. (night : NightEntry) × MeansNight bytes (Ok night) × IsFirstOffDuty night.events row)
+TellsDuty known (NotOnDuty row) = IfSome known (λ bytes. (night : Script) × MeansNight bytes (Ok night) × IsFirstOffDuty night.events row)
 TellsDuty known _ = ⊤
 
 -- the output stopped within the text: it took the first so many bytes, and their number is told

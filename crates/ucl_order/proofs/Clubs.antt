@@ -4,9 +4,9 @@ use Rattle.std.proofs.lemmas.Bool.Decides.{nat_tests}
 use Rattle.std.proofs.lemmas.List.{get_or-map, length-map}
 use Rattle.std.proofs.lemmas.List.Elements.{All-get_or}
 use Rattle.ucl_order.specs.declared.roster.Member.{Member}
-use Rattle.ucl_order.specs.Members.{member_entry, entries_of}
+use Rattle.ucl_order.specs.Members.{member_seen, members_seen}
 use Rattle.ucl_order.specs.declared.roster.Club.{Club}
-use Rattle.ucl_order.specs.Roster.{entry_of, IsClub, IsRoster, is_club, is_name, bad_slot, bad_slot_from}
+use Rattle.ucl_order.specs.Roster.{club_seen, IsClub, IsRoster, is_club, is_name, bad_slot, bad_slot_from}
 
 and-left : (a b : Bool) → (a && b) ≡ true → a ≡ true
 and-left a b h = elim a as (λ x. (x && b) ≡ true → x ≡ true) [ true ↦ λ _. refl | false ↦ λ e. e ] h
@@ -15,21 +15,21 @@ and-right : (a b : Bool) → (a && b) ≡ true → b ≡ true
 and-right a b h = elim a as (λ x. (x && b) ≡ true → b ≡ true) [ true ↦ λ e. e | false ↦ λ e. cc e ] h
 
 -- the club of each place is good
-pub member-good : (members : List Member) (i : ℕ) (m : Member) → IsRoster (entries_of members) → i < 4 → IsClub (member_entry (slice_index_or members i m))
+pub member-good : (members : List Member) (i : ℕ) (m : Member) → IsRoster (members_seen members) → i < 4 → IsClub (member_seen (slice_index_or members i m))
 member-good members i m roster within =
-    let same = get_or-map member_entry members i m (member_entry m) in
+    let same = get_or-map member_seen members i m (member_seen m) in
     let four = roster.four in
-    let inside : i < length members = omega (arith, length-map members member_entry) in
-    let inside_too : i < length (entries_of members) = omega arith in
-    subst IsClub (same inside) (All-get_or IsClub (entries_of members) i (member_entry m) inside_too roster.each)
+    let inside : i < length members = omega (arith, length-map members member_seen) in
+    let inside_too : i < length (members_seen members) = omega arith in
+    subst IsClub (same inside) (All-get_or IsClub (members_seen members) i (member_seen m) inside_too roster.each)
 
 -- its name is good
-pub name-good : (members : List Member) (i : ℕ) (m : Member) → IsRoster (entries_of members) → i < 4 → is_name (slice_index_or members i m).name.items ≡ true
+pub name-good : (members : List Member) (i : ℕ) (m : Member) → IsRoster (members_seen members) → i < 4 → is_name (slice_index_or members i m).name.items ≡ true
 unfolding is_club
 name-good members i m roster within = and-left _ _ (member-good members i m roster within)
 
 -- its coefficient is at most 999,999
-pub coefficient-good : (members : List Member) (i : ℕ) (m : Member) → IsRoster (entries_of members) → i < 4 → (slice_index_or members i m).coefficient ≤ 999999
+pub coefficient-good : (members : List Member) (i : ℕ) (m : Member) → IsRoster (members_seen members) → i < 4 → (slice_index_or members i m).coefficient ≤ 999999
 unfolding is_club
 coefficient-good members i m roster within =
     let h : nat_le (slice_index_or members i m).coefficient 999999 ≡ true = and-right (is_name (slice_index_or members i m).name.items) _ (member-good members i m roster within) in
@@ -48,10 +48,10 @@ four-places (w ∷ x ∷ y ∷ z ∷ v ∷ vs) a b c d n p q r s = absurd (omega
 
 -- four good clubs, and what the roster keeps of them
 pub record IsTaken (club : Club) (member : Member) : Type 0 where
-  pub good : IsClub (entry_of club)
-  pub same : member_entry member ≡ entry_of club
+  pub good : IsClub (club_seen club)
+  pub same : member_seen member ≡ club_seen club
 
 pub four-taken : (a b c d : Club) (w x y z : Member) → IsTaken a w → IsTaken b x → IsTaken c y → IsTaken d z
-    → (entries_of (w ∷ x ∷ y ∷ z ∷ []) ≡ map entry_of (a ∷ b ∷ c ∷ d ∷ [])) × (bad_slot (map entry_of (a ∷ b ∷ c ∷ d ∷ [])) ≡ None)
+    → (members_seen (w ∷ x ∷ y ∷ z ∷ []) ≡ map club_seen (a ∷ b ∷ c ∷ d ∷ [])) × (bad_slot (map club_seen (a ∷ b ∷ c ∷ d ∷ [])) ≡ None)
 unfolding bad_slot_from
 four-taken a b c d w x y z p q r s = (rw (p.same, q.same, r.same, s.same), rw (p.good, q.good, r.good, s.good))

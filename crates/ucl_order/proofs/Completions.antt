@@ -17,12 +17,12 @@ use Rattle.ucl_order.specs.declared.profile.Profile.{Profile}
 use Rattle.ucl_order.specs.declared.game.Match.{Match}
 use Rattle.ucl_order.specs.declared.game.Appearance.{Appearance}
 use Rattle.ucl_order.specs.declared.mark.Mark.TheVariants.{Plus, Minus, Blank}
-use Rattle.ucl_order.specs.Roster.{ClubEntry}
+use Rattle.ucl_order.specs.Roster.{NamedClub}
 use Rattle.ucl_order.specs.Results.{match_at, matches_of, has_finished, started, finished, unfinished, seen_by, played, points}
 use Rattle.ucl_order.specs.Order.{all_clubs, order_of, is_in}
-use Rattle.ucl_order.specs.Marks.{IsCompletion, GoesThrough, sure_points, reach, rivals, escaped, mark_of}
+use Rattle.ucl_order.specs.Marks.{IsCompletion, GoesThrough, sure_points, reach, rivals, out_of_reach, mark_of}
 use Rattle.ucl_order.proofs.Classes.{IsPermutation-order}
-use Rattle.ucl_order.proofs.Counting.{count-le}
+use Rattle.ucl_order.proofs.ClubCounts.{count-le}
 use Rattle.ucl_order.proofs.Limits.{plays, gains, gains-le, played-cons, points-cons}
 use Rattle.ucl_order.proofs.Unique.{a_club}
 use Rattle.ucl_order.proofs.Places.{order_falls, reaches, passes, eq_yes, in_first_two, not_in_first_two}
@@ -143,7 +143,7 @@ unchanged : (board later : List ℕ) → IsCompletion board later → list_all h
 unfolding matches_of
 unchanged board later done all = all_kept match_numbers board later are_matches done all
 
-same_order : (profile : Profile) (board later : List ℕ) (roster : List ClubEntry) → matches_of later ≡ matches_of board → order_of profile later roster ≡ order_of profile board roster
+same_order : (profile : Profile) (board later : List ℕ) (roster : List NamedClub) → matches_of later ≡ matches_of board → order_of profile later roster ≡ order_of profile board roster
 unfolding order_of
 same_order profile board later roster e = rw e
 
@@ -192,7 +192,7 @@ not_through_if order club h found =
     let there : is_in (take 2 order) club ≡ true = list_any_at (λ c. c == club) (take 2 order) found.0 club found.1 (eq_yes _ _ found.2) in
     absurd (cc)
 
-module _ (profile : Profile) (board later : List ℕ) (done : IsCompletion board later) (roster : List ClubEntry) where
+module _ (profile : Profile) (board later : List ℕ) (done : IsCompletion board later) (roster : List NamedClub) where
   low : (club : ℕ) → sure_points (matches_of board) club ≤ final_points later club
   unfolding final_points matches_of board_part
   low club = (between club match_numbers board later are_matches done).low
@@ -218,7 +218,7 @@ module _ (profile : Profile) (board later : List ℕ) (done : IsCompletion board
       let long : length (order_of profile later roster) ≡ 4 = length_permutation _ _ (IsPermutation-order profile later roster) in
       in_first_two key club (order_of profile later roster) long (order_falls profile later roster) (member club slot) (le_from _ _ _ same fewer few)
 
-  out : (club : ℕ) → 2 ≤ escaped (matches_of board) club → is_in (take 2 (order_of profile later roster)) club ≡ false
+  out : (club : ℕ) → 2 ≤ out_of_reach (matches_of board) club → is_in (take 2 (order_of profile later roster)) club ≡ false
   unfolding final_points passes
   out club many =
       let key : ℕ → ℕ = final_points later in
@@ -233,7 +233,7 @@ module _ (profile : Profile) (board later : List ℕ) (done : IsCompletion board
   pub plus_is_certain : (club : ℕ) → IsSlot club → mark_of profile board roster club ≡ Plus → GoesThrough profile later roster club
   unfolding mark_of
   plus_is_certain club slot h =
-      through_if (order_of profile later roster) club (elim (plus_cases (list_all has_finished (matches_of board)) (is_in (take 2 (order_of profile board roster)) club) (nat_le (rivals (matches_of board) club) 1) (nat_le 2 (escaped (matches_of board) club)) h) [
+      through_if (order_of profile later roster) club (elim (plus_cases (list_all has_finished (matches_of board)) (is_in (take 2 (order_of profile board roster)) club) (nat_le (rivals (matches_of board) club) 1) (nat_le 2 (out_of_reach (matches_of board) club)) h) [
         | inl (all, now) ↦ rw (same_order profile board later roster (unchanged board later done all)) now
         | inr few ↦ through club slot (le_read _ _ few)
       ])
@@ -242,7 +242,7 @@ module _ (profile : Profile) (board later : List ℕ) (done : IsCompletion board
   pub minus_is_certain : (club : ℕ) → mark_of profile board roster club ≡ Minus → GoesThrough profile later roster club → ⊥
   unfolding mark_of
   minus_is_certain club h =
-      not_through_if (order_of profile later roster) club (elim (minus_cases (list_all has_finished (matches_of board)) (is_in (take 2 (order_of profile board roster)) club) (nat_le (rivals (matches_of board) club) 1) (nat_le 2 (escaped (matches_of board) club)) h) [
+      not_through_if (order_of profile later roster) club (elim (minus_cases (list_all has_finished (matches_of board)) (is_in (take 2 (order_of profile board roster)) club) (nat_le (rivals (matches_of board) club) 1) (nat_le 2 (out_of_reach (matches_of board) club)) h) [
         | inl (all, now) ↦ rw (same_order profile board later roster (unchanged board later done all)) now
         | inr many ↦ out club (le_read _ _ many)
       ])

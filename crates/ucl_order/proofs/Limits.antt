@@ -11,12 +11,12 @@ use Rattle.ucl_order.specs.declared.profile.Profile.{Profile}
 use Rattle.ucl_order.specs.declared.game.Match.{Match}
 use Rattle.ucl_order.specs.declared.game.Appearance.{Appearance}
 use Rattle.ucl_order.specs.declared.mark.Mark.{Mark}
-use Rattle.ucl_order.specs.Roster.{ClubEntry}
+use Rattle.ucl_order.specs.Roster.{NamedClub}
 use Rattle.ucl_order.specs.Results.{seen_by, is_won, is_drawn, is_lost, appearances, played, wins, draws, losses, points, goals_for, goals_against, has_started, started, matches_of}
 use Rattle.ucl_order.specs.Order.{all_clubs, order_of}
 use Rattle.ucl_order.specs.Rows.{row_of, row_with, rows_of, IsWithinTable}
 use Rattle.ucl_order.proofs.Classes.{IsPermutation-order}
-use Rattle.ucl_order.proofs.Settling.{slots}
+use Rattle.ucl_order.proofs.TiedOrder.{slots}
 
 -- One match more in front. --
 
@@ -139,7 +139,7 @@ at_most_six board club slot =
     let all : played club (matches_of board) ≡ 6 = six board club slot in
     omega arith
 
-module _ (profile : Profile) (board : List ℕ) (roster : List ClubEntry) (valid : All (λ m. IsValid m.result) (matches_of board)) where
+module _ (profile : Profile) (board : List ℕ) (roster : List NamedClub) (valid : All (λ m. IsValid m.result) (matches_of board)) where
   row_within : (place : ℕ) → 1 ≤ place → place ≤ 4 → IsWithinTable (row_of profile board roster place)
   unfolding row_of
   row_within place low high =

@@ -15,8 +15,8 @@ use Rattle.ucl_order.specs.declared.mark.Mark.TheVariants.{Plus, Minus, Blank}
 use Rattle.ucl_order.specs.declared.profile.Profile.{Profile}
 use Rattle.ucl_order.specs.declared.profile.Profile.TheVariants.{Uefa, AwayInTie}
 use Rattle.ucl_order.specs.declared.table.Row.{Row}
-use Rattle.ucl_order.specs.Roster.{ClubEntry, coefficient_of}
-use Rattle.ucl_order.specs.Results.{appearances, seen_by, has_started, has_finished, is_won, is_drawn, is_lost, penalty, started, match_at, matches_of}
+use Rattle.ucl_order.specs.Roster.{NamedClub, coefficient_of}
+use Rattle.ucl_order.specs.Results.{appearances, seen_by, has_started, has_finished, is_won, is_drawn, is_lost, disciplinary_points, started, match_at, matches_of}
 use Rattle.ucl_order.specs.Order.{Ranking, among, is_in, by_points, by_profile, head_to_head, overall, split, is_one_class, settled_within, settled, all_clubs, order_of}
 use Rattle.ucl_order.specs.Marks.{mark_by, final_mark, mark_of}
 use Rattle.ucl_order.specs.Rows.{row_of, rows_of}
@@ -76,14 +76,14 @@ triple_in s a b =
 abbrev away_in : List Appearance → ℕ
 away_in xs = sum_by (λ a. a.scored) (filter (λ a. a.is_away) xs)
 
-abbrev overall_in : List ClubEntry → Seen → Ranking
+abbrev overall_in : List NamedClub → Seen → Ranking
 overall_in roster s a b =
     ordering_then (int_cmp (difference_in (s a)) (difference_in (s b)))
     (ordering_then (nat_cmp (sum_by (λ x. x.scored) (s a)) (sum_by (λ x. x.scored) (s b)))
     (ordering_then (nat_cmp (away_in (s a)) (away_in (s b)))
     (ordering_then (nat_cmp (count_by is_won (s a)) (count_by is_won (s b)))
     (ordering_then (nat_cmp (count_by is_won (filter (λ x. x.is_away) (s a))) (count_by is_won (filter (λ x. x.is_away) (s b))))
-    (ordering_then (nat_cmp (sum_by penalty (s b)) (sum_by penalty (s a)))
+    (ordering_then (nat_cmp (sum_by disciplinary_points (s b)) (sum_by disciplinary_points (s a)))
     (ordering_then (nat_cmp (coefficient_of roster a) (coefficient_of roster b))
     (nat_cmp b a)))))))
 
@@ -94,10 +94,10 @@ profile_is AwayInTie ms = λ i a b. ordering_then (triple_in (all_seen ms i) a b
 heads_are : (profile : Profile) (ms : List Match) (clubs : List ℕ) → head_to_head profile (map forgotten ms) clubs ≡ head_to_head profile ms clubs
 heads_are profile ms clubs = ap (by_profile profile) (kept (λ m. is_in clubs m.home && is_in clubs m.away) (λ m. refl) ms) ∙ profile_is profile (among clubs ms)
 
-overall_is : (ms : List Match) (roster : List ClubEntry) → overall (map forgotten ms) roster ≡ overall ms roster
+overall_is : (ms : List Match) (roster : List NamedClub) → overall (map forgotten ms) roster ≡ overall ms roster
 overall_is ms roster = λ i. overall_in roster (all_seen ms i)
 
-within_is : (profile : Profile) (most : ℕ) (ms : List Match) (roster : List ClubEntry) (clubs : List ℕ) → settled_within profile most (map forgotten ms) roster clubs ≡ settled_within profile most ms roster clubs
+within_is : (profile : Profile) (most : ℕ) (ms : List Match) (roster : List NamedClub) (clubs : List ℕ) → settled_within profile most (map forgotten ms) roster clubs ≡ settled_within profile most ms roster clubs
 within_is profile most ms roster [] = refl
 within_is profile most ms roster (club ∷ []) = refl
 within_is profile zero ms roster (a ∷ b ∷ clubs) = refl
@@ -108,10 +108,10 @@ within_is profile (suc most) ms roster (a ∷ b ∷ clubs) =
     λ i. if is_one_class (heads i) tied then flat_map (λ class. class) (split (overall_is ms roster i) tied) else flat_map (again i) (split (heads i) tied)
 
 -- the order by these matches, those that have started
-abbrev order_in : Profile → List ClubEntry → List Match → List ℕ
+abbrev order_in : Profile → List NamedClub → List Match → List ℕ
 order_in profile roster ms = flat_map (settled profile ms roster) (split (by_points ms) all_clubs)
 
-order_is : (profile : Profile) (roster : List ClubEntry) (ms : List Match) → order_in profile roster (map forgotten ms) ≡ order_in profile roster ms
+order_is : (profile : Profile) (roster : List NamedClub) (ms : List Match) → order_in profile roster (map forgotten ms) ≡ order_in profile roster ms
 order_is profile roster ms =
     let tied = fun_ext (λ (clubs : List ℕ). within_is profile (length clubs) ms roster clubs) in
     λ i. flat_map (tied i) (split (λ a b. nat_cmp (points_in (all_seen ms i a)) (points_in (all_seen ms i b))) all_clubs)
@@ -140,10 +140,10 @@ row_in place slot mark xs = record {
 abbrev rows_by : List ℕ → (ℕ → Mark) → Seen → List Row
 rows_by order marks s = map (λ place. row_in place (slice_index order (place - 1)) (marks (slice_index order (place - 1))) (s (slice_index order (place - 1)))) (1 ∷ 2 ∷ 3 ∷ 4 ∷ [])
 
-abbrev rows_in : Profile → List ClubEntry → List Match → List Row
+abbrev rows_in : Profile → List NamedClub → List Match → List Row
 rows_in profile roster ms = let order = order_in profile roster (started ms) in rows_by order (mark_by ms order) (seen_in (started ms))
 
-rows_are : (profile : Profile) (roster : List ClubEntry) (ms : List Match) → rows_in profile roster (map forgotten ms) ≡ rows_in profile roster ms
+rows_are : (profile : Profile) (roster : List NamedClub) (ms : List Match) → rows_in profile roster (map forgotten ms) ≡ rows_in profile roster ms
 rows_are profile roster ms =
     let order = ap (order_in profile roster) (kept has_started (λ m. refl) ms) ∙ order_is profile roster (started ms) in
     let begun = seen_where has_started ms (λ m. refl) in
@@ -152,7 +152,7 @@ rows_are profile roster ms =
     let ended = list_all-map has_finished forgotten ms in
     λ i. rows_by (order i) (λ club. if ended i then final_mark (order i) club else early_in (sure i) (left i) club) (begun i)
 
-rows_in_all : (profile : Profile) (roster : List ClubEntry) (board : List ℕ) → rows_of profile board roster ≡ rows_in profile roster (matches_of board)
+rows_in_all : (profile : Profile) (roster : List NamedClub) (board : List ℕ) → rows_of profile board roster ≡ rows_in profile roster (matches_of board)
 unfolding order_of mark_of row_of
 rows_in_all profile roster board = refl
 
@@ -178,7 +178,7 @@ module _ (a b : List ℕ) (same : (game : ℕ) → IsMatch game → without (gam
       let is_12 = at 12 (omega arith, omega arith) in
       λ i. is_1 i ∷ is_2 i ∷ is_3 i ∷ is_4 i ∷ is_5 i ∷ is_6 i ∷ is_7 i ∷ is_8 i ∷ is_9 i ∷ is_10 i ∷ is_11 i ∷ is_12 i ∷ []
 
-  pub same_rows : (profile : Profile) (roster : List ClubEntry) → rows_of profile a roster ≡ rows_of profile b roster
+  pub same_rows : (profile : Profile) (roster : List NamedClub) → rows_of profile a roster ≡ rows_of profile b roster
   same_rows profile roster =
       rows_in_all profile roster a ∙ (sym (rows_are profile roster (matches_of a))
       ∙ (ap (rows_in profile roster) matches_alike

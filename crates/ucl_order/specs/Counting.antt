@@ -2,7 +2,7 @@
 use Rattle.std.specs.Prelude.{ℕ, ◌+◌, ◌*◌, ◌≤◌, ◌&&◌, if◌then◌else◌, Bool}
 use Rattle.ucl_order.specs.declared.game.Appearance.{Appearance}
 use Rattle.ucl_order.specs.declared.results.Results.{Results}
-use Rattle.ucl_order.specs.Results.{is_won, is_drawn, is_lost, penalty}
+use Rattle.ucl_order.specs.Results.{is_won, is_drawn, is_lost, disciplinary_points}
 
 -- one match more is counted
 abbrev pub with_match : Results → Appearance → Results
@@ -15,7 +15,7 @@ with_match r a = record {
   goals_against = r.goals_against + a.conceded;
   away_goals = r.away_goals + (if a.is_away then a.scored else 0);
   away_wins = r.away_wins + (if a.is_away && is_won a then 1 else 0);
-  discipline = r.discipline + penalty a;
+  discipline = r.discipline + disciplinary_points a;
 }
 
 -- three for a win, one for a draw
@@ -23,8 +23,8 @@ abbrev pub worth : Appearance → ℕ
 worth a = 3 * (if is_won a then 1 else 0) + (if is_drawn a then 1 else 0)
 
 -- the points that the club is sure of from a match, and the most that it can give
-abbrev pub prospect : Bool → Appearance → ℕ × ℕ
-prospect over a = if over then (worth a, worth a) else (0, 3)
+abbrev pub point_bounds : Bool → Appearance → ℕ × ℕ
+point_bounds over a = if over then (worth a, worth a) else (0, 3)
 
 -- no more than a club can do in so many matches, whatever their records hold
 pub record IsWithin (matches : ℕ) (r : Results) : Type 0 where

@@ -5,7 +5,7 @@ pub mod Order
 pub mod Counting
 pub mod Standing
 pub mod Marks
-pub mod Prospects
+pub mod PointBounds
 pub mod Rows
 pub mod Keys
 pub mod Rounds

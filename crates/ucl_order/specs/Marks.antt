@@ -8,7 +8,7 @@ use Rattle.ucl_order.specs.declared.game.Match.{Match}
 use Rattle.ucl_order.specs.declared.mark.Mark.{Mark}
 use Rattle.ucl_order.specs.declared.mark.Mark.TheVariants.{Plus, Minus, Blank}
 use Rattle.ucl_order.specs.declared.profile.Profile.{Profile}
-use Rattle.ucl_order.specs.Roster.{ClubEntry}
+use Rattle.ucl_order.specs.Roster.{NamedClub}
 use Rattle.ucl_order.specs.Results.{matches_of, has_finished, finished, unfinished, played, points}
 use Rattle.ucl_order.specs.Order.{is_in, all_clubs, order_of}
 
@@ -29,18 +29,18 @@ abbrev pub is_rival : List Match → ℕ → ℕ → Bool
 is_rival ms club other = not (other == club) && nat_le (sure_points ms club) (reach ms other)
 
 -- another club has more points than the club can reach
-abbrev pub has_escaped : List Match → ℕ → ℕ → Bool
-has_escaped ms club other = not (other == club) && nat_lt (reach ms club) (sure_points ms other)
+abbrev pub is_out_of_reach : List Match → ℕ → ℕ → Bool
+is_out_of_reach ms club other = not (other == club) && nat_lt (reach ms club) (sure_points ms other)
 
 abbrev pub rivals : List Match → ℕ → ℕ
 rivals ms club = count_by (is_rival ms club) all_clubs
 
-abbrev pub escaped : List Match → ℕ → ℕ
-escaped ms club = count_by (has_escaped ms club) all_clubs
+abbrev pub out_of_reach : List Match → ℕ → ℕ
+out_of_reach ms club = count_by (is_out_of_reach ms club) all_clubs
 
 -- before the last match is finished: by points alone
 abbrev pub early_mark : List Match → ℕ → Mark
-early_mark ms club = if nat_le (rivals ms club) 1 then Plus else (if nat_le 2 (escaped ms club) then Minus else Blank)
+early_mark ms club = if nat_le (rivals ms club) 1 then Plus else (if nat_le 2 (out_of_reach ms club) then Minus else Blank)
 
 -- at the end: by the order
 abbrev pub final_mark : List ℕ → ℕ → Mark
@@ -50,11 +50,11 @@ abbrev pub mark_by : List Match → List ℕ → ℕ → Mark
 mark_by ms order club = if list_all has_finished ms then final_mark order club else early_mark ms club
 
 -- the mark of a club
-unfoldable pub mark_of : Profile → List ℕ → List ClubEntry → ℕ → Mark
+unfoldable pub mark_of : Profile → List ℕ → List NamedClub → ℕ → Mark
 mark_of profile board roster club = mark_by (matches_of board) (order_of profile board roster) club
 
 -- the club is among the first two of the order
-abbrev pub GoesThrough : Profile → List ℕ → List ClubEntry → ℕ → Type 0
+abbrev pub GoesThrough : Profile → List ℕ → List NamedClub → ℕ → Type 0
 GoesThrough profile board roster club = Contains (take 2 (order_of profile board roster)) club
 
 -- how a group may end: all matches are finished, each with some valid record, and those that were finished stay as they are

@@ -63,8 +63,8 @@ abbrev pub is_lost : Appearance → Bool
 is_lost a = nat_lt a.scored a.conceded
 
 -- one for a yellow card that stands, three for an expulsion
-abbrev pub penalty : Appearance → ℕ
-penalty a = a.yellows + 3 * a.expulsions
+abbrev pub disciplinary_points : Appearance → ℕ
+disciplinary_points a = a.yellows + 3 * a.expulsions
 
 -- All that a club has done in some matches. --
 
@@ -109,7 +109,7 @@ away_wins club ms = count_by is_won (away_matches club ms)
 
 -- the disciplinary total
 abbrev pub discipline : ℕ → List Match → ℕ
-discipline club ms = sum_by penalty (appearances club ms)
+discipline club ms = sum_by disciplinary_points (appearances club ms)
 
 -- all of these together
 unfoldable pub results_of : ℕ → List Match → Results

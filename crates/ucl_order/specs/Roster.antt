@@ -4,13 +4,13 @@ use Rattle.std.specs.List.{list_all}
 use Rattle.ucl_order.specs.declared.roster.Club.{Club}
 
 -- a club's name and coefficient, wherever they lie in memory
-pub record ClubEntry : Type 0 where
+pub record NamedClub : Type 0 where
   pub name : List ℕ
   pub coefficient : ℕ
 
 -- what a club says
-abbrev pub entry_of : Club → ClubEntry
-entry_of club = record { name = club.name.items; coefficient = club.coefficient }
+abbrev pub club_seen : Club → NamedClub
+club_seen club = record { name = club.name.items; coefficient = club.coefficient }
 
 -- a letter, a digit, a sign or the space of ASCII
 abbrev pub is_printed : ℕ → Bool
@@ -21,32 +21,32 @@ abbrev pub is_name : List ℕ → Bool
 is_name name = nat_le 1 (length name) && nat_le (length name) 20 && list_all is_printed name
 
 -- a club with such a name, and a coefficient of at most 999,999
-unfoldable pub is_club : ClubEntry → Bool
+unfoldable pub is_club : NamedClub → Bool
 is_club club = is_name club.name && nat_le club.coefficient 999999
 
 -- the least slot whose club is bad, where the first club has this slot
-unfoldable pub bad_slot_from : ℕ → List ClubEntry → Option ℕ
+unfoldable pub bad_slot_from : ℕ → List NamedClub → Option ℕ
 bad_slot_from slot [] = None
 bad_slot_from slot (club ∷ clubs) = if is_club club then bad_slot_from (slot + 1) clubs else Some slot
 
 -- the least slot whose club is bad
-abbrev pub bad_slot : List ClubEntry → Option ℕ
+abbrev pub bad_slot : List NamedClub → Option ℕ
 bad_slot clubs = bad_slot_from 1 clubs
 
-abbrev pub IsClub : ClubEntry → Type 0
+abbrev pub IsClub : NamedClub → Type 0
 IsClub club = is_club club ≡ true
 
 -- four clubs, in the order of their slots
-pub record IsRoster (clubs : List ClubEntry) : Type 0 where
+pub record IsRoster (clubs : List NamedClub) : Type 0 where
   pub four : length clubs ≡ 4
   pub each : All IsClub clubs
 
 -- the club in a slot
-abbrev pub club_in : List ClubEntry → ℕ → ClubEntry
+abbrev pub club_in : List NamedClub → ℕ → NamedClub
 club_in clubs slot = slice_index_or clubs (slot - 1) (record { name = []; coefficient = 0 })
 
-abbrev pub name_of : List ClubEntry → ℕ → List ℕ
+abbrev pub name_of : List NamedClub → ℕ → List ℕ
 name_of clubs slot = (club_in clubs slot).name
 
-abbrev pub coefficient_of : List ClubEntry → ℕ → ℕ
+abbrev pub coefficient_of : List NamedClub → ℕ → ℕ
 coefficient_of clubs slot = (club_in clubs slot).coefficient

@@ -6,7 +6,7 @@ use Rattle.ucl_order.specs.declared.mark.Mark.{Mark}
 use Rattle.ucl_order.specs.declared.mark.Mark.TheVariants.{Plus, Minus}
 use Rattle.ucl_order.specs.declared.profile.Profile.{Profile}
 use Rattle.ucl_order.specs.declared.table.Row.{Row}
-use Rattle.ucl_order.specs.Roster.{ClubEntry}
+use Rattle.ucl_order.specs.Roster.{NamedClub}
 use Rattle.ucl_order.specs.Results.{matches_of, started, played, wins, draws, losses, goals_for, goals_against, points}
 use Rattle.ucl_order.specs.Order.{order_of}
 use Rattle.ucl_order.specs.Marks.{IsCompletion, GoesThrough, mark_of}
@@ -27,17 +27,17 @@ row_with place slot mark ms = record {
 }
 
 -- the club at a place of the order
-abbrev pub club_at : Profile → List ℕ → List ClubEntry → ℕ → ℕ
+abbrev pub club_at : Profile → List ℕ → List NamedClub → ℕ → ℕ
 club_at profile board roster place = slice_index (order_of profile board roster) (place - 1)
 
 -- the row at a place: the club's mark, and what it has done in the matches in play and finished
-unfoldable pub row_of : Profile → List ℕ → List ClubEntry → ℕ → Row
+unfoldable pub row_of : Profile → List ℕ → List NamedClub → ℕ → Row
 row_of profile board roster place =
     let slot = club_at profile board roster place in
     row_with place slot (mark_of profile board roster slot) (started (matches_of board))
 
 -- the table of a board and a roster, by place, in the order of the profile
-abbrev pub rows_of : Profile → List ℕ → List ClubEntry → List Row
+abbrev pub rows_of : Profile → List ℕ → List NamedClub → List Row
 rows_of profile board roster = map (row_of profile board roster) (1 ∷ 2 ∷ 3 ∷ 4 ∷ [])
 
 -- a row of a group of four clubs, each with six matches of at most 63 goals a side
@@ -52,6 +52,6 @@ pub record IsWithinTable (row : Row) : Type 0 where
   pub points : row.points ≤ 18
 
 -- what the mark of a row says of its club, however the group ends: with a plus it is among the first two, with a minus it is not
-pub record MarkIsCertain (profile : Profile) (board : List ℕ) (roster : List ClubEntry) (row : Row) : Type 0 where
+pub record MarkIsCertain (profile : Profile) (board : List ℕ) (roster : List NamedClub) (row : Row) : Type 0 where
   pub plus : row.mark ≡ Plus → (later : List ℕ) → IsCompletion board later → GoesThrough profile later roster row.slot
   pub minus : row.mark ≡ Minus → (later : List ℕ) → IsCompletion board later → GoesThrough profile later roster row.slot → ⊥

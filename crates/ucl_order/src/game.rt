@@ -2,10 +2,10 @@
 
 ghost use Rattle.std.specs.Prelude.{◌≡◌, ◌≤◌, [], All, length};
 ghost use Rattle.ucl_word.specs.Record.{IsValid};
-ghost use Rattle.ucl_order.specs.Counting.{prospect, worth};
+ghost use Rattle.ucl_order.specs.Counting.{point_bounds, worth};
 ghost use Rattle.ucl_order.specs.Keys.{seen_among, slots_in};
 ghost use Rattle.ucl_order.specs.Order.{is_in};
-ghost use Rattle.ucl_order.specs.Results.{IsPairing, has_finished, has_started, is_drawn, is_lost, is_won, matches_of, penalty, seen_by, seen_from_away, seen_from_home, started};
+ghost use Rattle.ucl_order.specs.Results.{IsPairing, has_finished, has_started, is_drawn, is_lost, is_won, matches_of, disciplinary_points, seen_by, seen_from_away, seen_from_home, started};
 
 use arrayvec::ArrayVec;
 use ucl_board::{Board, away_of, home_of};
@@ -143,8 +143,8 @@ impl Appearance {
 
     /// The points that the club is sure of from the match, and the most that it can give: what a match that is over gave, and else no
     /// point and those of a win.
-    pub(crate) fn prospect(&self, is_over: bool) -> (u8, u8)
-        ensures value { result ≡ prospect is_over self.now }
+    pub(crate) fn point_bounds(&self, is_over: bool) -> (u8, u8)
+        ensures value { result ≡ point_bounds is_over self.now }
         ensures few { (result.0 ≤ 3) × (result.1 ≤ 3) }
     {
         let points = self.points();
@@ -152,8 +152,8 @@ impl Appearance {
     }
 
     /// What the match adds to the disciplinary total of the club: 1 for each yellow card that stands, 3 for each expulsion.
-    pub(crate) fn penalty(&self) -> u16
-        ensures value { result ≡ penalty self.now }
+    pub(crate) fn disciplinary_points(&self) -> u16
+        ensures value { result ≡ disciplinary_points self.now }
         ensures few { result ≤ 1020 }
     {
         u16::from(self.yellows) + 3 * u16::from(self.expulsions)

@@ -5,8 +5,8 @@ ghost use Rattle.std.specs.List.{list_all};
 ghost use Rattle.ucl_board.specs.Fixtures.{IsSlot};
 ghost use Rattle.ucl_order.specs.declared.game.Match.{Match};
 ghost use Rattle.ucl_order.specs.Results.{IsPairing, has_finished};
-ghost use Rattle.ucl_order.specs.Marks.{early_mark, escaped, final_mark, has_escaped, is_rival, mark_by, reach, rivals, sure_points};
-ghost use Rattle.ucl_order.specs.Prospects.{AreProspects};
+ghost use Rattle.ucl_order.specs.Marks.{early_mark, out_of_reach, final_mark, is_out_of_reach, is_rival, mark_by, reach, rivals, sure_points};
+ghost use Rattle.ucl_order.specs.PointBounds.{ArePointBounds};
 
 use crate::game::Match;
 
@@ -23,19 +23,19 @@ pub enum Mark {
 
 /// What the clubs can still become, by slot.
 #[derive(Clone, Copy, Debug, PartialEq, Eq)]
-struct Prospects {
+struct PointBounds {
     /// The points from finished matches.
     sure: [u8; 4],
     /// The points if each match that is left were won.
     reach: [u8; 4],
 }
 
-impl Prospects {
+impl PointBounds {
     /// What the clubs can still become after these matches.
-    fn of(matches: &[Match]) -> Prospects
+    fn of(matches: &[Match]) -> PointBounds
         requires short { length matches.now ≤ 12 }
         requires pairings { All IsPairing matches.now }
-        ensures { AreProspects matches.now result }
+        ensures { ArePointBounds matches.now result }
     {
         let mut sure = [0; 4];
         let mut reach = [0; 4];
@@ -43,20 +43,20 @@ impl Prospects {
             let home = usize::from(game.home - 1);
             let away = usize::from(game.away - 1);
             let is_over = game.has_finished();
-            let (home_sure, home_most) = game.seen_from_home().prospect(is_over);
-            let (away_sure, away_most) = game.seen_from_away().prospect(is_over);
+            let (home_sure, home_most) = game.seen_from_home().point_bounds(is_over);
+            let (away_sure, away_most) = game.seen_from_away().point_bounds(is_over);
             sure[home] += home_sure;
             sure[away] += away_sure;
             reach[home] += home_most;
             reach[away] += away_most;
         }
-        Prospects { sure, reach }
+        PointBounds { sure, reach }
     }
 
     /// The points of the club from finished matches.
     fn sure_points(&self, club: u8) -> u8
         requires { IsSlot club }
-        ensures { (matches : List Match) → AreProspects matches self.now → result ≡ sure_points matches club }
+        ensures { (matches : List Match) → ArePointBounds matches self.now → result ≡ sure_points matches club }
     {
         self.sure[usize::from(club - 1)]
     }
@@ -64,7 +64,7 @@ impl Prospects {
     /// The points of the club if it wins each match that it has left.
     fn reach(&self, club: u8) -> u8
         requires { IsSlot club }
-        ensures { (matches : List Match) → AreProspects matches self.now → result ≡ reach matches club }
+        ensures { (matches : List Match) → ArePointBounds matches self.now → result ≡ reach matches club }
     {
         self.reach[usize::from(club - 1)]
     }
@@ -73,16 +73,16 @@ impl Prospects {
     fn is_rival(&self, club: u8, other: u8) -> bool
         requires club { IsSlot club }
         requires other { IsSlot other }
-        ensures { (matches : List Match) → AreProspects matches self.now → result ≡ is_rival matches club other }
+        ensures { (matches : List Match) → ArePointBounds matches self.now → result ≡ is_rival matches club other }
     {
         other != club && self.sure_points(club) <= self.reach(other)
     }
 
     /// Whether the other club has more points than the club can reach.
-    fn has_escaped(&self, club: u8, other: u8) -> bool
+    fn is_out_of_reach(&self, club: u8, other: u8) -> bool
         requires club { IsSlot club }
         requires other { IsSlot other }
-        ensures { (matches : List Match) → AreProspects matches self.now → result ≡ has_escaped matches club other }
+        ensures { (matches : List Match) → ArePointBounds matches self.now → result ≡ is_out_of_reach matches club other }
     {
         other != club && self.reach(club) < self.sure_points(other)
     }
@@ -90,7 +90,7 @@ impl Prospects {
     /// How many other clubs can reach the club's points.
     fn rivals(&self, club: u8) -> u8
         requires { IsSlot club }
-        ensures { (matches : List Match) → AreProspects matches self.now → result ≡ rivals matches club }
+        ensures { (matches : List Match) → ArePointBounds matches self.now → result ≡ rivals matches club }
     {
         u8::from(self.is_rival(club, 1))
             + u8::from(self.is_rival(club, 2))
@@ -99,24 +99,24 @@ impl Prospects {
     }
 
     /// How many other clubs have more points than the club can reach.
-    fn escaped(&self, club: u8) -> u8
+    fn out_of_reach(&self, club: u8) -> u8
         requires { IsSlot club }
-        ensures { (matches : List Match) → AreProspects matches self.now → result ≡ escaped matches club }
+        ensures { (matches : List Match) → ArePointBounds matches self.now → result ≡ out_of_reach matches club }
     {
-        u8::from(self.has_escaped(club, 1))
-            + u8::from(self.has_escaped(club, 2))
-            + u8::from(self.has_escaped(club, 3))
-            + u8::from(self.has_escaped(club, 4))
+        u8::from(self.is_out_of_reach(club, 1))
+            + u8::from(self.is_out_of_reach(club, 2))
+            + u8::from(self.is_out_of_reach(club, 3))
+            + u8::from(self.is_out_of_reach(club, 4))
     }
 
     /// The mark before the last match is finished: by points alone.
     fn early_mark(&self, club: u8) -> Mark
         requires { IsSlot club }
-        ensures { (matches : List Match) → AreProspects matches self.now → result ≡ early_mark matches club }
+        ensures { (matches : List Match) → ArePointBounds matches self.now → result ≡ early_mark matches club }
     {
         if self.rivals(club) <= 1 {
             Mark::Plus
-        } else if self.escaped(club) >= 2 {
+        } else if self.out_of_reach(club) >= 2 {
             Mark::Minus
         } else {
             Mark::Blank
@@ -143,7 +143,7 @@ fn final_mark(order: &[u8; 4], club: u8) -> Mark
 }
 
 /// The marks of the clubs, by place of this order, by these matches.
-#[tactic(auto, using(crate::proofs::Marking::early_marks))]
+#[tactic(auto, using(crate::proofs::MarkFacts::early_marks))]
 pub(crate) fn marks_of(matches: &[Match], order: &[u8; 4]) -> [Mark; 4]
     requires short { length matches.now ≤ 12 }
     requires pairings { All IsPairing matches.now }
@@ -159,11 +159,11 @@ pub(crate) fn marks_of(matches: &[Match], order: &[u8; 4]) -> [Mark; 4]
             final_mark(order, d),
         ];
     }
-    let prospects = Prospects::of(matches);
+    let bounds = PointBounds::of(matches);
     [
-        prospects.early_mark(a),
-        prospects.early_mark(b),
-        prospects.early_mark(c),
-        prospects.early_mark(d),
+        bounds.early_mark(a),
+        bounds.early_mark(b),
+        bounds.early_mark(c),
+        bounds.early_mark(d),
     ]
 }

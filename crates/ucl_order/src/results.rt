@@ -50,7 +50,7 @@ impl Results {
         self.losses += u8::from(game.is_lost());
         self.goals_for += u16::from(game.scored);
         self.goals_against += u16::from(game.conceded);
-        self.discipline += game.penalty();
+        self.discipline += game.disciplinary_points();
         if game.is_away {
             self.away_goals += u16::from(game.scored);
             self.away_wins += u8::from(game.is_won());

@@ -3,8 +3,8 @@
 ghost use Rattle.std.specs.Prelude.{◌≡◌, ◌≤◌, None, Some, true, false, IfOk, IfErr, IfSome, IfNone, length, map};
 ghost use Rattle.std.specs.List.{list_all};
 ghost use Rattle.ucl_board.specs.Fixtures.{IsSlot};
-ghost use Rattle.ucl_order.specs.Roster.{entry_of, is_printed, is_name, is_club, IsClub, bad_slot, name_of, coefficient_of};
-ghost use Rattle.ucl_order.specs.Members.{member_entry};
+ghost use Rattle.ucl_order.specs.Roster.{club_seen, is_printed, is_name, is_club, IsClub, bad_slot, name_of, coefficient_of};
+ghost use Rattle.ucl_order.specs.Members.{member_seen};
 
 use arrayvec::ArrayVec;
 use std::marker::Model;
@@ -54,14 +54,14 @@ pub struct Roster {
 
 impl Model for Roster {
     ghost use Rattle.std.specs.Prelude.{List};
-    ghost use Rattle.ucl_order.specs.Roster.{ClubEntry, IsRoster};
-    ghost use Rattle.ucl_order.specs.Members.{entries_of};
+    ghost use Rattle.ucl_order.specs.Roster.{NamedClub, IsRoster};
+    ghost use Rattle.ucl_order.specs.Members.{members_seen};
 
-    ghost Value = { List ClubEntry };
+    ghost Value = { List NamedClub };
 
-    ghost view = { λ r. entries_of r.members };
+    ghost view = { λ r. members_seen r.members };
 
-    ghost invariant = { λ r. IsRoster (entries_of r.members) };
+    ghost invariant = { λ r. IsRoster (members_seen r.members) };
 }
 
 /// Whether each byte is one of printed ASCII.
@@ -85,8 +85,8 @@ fn is_name(name: &[u8]) -> bool
 /// A copy of the club in this slot, where a roster takes it in.
 #[tactic(auto, unfolding(crate::specs::Roster::is_club))]
 fn member_of(slot: u8, club: &Club) -> Result<Member, BadRoster>
-    ensures taken { IfOk result (λ m. IsClub (entry_of club.now) × (member_entry m ≡ entry_of club.now)) }
-    ensures refused { IfErr result (λ bad. (is_club (entry_of club.now) ≡ false) × (bad.slot ≡ slot)) }
+    ensures taken { IfOk result (λ m. IsClub (club_seen club.now) × (member_seen m ≡ club_seen club.now)) }
+    ensures refused { IfErr result (λ bad. (is_club (club_seen club.now) ≡ false) × (bad.slot ≡ slot)) }
 {
     let bad = BadRoster { slot };
     if !is_name(&club.name) || club.coefficient > GREATEST_COEFFICIENT {
@@ -111,8 +111,8 @@ impl Roster {
     /// answer names the least slot with such a club.
     #[tactic(auto, unfolding(crate::specs::Roster::bad_slot_from))]
     pub fn new(clubs: [Club; 4]) -> Result<Roster, BadRoster>
-        ensures taken { IfOk result (λ roster. (roster ≡ map entry_of clubs) × (bad_slot (map entry_of clubs) ≡ None)) }
-        ensures refused { IfErr result (λ bad. bad_slot (map entry_of clubs) ≡ Some bad.slot) }
+        ensures taken { IfOk result (λ roster. (roster ≡ map club_seen clubs) × (bad_slot (map club_seen clubs) ≡ None)) }
+        ensures refused { IfErr result (λ bad. bad_slot (map club_seen clubs) ≡ Some bad.slot) }
     {
         let members = [
             member_of(1, &clubs[0])?,

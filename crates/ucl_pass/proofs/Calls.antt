@@ -20,10 +20,10 @@ use Rattle.ucl_board.specs.Log.{Look, Swap, Match, Enlisted, Taken, step_taken}
 use Rattle.ucl_board.proofs.Histories.{board_words, word_after}
 use Rattle.ucl_board.proofs.HistoryLaws.{versions}
 use Rattle.ucl_pass.specs.declared.view.View.{View}
-use Rattle.ucl_pass.specs.Passes.{Known, IsSound, SeesOn, Continues, AcceptedReport, RefusedReport, SharedReading, Enlistment, FullBoard, Meeting}
-use Rattle.ucl_pass.specs.Views.{known_of, count_of, Takes, second_of, note_of, told_by}
+use Rattle.ucl_pass.specs.Passes.{PassView, IsSound, SeesOn, Continues, AcceptedReport, RefusedReport, SharedReading, Enlistment, FullBoard, Meeting}
+use Rattle.ucl_pass.specs.Views.{pass_view_of, count_of, Takes, second_of, note_of, told_by}
 use Rattle.ucl_pass.specs.Steps.{Goes}
-use Rattle.ucl_pass.specs.CellSteps.{IsNextBoard, with_one_more, word_looked_at, IsWhole, StoresEntry, StoresReporter, LooksOnly, LooksAtMatch, LooksAtEnlisted, LooksAndShows}
+use Rattle.ucl_pass.specs.CellSteps.{IsNextBoard, with_one_more, word_looked_at, HasSeenAll, StoresEntry, StoresReporter, LooksOnly, LooksAtMatch, LooksAtEnlisted, LooksAndShows}
 use Rattle.ucl_pass.specs.CallSteps.{IsOnEnlisted, EnlistSteps, MeetingSteps, CellMissed, CellReport, CellReading}
 use Rattle.ucl_pass.proofs.Lists.{begins_same, begins_through, begins_length, none_by_zero, few_mine}
 use Rattle.ucl_pass.proofs.CellMoves.{match_words, match_word, last_word, one_more_last}
@@ -38,12 +38,12 @@ lost (Ok x) P Q m is = absurd (true≢false is)
 lost (Err x) P Q m is = (x, m)
 
 -- just after a load or an exchange
-module _ (words : List ℕ) (v w : View) (whole : IsWhole words v w) (goes : Goes v w) where
-  pub sound : IsSound (known_of w)
+module _ (words : List ℕ) (v w : View) (seen_all : HasSeenAll words v w) (goes : Goes v w) where
+  pub sound : IsSound (pass_view_of w)
   sound = record { legal = goes.legal; own = goes.own; few = goes.few }
 
   pub board_seen : take 12 words ≡ board_of w.seen
-  board_seen = ap (take 12) whole.words_are ∙ match_words w.seen w.listed
+  board_seen = ap (take 12) seen_all.words_are ∙ match_words w.seen w.listed
 
   pub are_words : AreWords (take 12 words)
   are_words = subst AreWords (sym board_seen) (board_words w.seen goes.legal)
@@ -52,10 +52,10 @@ module _ (words : List ℕ) (v w : View) (whole : IsWhole words v w) (goes : Goe
   pub same_word : (game : ℕ) → IsMatch game → word_at (take 12 words) game ≡ word_at words game
   same_word game is =
       ap (λ (ws : List ℕ). word_at ws game) board_seen
-      ∙ (word_after w.seen game is ∙ sym (ap (λ (ws : List ℕ). word_at ws game) whole.words_are ∙ match_word w.seen w.listed game is))
+      ∙ (word_after w.seen game is ∙ sym (ap (λ (ws : List ℕ). word_at ws game) seen_all.words_are ∙ match_word w.seen w.listed game is))
 
   pub last_seen : slice_index words 12 ≡ w.listed
-  last_seen = ap (λ (ws : List ℕ). slice_index ws 12) whole.words_are ∙ last_word w.seen w.listed
+  last_seen = ap (λ (ws : List ℕ). slice_index ws 12) seen_all.words_are ∙ last_word w.seen w.listed
 
 -- steps, one after another
 
@@ -77,7 +77,7 @@ takes_count v w xs t = omega (
 
 -- a pass after any number of steps that changed nothing else
 pub record Stays (v w : View) : Type 0 where
-  pub on : SeesOn (known_of v) (known_of w)
+  pub on : SeesOn (pass_view_of v) (pass_view_of w)
   pub mine : w.mine ≡ v.mine
   pub number : w.number ≡ v.number
   pub shown : w.shown ≡ v.shown
@@ -93,11 +93,11 @@ stays_more v w u t goes le mine number shown = record {
   shown = shown ∙ t.shown;
 }
 
-pub stays_continues : (v u : View) → Stays v u → Goes v u → Continues (known_of v) (known_of u)
+pub stays_continues : (v u : View) → Stays v u → Goes v u → Continues (pass_view_of v) (pass_view_of u)
 stays_continues v u t goes = record { sound = record { legal = goes.legal; own = goes.own; few = goes.few }; on = t.on; number = t.number }
 
 pub looked_stays : (v w u : View) (target : Rattle.ucl_board.specs.Log.Target) (x : List ℕ) → Stays v w → LooksOnly target w x x u → Stays v u
-looked_stays v w u target x t l = stays_more v w u t l.sees.goes l.whole.listed l.sees.mine l.sees.number l.shown_is
+looked_stays v w u target x t l = stays_more v w u t l.sees.goes l.seen_all.listed l.sees.mine l.sees.number l.shown_is
 
 -- a report, after tries in vain
 pub record TriedReport (call : EventCall) (v w : View) : Type 0 where
@@ -124,14 +124,14 @@ module _ (call : EventCall) (v w u : View) (x : List ℕ) (tried : TriedReport c
   look_takes : Takes v (flat_map (λ t. t) tried.tries ++ look_step ∷ []) u
   look_takes = takes_on v w u (flat_map (λ t. t) tried.tries) (look_step ∷ []) tried.takes looked.sees.takes
 
-  pub look_continues : Continues (known_of v) (known_of u)
-  look_continues = record { sound = sound x w u looked.whole looked.sees.goes; on = look_stays.on; number = look_stays.number }
+  pub look_continues : Continues (pass_view_of v) (pass_view_of u)
+  look_continues = record { sound = sound x w u looked.seen_all looked.sees.goes; on = look_stays.on; number = look_stays.number }
 
   -- the rules refuse
   module _ (refusal : Refusal) (said : (history : List Entry) → IsLegal history → board_of history ≡ take 12 x → Err refusal ≡ sequential_reply history call) (answer : reply_of (record_at (word_at x call.game)) call ≡ Err refusal) where
-    pub refuses : RefusedReport (known_of v) call refusal (known_of u)
+    pub refuses : RefusedReport (pass_view_of v) call refusal (pass_view_of u)
     refuses = record {
-      answer = sym (said u.seen looked.sees.goes.legal (sym (board_seen x w u looked.whole looked.sees.goes)));
+      answer = sym (said u.seen looked.sees.goes.legal (sym (board_seen x w u looked.seen_all looked.sees.goes)));
       mine = look_stays.mine;
       shown = look_stays.shown;
     }
@@ -159,7 +159,7 @@ module _ (call : EventCall) (v w u : View) (x : List ℕ) (tried : TriedReport c
     since = begins_through v.seen u.seen stored.before look_stays.on.seen stored.adds.since
 
     pub accepts : (reply : Accepted) → ((history : List Entry) → IsLegal history → board_of history ≡ take 12 x → Ok reply ≡ sequential_reply history call)
-        → AcceptedReport (known_of v) call reply (known_of z)
+        → AcceptedReport (pass_view_of v) call reply (pass_view_of z)
     accepts reply said = record {
       before = stored.before;
       last = stored.adds.last;
@@ -169,12 +169,12 @@ module _ (call : EventCall) (v w u : View) (x : List ℕ) (tried : TriedReport c
       shown = stored.adds.shown ∙ look_stays.shown;
     }
 
-    pub accepted_continues : Continues (known_of v) (known_of z)
+    pub accepted_continues : Continues (pass_view_of v) (pass_view_of z)
     accepted_continues = record {
-      sound = sound next u z stored.whole stored.adds.goes;
+      sound = sound next u z stored.seen_all stored.adds.goes;
       on = record {
         seen = begins_through v.seen u.seen z.seen look_stays.on.seen stored.adds.goes.seen;
-        listed = (let a = look_stays.on.listed in let b = stored.whole.listed in omega arith);
+        listed = (let a = look_stays.on.listed in let b = stored.seen_all.listed in omega arith);
       };
       number = stored.adds.number ∙ look_stays.number;
     }
@@ -220,13 +220,13 @@ next_words x board next e counted is h n legal words =
 -- a reading
 module _ (v w : View) (x : List ℕ) (reading : Reading) (shows : LooksAndShows v x x w) (board : reading.board ≡ take 12 x) (version : reading.version ≡ version_of reading.board) where
   pub version_seen : reading.version ≡ length w.seen
-  version_seen = version ∙ (ap version_of (board ∙ board_seen x v w shows.whole shows.sees.goes) ∙ (versions w.seen shows.sees.goes.legal).0)
+  version_seen = version ∙ (ap version_of (board ∙ board_seen x v w shows.seen_all shows.sees.goes) ∙ (versions w.seen shows.sees.goes.legal).0)
 
-  pub read_says : SharedReading (known_of v) reading (known_of w)
+  pub read_says : SharedReading (pass_view_of v) reading (pass_view_of w)
   read_says =
       let low = begins_length v.seen w.seen shows.sees.goes.seen in
       let n = version_seen in
-      let same : reading.board ≡ board_of (take reading.version w.seen) = board ∙ (board_seen x v w shows.whole shows.sees.goes ∙ ap board_of (sym (take_all reading.version w.seen (omega arith)))) in
+      let same : reading.board ≡ board_of (take reading.version w.seen) = board ∙ (board_seen x v w shows.seen_all shows.sees.goes ∙ ap board_of (sym (take_all reading.version w.seen (omega arith)))) in
       record {
         low = omega arith;
         high = omega arith;
@@ -238,8 +238,8 @@ module _ (v w : View) (x : List ℕ) (reading : Reading) (shows : LooksAndShows 
   pub read_steps : CellReading v reading w
   read_steps = subst (λ (k : ℕ). Takes v (step_taken Rattle.ucl_board.specs.Log.Whole k None ∷ []) w) (sym version_seen) shows.sees.takes
 
-  pub read_continues : Continues (known_of v) (known_of w)
-  read_continues = record { sound = sound x v w shows.whole shows.sees.goes; on = record { seen = shows.sees.goes.seen; listed = shows.whole.listed }; number = shows.sees.number }
+  pub read_continues : Continues (pass_view_of v) (pass_view_of w)
+  read_continues = record { sound = sound x v w shows.seen_all shows.sees.goes; on = record { seen = shows.sees.goes.seen; listed = shows.seen_all.listed }; number = shows.sees.number }
 
 -- an enlistment, after tries in vain
 pub record TriedEnlist (v w : View) : Type 0 where
@@ -262,12 +262,12 @@ module _ (v w u : View) (x : List ℕ) (tried : TriedEnlist v w) (looked : Looks
   pub look_counts : count_of v < count_of u
   look_counts = omega (arith, takes_count v w tried.steps.steps tried.steps.takes, takes_count w u (step_taken Enlisted (length u.seen) None ∷ []) looked.sees.takes)
 
-  pub full_continues : Continues (known_of v) (known_of u)
-  full_continues = record { sound = sound x w u looked.whole looked.sees.goes; on = after_look.stays.on; number = after_look.stays.number }
+  pub full_continues : Continues (pass_view_of v) (pass_view_of u)
+  full_continues = record { sound = sound x w u looked.seen_all looked.sees.goes; on = after_look.stays.on; number = after_look.stays.number }
 
-  pub full_says : 255 ≤ slice_index x 12 → FullBoard (known_of v) (known_of u)
+  pub full_says : 255 ≤ slice_index x 12 → FullBoard (pass_view_of v) (pass_view_of u)
   full_says high =
-      let last = last_seen x w u looked.whole looked.sees.goes in
+      let last = last_seen x w u looked.seen_all looked.sees.goes in
       let few = looked.sees.goes.few in
       record { listed = omega arith; mine = after_look.stays.mine; shown = after_look.stays.shown }
 
@@ -275,11 +275,11 @@ module _ (v w u : View) (x : List ℕ) (tried : TriedEnlist v w) (looked : Looks
   full_steps = after_look.steps
 
   module _ (z : View) (next : List ℕ) (stored : StoresReporter u next z) where
-    pub enlisted_says : Enlistment (known_of v) (known_of z)
+    pub enlisted_says : Enlistment (pass_view_of v) (pass_view_of z)
     enlisted_says =
         let e = stored.enlists in
         record {
-          sound = sound next u z stored.whole e.goes;
+          sound = sound next u z stored.seen_all e.goes;
           on = record { seen = begins_through v.seen u.seen z.seen after_look.stays.on.seen e.goes.seen; listed = (let a = after_look.stays.on.listed in let b = e.above in omega arith) };
           number = e.number;
           above = (let a = after_look.stays.on.listed in let b = e.above in omega arith);
@@ -297,36 +297,36 @@ module _ (v w u : View) (x : List ℕ) (tried : TriedEnlist v w) (looked : Looks
     -- the new number is one more than the last word that was found
     pub new_number : next ≡ with_one_more x → z.number ≡ slice_index x 12 + 1
     new_number is =
-        let more : slice_index next 12 ≡ slice_index x 12 + 1 = ap (λ (ws : List ℕ). slice_index ws 12) (is ∙ ap with_one_more looked.whole.words_are) ∙ (one_more_last u.seen u.listed ∙ ap (λ (n : ℕ). n + 1) (sym (last_seen x w u looked.whole looked.sees.goes))) in
-        stored.enlists.number ∙ (sym (last_seen next u z stored.whole stored.enlists.goes) ∙ more)
+        let more : slice_index next 12 ≡ slice_index x 12 + 1 = ap (λ (ws : List ℕ). slice_index ws 12) (is ∙ ap with_one_more looked.seen_all.words_are) ∙ (one_more_last u.seen u.listed ∙ ap (λ (n : ℕ). n + 1) (sym (last_seen x w u looked.seen_all looked.sees.goes))) in
+        stored.enlists.number ∙ (sym (last_seen next u z stored.seen_all stored.enlists.goes) ∙ more)
 
-pub number_told : (u v : View) (r : Option ℕ) (n : ℕ) → Enlistment (known_of u) (known_of v) → v.number ≡ n → IfSome r (λ k. k ≡ n) → IfSome r (λ k. Enlistment (known_of u) (known_of v) × (v.number ≡ k))
+pub number_told : (u v : View) (r : Option ℕ) (n : ℕ) → Enlistment (pass_view_of u) (pass_view_of v) → v.number ≡ n → IfSome r (λ k. k ≡ n) → IfSome r (λ k. Enlistment (pass_view_of u) (pass_view_of v) × (v.number ≡ k))
 number_told u v (Some k) n e is told = (e, is ∙ sym told)
 number_told u v None n e is told = tt
 
 -- a meeting
 module _ (a v w : View) (x : List ℕ) (looked : LooksAtEnlisted (told_by v (note_of a)) x x w) where
   own_first : IsPrefix v.seen w.seen
-  own_first = All-head (λ l. IsPrefix l w.seen) v.seen (a.seen ∷ v.kept) looked.sees.goes.told
+  own_first = All-head (λ l. IsPrefix l w.seen) v.seen (a.seen ∷ v.told) looked.sees.goes.heard
 
-  pub met_says : Meeting (known_of a) (known_of v) (known_of w)
+  pub met_says : Meeting (pass_view_of a) (pass_view_of v) (pass_view_of w)
   met_says = record {
-    met = All-head (λ l. IsPrefix l w.seen) a.seen v.kept (All-tail (λ l. IsPrefix l w.seen) v.seen (a.seen ∷ v.kept) looked.sees.goes.told);
+    met = All-head (λ l. IsPrefix l w.seen) a.seen v.told (All-tail (λ l. IsPrefix l w.seen) v.seen (a.seen ∷ v.told) looked.sees.goes.heard);
     mine = looked.sees.mine;
     shown = looked.shown_is;
   }
 
-  pub met_continues : Continues (known_of v) (known_of w)
-  met_continues = record { sound = sound x (told_by v (note_of a)) w looked.whole looked.sees.goes; on = record { seen = own_first; listed = looked.whole.listed }; number = looked.sees.number }
+  pub met_continues : Continues (pass_view_of v) (pass_view_of w)
+  met_continues = record { sound = sound x (told_by v (note_of a)) w looked.seen_all looked.sees.goes; on = record { seen = own_first; listed = looked.seen_all.listed }; number = looked.sees.number }
 
   pub met_steps : MeetingSteps v w
   met_steps = record { own = looked.sees.takes.own; copied = looked.sees.takes.copied }
 
-pub sound_second : (v : View) → IsSound (known_of v) → IsSound (known_of (second_of v))
+pub sound_second : (v : View) → IsSound (pass_view_of v) → IsSound (pass_view_of (second_of v))
 sound_second v s = record { legal = s.legal; own = sym (none_by_zero v.seen s.legal); few = s.few }
 
 -- the count of accepted events has room for one more
-pub room : (k m : Known) (call : EventCall) (r : Result Accepted Refusal) (n : ℕ) → IfOk r (λ reply. AcceptedReport k call reply m) → is_ok r ≡ true → IsSound m → length k.mine ≡ n → n + 1 ≤ greatest_version
+pub room : (k m : PassView) (call : EventCall) (r : Result Accepted Refusal) (n : ℕ) → IfOk r (λ reply. AcceptedReport k call reply m) → is_ok r ≡ true → IsSound m → length k.mine ≡ n → n + 1 ≤ greatest_version
 room k m call (Ok reply) n a is s len =
     let l = ap length a.mine ∙ length-append k.mine (entry_of (k.number, call) ∷ []) in
     let f = few_mine m s in

@@ -10,7 +10,7 @@ use Rattle.ucl_board.specs.declared.entry.Entry.{Entry}
 use Rattle.ucl_board.specs.Fixtures.{IsMatch}
 use Rattle.ucl_board.specs.Words.{word_at}
 use Rattle.ucl_board.specs.History.{match_after, board_of, IsLegal, followed_by}
-use Rattle.ucl_board.specs.Log.{Act, Look, Swap, Target, Enlisted, Whole, history_of, IsThere}
+use Rattle.ucl_board.specs.Log.{AccessKind, Look, Swap, Target, Enlisted, Whole, history_of, IsThere}
 use Rattle.ucl_board.proofs.Histories.{board_length, word_after}
 use Rattle.ucl_board.proofs.HistoryLaws.{one_word}
 use Rattle.ucl_pass.specs.declared.view.View.{View}
@@ -46,8 +46,8 @@ get_front (x ∷ xs) ys (suc k) less = get_front xs ys k (omega arith)
 pub match_word : (h : List Entry) (n game : ℕ) → IsMatch game → word_at (words_after h n) game ≡ word_of (match_after h game)
 match_word h n game is = let long = board_length h in get_front (board_of h) (n ∷ []) (game - 1) (omega arith) ∙ word_after h game is
 
-looked_there : (act : Act) (game : ℕ) (x : List ℕ) (h : List Entry) (n : ℕ) → IsMatch game → x ≡ words_after h n → IsThere h (word_looked_at act game x)
-looked_there act game x h n is are = (is, ap (λ (ws : List ℕ). word_at ws game) are ∙ match_word h n game is)
+looked_there : (kind : AccessKind) (game : ℕ) (x : List ℕ) (h : List Entry) (n : ℕ) → IsMatch game → x ≡ words_after h n → IsThere h (word_looked_at kind game x)
+looked_there kind game x h n is are = (is, ap (λ (ws : List ℕ). word_at ws game) are ∙ match_word h n game is)
 
 entry_differs : (h : List Entry) (n : ℕ) (e : Entry) → IsLegal (followed_by h e) → words_after h n ≢ words_after (followed_by h e) n
 entry_differs h n e legal same =
@@ -69,7 +69,7 @@ module _ (x : List ℕ) (views : List View) (r : CellKeepsOneHistory x views) (s
   load_tells shown =
       let f = r.fits seat v here in
       record {
-        whole = record {
+        seen_all = record {
           words_are = r.words_are ∙ ap (λ (h : List Entry). words_after h r.enlisted) (sym (same_history words_after x views r seat v here target there r.enlisted shown (le_refl r.enlisted)));
           listed = f.listed;
           up_to_date = refl;
@@ -123,7 +123,7 @@ module _ (x next : List ℕ) (views : List View) (r : CellKeepsOneHistory x view
   store_tells =
       let f = r.fits seat v here in
       record {
-        whole = record {
+        seen_all = record {
           words_are = next_is.0 ∙ ap (λ (h : List Entry). words_after h r.enlisted) (sym (longer_history words_after x views r seat v here e (word_at x e.game) there_now pos me next_is.1 r.enlisted (le_refl r.enlisted)));
           listed = f.listed;
           up_to_date = refl;
@@ -168,7 +168,7 @@ module _ (x : List ℕ) (views : List View) (r : CellKeepsOneHistory x views) (s
       let f = r.fits seat v here in
       let l = f.listed in
       record {
-        whole = record { words_are = more ∙ ap (λ (h : List Entry). words_after h (r.enlisted + 1)) (sym (unchanged_history words_after x views r seat v here reader left)); listed = omega arith; up_to_date = refl };
+        seen_all = record { words_are = more ∙ ap (λ (h : List Entry). words_after h (r.enlisted + 1)) (sym (unchanged_history words_after x views r seat v here reader left)); listed = omega arith; up_to_date = refl };
         enlists = enlist_tells words_after x views r seat v here reader left;
       }
 
@@ -204,9 +204,9 @@ add_says e v w current next (Ok x) is said =
     ⊎_elim
     (λ (t : (x ≡ next) × LooksOnly (word_looked_at Swap e.game x) v x next w).
     let l = t.1 in
-    let was : current ≡ words_after w.seen w.listed = sym same ∙ (t.0 ∙ l.whole.words_are) in
+    let was : current ≡ words_after w.seen w.listed = sym same ∙ (t.0 ∙ l.seen_all.words_are) in
     let n = is w.seen w.listed l.sees.goes.legal was in
-    absurd (entry_differs w.seen w.listed e n.1 (sym l.whole.words_are ∙ n.0)))
+    absurd (entry_differs w.seen w.listed e n.1 (sym l.seen_all.words_are ∙ n.0)))
     (λ (t : (x ≢ next) × StoresEntry e v x next w). (same, subst (λ (c : List ℕ). StoresEntry e v c next w) same t.1))
     said.1
 add_says e v w current next (Err x) is said =
@@ -221,9 +221,9 @@ enlist_says v w current next (Ok x) is said =
     ⊎_elim
     (λ (t : (x ≡ next) × LooksAtEnlisted v x next w).
     let l = t.1 in
-    let was : current ≡ words_after w.seen w.listed = sym same ∙ (t.0 ∙ l.whole.words_are) in
+    let was : current ≡ words_after w.seen w.listed = sym same ∙ (t.0 ∙ l.seen_all.words_are) in
     let more : next ≡ words_after w.seen (w.listed + 1) = is ∙ (ap with_one_more was ∙ more_words w.seen w.listed) in
-    absurd (reporter_differs w.seen w.listed (sym l.whole.words_are ∙ more)))
+    absurd (reporter_differs w.seen w.listed (sym l.seen_all.words_are ∙ more)))
     (λ (t : (x ≢ next) × StoresReporter v next w). (same, t.1))
     said.1
 enlist_says v w current next (Err x) is said =

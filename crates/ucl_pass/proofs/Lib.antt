@@ -1,6 +1,6 @@
 pub mod Lists
-pub mod Settles
+pub mod SettledPasses
 pub mod Moves
 pub mod CellMoves
 pub mod Calls
-pub mod Logging
+pub mod LogFacts

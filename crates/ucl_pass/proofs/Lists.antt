@@ -9,7 +9,7 @@ use Rattle.ucl_board.specs.declared.entry.Entry.{Entry}
 use Rattle.ucl_board.specs.Words.{greatest_version}
 use Rattle.ucl_board.specs.History.{MayFollow, IsLegal, followed_by}
 use Rattle.ucl_board.proofs.HistoryLaws.{versions}
-use Rattle.ucl_pass.specs.Passes.{Known, IsSound, Continues, entries_by}
+use Rattle.ucl_pass.specs.Passes.{PassView, IsSound, Continues, entries_by}
 
 module _ {X : Type 0} where
   pub begins_none : (h : List X) → IsPrefix [] h
@@ -53,7 +53,7 @@ pub none_by_zero : (h : List Entry) → IsLegal h → entries_by 0 h ≡ []
 none_by_zero = may_induction MayFollow (λ h. entries_by 0 h ≡ []) refl (λ h e legal may was. by_other 0 h e (λ z. let r = may.accepted.reporter.0 in omega arith) ∙ was)
 
 -- a pass has no more entries than a history can have
-pub few_mine : (k : Known) → IsSound k → length k.mine ≤ greatest_version
+pub few_mine : (k : PassView) → IsSound k → length k.mine ≤ greatest_version
 few_mine k s =
     let v = versions k.seen s.legal in
     let l = v.1 in
@@ -62,5 +62,5 @@ few_mine k s =
     omega arith
 
 -- a pass that no call changed
-pub unchanged : (k m : Known) → IsSound k → m ≡ k → Continues k m
+pub unchanged : (k m : PassView) → IsSound k → m ≡ k → Continues k m
 unchanged k m sound same = subst (Continues k) (sym same) (record { sound = sound; on = record { seen = begins_same k.seen; listed = le_refl k.listed }; number = refl })

@@ -55,7 +55,7 @@ logged log seat t = log ++ (seat, t) ∷ []
 abbrev pub after_step : View → Log → ℕ → Taken → List Entry → ℕ → ℕ → List ℕ → View
 after_step v log seat t mine number listed shown = record {
   seen = history_of (log ++ (seat, t) ∷ []);
-  kept = [];
+  told = [];
   mine = mine;
   number = number;
   listed = listed;
@@ -74,7 +74,7 @@ other_fits log enlisted more seat t j u not le same f =
     let b = f.listed in
     record {
       seen = begins_through u.seen (history_of log) (history_of (logged log seat t)) f.seen longer;
-      kept = λ k d lt. begins_through _ (history_of log) (history_of (logged log seat t)) (f.kept k d lt) longer;
+      told = λ k d lt. begins_through _ (history_of log) (history_of (logged log seat t)) (f.told k d lt) longer;
       mine = f.mine ∙ sym same;
       made = f.made;
       number = omega arith;
@@ -93,7 +93,7 @@ own_fits log enlisted more seat v t mine number listed shown f is made low few =
     let own : v.own ++ t ∷ [] ≡ taken_by seat (logged log seat t) = ap (λ (l : List Taken). l ++ t ∷ []) f.own ∙ sym (taken_own seat log t) in
     record {
       seen = begins_same (history_of (logged log seat t));
-      kept = All-nil (λ (l : List Entry). IsPrefix l (history_of (logged log seat t)));
+      told = All-nil (λ (l : List Entry). IsPrefix l (history_of (logged log seat t)));
       mine = is;
       made = made;
       number = low;
@@ -212,8 +212,8 @@ module _ (words_after : List Entry → ℕ → List ℕ) where
             goes = record {
               legal = subst IsLegal (sym h) r.legal;
               seen = subst (IsPrefix v.seen) (sym h) f.seen;
-              told = subst (λ (l : List Entry). All (λ (k : List Entry). IsPrefix k l) v.kept) (sym h) f.kept;
-              kept = refl;
+              heard = subst (λ (l : List Entry). All (λ (k : List Entry). IsPrefix k l) v.told) (sym h) f.told;
+              told = refl;
               own = f.mine ∙ ap (entries_by v.number) (sym h);
               few = omega arith;
             };
@@ -268,8 +268,8 @@ module _ (words_after : List Entry → ℕ → List ℕ) where
             goes = record {
               legal = subst IsLegal (sym h) legal;
               seen = begins_through v.seen (history_of r.log) (history_of (logged r.log seat add)) f.seen one;
-              told = λ k d lt. begins_through _ (history_of r.log) (history_of (logged r.log seat add)) (f.kept k d lt) one;
-              kept = refl;
+              heard = λ k d lt. begins_through _ (history_of r.log) (history_of (logged r.log seat add)) (f.told k d lt) one;
+              told = refl;
               own = own_more;
               few = omega arith;
             };
@@ -330,8 +330,8 @@ module _ (words_after : List Entry → ℕ → List ℕ) where
             goes = record {
               legal = subst IsLegal (sym h) r.legal;
               seen = subst (IsPrefix v.seen) (sym h) f.seen;
-              told = subst (λ (l : List Entry). All (λ (k : List Entry). IsPrefix k l) v.kept) (sym h) f.kept;
-              kept = refl;
+              heard = subst (λ (l : List Entry). All (λ (k : List Entry). IsPrefix k l) v.told) (sym h) f.told;
+              told = refl;
               own = no_entry_yet;
               few = omega arith;
             };
@@ -343,14 +343,14 @@ module _ (words_after : List Entry → ℕ → List ℕ) where
           }
 
     -- one pass more, without a number and without a step
-    added : (w : View) → w.number ≡ 0 → w.own ≡ [] → w.log ≡ [] → w.mine ≡ [] → IsPrefix w.seen (history_of r.log) → w.kept ≡ [] → w.listed ≤ r.enlisted → Rule words (set views seat v ++ w ∷ [])
-    added w number own log mine seen kept listed =
+    added : (w : View) → w.number ≡ 0 → w.own ≡ [] → w.log ≡ [] → w.mine ≡ [] → IsPrefix w.seen (history_of r.log) → w.told ≡ [] → w.listed ≤ r.enlisted → Rule words (set views seat v ++ w ∷ [])
+    added w number own log mine seen told listed =
         let same : set views seat v ≡ views = set_again views seat v here in
         let back : (j : ℕ) (u : View) → get_elem? (set views seat v ++ w ∷ []) j ≡ some u → (get_elem? views j ≡ some u) ⊎ ((j ≡ length views) × (w ≡ u)) =
         (λ j u e. at_last views w u j (subst (λ (l : List View). get_elem? (l ++ w ∷ []) j ≡ some u) same e)) in
         let fit : Fits r.log r.enlisted (length views) w = record {
           seen = seen;
-          kept = subst (All (λ (l : List Entry). IsPrefix l (history_of r.log))) (sym kept) (All-nil (λ (l : List Entry). IsPrefix l (history_of r.log)));
+          told = subst (All (λ (l : List Entry). IsPrefix l (history_of r.log))) (sym told) (All-nil (λ (l : List Entry). IsPrefix l (history_of r.log)));
           mine = mine ∙ sym (ap (λ (n : ℕ). entries_by n (history_of r.log)) number ∙ none_by_zero (history_of r.log) r.legal);
           made = mine ∙ sym (ap added_by own);
           number = omega arith;
@@ -390,7 +390,7 @@ module _ (words_after : List Entry → ℕ → List ℕ) where
       let begins : List Entry → Type 0 = (λ l. IsPrefix l (history_of log)) in
       record {
         seen = longer_begins v.seen u.seen (history_of log) f.seen g.seen (nat_lt (length v.seen) (length u.seen));
-        kept = All-cons begins v.seen (u.seen ∷ v.kept) f.seen (All-cons begins u.seen v.kept g.seen f.kept);
+        told = All-cons begins v.seen (u.seen ∷ v.told) f.seen (All-cons begins u.seen v.told g.seen f.told);
         mine = f.mine;
         made = f.made;
         number = f.number;
@@ -421,7 +421,7 @@ module _ (words_after : List Entry → ℕ → List ℕ) where
           (λ j z ne e. told.fits j z e)
           (record {
             seen = begins_none (history_of told.log);
-            kept = All-nil (λ (l : List Entry). IsPrefix l (history_of told.log));
+            told = All-nil (λ (l : List Entry). IsPrefix l (history_of told.log));
             mine = sym (none_by_zero (history_of told.log) told.legal);
             made = refl;
             number = omega arith;
@@ -453,7 +453,7 @@ module _ (words_after : List Entry → ℕ → List ℕ) where
       fit : Fits [] 0 0 newcomer
       fit = record {
         seen = begins_none [];
-        kept = All-nil (λ (l : List Entry). IsPrefix l []);
+        told = All-nil (λ (l : List Entry). IsPrefix l []);
         mine = refl;
         made = refl;
         number = le_refl 0;

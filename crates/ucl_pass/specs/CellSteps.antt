@@ -4,7 +4,7 @@ use Rattle.ucl_word.specs.declared.event.Kind.TheVariants.{KickOff}
 use Rattle.ucl_board.specs.declared.entry.Entry.{Entry}
 use Rattle.ucl_board.specs.Words.{word_at}
 use Rattle.ucl_board.specs.History.{IsLegal, followed_by}
-use Rattle.ucl_board.specs.Log.{Act, Look, Swap, Target, Match, Enlisted, Whole}
+use Rattle.ucl_board.specs.Log.{AccessKind, Look, Swap, Target, Match, Enlisted, Whole}
 use Rattle.ucl_pass.specs.declared.view.View.{View}
 use Rattle.ucl_pass.specs.Steps.{Sees, Adds, Enlists}
 use Rattle.ucl_pass.specs.CellRule.{words_after, IsUpToDate}
@@ -19,24 +19,24 @@ abbrev pub with_one_more : List ℕ → List ℕ
 with_one_more words = slice_set words 12 (slice_index words 12 + 1)
 
 -- what a step on the word of a match looked at
-abbrev pub word_looked_at : Act → ℕ → List ℕ → Target
-word_looked_at act game words = Match act game (word_at words game)
+abbrev pub word_looked_at : AccessKind → ℕ → List ℕ → Target
+word_looked_at kind game words = Match kind game (word_at words game)
 
 -- after each step the pass has seen the whole history and the number of enlisted reporters, whose words are there
-pub record IsWhole (words : List ℕ) (v w : View) : Type 0 where
+pub record HasSeenAll (words : List ℕ) (v w : View) : Type 0 where
   pub words_are : words ≡ words_after w.seen w.listed
   pub listed : v.listed ≤ w.listed
   pub up_to_date : IsUpToDate w
 
 -- a step that stored nothing
 pub record Looks (target : Target) (v : View) (shown : List ℕ) (words : List ℕ) (w : View) : Type 0 where
-  pub whole : IsWhole words v w
+  pub seen_all : HasSeenAll words v w
   pub sees : Sees target v w
   pub shown_is : w.shown ≡ shown
 
 -- a step that stored one event
 pub record StoresEntry (e : Entry) (v : View) (x y : List ℕ) (w : View) : Type 0 where
-  pub whole : IsWhole y v w
+  pub seen_all : HasSeenAll y v w
   pub before : List Entry
   pub legal : IsLegal before
   pub found : x ≡ words_after before w.listed
@@ -44,7 +44,7 @@ pub record StoresEntry (e : Entry) (v : View) (x y : List ℕ) (w : View) : Type
 
 -- a step that stored one enlistment
 pub record StoresReporter (v : View) (y : List ℕ) (w : View) : Type 0 where
-  pub whole : IsWhole y v w
+  pub seen_all : HasSeenAll y v w
   pub enlists : Enlists v w
 
 -- a load that shows nothing

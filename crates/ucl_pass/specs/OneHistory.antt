@@ -14,7 +14,7 @@ use Rattle.ucl_pass.specs.Views.{newcomer}
 pub record Fits (log : Log) (enlisted seat : ℕ) (v : View) : Type 0 where
   -- it has seen, and keeps, beginnings of the history; its own entries are those of its number, and those that its own steps added
   pub seen : IsPrefix v.seen (history_of log)
-  pub kept : All (λ (l : List Entry). IsPrefix l (history_of log)) v.kept
+  pub told : All (λ (l : List Entry). IsPrefix l (history_of log)) v.told
   pub mine : v.mine ≡ entries_by v.number (history_of log)
   pub made : v.mine ≡ added_by v.own
   pub number : v.number ≤ enlisted

@@ -10,7 +10,7 @@ use Rattle.ucl_board.specs.History.{IsLegal, followed_by, entry_of, sequential_r
 
 -- what is known of a pass: the history that it has seen, its own entries in it, its number (0 for a reader), how many reporters it
 -- has seen enlisted, and the versions that its readings answered
-pub record Known : Type 0 where
+pub record PassView : Type 0 where
   pub seen : List Entry
   pub mine : List Entry
   pub number : ℕ
@@ -22,28 +22,28 @@ abbrev pub entries_by : ℕ → List Entry → List Entry
 entries_by number history = filter (λ e. e.reporter == number) history
 
 -- what holds of a pass between calls
-pub record IsSound (k : Known) : Type 0 where
+pub record IsSound (k : PassView) : Type 0 where
   pub legal : IsLegal k.seen
   pub own : k.mine ≡ entries_by k.number k.seen
   pub few : k.listed ≤ 255
 
 -- no call takes back what a pass has seen
-pub record SeesOn (k m : Known) : Type 0 where
+pub record SeesOn (k m : PassView) : Type 0 where
   pub seen : IsPrefix k.seen m.seen
   pub listed : k.listed ≤ m.listed
 
 -- what always holds of a pass before and after a call
-pub record Continues (k m : Known) : Type 0 where
+pub record Continues (k m : PassView) : Type 0 where
   pub sound : IsSound m
   pub on : SeesOn k m
   pub number : m.number ≡ k.number
 
 -- the pass of a board that was just opened
-abbrev pub opening_pass : Known
+abbrev pub opening_pass : PassView
 opening_pass = record { seen = []; mine = []; number = 0; listed = 0; shown = [] }
 
 -- an accepted event: its entry is the last that was seen, and it was accepted after the entries before, those that had been seen among them
-pub record AcceptedReport (k : Known) (call : EventCall) (reply : Accepted) (m : Known) : Type 0 where
+pub record AcceptedReport (k : PassView) (call : EventCall) (reply : Accepted) (m : PassView) : Type 0 where
   pub before : List Entry
   pub last : m.seen ≡ followed_by before (entry_of (k.number, call))
   pub since : IsPrefix k.seen before
@@ -52,13 +52,13 @@ pub record AcceptedReport (k : Known) (call : EventCall) (reply : Accepted) (m :
   pub shown : m.shown ≡ k.shown
 
 -- a refused event: the refusal is the reply after all that was seen
-pub record RefusedReport (k : Known) (call : EventCall) (refusal : Refusal) (m : Known) : Type 0 where
+pub record RefusedReport (k : PassView) (call : EventCall) (refusal : Refusal) (m : PassView) : Type 0 where
   pub answer : sequential_reply m.seen call ≡ Err refusal
   pub mine : m.mine ≡ k.mine
   pub shown : m.shown ≡ k.shown
 
 -- a reading: the snapshot of the first entries, no fewer than had been seen before
-pub record SharedReading (k : Known) (reading : Reading) (m : Known) : Type 0 where
+pub record SharedReading (k : PassView) (reading : Reading) (m : PassView) : Type 0 where
   pub low : length k.seen ≤ reading.version
   pub high : reading.version ≤ length m.seen
   pub snapshot : reading ≡ snapshot_at m.seen reading.version
@@ -66,11 +66,11 @@ pub record SharedReading (k : Known) (reading : Reading) (m : Known) : Type 0 wh
   pub shown : m.shown ≡ k.shown ++ reading.version ∷ []
 
 -- a pass that was split off another: it has seen as much, and has shown nothing
-abbrev pub split_pass : Known → Known
+abbrev pub split_pass : PassView → PassView
 split_pass k = record { seen = k.seen; mine = []; number = 0; listed = k.listed; shown = [] }
 
 -- a reader's pass became a reporter's, under a new number that no entry has
-pub record Enlistment (k m : Known) : Type 0 where
+pub record Enlistment (k m : PassView) : Type 0 where
   pub sound : IsSound m
   pub on : SeesOn k m
   pub number : m.number ≡ m.listed
@@ -80,17 +80,17 @@ pub record Enlistment (k m : Known) : Type 0 where
   pub shown : m.shown ≡ []
 
 -- the pass that came back, since as many reporters are enlisted as there are numbers
-pub record FullBoard (k m : Known) : Type 0 where
+pub record FullBoard (k m : PassView) : Type 0 where
   pub listed : m.listed ≡ 255
   pub mine : m.mine ≡ k.mine
   pub shown : m.shown ≡ k.shown
 
 -- a meeting: the second pass, k before and m after, has seen all that the first had seen
-pub record Meeting (first k m : Known) : Type 0 where
+pub record Meeting (first k m : PassView) : Type 0 where
   pub met : IsPrefix first.seen m.seen
   pub mine : m.mine ≡ k.mine
   pub shown : m.shown ≡ k.shown
 
 -- a reporter's figures: its number, and how many of its events were accepted
-abbrev pub reporter_figures : Known → ℕ × ℕ
+abbrev pub reporter_figures : PassView → ℕ × ℕ
 reporter_figures k = (k.number, length k.mine)

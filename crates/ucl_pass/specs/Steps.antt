@@ -12,8 +12,8 @@ use Rattle.ucl_pass.specs.Views.{Takes}
 pub record Goes (v w : View) : Type 0 where
   pub legal : IsLegal w.seen
   pub seen : IsPrefix v.seen w.seen
-  pub told : All (λ (l : List Entry). IsPrefix l w.seen) v.kept
-  pub kept : w.kept ≡ []
+  pub heard : All (λ (l : List Entry). IsPrefix l w.seen) v.told
+  pub told : w.told ≡ []
   pub own : w.mine ≡ entries_by w.number w.seen
   pub few : w.listed ≤ 255
 

@@ -1,12 +1,12 @@
 -- What contracts read off the view of a pass; and the view of a new pass, of a second pass, of a note, and of a pass that took in a note.
 use Rattle.std.specs.Prelude.{◌≡◌, ℕ, List, [], ◌∷◌, ◌++◌, length, nat_lt, if◌then◌else◌}
 use Rattle.ucl_board.specs.declared.entry.Entry.{Entry}
-use Rattle.ucl_board.specs.Log.{Mark, Taken, marks_in}
+use Rattle.ucl_board.specs.Log.{Access, Taken, accesses_in}
 use Rattle.ucl_pass.specs.declared.view.View.{View}
-use Rattle.ucl_pass.specs.Passes.{Known}
+use Rattle.ucl_pass.specs.Passes.{PassView}
 
-abbrev pub known_of : View → Known
-known_of v = record { seen = v.seen; mine = v.mine; number = v.number; listed = v.listed; shown = v.shown }
+abbrev pub pass_view_of : View → PassView
+pass_view_of v = record { seen = v.seen; mine = v.mine; number = v.number; listed = v.listed; shown = v.shown }
 
 -- the steps that a pass comes from, and its own
 abbrev pub steps_of : View → List Taken
@@ -16,9 +16,9 @@ steps_of v = v.copied ++ v.own
 abbrev pub count_of : View → ℕ
 count_of v = length (steps_of v)
 
--- the marks of those on match words
-abbrev pub trail_of : View → List Mark
-trail_of v = marks_in (steps_of v)
+-- the accesses of those on match words
+abbrev pub trail_of : View → List Access
+trail_of v = accesses_in (steps_of v)
 
 -- between v and w a pass took just these steps
 pub record Takes (v : View) (steps : List Taken) (w : View) : Type 0 where
@@ -27,15 +27,15 @@ pub record Takes (v : View) (steps : List Taken) (w : View) : Type 0 where
 
 -- what the pass of a board that was just opened knows, and what is left of a note that was taken in
 abbrev pub newcomer : View
-newcomer = record { seen = []; kept = []; mine = []; number = 0; listed = 0; shown = []; copied = []; own = []; log = [] }
+newcomer = record { seen = []; told = []; mine = []; number = 0; listed = 0; shown = []; copied = []; own = []; log = [] }
 
 -- a second reader's pass that is split off: it has seen as much, has a copy of the steps, and has taken none and shown nothing
 abbrev pub second_of : View → View
-second_of v = record { seen = v.seen; kept = []; mine = []; number = 0; listed = v.listed; shown = []; copied = steps_of v; own = []; log = [] }
+second_of v = record { seen = v.seen; told = []; mine = []; number = 0; listed = v.listed; shown = []; copied = steps_of v; own = []; log = [] }
 
 -- a note of what a pass has seen, and of nothing else
 abbrev pub note_of : View → View
-note_of v = record { seen = v.seen; kept = []; mine = []; number = 0; listed = 0; shown = []; copied = []; own = []; log = [] }
+note_of v = record { seen = v.seen; told = []; mine = []; number = 0; listed = 0; shown = []; copied = []; own = []; log = [] }
 
 abbrev pub longer_of : List Entry → List Entry → List Entry
 longer_of xs ys = if nat_lt (length xs) (length ys) then ys else xs
@@ -44,7 +44,7 @@ longer_of xs ys = if nat_lt (length xs) (length ys) then ys else xs
 abbrev pub told_by : View → View → View
 told_by v note = record {
   seen = longer_of v.seen note.seen;
-  kept = v.seen ∷ note.seen ∷ v.kept;
+  told = v.seen ∷ note.seen ∷ v.told;
   mine = v.mine;
   number = v.number;
   listed = v.listed;

@@ -7,7 +7,7 @@ ghost use Rattle.ucl_board.specs.Fixtures.{IsMatch};
 ghost use Rattle.ucl_board.specs.Words.{AreWords, word_at};
 ghost use Rattle.ucl_board.specs.Log.{Look, Swap, Enlisted};
 ghost use Rattle.ucl_pass.specs.Passes.{Continues, AcceptedReport, RefusedReport, SharedReading, Enlistment, FullBoard, Meeting, opening_pass};
-ghost use Rattle.ucl_pass.specs.Views.{known_of, count_of, second_of, note_of};
+ghost use Rattle.ucl_pass.specs.Views.{pass_view_of, count_of, second_of, note_of};
 ghost use Rattle.ucl_pass.specs.OneHistory.{BoardsOpenFresh};
 ghost use Rattle.ucl_pass.specs.CellRule.{words_after, IsUpToDate};
 ghost use Rattle.ucl_pass.specs.CellSteps.{IsNextBoard, with_one_more, word_looked_at, LooksOnly, LooksAtMatch, LooksAtEnlisted, LooksAndShows, StoresEntry, StoresReporter};
@@ -71,7 +71,7 @@ impl CellBoard {
     /// no reporter and no step. Where the memory of the cell is refused the answer is `OutOfMemory`, and there is no board.
     pub fn open<R>(_rt: &R, alloc: Global) -> Result<(CellBoard, CellReaderPass), OutOfMemory>
         ensures own { IfOk result (λ opened. opened.1.0 ≡ opened.0) }
-        ensures fresh { IfOk result (λ opened. known_of opened.1.1 ≡ opening_pass) }
+        ensures fresh { IfOk result (λ opened. pass_view_of opened.1.1 ≡ opening_pass) }
         ensures acts { IfOk result (λ opened. (opened.1.1.copied ≡ []) × (opened.1.1.own ≡ [])) }
         ensures rule { BoardsOpenFresh words_after }
     {
@@ -160,9 +160,9 @@ impl CellBoard {
         requires cell { seat.old.table_id ≡ self.now }
         requires me { (0 < reporter) × ((cell_view seat.old).number ≡ reporter) }
         ensures own { seat.new.table_id ≡ seat.old.table_id }
-        ensures always { Continues (known_of (cell_view seat.old)) (known_of (cell_view seat.new)) }
-        ensures accepted { IfOk result (λ reply. AcceptedReport (known_of (cell_view seat.old)) call.now reply (known_of (cell_view seat.new))) }
-        ensures refused { IfErr result (λ refusal. RefusedReport (known_of (cell_view seat.old)) call.now refusal (known_of (cell_view seat.new))) }
+        ensures always { Continues (pass_view_of (cell_view seat.old)) (pass_view_of (cell_view seat.new)) }
+        ensures accepted { IfOk result (λ reply. AcceptedReport (pass_view_of (cell_view seat.old)) call.now reply (pass_view_of (cell_view seat.new))) }
+        ensures refused { IfErr result (λ refusal. RefusedReport (pass_view_of (cell_view seat.old)) call.now refusal (pass_view_of (cell_view seat.new))) }
         ensures steps { CellReport (cell_view seat.old) call.now result (cell_view seat.new) }
         ensures whole { IsUpToDate (cell_view seat.new) }
     {
@@ -191,8 +191,8 @@ impl CellBoard {
     pub(crate) fn read_by<R: Wait>(&self, rt: &R, seat: &mut Seat) -> Reading
         requires { seat.old.table_id ≡ self.now }
         ensures own { seat.new.table_id ≡ seat.old.table_id }
-        ensures always { Continues (known_of (cell_view seat.old)) (known_of (cell_view seat.new)) }
-        ensures reading { SharedReading (known_of (cell_view seat.old)) result (known_of (cell_view seat.new)) }
+        ensures always { Continues (pass_view_of (cell_view seat.old)) (pass_view_of (cell_view seat.new)) }
+        ensures reading { SharedReading (pass_view_of (cell_view seat.old)) result (pass_view_of (cell_view seat.new)) }
         ensures version { result.version ≡ length (cell_view seat.new).seen }
         ensures steps { CellReading (cell_view seat.old) result (cell_view seat.new) }
         ensures whole { IsUpToDate (cell_view seat.new) }
@@ -208,9 +208,9 @@ impl CellBoard {
         requires cell { seat.old.table_id ≡ self.now }
         requires reader { (cell_view seat.old).number ≡ 0 }
         ensures own { seat.new.table_id ≡ seat.old.table_id }
-        ensures enlisted { IfSome result (λ number. Enlistment (known_of (cell_view seat.old)) (known_of (cell_view seat.new)) × ((cell_view seat.new).number ≡ number)) }
-        ensures always { IfNone result (Continues (known_of (cell_view seat.old)) (known_of (cell_view seat.new))) }
-        ensures full { IfNone result (FullBoard (known_of (cell_view seat.old)) (known_of (cell_view seat.new))) }
+        ensures enlisted { IfSome result (λ number. Enlistment (pass_view_of (cell_view seat.old)) (pass_view_of (cell_view seat.new)) × ((cell_view seat.new).number ≡ number)) }
+        ensures always { IfNone result (Continues (pass_view_of (cell_view seat.old)) (pass_view_of (cell_view seat.new))) }
+        ensures full { IfNone result (FullBoard (pass_view_of (cell_view seat.old)) (pass_view_of (cell_view seat.new))) }
         ensures acts { count_of (cell_view seat.old) < count_of (cell_view seat.new) }
         ensures steps { EnlistSteps (cell_view seat.old) (cell_view seat.new) }
         ensures whole { IsUpToDate (cell_view seat.new) }
@@ -244,8 +244,8 @@ impl CellBoard {
         requires { (first.old.table_id ≡ self.now) × (second.old.table_id ≡ self.now) }
         ensures own { (first.new.table_id ≡ first.old.table_id) × (second.new.table_id ≡ second.old.table_id) }
         ensures unchanged { cell_view first.new ≡ cell_view first.old }
-        ensures always { Continues (known_of (cell_view second.old)) (known_of (cell_view second.new)) }
-        ensures meeting { Meeting (known_of (cell_view first.old)) (known_of (cell_view second.old)) (known_of (cell_view second.new)) }
+        ensures always { Continues (pass_view_of (cell_view second.old)) (pass_view_of (cell_view second.new)) }
+        ensures meeting { Meeting (pass_view_of (cell_view first.old)) (pass_view_of (cell_view second.old)) (pass_view_of (cell_view second.new)) }
         ensures steps { MeetingSteps (cell_view second.old) (cell_view second.new) }
         ensures whole { IsUpToDate (cell_view second.new) }
     {

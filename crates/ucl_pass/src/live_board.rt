@@ -1,7 +1,7 @@
 //! What every shared board is.
 
 ghost use Rattle.std.specs.Prelude.{◌≡◌, IfOk, IfErr, MatchResult};
-ghost use Rattle.ucl_pass.specs.Passes.{Known, IsSound, Continues, AcceptedReport, RefusedReport, SharedReading, split_pass, Enlistment, FullBoard, Meeting, reporter_figures};
+ghost use Rattle.ucl_pass.specs.Passes.{PassView, IsSound, Continues, AcceptedReport, RefusedReport, SharedReading, split_pass, Enlistment, FullBoard, Meeting, reporter_figures};
 
 use crate::errors::TooManyReporters;
 use std::sync::Wait;
@@ -26,9 +26,9 @@ pub trait LiveBoard: Sync {
     ghost is_reporter: { Self → Self.ReporterPass → Type 0 };
 
     // What is known of a pass.
-    ghost reader: { Self.ReaderPass → Known };
+    ghost reader: { Self.ReaderPass → PassView };
 
-    ghost reporter: { Self.ReporterPass → Known };
+    ghost reporter: { Self.ReporterPass → PassView };
 
     /// Enters an event under the number of the pass. An accepted event is the last that the pass has seen; a refusal is the reply
     /// of a board of one thread after all that the pass has then seen, enters nothing, and may leave the pass having seen more.

@@ -2,7 +2,7 @@
 
 ghost use Rattle.std.specs.Prelude.{◌≡◌, ◌+◌, ◌<◌, length, IfOk, IfErr, MatchResult};
 ghost use Rattle.ucl_pass.specs.Passes.{IsSound, Continues, AcceptedReport, RefusedReport, SharedReading, split_pass, Enlistment, FullBoard, Meeting, reporter_figures};
-ghost use Rattle.ucl_pass.specs.Views.{known_of, count_of};
+ghost use Rattle.ucl_pass.specs.Views.{pass_view_of, count_of};
 ghost use Rattle.ucl_pass.specs.CellRule.{IsUpToDate};
 ghost use Rattle.ucl_pass.specs.CallSteps.{EnlistSteps, MeetingSteps, HasCopyOf, CellReport, CellReading};
 
@@ -27,9 +27,9 @@ impl LiveBoard for CellBoard {
 
     ghost is_reporter = { λ board pass. pass.0 ≡ board };
 
-    ghost reader = { λ pass. known_of pass.1 };
+    ghost reader = { λ pass. pass_view_of pass.1 };
 
-    ghost reporter = { λ pass. known_of pass.1 };
+    ghost reporter = { λ pass. pass_view_of pass.1 };
 
     fn report<R: Wait>(
         &self,
@@ -39,9 +39,9 @@ impl LiveBoard for CellBoard {
     ) -> Result<Accepted, Refusal>
         requires { pass.old.0 ≡ self.now }
         ensures own { pass.new.0 ≡ self.now }
-        ensures always { Continues (known_of pass.old.1) (known_of pass.new.1) }
-        ensures accepted { IfOk result (λ reply. AcceptedReport (known_of pass.old.1) call.now reply (known_of pass.new.1)) }
-        ensures refused { IfErr result (λ refusal. RefusedReport (known_of pass.old.1) call.now refusal (known_of pass.new.1)) }
+        ensures always { Continues (pass_view_of pass.old.1) (pass_view_of pass.new.1) }
+        ensures accepted { IfOk result (λ reply. AcceptedReport (pass_view_of pass.old.1) call.now reply (pass_view_of pass.new.1)) }
+        ensures refused { IfErr result (λ refusal. RefusedReport (pass_view_of pass.old.1) call.now refusal (pass_view_of pass.new.1)) }
         ensures acts { count_of pass.old.1 < count_of pass.new.1 }
         ensures steps { CellReport pass.old.1 call.now result pass.new.1 }
         ensures whole { IsUpToDate pass.new.1 }
@@ -57,8 +57,8 @@ impl LiveBoard for CellBoard {
     fn read<R: Wait>(&self, rt: &R, pass: &mut CellReaderPass) -> Reading
         requires { pass.old.0 ≡ self.now }
         ensures own { pass.new.0 ≡ self.now }
-        ensures always { Continues (known_of pass.old.1) (known_of pass.new.1) }
-        ensures reading { SharedReading (known_of pass.old.1) result (known_of pass.new.1) }
+        ensures always { Continues (pass_view_of pass.old.1) (pass_view_of pass.new.1) }
+        ensures reading { SharedReading (pass_view_of pass.old.1) result (pass_view_of pass.new.1) }
         ensures version { result.version ≡ length pass.new.1.seen }
         ensures acts { count_of pass.new.1 ≡ count_of pass.old.1 + 1 }
         ensures steps { CellReading pass.old.1 result pass.new.1 }
@@ -70,8 +70,8 @@ impl LiveBoard for CellBoard {
     fn read_own<R: Wait>(&self, rt: &R, pass: &mut CellReporterPass) -> Reading
         requires { pass.old.0 ≡ self.now }
         ensures own { pass.new.0 ≡ self.now }
-        ensures always { Continues (known_of pass.old.1) (known_of pass.new.1) }
-        ensures reading { SharedReading (known_of pass.old.1) result (known_of pass.new.1) }
+        ensures always { Continues (pass_view_of pass.old.1) (pass_view_of pass.new.1) }
+        ensures reading { SharedReading (pass_view_of pass.old.1) result (pass_view_of pass.new.1) }
         ensures version { result.version ≡ length pass.new.1.seen }
         ensures acts { count_of pass.new.1 ≡ count_of pass.old.1 + 1 }
         ensures steps { CellReading pass.old.1 result pass.new.1 }
@@ -84,9 +84,9 @@ impl LiveBoard for CellBoard {
     fn split<R: Wait>(&self, _rt: &R, pass: &mut CellReaderPass) -> CellReaderPass
         requires { pass.old.0 ≡ self.now }
         ensures own { (pass.new.0 ≡ self.now) × (result.0 ≡ self.now) }
-        ensures sound { IsSound (known_of pass.old.1) }
+        ensures sound { IsSound (pass_view_of pass.old.1) }
         ensures unchanged { pass.new.1 ≡ pass.old.1 }
-        ensures given { known_of result.1 ≡ split_pass (known_of pass.old.1) }
+        ensures given { pass_view_of result.1 ≡ split_pass (pass_view_of pass.old.1) }
         ensures acts { count_of result.1 ≡ count_of pass.old.1 }
         ensures steps { HasCopyOf result.1 pass.old.1 }
     {
@@ -101,9 +101,9 @@ impl LiveBoard for CellBoard {
     ) -> Result<CellReporterPass, TooManyReporters<CellReaderPass>>
         requires { pass.0 ≡ self.now }
         ensures own { MatchResult result (λ enlisted. enlisted.0 ≡ self.now) (λ full. full.0.0 ≡ self.now) }
-        ensures enlisted { IfOk result (λ enlisted. Enlistment (known_of pass.1) (known_of enlisted.1)) }
-        ensures always { IfErr result (λ full. Continues (known_of pass.1) (known_of full.0.1)) }
-        ensures full { IfErr result (λ full. FullBoard (known_of pass.1) (known_of full.0.1)) }
+        ensures enlisted { IfOk result (λ enlisted. Enlistment (pass_view_of pass.1) (pass_view_of enlisted.1)) }
+        ensures always { IfErr result (λ full. Continues (pass_view_of pass.1) (pass_view_of full.0.1)) }
+        ensures full { IfErr result (λ full. FullBoard (pass_view_of pass.1) (pass_view_of full.0.1)) }
         ensures acts { MatchResult result (λ enlisted. count_of pass.1 < count_of enlisted.1) (λ full. count_of pass.1 < count_of full.0.1) }
         ensures steps { MatchResult result (λ enlisted. EnlistSteps pass.1 enlisted.1) (λ full. EnlistSteps pass.1 full.0.1) }
         ensures whole { MatchResult result (λ enlisted. IsUpToDate enlisted.1) (λ full. IsUpToDate full.0.1) }
@@ -122,10 +122,10 @@ impl LiveBoard for CellBoard {
     fn meet<R: Wait>(&self, rt: &R, first: &mut CellReporterPass, second: &mut CellReporterPass)
         requires { (first.old.0 ≡ self.now) × (second.old.0 ≡ self.now) }
         ensures own { (first.new.0 ≡ self.now) × (second.new.0 ≡ self.now) }
-        ensures sound { IsSound (known_of first.old.1) }
-        ensures always { Continues (known_of second.old.1) (known_of second.new.1) }
+        ensures sound { IsSound (pass_view_of first.old.1) }
+        ensures always { Continues (pass_view_of second.old.1) (pass_view_of second.new.1) }
         ensures unchanged { first.new.1 ≡ first.old.1 }
-        ensures meeting { Meeting (known_of first.old.1) (known_of second.old.1) (known_of second.new.1) }
+        ensures meeting { Meeting (pass_view_of first.old.1) (pass_view_of second.old.1) (pass_view_of second.new.1) }
         ensures acts { count_of second.new.1 ≡ count_of second.old.1 + 1 }
         ensures steps { MeetingSteps second.old.1 second.new.1 }
         ensures whole { IsUpToDate second.new.1 }
@@ -134,13 +134,13 @@ impl LiveBoard for CellBoard {
     }
 
     fn number_of(pass: &CellReporterPass) -> ReporterNo
-        ensures { result ≡ (reporter_figures (known_of pass.now.1)).0 }
+        ensures { result ≡ (reporter_figures (pass_view_of pass.now.1)).0 }
     {
         pass.number
     }
 
     fn accepted_of(pass: &CellReporterPass) -> u16
-        ensures { result ≡ (reporter_figures (known_of pass.now.1)).1 }
+        ensures { result ≡ (reporter_figures (pass_view_of pass.now.1)).1 }
     {
         pass.accepted
     }

@@ -5,7 +5,7 @@ ghost use Rattle.atomic_table.specs.Seated.{TableId};
 ghost use Rattle.crossbeam_utils.specs.Seq.{cell_view};
 ghost use Rattle.ucl_pass.specs.declared.view.View.{View};
 ghost use Rattle.ucl_pass.specs.Passes.{IsSound};
-ghost use Rattle.ucl_pass.specs.Views.{known_of};
+ghost use Rattle.ucl_pass.specs.Views.{pass_view_of};
 
 use crate::rule::Seat;
 use std::marker::Model;
@@ -22,7 +22,7 @@ impl Model for CellReaderPass {
 
     ghost view = { λ p. (p.seat.table_id, cell_view p.seat) };
 
-    ghost invariant = { λ p. IsSound (known_of (cell_view p.seat)) × ((cell_view p.seat).number ≡ 0) };
+    ghost invariant = { λ p. IsSound (pass_view_of (cell_view p.seat)) × ((cell_view p.seat).number ≡ 0) };
 }
 
 /// A reporter's pass. Contracts see which cell it is of, and what it knows.
@@ -38,5 +38,5 @@ impl Model for CellReporterPass {
 
     ghost view = { λ p. (p.seat.table_id, cell_view p.seat) };
 
-    ghost invariant = { λ p. IsSound (known_of (cell_view p.seat)) × ((cell_view p.seat).number ≡ p.number) × (length (cell_view p.seat).mine ≡ p.accepted) };
+    ghost invariant = { λ p. IsSound (pass_view_of (cell_view p.seat)) × ((cell_view p.seat).number ≡ p.number) × (length (cell_view p.seat).mine ≡ p.accepted) };
 }

@@ -12,7 +12,7 @@ pub struct View {
     // The history that it has seen.
     pub ghost seen: { List Entry },
     // The histories of both sides of a meeting, until its next step.
-    pub ghost kept: { List (List Entry) },
+    pub ghost told: { List (List Entry) },
     // Its own entries in the history.
     pub ghost mine: { List Entry },
     // Its number, 0 for a reader.

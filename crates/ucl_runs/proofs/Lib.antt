@@ -5,8 +5,8 @@ pub mod Points
 pub mod Parts
 pub mod Duty
 pub mod WorkSteps
-pub mod Entering
-pub mod Merging
+pub mod EnteredRows
+pub mod MergedRows
 pub mod Merges
 pub mod ToldLines
 pub mod Unsigned

@@ -2,8 +2,8 @@
 use Rattle.std.proofs.Common.{◌≡◌, ℕ, ◌≤◌, List, Option, Some, None}
 use Rattle.std.specs.Prelude.{Bool, Result, Ok, Err, IfSome, IfErr, OnOk}
 use Rattle.ucl_order.specs.declared.profile.Profile.{Profile}
-use Rattle.ucl_screen.specs.Script.{NightEntry, SheetEntry}
-use Rattle.ucl_screen.specs.Meaning.{MeansNight, MeansSheet}
+use Rattle.ucl_screen.specs.Script.{Script, WrittenSheet}
+use Rattle.ucl_screen.specs.Parsing.{MeansNight, MeansSheet}
 use Rattle.ucl_screen.specs.Screen.{screen_text}
 use Rattle.ucl_board.specs.declared.entry.Entry.{Entry}
 use Rattle.ucl_board.specs.Words.{greatest_version}
@@ -15,11 +15,11 @@ use Rattle.ucl_runs.specs.declared.fault.RunFault.TheVariants.{Input, OutOfMemor
 use Rattle.ucl_runs.specs.Run.{IfWriteFailed, IsCutShort, TextHas, WroteFirst}
 
 -- a script's text, and a sheet's screen
-pub fed : (known : Option (List ℕ)) (night : NightEntry) (text : List ℕ) → IfSome known (λ bytes. MeansNight bytes (Ok night)) → text ≡ feed_text night.events → IfSome known (λ bytes. IsFed bytes text)
+pub fed : (known : Option (List ℕ)) (night : Script) (text : List ℕ) → IfSome known (λ bytes. MeansNight bytes (Ok night)) → text ≡ feed_text night.events → IfSome known (λ bytes. IsFed bytes text)
 fed None night text means is = tt
 fed (Some bytes) night text means is = record { night = night; means = means; text_is = is }
 
-pub shown : (profile : Profile) (known : Option (List ℕ)) (group : ℕ) (sheet : SheetEntry) (text : List ℕ) → IfSome known (λ bytes. MeansSheet bytes (Ok sheet)) → text ≡ screen_text profile sheet.words sheet.clubs group
+pub shown : (profile : Profile) (known : Option (List ℕ)) (group : ℕ) (sheet : WrittenSheet) (text : List ℕ) → IfSome known (λ bytes. MeansSheet bytes (Ok sheet)) → text ≡ screen_text profile sheet.words sheet.clubs group
     → IfSome known (λ bytes. IsShown profile group bytes text)
 shown profile None group sheet text means is = tt
 shown profile (Some bytes) group sheet text means is = record { sheet = sheet; means = means; text_is = is }

@@ -18,14 +18,14 @@ use Rattle.ucl_word.specs.Layout.{word_of, record_at}
 use Rattle.ucl_word.specs.Rules.{refusal_of, answer, reply_of, is_kick_off, is_full_time, is_reopen, is_in_play}
 use Rattle.ucl_word.specs.Counts.{MatchEntry, IsAccepted, IsLegalMatch, count, counted_match, is_goal, is_disallow, is_yellow, is_second_yellow, is_red}
 use Rattle.ucl_word.proofs.Words.{record_back}
-use Rattle.ucl_word.proofs.Counting.{legal_valid}
+use Rattle.ucl_word.proofs.EntryCounts.{legal_valid}
 use Rattle.ucl_board.specs.declared.entry.Entry.{Entry}
 use Rattle.ucl_board.specs.Fixtures.{IsMatch, match_numbers}
 use Rattle.ucl_board.specs.Words.{version_of, game_at}
 use Rattle.ucl_board.specs.History.{of_match, entries_of, match_after, entry_of, after_attempt, accepted_of, board_of, followed_by, sequential_reply}
 use Rattle.ucl_board.proofs.Histories.{legal_match, match_valid, word_after}
 use Rattle.ucl_order.specs.declared.profile.Profile.{Profile}
-use Rattle.ucl_order.specs.Roster.{ClubEntry}
+use Rattle.ucl_order.specs.Roster.{NamedClub}
 use Rattle.ucl_order.proofs.Unsigned.{without, same_rows}
 use Rattle.ucl_screen.specs.declared.night.NightEvent.{NightEvent}
 use Rattle.ucl_screen.specs.Lines.{header}
@@ -219,7 +219,7 @@ module _ (h l : List Entry) (same : (game : ℕ) → without (read_after h game)
   games_are game is =
       ap (λ (word : ℕ). without (record_at word)) (word_after h game is) ∙ (same game ∙ ap (λ (word : ℕ). without (record_at word)) (sym (word_after l game is)))
 
-  pub same_screen : (profile : Profile) (roster : List ClubEntry) (group : ℕ) → screen_text profile (board_of h) roster group ≡ screen_text profile (board_of l) roster group
+  pub same_screen : (profile : Profile) (roster : List NamedClub) (group : ℕ) → screen_text profile (board_of h) roster group ≡ screen_text profile (board_of l) roster group
   unfolding screen_text
   same_screen profile roster group =
       let rows = same_rows (board_of h) (board_of l) games_are profile roster in
@@ -254,5 +254,5 @@ module _ (first second : ℕ) (rows : List NightEvent) (h : List Entry) (merge :
       ∙ ap without (sym (record_back (match_after script g) (legal_valid (entries_of g script) (script_legal g))))))
 
   -- the screen of the night is that of its rows, entered in script order by reporters 1 and 2
-  pub screen_of_script : (profile : Profile) (roster : List ClubEntry) (group : ℕ) → screen_text profile (board_of h) roster group ≡ screen_text profile (board_of script) roster group
+  pub screen_of_script : (profile : Profile) (roster : List NamedClub) (group : ℕ) → screen_text profile (board_of h) roster group ≡ screen_text profile (board_of script) roster group
   screen_of_script profile roster group = same_screen h script records_are profile roster group

@@ -6,8 +6,8 @@ use Rattle.ucl_word.specs.declared.refusal.Refusal.{Refusal}
 use Rattle.ucl_board.specs.declared.entry.Entry.{Entry}
 use Rattle.ucl_board.specs.History.{IsLegal, Attempt, after_attempt, accepted_of, board_of, sequential_reply}
 use Rattle.ucl_screen.specs.declared.night.NightEvent.{NightEvent}
-use Rattle.ucl_screen.specs.Script.{NightEntry}
-use Rattle.ucl_screen.specs.Meaning.{MeansNight}
+use Rattle.ucl_screen.specs.Script.{Script}
+use Rattle.ucl_screen.specs.Parsing.{MeansNight}
 use Rattle.ucl_runs.specs.Lines.{accepted_line, refused_line, word_line}
 
 -- who enters the event of a row, and the event
@@ -39,7 +39,7 @@ feed_text events = reply_lines 5 [] events ++ word_lines 1 (board_of (accepted_o
 
 -- the input is a script, and this is the text of `feed`
 pub record IsFed (bytes text : List ℕ) : Type 0 where
-  pub night : NightEntry
+  pub night : Script
   pub means : MeansNight bytes (Ok night)
   pub text_is : text ≡ feed_text night.events
 

@@ -4,7 +4,7 @@ use Rattle.ucl_board.specs.declared.entry.Entry.{Entry}
 use Rattle.ucl_board.specs.declared.reading.Reading.{Reading}
 use Rattle.ucl_board.specs.History.{board_of}
 use Rattle.ucl_order.specs.declared.profile.Profile.{Profile}
-use Rattle.ucl_order.specs.Roster.{ClubEntry}
+use Rattle.ucl_order.specs.Roster.{NamedClub}
 use Rattle.ucl_order.specs.Rows.{rows_of}
 use Rattle.ucl_screen.specs.Lines.{header}
 use Rattle.ucl_screen.specs.Screen.{columns, in_play, row_line, screen_text}
@@ -17,7 +17,7 @@ use Rattle.ucl_steps.specs.Linearizable.{IsDecided, IsLinearizable}
 
 -- the board after the first k entries of a history, as a screen shows it: version k, and the clubs in the order of the
 -- profile, each with its numbers and its mark
-abbrev pub screen_at : Profile → List Entry → ℕ → List ClubEntry → ℕ → List ℕ
+abbrev pub screen_at : Profile → List Entry → ℕ → List NamedClub → ℕ → List ℕ
 screen_at profile history k roster group =
     let board = board_of (take k history) in
     header group k (in_play board) ++ columns ++ flat_map (row_line roster) (rows_of profile board roster)
@@ -25,7 +25,7 @@ screen_at profile history k roster group =
 -- the screen of a reading, whatever the profile, the roster and the group, is that of the board at the reading's place in the history
 abbrev pub ScreenIsOfItsPlace : List Entry → CallRecord → Type 0
 ScreenIsOfItsPlace history c =
-    (k : ℕ) (reading : Reading) → IsDecided c k (Copied reading) → (profile : Profile) (roster : List ClubEntry) (group : ℕ)
+    (k : ℕ) (reading : Reading) → IsDecided c k (Copied reading) → (profile : Profile) (roster : List NamedClub) (group : ℕ)
     → screen_text profile reading.board roster group ≡ screen_at profile history k roster group
 
 -- one history of the board of one thread holds each finished call once, with the reply that it got, between its beginning and

@@ -4,10 +4,10 @@ use Rattle.std.specs.Result.{is_ok}
 use Rattle.ucl_board.specs.declared.entry.Entry.{Entry}
 use Rattle.ucl_board.specs.History.{IsLegal, Attempt, entry_of, sequential_reply, accepted_of, board_of}
 use Rattle.ucl_order.specs.declared.profile.Profile.{Profile}
-use Rattle.ucl_order.specs.Roster.{ClubEntry}
+use Rattle.ucl_order.specs.Roster.{NamedClub}
 use Rattle.ucl_screen.specs.declared.night.NightEvent.{NightEvent}
 use Rattle.ucl_screen.specs.Screen.{screen_text}
-use Rattle.ucl_pass.specs.Passes.{Known, IsSound, SeesOn, Continues}
+use Rattle.ucl_pass.specs.Passes.{PassView, IsSound, SeesOn, Continues}
 
 -- the numbers on the board that stand for reporters 1 and 2 of the script
 abbrev pub number_of_two : ℕ → ℕ → ℕ → ℕ
@@ -85,16 +85,16 @@ pub record IsOwnRow (number reporter : ℕ) (rows : List NightEvent) (point : �
   pub entered : IsEnteredAt history (number, row.call) p
 
 -- a reporter's pass that has entered nothing yet
-abbrev pub IsFresh : Known → Type 0
+abbrev pub IsFresh : PassView → Type 0
 IsFresh k = IsSound k × (k.mine ≡ [])
 
 -- a reader's pass that has seen a legal history and has shown nothing yet
-abbrev pub IsNew : Known → Type 0
+abbrev pub IsNew : PassView → Type 0
 IsNew k = IsLegal k.seen × (k.shown ≡ [])
 
 -- a reporter's pass, k before and m after, has entered its rows of a script in their order: each has its point, and each entry under the
 -- number of the pass is one of them
-pub record HasEntered (k m : Known) (reporter : ℕ) (rows : List NightEvent) : Type 0 where
+pub record HasEntered (k m : PassView) (reporter : ℕ) (rows : List NightEvent) : Type 0 where
   pub always : Continues k m
   pub shown : m.shown ≡ k.shown
   pub point : ℕ → ℕ
@@ -105,19 +105,19 @@ pub record HasEntered (k m : Known) (reporter : ℕ) (rows : List NightEvent) : 
 
 -- the last screen of a reader: none where no version was shown, else the screen of the board of the last version, in the order of the
 -- profile
-pub record IsScreenOfLast (profile : Profile) (seen : List Entry) (versions : List ℕ) (roster : List ClubEntry) (group : ℕ) (text : List ℕ) : Type 0 where
+pub record IsScreenOfLast (profile : Profile) (seen : List Entry) (versions : List ℕ) (roster : List NamedClub) (group : ℕ) (text : List ℕ) : Type 0 where
   pub before : List ℕ
   pub version : ℕ
   pub last : versions ≡ before ++ version ∷ []
   pub text_is : text ≡ screen_text profile (board_of (take version seen)) roster group
 
-abbrev pub IsLastScreen : Profile → List Entry → List ℕ → List ClubEntry → ℕ → Option (List ℕ) → Type 0
+abbrev pub IsLastScreen : Profile → List Entry → List ℕ → List NamedClub → ℕ → Option (List ℕ) → Type 0
 IsLastScreen profile seen versions roster group None = versions ≡ []
 IsLastScreen profile seen versions roster group (Some text) = IsScreenOfLast profile seen versions roster group text
 
 -- a reader's pass m, which came from k, has seen a legal history and has shown so many versions, none below what k had seen and none above
 -- what m has, and this is its last screen
-pub record HasShown (profile : Profile) (k m : Known) (readings : ℕ) (roster : List ClubEntry) (group : ℕ) (last : Option (List ℕ)) : Type 0 where
+pub record HasShown (profile : Profile) (k m : PassView) (readings : ℕ) (roster : List NamedClub) (group : ℕ) (last : Option (List ℕ)) : Type 0 where
   pub legal : IsLegal m.seen
   pub on : SeesOn k m
   pub many : length m.shown ≡ readings

@@ -1,7 +1,7 @@
 -- What is lent to the workers of a night, and what they hand back, on any live board.
 use Rattle.std.specs.Prelude.{ℕ, List, option_map, string_bytes}
 use Rattle.ucl_order.specs.declared.profile.Profile.{Profile}
-use Rattle.ucl_order.specs.Roster.{ClubEntry}
+use Rattle.ucl_order.specs.Roster.{NamedClub}
 use Rattle.ucl_screen.specs.declared.night.NightEvent.{NightEvent}
 use Rattle.ucl_pass.specs.declared.live_board.LiveBoard.{Ghosts}
 use Rattle.ucl_runs.specs.declared.workers.Shown.{Shown}
@@ -21,6 +21,6 @@ module _ {B R P : Type 0} (live : Ghosts B R P) (board : B) where
   HasEnteredOn before reporter rows after = live.is_reporter board after × HasEntered (live.reporter before) (live.reporter after) reporter rows
 
   -- a reader's pass of the board has shown its readings
-  abbrev pub HasShownOn : Profile → R → ℕ → List ClubEntry → ℕ → Shown R → Type 0
+  abbrev pub HasShownOn : Profile → R → ℕ → List NamedClub → ℕ → Shown R → Type 0
   HasShownOn profile before readings roster group end =
       live.is_reader board end.pass × HasShown profile (live.reader before) (live.reader end.pass) readings roster group (option_map string_bytes end.last)

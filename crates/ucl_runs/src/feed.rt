@@ -6,7 +6,7 @@ ghost use Rattle.ucl_board.specs.declared.entry.Entry.{Entry};
 ghost use Rattle.ucl_board.specs.Words.{greatest_version};
 ghost use Rattle.ucl_board.specs.History.{IsLegal, after_attempt, accepted_of, board_of};
 ghost use Rattle.ucl_screen.specs.Input.{Reads};
-ghost use Rattle.ucl_screen.specs.Meaning.{MeansNight, night_seen};
+ghost use Rattle.ucl_screen.specs.Parsing.{MeansNight, night_seen};
 ghost use Rattle.ucl_runs.specs.Faults.{IsOfOneThread};
 ghost use Rattle.ucl_runs.specs.Feed.{IsBoardAfter, IsFed, attempt_of, feed_text, reply_line, reply_lines, word_lines};
 ghost use Rattle.ucl_runs.specs.Run.{IfInput, IfWriteFailed, TextHas, UnlessWriteFailed, WroteFirst, is_read_failed};

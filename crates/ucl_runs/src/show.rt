@@ -3,7 +3,7 @@
 ghost use Rattle.std.specs.Prelude.{◌≡◌, ◌≤◌, ◌+◌, IfErr, IsErrOf, OnOk, true};
 ghost use Rattle.std.specs.Io.KnownBytes.{Appends};
 ghost use Rattle.ucl_screen.specs.Input.{Reads};
-ghost use Rattle.ucl_screen.specs.Meaning.{MeansSheet, sheet_seen};
+ghost use Rattle.ucl_screen.specs.Parsing.{MeansSheet, sheet_seen};
 ghost use Rattle.ucl_screen.specs.Screen.{IsGroup};
 ghost use Rattle.ucl_runs.specs.Faults.{IsOfOneThread};
 ghost use Rattle.ucl_runs.specs.Show.{IsShown};

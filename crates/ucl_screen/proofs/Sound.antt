@@ -2,7 +2,7 @@
 use Rattle.std.proofs.Common.{◌≡◌, ℕ, zero, suc, ◌+◌, ◌≤◌, Bool, false, List, [], ◌∷◌, length, Option, Some, None, refl, sym, subst}
 use Rattle.std.proofs.lemmas.Bool.{le-leb}
 use Rattle.std.specs.Prelude.{Result, Ok, Err, IfSome, ⊤}
-use Rattle.ucl_order.specs.Roster.{ClubEntry, bad_slot}
+use Rattle.ucl_order.specs.Roster.{NamedClub, bad_slot}
 use Rattle.ucl_screen.specs.declared.fault.InputFault.{InputFault}
 use Rattle.ucl_screen.specs.declared.fault.InputFault.TheVariants as fault
 use Rattle.ucl_board.specs.Words.{AreReadAs, IsFirstBad}
@@ -11,8 +11,8 @@ use Rattle.ucl_screen.specs.declared.sheet.Sheet.{Sheet}
 use Rattle.ucl_screen.specs.Input.{Reads, whole_input}
 use Rattle.ucl_screen.specs.Rows.{Fields, rows_of}
 use Rattle.ucl_screen.specs.Events.{event_of}
-use Rattle.ucl_screen.specs.Script.{◌>>=◌, said_by, or_bad, club_of, club_at, if_good, roster_at, events_from, word_of_row, words_from, SheetEntry, night_of_rows, sheet_of_rows, sheet_of}
-use Rattle.ucl_screen.specs.Meaning.{Gives, Refuses, MeansNight, MeansSheet, night_seen, sheet_seen}
+use Rattle.ucl_screen.specs.Script.{◌>>=◌, said_by, or_bad, club_of, club_at, if_good, roster_at, events_from, word_of_row, words_from, WrittenSheet, night_of_rows, sheet_of_rows, sheet_of}
+use Rattle.ucl_screen.specs.Parsing.{Gives, Refuses, MeansNight, MeansSheet, night_seen, sheet_seen}
 
 -- a row or a club is bad
 abbrev pub IsOfRows : InputFault → Type 0
@@ -37,7 +37,7 @@ unfolding club_at
 club-sound row [] = tt
 club-sound row (r ∷ rows) = bind-sound (or_bad row (said_by (club_of row) r)) (λ club. Ok (club, rows)) (or-sound row (said_by (club_of row) r)) (λ club. tt)
 
-good-sound : (clubs : List ClubEntry) (bad : Option ℕ) → Sound (if_good clubs bad)
+good-sound : (clubs : List NamedClub) (bad : Option ℕ) → Sound (if_good clubs bad)
 good-sound clubs None = tt
 good-sound clubs (Some slot) = tt
 
@@ -101,10 +101,10 @@ night-reads (Err fault.OutOfMemory) old new failed bytes f h g = f
 night-reads (Err fault.TooLong) old new failed bytes f h g = absurd (never (night_of_rows (rows_of bytes)) fault.TooLong (night-sound (rows_of bytes)) g)
 
 -- a text whose rows make a sheet
-abbrev pub rows_say : List ℕ → Result SheetEntry InputFault → Type 0
+abbrev pub rows_say : List ℕ → Result WrittenSheet InputFault → Type 0
 rows_say bytes said = sheet_of_rows (rows_of bytes) ≡ said
 
-sheet-known : (old : Option (List ℕ)) (bytes : List ℕ) (said : Result SheetEntry InputFault) → IfSome old (λ xs. whole_input xs ≡ Ok bytes) → rows_say bytes said
+sheet-known : (old : Option (List ℕ)) (bytes : List ℕ) (said : Result WrittenSheet InputFault) → IfSome old (λ xs. whole_input xs ≡ Ok bytes) → rows_say bytes said
     → IfSome old (λ xs. sheet_of xs ≡ said)
 sheet-known old bytes said h g = known old bytes (λ w. (w >>= λ text. sheet_of_rows (rows_of text)) ≡ said) h g
 
@@ -124,10 +124,10 @@ both-known (Some xs) P Q p q = q xs p
 pub sheet-taken : (sheet : Sheet) (words : List ℕ) (old new : Option (List ℕ)) (failed : Bool) (bytes : List ℕ) → failed ≡ false
     → IfSome old (λ xs. whole_input xs ≡ Ok bytes) → rows_say bytes (Ok (record { clubs = sheet.roster; words = words })) → AreReadAs words sheet.board → Reads MeansSheet sheet_seen old new failed (Ok sheet)
 sheet-taken sheet words old new failed bytes f h g read =
-    let written : SheetEntry = record { clubs = sheet.roster; words = words } in
+    let written : WrittenSheet = record { clubs = sheet.roster; words = words } in
     (f, both-known old (λ xs. sheet_of xs ≡ Ok written) (λ xs. MeansSheet xs (Ok (sheet_seen sheet))) (sheet-known old bytes (Ok written) h g) (λ xs e. (written, e, refl, read)))
 
-pub sheet-tested : (sheet : SheetEntry) (index : ℕ) (old new : Option (List ℕ)) (failed : Bool) (bytes : List ℕ) → failed ≡ false
+pub sheet-tested : (sheet : WrittenSheet) (index : ℕ) (old new : Option (List ℕ)) (failed : Bool) (bytes : List ℕ) → failed ≡ false
     → IfSome old (λ xs. whole_input xs ≡ Ok bytes) → rows_say bytes (Ok sheet) → IsFirstBad sheet.words index → Reads MeansSheet sheet_seen old new failed (Err (fault.BadWordAt index))
 sheet-tested sheet index old new failed bytes f h g bad =
     (f, both-known old (λ xs. sheet_of xs ≡ Ok sheet) (λ xs. MeansSheet xs (Err (fault.BadWordAt index))) (sheet-known old bytes (Ok sheet) h g) (λ xs e. (sheet, e, bad)))

@@ -5,7 +5,7 @@ pub mod Rows
 pub mod Numbers
 pub mod Events
 pub mod Script
-pub mod Meaning
+pub mod Parsing
 pub mod Lines
 pub mod Screen
 pub mod Laws

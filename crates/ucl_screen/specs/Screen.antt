@@ -5,7 +5,7 @@ use Rattle.ucl_word.specs.Layout.{record_at}
 use Rattle.ucl_board.specs.Words.{version_of}
 use Rattle.ucl_order.specs.declared.profile.Profile.{Profile}
 use Rattle.ucl_order.specs.declared.table.Row.{Row}
-use Rattle.ucl_order.specs.Roster.{ClubEntry, name_of}
+use Rattle.ucl_order.specs.Roster.{NamedClub, name_of}
 use Rattle.ucl_order.specs.Rows.{rows_of}
 use Rattle.ucl_screen.specs.Lines.{header, place_line}
 
@@ -22,10 +22,10 @@ abbrev pub columns : List ℕ
 columns = codes "    Club                  P  W  D  L  GF  GA   GD Pts\n"
 
 -- the line of a row of the table, with the name of its club
-abbrev pub row_line : List ClubEntry → Row → List ℕ
+abbrev pub row_line : List NamedClub → Row → List ℕ
 row_line roster row = place_line row (name_of roster row.slot)
 
 -- the six lines: the header, the names of the columns, and a line for each row of the table, in the order of the profile
-unfoldable pub screen_text : Profile → List ℕ → List ClubEntry → ℕ → List ℕ
+unfoldable pub screen_text : Profile → List ℕ → List NamedClub → ℕ → List ℕ
 screen_text profile board roster group =
     header group (version_of board) (in_play board) ++ columns ++ flat_map (row_line roster) (rows_of profile board roster)

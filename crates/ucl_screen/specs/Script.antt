@@ -1,7 +1,7 @@
 -- What the rows of an input say: a roster, and then events or words.
 use Rattle.std.specs.Prelude.{ℕ, zero, suc, ◌+◌, ◌==◌, ◌&&◌, if◌then◌else◌, List, [], ◌∷◌, length, codes, Option, Some, None, option_map, option_and_then, Result, Ok, Err}
 use Rattle.std.specs.Str.{bytes_eq}
-use Rattle.ucl_order.specs.Roster.{ClubEntry, bad_slot}
+use Rattle.ucl_order.specs.Roster.{NamedClub, bad_slot}
 use Rattle.ucl_screen.specs.declared.fault.InputFault.{InputFault}
 use Rattle.ucl_screen.specs.declared.fault.InputFault.TheVariants.{BadRow, BadRoster}
 use Rattle.ucl_screen.specs.declared.night.NightEvent.{NightEvent}
@@ -26,23 +26,23 @@ or_bad row None = Err (BadRow row)
 or_bad row (Some x) = Ok x
 
 -- `club`, the row's number as one digit, the name, and the coefficient in 1 to 9 digits
-abbrev pub club_of : ℕ → FourFields → Option ClubEntry
+abbrev pub club_of : ℕ → FourFields → Option NamedClub
 club_of row f =
     if bytes_eq f.first (codes "club") && bytes_eq f.second ((48 + row) ∷ [])
     then option_map (λ c. record { name = f.third; coefficient = c }) (number 9 f.fourth)
     else None
 
 -- the club of a row that has to be there, and the rows after it
-unfoldable pub club_at : ℕ → List Fields → Result (ClubEntry × List Fields) InputFault
+unfoldable pub club_at : ℕ → List Fields → Result (NamedClub × List Fields) InputFault
 club_at row [] = Err (BadRow row)
 club_at row (r ∷ rows) = or_bad row (said_by (club_of row) r) >>= λ club. Ok (club, rows)
 
-abbrev pub if_good : List ClubEntry → Option ℕ → Result (List ClubEntry) InputFault
+abbrev pub if_good : List NamedClub → Option ℕ → Result (List NamedClub) InputFault
 if_good clubs None = Ok clubs
 if_good clubs (Some slot) = Err (BadRoster slot)
 
 -- the clubs of rows 1 to 4, which a roster takes in, and the rows after them
-unfoldable pub roster_at : List Fields → Result (List ClubEntry × List Fields) InputFault
+unfoldable pub roster_at : List Fields → Result (List NamedClub × List Fields) InputFault
 roster_at rows = do
   first ← club_at 1 rows
   second ← club_at 2 first.1
@@ -75,31 +75,31 @@ words_from (suc more) game (r ∷ rows) = do
   Ok (word ∷ words)
 
 -- the clubs and the events of a night, wherever they lie in memory
-pub record NightEntry : Type 0 where
-  pub clubs : List ClubEntry
+pub record Script : Type 0 where
+  pub clubs : List NamedClub
   pub events : List NightEvent
 
-unfoldable pub night_of_rows : List Fields → Result NightEntry InputFault
+unfoldable pub night_of_rows : List Fields → Result Script InputFault
 night_of_rows rows = do
   roster ← roster_at rows
   events ← events_from 5 roster.1
   Ok (record { clubs = roster.0; events = events })
 
 -- the clubs of a sheet and the words of matches 1 to 12
-pub record SheetEntry : Type 0 where
-  pub clubs : List ClubEntry
+pub record WrittenSheet : Type 0 where
+  pub clubs : List NamedClub
   pub words : List ℕ
 
-unfoldable pub sheet_of_rows : List Fields → Result SheetEntry InputFault
+unfoldable pub sheet_of_rows : List Fields → Result WrittenSheet InputFault
 sheet_of_rows rows = do
   roster ← roster_at rows
   words ← words_from 12 1 roster.1
   Ok (record { clubs = roster.0; words = words })
 
 -- the night that an input says, or its first fault
-abbrev pub night_of : List ℕ → Result NightEntry InputFault
+abbrev pub night_of : List ℕ → Result Script InputFault
 night_of bytes = whole_input bytes >>= λ text. night_of_rows (rows_of text)
 
 -- the sheet that an input says before its words are read, or its first fault
-abbrev pub sheet_of : List ℕ → Result SheetEntry InputFault
+abbrev pub sheet_of : List ℕ → Result WrittenSheet InputFault
 sheet_of bytes = whole_input bytes >>= λ text. sheet_of_rows (rows_of text)

@@ -2,12 +2,12 @@
 
 ghost use Rattle.std.specs.Prelude.{◌≡◌, ◌+◌, ◌≤◌, length, Some, option_map, IfOk, OnOk};
 ghost use Rattle.csv.specs.Records.{fields_of};
-ghost use Rattle.ucl_order.specs.Roster.{entry_of};
+ghost use Rattle.ucl_order.specs.Roster.{club_seen};
 ghost use Rattle.ucl_screen.specs.Input.{Reads};
 ghost use Rattle.ucl_screen.specs.Rows.{Fields, IsReading, four_seen, rows_left, rows_of};
 ghost use Rattle.ucl_screen.specs.Events.{event_of};
 ghost use Rattle.ucl_screen.specs.Script.{said_by, club_of, club_at, roster_at, events_from, word_of_row, words_from, night_of_rows, sheet_of_rows};
-ghost use Rattle.ucl_screen.specs.Meaning.{Gives, MeansNight, MeansSheet, night_seen, sheet_seen};
+ghost use Rattle.ucl_screen.specs.Parsing.{Gives, MeansNight, MeansSheet, night_seen, sheet_seen};
 
 use crate::fault::InputFault;
 use crate::fields::{hex_word, kind_of, number, number_within};
@@ -25,7 +25,7 @@ use ucl_word::{EventCall, MatchNo, ReporterNo};
 /// The club that a row with this number says.
 fn club_of(alloc: Global, row: u8, fields: &Four<'_>) -> Result<Option<Club>, AllocError>
     requires { row ≤ 9 }
-    ensures { IfOk result (λ club. option_map entry_of club ≡ club_of row (four_seen fields.now)) }
+    ensures { IfOk result (λ club. option_map club_seen club ≡ club_of row (four_seen fields.now)) }
 {
     if fields.first != b"club".as_slice() || fields.second != [b'0' + row].as_slice() {
         return Ok(None);
@@ -46,7 +46,7 @@ fn club_at(alloc: Global, number: u8, rows: &mut Reader<&[u8]>) -> Result<Club, 
     requires reading { IsReading rows.old }
     ensures reading { OnOk result (IsReading rows.new) }
     ensures shorter { OnOk result (length (rows_left rows.new) ≤ length (rows_left rows.old)) }
-    ensures gives { Gives (λ club. (entry_of club, rows_left rows.new)) result (club_at number (rows_left rows.old)) }
+    ensures gives { Gives (λ club. (club_seen club, rows_left rows.new)) result (club_at number (rows_left rows.old)) }
 {
     let bad = InputFault::BadRow {
         row: u32::from(number),

@@ -1,4 +1,4 @@
--- Whole calls by their marks: from rest, through the steps of the marks, to rest.
+-- Whole calls by their accesses: from rest, through the steps of the accesses, to rest.
 use Rattle.std.proofs.Common.{◌≡◌, ◌≢◌, ℕ, zero, suc, ◌+◌, ◌-◌, ◌<◌, ◌≤◌, ◌==◌, ◌&&◌, nat_le, Bool, true, false, cond, List, [], ◌∷◌, ◌++◌, take, length, map, Option, Some, None, Result, Ok, Err, ◌⊎◌, inl, inr, refl, sym, ap, ◌∙◌, subst, arith, append_assoc, le_refl, eq-eqb, ne_eqb}
 use Rattle.std.specs.Prelude.{slice_get, slice_index, slice_set, is_ok, replicate}
 use Rattle.std.specs.List.{AllByRecursion}
@@ -36,39 +36,39 @@ use Rattle.ucl_steps.specs.Machine.{Holds, Idle, Wanting, Holding, Collecting, C
 use Rattle.ucl_steps.specs.Linearizable.{is_accepted}
 use Rattle.ucl_steps.specs.Laws.{CallsAreSteps, HistoriesAreReached}
 use Rattle.ucl_board.specs.Log as trail
-use Rattle.ucl_board.specs.Log.{Act, Mark}
-use Rattle.ucl_steps.specs.Trails.{LookRefused, SwapMissed, SwapWon, Does, IsFoundIn, Follows, IsCollect, IsUnclean, marks_of, ReadingMarks}
-use Rattle.ucl_steps.specs.Marking.{step_of, IsInCast, IsAtRest, NoneOwn, entry_by, history_after, point_of, Leaves, IsMadeBySteps}
+use Rattle.ucl_board.specs.Log.{AccessKind, Access}
+use Rattle.ucl_steps.specs.Trails.{LookRefused, SwapMissed, SwapWon, Does, IsFoundIn, Follows, IsCollect, IsUnclean, accesses_of, ReadingAccesses}
+use Rattle.ucl_steps.specs.CallRuns.{step_of, IsInCast, IsAtRest, NoneOwn, entry_by, history_after, point_of, Leaves, IsMadeBySteps}
 use Rattle.ucl_steps.proofs.Lists.{get_some, take_one}
 use Rattle.ucl_steps.proofs.Histories.{number_expected, legal_beginning, legal_snoc, number_is, match_next, read_back, board_next, board_none, version_is}
-use Rattle.ucl_steps.proofs.Changing.{change_at_here}
+use Rattle.ucl_steps.proofs.ChangedLists.{change_at_here}
 use Rattle.ucl_steps.proofs.Callers.{same_caller, held_here, held_else}
-use Rattle.ucl_steps.proofs.Marks.{found_shorter, none_of_ok, follows_ends, found_record, clean_shows, follows_parts}
-use Rattle.ucl_steps.proofs.Walking.{steps_append, Entered, entered, Reaches, reaches_none, reaches_on, reaches_own, Amid, until}
-use Rattle.ucl_steps.proofs.Joining.{Frame, frame_replied, Made, reaches_made, Through, through_append, end_of, follows_rest, amid_replied, now, there, made, walk, steps_of}
+use Rattle.ucl_steps.proofs.Accesses.{found_shorter, none_of_ok, follows_ends, found_record, clean_shows, follows_parts}
+use Rattle.ucl_steps.proofs.JoinedRuns.{steps_append, Entered, entered, Reaches, reaches_none, reaches_on, reaches_own, Amid, until}
+use Rattle.ucl_steps.proofs.CallsAsSteps.{Frame, frame_replied, Made, reaches_made, Through, through_append, end_of, follows_rest, amid_replied, now, there, made, walk, steps_of}
 
--- the marks of a reading
+-- the accesses of a reading
 
-found_at : (ms : List Mark) (j : ℕ) (m : Mark) → slice_get ms j ≡ Some m → slice_index (map (λ (z : Mark). z.found) ms) j ≡ m.found
+found_at : (ms : List Access) (j : ℕ) (m : Access) → slice_get ms j ≡ Some m → slice_index (map (λ (z : Access). z.found) ms) j ≡ m.found
 found_at [] j m e = absurd (none-some m e)
-found_at (n ∷ ms) zero m e = ap (λ (z : Mark). z.found) (same_Some n m e)
+found_at (n ∷ ms) zero m e = ap (λ (z : Access). z.found) (same_Some n m e)
 found_at (n ∷ ms) (suc j) m e = found_at ms j m e
 
-end_last : (n : ℕ) (ms : List Mark) (j : ℕ) (m : Mark) → slice_get ms j ≡ Some m → j + 1 ≡ length ms → end_of n ms ≡ m.at
+end_last : (n : ℕ) (ms : List Access) (j : ℕ) (m : Access) → slice_get ms j ≡ Some m → j + 1 ≡ length ms → end_of n ms ≡ m.at
 end_last n [] j m e last = absurd (none-some m e)
-end_last n (x ∷ []) zero m e last = ap (λ (z : Mark). z.at) (same_Some x m e)
+end_last n (x ∷ []) zero m e last = ap (λ (z : Access). z.at) (same_Some x m e)
 end_last n (x ∷ []) (suc j) m e last = absurd (none-some m e)
 end_last n (x ∷ y ∷ ms) zero m e last = absurd (omega arith)
 end_last n (x ∷ y ∷ ms) (suc j) m e last = end_last x.at (y ∷ ms) j m e (omega arith)
 
-last_of : (ms : List Mark) (n : ℕ) → length ms ≡ suc n → (init : List Mark) × (m : Mark) × (ms ≡ init ++ m ∷ [])
+last_of : (ms : List Access) (n : ℕ) → length ms ≡ suc n → (init : List Access) × (m : Access) × (ms ≡ init ++ m ∷ [])
 last_of [] n e = absurd (omega arith)
 last_of (m ∷ []) n e = ([], m, refl)
-last_of (m ∷ x ∷ ms) n e = let t = last_of (x ∷ ms) (length ms) refl in (m ∷ t.0, t.1, ap (λ (z : List Mark). m ∷ z) t.2)
+last_of (m ∷ x ∷ ms) n e = let t = last_of (x ∷ ms) (length ms) refl in (m ∷ t.0, t.1, ap (λ (z : List Access). m ∷ z) t.2)
 
 module _ (c : Caller) (k : ℕ) where
-  firsts_lead : (ms : List Mark) (got : List ℕ) (n : ℕ) → length got + length ms ≡ 12 → 0 < length ms → ((j : ℕ) (m : Mark) → slice_get ms j ≡ Some m → Does trail.First (length got + j + 1) m)
-      → Through c (Collecting k got) ms (Checking k (got ++ map (λ (m : Mark). m.found) ms) 0 (end_of n ms))
+  firsts_lead : (ms : List Access) (got : List ℕ) (n : ℕ) → length got + length ms ≡ 12 → 0 < length ms → ((j : ℕ) (m : Access) → slice_get ms j ≡ Some m → Does trail.First (length got + j + 1) m)
+      → Through c (Collecting k got) ms (Checking k (got ++ map (λ (m : Access). m.found) ms) 0 (end_of n ms))
   firsts_lead [] got n twelve some does = absurd (omega arith)
   firsts_lead (m ∷ []) got n twelve some does =
       let d = does 0 m refl in
@@ -83,10 +83,10 @@ module _ (c : Caller) (k : ℕ) where
       let rest = firsts_lead (x ∷ ms) words m.at (omega arith) (omega arith) (λ j y e. let u = does (suc j) y e in (u.0, u.1 ∙ omega arith)) in (
         Collecting k words,
         (omega arith, (d.0, d.1 ∙ omega arith), sym (ap (λ (b : Bool). cond b (Checking k words 0 m.at) (Collecting k words)) (ne_eqb (length words) 12 more))),
-        subst (λ (z : List ℕ). Through c (Collecting k words) (x ∷ ms) (Checking k z 0 (end_of m.at (x ∷ ms)))) (append_assoc got (m.found ∷ []) (map (λ (z : Mark). z.found) (x ∷ ms))) rest,
+        subst (λ (z : List ℕ). Through c (Collecting k words) (x ∷ ms) (Checking k z 0 (end_of m.at (x ∷ ms)))) (append_assoc got (m.found ∷ []) (map (λ (z : Access). z.found) (x ∷ ms))) rest,
       )
 
-  equal_lead : (ms : List Mark) (words : List ℕ) (i e point : ℕ) → e ≡ i + length ms → e ≤ 11 → ((j : ℕ) (m : Mark) → slice_get ms j ≡ Some m → Does trail.Second (i + j + 1) m × (m.found ≡ slice_index words (i + j)))
+  equal_lead : (ms : List Access) (words : List ℕ) (i e point : ℕ) → e ≡ i + length ms → e ≤ 11 → ((j : ℕ) (m : Access) → slice_get ms j ≡ Some m → Does trail.Second (i + j + 1) m × (m.found ≡ slice_index words (i + j)))
       → Through c (Checking k words i point) ms (Checking k words e point)
   equal_lead [] words i e point end few does = ap (λ (z : ℕ). Checking k words z point) (omega arith)
   equal_lead (m ∷ ms) words i e point end few does =
@@ -98,9 +98,9 @@ module _ (c : Caller) (k : ℕ) where
       )
 
   -- the words of the Firsts
-  module _ (words : List ℕ) (firsts : List Mark) (twelve : length firsts ≡ 12) (collected : IsCollect trail.First words firsts) where
+  module _ (words : List ℕ) (firsts : List Access) (twelve : length firsts ≡ 12) (collected : IsCollect trail.First words firsts) where
     abbrev loaded : List ℕ
-    loaded = map (λ (m : Mark). m.found) firsts
+    loaded = map (λ (m : Access). m.found) firsts
 
     loaded_at : (j : ℕ) → j < 12 → slice_index loaded j ≡ slice_index words j
     loaded_at j few = let t = get_some firsts j (omega arith) in found_at firsts j t.0 t.1 ∙ (collected j t.0 t.1).1
@@ -108,19 +108,19 @@ module _ (c : Caller) (k : ℕ) where
     collect_leads : (n : ℕ) → Through c (Collecting k []) firsts (Checking k loaded 0 (end_of n firsts))
     collect_leads n = firsts_lead firsts [] n (omega arith) (omega arith) (λ j m e. let d = collected j m e in (d.0.0, d.0.1 ∙ omega arith))
 
-    again_leads : (ms : List Mark) (e point : ℕ) → e ≡ length ms → e ≤ 11 → IsCollect trail.Second words ms → Through c (Checking k loaded 0 point) ms (Checking k loaded e point)
+    again_leads : (ms : List Access) (e point : ℕ) → e ≡ length ms → e ≤ 11 → IsCollect trail.Second words ms → Through c (Checking k loaded 0 point) ms (Checking k loaded e point)
     again_leads ms e point long few again = equal_lead ms loaded 0 e point (omega arith) few (λ j m at.
         let d = again j m at in
         let below = get_below ms j m at in
         let same : 0 + j ≡ j = omega arith in
         ((d.0.0, d.0.1 ∙ omega arith), d.1 ∙ (sym (loaded_at j (omega arith)) ∙ ap (slice_index loaded) (sym same))))
       where
-        get_below : (xs : List Mark) (j : ℕ) (m : Mark) → slice_get xs j ≡ Some m → j < length xs
+        get_below : (xs : List Access) (j : ℕ) (m : Access) → slice_get xs j ≡ Some m → j < length xs
         get_below [] j m e = absurd (none-some m e)
         get_below (x ∷ xs) zero m e = omega arith
         get_below (x ∷ xs) (suc j) m e = let l = get_below xs j m e in omega arith
 
-  try_leads : (ms : List Mark) (n : ℕ) → IsUnclean ms → Through c (Collecting k []) ms (Collecting k [])
+  try_leads : (ms : List Access) (n : ℕ) → IsUnclean ms → Through c (Collecting k []) ms (Collecting k [])
   try_leads ms n try =
       let b = try.broken in
       let few = b.few in
@@ -129,18 +129,18 @@ module _ (c : Caller) (k : ℕ) where
       let p = end_of n try.firsts in
       let one = collect_leads try.words try.firsts try.twelve try.collected n in
       let two = again_leads try.words try.firsts try.twelve try.collected b.equal e p refl (omega arith) b.again in
-      let three : Through c (Checking k ws e p) (b.last ∷ []) (Collecting k []) = (Collecting k [], (omega arith, b.act, inr (λ z. b.differs (z ∙ loaded_at try.words try.firsts try.twelve try.collected e (omega arith)), refl)), refl) in
-      subst (λ (z : List Mark). Through c (Collecting k []) z (Collecting k [])) (sym (try.marks ∙ ap (λ (z : List Mark). try.firsts ++ z) b.marks))
+      let three : Through c (Checking k ws e p) (b.last ∷ []) (Collecting k []) = (Collecting k [], (omega arith, b.kind, inr (λ z. b.differs (z ∙ loaded_at try.words try.firsts try.twelve try.collected e (omega arith)), refl)), refl) in
+      subst (λ (z : List Access). Through c (Collecting k []) z (Collecting k [])) (sym (try.accesses ∙ ap (λ (z : List Access). try.firsts ++ z) b.accesses))
       (through_append c (Collecting k []) (Checking k ws 0 p) (Collecting k []) try.firsts (b.equal ++ b.last ∷ []) one (through_append c (Checking k ws 0 p) (Checking k ws e p) (Collecting k []) b.equal (b.last ∷ []) two three))
 
-  tries_lead : (tries : List (List Mark)) (n : ℕ) → AllByRecursion IsUnclean tries → Through c (Collecting k []) (marks_of tries) (Collecting k [])
+  tries_lead : (tries : List (List Access)) (n : ℕ) → AllByRecursion IsUnclean tries → Through c (Collecting k []) (accesses_of tries) (Collecting k [])
   tries_lead [] n all = refl
-  tries_lead (ms ∷ tries) n all = through_append c (Collecting k []) (Collecting k []) (Collecting k []) ms (marks_of tries) (try_leads ms n all.0) (tries_lead tries n all.1)
+  tries_lead (ms ∷ tries) n all = through_append c (Collecting k []) (Collecting k []) (Collecting k []) ms (accesses_of tries) (try_leads ms n all.0) (tries_lead tries n all.1)
 
--- the marks of a reading lead to the last Second, which finds again the twelfth word
-pub record ReadingPath (c : Caller) (k : ℕ) (reading : board.Reading) (ms : List Mark) : Type 0 where
-  pub init : List Mark
-  pub last : Mark
+-- the accesses of a reading lead to the last Second, which finds again the twelfth word
+pub record ReadingPath (c : Caller) (k : ℕ) (reading : board.Reading) (ms : List Access) : Type 0 where
+  pub init : List Access
+  pub last : Access
   pub split : ms ≡ init ++ last ∷ []
   pub words : List ℕ
   pub point : ℕ
@@ -150,9 +150,9 @@ pub record ReadingPath (c : Caller) (k : ℕ) (reading : board.Reading) (ms : Li
   pub board_is : reading.board ≡ words
   pub point_is : point ≡ reading.version
 
-pub reading_path : (c : Caller) (k : ℕ) (reading : board.Reading) (ms : List Mark) → ReadingMarks reading ms → ReadingPath c k reading ms
-reading_path c k reading ms marks =
-    let clean = marks.clean in
+pub reading_path : (c : Caller) (k : ℕ) (reading : board.Reading) (ms : List Access) → ReadingAccesses reading ms → ReadingPath c k reading ms
+reading_path c k reading ms accesses =
+    let clean = accesses.clean in
     let firsts = clean.firsts in
     let twelve = clean.twelve.1 in
     let twelve' = clean.twelve.2 in
@@ -163,28 +163,28 @@ reading_path c k reading ms marks =
     let ws = loaded c k reading.board firsts clean.twelve.1 clean.collected in
     let p = end_of 0 firsts in
     let last_first = get_some firsts 11 (omega arith) in
-    let board_is : reading.board ≡ ws = ext_get_or 0 reading.board ws (clean.twelve.0 ∙ (sym clean.twelve.1 ∙ sym (length-map firsts (λ (z : Mark). z.found))))
+    let board_is : reading.board ≡ ws = ext_get_or 0 reading.board ws (clean.twelve.0 ∙ (sym clean.twelve.1 ∙ sym (length-map firsts (λ (z : Access). z.found))))
     (λ j l. let few = clean.twelve.0 in sym (loaded_at c k reading.board firsts clean.twelve.1 clean.collected j (omega arith))) in
-    let at_m : slice_get clean.seconds 11 ≡ Some m = ap (λ (z : List Mark). slice_get z 11) cut.2 ∙ (ap (slice_get (again ++ m ∷ [])) (sym eleven) ∙ at_end again m) in
+    let at_m : slice_get clean.seconds 11 ≡ Some m = ap (λ (z : List Access). slice_get z 11) cut.2 ∙ (ap (slice_get (again ++ m ∷ [])) (sym eleven) ∙ at_end again m) in
     let is_m = clean.again 11 m at_m in
     record {
-      init = marks_of marks.tries ++ (firsts ++ again);
+      init = accesses_of accesses.tries ++ (firsts ++ again);
       last = m;
-      split = marks.marks ∙ (ap (λ (z : List Mark). marks_of marks.tries ++ z) (clean.marks ∙ (ap (λ (z : List Mark). firsts ++ z) cut.2 ∙ sym (append_assoc firsts again (m ∷ []))))
-          ∙ sym (append_assoc (marks_of marks.tries) (firsts ++ again) (m ∷ [])));
+      split = accesses.accesses ∙ (ap (λ (z : List Access). accesses_of accesses.tries ++ z) (clean.accesses ∙ (ap (λ (z : List Access). firsts ++ z) cut.2 ∙ sym (append_assoc firsts again (m ∷ []))))
+          ∙ sym (append_assoc (accesses_of accesses.tries) (firsts ++ again) (m ∷ [])));
       words = ws;
       point = p;
-      through = through_append c (Collecting k []) (Collecting k []) (Checking k ws 11 p) (marks_of marks.tries) (firsts ++ again) (tries_lead c k marks.tries 0 marks.unclean)
+      through = through_append c (Collecting k []) (Collecting k []) (Checking k ws 11 p) (accesses_of accesses.tries) (firsts ++ again) (tries_lead c k accesses.tries 0 accesses.unclean)
           (through_append c (Collecting k []) (Checking k ws 0 p) (Checking k ws 11 p) firsts again (collect_leads c k reading.board firsts clean.twelve.1 clean.collected 0)
-          (again_leads c k reading.board firsts clean.twelve.1 clean.collected again 11 p (sym eleven) (omega arith) (λ j x at. clean.again j x (ap (λ (z : List Mark). slice_get z j) cut.2 ∙ at_longer again (m ∷ []) j x at))));
+          (again_leads c k reading.board firsts clean.twelve.1 clean.collected again 11 p (sym eleven) (omega arith) (λ j x at. clean.again j x (ap (λ (z : List Access). slice_get z j) cut.2 ∙ at_longer again (m ∷ []) j x at))));
       does = is_m.0;
       same = is_m.1 ∙ ap (λ (z : List ℕ). slice_index z 11) board_is;
       board_is = board_is;
       point_is = end_last 0 firsts 11 last_first.0 last_first.1 (omega arith) ∙ clean.version last_first.0 last_first.1;
     }
 
--- a call's last step: it leaves its mark, and the call has the reply
-abbrev pub Finishes : Cast → Caller → ℕ → CallRecord → List Entry → Holds → Mark → Call → Reply → ℕ → Type 0
+-- a call's last step: it leaves its access, and the call has the reply
+abbrev pub Finishes : Cast → Caller → ℕ → CallRecord → List Entry → Holds → Access → Call → Reply → ℕ → Type 0
 Finishes cast c k a h y m call reply point = (w : MachineState) → Amid cast c k a y (take m.at h) w
     → (w' : MachineState) × Made c k w m w' × Amid cast c k (with_reply point reply a) (Answered k) (history_after c call reply (take m.at h)) w'
 
@@ -208,7 +208,7 @@ number_after : (m : MatchRecord) (r : ℕ) (k : Kind) → (after m r k).number �
 unfolding after
 number_after m r k = refl
 
-module _ (cast : Cast) (r k : ℕ) (a : CallRecord) (h : List Entry) (e : EventCall) (game : IsMatch e.game) (m : Mark) (within : m.at ≤ length h) (found : IsFoundIn h m) where
+module _ (cast : Cast) (r k : ℕ) (a : CallRecord) (h : List Entry) (e : EventCall) (game : IsMatch e.game) (m : Access) (within : m.at ≤ length h) (found : IsFoundIn h m) where
   abbrev me : Caller
   me = Reporter r
 
@@ -287,7 +287,7 @@ module _ (cast : Cast) (r k : ℕ) (a : CallRecord) (h : List Entry) (e : EventC
       )
 
 -- the last Second of a clean try
-pub copied : (cast : Cast) (c : Caller) (k : ℕ) (a : CallRecord) (h : List Entry) (m : Mark) (within : m.at ≤ length h) (found : IsFoundIn h m) (words : List ℕ) (point : ℕ) (reading : board.Reading)
+pub copied : (cast : Cast) (c : Caller) (k : ℕ) (a : CallRecord) (h : List Entry) (m : Access) (within : m.at ≤ length h) (found : IsFoundIn h m) (words : List ℕ) (point : ℕ) (reading : board.Reading)
     → Does trail.Second 12 m → m.found ≡ slice_index words 11 → reading.board ≡ words → reading.version ≡ version_of words → Finishes cast c k a h (Checking k words 11 point) m Reading (Copied reading) point
 copied cast c k a h m within found words point reading does same board_is version_is w amid =
     let game : IsMatch 12 = (omega arith, omega arith) in
@@ -304,10 +304,10 @@ copied cast c k a h m within found words point reading does same board_is versio
       amid_replied cast c k a (Checking k words 11 point) (take m.at h) (take m.at h) w w point (Copied reading) amid refl refl amid.history_is amid.words_are,
     )
 
--- the marks of a call lead to its last one, which finishes it
-pub record Plan (cast : Cast) (c : Caller) (call : Call) (reply : Reply) (ms : List Mark) (h : List Entry) (k : ℕ) (a : CallRecord) : Type 0 where
-  pub init : List Mark
-  pub last : Mark
+-- the accesses of a call lead to its last one, which finishes it
+pub record Plan (cast : Cast) (c : Caller) (call : Call) (reply : Reply) (ms : List Access) (h : List Entry) (k : ℕ) (a : CallRecord) : Type 0 where
+  pub init : List Access
+  pub last : Access
   pub split : ms ≡ init ++ last ∷ []
   pub holds : Holds
   pub through : Through c (held_at_begin call k) init holds
@@ -361,8 +361,8 @@ module _ (cast : Cast) (full : cast.reporters ≡ 255) (c : Caller) (call : Call
   rest_of k a x n w (Copied reading) le within whole amid =
       let t = until cast full c k a x h legal low none n (length h) w le within (le_refl (length h)) amid in (t.0, t.1, subst (λ (z : List Entry). Amid cast c k a x z t.0) (take-length h) t.2)
 
-  -- a call whose marks lead to its last one
-  module _ (ms : List Mark) (follows : Follows h low ms (length h)) (w : MachineState) (rest : IsAtRest cast (take low h) w) (inside : IsInCast cast c) (may : may_begin c call ≡ true) where
+  -- a call whose accesses lead to its last one
+  module _ (ms : List Access) (follows : Follows h low ms (length h)) (w : MachineState) (rest : IsAtRest cast (take low h) w) (inside : IsInCast cast c) (may : may_begin c call ≡ true) where
     abbrev place : ℕ
     place = length w.calls
 
@@ -378,8 +378,8 @@ module _ (cast : Cast) (full : cast.reporters ≡ 255) (c : Caller) (call : Call
         let through = plan.through in
         let finishes = plan.finishes in
         let whole = plan.whole in
-        let parts = follows_rest h low (length h) init (m ∷ []) (subst (λ (z : List Mark). Follows h low z (length h)) split follows) in
-        let f_init = follows_front h low (length h) init (m ∷ []) (subst (λ (z : List Mark). Follows h low z (length h)) split follows) in
+        let parts = follows_rest h low (length h) init (m ∷ []) (subst (λ (z : List Access). Follows h low z (length h)) split follows) in
+        let f_init = follows_front h low (length h) init (m ∷ []) (subst (λ (z : List Access). Follows h low z (length h)) split follows) in
         let to_m = parts.1.0 in
         let low_ok = parts.0 in
         let within = parts.1.2 in
@@ -392,7 +392,7 @@ module _ (cast : Cast) (full : cast.reporters ≡ 255) (c : Caller) (call : Call
         let five = rest_of place answered (Answered place) m.at four.0 reply (omega arith) within whole four.2 in
         let six = finish cast c place answered (history_after c call reply h) five.0 five.2 in
         let w6 = after_end c place five.0 in
-        let step = step_of c m.act in
+        let step = step_of c m.kind in
         let whole_run = reaches_on c w w1 w6 (Begin c call ∷ []) (steps_of c init ++ step ∷ End c ∷ []) [] (init ++ m ∷ []) one.0
         (reaches_on c w1 two.0 w6 (steps_of c init) (step ∷ End c ∷ []) init (m ∷ []) two.1 (reaches_on c two.0 three.0 w6 [] (step ∷ End c ∷ []) [] (m ∷ []) three.1
         (reaches_on c three.0 four.0 w6 (step ∷ []) (End c ∷ []) (m ∷ []) [] (reaches_made c place three.0 m four.0 four.1) (reaches_on c four.0 five.0 w6 [] (End c ∷ []) [] [] five.1 six.0)))) in
@@ -401,13 +401,13 @@ module _ (cast : Cast) (full : cast.reporters ≡ 255) (c : Caller) (call : Call
           last = w6;
           run = whole_run.run;
           own = whole_run.own_is ∙ ap (λ (z : List Step). Begin c call ∷ z)
-              (sym (append_assoc (steps_of c init) (step ∷ []) (End c ∷ [])) ∙ ap (λ (z : List Step). z ++ End c ∷ []) (sym (ap (steps_of c) split ∙ map-append (λ (z : Mark). step_of c z.act) init (m ∷ []))));
-          marks = whole_run.marks_are ∙ sym split;
+              (sym (append_assoc (steps_of c init) (step ∷ []) (End c ∷ [])) ∙ ap (λ (z : List Step). z ++ End c ∷ []) (sym (ap (steps_of c) split ∙ map-append (λ (z : Access). step_of c z.kind) init (m ∷ []))));
+          accesses = whole_run.accesses_are ∙ sym split;
           rest = six.1;
           answered = six.2;
         }
       where
-        follows_front : (h : List Entry) (n high : ℕ) (ms ns : List Mark) → Follows h n (ms ++ ns) high → Follows h n ms high
+        follows_front : (h : List Entry) (n high : ℕ) (ms ns : List Access) → Follows h n (ms ++ ns) high → Follows h n ms high
         follows_front h n high [] ns f = follows_ends h n high ns f
         follows_front h n high (m ∷ ms) ns f = (f.0, f.1, follows_front h m.at high ms ns f.2)
 
@@ -478,14 +478,14 @@ not_accepted : (reply : Reply) (h : List Entry) (n : ℕ) → is_accepted (Some 
 not_accepted reply h n other accepted is = absurd (false≢true (sym other ∙ ap (λ (z : Reply). is_accepted (Some z)) is))
 
 module _ (cast : Cast) (k : ℕ) (a : CallRecord) (h : List Entry) (legal : IsLegal h) (low : ℕ) where
-  plan_accepted : (r : ℕ) (e : EventCall) (reply : word.Accepted) (ms : List Mark) → 1 ≤ r → may_begin (Reporter r) (Event e) ≡ true → Follows h low ms (length h)
+  plan_accepted : (r : ℕ) (e : EventCall) (reply : word.Accepted) (ms : List Access) → 1 ≤ r → may_begin (Reporter r) (Event e) ≡ true → Follows h low ms (length h)
       → SwapWon e reply ms (length (history_after (Reporter r) (Event e) (Accepted reply) h)) → Plan cast (Reporter r) (Event e) (Accepted reply) ms h k a
   plan_accepted r e reply ms positive may follows won =
       let c : Caller = Reporter r in
       let game = event_game r e may in
       let looked = won.looked in
       let m = won.swapped in
-      let t : Follows h low (looked ∷ m ∷ []) (length h) = subst (λ (z : List Mark). Follows h low z (length h)) won.marks follows in
+      let t : Follows h low (looked ∷ m ∷ []) (length h) = subst (λ (z : List Access). Follows h low z (length h)) won.accesses follows in
       let holding : ℕ → Holds = λ z. Holding k e z (word_of (after (record_at z) r e.kind)) in
       let last = won.last in
       let long = length_push h (entry_of (r, e)) in
@@ -494,7 +494,7 @@ module _ (cast : Cast) (k : ℕ) (a : CallRecord) (h : List Entry) (legal : IsLe
       record {
         init = looked ∷ [];
         last = m;
-        split = won.marks;
+        split = won.accesses;
         holds = holding m.found;
         through = (holding m.found, (game, won.acts.0, ok.0, ap holding won.same), refl);
         finishes = subst (Finishes cast c k a h (holding m.found) m (Event e) (Accepted reply)) at_end
@@ -502,21 +502,21 @@ module _ (cast : Cast) (k : ℕ) (a : CallRecord) (h : List Entry) (legal : IsLe
         whole = λ accepted is. at_end;
       }
 
-  plan_refused : (r : ℕ) (e : EventCall) (refusal : Refusal) (ms : List Mark) → may_begin (Reporter r) (Event e) ≡ true → Follows h low ms (length h)
+  plan_refused : (r : ℕ) (e : EventCall) (refusal : Refusal) (ms : List Access) → may_begin (Reporter r) (Event e) ≡ true → Follows h low ms (length h)
       → LookRefused e refusal ms (length h) ⊎ SwapMissed e refusal ms (length h) → Plan cast (Reporter r) (Event e) (Refused refusal) ms h k a
   plan_refused r e refusal ms may follows (inl refused) =
       let c : Caller = Reporter r in
       let game = event_game r e may in
       let m = refused.looked in
-      let t : Follows h low (m ∷ []) (length h) = subst (λ (z : List Mark). Follows h low z (length h)) refused.marks follows in
+      let t : Follows h low (m ∷ []) (length h) = subst (λ (z : List Access). Follows h low z (length h)) refused.accesses follows in
       record {
         init = [];
         last = m;
-        split = refused.marks;
+        split = refused.accesses;
         holds = Wanting k e;
         through = refl;
         finishes = subst (Finishes cast c k a h (Wanting k e) m (Event e) (Refused refusal)) refused.last
-            (look_refused cast r k a h e game m t.2 t.1 refusal refused.act (some_of (record_at m.found).number (refusal_of (record_at m.found) e.expected e.kind) refusal refused.answer));
+            (look_refused cast r k a h e game m t.2 t.1 refusal refused.kind (some_of (record_at m.found).number (refusal_of (record_at m.found) e.expected e.kind) refusal refused.answer));
         whole = not_accepted (Refused refusal) h m.at refl;
       }
   plan_refused r e refusal ms may follows (inr missed) =
@@ -524,14 +524,14 @@ module _ (cast : Cast) (k : ℕ) (a : CallRecord) (h : List Entry) (legal : IsLe
       let game = event_game r e may in
       let looked = missed.looked in
       let m = missed.swapped in
-      let t : Follows h low (looked ∷ m ∷ []) (length h) = subst (λ (z : List Mark). Follows h low z (length h)) missed.marks follows in
+      let t : Follows h low (looked ∷ m ∷ []) (length h) = subst (λ (z : List Access). Follows h low z (length h)) missed.accesses follows in
       let old = looked.found in
       let new = word_of (after (record_at old) r e.kind) in
       let ok = none_of_ok (record_at old).number (refusal_of (record_at old) e.expected e.kind) missed.may in
       record {
         init = looked ∷ [];
         last = m;
-        split = missed.marks;
+        split = missed.accesses;
         holds = Holding k e old new;
         through = (Holding k e old new, (game, missed.acts.0, ok, refl), refl);
         finishes = subst (Finishes cast c k a h (Holding k e old new) m (Event e) (Refused refusal)) missed.last
@@ -539,15 +539,15 @@ module _ (cast : Cast) (k : ℕ) (a : CallRecord) (h : List Entry) (legal : IsLe
         whole = not_accepted (Refused refusal) h m.at refl;
       }
 
-  plan_reading : (c : Caller) (reading : board.Reading) (ms : List Mark) → Follows h low ms (length h) → ReadingMarks reading ms → Plan cast c Reading (Copied reading) ms h k a
-  plan_reading c reading ms follows marks =
-      let path = reading_path c k reading ms marks in
-      let parts = follows_parts h low (length h) (marks_of marks.tries) marks.last (subst (λ (z : List Mark). Follows h low z (length h)) marks.marks follows) in
-      let shows = clean_shows h parts.middle (length h) reading marks.last legal parts.latter marks.clean in
+  plan_reading : (c : Caller) (reading : board.Reading) (ms : List Access) → Follows h low ms (length h) → ReadingAccesses reading ms → Plan cast c Reading (Copied reading) ms h k a
+  plan_reading c reading ms follows accesses =
+      let path = reading_path c k reading ms accesses in
+      let parts = follows_parts h low (length h) (accesses_of accesses.tries) accesses.last (subst (λ (z : List Access). Follows h low z (length h)) accesses.accesses follows) in
+      let shows = clean_shows h parts.middle (length h) reading accesses.last legal parts.latter accesses.clean in
       let v_high = shows.within.1 in
       let version : reading.version ≡ version_of path.words = sym (length-take-le reading.version h v_high)
       ∙ (sym (version_is (take reading.version h) (legal_beginning h reading.version legal)) ∙ ap version_of (sym shows.board ∙ path.board_is)) in
-      let tail = follows_rest h low (length h) path.init (path.last ∷ []) (subst (λ (z : List Mark). Follows h low z (length h)) path.split follows) in
+      let tail = follows_rest h low (length h) path.init (path.last ∷ []) (subst (λ (z : List Access). Follows h low z (length h)) path.split follows) in
       record {
         init = path.init;
         last = path.last;
@@ -559,28 +559,28 @@ module _ (cast : Cast) (k : ℕ) (a : CallRecord) (h : List Entry) (legal : IsLe
         whole = not_accepted (Copied reading) h path.last.at refl;
       }
 
--- an accepted event's marks are within the history before its entry
-accepted_follows : (r : ℕ) (e : EventCall) (reply : word.Accepted) (ms : List Mark) (h : List Entry) (low : ℕ) → Leaves (Reporter r) (Event e) (Accepted reply) ms h low → Follows h low ms (length h)
+-- an accepted event's accesses are within the history before its entry
+accepted_follows : (r : ℕ) (e : EventCall) (reply : word.Accepted) (ms : List Access) (h : List Entry) (low : ℕ) → Leaves (Reporter r) (Event e) (Accepted reply) ms h low → Follows h low ms (length h)
 accepted_follows r e reply ms h low leaves =
     let won = leaves.shape in
     let h' = followed_by h (entry_of (r, e)) in
     let longer : IsPrefix h h' = (entry_of (r, e) ∷ [], refl) in
-    let t : Follows h' low (won.looked ∷ won.swapped ∷ []) (length h') = subst (λ (z : List Mark). Follows h' low z (length h')) won.marks leaves.follows in
+    let t : Follows h' low (won.looked ∷ won.swapped ∷ []) (length h') = subst (λ (z : List Access). Follows h' low z (length h')) won.accesses leaves.follows in
     let last = won.last in
     let long = length_push h (entry_of (r, e)) in
     let middle = t.2.0 in
-    subst (λ (z : List Mark). Follows h low z (length h)) (sym won.marks)
+    subst (λ (z : List Access). Follows h low z (length h)) (sym won.accesses)
     (t.0, found_shorter h h' won.looked longer (omega arith) t.1, (t.2.0, found_shorter h h' won.swapped longer (omega arith) t.2.1, omega arith))
 
--- the marks are within the history before the call's own entry
-pub within_before : (c : Caller) (call : Call) (reply : Reply) (ms : List Mark) (h : List Entry) (low : ℕ) → may_begin c call ≡ true → Leaves c call reply ms h low → Follows h low ms (length h)
+-- the accesses are within the history before the call's own entry
+pub within_before : (c : Caller) (call : Call) (reply : Reply) (ms : List Access) (h : List Entry) (low : ℕ) → may_begin c call ≡ true → Leaves c call reply ms h low → Follows h low ms (length h)
 within_before (Reporter r) (Event e) (Accepted reply) ms h low may leaves = accepted_follows r e reply ms h low leaves
 within_before (Reader n) (Event e) (Accepted reply) ms h low may leaves = absurd (false≢true may)
 within_before c Reading (Accepted reply) ms h low may leaves = absurd leaves.shape
 within_before c call (Refused refusal) ms h low may leaves = leaves.follows
 within_before c call (Copied reading) ms h low may leaves = leaves.follows
 
-pub planned : (cast : Cast) (c : Caller) (call : Call) (reply : Reply) (ms : List Mark) (h : List Entry) (low k : ℕ) (a : CallRecord) (whole : Cast) → IsInCast whole c → may_begin c call ≡ true → IsLegal h → Leaves c call reply ms h low → Plan cast c call reply ms h k a
+pub planned : (cast : Cast) (c : Caller) (call : Call) (reply : Reply) (ms : List Access) (h : List Entry) (low k : ℕ) (a : CallRecord) (whole : Cast) → IsInCast whole c → may_begin c call ≡ true → IsLegal h → Leaves c call reply ms h low → Plan cast c call reply ms h k a
 planned cast (Reporter r) (Event e) (Accepted reply) ms h low k a whole inside may legal leaves = plan_accepted cast k a h legal low r e reply ms inside.0 may (accepted_follows r e reply ms h low leaves) leaves.shape
 planned cast (Reporter r) (Event e) (Refused refusal) ms h low k a whole inside may legal leaves = plan_refused cast k a h legal low r e refusal ms may leaves.follows leaves.shape
 planned cast (Reporter r) (Event e) (Copied reading) ms h low k a whole inside may legal leaves = absurd leaves.shape

@@ -15,7 +15,7 @@ use Rattle.ucl_steps.specs.declared.trace.Reply.{Reply}
 use Rattle.ucl_steps.specs.declared.trace.Reply.TheVariants.{Accepted, Refused, Copied}
 use Rattle.ucl_steps.specs.declared.trace.CallRecord.{CallRecord}
 use Rattle.ucl_steps.specs.Linearizable.{PointWithinCall, IsDecided, IsEntry, AcceptedIsEntry, IsRefused, RefusedAtPoint, ReadingIsSnapshot}
-use Rattle.ucl_steps.proofs.Explaining.{IsSequential, IsExplained}
+use Rattle.ucl_steps.proofs.Explanations.{IsSequential, IsExplained}
 
 if_below : (o : Option ℕ) (k : ℕ) → IfSome o (λ n. k < n) → IfSome o (λ n. k ≤ n)
 if_below None k l = tt

@@ -10,9 +10,9 @@ use Rattle.ucl_word.specs.Record.{scheduled, last_in_play}
 use Rattle.ucl_word.specs.Rules.{is_scheduled, is_in_play, is_finished, is_kick_off, is_full_time, is_reopen, lacks_goal, lacks_caution, passes_limit, first_of, refusal_of, after}
 use Rattle.ucl_word.specs.Counts.{counted_match}
 use Rattle.ucl_word.specs.Layout.{word_of, record_at}
-use Rattle.ucl_word.proofs.Accepting.{accepts}
+use Rattle.ucl_word.proofs.AcceptedEvents.{accepts}
 use Rattle.ucl_word.proofs.Sequences.{may_none, may_next, may_begin}
-use Rattle.ucl_word.proofs.Counting.{legal_balanced, legal_case, record_next, number_of_count}
+use Rattle.ucl_word.proofs.EntryCounts.{legal_balanced, legal_case, record_next, number_of_count}
 use Rattle.ucl_word.proofs.Words.{record_back}
 use Rattle.ucl_board.specs.declared.entry.Entry.{Entry}
 use Rattle.ucl_board.specs.Fixtures.{IsMatch}

@@ -8,17 +8,17 @@ use Rattle.std.proofs.Math.Seq.{take-append_seam}
 use Rattle.ucl_word.specs.Layout.{word_of}
 use Rattle.ucl_board.specs.declared.entry.Entry.{Entry}
 use Rattle.ucl_board.specs.History.{match_after, board_of}
-use Rattle.ucl_board.specs.Log.{Act, Mark, mark, Target, Match, Enlisted, Whole, Taken, Log, taken_by, entry_list, history_of, mark_list, MayAdd, MayBeTaken, IsThere, IsLog}
+use Rattle.ucl_board.specs.Log.{AccessKind, Access, access, Target, Match, Enlisted, Whole, Taken, Log, taken_by, entry_list, history_of, access_list, MayAdd, MayBeTaken, IsThere, IsLog}
 use Rattle.ucl_steps.specs.declared.step.Cast.{Cast}
 use Rattle.ucl_steps.specs.declared.step.Caller.{Caller}
 use Rattle.ucl_steps.specs.declared.step.Caller.TheVariants.{Reporter, Reader}
 use Rattle.ucl_steps.specs.declared.step.Step.{Step}
 use Rattle.ucl_steps.specs.Machine.{MachineState, initial_state, after_steps}
-use Rattle.ucl_steps.specs.Marking.{IsInCast}
+use Rattle.ucl_steps.specs.CallRuns.{IsInCast}
 use Rattle.ucl_steps.specs.Linearizable.{IsLinearizable}
 use Rattle.ucl_steps.specs.LogRuns.{Finished, Work, Done, done_list, on_matches, IsFinished, pieces_of, first_piece, other_pieces, without_first, is_on_match, woven, steps_of_log, AreRecordsOf, cast_for, LogsAreRuns}
 use Rattle.ucl_steps.proofs.Lists.{at_middle}
-use Rattle.ucl_steps.proofs.Walking.{steps_append}
+use Rattle.ucl_steps.proofs.JoinedRuns.{steps_append}
 use Rattle.ucl_steps.proofs.Calls.{rest_at_start}
 use Rattle.ucl_steps.proofs.Runs.{linearizable_run, words_of_run}
 use Rattle.ucl_steps.proofs.LogRunsCalls.{IsNow}
@@ -46,13 +46,13 @@ no_entry : (t : Target) (o : Option Entry) → is_on_match t ≡ false → MayAd
 no_entry t None off may = refl
 no_entry t (Some e) off may = absurd (false≢true (sym off ∙ ap is_on_match may.1))
 
-no_mark : (t : Target) (at : ℕ) → is_on_match t ≡ false → mark_list t at ≡ []
-no_mark (Match act game found) at off = absurd (false≢true (sym off))
-no_mark Enlisted at off = refl
-no_mark Whole at off = refl
+no_access : (t : Target) (at : ℕ) → is_on_match t ≡ false → access_list t at ≡ []
+no_access (Match kind game found) at off = absurd (false≢true (sym off))
+no_access Enlisted at off = refl
+no_access Whole at off = refl
 
-on_match : (t : Target) → is_on_match t ≡ true → (act : Act) × (game : ℕ) × (found : ℕ) × (t ≡ Match act game found)
-on_match (Match act game found) on = (act, game, found, refl)
+on_match : (t : Target) → is_on_match t ≡ true → (kind : AccessKind) × (game : ℕ) × (found : ℕ) × (t ≡ Match kind game found)
+on_match (Match kind game found) on = (kind, game, found, refl)
 on_match Enlisted on = absurd (false≢true on)
 on_match Whole on = absurd (false≢true on)
 
@@ -104,7 +104,7 @@ module _ (seats : ℕ) (works : ℕ → Work) (apart : (i j : ℕ) → i < seats
     -- a step on no match word
     next_off : is_on_match x.target ≡ false → Next before (seat, x) xs steps pieces
     next_off off =
-        let none : done_list x ≡ [] = ap (λ (z : List Mark). map (λ (m : Mark). (m, x.entry)) z) (no_mark x.target x.at off) in
+        let none : done_list x ≡ [] = ap (λ (z : List Access). map (λ (m : Access). (m, x.entry)) z) (no_access x.target x.at off) in
         record {
           piece = [];
           others = pieces;
@@ -117,13 +117,13 @@ module _ (seats : ℕ) (works : ℕ → Work) (apart : (i j : ℕ) → i < seats
         }
 
     -- a step on a match word
-    module _ (act : Act) (game found : ℕ) (is : x.target ≡ Match act game found) where
-      abbrev here : Mark
-      here = mark act game found x.at
+    module _ (kind : AccessKind) (game found : ℕ) (is : x.target ≡ Match kind game found) where
+      abbrev here : Access
+      here = access kind game found x.at
 
       now : IsNow w here
       now =
-          let there : IsThere (history_of before) (Match act game found) = subst (IsThere (history_of before)) is may.there in
+          let there : IsThere (history_of before) (Match kind game found) = subst (IsThere (history_of before)) is may.there in
           record { place = may.place ∙ ap length (sym history); found = there.1 ∙ ap (λ (z : List Entry). word_of (match_after z game)) (sym history) }
 
       abbrev mine : Share seat (works seat) ((seat, x) ∷ xs) (pieces seat) w
@@ -134,7 +134,7 @@ module _ (seats : ℕ) (works : ℕ → Work) (apart : (i j : ℕ) → i < seats
 
       turned : (c : Caller) × Turn seat (works seat).number w c (pieces_left seat (works seat).number mine.rest) (mine.done ++ calls_left mine.rest) (entry_list x.entry) (on_matches (taken_by seat xs))
       turned =
-          let listed : done_list x ≡ (here, x.entry) ∷ [] = ap (λ (z : Target). map (λ (m : Mark). (m, x.entry)) (mark_list z x.at)) is in
+          let listed : done_list x ≡ (here, x.entry) ∷ [] = ap (λ (z : Target). map (λ (m : Access). (m, x.entry)) (access_list z x.at)) is in
           let first : (here, x.entry) ∷ on_matches (taken_by seat xs) ≡ done_left (works seat).number mine.rest =
           ap (λ (z : List Done). z ++ on_matches (taken_by seat xs)) (sym listed) ∙ (sym (taken_own seat x xs) ∙ mine.steps_are) in
           turn cast seat (works seat).number steps w run mine.done mine.rest here x.entry (on_matches (taken_by seat xs)) mine.doing now first

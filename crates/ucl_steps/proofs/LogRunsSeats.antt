@@ -8,7 +8,7 @@ use Rattle.std.proofs.lemmas.List.{length_push}
 use Rattle.ucl_word.specs.Record.{IsReporter}
 use Rattle.ucl_word.proofs.Sequences.{at_below, at_longer, at_end}
 use Rattle.ucl_board.specs.declared.entry.Entry.{Entry}
-use Rattle.ucl_board.specs.Log.{Mark, entry_list}
+use Rattle.ucl_board.specs.Log.{Access, entry_list}
 use Rattle.ucl_steps.specs.declared.step.Cast.{Cast}
 use Rattle.ucl_steps.specs.declared.step.Caller.{Caller}
 use Rattle.ucl_steps.specs.declared.step.Caller.TheVariants.{Reporter, Reader}
@@ -18,24 +18,24 @@ use Rattle.ucl_steps.specs.declared.step.Step.{Step}
 use Rattle.ucl_steps.specs.declared.step.Step.TheVariants.{Begin, End}
 use Rattle.ucl_steps.specs.declared.trace.CallRecord.{CallRecord}
 use Rattle.ucl_steps.specs.Machine.{Holds, Idle, Answered, MachineState, initial_state, held_by, with_held, with_reply, with_end, may_begin, held_at_begin, after_begin, after_end, after_step_holding, after_step, after_steps}
-use Rattle.ucl_steps.specs.Marking.{step_of}
-use Rattle.ucl_steps.specs.Together.{first_place, last_place, place_after}
-use Rattle.ucl_steps.specs.LogRuns.{Finished, Begun, Done, entry_made, with_entry, done_by_call, done_so_far, MayAsk, IsFinished, IsBegun, caller_for, begun_by, ended_by, pieces_of_marks, pieces_of_call, pieces_so_far, first_piece, other_pieces, IsRecordOf, AreRecordsOf}
-use Rattle.ucl_steps.proofs.Changing.{change_at_here, change_at_else, length-change_at}
+use Rattle.ucl_steps.specs.CallRuns.{step_of}
+use Rattle.ucl_steps.specs.Interleaving.{first_place, last_place, place_after}
+use Rattle.ucl_steps.specs.LogRuns.{Finished, Begun, Done, entry_made, with_entry, done_by_call, done_so_far, MayAsk, IsFinished, IsBegun, caller_for, begun_by, ended_by, pieces_of_accesses, pieces_of_call, pieces_so_far, first_piece, other_pieces, IsRecordOf, AreRecordsOf}
+use Rattle.ucl_steps.proofs.ChangedLists.{change_at_here, change_at_else, length-change_at}
 use Rattle.ucl_steps.proofs.Callers.{same_caller, held_here, held_else}
-use Rattle.ucl_steps.proofs.Walking.{steps_on, steps_append}
-use Rattle.ucl_steps.proofs.Joining.{Leads, Through, Frame, inner}
+use Rattle.ucl_steps.proofs.JoinedRuns.{steps_on, steps_append}
+use Rattle.ucl_steps.proofs.CallsAsSteps.{Leads, Through, Frame, inner}
 use Rattle.ucl_steps.proofs.Calls.{began}
-use Rattle.ucl_steps.proofs.Scheduling.{nobody, last_at_end}
+use Rattle.ucl_steps.proofs.Schedules.{nobody, last_at_end}
 use Rattle.ucl_steps.proofs.LogRunsCalls.{IsNow, now_within, now_found, now_amid, kept_on_run, Ends, way, way_on, added_by_call, ended_place, may_ask_begin}
 
 -- lists
 
-snoc_some : (xs : List Mark) (x : Mark) → xs ++ x ∷ [] ≢ []
+snoc_some : (xs : List Access) (x : Access) → xs ++ x ∷ [] ≢ []
 snoc_some [] x = λ e. cc
 snoc_some (y ∷ xs) x = λ e. cc
 
-pieces_some : (c : Caller) (ms : List Mark) → ms ≢ [] → pieces_of_marks c ms ≢ []
+pieces_some : (c : Caller) (ms : List Access) → ms ≢ [] → pieces_of_accesses c ms ≢ []
 pieces_some c [] not = λ e. not refl
 pieces_some c (m ∷ ms) not = λ e. cc
 
@@ -60,11 +60,11 @@ ended_more : (s : Step) (p : List Step) (ps : List (List Step)) → ps ≢ [] �
 ended_more s p [] not = absurd (not refl)
 ended_more s p (q ∷ ps) not = refl
 
-with_entry_more : (e : Option Entry) (m : Mark) (ms : List Mark) → ms ≢ [] → with_entry e (m ∷ ms) ≡ (m, None) ∷ with_entry e ms
+with_entry_more : (e : Option Entry) (m : Access) (ms : List Access) → ms ≢ [] → with_entry e (m ∷ ms) ≡ (m, None) ∷ with_entry e ms
 with_entry_more e m [] not = absurd (not refl)
 with_entry_more e m (n ∷ ms) not = refl
 
-with_entry_none : (m : Mark) (ms : List Mark) → with_entry None (m ∷ ms) ≡ (m, None) ∷ with_entry None ms
+with_entry_none : (m : Access) (ms : List Access) → with_entry None (m ∷ ms) ≡ (m, None) ∷ with_entry None ms
 with_entry_none m [] = refl
 with_entry_none m (n ∷ ms) = refl
 
@@ -79,21 +79,21 @@ rest_done (x ∷ xs) = xs
 same_done : (x y : Done) (xs ys : List Done) → x ∷ xs ≡ y ∷ ys → (x.0 ≡ y.0) × (x.1 ≡ y.1) × (xs ≡ ys)
 same_done x y xs ys e = let t : x ≡ y = ap (first_done x) e in (ap (λ (z : Done). z.0) t, ap (λ (z : Done). z.1) t, ap rest_done e)
 
-head_place : (e entry : Option Entry) (ms : List Mark) (m : Mark) (tail rest : List Done) → ms ≢ [] → (m, entry) ∷ tail ≡ with_entry e ms ++ rest → first_place ms ≡ m.at
+head_place : (e entry : Option Entry) (ms : List Access) (m : Access) (tail rest : List Done) → ms ≢ [] → (m, entry) ∷ tail ≡ with_entry e ms ++ rest → first_place ms ≡ m.at
 head_place e entry [] m tail rest not is = absurd (not refl)
-head_place e entry (x ∷ []) m tail rest not is = ap (λ (z : Mark). z.at) (sym (same_done (m, entry) (x, e) tail rest is).0)
-head_place e entry (x ∷ y ∷ ms) m tail rest not is = ap (λ (z : Mark). z.at) (sym (same_done (m, entry) (x, None) tail (with_entry e (y ∷ ms) ++ rest) is).0)
+head_place e entry (x ∷ []) m tail rest not is = ap (λ (z : Access). z.at) (sym (same_done (m, entry) (x, e) tail rest is).0)
+head_place e entry (x ∷ y ∷ ms) m tail rest not is = ap (λ (z : Access). z.at) (sym (same_done (m, entry) (x, None) tail (with_entry e (y ∷ ms) ++ rest) is).0)
 
-pub some_done : (e : Option Entry) (ms : List Mark) (rest : List Done) → ms ≢ [] → [] ≢ with_entry e ms ++ rest
+pub some_done : (e : Option Entry) (ms : List Access) (rest : List Done) → ms ≢ [] → [] ≢ with_entry e ms ++ rest
 some_done e [] rest not = λ is. not refl
 some_done e (m ∷ []) rest not = λ is. cc
 some_done e (m ∷ n ∷ ms) rest not = λ is. cc
 
--- what is left of a pass's calls: calls alone; the marks of a call that was begun, and further calls; the marks of the call that is never finished
+-- what is left of a pass's calls: calls alone; the accesses of a call that was begun, and further calls; the accesses of the call that is never finished
 pub data Rest : Type 0 where
   Waiting : (fs : List Finished) (b : Option Begun) → Rest
-  Within : (f : Finished) (init : List Mark) (last : Mark) (fs : List Finished) (b : Option Begun) → Rest
-  Open : (b : Begun) (left : List Mark) → Rest
+  Within : (f : Finished) (init : List Access) (last : Access) (fs : List Finished) (b : Option Begun) → Rest
+  Open : (b : Begun) (left : List Access) → Rest
 
 abbrev pub done_left : ℕ → Rest → List Done
 done_left number (Waiting fs b) = flat_map (done_by_call number) fs ++ done_so_far b
@@ -103,8 +103,8 @@ done_left number (Open b left) = with_entry None left
 abbrev pub pieces_left : ℕ → ℕ → Rest → List (List Step)
 pieces_left seat number (Waiting fs b) = flat_map (pieces_of_call seat number) fs ++ pieces_so_far seat number b
 pieces_left seat number (Within f init last fs b) =
-    ended_by (End (caller_for seat number f.call)) (pieces_of_marks (caller_for seat number f.call) (init ++ last ∷ [])) ++ (flat_map (pieces_of_call seat number) fs ++ pieces_so_far seat number b)
-pieces_left seat number (Open b left) = pieces_of_marks (caller_for seat number b.call) left
+    ended_by (End (caller_for seat number f.call)) (pieces_of_accesses (caller_for seat number f.call) (init ++ last ∷ [])) ++ (flat_map (pieces_of_call seat number) fs ++ pieces_so_far seat number b)
+pieces_left seat number (Open b left) = pieces_of_accesses (caller_for seat number b.call) left
 
 abbrev pub calls_left : Rest → List Finished
 calls_left (Waiting fs b) = fs
@@ -168,12 +168,12 @@ records_kept calls calls' seat number low (f ∷ fs) high kept r = (r.0, r.1, r.
 abbrev pub Todo : ℕ → List Finished → Option Begun → Type 0
 Todo number fs b = AllByRecursion (IsFinished number) fs × IfSome b (IsBegun number)
 
-pub record FitsWithin (seat number : ℕ) (w : MachineState) (high : ℕ) (f : Finished) (init : List Mark) (last : Mark) : Type 0 where
+pub record FitsWithin (seat number : ℕ) (w : MachineState) (high : ℕ) (f : Finished) (init : List Access) (last : Access) : Type 0 where
   pub is : IsFinished number f
   pub place : ℕ
-  pub at : slice_get w.calls place ≡ Some (began (caller_for seat number f.call) f.call (first_place f.marks))
+  pub at : slice_get w.calls place ≡ Some (began (caller_for seat number f.call) f.call (first_place f.accesses))
   pub low : high ≤ place
-  pub end : last_place f.marks ≡ last.at
+  pub end : last_place f.accesses ≡ last.at
   pub now : Holds
   pub held : held_by w.callers (caller_for seat number f.call) ≡ Some now
   pub holds : Holds
@@ -181,7 +181,7 @@ pub record FitsWithin (seat number : ℕ) (w : MachineState) (high : ℕ) (f : F
   pub ends : Ends (caller_for seat number f.call) place holds last f.call f.reply
   pub others : (d : Caller) → IsOf seat number d → d ≢ caller_for seat number f.call → held_by w.callers d ≡ Some Idle
 
-pub record FitsOpen (seat number : ℕ) (w : MachineState) (b : Begun) (left : List Mark) : Type 0 where
+pub record FitsOpen (seat number : ℕ) (w : MachineState) (b : Begun) (left : List Access) : Type 0 where
   pub may : MayAsk number b.call
   pub place : ℕ
   pub begun : ℕ
@@ -213,7 +213,7 @@ module _ (seat number : ℕ) (c : Caller) (w w' : MachineState) (apart : (d : Ca
         record {
           is = u.is;
           place = u.place;
-          at = passes.calls u.place (began mine f.call (first_place f.marks)) not u.at;
+          at = passes.calls u.place (began mine f.call (first_place f.accesses)) not u.at;
           low = u.low;
           end = u.end;
           now = u.now;
@@ -301,25 +301,25 @@ module _ (seat number : ℕ) (call : Call) (w : MachineState) where
 module _ (cast : Cast) (seat number : ℕ) where
   module _ (steps : List Step) (w : MachineState) (run : after_steps steps (initial_state cast) ≡ Some w) (done : List Finished) where
     -- a step that does not end its call
-    record Inner (c : Caller) (k : ℕ) (m : Mark) (x y : Holds) : Type 0 where
-      one : after_step w (step_of c m.act) ≡ Some (with_held y c w)
+    record Inner (c : Caller) (k : ℕ) (m : Access) (x y : Holds) : Type 0 where
+      one : after_step w (step_of c m.kind) ≡ Some (with_held y c w)
       passes : Passes c w (with_held y c w)
       held : held_by (with_held y c w).callers c ≡ Some y
 
-    goes_on : (c : Caller) (k : ℕ) (a : CallRecord) (m : Mark) (x y : Holds) → IsNow w m → held_by w.callers c ≡ Some x → slice_get w.calls k ≡ Some a → a.caller ≡ c → a.ended ≡ None → Leads c x m y → Inner c k m x y
+    goes_on : (c : Caller) (k : ℕ) (a : CallRecord) (m : Access) (x y : Holds) → IsNow w m → held_by w.callers c ≡ Some x → slice_get w.calls k ≡ Some a → a.caller ≡ c → a.ended ≡ None → Leads c x m y → Inner c k m x y
     goes_on c k a m x y now held at own unended leads =
         let kept = kept_on_run cast steps w run in
         let made = inner nobody c k a w.history m (now_within w m now) (now_found w m now) x w (now_amid c k a x w m kept.words now held at) y leads in
         record { one = made.done; passes = passes_frame c k w (with_held y c w) a made.frame at own unended; held = held_here w.callers c x y held }
 
-    turn_within : (f : Finished) (init : List Mark) (last : Mark) (fs : List Finished) (b : Option Begun) (m : Mark) (entry : Option Entry) (tail : List Done) → Doing seat number w done (Within f init last fs b) → IsNow w m
+    turn_within : (f : Finished) (init : List Access) (last : Access) (fs : List Finished) (b : Option Begun) (m : Access) (entry : Option Entry) (tail : List Done) → Doing seat number w done (Within f init last fs b) → IsNow w m
         → (m, entry) ∷ tail ≡ done_left number (Within f init last fs b) → Turn seat number w (caller_for seat number f.call) (pieces_left seat number (Within f init last fs b)) (done ++ f ∷ fs) (entry_list entry) tail
     turn_within f [] last fs b m entry tail doing now is =
         let c = caller_for seat number f.call in
         let u = doing.fits.0 in
         let e = entry_made number f.call f.reply in
         let same = same_done (m, entry) (last, e) tail (flat_map (done_by_call number) fs ++ done_so_far b) is in
-        let a = began c f.call (first_place f.marks) in
+        let a = began c f.call (first_place f.accesses) in
         let now' : IsNow w last = subst (IsNow w) same.0 now in
         let held : held_by w.callers c ≡ Some u.holds = u.held ∙ ap Some u.through in
         let made = u.ends cast steps w a run now' held u.at in
@@ -339,8 +339,8 @@ module _ (cast : Cast) (seat number : ℕ) where
         let place = now'.place in
         record {
           last = v';
-          run = steps_on (step_of c last.act) (End c ∷ []) w v v' made.made.done (steps_on (End c) [] v v' v' one refl);
-          history = made.history_is ∙ (added_by_call seat number f.call f.reply f.marks (place_after f.reply f.marks) w.history u.is.marks ∙ ap (λ (z : Option Entry). w.history ++ entry_list z) (sym same.1));
+          run = steps_on (step_of c last.kind) (End c ∷ []) w v v' made.made.done (steps_on (End c) [] v v' v' one refl);
+          history = made.history_is ∙ (added_by_call seat number f.call f.reply f.accesses (place_after f.reply f.accesses) w.history u.is.accesses ∙ ap (λ (z : Option Entry). w.history ++ entry_list z) (sym same.1));
           of = of_call seat number f.call u.is.may;
           passes = passes;
           done = done ++ f ∷ [];
@@ -354,7 +354,7 @@ module _ (cast : Cast) (seat number : ℕ) where
                   call = refl;
                   begun = refl;
                   reply = refl;
-                  ended = ap Some (ap length made.history_is ∙ ended_place seat number f.call f.reply f.marks f.marks (place_after f.reply f.marks) w.history u.is.marks (u.end ∙ place));
+                  ended = ap Some (ap length made.history_is ∙ ended_place seat number f.call f.reply f.accesses f.accesses (place_after f.reply f.accesses) w.history u.is.accesses (u.end ∙ place));
                 });
             fits = (
               omega arith,
@@ -377,14 +377,14 @@ module _ (cast : Cast) (seat number : ℕ) where
         let further = flat_map (done_by_call number) fs ++ done_so_far b in
         let some = snoc_some init last in
         let same = same_done (m, entry) (i, None) tail (with_entry e left ++ further) (is ∙ ap (λ (z : List Done). z ++ further) (with_entry_more e i left some)) in
-        let a = began c f.call (first_place f.marks) in
+        let a = began c f.call (first_place f.accesses) in
         let t = u.through in
         let w' = with_held t.0 c w in
         let made = goes_on c u.place a i u.now t.0 (subst (IsNow w) same.0 now) u.held u.at refl refl t.1 in
-        let step = step_of c i.act in
+        let step = step_of c i.kind in
         let pieces_further = flat_map (pieces_of_call seat number) fs ++ pieces_so_far seat number b in
         let cut : pieces_left seat number (Within f (i ∷ init) last fs b) ≡ (step ∷ []) ∷ pieces_left seat number (Within f init last fs b) =
-        ap (λ (z : List (List Step)). z ++ pieces_further) (ended_more (End c) (step ∷ []) (pieces_of_marks c left) (pieces_some c left some)) in
+        ap (λ (z : List (List Step)). z ++ pieces_further) (ended_more (End c) (step ∷ []) (pieces_of_accesses c left) (pieces_some c left some)) in
         record {
           last = w';
           run = ap (λ (z : List (List Step)). after_steps (first_piece z) w) cut ∙ steps_on step [] w w' w' made.one refl;
@@ -418,7 +418,7 @@ module _ (cast : Cast) (seat number : ℕ) where
           calls_are = refl;
         }
 
-    turn_open : (b : Begun) (left : List Mark) (m : Mark) (entry : Option Entry) (tail : List Done) → Doing seat number w done (Open b left) → IsNow w m
+    turn_open : (b : Begun) (left : List Access) (m : Access) (entry : Option Entry) (tail : List Done) → Doing seat number w done (Open b left) → IsNow w m
         → (m, entry) ∷ tail ≡ done_left number (Open b left) → Turn seat number w (caller_for seat number b.call) (pieces_left seat number (Open b left)) (done ++ []) (entry_list entry) tail
     turn_open b [] m entry tail doing now is = absurd cc
     turn_open b (i ∷ left) m entry tail doing now is =
@@ -431,7 +431,7 @@ module _ (cast : Cast) (seat number : ℕ) where
         let made = goes_on c u.place a i u.now t.0 (subst (IsNow w) same.0 now) u.held u.at refl refl t.1 in
         record {
           last = w';
-          run = steps_on (step_of c i.act) [] w w' w' made.one refl;
+          run = steps_on (step_of c i.kind) [] w w' w' made.one refl;
           history = sym (append-nil w.history) ∙ ap (λ (z : Option Entry). w.history ++ entry_list z) (sym same.1);
           of = of_call seat number b.call u.may;
           passes = made.passes;
@@ -451,7 +451,7 @@ module _ (cast : Cast) (seat number : ℕ) where
     begun_run : (c : Caller) (call : Call) (v : MachineState) → after_step w (Begin c call) ≡ Some v → after_steps (steps ++ Begin c call ∷ []) (initial_state cast) ≡ Some v
     begun_run c call v one = steps_append steps (Begin c call ∷ []) (initial_state cast) w run ∙ steps_on (Begin c call) [] w v v one refl
 
-    turn_call : (f : Finished) (fs : List Finished) (b : Option Begun) (m : Mark) (entry : Option Entry) (tail : List Done) → Doing seat number w done (Waiting (f ∷ fs) b) → IsNow w m
+    turn_call : (f : Finished) (fs : List Finished) (b : Option Begun) (m : Access) (entry : Option Entry) (tail : List Done) → Doing seat number w done (Waiting (f ∷ fs) b) → IsNow w m
         → (m, entry) ∷ tail ≡ done_left number (Waiting (f ∷ fs) b) → Turn seat number w (caller_for seat number f.call) (pieces_left seat number (Waiting (f ∷ fs) b)) (done ++ f ∷ fs) (entry_list entry) tail
     turn_call f fs b m entry tail doing now is =
         let c = caller_for seat number f.call in
@@ -468,15 +468,15 @@ module _ (cast : Cast) (seat number : ℕ) where
         let e = entry_made number f.call f.reply in
         let further = flat_map (done_by_call number) fs in
         let is' : (m, entry) ∷ tail ≡ done_left number (Within f way.init way.last fs b) =
-        is ∙ (append_assoc (with_entry e f.marks) further (done_so_far b) ∙ ap (λ (z : List Mark). with_entry e z ++ (further ++ done_so_far b)) way.split) in
+        is ∙ (append_assoc (with_entry e f.accesses) further (done_so_far b) ∙ ap (λ (z : List Access). with_entry e z ++ (further ++ done_so_far b)) way.split) in
         let some = snoc_some way.init way.last in
-        let place : first_place f.marks ≡ length w.history = ap first_place way.split ∙ (head_place e entry left m tail (further ++ done_so_far b) some is' ∙ now.place) in
+        let place : first_place f.accesses ≡ length w.history = ap first_place way.split ∙ (head_place e entry left m tail (further ++ done_so_far b) some is' ∙ now.place) in
         let further_pieces = flat_map (pieces_of_call seat number) fs in
-        let ps = ended_by (End c) (pieces_of_marks c left) in
-        let some_pieces = ended_some (End c) (pieces_of_marks c left) (pieces_some c left some) in
+        let ps = ended_by (End c) (pieces_of_accesses c left) in
+        let some_pieces = ended_some (End c) (pieces_of_accesses c left) (pieces_some c left some) in
         let qs = further_pieces ++ pieces_so_far seat number b in
         let cut : pieces_left seat number (Waiting (f ∷ fs) b) ≡ begun_by s (ps ++ qs) =
-        ap (λ (z : List Mark). (begun_by s (ended_by (End c) (pieces_of_marks c z)) ++ further_pieces) ++ pieces_so_far seat number b) way.split
+        ap (λ (z : List Access). (begun_by s (ended_by (End c) (pieces_of_accesses c z)) ++ further_pieces) ++ pieces_so_far seat number b) way.split
         ∙ (append_assoc (begun_by s ps) further_pieces (pieces_so_far seat number b) ∙ begun_append s ps qs some_pieces) in
         let first = begun_first s (ps ++ qs) (append_some ps qs some_pieces) in
         let doing' : Doing seat number v done (Within f way.init way.last fs b) = record {
@@ -502,7 +502,7 @@ module _ (cast : Cast) (seat number : ℕ) where
         begins_turn seat number f.call w (pieces_left seat number (Waiting (f ∷ fs) b)) (ps ++ qs) (done ++ f ∷ fs) (entry_list entry) tail one passes (ap first_piece cut ∙ first.0, ap other_pieces cut ∙ first.1)
         (turn_within (steps ++ s ∷ []) v (begun_run c f.call v one) done f way.init way.last fs b m entry tail doing' (record { place = now.place; found = now.found }) is')
 
-    turn_begun : (b : Begun) (m : Mark) (entry : Option Entry) (tail : List Done) → Doing seat number w done (Waiting [] (Some b)) → IsNow w m
+    turn_begun : (b : Begun) (m : Access) (entry : Option Entry) (tail : List Done) → Doing seat number w done (Waiting [] (Some b)) → IsNow w m
         → (m, entry) ∷ tail ≡ done_left number (Waiting [] (Some b)) → Turn seat number w (caller_for seat number b.call) (pieces_left seat number (Waiting [] (Some b))) (done ++ []) (entry_list entry) tail
     turn_begun b m entry tail doing now is =
         let c = caller_for seat number b.call in
@@ -515,7 +515,7 @@ module _ (cast : Cast) (seat number : ℕ) where
         let one = begins_step seat number b.call w begun.may held in
         let passes = begins_passes seat number b.call w held in
         let way = way_on seat number k b begun in
-        let doing' : Doing seat number v done (Open b b.marks) = record {
+        let doing' : Doing seat number v done (Open b b.accesses) = record {
           high = doing.high;
           recorded = records_kept w.calls v.calls seat number 0 done doing.high passes.ended doing.recorded;
           fits = record {
@@ -529,11 +529,11 @@ module _ (cast : Cast) (seat number : ℕ) where
             through = way.1;
           };
         } in
-        begins_turn seat number b.call w (begun_by s (pieces_of_marks c b.marks)) (pieces_of_marks c b.marks) (done ++ []) (entry_list entry) tail one passes (begun_first s (pieces_of_marks c b.marks) (pieces_some c b.marks begun.some))
-        (turn_open (steps ++ s ∷ []) v (begun_run c b.call v one) done b b.marks m entry tail doing' (record { place = now.place; found = now.found }) is)
+        begins_turn seat number b.call w (begun_by s (pieces_of_accesses c b.accesses)) (pieces_of_accesses c b.accesses) (done ++ []) (entry_list entry) tail one passes (begun_first s (pieces_of_accesses c b.accesses) (pieces_some c b.accesses begun.some))
+        (turn_open (steps ++ s ∷ []) v (begun_run c b.call v one) done b b.accesses m entry tail doing' (record { place = now.place; found = now.found }) is)
 
     -- the next step of the pass on a match word
-    pub turn : (r : Rest) (m : Mark) (entry : Option Entry) (tail : List Done) → Doing seat number w done r → IsNow w m → (m, entry) ∷ tail ≡ done_left number r
+    pub turn : (r : Rest) (m : Access) (entry : Option Entry) (tail : List Done) → Doing seat number w done r → IsNow w m → (m, entry) ∷ tail ≡ done_left number r
         → (c : Caller) × Turn seat number w c (pieces_left seat number r) (done ++ calls_left r) (entry_list entry) tail
     turn (Waiting [] None) m entry tail doing now is = absurd cc
     turn (Waiting [] (Some b)) m entry tail doing now is = (caller_for seat number b.call, turn_begun b m entry tail doing now is)
@@ -549,6 +549,6 @@ over seat number w done (Waiting (f ∷ fs) b) doing is =
     let e = entry_made number f.call f.reply in
     let further = flat_map (done_by_call number) fs in
     absurd (some_done e (way.init ++ way.last ∷ []) (further ++ done_so_far b) (snoc_some way.init way.last)
-    (is ∙ (append_assoc (with_entry e f.marks) further (done_so_far b) ∙ ap (λ (z : List Mark). with_entry e z ++ (further ++ done_so_far b)) way.split)))
+    (is ∙ (append_assoc (with_entry e f.accesses) further (done_so_far b) ∙ ap (λ (z : List Access). with_entry e z ++ (further ++ done_so_far b)) way.split)))
 over seat number w done (Within f init last fs b) doing is = absurd (some_done (entry_made number f.call f.reply) (init ++ last ∷ []) (flat_map (done_by_call number) fs ++ done_so_far b) (snoc_some init last) is)
 over seat number w done (Open b left) doing is = refl

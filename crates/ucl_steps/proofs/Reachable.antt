@@ -23,13 +23,13 @@ use Rattle.ucl_steps.specs.Machine.{Holds, Idle, Wanting, Holding, Collecting, C
 use Rattle.ucl_board.specs.declared.entry.Entry.{Entry}
 use Rattle.ucl_steps.specs.Running.{holds_of, IsReachable, Takes}
 use Rattle.ucl_word.proofs.Sequences.{at_below}
-use Rattle.ucl_steps.proofs.Keeping.{Keeps}
-use Rattle.ucl_steps.proofs.Knowing.{in_call}
-use Rattle.ucl_steps.proofs.Stepping.{word_now, no_asker}
+use Rattle.ucl_steps.proofs.Invariant.{Keeps}
+use Rattle.ucl_steps.proofs.CallFacts.{in_call}
+use Rattle.ucl_steps.proofs.KeptBySteps.{word_now, no_asker}
 use Rattle.ucl_steps.proofs.Histories.{legal_beginning, read_back, board_none}
 use Rattle.ucl_word.specs.Rules.{after}
 use Rattle.ucl_word.specs.Record.{scheduled, IsValid}
-use Rattle.ucl_word.proofs.Accepting.{accepts, after_valid}
+use Rattle.ucl_word.proofs.AcceptedEvents.{accepts, after_valid}
 use Rattle.ucl_steps.proofs.Runs.{kept_at_start, run_kept}
 
 pub reached_kept : (w : MachineState) (r : IsReachable w) → Keeps r.1 w

@@ -22,13 +22,13 @@ use Rattle.ucl_steps.specs.declared.trace.Trace.{Trace}
 use Rattle.ucl_steps.specs.Linearizable.{EndsAt, EndedBySteps, PointWithinCall, AcceptedIsEntry, is_accepted, RefusedAtPoint, ReadingIsSnapshot, Precedes, caller_and_call, RealTimeOrder, version_read, VersionsRise, IsLinearizable}
 use Rattle.ucl_steps.specs.Traces.{IsLeftBy}
 use Rattle.ucl_steps.specs.Laws.{RunsAreLinearizable, WordsAreOfTheHistory}
-use Rattle.ucl_steps.proofs.Explaining.{IsSequential, IsExplained}
+use Rattle.ucl_steps.proofs.Explanations.{IsSequential, IsExplained}
 use Rattle.ucl_steps.proofs.Clauses.{point_within, accepted_entry, refused_there, reading_snapshot}
 use Rattle.ucl_steps.proofs.Places.{earlier_call}
 use Rattle.ucl_steps.proofs.Turns.{told, EndedBy, turns_none}
-use Rattle.ucl_steps.proofs.Knowing.{in_call}
-use Rattle.ucl_steps.proofs.Keeping.{time_of, Keeps}
-use Rattle.ucl_steps.proofs.Stepping.{step_kept}
+use Rattle.ucl_steps.proofs.CallFacts.{in_call}
+use Rattle.ucl_steps.proofs.Invariant.{time_of, Keeps}
+use Rattle.ucl_steps.proofs.KeptBySteps.{step_kept}
 
 idle_all : (n k : ℕ) (x : Holds) → slice_get (replicate n Idle) k ≡ Some x → x ≡ Idle
 idle_all zero k x e = absurd (none-some x e)

@@ -13,7 +13,7 @@ use Rattle.ucl_steps.specs.declared.step.Step.TheVariants.{Begin, Look, Swap, Fi
 use Rattle.std.specs.Option.{option_map}
 use Rattle.ucl_steps.specs.Machine.{change_at}
 use Rattle.ucl_steps.specs.Linearizable.{begun_in, BeginsAt, EndsAt}
-use Rattle.ucl_steps.proofs.Changing.{get-change_at, map_unseen}
+use Rattle.ucl_steps.proofs.ChangedLists.{get-change_at, map_unseen}
 use Rattle.ucl_steps.proofs.Places.{begun_in-append, begins_call, place_of, earlier_place, earlier_call, back_begins, back_ends, more_begins, more_ends, old_or_last, number_at_end}
 
 -- when a call began and ended

@@ -14,11 +14,11 @@ use Rattle.ucl_steps.specs.declared.step.Call.{Call}
 use Rattle.ucl_steps.specs.declared.step.Step.{Step}
 use Rattle.ucl_steps.specs.declared.trace.Reply.{Reply}
 use Rattle.ucl_steps.specs.Machine.{MachineState, initial_state, may_begin, after_steps}
-use Rattle.ucl_steps.specs.Marking.{IsAtRest, IsInCast, NoneOwn, Leaves, IsMadeBySteps}
-use Rattle.ucl_steps.specs.Together.{CallMade, AreCallsAlong, IsOneRun}
+use Rattle.ucl_steps.specs.CallRuns.{IsAtRest, IsInCast, NoneOwn, Leaves, IsMadeBySteps}
+use Rattle.ucl_steps.specs.Interleaving.{CallMade, AreCallsAlong, IsOneRun}
 use Rattle.ucl_steps.specs.Linearizable.{IsLinearizable}
-use Rattle.ucl_board.specs.Log.{Mark}
-use Rattle.ucl_steps.specs.Trails.{Follows, ReportMarks, decided_at, most_tries, most_loads, IsUnclean, marks_of, ReadingMarks}
+use Rattle.ucl_board.specs.Log.{Access}
+use Rattle.ucl_steps.specs.Trails.{Follows, ReportAccesses, decided_at, most_tries, most_loads, IsUnclean, accesses_of, ReadingAccesses}
 
 -- for every list of steps of any reporters and readers, cut anywhere, its history explains every call
 abbrev pub RunsAreLinearizable : Type 0
@@ -30,32 +30,32 @@ WordsAreOfTheHistory = (cast : Cast) (steps : List Step) (state : MachineState) 
 
 -- the last Second of an unclean try is at a longer history than the First of its match
 abbrev pub UncleanTriesSeeMore : Type 0
-UncleanTriesSeeMore = (history : List Entry) (low high : ℕ) (ms : List Mark) → Follows history low ms high → (try : IsUnclean ms) (first : Mark) → slice_get try.firsts (length try.broken.equal) ≡ Some first → first.at < try.broken.last.at
+UncleanTriesSeeMore = (history : List Entry) (low high : ℕ) (ms : List Access) → Follows history low ms high → (try : IsUnclean ms) (first : Access) → slice_get try.firsts (length try.broken.equal) ≡ Some first → first.at < try.broken.last.at
 
 -- so there are no more unclean tries than entries came
 abbrev pub UncleanTriesAreFew : Type 0
-UncleanTriesAreFew = (history : List Entry) (low high : ℕ) (tries : List (List Mark)) → Follows history low (marks_of tries) high → AllByRecursion IsUnclean tries → low + length tries ≤ high
+UncleanTriesAreFew = (history : List Entry) (low high : ℕ) (tries : List (List Access)) → Follows history low (accesses_of tries) high → AllByRecursion IsUnclean tries → low + length tries ≤ high
 
 -- the reading is the board of the first entries, as many as its version says, and was had by few steps
-pub record IsReadFrom (history : List Entry) (low high : ℕ) (reading : Reading) (ms : List Mark) (marks : ReadingMarks reading ms) : Type 0 where
+pub record IsReadFrom (history : List Entry) (low high : ℕ) (reading : Reading) (ms : List Access) (accesses : ReadingAccesses reading ms) : Type 0 where
   pub snapshot : reading ≡ snapshot_at history reading.version
   pub within : (low ≤ reading.version) × (reading.version ≤ high)
-  pub tries : low + length marks.tries ≤ high
-  pub steps : (24 ≤ length ms) × (length ms ≤ 24 * (length marks.tries + 1))
-  pub bound : (length marks.tries < most_tries) × (length ms ≤ most_loads)
+  pub tries : low + length accesses.tries ≤ high
+  pub steps : (24 ≤ length ms) × (length ms ≤ 24 * (length accesses.tries + 1))
+  pub bound : (length accesses.tries < most_tries) × (length ms ≤ most_loads)
 
--- what the marks of a reading show
+-- what the accesses of a reading show
 abbrev pub ReadingsAreSnapshots : Type 0
-ReadingsAreSnapshots = (history : List Entry) (low high : ℕ) (reading : Reading) (ms : List Mark) → IsLegal history → high ≤ length history → Follows history low ms high → (marks : ReadingMarks reading ms) → IsReadFrom history low high reading ms marks
+ReadingsAreSnapshots = (history : List Entry) (low high : ℕ) (reading : Reading) (ms : List Access) → IsLegal history → high ≤ length history → Follows history low ms high → (accesses : ReadingAccesses reading ms) → IsReadFrom history low high reading ms accesses
 
--- the reply that the marks of a report show is that of the board of one thread
+-- the reply that the accesses of a report show is that of the board of one thread
 abbrev pub ReportsAreSequential : Type 0
-ReportsAreSequential = (history : List Entry) (low high now : ℕ) (call : EventCall) (reply : Result Accepted Refusal) (ms : List Mark) → IsLegal history → Follows history low ms high → ReportMarks call reply ms now
+ReportsAreSequential = (history : List Entry) (low high now : ℕ) (call : EventCall) (reply : Result Accepted Refusal) (ms : List Access) → IsLegal history → Follows history low ms high → ReportAccesses call reply ms now
     → sequential_reply (take (decided_at reply now) history) call ≡ reply
 
--- from rest on, a caller's call is made by steps of the machine that leave its marks, one after the other, while other callers enter what else came
+-- from rest on, a caller's call is made by steps of the machine that leave its accesses, one after the other, while other callers enter what else came
 abbrev pub CallsAreSteps : Type 0
-CallsAreSteps = (cast : Cast) (c : Caller) (call : Call) (reply : Reply) (ms : List Mark) (before : List Entry) (low : ℕ) (state : MachineState) → cast.reporters ≡ 255 → IsInCast cast c → may_begin c call ≡ true
+CallsAreSteps = (cast : Cast) (c : Caller) (call : Call) (reply : Reply) (ms : List Access) (before : List Entry) (low : ℕ) (state : MachineState) → cast.reporters ≡ 255 → IsInCast cast c → may_begin c call ≡ true
     → IsLegal before → NoneOwn c low before → Leaves c call reply ms before low → IsAtRest cast (take low before) state → IsMadeBySteps cast state c call reply ms before
 
 -- steps of the machine lead to rest after any legal history

@@ -1,7 +1,7 @@
 pub mod Trails
 pub mod Machine
-pub mod Marking
-pub mod Together
+pub mod CallRuns
+pub mod Interleaving
 pub mod Linearizable
 pub mod Traces
 pub mod Laws

@@ -12,7 +12,7 @@ use Rattle.ucl_board.specs.declared.entry.Entry.{Entry}
 use Rattle.ucl_board.specs.Fixtures.{IsMatch}
 use Rattle.ucl_board.specs.History.{board_of, entry_of}
 use Rattle.ucl_board.specs.Log as log
-use Rattle.ucl_board.specs.Log.{Act, Mark, mark, Target, Match, Enlisted, Whole, Taken, Log, taken_by, history_of, IsLog}
+use Rattle.ucl_board.specs.Log.{AccessKind, Access, access, Target, Match, Enlisted, Whole, Taken, Log, taken_by, history_of, IsLog}
 use Rattle.ucl_steps.specs.declared.step.Cast.{Cast}
 use Rattle.ucl_steps.specs.declared.step.Caller.{Caller}
 use Rattle.ucl_steps.specs.declared.step.Caller.TheVariants.{Reporter, Reader}
@@ -24,20 +24,20 @@ use Rattle.ucl_steps.specs.declared.trace.Reply.{Reply}
 use Rattle.ucl_steps.specs.declared.trace.Reply.TheVariants.{Accepted}
 use Rattle.ucl_steps.specs.declared.trace.CallRecord.{CallRecord}
 use Rattle.ucl_steps.specs.Machine.{Holds, Idle, Wanting, Holding, Collecting, Checking, Answered, MachineState, initial_state, held_at_begin, after_steps}
-use Rattle.ucl_steps.specs.Marking.{step_of, CallMarks}
-use Rattle.ucl_steps.specs.Together.{first_place, place_after}
+use Rattle.ucl_steps.specs.CallRuns.{step_of, CallAccesses}
+use Rattle.ucl_steps.specs.Interleaving.{first_place, place_after}
 use Rattle.ucl_steps.specs.Linearizable.{IsLinearizable}
 
--- a finished call of a pass: what it asked, its reply, and the marks of its steps
+-- a finished call of a pass: what it asked, its reply, and the accesses of its steps
 pub record Finished : Type 0 where
   pub call : Call
   pub reply : Reply
-  pub marks : List Mark
+  pub accesses : List Access
 
--- a call that is not finished, and the marks of the steps that it has taken
+-- a call that is not finished, and the accesses of the steps that it has taken
 pub record Begun : Type 0 where
   pub call : Call
-  pub marks : List Mark
+  pub accesses : List Access
 
 -- what a pass has done: its number as a reporter (0 for none), its finished calls, the first of them first, and the call that is not finished, if there is one
 pub record Work : Type 0 where
@@ -47,10 +47,10 @@ pub record Work : Type 0 where
 
 -- a step on a match word, with the entry that it added
 abbrev pub Done : Type 0
-Done = Mark × Option Entry
+Done = Access × Option Entry
 
 abbrev pub done_list : Taken → List Done
-done_list x = map (λ m. (m, x.entry)) (log.mark_list x.target x.at)
+done_list x = map (λ m. (m, x.entry)) (log.access_list x.target x.at)
 
 -- the steps on match words among a pass's steps
 abbrev pub on_matches : List Taken → List Done
@@ -62,55 +62,55 @@ entry_made number (Event e) (Accepted reply) = Some (entry_of (number, e))
 entry_made number call reply = None
 
 -- the steps of a call, of which the last adds the entry
-abbrev pub with_entry : Option Entry → List Mark → List Done
+abbrev pub with_entry : Option Entry → List Access → List Done
 with_entry entry [] = []
 with_entry entry (m ∷ []) = (m, entry) ∷ []
 with_entry entry (m ∷ n ∷ ms) = (m, None) ∷ with_entry entry (n ∷ ms)
 
 abbrev pub done_by_call : ℕ → Finished → List Done
-done_by_call number c = with_entry (entry_made number c.call c.reply) c.marks
+done_by_call number c = with_entry (entry_made number c.call c.reply) c.accesses
 
 abbrev pub done_so_far : Option Begun → List Done
 done_so_far None = []
-done_so_far (Some b) = with_entry None b.marks
+done_so_far (Some b) = with_entry None b.accesses
 
 -- only a reporter enters events, of matches that there are
 abbrev pub MayAsk : ℕ → Call → Type 0
 MayAsk number (Event e) = IsReporter number × IsMatch e.game
 MayAsk number Reading = Unit {0}
 
--- a finished call has the marks of a call with its reply
+-- a finished call has the accesses of a call with its reply
 pub record IsFinished (number : ℕ) (c : Finished) : Type 0 where
   pub may : MayAsk number c.call
-  pub marks : CallMarks c.call c.reply c.marks (place_after c.reply c.marks)
+  pub accesses : CallAccesses c.call c.reply c.accesses (place_after c.reply c.accesses)
 
--- What a caller holds after a step that left this mark, by what it held before; None where the protocol has another step next.
+-- What a caller holds after a step that left this access, by what it held before; None where the protocol has another step next.
 -- These are the steps of the machine, but for the place of the call among all calls, which is 0 here.
 
-abbrev pub same_act : Act → Act → Bool
-same_act log.Look log.Look = true
-same_act log.Swap log.Swap = true
-same_act log.First log.First = true
-same_act log.Second log.Second = true
-same_act _ _ = false
+abbrev pub same_kind : AccessKind → AccessKind → Bool
+same_kind log.Look log.Look = true
+same_kind log.Swap log.Swap = true
+same_kind log.First log.First = true
+same_kind log.Second log.Second = true
+same_kind _ _ = false
 
-abbrev pub is_step : Act → ℕ → Mark → Bool
-is_step act game m = same_act act m.act && (m.game == game)
+abbrev pub is_step : AccessKind → ℕ → Access → Bool
+is_step kind game m = same_kind kind m.kind && (m.game == game)
 
 abbrev pub held_by_rules : ℕ → EventCall → ℕ → Option Refusal → Holds
 held_by_rules number e found (Some refusal) = Answered 0
 held_by_rules number e found None = Holding 0 e found (word_of (after (record_at found) number e.kind))
 
-abbrev pub held_after_first : List ℕ → Mark → Holds
+abbrev pub held_after_first : List ℕ → Access → Holds
 held_after_first collected m = let more = collected ++ m.found ∷ [] in if length more == 12 then Checking 0 more 0 m.at else Collecting 0 more
 
-abbrev pub held_after_second : List ℕ → ℕ → ℕ → Mark → Holds
+abbrev pub held_after_second : List ℕ → ℕ → ℕ → Access → Holds
 held_after_second collected checked point m =
     if m.found == slice_index collected checked
     then (if checked == 11 then Answered 0 else Checking 0 collected (checked + 1) point)
     else Collecting 0 []
 
-abbrev pub holds_next : ℕ → Holds → Mark → Option Holds
+abbrev pub holds_next : ℕ → Holds → Access → Option Holds
 holds_next number (Wanting call e) m = if is_step log.Look e.game m then Some (held_by_rules number e m.found (refusal_of (record_at m.found) e.expected e.kind)) else None
 holds_next number (Holding call e old new) m = if is_step log.Swap e.game m then Some (Answered 0) else None
 holds_next number (Collecting call collected) m = if is_step log.First (length collected + 1) m then Some (held_after_first collected m) else None
@@ -118,7 +118,7 @@ holds_next number (Checking call collected checked point) m = if is_step log.Sec
 holds_next number Idle m = None
 holds_next number (Answered call) m = None
 
-abbrev pub holds_after : ℕ → Holds → List Mark → Option Holds
+abbrev pub holds_after : ℕ → Holds → List Access → Option Holds
 holds_after number holds [] = Some holds
 holds_after number holds (m ∷ ms) = option_and_then (λ next. holds_after number next ms) (holds_next number holds m)
 
@@ -129,9 +129,9 @@ IsUnanswered _ = Unit {0}
 -- a call that is not finished has taken a step, each of its steps was the next of the protocol, and it has no answer yet
 pub record IsBegun (number : ℕ) (b : Begun) : Type 0 where
   pub may : MayAsk number b.call
-  pub some : b.marks ≢ []
+  pub some : b.accesses ≢ []
   pub holds : Holds
-  pub follows : holds_after number (held_at_begin b.call 0) b.marks ≡ Some holds
+  pub follows : holds_after number (held_at_begin b.call 0) b.accesses ≡ Some holds
   pub unanswered : IsUnanswered holds
 
 -- the steps of a pass are those of this work
@@ -145,7 +145,7 @@ abbrev pub caller_for : ℕ → ℕ → Call → Caller
 caller_for seat number (Event e) = Reporter number
 caller_for seat number Reading = Reader (seat + 1)
 
--- the steps of a call in pieces, one for each of its marks: the beginning goes with the first, and the end with the last
+-- the steps of a call in pieces, one for each of its accesses: the beginning goes with the first, and the end with the last
 
 abbrev pub begun_by : Step → List (List Step) → List (List Step)
 begun_by step [] = []
@@ -156,15 +156,15 @@ ended_by step [] = []
 ended_by step (piece ∷ []) = (piece ++ step ∷ []) ∷ []
 ended_by step (piece ∷ next ∷ pieces) = piece ∷ ended_by step (next ∷ pieces)
 
-abbrev pub pieces_of_marks : Caller → List Mark → List (List Step)
-pieces_of_marks c ms = map (λ m. step_of c m.act ∷ []) ms
+abbrev pub pieces_of_accesses : Caller → List Access → List (List Step)
+pieces_of_accesses c ms = map (λ m. step_of c m.kind ∷ []) ms
 
 abbrev pub pieces_of_call : ℕ → ℕ → Finished → List (List Step)
-pieces_of_call seat number f = let c = caller_for seat number f.call in begun_by (Begin c f.call) (ended_by (End c) (pieces_of_marks c f.marks))
+pieces_of_call seat number f = let c = caller_for seat number f.call in begun_by (Begin c f.call) (ended_by (End c) (pieces_of_accesses c f.accesses))
 
 abbrev pub pieces_so_far : ℕ → ℕ → Option Begun → List (List Step)
 pieces_so_far seat number None = []
-pieces_so_far seat number (Some b) = let c = caller_for seat number b.call in begun_by (Begin c b.call) (pieces_of_marks c b.marks)
+pieces_so_far seat number (Some b) = let c = caller_for seat number b.call in begun_by (Begin c b.call) (pieces_of_accesses c b.accesses)
 
 abbrev pub pieces_of : ℕ → Work → List (List Step)
 pieces_of seat w = flat_map (pieces_of_call seat w.number) w.calls ++ pieces_so_far seat w.number w.begun
@@ -183,7 +183,7 @@ abbrev pub without_first : ℕ → (ℕ → List (List Step)) → ℕ → List (
 without_first seat pieces other = if other == seat then other_pieces (pieces other) else pieces other
 
 abbrev pub is_on_match : Target → Bool
-is_on_match (Match act game found) = true
+is_on_match (Match kind game found) = true
 is_on_match Enlisted = false
 is_on_match Whole = false
 
@@ -198,9 +198,9 @@ steps_of_log log works = woven log (λ seat. pieces_of seat (works seat))
 pub record IsRecordOf (seat number : ℕ) (f : Finished) (a : CallRecord) : Type 0 where
   pub caller : a.caller ≡ caller_for seat number f.call
   pub call : a.call ≡ f.call
-  pub begun : a.begun ≡ first_place f.marks
+  pub begun : a.begun ≡ first_place f.accesses
   pub reply : a.reply ≡ Some f.reply
-  pub ended : a.ended ≡ Some (place_after f.reply f.marks)
+  pub ended : a.ended ≡ Some (place_after f.reply f.accesses)
 
 -- the calls are among the machine's records, in their order
 abbrev pub AreRecordsOf : List CallRecord → ℕ → ℕ → ℕ → List Finished → Type 0

@@ -1,4 +1,4 @@
--- What a pass remembers of its steps on match words, and which marks each call leaves.
+-- What a pass remembers of its steps on match words, and which accesses each call leaves.
 use Rattle.std.specs.Prelude.{◌≡◌, ◌≢◌, ℕ, ◌+◌, ◌-◌, ◌*◌, ◌<◌, ◌≤◌, ◌⊎◌, List, [], ◌∷◌, ◌++◌, take, length, Some, Result, Ok, Err, IsOk, slice_get, slice_index}
 use Rattle.std.specs.List.{AllByRecursion}
 use Rattle.ucl_word.specs.declared.event.EventCall.{EventCall}
@@ -11,35 +11,35 @@ use Rattle.ucl_board.specs.declared.entry.Entry.{Entry}
 use Rattle.ucl_board.specs.declared.reading.Reading.{Reading}
 use Rattle.ucl_board.specs.Words.{greatest_version}
 use Rattle.ucl_board.specs.History.{match_after}
-use Rattle.ucl_board.specs.Log.{Act, Look, Swap, First, Second, Mark}
+use Rattle.ucl_board.specs.Log.{AccessKind, Look, Swap, First, Second, Access}
 
-abbrev pub Does : Act → ℕ → Mark → Type 0
-Does act game m = (m.act ≡ act) × (m.game ≡ game)
+abbrev pub Does : AccessKind → ℕ → Access → Type 0
+Does kind game m = (m.kind ≡ kind) × (m.game ≡ game)
 
 -- the word that the step found is that of its match after the first entries of the history, as many as there were
-abbrev pub IsFoundIn : List Entry → Mark → Type 0
+abbrev pub IsFoundIn : List Entry → Access → Type 0
 IsFoundIn history m = m.found ≡ word_of (match_after (take m.at history) m.game)
 
--- along the marks the places never fall, from the first bound to the second, and each word is that of its match at its place
-abbrev pub Follows : List Entry → ℕ → List Mark → ℕ → Type 0
+-- along the accesses the places never fall, from the first bound to the second, and each word is that of its match at its place
+abbrev pub Follows : List Entry → ℕ → List Access → ℕ → Type 0
 Follows history low [] high = low ≤ high
 Follows history low (m ∷ ms) high = (low ≤ m.at) × IsFoundIn history m × Follows history m.at ms high
 
--- a report's marks, `now` entries having been seen after it
+-- a report's accesses, `now` entries having been seen after it
 
 -- one Look, on whose word the rules refuse: that refusal is the reply
-pub record LookRefused (call : EventCall) (refusal : Refusal) (ms : List Mark) (now : ℕ) : Type 0 where
-  pub looked : Mark
-  pub marks : ms ≡ looked ∷ []
-  pub act : Does Look call.game looked
+pub record LookRefused (call : EventCall) (refusal : Refusal) (ms : List Access) (now : ℕ) : Type 0 where
+  pub looked : Access
+  pub accesses : ms ≡ looked ∷ []
+  pub kind : Does Look call.game looked
   pub answer : reply_of (record_at looked.found) call ≡ Err refusal
   pub last : looked.at ≡ now
 
 -- a Look, on whose word the rules accept, and a Swap that found another word: the reply is stale, with the number of the word that the Swap found
-pub record SwapMissed (call : EventCall) (refusal : Refusal) (ms : List Mark) (now : ℕ) : Type 0 where
-  pub looked : Mark
-  pub swapped : Mark
-  pub marks : ms ≡ looked ∷ swapped ∷ []
+pub record SwapMissed (call : EventCall) (refusal : Refusal) (ms : List Access) (now : ℕ) : Type 0 where
+  pub looked : Access
+  pub swapped : Access
+  pub accesses : ms ≡ looked ∷ swapped ∷ []
   pub acts : Does Look call.game looked × Does Swap call.game swapped
   pub may : IsOk (reply_of (record_at looked.found) call)
   pub other : swapped.found ≢ looked.found
@@ -47,25 +47,25 @@ pub record SwapMissed (call : EventCall) (refusal : Refusal) (ms : List Mark) (n
   pub last : swapped.at ≡ now
 
 -- a Look, on whose word the rules accept, and a Swap that found the same word: the event is accepted, and its entry is the last that was seen
-pub record SwapWon (call : EventCall) (reply : Accepted) (ms : List Mark) (now : ℕ) : Type 0 where
-  pub looked : Mark
-  pub swapped : Mark
-  pub marks : ms ≡ looked ∷ swapped ∷ []
+pub record SwapWon (call : EventCall) (reply : Accepted) (ms : List Access) (now : ℕ) : Type 0 where
+  pub looked : Access
+  pub swapped : Access
+  pub accesses : ms ≡ looked ∷ swapped ∷ []
   pub acts : Does Look call.game looked × Does Swap call.game swapped
   pub answer : reply_of (record_at looked.found) call ≡ Ok reply
   pub same : swapped.found ≡ looked.found
   pub last : swapped.at + 1 ≡ now
 
-abbrev pub ReportMarks : EventCall → Result Accepted Refusal → List Mark → ℕ → Type 0
-ReportMarks call (Ok reply) ms now = SwapWon call reply ms now
-ReportMarks call (Err refusal) ms now = LookRefused call refusal ms now ⊎ SwapMissed call refusal ms now
+abbrev pub ReportAccesses : EventCall → Result Accepted Refusal → List Access → ℕ → Type 0
+ReportAccesses call (Ok reply) ms now = SwapWon call reply ms now
+ReportAccesses call (Err refusal) ms now = LookRefused call refusal ms now ⊎ SwapMissed call refusal ms now
 
 -- how many entries there were when the reply was decided: an accepted event's own entry came then
 abbrev pub decided_at : Result Accepted Refusal → ℕ → ℕ
 decided_at (Ok reply) now = now - 1
 decided_at (Err refusal) now = now
 
--- a reading's marks
+-- a reading's accesses
 
 -- the most tries of a reading: each that is not clean has seen a longer history, and no history is longer than the greatest version
 abbrev pub most_tries : ℕ
@@ -75,49 +75,49 @@ most_tries = greatest_version + 1
 abbrev pub most_loads : ℕ
 most_loads = 24 * most_tries
 
--- the matches 1, 2 and so on, with these words, by the same act
-abbrev pub IsCollect : Act → List ℕ → List Mark → Type 0
-IsCollect act words ms = (k : ℕ) (m : Mark) → slice_get ms k ≡ Some m → Does act (k + 1) m × (m.found ≡ slice_index words k)
+-- the matches 1, 2 and so on, with these words, by the same kind
+abbrev pub IsCollect : AccessKind → List ℕ → List Access → Type 0
+IsCollect kind words ms = (k : ℕ) (m : Access) → slice_get ms k ≡ Some m → Does kind (k + 1) m × (m.found ≡ slice_index words k)
 
 -- Seconds that found the words again, and one that did not
-pub record IsBroken (words : List ℕ) (ms : List Mark) : Type 0 where
-  pub equal : List Mark
-  pub last : Mark
-  pub marks : ms ≡ equal ++ last ∷ []
+pub record IsBroken (words : List ℕ) (ms : List Access) : Type 0 where
+  pub equal : List Access
+  pub last : Access
+  pub accesses : ms ≡ equal ++ last ∷ []
   pub few : length equal < 12
   pub again : IsCollect Second words equal
-  pub act : Does Second (length equal + 1) last
+  pub kind : Does Second (length equal + 1) last
   pub differs : last.found ≢ slice_index words (length equal)
 
 -- a try whose last Second differs from its First, and all before were equal
-pub record IsUnclean (ms : List Mark) : Type 0 where
+pub record IsUnclean (ms : List Access) : Type 0 where
   pub words : List ℕ
-  pub firsts : List Mark
-  pub seconds : List Mark
-  pub marks : ms ≡ firsts ++ seconds
+  pub firsts : List Access
+  pub seconds : List Access
+  pub accesses : ms ≡ firsts ++ seconds
   pub twelve : length firsts ≡ 12
   pub collected : IsCollect First words firsts
   pub broken : IsBroken words seconds
 
 -- a try with twelve equal Seconds: the board is that of the words of its Firsts, and the version is the place of the twelfth First
-pub record IsClean (reading : Reading) (ms : List Mark) : Type 0 where
-  pub firsts : List Mark
-  pub seconds : List Mark
-  pub marks : ms ≡ firsts ++ seconds
+pub record IsClean (reading : Reading) (ms : List Access) : Type 0 where
+  pub firsts : List Access
+  pub seconds : List Access
+  pub accesses : ms ≡ firsts ++ seconds
   pub twelve : (length reading.board ≡ 12) × (length firsts ≡ 12) × (length seconds ≡ 12)
   pub collected : IsCollect First reading.board firsts
   pub again : IsCollect Second reading.board seconds
-  pub version : (m : Mark) → slice_get firsts 11 ≡ Some m → m.at ≡ reading.version
+  pub version : (m : Access) → slice_get firsts 11 ≡ Some m → m.at ≡ reading.version
 
--- the marks of tries, one try after the other
-abbrev pub marks_of : List (List Mark) → List Mark
-marks_of [] = []
-marks_of (ms ∷ tries) = ms ++ marks_of tries
+-- the accesses of tries, one try after the other
+abbrev pub accesses_of : List (List Access) → List Access
+accesses_of [] = []
+accesses_of (ms ∷ tries) = ms ++ accesses_of tries
 
 -- tries, of which only the last is clean
-pub record ReadingMarks (reading : Reading) (ms : List Mark) : Type 0 where
-  pub tries : List (List Mark)
-  pub last : List Mark
-  pub marks : ms ≡ marks_of tries ++ last
+pub record ReadingAccesses (reading : Reading) (ms : List Access) : Type 0 where
+  pub tries : List (List Access)
+  pub last : List Access
+  pub accesses : ms ≡ accesses_of tries ++ last
   pub unclean : AllByRecursion IsUnclean tries
   pub clean : IsClean reading last

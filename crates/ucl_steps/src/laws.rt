@@ -40,10 +40,10 @@ pub fn reports_are_sequential()
     ensures { ReportsAreSequential }
 {}
 
-/// The steps that a call makes on a shared board are steps of the machine. Let a caller's marks, reply and history agree
+/// The steps that a call makes on a shared board are steps of the machine. Let a caller's accesses, reply and history agree
 /// as the calls of a shared board say. From every state with idle callers and an earlier part of that history there is a
-/// run of the machine in which the caller begins the call, takes the step of each mark, one after the other, which finds
-/// the mark's word at the mark's place, and ends the call with that reply. In between, other callers enter what else came.
+/// run of the machine in which the caller begins the call, takes the step of each access, one after the other, which finds
+/// the access's word at the access's place, and ends the call with that reply. In between, other callers enter what else came.
 pub fn calls_are_steps()
     ensures { CallsAreSteps }
 {}
@@ -54,7 +54,7 @@ pub fn histories_are_reached()
 {}
 
 /// All calls that all callers of a board made along one legal history are, together, one run of the machine from the
-/// fresh board: each caller's own steps are those of its calls and leave their marks, each call begins with its first
+/// fresh board: each caller's own steps are those of its calls and leave their accesses, each call begins with its first
 /// step, ends with its last and has its reply, and at the end all callers are idle after that history. So these calls
 /// are linearizable. Steps of two callers between two entries come in either order.
 pub fn calls_are_one_run()

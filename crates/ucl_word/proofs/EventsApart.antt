@@ -7,7 +7,7 @@ use Rattle.ucl_word.specs.declared.event.Side.TheVariants.{Home, Away}
 use Rattle.ucl_word.specs.declared.event.Kind.{Kind}
 use Rattle.ucl_word.specs.declared.event.Kind.TheVariants.{KickOff, Goal, Disallow, Yellow, SecondYellow, Red, FullTime, Reopen}
 use Rattle.ucl_word.specs.Rules.{is_scheduled, is_finished, after}
-use Rattle.ucl_word.proofs.Accepting.{Accepts, begun, unbegun, over}
+use Rattle.ucl_word.proofs.AcceptedEvents.{Accepts, begun, unbegun, over}
 
 -- the kind of event that leads from one record to another
 kind_between : MatchRecord → MatchRecord → Kind

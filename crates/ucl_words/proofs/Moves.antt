@@ -13,7 +13,7 @@ use Rattle.ucl_board.specs.declared.entry.Entry.{Entry}
 use Rattle.ucl_board.specs.Fixtures.{IsMatch}
 use Rattle.ucl_board.specs.Words.{word_at}
 use Rattle.ucl_board.specs.History.{match_after, board_of, IsLegal, followed_by}
-use Rattle.ucl_board.specs.Log.{Act, Mark, mark, Second, Swap, Target, Match, Enlisted, history_of, IsThere}
+use Rattle.ucl_board.specs.Log.{AccessKind, Access, access, Second, Swap, Target, Match, Enlisted, history_of, IsThere}
 use Rattle.ucl_board.proofs.Histories.{word_after}
 use Rattle.ucl_pass.specs.declared.view.View.{View}
 use Rattle.ucl_pass.specs.Views.{newcomer, second_of, note_of, told_by, trail_of}
@@ -43,8 +43,8 @@ enlist_word : (s : Position) (r : TableKeepsOneHistory s) → get_or s.words 0 0
 enlist_word s r = ap (λ (ws : List ℕ). get_or ws 0 0) r.words_are
 
 -- what a step on a match word finds
-there_now : (s : Position) (r : TableKeepsOneHistory s) (act : Act) (game : ℕ) → IsMatch game → IsThere (history_of r.log) (Match act game (get_or s.words game 0))
-there_now s r act game is = (is, match_word s r game is.0 ∙ word_after (history_of r.log) game is)
+there_now : (s : Position) (r : TableKeepsOneHistory s) (kind : AccessKind) (game : ℕ) → IsMatch game → IsThere (history_of r.log) (Match kind game (get_or s.words game 0))
+there_now s r kind game is = (is, match_word s r game is.0 ∙ word_after (history_of r.log) game is)
 
 module _ (s : Position) (r : TableKeepsOneHistory s) (seat : ℕ) (v : View) (here : get_elem? s.views seat ≡ some v) where
   abbrev looked_at : (target : Target) → IsThere (history_of r.log) target → (listed : ℕ) → List ℕ → listed ≤ r.enlisted → View
@@ -57,12 +57,12 @@ module _ (s : Position) (r : TableKeepsOneHistory s) (seat : ℕ) (v : View) (he
       subst (λ (ws : List ℕ). KeepsOneHistory words_after ws (set s.views seat (looked_at target there listed shown le))) (sym (set-get_or s.words i 0))
       (look_keeps words_after s.words s.views r seat v here target there listed shown le)
 
-pub loads : (act : Act) (slots seat game : ℕ) (m : Me Entry View) → IsMatch game → Allows TableKeepsOneHistory slots seat m game (λ n. n) (LoadStep act (step slots game 0 0 none) m)
-loads act slots seat game m is s r _ here _ =
+pub loads : (kind : AccessKind) (slots seat game : ℕ) (m : Me Entry View) → IsMatch game → Allows TableKeepsOneHistory slots seat m game (λ n. n) (LoadStep kind (step slots game 0 0 none) m)
+loads kind slots seat game m is s r _ here _ =
     let v = m.0 in
     let f = r.fits seat v here in
-    let there = there_now s r act game is in
-    let target : Target = Match act game (get_or s.words game 0) in (
+    let there = there_now s r kind game is in
+    let target : Target = Match kind game (get_or s.words game 0) in (
       looked_at s r seat v here target there v.listed v.shown f.listed,
       keeps,
       tt,
@@ -129,7 +129,7 @@ swaps slots seat m e old new is pos me next s r _ here _ =
     let there = there_now s r Swap e.game is in
     let target : Target = Match Swap e.game n in
     exchanged n old new
-    (λ x. (w : View) × (a : Rattle.atomic_table.specs.Table.Act Entry) × Valid s.homes m.1 a × TableKeepsOneHistory (stepped s e.game x seat m.1 w a) × ExchangeStep (step slots e.game old new (some e)) m n (w, carried_after m.1 a))
+    (λ x. (w : View) × (a : Rattle.atomic_table.specs.Table.AccessKind Entry) × Valid s.homes m.1 a × TableKeepsOneHistory (stepped s e.game x seat m.1 w a) × ExchangeStep (step slots e.game old new (some e)) m n (w, carried_after m.1 a))
     (λ hit. (
       added s r seat v e old new here is pos me next hit,
       keeps,
@@ -160,7 +160,7 @@ enlists slots seat m old reader room s r _ here _ =
     let is : n ≡ r.enlisted = enlist_word s r in
     let below = f.listed in
     exchanged n old (old + 1)
-    (λ x. (w : View) × (a : Rattle.atomic_table.specs.Table.Act Entry) × Valid s.homes m.1 a × TableKeepsOneHistory (stepped s 0 x seat m.1 w a) × EnlistStep (step slots 0 old (old + 1) none) m n (w, carried_after m.1 a))
+    (λ x. (w : View) × (a : Rattle.atomic_table.specs.Table.AccessKind Entry) × Valid s.homes m.1 a × TableKeepsOneHistory (stepped s 0 x seat m.1 w a) × EnlistStep (step slots 0 old (old + 1) none) m n (w, carried_after m.1 a))
     (λ hit. let left : r.enlisted < 255 = omega arith in
     let same : old + 1 ≡ r.enlisted + 1 = omega arith in (
       enlisted_as words_after s.words s.views r seat v here reader left,

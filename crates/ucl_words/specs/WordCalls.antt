@@ -6,14 +6,14 @@ use Rattle.ucl_word.specs.declared.refusal.Refusal.{Refusal}
 use Rattle.ucl_board.specs.declared.entry.Entry.{Entry}
 use Rattle.ucl_board.specs.declared.reading.Reading.{Reading}
 use Rattle.ucl_board.specs.History.{entry_of}
-use Rattle.ucl_board.specs.Log.{Mark, Match, Taken, step_taken}
+use Rattle.ucl_board.specs.Log.{Access, Match, Taken, step_taken}
 use Rattle.ucl_steps.specs.declared.step.Call.TheVariants as calls
 use Rattle.ucl_steps.specs.declared.trace.Reply.TheVariants as replies
 use Rattle.ucl_steps.specs.LogRuns.{MayAsk}
-use Rattle.ucl_steps.specs.Trails.{Follows, ReportMarks, decided_at, most_tries, ReadingMarks}
+use Rattle.ucl_steps.specs.Trails.{Follows, ReportAccesses, decided_at, most_tries, ReadingAccesses}
 use Rattle.ucl_pass.specs.declared.view.View.{View}
 use Rattle.ucl_pass.specs.Passes.{IsSound}
-use Rattle.ucl_pass.specs.Views.{known_of, count_of, trail_of, Takes}
+use Rattle.ucl_pass.specs.Views.{pass_view_of, count_of, trail_of, Takes}
 use Rattle.ucl_pass.specs.CallSteps.{EnlistSteps}
 use Rattle.ucl_words.specs.WordMachine.{report_reply, IsMadeByMachine, IsAlong}
 
@@ -23,24 +23,24 @@ HasTrail v = Follows v.seen 0 (trail_of v) (length v.seen)
 
 -- what holds of a pass between calls
 pub record IsSteady (v : View) : Type 0 where
-  pub sound : IsSound (known_of v)
-  pub kept : v.kept ≡ []
+  pub sound : IsSound (pass_view_of v)
+  pub told : v.told ≡ []
   pub trail : HasTrail v
 
--- the steps of marks, of which the last may have added an entry
-abbrev pub steps_with : Option Entry → List Mark → List Taken
+-- the steps of accesses, of which the last may have added an entry
+abbrev pub steps_with : Option Entry → List Access → List Taken
 steps_with entry [] = []
-steps_with entry (m ∷ []) = step_taken (Match m.act m.game m.found) m.at entry ∷ []
-steps_with entry (m ∷ n ∷ ms) = step_taken (Match m.act m.game m.found) m.at None ∷ steps_with entry (n ∷ ms)
+steps_with entry (m ∷ []) = step_taken (Match m.kind m.game m.found) m.at entry ∷ []
+steps_with entry (m ∷ n ∷ ms) = step_taken (Match m.kind m.game m.found) m.at None ∷ steps_with entry (n ∷ ms)
 
--- the steps of a call are on match words alone: each leaves one mark, these are between what was seen before and what is seen after, and
+-- the steps of a call are on match words alone: each leaves one access, these are between what was seen before and what is seen after, and
 -- the last may have added an entry
-pub record LeavesMarks (v : View) (marks : List Mark) (entry : Option Entry) (w : View) : Type 0 where
-  pub takes : Takes v (steps_with entry marks) w
-  pub trail : trail_of w ≡ trail_of v ++ marks
-  pub taken : count_of w ≡ count_of v + length marks
-  pub follows : Follows w.seen (length v.seen) marks (length w.seen)
-  pub whole : HasTrail w
+pub record LeavesAccesses (v : View) (accesses : List Access) (entry : Option Entry) (w : View) : Type 0 where
+  pub takes : Takes v (steps_with entry accesses) w
+  pub trail : trail_of w ≡ trail_of v ++ accesses
+  pub taken : count_of w ≡ count_of v + length accesses
+  pub follows : Follows w.seen (length v.seen) accesses (length w.seen)
+  pub whole_trail : HasTrail w
 
 -- the entry of an accepted event
 abbrev pub entry_added : ℕ → EventCall → Result Accepted Refusal → Option Entry
@@ -50,23 +50,23 @@ entry_added number call (Err refusal) = None
 -- the steps of a report, each of them a step of the machine
 pub record ReportSteps (v : View) (call : EventCall) (reply : Result Accepted Refusal) (w : View) : Type 0 where
   pub may : MayAsk v.number (calls.Event call)
-  pub marks : List Mark
-  pub leaves : LeavesMarks v marks (entry_added v.number call reply) w
-  pub report : ReportMarks call reply marks (length w.seen)
-  pub machine : IsMadeByMachine v (calls.Event call) (report_reply reply) marks (take (decided_at reply (length w.seen)) w.seen)
-  pub along : IsAlong v (calls.Event call) (report_reply reply) marks (take (decided_at reply (length w.seen)) w.seen) w
+  pub accesses : List Access
+  pub leaves : LeavesAccesses v accesses (entry_added v.number call reply) w
+  pub report : ReportAccesses call reply accesses (length w.seen)
+  pub machine : IsMadeByMachine v (calls.Event call) (report_reply reply) accesses (take (decided_at reply (length w.seen)) w.seen)
+  pub along : IsAlong v (calls.Event call) (report_reply reply) accesses (take (decided_at reply (length w.seen)) w.seen) w
 
 -- the steps of a reading, each of them a step of the machine, in no more than the most tries
 pub record ReadingSteps (v : View) (reading : Reading) (w : View) : Type 0 where
-  pub marks : List Mark
-  pub leaves : LeavesMarks v marks None w
-  pub collects : ReadingMarks reading marks
+  pub accesses : List Access
+  pub leaves : LeavesAccesses v accesses None w
+  pub collects : ReadingAccesses reading accesses
   pub few : length collects.tries + 1 ≤ most_tries
-  pub machine : IsMadeByMachine v calls.Reading (replies.Copied reading) marks w.seen
-  pub along : IsAlong v calls.Reading (replies.Copied reading) marks w.seen w
+  pub machine : IsMadeByMachine v calls.Reading (replies.Copied reading) accesses w.seen
+  pub along : IsAlong v calls.Reading (replies.Copied reading) accesses w.seen w
 
--- a call that leaves no mark: its steps are on the number of enlisted reporters alone
+-- a call that leaves no access: its steps are on the number of enlisted reporters alone
 pub record KeepsTrail (v w : View) : Type 0 where
   pub steps : EnlistSteps v w
   pub trail : trail_of w ≡ trail_of v
-  pub whole : HasTrail w
+  pub whole_trail : HasTrail w

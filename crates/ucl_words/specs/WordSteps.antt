@@ -5,30 +5,30 @@ use Rattle.atomic_table.specs.Table.{Step, Me}
 use Rattle.ucl_board.specs.declared.entry.Entry.{Entry}
 use Rattle.ucl_board.specs.Words.{word_at}
 use Rattle.ucl_board.specs.History.{board_of, IsLegal, followed_by}
-use Rattle.ucl_board.specs.Log.{Act, Mark, mark, Look, Second, Swap, Match, Enlisted}
+use Rattle.ucl_board.specs.Log.{AccessKind, Access, access, Look, Second, Swap, Match, Enlisted}
 use Rattle.ucl_pass.specs.declared.view.View.{View}
 use Rattle.ucl_pass.specs.Views.{trail_of}
 use Rattle.ucl_pass.specs.Steps.{Sees, Adds, Enlists}
 
 -- a load of the word of a match, or an exchange of it that was missed
-pub record LoadsMatch (act : Act) (game : ℕ) (v : View) (n : ℕ) (w : View) : Type 0 where
-  pub sees : Sees (Match act game n) v w
+pub record LoadsMatch (kind : AccessKind) (game : ℕ) (v : View) (n : ℕ) (w : View) : Type 0 where
+  pub sees : Sees (Match kind game n) v w
   pub listed : w.listed ≡ v.listed
 
 -- one that shows nothing
-pub record Loads (act : Act) (game : ℕ) (v : View) (n : ℕ) (w : View) : Type 0 where
-  pub loads : LoadsMatch act game v n w
+pub record Loads (kind : AccessKind) (game : ℕ) (v : View) (n : ℕ) (w : View) : Type 0 where
+  pub loads : LoadsMatch kind game v n w
   pub shown : w.shown ≡ v.shown
 
-abbrev pub no_mark : Mark
-no_mark = mark Look 0 0 0
+abbrev pub no_access : Access
+no_access = access Look 0 0 0
 
--- the mark of the twelfth load of the first collect, eleven loads of the second collect back
-abbrev pub twelfth_first : List Mark → Mark
-twelfth_first trail = slice_index_or trail (length trail - 12) no_mark
+-- the access of the twelfth load of the first collect, eleven loads of the second collect back
+abbrev pub twelfth_first : List Access → Access
+twelfth_first trail = slice_index_or trail (length trail - 12) no_access
 
 -- the version that the last load of a second collect shows, if it finds the word of the first
-abbrev pub version_shown : List Mark → ℕ → List ℕ
+abbrev pub version_shown : List Access → ℕ → List ℕ
 version_shown trail n = if n == (twelfth_first trail).found then (twelfth_first trail).at ∷ [] else []
 
 -- the twelfth load of a second collect
@@ -72,8 +72,8 @@ pub record EnlistWon (v : View) (n : ℕ) (w : View) : Type 0 where
 
 -- the steps of the table, by what they found
 
-abbrev pub LoadStep : Act → Step Entry → Me Entry View → ℕ → Me Entry View → Type 0
-LoadStep act st m n m' = Loads act st.word m.0 n m'.0
+abbrev pub LoadStep : AccessKind → Step Entry → Me Entry View → ℕ → Me Entry View → Type 0
+LoadStep kind st m n m' = Loads kind st.word m.0 n m'.0
 
 abbrev pub LastLoadStep : Step Entry → Me Entry View → ℕ → Me Entry View → Type 0
 LastLoadStep st m n m' = LoadsLast st.word m.0 n m'.0

@@ -9,7 +9,7 @@ ghost use Rattle.ucl_board.specs.Words.{AreWords, version_of};
 ghost use Rattle.ucl_board.specs.Log as trails;
 ghost use Rattle.ucl_steps.specs.Trails.{most_loads};
 ghost use Rattle.ucl_pass.specs.Passes.{IsSound, Continues, AcceptedReport, RefusedReport, SharedReading, Enlistment, FullBoard, Meeting, opening_pass, split_pass};
-ghost use Rattle.ucl_pass.specs.Views.{known_of, count_of, trail_of};
+ghost use Rattle.ucl_pass.specs.Views.{pass_view_of, count_of, trail_of};
 ghost use Rattle.ucl_pass.specs.CallSteps.{MeetingSteps, HasCopyOf};
 ghost use Rattle.ucl_pass.specs.OneHistory.{BoardsOpenFresh};
 ghost use Rattle.ucl_words.specs.WordRule.{words_after};
@@ -39,9 +39,9 @@ const MOST_REPORTERS: u64 = 255;
 /// A board of thirteen words that are loaded and exchanged one at a time: the number of enlisted reporters, and the twelve matches.
 /// Contracts see which table it is.
 ///
-/// Each load and exchange of a match word leaves a mark on the trail of its pass: what it did, of which match, the word that it found,
+/// Each load and exchange of a match word leaves an access on the trail of its pass: what it did, of which match, the word that it found,
 /// and how many events had been accepted. A report or a reading is a call of the protocol's machine (`ucl_steps`), which is made by
-/// the steps of these marks and ends with the answer that was given. None of the six calls whose names end in `_now` can wait.
+/// the steps of these accesses and ends with the answer that was given. None of the six calls whose names end in `_now` can wait.
 #[derive(Drop)]
 pub struct WordBoard {
     table: Table,
@@ -93,7 +93,7 @@ impl WordBoard {
     /// takes memory.
     pub fn open<R>(_rt: &R, alloc: Global) -> Result<(WordBoard, WordReaderPass), OutOfMemory>
         ensures own { IfOk result (λ opened. opened.1.0 ≡ opened.0) }
-        ensures fresh { IfOk result (λ opened. known_of opened.1.1 ≡ opening_pass) }
+        ensures fresh { IfOk result (λ opened. pass_view_of opened.1.1 ≡ opening_pass) }
         ensures untaken { IfOk result (λ opened. (opened.1.1.copied ≡ []) × (opened.1.1.own ≡ [])) }
         ensures rule { BoardsOpenFresh words_after }
     {
@@ -139,9 +139,9 @@ impl WordBoard {
         requires me { (0 < reporter) × (reporter ≤ 255) × (seat.old.me.0.number ≡ reporter) }
         ensures own { seat.new.table_id ≡ seat.old.table_id }
         ensures steady { IsSteady seat.new.me.0 }
-        ensures always { Continues (known_of seat.old.me.0) (known_of seat.new.me.0) }
-        ensures accepted { IfOk result (λ reply. AcceptedReport (known_of seat.old.me.0) call.now reply (known_of seat.new.me.0)) }
-        ensures refused { IfErr result (λ refusal. RefusedReport (known_of seat.old.me.0) call.now refusal (known_of seat.new.me.0)) }
+        ensures always { Continues (pass_view_of seat.old.me.0) (pass_view_of seat.new.me.0) }
+        ensures accepted { IfOk result (λ reply. AcceptedReport (pass_view_of seat.old.me.0) call.now reply (pass_view_of seat.new.me.0)) }
+        ensures refused { IfErr result (λ refusal. RefusedReport (pass_view_of seat.old.me.0) call.now refusal (pass_view_of seat.new.me.0)) }
         ensures steps { ReportSteps seat.old.me.0 call.now result seat.new.me.0 }
     {
         let loaded = self.look(seat, call.game);
@@ -206,8 +206,8 @@ impl WordBoard {
         requires steady { IsSteady seat.old.me.0 }
         ensures own { seat.new.table_id ≡ seat.old.table_id }
         ensures steady { IsSteady seat.new.me.0 }
-        ensures always { Continues (known_of seat.old.me.0) (known_of seat.new.me.0) }
-        ensures reading { SharedReading (known_of seat.old.me.0) result (known_of seat.new.me.0) }
+        ensures always { Continues (pass_view_of seat.old.me.0) (pass_view_of seat.new.me.0) }
+        ensures reading { SharedReading (pass_view_of seat.old.me.0) result (pass_view_of seat.new.me.0) }
         ensures steps { ReadingSteps seat.old.me.0 result seat.new.me.0 }
         ensures least { count_of seat.old.me.0 + 24 ≤ count_of seat.new.me.0 }
         ensures most { count_of seat.new.me.0 ≤ count_of seat.old.me.0 + most_loads }
@@ -228,9 +228,9 @@ impl WordBoard {
         requires steady { IsSteady seat.old.me.0 }
         ensures own { seat.new.table_id ≡ seat.old.table_id }
         ensures steady { IsSteady seat.new.me.0 }
-        ensures enlisted { IfSome result (λ number. Enlistment (known_of seat.old.me.0) (known_of seat.new.me.0) × (seat.new.me.0.number ≡ number)) }
-        ensures always { IfNone result (Continues (known_of seat.old.me.0) (known_of seat.new.me.0)) }
-        ensures full { IfNone result (FullBoard (known_of seat.old.me.0) (known_of seat.new.me.0)) }
+        ensures enlisted { IfSome result (λ number. Enlistment (pass_view_of seat.old.me.0) (pass_view_of seat.new.me.0) × (seat.new.me.0.number ≡ number)) }
+        ensures always { IfNone result (Continues (pass_view_of seat.old.me.0) (pass_view_of seat.new.me.0)) }
+        ensures full { IfNone result (FullBoard (pass_view_of seat.old.me.0) (pass_view_of seat.new.me.0)) }
         ensures trail { KeepsTrail seat.old.me.0 seat.new.me.0 }
         ensures most { count_of seat.new.me.0 ≤ count_of seat.old.me.0 + 255 }
     {
@@ -265,8 +265,8 @@ impl WordBoard {
         ensures own { (first.new.table_id ≡ first.old.table_id) × (second.new.table_id ≡ second.old.table_id) }
         ensures unchanged { first.new.me.0 ≡ first.old.me.0 }
         ensures steady { IsSteady second.new.me.0 }
-        ensures always { Continues (known_of second.old.me.0) (known_of second.new.me.0) }
-        ensures meeting { Meeting (known_of first.old.me.0) (known_of second.old.me.0) (known_of second.new.me.0) }
+        ensures always { Continues (pass_view_of second.old.me.0) (pass_view_of second.new.me.0) }
+        ensures meeting { Meeting (pass_view_of first.old.me.0) (pass_view_of second.old.me.0) (pass_view_of second.new.me.0) }
         ensures trail { KeepsTrail second.old.me.0 second.new.me.0 }
         ensures steps { MeetingSteps second.old.me.0 second.new.me.0 }
         ensures taken { count_of second.new.me.0 ≡ count_of second.old.me.0 + 1 }
@@ -286,9 +286,9 @@ impl WordBoard {
     ) -> Result<Accepted, Refusal>
         requires { pass.old.0 ≡ self.now }
         ensures own { pass.new.0 ≡ self.now }
-        ensures always { Continues (known_of pass.old.1) (known_of pass.new.1) }
-        ensures accepted { IfOk result (λ reply. AcceptedReport (known_of pass.old.1) call.now reply (known_of pass.new.1)) }
-        ensures refused { IfErr result (λ refusal. RefusedReport (known_of pass.old.1) call.now refusal (known_of pass.new.1)) }
+        ensures always { Continues (pass_view_of pass.old.1) (pass_view_of pass.new.1) }
+        ensures accepted { IfOk result (λ reply. AcceptedReport (pass_view_of pass.old.1) call.now reply (pass_view_of pass.new.1)) }
+        ensures refused { IfErr result (λ refusal. RefusedReport (pass_view_of pass.old.1) call.now refusal (pass_view_of pass.new.1)) }
         ensures steps { ReportSteps pass.old.1 call.now result pass.new.1 }
         ensures most { count_of pass.new.1 ≤ count_of pass.old.1 + 2 }
     {
@@ -305,8 +305,8 @@ impl WordBoard {
     pub fn read_now(&self, pass: &mut WordReaderPass) -> Reading
         requires { pass.old.0 ≡ self.now }
         ensures own { pass.new.0 ≡ self.now }
-        ensures always { Continues (known_of pass.old.1) (known_of pass.new.1) }
-        ensures reading { SharedReading (known_of pass.old.1) result (known_of pass.new.1) }
+        ensures always { Continues (pass_view_of pass.old.1) (pass_view_of pass.new.1) }
+        ensures reading { SharedReading (pass_view_of pass.old.1) result (pass_view_of pass.new.1) }
         ensures steps { ReadingSteps pass.old.1 result pass.new.1 }
         ensures least { count_of pass.old.1 + 24 ≤ count_of pass.new.1 }
         ensures most { count_of pass.new.1 ≤ count_of pass.old.1 + most_loads }
@@ -318,8 +318,8 @@ impl WordBoard {
     pub fn read_own_now(&self, pass: &mut WordReporterPass) -> Reading
         requires { pass.old.0 ≡ self.now }
         ensures own { pass.new.0 ≡ self.now }
-        ensures always { Continues (known_of pass.old.1) (known_of pass.new.1) }
-        ensures reading { SharedReading (known_of pass.old.1) result (known_of pass.new.1) }
+        ensures always { Continues (pass_view_of pass.old.1) (pass_view_of pass.new.1) }
+        ensures reading { SharedReading (pass_view_of pass.old.1) result (pass_view_of pass.new.1) }
         ensures steps { ReadingSteps pass.old.1 result pass.new.1 }
         ensures least { count_of pass.old.1 + 24 ≤ count_of pass.new.1 }
         ensures most { count_of pass.new.1 ≤ count_of pass.old.1 + most_loads }
@@ -332,9 +332,9 @@ impl WordBoard {
     pub fn split_now(&self, pass: &mut WordReaderPass) -> WordReaderPass
         requires { pass.old.0 ≡ self.now }
         ensures own { (pass.new.0 ≡ self.now) × (result.0 ≡ self.now) }
-        ensures sound { IsSound (known_of pass.old.1) }
+        ensures sound { IsSound (pass_view_of pass.old.1) }
         ensures unchanged { pass.new.1 ≡ pass.old.1 }
-        ensures given { known_of result.1 ≡ split_pass (known_of pass.old.1) }
+        ensures given { pass_view_of result.1 ≡ split_pass (pass_view_of pass.old.1) }
         ensures steps { (count_of result.1 ≡ count_of pass.old.1) × (trail_of result.1 ≡ trail_of pass.old.1) }
         ensures copy { HasCopyOf result.1 pass.old.1 }
     {
@@ -350,9 +350,9 @@ impl WordBoard {
     ) -> Result<WordReporterPass, TooManyReporters<WordReaderPass>>
         requires { pass.0 ≡ self.now }
         ensures own { MatchResult result (λ enlisted. enlisted.0 ≡ self.now) (λ full. full.0.0 ≡ self.now) }
-        ensures enlisted { IfOk result (λ enlisted. Enlistment (known_of pass.1) (known_of enlisted.1)) }
-        ensures always { IfErr result (λ full. Continues (known_of pass.1) (known_of full.0.1)) }
-        ensures full { IfErr result (λ full. FullBoard (known_of pass.1) (known_of full.0.1)) }
+        ensures enlisted { IfOk result (λ enlisted. Enlistment (pass_view_of pass.1) (pass_view_of enlisted.1)) }
+        ensures always { IfErr result (λ full. Continues (pass_view_of pass.1) (pass_view_of full.0.1)) }
+        ensures full { IfErr result (λ full. FullBoard (pass_view_of pass.1) (pass_view_of full.0.1)) }
         ensures trail { MatchResult result (λ enlisted. KeepsTrail pass.1 enlisted.1) (λ full. KeepsTrail pass.1 full.0.1) }
         ensures most { MatchResult result (λ enlisted. count_of enlisted.1 ≤ count_of pass.1 + 255) (λ full. count_of full.0.1 ≤ count_of pass.1 + 255) }
     {
@@ -371,10 +371,10 @@ impl WordBoard {
     pub fn meet_now(&self, first: &mut WordReporterPass, second: &mut WordReporterPass)
         requires { (first.old.0 ≡ self.now) × (second.old.0 ≡ self.now) }
         ensures own { (first.new.0 ≡ self.now) × (second.new.0 ≡ self.now) }
-        ensures sound { IsSound (known_of first.old.1) }
-        ensures always { Continues (known_of second.old.1) (known_of second.new.1) }
+        ensures sound { IsSound (pass_view_of first.old.1) }
+        ensures always { Continues (pass_view_of second.old.1) (pass_view_of second.new.1) }
         ensures unchanged { first.new.1 ≡ first.old.1 }
-        ensures meeting { Meeting (known_of first.old.1) (known_of second.old.1) (known_of second.new.1) }
+        ensures meeting { Meeting (pass_view_of first.old.1) (pass_view_of second.old.1) (pass_view_of second.new.1) }
         ensures trail { KeepsTrail second.old.1 second.new.1 }
         ensures steps { MeetingSteps second.old.1 second.new.1 }
         ensures taken { count_of second.new.1 ≡ count_of second.old.1 + 1 }

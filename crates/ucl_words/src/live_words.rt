@@ -3,7 +3,7 @@
 ghost use Rattle.std.specs.Prelude.{◌≡◌, ◌+◌, ◌≤◌, IfOk, IfErr, MatchResult};
 ghost use Rattle.ucl_steps.specs.Trails.{most_loads};
 ghost use Rattle.ucl_pass.specs.Passes.{IsSound, Continues, AcceptedReport, RefusedReport, SharedReading, split_pass, Enlistment, FullBoard, Meeting, reporter_figures};
-ghost use Rattle.ucl_pass.specs.Views.{known_of, count_of, trail_of};
+ghost use Rattle.ucl_pass.specs.Views.{pass_view_of, count_of, trail_of};
 ghost use Rattle.ucl_pass.specs.CallSteps.{MeetingSteps, HasCopyOf};
 ghost use Rattle.ucl_words.specs.WordCalls.{ReportSteps, ReadingSteps, KeepsTrail};
 
@@ -24,9 +24,9 @@ impl LiveBoard for WordBoard {
 
     ghost is_reporter = { λ board pass. pass.0 ≡ board };
 
-    ghost reader = { λ pass. known_of pass.1 };
+    ghost reader = { λ pass. pass_view_of pass.1 };
 
-    ghost reporter = { λ pass. known_of pass.1 };
+    ghost reporter = { λ pass. pass_view_of pass.1 };
 
     fn report<R: Wait>(
         &self,
@@ -36,9 +36,9 @@ impl LiveBoard for WordBoard {
     ) -> Result<Accepted, Refusal>
         requires { pass.old.0 ≡ self.now }
         ensures own { pass.new.0 ≡ self.now }
-        ensures always { Continues (known_of pass.old.1) (known_of pass.new.1) }
-        ensures accepted { IfOk result (λ reply. AcceptedReport (known_of pass.old.1) call.now reply (known_of pass.new.1)) }
-        ensures refused { IfErr result (λ refusal. RefusedReport (known_of pass.old.1) call.now refusal (known_of pass.new.1)) }
+        ensures always { Continues (pass_view_of pass.old.1) (pass_view_of pass.new.1) }
+        ensures accepted { IfOk result (λ reply. AcceptedReport (pass_view_of pass.old.1) call.now reply (pass_view_of pass.new.1)) }
+        ensures refused { IfErr result (λ refusal. RefusedReport (pass_view_of pass.old.1) call.now refusal (pass_view_of pass.new.1)) }
         ensures steps { ReportSteps pass.old.1 call.now result pass.new.1 }
         ensures most { count_of pass.new.1 ≤ count_of pass.old.1 + 2 }
     {
@@ -48,8 +48,8 @@ impl LiveBoard for WordBoard {
     fn read<R: Wait>(&self, _rt: &R, pass: &mut WordReaderPass) -> Reading
         requires { pass.old.0 ≡ self.now }
         ensures own { pass.new.0 ≡ self.now }
-        ensures always { Continues (known_of pass.old.1) (known_of pass.new.1) }
-        ensures reading { SharedReading (known_of pass.old.1) result (known_of pass.new.1) }
+        ensures always { Continues (pass_view_of pass.old.1) (pass_view_of pass.new.1) }
+        ensures reading { SharedReading (pass_view_of pass.old.1) result (pass_view_of pass.new.1) }
         ensures steps { ReadingSteps pass.old.1 result pass.new.1 }
         ensures least { count_of pass.old.1 + 24 ≤ count_of pass.new.1 }
         ensures most { count_of pass.new.1 ≤ count_of pass.old.1 + most_loads }
@@ -60,8 +60,8 @@ impl LiveBoard for WordBoard {
     fn read_own<R: Wait>(&self, _rt: &R, pass: &mut WordReporterPass) -> Reading
         requires { pass.old.0 ≡ self.now }
         ensures own { pass.new.0 ≡ self.now }
-        ensures always { Continues (known_of pass.old.1) (known_of pass.new.1) }
-        ensures reading { SharedReading (known_of pass.old.1) result (known_of pass.new.1) }
+        ensures always { Continues (pass_view_of pass.old.1) (pass_view_of pass.new.1) }
+        ensures reading { SharedReading (pass_view_of pass.old.1) result (pass_view_of pass.new.1) }
         ensures steps { ReadingSteps pass.old.1 result pass.new.1 }
         ensures least { count_of pass.old.1 + 24 ≤ count_of pass.new.1 }
         ensures most { count_of pass.new.1 ≤ count_of pass.old.1 + most_loads }
@@ -72,9 +72,9 @@ impl LiveBoard for WordBoard {
     fn split<R: Wait>(&self, _rt: &R, pass: &mut WordReaderPass) -> WordReaderPass
         requires { pass.old.0 ≡ self.now }
         ensures own { (pass.new.0 ≡ self.now) × (result.0 ≡ self.now) }
-        ensures sound { IsSound (known_of pass.old.1) }
+        ensures sound { IsSound (pass_view_of pass.old.1) }
         ensures unchanged { pass.new.1 ≡ pass.old.1 }
-        ensures given { known_of result.1 ≡ split_pass (known_of pass.old.1) }
+        ensures given { pass_view_of result.1 ≡ split_pass (pass_view_of pass.old.1) }
         ensures steps { (count_of result.1 ≡ count_of pass.old.1) × (trail_of result.1 ≡ trail_of pass.old.1) }
         ensures copy { HasCopyOf result.1 pass.old.1 }
     {
@@ -88,9 +88,9 @@ impl LiveBoard for WordBoard {
     ) -> Result<WordReporterPass, TooManyReporters<WordReaderPass>>
         requires { pass.0 ≡ self.now }
         ensures own { MatchResult result (λ enlisted. enlisted.0 ≡ self.now) (λ full. full.0.0 ≡ self.now) }
-        ensures enlisted { IfOk result (λ enlisted. Enlistment (known_of pass.1) (known_of enlisted.1)) }
-        ensures always { IfErr result (λ full. Continues (known_of pass.1) (known_of full.0.1)) }
-        ensures full { IfErr result (λ full. FullBoard (known_of pass.1) (known_of full.0.1)) }
+        ensures enlisted { IfOk result (λ enlisted. Enlistment (pass_view_of pass.1) (pass_view_of enlisted.1)) }
+        ensures always { IfErr result (λ full. Continues (pass_view_of pass.1) (pass_view_of full.0.1)) }
+        ensures full { IfErr result (λ full. FullBoard (pass_view_of pass.1) (pass_view_of full.0.1)) }
         ensures trail { MatchResult result (λ enlisted. KeepsTrail pass.1 enlisted.1) (λ full. KeepsTrail pass.1 full.0.1) }
         ensures most { MatchResult result (λ enlisted. count_of enlisted.1 ≤ count_of pass.1 + 255) (λ full. count_of full.0.1 ≤ count_of pass.1 + 255) }
     {
@@ -100,10 +100,10 @@ impl LiveBoard for WordBoard {
     fn meet<R: Wait>(&self, _rt: &R, first: &mut WordReporterPass, second: &mut WordReporterPass)
         requires { (first.old.0 ≡ self.now) × (second.old.0 ≡ self.now) }
         ensures own { (first.new.0 ≡ self.now) × (second.new.0 ≡ self.now) }
-        ensures sound { IsSound (known_of first.old.1) }
-        ensures always { Continues (known_of second.old.1) (known_of second.new.1) }
+        ensures sound { IsSound (pass_view_of first.old.1) }
+        ensures always { Continues (pass_view_of second.old.1) (pass_view_of second.new.1) }
         ensures unchanged { first.new.1 ≡ first.old.1 }
-        ensures meeting { Meeting (known_of first.old.1) (known_of second.old.1) (known_of second.new.1) }
+        ensures meeting { Meeting (pass_view_of first.old.1) (pass_view_of second.old.1) (pass_view_of second.new.1) }
         ensures trail { KeepsTrail second.old.1 second.new.1 }
         ensures steps { MeetingSteps second.old.1 second.new.1 }
         ensures taken { count_of second.new.1 ≡ count_of second.old.1 + 1 }
@@ -112,13 +112,13 @@ impl LiveBoard for WordBoard {
     }
 
     fn number_of(pass: &WordReporterPass) -> ReporterNo
-        ensures { result ≡ (reporter_figures (known_of pass.now.1)).0 }
+        ensures { result ≡ (reporter_figures (pass_view_of pass.now.1)).0 }
     {
         pass.number
     }
 
     fn accepted_of(pass: &WordReporterPass) -> u16
-        ensures { result ≡ (reporter_figures (known_of pass.now.1)).1 }
+        ensures { result ≡ (reporter_figures (pass_view_of pass.now.1)).1 }
     {
         pass.accepted
     }

@@ -5,7 +5,7 @@ use Rattle.ucl_night.specs.declared.command_line.Line.{Line}
 use Rattle.ucl_night.specs.CommandLine.{line_in}
 use Rattle.ucl_night.proofs.Lines.{is_line}
 use Rattle.ucl_night.proofs.Range.{is_in_range}
-use Rattle.ucl_night.proofs.Told.{tells_of}
+use Rattle.ucl_night.proofs.ToldErrors.{tells_of}
 use Rattle.ucl_night.proofs.command_line.line_of.Goals as goal
 
 pub returns-in-Err-clause-taken : goal.returns-in-Err-clause-taken

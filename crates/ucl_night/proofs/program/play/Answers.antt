@@ -1,7 +1,7 @@
 use Rattle.std.specs.Prelude.{option_map, slice_index_or, string_bytes, None}
-use Rattle.ucl_screen.specs.Meaning.{night_seen}
+use Rattle.ucl_screen.specs.Parsing.{night_seen}
 use Rattle.ucl_runs.specs.Nights.{night_text}
-use Rattle.ucl_night.proofs.Playing.{closing-of, looked, played, put}
+use Rattle.ucl_night.proofs.NightOutput.{closing-of, looked, played, put}
 use Rattle.ucl_night.proofs.program.play.Goals as goal
 
 pub returns : goal.returns

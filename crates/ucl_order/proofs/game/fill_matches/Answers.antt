@@ -1,7 +1,7 @@
 use Rattle.std.proofs.Common.{◌≡◌, arith, rules}
 use Rattle.std.proofs.lemmas.List.Elements.{All-push}
 use Rattle.ucl_word.specs.Record.{IsValid}
-use Rattle.ucl_order.proofs.Adding.{match_is, matches_more, matches_all}
+use Rattle.ucl_order.proofs.OneMatchMore.{match_is, matches_more, matches_all}
 use Rattle.ucl_order.proofs.game.fill_matches.Goals as goal
 use Rattle.ucl_order.proofs.game.fill_matches.Goals.{in-Some, in_default}
 

@@ -1,4 +1,4 @@
-use Rattle.ucl_order.proofs.Descending.{split-are}
+use Rattle.ucl_order.proofs.DescendingOrder.{split-are}
 use Rattle.ucl_order.proofs.laws.classes_are_level.Goals as goal
 
 pub returns : goal.returns

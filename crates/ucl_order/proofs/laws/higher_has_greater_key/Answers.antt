@@ -1,8 +1,8 @@
 use Rattle.ucl_order.specs.Results.{matches_of, started}
 use Rattle.ucl_order.specs.Order.{among, by_profile, overall}
 use Rattle.ucl_order.specs.Keys.{overall_key, overall_number, slots_in, tie_key, tie_number}
-use Rattle.ucl_order.proofs.Fitting.{coefficient_fits, fits_all, fits_among, words_valid}
-use Rattle.ucl_order.proofs.Packing.{higher_greater, overall_ranks, tie_ranks}
+use Rattle.ucl_order.proofs.KeysFit.{coefficient_fits, fits_all, fits_among, words_valid}
+use Rattle.ucl_order.proofs.KeyFacts.{higher_greater, overall_ranks, tie_ranks}
 use Rattle.ucl_order.proofs.laws.higher_has_greater_key.Goals as goal
 
 pub returns : goal.returns

@@ -1,4 +1,4 @@
-use Rattle.ucl_order.proofs.Adding.{row_of_results}
+use Rattle.ucl_order.proofs.OneMatchMore.{row_of_results}
 use Rattle.ucl_order.proofs.table.row_with.Goals as goal
 
 pub returns : goal.returns

@@ -7,7 +7,7 @@ use Rattle.ucl_order.specs.Marks.{mark_by}
 use Rattle.ucl_order.specs.Rounds.{results_of_clubs}
 use Rattle.ucl_order.specs.Order.{order_of}
 use Rattle.ucl_order.specs.Rows.{rows_of, row_of, IsWithinTable, MarkIsCertain}
-use Rattle.ucl_order.proofs.Fitting.{started_is}
+use Rattle.ucl_order.proofs.KeysFit.{started_is}
 use Rattle.ucl_order.proofs.Limits.{rows_within}
 use Rattle.ucl_order.proofs.TableRows.{all_certain, four_rows, order_is, row_of_place}
 use Rattle.ucl_order.proofs.table.standings.Goals as goal

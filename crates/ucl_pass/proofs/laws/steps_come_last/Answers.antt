@@ -1,4 +1,4 @@
-use Rattle.ucl_pass.proofs.Logging.{steps_last}
+use Rattle.ucl_pass.proofs.LogFacts.{steps_last}
 use Rattle.ucl_pass.proofs.laws.steps_come_last.Goals as goal
 
 pub returns : goal.returns

@@ -1,8 +1,8 @@
 use Rattle.std.proofs.Common.{◌≡◌, ◌≢◌, length, arith, sym, ap, ◌∙◌}
-use Rattle.ucl_pass.specs.Passes.{Known}
+use Rattle.ucl_pass.specs.Passes.{PassView}
 use Rattle.ucl_pass.specs.Settling.{both_accepted}
 use Rattle.ucl_pass.proofs.Lists.{unchanged}
-use Rattle.ucl_pass.proofs.Settles.{through, all_theirs, above, differ, one_number}
+use Rattle.ucl_pass.proofs.SettledPasses.{through, all_theirs, above, differ, one_number}
 use Rattle.ucl_pass.proofs.settling.settle.Goals as goal
 use Rattle.ucl_pass.proofs.settling.settle.Goals.{else-ne-via-then-ne+else-from-accepted, else-ne-via-else-ne}
 
@@ -37,9 +37,9 @@ returns-then-from-accepted-clause-of_both g c =
     let b = k c.args.second.now in
     let b1 = k c.meet.new.second in
     let d = k c.read_own-reading.new.pass in
-    let first : c.number_of.result ≡ a.number = c.number_of.ensures ∙ ap (λ (k : Known). k.number) m.unchanged in
+    let first : c.number_of.result ≡ a.number = c.number_of.ensures ∙ ap (λ (k : PassView). k.number) m.unchanged in
     let second : c.number_of-2.result ≡ b.number = c.number_of-2.ensures ∙ (r.always.number ∙ m.always.number) in
-    let la : c.accepted_of.result ≡ length a.mine = c.accepted_of.ensures ∙ ap (λ (k : Known). length k.mine) m.unchanged in
+    let la : c.accepted_of.result ≡ length a.mine = c.accepted_of.ensures ∙ ap (λ (k : PassView). length k.mine) m.unchanged in
     let lb : c.accepted_of-2.result ≡ length b.mine = c.accepted_of-2.ensures ∙ ap length (r.reading.mine ∙ m.meeting.mine) in
     let f1 = c.from.ensures in
     let f2 = c.from-2.ensures in
@@ -58,9 +58,9 @@ returns-else-ne-clause-strangers g c ne =
     let b = k c.args.second.now in
     let b1 = k c.meet.new.second in
     let d = k c.read_own-reading.new.pass in
-    let first : c.number_of.result ≡ a.number = c.number_of.ensures ∙ ap (λ (k : Known). k.number) m.unchanged in
+    let first : c.number_of.result ≡ a.number = c.number_of.ensures ∙ ap (λ (k : PassView). k.number) m.unchanged in
     let second : c.number_of-2.result ≡ b.number = c.number_of-2.ensures ∙ (r.always.number ∙ m.always.number) in
-    let la : c.accepted_of.result ≡ length a.mine = c.accepted_of.ensures ∙ ap (λ (k : Known). length k.mine) m.unchanged in
+    let la : c.accepted_of.result ≡ length a.mine = c.accepted_of.ensures ∙ ap (λ (k : PassView). length k.mine) m.unchanged in
     let lb : c.accepted_of-2.result ≡ length b.mine = c.accepted_of-2.ensures ∙ ap length (r.reading.mine ∙ m.meeting.mine) in
     let f1 = c.from.ensures in
     let f2 = c.from-2.ensures in

@@ -1,6 +1,6 @@
 use Rattle.std.proofs.Common.{refl, subst, sym, All}
 use Rattle.ucl_runs.specs.Nights.{IsOnDuty, number_of_two}
-use Rattle.ucl_runs.proofs.Merging.{each_on_duty, merged_by_settlers}
+use Rattle.ucl_runs.proofs.MergedRows.{each_on_duty, merged_by_settlers}
 use Rattle.ucl_runs.proofs.Merges.{night_board_read}
 use Rattle.ucl_runs.proofs.night.night_run.Goals as goal
 

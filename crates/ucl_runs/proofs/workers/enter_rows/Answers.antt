@@ -1,6 +1,6 @@
 use Rattle.std.proofs.Common.{◌+◌, sym, ◌∙◌, subst, take}
 use Rattle.ucl_runs.specs.Nights.{HasEntered}
-use Rattle.ucl_runs.proofs.Entering.{entered_none, next_skipped, next_entered}
+use Rattle.ucl_runs.proofs.EnteredRows.{entered_none, next_skipped, next_entered}
 use Rattle.ucl_runs.proofs.WorkSteps.{rows_next}
 use Rattle.ucl_runs.proofs.workers.enter_rows.Goals.{then-get-reporter, else-get-reporter}
 use Rattle.ucl_runs.proofs.workers.enter_rows.Goals as goal

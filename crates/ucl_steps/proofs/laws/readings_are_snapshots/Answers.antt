@@ -1,4 +1,4 @@
-use Rattle.ucl_steps.proofs.Marks.{reading_whole}
+use Rattle.ucl_steps.proofs.Accesses.{reading_whole}
 use Rattle.ucl_steps.proofs.laws.readings_are_snapshots.Goals as goal
 
 pub returns : goal.returns

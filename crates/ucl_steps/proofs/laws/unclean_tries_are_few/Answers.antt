@@ -1,4 +1,4 @@
-use Rattle.ucl_steps.proofs.Marks.{tries_few}
+use Rattle.ucl_steps.proofs.Accesses.{tries_few}
 use Rattle.ucl_steps.proofs.laws.unclean_tries_are_few.Goals as goal
 
 pub returns : goal.returns

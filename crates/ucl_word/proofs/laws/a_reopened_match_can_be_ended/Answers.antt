@@ -1,4 +1,4 @@
-use Rattle.ucl_word.proofs.Accepting.{ends_again}
+use Rattle.ucl_word.proofs.AcceptedEvents.{ends_again}
 use Rattle.ucl_word.proofs.laws.a_reopened_match_can_be_ended.Goals as goal
 
 pub returns : goal.returns

@@ -1,4 +1,4 @@
-use Rattle.ucl_word.proofs.Counting.{one_case}
+use Rattle.ucl_word.proofs.EntryCounts.{one_case}
 use Rattle.ucl_word.proofs.laws.one_case_holds.Goals as goal
 
 pub returns : goal.returns

@@ -1,4 +1,4 @@
-use Rattle.ucl_words.proofs.Telling.{words_tell}
+use Rattle.ucl_words.proofs.ExchangedEntry.{words_tell}
 use Rattle.ucl_words.proofs.laws.words_tell_the_entry.Goals as goal
 
 pub returns : goal.returns

@@ -1,7 +1,7 @@
 use Rattle.std.proofs.Common.{◌≡◌, length, ◌≢◌, ◌∙◌, ap, refl, sym, arith}
 use Rattle.ucl_order.specs.Counting.{with_match}
-use Rattle.ucl_order.proofs.Adding.{results_none}
-use Rattle.ucl_order.proofs.Gathering.{clubs_more, nothing_done, nothing_within, second_within, within_two}
+use Rattle.ucl_order.proofs.OneMatchMore.{results_none}
+use Rattle.ucl_order.proofs.GatheredResults.{clubs_more, nothing_done, nothing_within, second_within, within_two}
 use Rattle.ucl_order.proofs.results.Results.of_clubs.Goals as goal
 
 pub loop-game-init : goal.loop-game-init

@@ -1,7 +1,7 @@
 use Rattle.std.proofs.Common.{◌+◌, ◌≤◌, sym, ◌∙◌, arith}
 use Rattle.crossbeam_utils.specs.Seq.{cell_view}
 use Rattle.ucl_board.specs.Words.{greatest_version}
-use Rattle.ucl_pass.specs.Views.{known_of}
+use Rattle.ucl_pass.specs.Views.{pass_view_of}
 use Rattle.ucl_pass.proofs.Calls.{room}
 use Rattle.ucl_pass.proofs.live_cell.CellBoardLiveBoard.report.Goals as goal
 
@@ -9,5 +9,5 @@ pub overflow_add-pass : goal.overflow_add-pass
 overflow_add-pass g c =
     let p = c.pass.inside in
     let said = c.report_by-result.ensures in
-    let r : p.accepted + 1 ≤ greatest_version = room (known_of (cell_view p.seat)) (known_of (cell_view c.report_by-result.new.seat)) c.args.call.now c.report_by-result.result p.accepted said.accepted (sym c.is_ok.ensures.value ∙ c.if-is_ok.true) said.always.sound c.pass.invariant.2 in
+    let r : p.accepted + 1 ≤ greatest_version = room (pass_view_of (cell_view p.seat)) (pass_view_of (cell_view c.report_by-result.new.seat)) c.args.call.now c.report_by-result.result p.accepted said.accepted (sym c.is_ok.ensures.value ∙ c.if-is_ok.true) said.always.sound c.pass.invariant.2 in
     omega arith

@@ -1,7 +1,7 @@
 use Rattle.std.proofs.Common.{ℕ, refl, sym, ◌∙◌, arith, length-set}
 use Rattle.ucl_board.specs.Log.{First}
 use Rattle.ucl_words.proofs.Moves.{loads}
-use Rattle.ucl_words.proofs.Collecting.{collected_none, collected_set}
+use Rattle.ucl_words.proofs.CollectFacts.{collected_none, collected_set}
 use Rattle.ucl_words.proofs.board.WordBoard.collect.Goals as goal
 
 pub loop-i-init : goal.loop-i-init

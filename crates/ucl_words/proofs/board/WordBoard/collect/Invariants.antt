@@ -1,6 +1,6 @@
 use Rattle.std.proofs.Common.{◌≡◌, length}
 use Rattle.ucl_board.specs.Log.{First}
-use Rattle.ucl_words.proofs.Collecting.{Collected}
+use Rattle.ucl_words.proofs.CollectFacts.{Collected}
 use Rattle.ucl_words.proofs.board.WordBoard.collect.Given as goal
 
 abbrev pub invariant-loop-i : goal.invariant-loop-i

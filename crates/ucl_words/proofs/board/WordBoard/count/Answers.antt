@@ -1,6 +1,6 @@
 use Rattle.std.proofs.Common.{sym, ◌∙◌, arith}
 use Rattle.ucl_words.proofs.Moves.{counts}
-use Rattle.ucl_words.proofs.Enlisting.{counted_steady}
+use Rattle.ucl_words.proofs.EnlistmentFacts.{counted_steady}
 use Rattle.ucl_words.proofs.board.WordBoard.count.Goals as goal
 
 pub load-requires : goal.load-requires

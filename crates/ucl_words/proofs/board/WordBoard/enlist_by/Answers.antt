@@ -1,7 +1,7 @@
 use Rattle.std.proofs.Common.{refl, sym, ◌∙◌, arith}
 use Rattle.ucl_pass.proofs.Calls.{number_told}
 use Rattle.ucl_words.proofs.Moves.{enlists}
-use Rattle.ucl_words.proofs.Enlisting.{missed_none, missed_higher, missed_more, won_steady, won_enlists, won_trail, won_number}
+use Rattle.ucl_words.proofs.EnlistmentFacts.{missed_none, missed_higher, missed_more, won_steady, won_enlists, won_trail, won_number}
 use Rattle.ucl_words.proofs.board.WordBoard.enlist_by.Goals as goal
 
 pub tries-init : goal.tries-init

@@ -1,5 +1,5 @@
 use Rattle.std.proofs.Common.{◌≡◌, ◌-◌, ◌≤◌}
-use Rattle.ucl_words.proofs.Enlisting.{Missed}
+use Rattle.ucl_words.proofs.EnlistmentFacts.{Missed}
 use Rattle.ucl_words.proofs.board.WordBoard.enlist_by.Given as goal
 
 abbrev pub invariant-tries : goal.invariant-tries

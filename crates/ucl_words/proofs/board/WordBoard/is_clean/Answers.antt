@@ -1,7 +1,7 @@
 use Rattle.std.proofs.Common.{◌≡◌, ℕ, ◌≤◌, refl, sym, ◌∙◌, subst, arith}
 use Rattle.ucl_board.specs.Log.{Second}
 use Rattle.ucl_words.proofs.Moves.{loads, loads_last}
-use Rattle.ucl_words.proofs.Collecting.{Collected, collected_none, collected_same, collected_other, finds_again, finds_another}
+use Rattle.ucl_words.proofs.CollectFacts.{Collected, collected_none, collected_same, collected_other, finds_again, finds_another}
 use Rattle.ucl_words.proofs.board.WordBoard.is_clean.Goals as goal
 
 pub loop-i-init : goal.loop-i-init

@@ -1,6 +1,6 @@
 use Rattle.std.proofs.Common.{◌≡◌}
 use Rattle.ucl_board.specs.Log.{Second}
-use Rattle.ucl_words.proofs.Collecting.{Collected}
+use Rattle.ucl_words.proofs.CollectFacts.{Collected}
 use Rattle.ucl_words.proofs.board.WordBoard.is_clean.Given as goal
 
 abbrev pub invariant-loop-i : goal.invariant-loop-i

@@ -4,7 +4,7 @@ use Rattle.ucl_pass.specs.declared.view.View.{View}
 use Rattle.ucl_pass.specs.Views.{newcomer, told_by}
 use Rattle.ucl_words.specs.WordRule.{TableKeepsOneHistory}
 use Rattle.ucl_words.proofs.Moves.{notes, joins}
-use Rattle.ucl_words.proofs.Enlisting.{met_steady, met_continues, met_says, met_trail, met_steps, after_told}
+use Rattle.ucl_words.proofs.EnlistmentFacts.{met_steady, met_continues, met_says, met_trail, met_steps, after_told}
 use Rattle.ucl_words.proofs.board.WordBoard.meet_by.Goals as goal
 
 pub split_seat-note-requires : goal.split_seat-note-requires

@@ -1,4 +1,4 @@
-use Rattle.ucl_pass.proofs.Logging.{opens_fresh}
+use Rattle.ucl_pass.proofs.LogFacts.{opens_fresh}
 use Rattle.ucl_words.specs.WordRule.{words_after}
 use Rattle.ucl_words.proofs.Moves.{opens}
 use Rattle.ucl_words.proofs.board.WordBoard.open.Goals as goal

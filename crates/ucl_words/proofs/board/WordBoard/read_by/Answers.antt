@@ -1,5 +1,5 @@
 use Rattle.std.proofs.Common.{◌∙◌, refl, arith}
-use Rattle.ucl_words.proofs.Collecting.{has_collected, tried_none, tried_longer, tried_again, are_words, reads}
+use Rattle.ucl_words.proofs.CollectFacts.{has_collected, tried_none, tried_longer, tried_again, are_words, reads}
 use Rattle.ucl_words.proofs.board.WordBoard.read_by.Goals as goal
 
 pub tries-init : goal.tries-init

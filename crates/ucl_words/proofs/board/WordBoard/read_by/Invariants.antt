@@ -1,6 +1,6 @@
 use Rattle.std.proofs.Common.{◌≡◌, ◌-◌, length}
 use Rattle.ucl_steps.specs.Trails.{most_tries}
-use Rattle.ucl_words.proofs.Collecting.{Tried}
+use Rattle.ucl_words.proofs.CollectFacts.{Tried}
 use Rattle.ucl_words.proofs.board.WordBoard.read_by.Given as goal
 
 abbrev pub invariant-tries : goal.invariant-tries

@@ -1,8 +1,8 @@
 use Rattle.std.proofs.Common.{refl, ap}
 use Rattle.ucl_word.specs.declared.record.MatchRecord.{MatchRecord}
 use Rattle.ucl_word.specs.declared.refusal.Refusal.TheVariants.{Stale}
-use Rattle.ucl_words.proofs.Walking.{found_valid, walks_continue}
-use Rattle.ucl_words.proofs.Reporting.{next_word, look_walks, look_steps, look_refuses, miss_walks, miss_steps, miss_refuses, won_steady, won_continues, won_steps, won_accepts, accepts_by, refused_by, as_entry, me_in}
+use Rattle.ucl_words.proofs.StepRuns.{found_valid, walks_continue}
+use Rattle.ucl_words.proofs.ReportFacts.{next_word, look_walks, look_steps, look_refuses, miss_walks, miss_steps, miss_refuses, won_steady, won_continues, won_steps, won_accepts, accepts_by, refused_by, as_entry, me_in}
 use Rattle.ucl_words.proofs.board.WordBoard.report_by.Goals as goal
 
 pub record_of-requires : goal.record_of-requires

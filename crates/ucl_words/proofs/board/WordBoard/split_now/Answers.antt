@@ -3,7 +3,7 @@ use Rattle.ucl_pass.specs.declared.view.View.{View}
 use Rattle.ucl_pass.specs.Views.{count_of, trail_of}
 use Rattle.ucl_words.specs.WordCalls.{IsSteady}
 use Rattle.ucl_words.proofs.Moves.{seconds}
-use Rattle.ucl_words.proofs.Enlisting.{second_steady, second_steps}
+use Rattle.ucl_words.proofs.EnlistmentFacts.{second_steady, second_steps}
 use Rattle.ucl_words.proofs.board.WordBoard.split_now.Goals as goal
 
 pub split_seat-seat-requires : goal.split_seat-seat-requires

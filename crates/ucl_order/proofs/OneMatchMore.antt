@@ -1,0 +1,190 @@
+-- One match more in what a club has done.
+use Rattle.std.proofs.Common.{◌≡◌, ℕ, zero, suc, ◌+◌, ◌-◌, ◌*◌, ◌<◌, ◌≤◌, ◌&&◌, Bool, true, false, cond, if◌then◌else◌, Option, List, [], ◌∷◌, ◌++◌, Some, None, length, get_or, take, map, filter, count_by, sum_by, refl, sym, ap, ◌∙◌, arith, append-nil, add-zero}
+use Rattle.std.specs.List.{cons_option, filter_map}
+use Rattle.std.proofs.lemmas.List.{take_more, length_push, map-append}
+use Rattle.std.proofs.lemmas.List.Sums.{sum_by_push}
+use Rattle.std.proofs.lemmas.List.Elements.{filter_map-append, filter-append}
+use Rattle.ucl_order.specs.declared.game.Match.{Match}
+use Rattle.ucl_order.specs.declared.game.Appearance.{Appearance}
+use Rattle.ucl_order.specs.declared.results.Results.{Results}
+use Rattle.ucl_word.specs.declared.record.MatchRecord.{MatchRecord}
+use Rattle.ucl_board.specs.Fixtures.{fixture_of, match_numbers}
+use Rattle.ucl_board.specs.Words.{game_at}
+use Rattle.ucl_order.specs.declared.mark.Mark.{Mark}
+use Rattle.ucl_order.specs.Rows.{row_with}
+use Rattle.ucl_order.specs.Results.{seen_by, is_won, is_drawn, is_lost, disciplinary_points, appearances, results_of, match_at, matches_of}
+use Rattle.ucl_order.specs.Counting.{with_match, IsWithin}
+use Rattle.ucl_order.specs.Order.{among, is_in}
+use Rattle.ucl_order.specs.Keys.{seen_among}
+
+-- the same of matches as the club saw them
+totals : List Appearance → Results
+totals games = record {
+  played = length games;
+  wins = count_by is_won games;
+  draws = count_by is_drawn games;
+  losses = count_by is_lost games;
+  goals_for = sum_by (λ a. a.scored) games;
+  goals_against = sum_by (λ a. a.conceded) games;
+  away_goals = sum_by (λ a. a.scored) (filter (λ a. a.is_away) games);
+  away_wins = count_by is_won (filter (λ a. a.is_away) games);
+  discipline = sum_by disciplinary_points games;
+}
+
+away_push : (f : Appearance → ℕ) (games : List Appearance) (a : Appearance) →
+    sum_by f (filter (λ a. a.is_away) (games ++ a ∷ [])) ≡ sum_by f (filter (λ a. a.is_away) games) + cond a.is_away (f a) 0
+away_push f games a =
+    rw (filter-append (λ a. a.is_away) games (a ∷ []))
+    (elim a.is_away as (λ v. sum_by f (filter (λ a. a.is_away) games ++ cond v (a ∷ []) []) ≡ sum_by f (filter (λ a. a.is_away) games) + cond v (f a) 0) [
+      | true ↦ sum_by_push f (filter (λ a. a.is_away) games) a
+      | false ↦ rw (append-nil (filter (λ a. a.is_away) games), add-zero (sum_by f (filter (λ a. a.is_away) games)))
+    ])
+
+both : (a b : Bool) → ◌≡◌ {A = ℕ} (cond a (cond b 1 0) 0) (cond (a && b) 1 0)
+both true b = refl
+both false b = refl
+
+totals_push : (games : List Appearance) (a : Appearance) → with_match (totals games) a ≡ totals (games ++ a ∷ [])
+unfolding totals
+totals_push games a =
+    rw (
+      length_push games a,
+      sum_by_push (λ a. cond (is_won a) 1 0) games a,
+      sum_by_push (λ a. cond (is_drawn a) 1 0) games a,
+      sum_by_push (λ a. cond (is_lost a) 1 0) games a,
+      sum_by_push (λ a. a.scored) games a,
+      sum_by_push (λ a. a.conceded) games a,
+      away_push (λ a. a.scored) games a,
+      away_push (λ a. cond (is_won a) 1 0) games a,
+      sum_by_push disciplinary_points games a,
+      both a.is_away (is_won a),
+    )
+
+results_are : (club : ℕ) (ms : List Match) → results_of club ms ≡ totals (appearances club ms)
+unfolding results_of totals
+results_are club ms = refl
+
+pub results_none : (club : ℕ) → results_of club [] ≡ record { played = 0; wins = 0; draws = 0; losses = 0; goals_for = 0; goals_against = 0; away_goals = 0; away_wins = 0; discipline = 0 }
+unfolding results_of
+results_none club = refl
+
+-- a match more in a list, where f says how the club sees one
+module _ (f : Match → Option Appearance) (ms : List Match) (i : ℕ) (d : Match) (h : i < length ms) where
+  seen_more : (a : Appearance) → Some a ≡ f (get_or ms i d) → filter_map f (take (i + 1) ms) ≡ filter_map f (take i ms) ++ a ∷ []
+  seen_more a e = rw (take_more ms i d h, filter_map-append f (take i ms) (get_or ms i d ∷ []), ← e)
+
+  not_seen : None ≡ f (get_or ms i d) → filter_map f (take (i + 1) ms) ≡ filter_map f (take i ms)
+  not_seen e = rw (take_more ms i d h, filter_map-append f (take i ms) (get_or ms i d ∷ []), ← e) (append-nil (filter_map f (take i ms)))
+
+-- the loop over the matches: one in which the club plays
+pub results_more : (club : ℕ) (ms : List Match) (i : ℕ) (d : Match) (a : Appearance) (before after : Results) → i < length ms → before ≡ results_of club (take i ms) → Some a ≡ seen_by club (get_or ms i d) → after ≡ with_match before a →
+    after ≡ results_of club (take (i + 1) ms)
+results_more club ms i d a before after h is seen next =
+    next ∙ ap (λ r. with_match r a) (is ∙ results_are club (take i ms)) ∙ totals_push (appearances club (take i ms)) a ∙ sym (ap totals (seen_more (seen_by club) ms i d h a seen)) ∙ sym (results_are club (take (i + 1) ms))
+
+-- ... and one in which it does not
+pub results_same : (club : ℕ) (ms : List Match) (i : ℕ) (d : Match) (before : Results) → i < length ms → before ≡ results_of club (take i ms) → None ≡ seen_by club (get_or ms i d) → before ≡ results_of club (take (i + 1) ms)
+results_same club ms i d before h is seen = is ∙ results_are club (take i ms) ∙ sym (ap totals (not_seen (seen_by club) ms i d h seen)) ∙ sym (results_are club (take (i + 1) ms))
+
+-- The same over the matches among some clubs. --
+
+seen_among_is : (both : Bool) (club : ℕ) (m : Match) (rest : List Match) → filter_map (seen_by club) (cond both (m ∷ rest) rest) ≡ cons_option (if both then seen_by club m else None) (filter_map (seen_by club) rest)
+seen_among_is true club m rest = refl
+seen_among_is false club m rest = refl
+
+among_seen : (club : ℕ) (clubs : List ℕ) (ms : List Match) → appearances club (among clubs ms) ≡ filter_map (seen_among club clubs) ms
+among_seen club clubs [] = refl
+among_seen club clubs (m ∷ ms) =
+    seen_among_is (is_in clubs m.home && is_in clubs m.away) club m (among clubs ms) ∙ ap (cons_option (seen_among club clubs m)) (among_seen club clubs ms)
+
+module _ (club : ℕ) (clubs : List ℕ) where
+  tied_are : (ms : List Match) → results_of club (among clubs ms) ≡ totals (filter_map (seen_among club clubs) ms)
+  tied_are ms = results_are club (among clubs ms) ∙ ap totals (among_seen club clubs ms)
+
+  pub among_more : (ms : List Match) (i : ℕ) (d : Match) (a : Appearance) (before after : Results) → i < length ms → before ≡ results_of club (among clubs (take i ms)) → Some a ≡ seen_among club clubs (get_or ms i d) → after ≡ with_match before a →
+      after ≡ results_of club (among clubs (take (i + 1) ms))
+  among_more ms i d a before after h is seen next =
+      next ∙ ap (λ r. with_match r a) (is ∙ tied_are (take i ms)) ∙ totals_push (filter_map (seen_among club clubs) (take i ms)) a ∙ sym (ap totals (seen_more (seen_among club clubs) ms i d h a seen)) ∙ sym (tied_are (take (i + 1) ms))
+
+  pub among_same : (ms : List Match) (i : ℕ) (d : Match) (before : Results) → i < length ms → before ≡ results_of club (among clubs (take i ms)) → None ≡ seen_among club clubs (get_or ms i d) → before ≡ results_of club (among clubs (take (i + 1) ms))
+  among_same ms i d before h is seen = is ∙ tied_are (take i ms) ∙ sym (ap totals (not_seen (seen_among club clubs) ms i d h seen)) ∙ sym (tied_are (take (i + 1) ms))
+
+bit : (b : Bool) → cond b 1 0 ≤ 1
+bit true = omega arith
+bit false = omega arith
+
+part : (b : Bool) (n : ℕ) → cond b n 0 ≤ n
+part true n = omega arith
+part false n = omega arith
+
+-- a match as a record of bytes has it
+pub record AreBytes (a : Appearance) : Type 0 where
+  pub scored : a.scored ≤ 255
+  pub conceded : a.conceded ≤ 255
+  pub yellows : a.yellows ≤ 255
+  pub expulsions : a.expulsions ≤ 255
+
+pub within_more : (n : ℕ) (r : Results) (a : Appearance) → AreBytes a → IsWithin n r → IsWithin (n + 1) (with_match r a)
+within_more n r a fits h = record {
+  played = omega arith;
+  wins = omega (arith, bit (is_won a));
+  draws = omega (arith, bit (is_drawn a));
+  losses = omega (arith, bit (is_lost a));
+  goals_for = omega arith;
+  goals_against = omega arith;
+  away_goals = omega (arith, part a.is_away a.scored);
+  away_wins = omega (arith, bit (a.is_away && is_won a));
+  discipline = omega arith;
+}
+
+pub within_later : (m n : ℕ) (r : Results) → m ≤ n → IsWithin m r → IsWithin n r
+within_later m n r e h = record {
+  played = omega arith;
+  wins = omega arith;
+  draws = omega arith;
+  losses = omega arith;
+  goals_for = omega arith;
+  goals_against = omega arith;
+  away_goals = omega arith;
+  away_wins = omega arith;
+  discipline = omega arith;
+}
+
+-- What is read off such results. --
+
+pub row_of_results : (place slot : ℕ) (mark : Mark) (ms : List Match) (r : Results) (p : ℕ) → r ≡ results_of slot ms → p ≡ 3 * r.wins + r.draws →
+    record { slot = slot; place = place; mark = mark; played = r.played; wins = r.wins; draws = r.draws; losses = r.losses; goals_for = r.goals_for; goals_against = r.goals_against; points = p } ≡ row_with place slot mark ms
+unfolding results_of
+row_of_results place slot mark ms r p is h = rw (h, is)
+
+-- The twelve matches, one after another. --
+
+number_at : (n : ℕ) → 1 ≤ n → n ≤ 12 → get_or match_numbers (n - 1) 0 ≡ n
+number_at zero h k = absurd (omega arith)
+number_at (suc zero) h k = refl
+number_at (suc (suc zero)) h k = refl
+number_at (suc (suc (suc zero))) h k = refl
+number_at (suc (suc (suc (suc zero)))) h k = refl
+number_at (suc (suc (suc (suc (suc zero))))) h k = refl
+number_at (suc (suc (suc (suc (suc (suc zero)))))) h k = refl
+number_at (suc (suc (suc (suc (suc (suc (suc zero))))))) h k = refl
+number_at (suc (suc (suc (suc (suc (suc (suc (suc zero)))))))) h k = refl
+number_at (suc (suc (suc (suc (suc (suc (suc (suc (suc zero))))))))) h k = refl
+number_at (suc (suc (suc (suc (suc (suc (suc (suc (suc (suc zero)))))))))) h k = refl
+number_at (suc (suc (suc (suc (suc (suc (suc (suc (suc (suc (suc zero))))))))))) h k = refl
+number_at (suc (suc (suc (suc (suc (suc (suc (suc (suc (suc (suc (suc zero)))))))))))) h k = refl
+number_at (suc (suc (suc (suc (suc (suc (suc (suc (suc (suc (suc (suc (suc n))))))))))))) h k = absurd (omega arith)
+
+pub matches_more : (board : List ℕ) (n : ℕ) (before after : List Match) (m : Match) → 1 ≤ n → n ≤ 12 → before ≡ map (match_at board) (take (n - 1) match_numbers) → m ≡ match_at board n → after ≡ before ++ m ∷ [] →
+    after ≡ map (match_at board) (take (n + 1 - 1) match_numbers)
+matches_more board n before after m low high is one next =
+    let at : n + 1 - 1 ≡ n - 1 + 1 = omega arith in
+    let within : n - 1 < length match_numbers = omega arith in
+    rw (at, take_more match_numbers (n - 1) 0 within, number_at n low high, map-append (match_at board) (take (n - 1) match_numbers) (n ∷ []), next, is, one)
+
+pub matches_all : (board : List ℕ) (n : ℕ) (ms : List Match) → n ≡ 13 → ms ≡ map (match_at board) (take (n - 1) match_numbers) → ms ≡ matches_of board
+unfolding matches_of
+matches_all board n ms last is = rw (is, last)
+
+pub match_is : (board : List ℕ) (n g h a : ℕ) (r : MatchRecord) → g ≡ n → h ≡ (fixture_of g).home → a ≡ (fixture_of g).away → r ≡ game_at board g → record { home = h; away = a; result = r } ≡ match_at board n
+match_is board n g h a r same home away is = rw (home, away, is, same)

@@ -1,0 +1,235 @@
+-- Accesses along a history, and what clean and unclean tries show.
+use Rattle.std.proofs.Common.{◌≡◌, ◌≢◌, ℕ, zero, suc, ◌+◌, ◌-◌, ◌*◌, ◌<◌, ◌≤◌, List, [], ◌∷◌, ◌++◌, take, length, Option, Some, None, Result, Ok, Err, inl, inr, refl, sym, ap, ◌∙◌, subst, arith, length-append, le_refl, get_or, get_or-set_other}
+use Rattle.std.specs.Prelude.{slice_get, slice_index, slice_set, IsOk}
+use Rattle.std.specs.List.{AllByRecursion}
+use Rattle.std.proofs.lemmas.Option.{none-some, same_Some}
+use Rattle.std.proofs.lemmas.Bool.{false≢true}
+use Rattle.std.proofs.lemmas.List.{take-append-le}
+use Rattle.std.proofs.Math.Seq.{take-length}
+use mathlib.Core.List.{IsPrefix}
+use Rattle.ucl_word.specs.declared.record.MatchRecord.{MatchRecord}
+use Rattle.ucl_word.specs.declared.event.Accepted.{Accepted}
+use Rattle.ucl_word.specs.declared.refusal.Refusal.{Refusal}
+use Rattle.ucl_word.specs.declared.refusal.Refusal.TheVariants.{Stale}
+use Rattle.ucl_word.specs.Rules.{refusal_of, answer, reply_of}
+use Rattle.ucl_word.specs.Layout.{word_of, record_at}
+use Rattle.ucl_word.proofs.Sequences.{at_below, at_longer, at_end, at_either}
+use Rattle.ucl_board.specs.declared.entry.Entry.{Entry}
+use Rattle.ucl_board.specs.declared.reading.Reading.{Reading}
+use Rattle.ucl_board.specs.History.{match_after, board_of, IsLegal}
+use Rattle.ucl_board.proofs.HistoryLaws.{versions, same_number}
+use Rattle.ucl_steps.proofs.Lists.{get_some}
+use Rattle.ucl_steps.proofs.Histories.{number_expected, is_stale, legal_beginning, read_back, squeezed, board_from}
+use Rattle.ucl_board.specs.Log.{AccessKind, Access}
+use Rattle.ucl_steps.specs.Trails.{Does, IsFoundIn, Follows, IsCollect, IsUnclean, IsClean, accesses_of}
+use Rattle.ucl_steps.specs.Laws.{UncleanTriesSeeMore, UncleanTriesAreFew, ReadingsAreSnapshots, ReportsAreSequential}
+
+-- accesses along a history
+
+pub follows_ends : (h : List Entry) (low high : ℕ) (ms : List Access) → Follows h low ms high → low ≤ high
+follows_ends h low high [] f = f
+follows_ends h low high (m ∷ ms) f = let a = f.0 in let b = follows_ends h m.at high ms f.2 in omega arith
+
+prefix_take : (h h' : List Entry) (k : ℕ) → IsPrefix h h' → k ≤ length h → take k h' ≡ take k h
+prefix_take h h' k p le = ap (take k) (sym p.1) ∙ take-append-le k h p.0 le
+
+-- a word that was found in a longer history, at a place within this one
+pub found_shorter : (h h' : List Entry) (m : Access) → IsPrefix h h' → m.at ≤ length h → IsFoundIn h' m → IsFoundIn h m
+found_shorter h h' m p le found = found ∙ ap (λ (z : List Entry). word_of (match_after z m.game)) (prefix_take h h' m.at p le)
+
+-- the history may be longer
+pub follows_longer : (h h' : List Entry) (low high : ℕ) (ms : List Access) → IsPrefix h h' → high ≤ length h → Follows h low ms high → Follows h' low ms high
+follows_longer h h' low high [] p le f = f
+follows_longer h h' low high (m ∷ ms) p le f =
+    let up = follows_ends h m.at high ms f.2 in
+    (f.0, f.1 ∙ ap (λ (z : List Entry). word_of (match_after z m.game)) (sym (prefix_take h h' m.at p (omega arith))), follows_longer h h' m.at high ms p le f.2)
+
+-- the bounds may be wider
+pub follows_wider : (h : List Entry) (low low' high high' : ℕ) (ms : List Access) → low' ≤ low → high ≤ high' → Follows h low ms high → Follows h low' ms high'
+follows_wider h low low' high high' [] l u f = let a : low ≤ high = f in omega arith
+follows_wider h low low' high high' (m ∷ ms) l u f = let a = f.0 in (omega arith, f.1, follows_wider h m.at m.at high high' ms (le_refl m.at) u f.2)
+
+pub follows_append : (h : List Entry) (low middle high : ℕ) (ms ns : List Access) → Follows h low ms middle → Follows h middle ns high → Follows h low (ms ++ ns) high
+follows_append h low middle high [] ns f g = follows_wider h middle low high high ns f (le_refl high) g
+follows_append h low middle high (m ∷ ms) ns f g = (f.0, f.1, follows_append h m.at middle high ms ns f.2 g)
+
+-- one step, at the whole history
+pub follows_one : (h : List Entry) (low : ℕ) (m : Access) → low ≤ length h → m.at ≡ length h → m.found ≡ word_of (match_after h m.game) → Follows h low (m ∷ []) (length h)
+follows_one h low m le at is = (omega arith, is ∙ ap (λ (z : List Entry). word_of (match_after z m.game)) (sym (take-length h) ∙ ap (λ (z : ℕ). take z h) (sym at)), omega arith)
+
+-- each access, by its place
+pub follows_at : (h : List Entry) (low high : ℕ) (ms : List Access) (k : ℕ) (m : Access) → Follows h low ms high → slice_get ms k ≡ Some m → (low ≤ m.at) × (m.at ≤ high) × IsFoundIn h m
+follows_at h low high [] k m f e = absurd (none-some m e)
+follows_at h low high (n ∷ ms) zero m f e = subst (λ (x : Access). (low ≤ x.at) × (x.at ≤ high) × IsFoundIn h x) (same_Some n m e) (f.0, follows_ends h n.at high ms f.2, f.1)
+follows_at h low high (n ∷ ms) (suc k) m f e = let t = follows_at h n.at high ms k m f.2 e in let a = f.0 in let b = t.0 in (omega arith, t.1, t.2)
+
+-- two parts, the first of which ends at the place of its last access
+pub record Parts (h : List Entry) (low high : ℕ) (ms ns : List Access) : Type 0 where
+  pub middle : ℕ
+  pub former : Follows h low ms middle
+  pub latter : Follows h middle ns high
+  pub ends : (k : ℕ) (m : Access) → slice_get ms k ≡ Some m → k + 1 ≡ length ms → m.at ≡ middle
+
+pub follows_parts : (h : List Entry) (low high : ℕ) (ms ns : List Access) → Follows h low (ms ++ ns) high → Parts h low high ms ns
+follows_parts h low high [] ns f = record { middle = low; former = le_refl low; latter = f; ends = λ k m e last. absurd (none-some m e) }
+follows_parts h low high (m ∷ []) ns f = record {
+  middle = m.at;
+  former = (f.0, f.1, le_refl m.at);
+  latter = f.2;
+  ends = λ k x e last. let is : k ≡ 0 = omega arith in ap (λ (z : Access). z.at) (sym (same_Some m x (ap (slice_get (m ∷ [])) (sym is) ∙ e)));
+}
+follows_parts h low high (m ∷ n ∷ ms) ns f = let t = follows_parts h m.at high (n ∷ ms) ns f.2 in record { middle = t.middle; former = (f.0, f.1, t.former); latter = t.latter; ends = last_of t }
+  where
+    last_of : (t : Parts h m.at high (n ∷ ms) ns) (k : ℕ) (x : Access) → slice_get (m ∷ n ∷ ms) k ≡ Some x → k + 1 ≡ length (m ∷ n ∷ ms) → x.at ≡ t.middle
+    last_of t zero x e last = absurd (omega arith)
+    last_of t (suc k) x e last = t.ends k x e (omega arith)
+
+-- collects
+
+pub collect_none : (kind : AccessKind) (words : List ℕ) → IsCollect kind words []
+collect_none kind words k m e = absurd (none-some m e)
+
+pub collect_more : (kind : AccessKind) (words : List ℕ) (ms : List Access) (m : Access) → IsCollect kind words ms → Does kind (length ms + 1) m → m.found ≡ slice_index words (length ms) → IsCollect kind words (ms ++ m ∷ [])
+collect_more kind words ms m c does found k x e = elim (at_either ms m k x e) [
+  | inl t ↦ c k x t.1
+  | inr t ↦ subst (λ (z : ℕ). Does kind (z + 1) x × (x.found ≡ slice_index words z)) (sym t.0) (subst (λ (z : Access). Does kind (length ms + 1) z × (z.found ≡ slice_index words (length ms))) t.1 (does, found))
+]
+
+-- the words past the collect may change
+pub collect_set : (kind : AccessKind) (words : List ℕ) (ms : List Access) (i n : ℕ) → length ms ≤ i → IsCollect kind words ms → IsCollect kind (slice_set words i n) ms
+collect_set kind words ms i n le c k m e = let t = c k m e in let l = at_below ms k m e in (t.0, t.1 ∙ sym (get_or-set_other words i k n 0 (λ z. omega arith)))
+
+-- tries
+
+pub broken_later : UncleanTriesSeeMore
+broken_later h low high ms f try first at =
+    let parts = follows_parts h low high try.firsts try.seconds (subst (λ (z : List Access). Follows h low z high) try.accesses f) in
+    let k = length try.broken.equal in
+    let last = try.broken.last in
+    let at_last : slice_get try.seconds k ≡ Some last = ap (λ (z : List Access). slice_get z k) try.broken.accesses ∙ at_end try.broken.equal last in
+    let x = follows_at h low parts.middle try.firsts k first parts.former at in
+    let y = follows_at h parts.middle high try.seconds k last parts.latter at_last in
+    let c = try.collected k first at in
+    let same_game : last.game ≡ first.game = try.broken.kind.1 ∙ sym c.0.1 in
+    let x1 = x.1 in let y0 = y.0 in
+    let apart : first.at ≢ last.at = λ same. try.broken.differs (y.2 ∙ (ap (λ (z : ℕ). word_of (match_after (take last.at h) z)) same_game
+    ∙ (ap (λ (z : ℕ). word_of (match_after (take z h) first.game)) (sym same) ∙ (sym x.2 ∙ c.1)))) in
+    omega arith
+
+-- an unclean try has at most 24 accesses, and was overtaken by an entry
+pub unclean_try : (h : List Entry) (low high : ℕ) (ms : List Access) → Follows h low ms high → IsUnclean ms → (low < high) × (length ms ≤ 24)
+unclean_try h low high ms f try =
+    let few = try.broken.few in
+    let twelve = try.twelve in
+    let first = get_some try.firsts (length try.broken.equal) (omega arith) in
+    let later = broken_later h low high ms f try first.0 first.1 in
+    let place : slice_get ms (length try.firsts + length try.broken.equal) ≡ Some try.broken.last = ap (λ (z : List Access). slice_get z (length try.firsts + length try.broken.equal)) try.accesses ∙ at_second try.firsts try.seconds (length try.broken.equal) try.broken.last
+    (ap (λ (z : List Access). slice_get z (length try.broken.equal)) try.broken.accesses ∙ at_end try.broken.equal try.broken.last) in
+    let y = follows_at h low high ms (length try.firsts + length try.broken.equal) try.broken.last f place in
+    let x = follows_at h low high ms (length try.broken.equal) first.0 f (ap (λ (z : List Access). slice_get z (length try.broken.equal)) try.accesses ∙ at_longer try.firsts try.seconds (length try.broken.equal) first.0 first.1) in
+    let x0 = x.0 in let y1 = y.1 in
+    (omega arith, omega (arith, ap length try.accesses, length-append try.firsts try.seconds, ap length try.broken.accesses, length-append try.broken.equal (try.broken.last ∷ [])))
+  where
+    at_second : (xs ys : List Access) (k : ℕ) (m : Access) → slice_get ys k ≡ Some m → slice_get (xs ++ ys) (length xs + k) ≡ Some m
+    at_second [] ys k m e = let none : 0 + k ≡ k = omega arith in ap (slice_get ys) none ∙ e
+    at_second (x ∷ xs) ys k m e = let one : suc (length xs) + k ≡ suc (length xs + k) = omega arith in ap (slice_get (x ∷ (xs ++ ys))) one ∙ at_second xs ys k m e
+
+pub tries_bound : (h : List Entry) (low high : ℕ) (tries : List (List Access)) → Follows h low (accesses_of tries) high → AllByRecursion IsUnclean tries → (low + length tries ≤ high) × (length (accesses_of tries) ≤ 24 * length tries)
+tries_bound h low high [] f all = (omega arith, omega arith)
+tries_bound h low high (ms ∷ tries) f all =
+    let parts = follows_parts h low high ms (accesses_of tries) f in
+    let one = unclean_try h low parts.middle ms parts.former all.0 in
+    let rest = tries_bound h parts.middle high tries parts.latter all.1 in
+    let a = one.0 in let b = one.1 in let c = rest.0 in let d = rest.1 in
+    (omega arith, omega (arith, length-append ms (accesses_of tries)))
+
+pub tries_few : UncleanTriesAreFew
+tries_few h low high tries f all = (tries_bound h low high tries f all).0
+
+-- what a clean try shows
+pub record Shows (h : List Entry) (low high : ℕ) (reading : Reading) (ms : List Access) : Type 0 where
+  pub board : reading.board ≡ board_of (take reading.version h)
+  pub within : (low ≤ reading.version) × (reading.version ≤ high)
+  pub accesses : length ms ≡ 24
+
+pub clean_shows : (h : List Entry) (low high : ℕ) (reading : Reading) (ms : List Access) → IsLegal h → Follows h low ms high → IsClean reading ms → Shows h low high reading ms
+clean_shows h low high reading ms legal f clean =
+    let parts = follows_parts h low high clean.firsts clean.seconds (subst (λ (z : List Access). Follows h low z high) clean.accesses f) in
+    let twelve = clean.twelve.1 in
+    let twelve' = clean.twelve.2 in
+    let last = get_some clean.firsts 11 (omega arith) in
+    let v_is : reading.version ≡ parts.middle = sym (clean.version last.0 last.1) ∙ parts.ends 11 last.0 last.1 (omega arith) in
+    let each : (k : ℕ) → k < 12 → get_or reading.board k 0 ≡ word_of (match_after (take parts.middle h) (k + 1)) = λ k few.
+    let a = get_some clean.firsts k (omega arith) in
+    let b = get_some clean.seconds k (omega arith) in
+    let x = follows_at h low parts.middle clean.firsts k a.0 parts.former a.1 in
+    let y = follows_at h parts.middle high clean.seconds k b.0 parts.latter b.1 in
+    let c = clean.collected k a.0 a.1 in
+    let d = clean.again k b.0 b.1 in
+    squeezed (k + 1) (get_or reading.board k 0) h a.0.at parts.middle b.0.at legal x.1 y.0
+    (sym c.1 ∙ (x.2 ∙ ap (λ (z : ℕ). word_of (match_after (take a.0.at h) z)) c.0.1))
+    (sym d.1 ∙ (y.2 ∙ ap (λ (z : ℕ). word_of (match_after (take b.0.at h) z)) d.0.1)) in
+    let low_ok = follows_ends h low parts.middle clean.firsts parts.former in
+    let high_ok = follows_ends h parts.middle high clean.seconds parts.latter in
+    record {
+      board = board_from (take parts.middle h) reading.board clean.twelve.0 each ∙ ap (λ (z : ℕ). board_of (take z h)) (sym v_is);
+      within = (omega arith, omega arith);
+      accesses = omega (arith, ap length clean.accesses, length-append clean.firsts clean.seconds);
+    }
+
+pub reading_whole : ReadingsAreSnapshots
+reading_whole h low high reading ms legal le f accesses =
+    let parts = follows_parts h low high (accesses_of accesses.tries) accesses.last (subst (λ (z : List Access). Follows h low z high) accesses.accesses f) in
+    let bound = tries_bound h low parts.middle accesses.tries parts.former accesses.unclean in
+    let shows = clean_shows h parts.middle high reading accesses.last legal parts.latter accesses.clean in
+    let b0 = bound.0 in let b1 = bound.1 in
+    let s0 = shows.within.0 in let s1 = shows.within.1 in
+    let long = (versions h legal).1 in
+    let last = shows.accesses in
+    let whole : length ms ≡ length (accesses_of accesses.tries) + 24 = omega (arith, ap length accesses.accesses, length-append (accesses_of accesses.tries) accesses.last) in
+    record {
+      snapshot = ap (λ (z : List ℕ). record { board = z; version = reading.version }) shows.board;
+      within = (omega arith, s1);
+      tries = omega arith;
+      steps = (omega arith, omega arith);
+      bound = (omega arith, omega arith);
+    }
+
+-- reports
+
+pub none_of_ok : (n : ℕ) (o : Option Refusal) → IsOk (answer n o) → o ≡ None
+none_of_ok n None is = refl
+none_of_ok n (Some r) is = absurd (false≢true is)
+
+ok_is_none : (n : ℕ) (o : Option Refusal) (a : Accepted) → answer n o ≡ Ok a → IsOk (answer n o)
+ok_is_none n o a e = subst (λ (z : Result Accepted Refusal). IsOk z) (sym e) refl
+
+-- the record of the word that an access of a match found
+pub found_record : (h : List Entry) (m : Access) (game : ℕ) → IsLegal h → IsFoundIn h m → m.game ≡ game → record_at m.found ≡ match_after (take m.at h) game
+found_record h m game legal found is = ap record_at (found ∙ ap (λ (z : ℕ). word_of (match_after (take m.at h) z)) is) ∙ read_back (take m.at h) game (legal_beginning h m.at legal)
+
+pub report_whole : ReportsAreSequential
+report_whole h low high now call (Ok reply) ms legal f won =
+    let t : Follows h low (won.looked ∷ won.swapped ∷ []) high = subst (λ (z : List Access). Follows h low z high) won.accesses f in
+    let last = won.last in
+    let place : now - 1 ≡ won.swapped.at = omega arith in
+    ap (λ (z : ℕ). reply_of (match_after (take z h) call.game) call) place
+    ∙ (ap (λ (z : MatchRecord). reply_of z call) (sym (found_record h won.swapped call.game legal t.2.1 won.acts.1.1))
+    ∙ (ap (λ (z : ℕ). reply_of (record_at z) call) won.same ∙ won.answer))
+report_whole h low high now call (Err refusal) ms legal f (inl refused) =
+    let t : Follows h low (refused.looked ∷ []) high = subst (λ (z : List Access). Follows h low z high) refused.accesses f in
+    ap (λ (z : ℕ). reply_of (match_after (take z h) call.game) call) (sym refused.last)
+    ∙ (ap (λ (z : MatchRecord). reply_of z call) (sym (found_record h refused.looked call.game legal t.1 refused.kind.1)) ∙ refused.answer)
+report_whole h low high now call (Err refusal) ms legal f (inr missed) =
+    let t : Follows h low (missed.looked ∷ missed.swapped ∷ []) high = subst (λ (z : List Access). Follows h low z high) missed.accesses f in
+    let g = call.game in
+    let a = missed.looked in
+    let b = missed.swapped in
+    let old = found_record h a g legal t.1 missed.acts.0.1 in
+    let new = found_record h b g legal t.2.1 missed.acts.1.1 in
+    let expected : call.expected ≡ (match_after (take a.at h) g).number = number_expected (record_at a.found) call.expected call.kind (none_of_ok (record_at a.found).number (refusal_of (record_at a.found) call.expected call.kind) missed.may) ∙ ap (λ (z : MatchRecord). z.number) old in
+    let stale : call.expected ≡ (match_after (take b.at h) g).number → ⊥ = λ is. missed.other
+    (t.2.1 ∙ (ap (λ (z : ℕ). word_of (match_after (take b.at h) z)) missed.acts.1.1 ∙ (sym (same_number h a.at b.at g (sym expected ∙ is)).1 ∙ (ap (λ (z : ℕ). word_of (match_after (take a.at h) z)) (sym missed.acts.0.1) ∙ sym t.1)))) in
+    ap (λ (z : ℕ). reply_of (match_after (take z h) g) call) (sym missed.last)
+    ∙ (ap (answer (match_after (take b.at h) g).number) (is_stale (match_after (take b.at h) g) call.expected call.kind stale)
+    ∙ (ap (λ (z : MatchRecord). Err (Stale z.number)) (sym new) ∙ ap Err (sym missed.answer)))

@@ -1,0 +1,157 @@
+-- What is known of a call by what its caller holds, and that a longer history leaves it.
+use Rattle.std.proofs.Common.{◌≡◌, ℕ, ◌+◌, ◌<◌, ◌≤◌, List, ◌++◌, take, length, Option, Some, None, sym, ap, ◌∙◌, arith, get_or, length-append, le_refl}
+use Rattle.std.specs.Prelude.{slice_get, IsSome}
+use Rattle.std.proofs.lemmas.List.{take-append-le}
+use Rattle.ucl_word.specs.declared.event.EventCall.{EventCall}
+use Rattle.ucl_word.specs.Rules.{refusal_of, after}
+use Rattle.ucl_word.specs.Layout.{word_of, record_at}
+use Rattle.ucl_board.specs.declared.entry.Entry.{Entry}
+use Rattle.ucl_board.specs.History.{match_after, board_of, sequential_reply}
+use Rattle.ucl_word.proofs.Sequences.{at_longer}
+use Rattle.ucl_steps.specs.declared.step.Caller.{Caller}
+use Rattle.ucl_steps.specs.declared.step.Caller.TheVariants.{Reporter, Reader}
+use Rattle.ucl_steps.specs.declared.step.Call.{Call}
+use Rattle.ucl_steps.specs.declared.step.Call.TheVariants.{Event, Reading}
+use Rattle.ucl_steps.specs.declared.trace.Reply.{Reply}
+use Rattle.ucl_steps.specs.declared.trace.Reply.TheVariants.{Accepted, Refused, Copied}
+use Rattle.ucl_steps.specs.declared.trace.CallRecord.{CallRecord}
+use Rattle.ucl_steps.specs.Machine.{Holds, Idle, Wanting, Holding, Collecting, Checking, Answered}
+use Rattle.ucl_steps.proofs.Explanations.{IsSequential, LiesWithin, IsExplained}
+
+-- h' is h, or longer
+abbrev pub Begins : List Entry → List Entry → Type 0
+Begins h h' = (more : List Entry) × (h' ≡ h ++ more)
+
+pub begins_length : (h h' : List Entry) → Begins h h' → length h ≤ length h'
+begins_length h h' b = omega (arith, ap length b.1, length-append h b.0)
+
+pub begins_take : (h h' : List Entry) (k : ℕ) → Begins h h' → k ≤ length h → take k h' ≡ take k h
+begins_take h h' k b l = ap (take k) b.1 ∙ take-append-le k h b.0 l
+
+-- a reporter asks for an event of a match
+pub record Asks (a : CallRecord) (e : EventCall) : Type 0 where
+  pub call : a.call ≡ Event e
+  pub reporter : ℕ
+  pub caller : a.caller ≡ Reporter reporter
+  pub low : 1 ≤ reporter
+  pub high : reporter ≤ 255
+  pub game : (1 ≤ e.game) × (e.game ≤ 12)
+  pub point : a.point ≡ None
+  pub reply : a.reply ≡ None
+
+-- the word that it found there once, on which the rules accept
+pub record Offers (h : List Entry) (a : CallRecord) (e : EventCall) (old new : ℕ) : Type 0 where
+  pub asks : Asks a e
+  pub place : ℕ
+  pub within : place ≤ length h
+  pub found : old ≡ word_of (match_after (take place h) e.game)
+  pub accepted : refusal_of (record_at old) e.expected e.kind ≡ None
+  pub next : new ≡ word_of (after (record_at old) asks.reporter e.kind)
+
+-- each word was that of its match at a place, at the latest this one
+abbrev pub Loaded : List Entry → List ℕ → ℕ → Type 0
+Loaded h words latest = (i : ℕ) → i < length words → (p : ℕ) × (p ≤ latest) × (get_or words i 0 ≡ word_of (match_after (take p h) (i + 1)))
+
+-- the first n words are those at this place
+abbrev pub AreAt : List Entry → List ℕ → ℕ → ℕ → Type 0
+AreAt h words n point = (i : ℕ) → i < n → get_or words i 0 ≡ word_of (match_after (take point h) (i + 1))
+
+pub record Reads (a : CallRecord) : Type 0 where
+  pub call : a.call ≡ Reading
+  pub point : a.point ≡ None
+  pub reply : a.reply ≡ None
+
+pub record Collects (h : List Entry) (a : CallRecord) (words : List ℕ) : Type 0 where
+  pub reads : Reads a
+  pub few : length words < 12
+  pub loaded : Loaded h words (length h)
+
+pub record Checks (h : List Entry) (a : CallRecord) (words : List ℕ) (checked point : ℕ) : Type 0 where
+  pub reads : Reads a
+  pub twelve : length words ≡ 12
+  pub few : checked < 12
+  pub early : a.begun ≤ point
+  pub late : point ≤ length h
+  pub loaded : Loaded h words point
+  pub same : AreAt h words checked point
+
+abbrev pub in_call : Holds → Option ℕ
+in_call Idle = None
+in_call (Wanting k e) = Some k
+in_call (Holding k e old new) = Some k
+in_call (Collecting k words) = Some k
+in_call (Checking k words checked point) = Some k
+in_call (Answered k) = Some k
+
+abbrev pub Sees : List Entry → CallRecord → Holds → Type 0
+Sees h a Idle = Unit {0}
+Sees h a (Wanting k e) = Asks a e
+Sees h a (Holding k e old new) = Offers h a e old new
+Sees h a (Collecting k words) = Collects h a words
+Sees h a (Checking k words checked point) = Checks h a words checked point
+Sees h a (Answered k) = IsSome a.reply
+
+-- the caller is in this call, and what it holds says how far it is
+pub record Knows (h : List Entry) (calls : List CallRecord) (c : Caller) (x : Holds) (k : ℕ) : Type 0 where
+  pub call : CallRecord
+  pub at : slice_get calls k ≡ Some call
+  pub caller : call.caller ≡ c
+  pub unended : call.ended ≡ None
+  pub sees : Sees h call x
+
+module _ (h h' : List Entry) (b : Begins h h') where
+  moved_word : (words : List ℕ) (i k : ℕ) → k ≤ length h → get_or words i 0 ≡ word_of (match_after (take k h) (i + 1)) → get_or words i 0 ≡ word_of (match_after (take k h') (i + 1))
+  moved_word words i k l e = e ∙ ap (λ (z : List Entry). word_of (match_after z (i + 1))) (sym (begins_take h h' k b l))
+
+  loaded_later : (words : List ℕ) (n m : ℕ) → n ≤ length h → n ≤ m → Loaded h words n → Loaded h' words m
+  loaded_later words n m l le f i few = let t = f i few in let p = t.1 in (t.0, omega arith, moved_word words i t.0 (omega arith) t.2)
+
+  pub sees_later : (a : CallRecord) (x : Holds) → Sees h a x → Sees h' a x
+  sees_later a Idle s = tt
+  sees_later a (Wanting k e) s = s
+  sees_later a (Holding k e old new) s = let long = begins_length h h' b in let w = s.within in record {
+    asks = s.asks;
+    place = s.place;
+    within = omega arith;
+    found = s.found ∙ ap (λ (z : List Entry). word_of (match_after z e.game)) (sym (begins_take h h' s.place b s.within));
+    accepted = s.accepted;
+    next = s.next;
+  }
+  sees_later a (Collecting k words) s = record { reads = s.reads; few = s.few; loaded = loaded_later words (length h) (length h') (le_refl (length h)) (begins_length h h' b) s.loaded }
+  sees_later a (Checking k words checked point) s = let long = begins_length h h' b in let l = s.late in record {
+    reads = s.reads;
+    twelve = s.twelve;
+    few = s.few;
+    early = s.early;
+    late = omega arith;
+    loaded = loaded_later words point point s.late (le_refl point) s.loaded;
+    same = λ i few. moved_word words i point s.late (s.same i few);
+  }
+  sees_later a (Answered k) s = s
+
+  sequential_later : (k : ℕ) (c : Caller) (call : Call) (r : Reply) → k ≤ length h → IsSequential h k c call r → IsSequential h' k c call r
+  sequential_later k (Reporter n) (Event e) (Accepted a) l s =
+      (ap (λ (z : List Entry). sequential_reply z e) (begins_take h h' k b l) ∙ s.0, ap (λ (z : List Entry). slice_get z k) b.1 ∙ at_longer h b.0 k (record { game = e.game; reporter = n; kind = e.kind }) s.1)
+  sequential_later k (Reporter n) (Event e) (Refused r) l s = ap (λ (z : List Entry). sequential_reply z e) (begins_take h h' k b l) ∙ s
+  sequential_later k (Reporter n) (Event e) (Copied r) l s = absurd s
+  sequential_later k (Reader n) (Event e) r l s = absurd s
+  sequential_later k (Reporter n) Reading (Accepted a) l s = absurd s
+  sequential_later k (Reporter n) Reading (Refused a) l s = absurd s
+  sequential_later k (Reporter n) Reading (Copied r) l s = (s.0 ∙ ap board_of (sym (begins_take h h' k b l)), s.1)
+  sequential_later k (Reader n) Reading (Accepted a) l s = absurd s
+  sequential_later k (Reader n) Reading (Refused a) l s = absurd s
+  sequential_later k (Reader n) Reading (Copied r) l s = (s.0 ∙ ap board_of (sym (begins_take h h' k b l)), s.1)
+
+  within_later : (c : CallRecord) (k : ℕ) (r : Reply) → LiesWithin c k r (length h) → (k ≤ length h) × LiesWithin c k r (length h')
+  within_later c k (Accepted a) s = let long = begins_length h h' b in let l = s.1 in (omega arith, (s.0, omega arith, s.2))
+  within_later c k (Refused a) s = let long = begins_length h h' b in let l = s.1 in (omega arith, (s.0, omega arith, s.2))
+  within_later c k (Copied a) s = let long = begins_length h h' b in let l = s.1 in (omega arith, (s.0, omega arith, s.2))
+
+  explained_at : (c : CallRecord) (p : Option ℕ) (r : Option Reply) → IsExplained h c p r → IsExplained h' c p r
+  explained_at c (Some k) (Some r) s = let w = within_later c k r s.0 in (w.1, sequential_later k c.caller c.call r w.0 s.1)
+  explained_at c None None s = s
+  explained_at c (Some k) None s = absurd s
+  explained_at c None (Some r) s = absurd s
+
+  pub explained_later : (c : CallRecord) → IsExplained h c c.point c.reply → IsExplained h' c c.point c.reply
+  explained_later c = explained_at c c.point c.reply

@@ -1,0 +1,117 @@
+-- Each entry is made by one call, when one call changes or begins.
+use Rattle.std.proofs.Common.{◌≡◌, ◌≢◌, ℕ, ◌<◌, true, false, List, [], ◌∷◌, ◌++◌, length, Option, Some, None, inl, inr, refl, sym, ap, ◌∙◌, subst, arith}
+use Rattle.std.specs.Prelude.{slice_get, IsSomeAnd}
+use Rattle.std.proofs.lemmas.Option.{none-some, same_Some}
+use Rattle.std.proofs.lemmas.Bool.{cases_eq, false≢true}
+use Rattle.std.proofs.lemmas.List.{length_push}
+use Rattle.ucl_board.specs.declared.entry.Entry.{Entry}
+use Rattle.ucl_word.proofs.Sequences.{at_longer, at_either}
+use Rattle.ucl_steps.specs.declared.trace.Reply.{Reply}
+use Rattle.ucl_steps.specs.declared.trace.Reply.TheVariants.{Accepted, Refused, Copied}
+use Rattle.ucl_steps.specs.declared.trace.CallRecord.{CallRecord}
+use Rattle.ucl_steps.specs.Machine.{change_at}
+use Rattle.ucl_steps.specs.Linearizable.{is_accepted, Makes, EntryHasOneCall}
+use Rattle.ucl_steps.proofs.Explanations.{IsExplained}
+use Rattle.ucl_steps.proofs.ChangedLists.{get-change_at, change_at_here, change_at_else}
+
+pub and_some : {A : Type 0} (o : Option A) (P : A → Type 0) → IsSomeAnd o P → (x : A) × (o ≡ Some x) × P x
+and_some None P p = absurd p
+and_some (Some x) P p = (x, refl, p)
+
+pub some_and : {A : Type 0} (o : Option A) (P : A → Type 0) (x : A) → o ≡ Some x → P x → IsSomeAnd o P
+some_and {A = A} o P x e p = subst (λ (z : Option A). IsSomeAnd z P) (sym e) p
+
+abbrev IsMaker : ℕ → CallRecord → Type 0
+IsMaker m c = (is_accepted c.reply ≡ true) × (c.point ≡ Some m)
+
+once_same : (h : List Entry) (xs ys : List CallRecord) → ((i m : ℕ) → Makes xs i m → Makes ys i m) → ((i m : ℕ) → Makes ys i m → Makes xs i m) → EntryHasOneCall h xs → EntryHasOneCall h ys
+once_same h xs ys to from once m l = let t = once m l in (t.0, to t.0 m t.1, λ j made. t.2 j (from j m made))
+
+undecided : (c : CallRecord) (m : ℕ) → c.reply ≡ None → IsMaker m c → ⊥
+undecided c m none made = false≢true (ap is_accepted (sym none) ∙ made.0)
+
+module _ (xs : List CallRecord) (k : ℕ) (f : CallRecord → CallRecord) where
+  made_else : (i m : ℕ) → i ≢ k → Makes (change_at k f xs) i m → Makes xs i m
+  made_else i m not made =
+      let t = and_some (slice_get (change_at k f xs) i) (IsMaker m) made in
+      elim (get-change_at k f xs i t.0 t.1) [ inl u ↦ absurd (not u.0) | inr u ↦ some_and (slice_get xs i) (IsMaker m) t.0 u.1 t.2 ]
+
+  else_made : (i m : ℕ) → i ≢ k → Makes xs i m → Makes (change_at k f xs) i m
+  else_made i m not made =
+      let t = and_some (slice_get xs i) (IsMaker m) made in
+      some_and (slice_get (change_at k f xs) i) (IsMaker m) t.0 (change_at_else k f xs i t.0 not t.1) t.2
+
+  -- a call that keeps its reply and its point
+  pub once_kept : (h : List Entry) → ((c : CallRecord) (m : ℕ) → IsMaker m c → IsMaker m (f c)) → ((c : CallRecord) (m : ℕ) → IsMaker m (f c) → IsMaker m c) → EntryHasOneCall h xs → EntryHasOneCall h (change_at k f xs)
+  once_kept h to from = once_same h xs (change_at k f xs)
+      (λ i m made. elim (cases_eq i k) [
+        | inl is ↦ let t = and_some (slice_get xs i) (IsMaker m) made in
+            some_and (slice_get (change_at k f xs) i) (IsMaker m) (f t.0) (ap (slice_get (change_at k f xs)) is ∙ change_at_here k f xs t.0 (ap (slice_get xs) (sym is) ∙ t.1)) (to t.0 m t.2)
+        | inr not ↦ else_made i m not made
+      ])
+      (λ i m made. elim (cases_eq i k) [
+        | inl is ↦ let t = and_some (slice_get (change_at k f xs) i) (IsMaker m) made in
+            elim (get-change_at k f xs i t.0 t.1) [
+              | inl u ↦ some_and (slice_get xs i) (IsMaker m) u.1 (ap (slice_get xs) is ∙ u.2) (from u.1 m (subst (IsMaker m) (sym u.3) t.2))
+              | inr u ↦ absurd (u.0 is)
+            ]
+        | inr not ↦ made_else i m not made
+      ])
+
+  module _ (a : CallRecord) (here : slice_get xs k ≡ Some a) (none : a.reply ≡ None) where
+    not_made : (i m : ℕ) → Makes xs i m → i ≢ k
+    not_made i m made is =
+        let t = and_some (slice_get xs i) (IsMaker m) made in
+        undecided a m none (subst (IsMaker m) (same_Some t.0 a (sym t.1 ∙ (ap (slice_get xs) is ∙ here))) t.2)
+
+    -- a call that is not accepted now
+    pub once_refused : (h : List Entry) → is_accepted (f a).reply ≡ false → EntryHasOneCall h xs → EntryHasOneCall h (change_at k f xs)
+    once_refused h other = once_same h xs (change_at k f xs) (λ i m made. else_made i m (not_made i m made) made)
+        (λ i m made. elim (cases_eq i k) [
+          | inl is ↦
+              let t = and_some (slice_get (change_at k f xs) i) (IsMaker m) made in
+              let same : t.0 ≡ f a = same_Some t.0 (f a) (sym t.1 ∙ (ap (slice_get (change_at k f xs)) is ∙ change_at_here k f xs a here)) in
+              absurd (false≢true (sym other ∙ (ap (λ (z : CallRecord). is_accepted z.reply) (sym same) ∙ t.2.0)))
+          | inr not ↦ made_else i m not made
+        ])
+
+    -- the call that made the new entry
+    pub once_accepted : (h : List Entry) (e : Entry) → is_accepted (f a).reply ≡ true → (f a).point ≡ Some (length h) → ((i m : ℕ) → Makes xs i m → m < length h) → EntryHasOneCall h xs → EntryHasOneCall (h ++ e ∷ []) (change_at k f xs)
+    once_accepted h e made_it point below once m l = let long = length_push h e in elim (cases_eq m (length h)) [
+      | inl is ↦ (
+        k,
+        some_and (slice_get (change_at k f xs) k) (IsMaker m) (f a) (change_at_here k f xs a here) (made_it, point ∙ ap Some (sym is)),
+        λ j made. elim (cases_eq j k) [ inl same ↦ same | inr not ↦ let low = below j m (made_else j m not made) in absurd (omega arith) ],
+      )
+      | inr not-last ↦
+          let t = once m (omega arith) in (
+            t.0,
+            else_made t.0 m (not_made t.0 m t.1) t.1,
+            λ j made. elim (cases_eq j k) [
+              | inl same ↦
+                  let u = and_some (slice_get (change_at k f xs) j) (IsMaker m) made in
+                  let is : u.0 ≡ f a = same_Some u.0 (f a) (sym u.1 ∙ (ap (slice_get (change_at k f xs)) same ∙ change_at_here k f xs a here)) in
+                  absurd (not-last (same_Some m (length h) (sym u.2.1 ∙ (ap (λ (z : CallRecord). z.point) is ∙ point))))
+              | inr not ↦ t.2 j (made_else j m not made)
+            ],
+          )
+    ]
+
+-- a call that begins
+pub once_begun : (h : List Entry) (xs : List CallRecord) (new : CallRecord) → new.reply ≡ None → EntryHasOneCall h xs → EntryHasOneCall h (xs ++ new ∷ [])
+once_begun h xs new none = once_same h xs (xs ++ new ∷ [])
+    (λ i m made. let t = and_some (slice_get xs i) (IsMaker m) made in some_and (slice_get (xs ++ new ∷ []) i) (IsMaker m) t.0 (at_longer xs (new ∷ []) i t.0 t.1) t.2)
+    (λ i m made. let t = and_some (slice_get (xs ++ new ∷ []) i) (IsMaker m) made in elim (at_either xs new i t.0 t.1) [
+      | inl u ↦ some_and (slice_get xs i) (IsMaker m) t.0 u.1 t.2
+      | inr u ↦ absurd (undecided new m none (subst (IsMaker m) (sym u.1) t.2))
+    ])
+
+accepted_within : (h : List Entry) (c : CallRecord) (p : Option ℕ) (r : Option Reply) (m : ℕ) → IsExplained h c p r → is_accepted r ≡ true → p ≡ Some m → m < length h
+accepted_within h c (Some k) (Some (Accepted a)) m s made is = let l = s.0.1 in let same = same_Some k m is in omega arith
+accepted_within h c (Some k) (Some (Refused a)) m s made is = absurd (false≢true made)
+accepted_within h c (Some k) (Some (Copied a)) m s made is = absurd (false≢true made)
+accepted_within h c None r m s made is = absurd (none-some m is)
+accepted_within h c (Some k) None m s made is = absurd s
+
+pub made_within : (h : List Entry) (xs : List CallRecord) → ((i : ℕ) (a : CallRecord) → slice_get xs i ≡ Some a → IsExplained h a a.point a.reply) → (i m : ℕ) → Makes xs i m → m < length h
+made_within h xs each i m made = let t = and_some (slice_get xs i) (IsMaker m) made in accepted_within h t.0 t.0.point t.0.reply m (each i t.0 t.1) t.2.0 t.2.1

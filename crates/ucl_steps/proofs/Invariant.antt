@@ -1,0 +1,222 @@
+-- What every step keeps.
+use Rattle.std.proofs.Common.{◌≡◌, ◌≢◌, ℕ, zero, suc, List, [], ◌∷◌, ◌++◌, length, map, Option, Some, None, ◌⊎◌, inl, inr, refl, sym, ap, ◌∙◌, subst, arith, append-nil}
+use Rattle.std.specs.Prelude.{slice_get, IsSome}
+use Rattle.std.specs.Option.{option_map}
+use Rattle.std.proofs.lemmas.Option.{none-some, same_Some, slice_get-map}
+use Rattle.std.proofs.lemmas.Bool.{false≢true}
+use Rattle.std.proofs.lemmas.List.{map-append, length-map}
+use Rattle.ucl_board.specs.declared.entry.Entry.{Entry}
+use Rattle.ucl_board.specs.History.{board_of, IsLegal}
+use Rattle.ucl_word.proofs.Sequences.{at_below, at_longer, at_end, at_either}
+use Rattle.ucl_steps.proofs.Lists.{get_some}
+use Rattle.ucl_steps.specs.declared.step.Caller.{Caller}
+use Rattle.ucl_steps.specs.declared.step.Call.{Call}
+use Rattle.ucl_steps.specs.declared.step.Step.{Step}
+use Rattle.ucl_steps.specs.declared.step.Step.TheVariants.{Begin, End}
+use Rattle.ucl_steps.specs.declared.trace.CallRecord.{CallRecord}
+use Rattle.ucl_steps.specs.declared.trace.Reply.{Reply}
+use Rattle.ucl_steps.specs.declared.trace.Reply.TheVariants.{Accepted, Refused, Copied}
+use Rattle.ucl_steps.specs.Machine.{Holds, Idle, Answered, Callers, MachineState, held_by, set_held, with_held, change_at, with_end}
+use Rattle.ucl_steps.specs.Linearizable.{EntryHasOneCall}
+use Rattle.ucl_steps.proofs.Explanations.{IsExplained}
+use Rattle.ucl_steps.proofs.ChangedLists.{get-change_at, change_at_here, change_at_else, map_unseen, map-change_at}
+use Rattle.ucl_steps.proofs.Callers.{same_caller, held_here, held_else}
+use Rattle.ucl_steps.proofs.Turns.{Time, Turns, IsInner, turns_inner, turns_begin, turns_end, ended_at}
+use Rattle.ucl_steps.proofs.CallFacts.{Begins, begins_length, in_call, Sees, Knows, sees_later, explained_later}
+use Rattle.ucl_steps.proofs.EntryMakers.{once_kept, once_begun}
+
+abbrev pub time_of : CallRecord → Time
+time_of c = record { caller = c.caller; call = c.call; begun = c.begun; ended = c.ended }
+
+-- the caller of a call that has not ended holds it
+pub record IsHeld (cs : Callers) (c : Caller) (k : ℕ) : Type 0 where
+  pub holds : Holds
+  pub held_is : held_by cs c ≡ Some holds
+  pub in_it : in_call holds ≡ Some k
+
+pub record Keeps (steps : List Step) (w : MachineState) : Type 0 where
+  pub legal : IsLegal w.history
+  pub words : w.words ≡ board_of w.history
+  pub explained : (i : ℕ) (a : CallRecord) → slice_get w.calls i ≡ Some a → IsExplained w.history a a.point a.reply
+  pub once : EntryHasOneCall w.history w.calls
+  pub turns : Turns steps (length w.history) (map time_of w.calls)
+  pub knows : (c : Caller) (x : Holds) (k : ℕ) → held_by w.callers c ≡ Some x → in_call x ≡ Some k → Knows w.history w.calls c x k
+  pub unended : (i : ℕ) (a : CallRecord) → slice_get w.calls i ≡ Some a → a.ended ≡ None → IsHeld w.callers a.caller i
+
+change_at_same : (k : ℕ) (xs : List CallRecord) → change_at k (λ a. a) xs ≡ xs
+change_at_same k [] = refl
+change_at_same zero (a ∷ xs) = refl
+change_at_same (suc k) (a ∷ xs) = ap (λ (z : List CallRecord). a ∷ z) (change_at_same k xs)
+
+some_or_none : (o : Option ℕ) → IsSome o ⊎ (o ≡ None)
+some_or_none None = inr refl
+some_or_none (Some n) = inl refl
+
+-- a call that has its reply may end now
+explained_closed : (h : List Entry) (c : CallRecord) (p : Option ℕ) (r : Option Reply) → IsExplained h c p r → IsSome r → IsExplained h (with_end (length h) c) p r
+explained_closed h c (Some k) (Some (Accepted a)) s some = ((s.0.0, s.0.1, s.0.1), s.1)
+explained_closed h c (Some k) (Some (Refused a)) s some = ((s.0.0, s.0.1, s.0.1), s.1)
+explained_closed h c (Some k) (Some (Copied a)) s some = ((s.0.0, s.0.1, s.0.1), s.1)
+explained_closed h c None (Some r) s some = absurd s
+explained_closed h c (Some k) None s some = absurd s
+explained_closed h c None None s some = absurd (false≢true some)
+
+module _ (steps : List Step) (w : MachineState) (kept : Keeps steps w) (c : Caller) (x : Holds) (holds : held_by w.callers c ≡ Some x) where
+  -- what other callers hold, and know
+  knows_else : (h' : List Entry) (calls : List CallRecord) (y : Holds) → Begins w.history h' → ((d : Caller) (k : ℕ) (b : CallRecord) → d ≢ c → slice_get w.calls k ≡ Some b → b.caller ≡ d → slice_get calls k ≡ Some b)
+      → (d : Caller) (z : Holds) (k : ℕ) → d ≢ c → held_by (set_held y c w.callers) d ≡ Some z → in_call z ≡ Some k → Knows h' calls d z k
+  knows_else h' calls y b same d z k not at within =
+      let t = kept.knows d z k (sym (held_else w.callers c d y x holds not) ∙ at) within in
+      record { call = t.call; at = same d k t.call not t.at t.caller; caller = t.caller; unended = t.unended; sees = sees_later w.history h' b t.call z t.sees }
+
+  -- one step within a call
+  module _ (k : ℕ) (within : in_call x ≡ Some k) where
+    pub mine : Knows w.history w.calls c x k
+    mine = kept.knows c x k holds within
+
+    other_call : (d : Caller) (i : ℕ) (b : CallRecord) → d ≢ c → slice_get w.calls i ≡ Some b → b.caller ≡ d → i ≢ k
+    other_call d i b not at is same = not (sym is ∙ (ap (λ (z : CallRecord). z.caller) (same_Some b (kept.knows c x k holds within).call (sym at ∙ (ap (slice_get w.calls) same ∙ (kept.knows c x k holds within).at))) ∙ (kept.knows c x k holds within).caller))
+
+    pub moved : (s : Step) (y : Holds) (h' : List Entry) (words' : List ℕ) (f : CallRecord → CallRecord) → IsInner s → Begins w.history h' → IsLegal h' → words' ≡ board_of h'
+        → ((a : CallRecord) → time_of (f a) ≡ time_of a) → EntryHasOneCall h' (change_at k f w.calls)
+        → ((a : CallRecord) → slice_get w.calls k ≡ Some a → IsExplained h' (f a) (f a).point (f a).reply × Sees h' (f a) y) → in_call y ≡ Some k
+        → Keeps (steps ++ s ∷ []) (with_held y c (record w { words = words'; history = h'; calls = change_at k f w.calls }))
+    moved s y h' words' f inner b legal words timed once told inside =
+        let m = kept.knows c x k holds within in
+        let calls' = change_at k f w.calls in
+        record {
+          legal = legal;
+          words = words;
+          explained = λ i a at. elim (get-change_at k f w.calls i a at) [
+            | inl u ↦ subst (λ (z : CallRecord). IsExplained h' z z.point z.reply) u.3 (told u.1 u.2).0
+            | inr u ↦ explained_later w.history h' b a (kept.explained i a u.1)
+          ];
+          once = once;
+          turns = subst (Turns (steps ++ s ∷ []) (length h')) (sym (map_unseen time_of k f timed w.calls)) (turns_inner steps (length w.history) (length h') (map time_of w.calls) s inner (begins_length w.history h' b) kept.turns);
+          knows = λ d z i at within_z. elim (same_caller d c) [
+            | inl is ↦
+                let z_is : y ≡ z = same_Some y z (sym (held_here w.callers c x y holds) ∙ (ap (held_by (set_held y c w.callers)) (sym is) ∙ at)) in
+                let i_is : k ≡ i = same_Some k i (sym inside ∙ (ap in_call z_is ∙ within_z)) in
+                subst (λ (v : Holds). Knows h' calls' d v i) z_is (subst (λ (v : ℕ). Knows h' calls' d y v) i_is (record {
+                  call = f m.call;
+                  at = change_at_here k f w.calls m.call m.at;
+                  caller = ap (λ (t : Time). t.caller) (timed m.call) ∙ (m.caller ∙ sym is);
+                  unended = ap (λ (t : Time). t.ended) (timed m.call) ∙ m.unended;
+                  sees = (told m.call m.at).1;
+                }))
+            | inr not ↦ knows_else h' calls' y b (λ e j a other there own. change_at_else k f w.calls j a (other_call e j a other there own) there) d z i not at within_z
+          ];
+          unended = λ i a at none. elim (get-change_at k f w.calls i a at) [
+            | inl u ↦
+                let own : a.caller ≡ c = ap (λ (z : CallRecord). z.caller) (sym u.3) ∙ (ap (λ (t : Time). t.caller) (timed u.1) ∙ (ap (λ (z : CallRecord). z.caller) (same_Some u.1 m.call (sym u.2 ∙ m.at)) ∙ m.caller)) in
+                record { holds = y; held_is = ap (held_by (set_held y c w.callers)) own ∙ held_here w.callers c x y holds; in_it = inside ∙ ap Some (sym u.0) }
+            | inr u ↦
+                let o = kept.unended i a u.1 none in
+                elim (same_caller a.caller c) [
+                  | inl is ↦
+                      let o_is : o.holds ≡ x = same_Some o.holds x (sym o.held_is ∙ (ap (held_by w.callers) is ∙ holds)) in
+                      absurd (u.0 (same_Some i k (sym o.in_it ∙ (ap in_call o_is ∙ within))))
+                  | inr not ↦ record { holds = o.holds; held_is = held_else w.callers c a.caller y x holds not ∙ o.held_is; in_it = o.in_it }
+                ]
+          ];
+        }
+
+    -- one step that leaves the calls
+    pub stayed : (s : Step) (y : Holds) → IsInner s → ((a : CallRecord) → slice_get w.calls k ≡ Some a → Sees w.history a y) → in_call y ≡ Some k → Keeps (steps ++ s ∷ []) (with_held y c w)
+    stayed s y inner told inside =
+        subst (λ (cs : List CallRecord). Keeps (steps ++ s ∷ []) (with_held y c (record w { calls = cs }))) (change_at_same k w.calls)
+        (moved s y w.history w.words (λ a. a) inner ([], sym (append-nil w.history)) kept.legal kept.words (λ a. refl) (subst (EntryHasOneCall w.history) (sym (change_at_same k w.calls)) kept.once) (λ a at. (kept.explained k a at, told a at)) inside)
+
+    -- the end of a call
+    pub ended : Sees w.history (kept.knows c x k holds within).call (Answered k) → Keeps (steps ++ End c ∷ []) (with_held Idle c (record w { calls = change_at k (with_end (length w.history)) w.calls }))
+    ended answered =
+        let m = kept.knows c x k holds within in
+        let n = length w.history in
+        let f = with_end n in
+        let calls' = change_at k f w.calls in
+        let here : slice_get (map time_of w.calls) k ≡ Some (time_of m.call) = slice_get-map time_of w.calls k ∙ ap (option_map time_of) m.at in
+        record {
+          legal = kept.legal;
+          words = kept.words;
+          explained = λ i a at. elim (get-change_at k f w.calls i a at) [
+            | inl u ↦
+                let same : m.call ≡ u.1 = same_Some m.call u.1 (sym m.at ∙ u.2) in
+                subst (λ (z : CallRecord). IsExplained w.history z z.point z.reply) (ap f same ∙ u.3) (explained_closed w.history m.call m.call.point m.call.reply (kept.explained k m.call m.at) answered)
+            | inr u ↦ kept.explained i a u.1
+          ];
+          once = once_kept w.calls k f w.history (λ a i made. made) (λ a i made. made) kept.once;
+          turns = subst (Turns (steps ++ End c ∷ []) n) (sym (map-change_at time_of k f (ended_at n) (λ a. refl) w.calls)) (turns_end steps n (map time_of w.calls) c k (time_of m.call) here m.caller m.unended kept.turns);
+          knows = λ d z i at within_z. elim (same_caller d c) [
+            | inl is ↦
+                let z_is : Idle ≡ z = same_Some Idle z (sym (held_here w.callers c x Idle holds) ∙ (ap (held_by (set_held Idle c w.callers)) (sym is) ∙ at)) in
+                absurd (none-some i (ap in_call z_is ∙ within_z))
+            | inr not ↦ knows_else w.history calls' Idle ([], sym (append-nil w.history)) (λ e j a other there own. change_at_else k f w.calls j a (other_call e j a other there own) there) d z i not at within_z
+          ];
+          unended = λ i a at none. elim (get-change_at k f w.calls i a at) [
+            | inl u ↦ absurd (none-some n (sym none ∙ ap (λ (z : CallRecord). z.ended) (sym u.3)))
+            | inr u ↦
+                let o = kept.unended i a u.1 none in
+                elim (same_caller a.caller c) [
+                  | inl is ↦
+                      let o_is : o.holds ≡ x = same_Some o.holds x (sym o.held_is ∙ (ap (held_by w.callers) is ∙ holds)) in
+                      absurd (u.0 (same_Some i k (sym o.in_it ∙ (ap in_call o_is ∙ within))))
+                  | inr not ↦ record { holds = o.holds; held_is = held_else w.callers c a.caller Idle x holds not ∙ o.held_is; in_it = o.in_it }
+                ]
+          ];
+        }
+
+  -- a call begins
+  pub begun : x ≡ Idle → (call : Call) (y : Holds) → Sees w.history (record { caller = c; call = call; begun = length w.history; point = None; reply = None; ended = None }) y → in_call y ≡ Some (length w.calls)
+      → Keeps (steps ++ Begin c call ∷ []) (with_held y c (record w { calls = w.calls ++ record { caller = c; call = call; begun = length w.history; point = None; reply = None; ended = None } ∷ [] }))
+  begun idle call y sees inside =
+      let n = length w.history in
+      let new : CallRecord = record { caller = c; call = call; begun = n; point = None; reply = None; ended = None } in
+      let calls' = w.calls ++ new ∷ [] in
+      let closed_all : (i : ℕ) (a : CallRecord) → slice_get w.calls i ≡ Some a → a.caller ≡ c → a.ended ≡ None → ⊥ = λ i a at own none.
+      let o = kept.unended i a at none in
+      let o_is : o.holds ≡ Idle = same_Some o.holds x (sym o.held_is ∙ (ap (held_by w.callers) own ∙ holds)) ∙ idle in
+      none-some i (sym (ap in_call o_is) ∙ o.in_it) in
+      record {
+        legal = kept.legal;
+        words = kept.words;
+        explained = λ i a at. elim (at_either w.calls new i a at) [
+          | inl u ↦ kept.explained i a u.1
+          | inr u ↦ subst (λ (z : CallRecord). IsExplained w.history z z.point z.reply) u.1 refl
+        ];
+        once = once_begun w.history w.calls new refl kept.once;
+        turns = subst (Turns (steps ++ Begin c call ∷ []) n) (sym (map-append time_of w.calls (new ∷ [])))
+            (turns_begin steps n (map time_of w.calls) c call (λ i t at own. timed_ended i t at own closed_all) kept.turns);
+        knows = λ d z i at within_z. elim (same_caller d c) [
+          | inl is ↦
+              let z_is : y ≡ z = same_Some y z (sym (held_here w.callers c x y holds) ∙ (ap (held_by (set_held y c w.callers)) (sym is) ∙ at)) in
+              let i_is : length w.calls ≡ i = same_Some (length w.calls) i (sym inside ∙ (ap in_call z_is ∙ within_z)) in
+              subst (λ (v : Holds). Knows w.history calls' d v i) z_is (subst (λ (v : ℕ). Knows w.history calls' d y v) i_is (record {
+                call = new;
+                at = at_end w.calls new;
+                caller = sym is;
+                unended = refl;
+                sees = sees;
+              }))
+          | inr not ↦ knows_else w.history calls' y ([], sym (append-nil w.history)) (λ e j a other there own. at_longer w.calls (new ∷ []) j a there) d z i not at within_z
+        ];
+        unended = λ i a at none. elim (at_either w.calls new i a at) [
+          | inl u ↦
+              let o = kept.unended i a u.1 none in
+              elim (same_caller a.caller c) [
+                | inl is ↦ absurd (closed_all i a u.1 is none)
+                | inr not ↦ record { holds = o.holds; held_is = held_else w.callers c a.caller y x holds not ∙ o.held_is; in_it = o.in_it }
+              ]
+          | inr u ↦ record { holds = y; held_is = ap (held_by (set_held y c w.callers)) (ap (λ (z : CallRecord). z.caller) (sym u.1)) ∙ held_here w.callers c x y holds; in_it = inside ∙ ap Some (sym u.0) }
+        ];
+      }
+    where
+      timed_ended : (i : ℕ) (t : Time) → slice_get (map time_of w.calls) i ≡ Some t → t.caller ≡ c → ((i : ℕ) (a : CallRecord) → slice_get w.calls i ≡ Some a → a.caller ≡ c → a.ended ≡ None → ⊥) → IsSome t.ended
+      timed_ended i t at own closed_all =
+          let below = at_below (map time_of w.calls) i t at in
+          let count = length-map w.calls time_of in
+          let a = get_some w.calls i (omega arith) in
+          let is : time_of a.0 ≡ t = same_Some (time_of a.0) t (ap (option_map time_of) (sym a.1) ∙ (sym (slice_get-map time_of w.calls i) ∙ at)) in
+          elim (some_or_none t.ended) [
+            | inl some ↦ some
+            | inr none ↦ absurd (closed_all i a.0 a.1 (ap (λ (z : Time). z.caller) is ∙ own) (ap (λ (z : Time). z.ended) is ∙ none))
+          ]

@@ -1,0 +1,299 @@
+-- Each step of the machine keeps what every step keeps.
+use Rattle.std.proofs.Common.{◌≡◌, ℕ, zero, suc, ◌+◌, ◌-◌, ◌<◌, ◌≤◌, ◌==◌, ◌&&◌, nat_le, Bool, true, false, cond, List, [], ◌∷◌, ◌++◌, take, length, Option, Some, None, Ok, Err, inl, inr, refl, sym, ap, ◌∙◌, subst, arith, le_refl, append-nil, get_or}
+use Rattle.std.specs.Prelude.{slice_get, slice_index, slice_set, IfSome}
+use Rattle.std.specs.Option.{option_map}
+use Rattle.std.proofs.lemmas.Option.{none-some, same_Some, slice_get-map, cond_some}
+use Rattle.std.proofs.lemmas.Bool.{cases_lt, false≢true, eqb-true, eqb-false, and_parts, leb-true}
+use Rattle.std.proofs.lemmas.List.{length_push, get_or_append_left, get_or_push, length-take-le}
+use Rattle.std.proofs.Math.Seq.{take-append_seam, take-length}
+use Rattle.ucl_word.specs.declared.record.MatchRecord.{MatchRecord}
+use Rattle.ucl_word.specs.declared.event.EventCall.{EventCall}
+use Rattle.ucl_word.specs.declared.event.Kind.{Kind}
+use Rattle.ucl_word.specs.declared.refusal.Refusal.{Refusal}
+use Rattle.ucl_word.specs.declared.refusal.Refusal.TheVariants.{Stale}
+use Rattle.ucl_word.specs.Rules.{refusal_of, after}
+use Rattle.ucl_word.specs.Layout.{word_of, record_at}
+use Rattle.ucl_board.specs.declared.entry.Entry.{Entry}
+use Rattle.ucl_board.specs.Words.{word_at, version_of}
+use Rattle.ucl_word.specs.Rules.{answer}
+use Rattle.ucl_board.specs.History.{match_after, board_of, MayFollow, sequential_reply}
+use Rattle.ucl_word.proofs.Sequences.{at_end}
+use Rattle.ucl_board.proofs.HistoryLaws.{same_number}
+use Rattle.ucl_steps.proofs.Histories.{number_expected, is_stale, legal_snoc, legal_beginning, match_next, read_back, number_is, squeezed, board_at, board_get, board_next, board_from, version_is}
+use Rattle.ucl_steps.specs.declared.step.Caller.{Caller}
+use Rattle.ucl_steps.specs.declared.step.Caller.TheVariants.{Reporter, Reader}
+use Rattle.ucl_steps.specs.declared.step.Call.{Call}
+use Rattle.ucl_steps.specs.declared.step.Call.TheVariants.{Event, Reading}
+use Rattle.ucl_steps.specs.declared.step.Step.{Step}
+use Rattle.ucl_steps.specs.declared.step.Step.TheVariants.{Begin, Look, Swap, First, Second, End}
+use Rattle.ucl_steps.specs.declared.trace.CallRecord.{CallRecord}
+use Rattle.ucl_steps.specs.declared.trace.Reply.TheVariants.{Accepted, Refused, Copied}
+use Rattle.ucl_steps.specs.Machine.{may_begin, after_begin, after_step_holding, caller_of, Holds, Idle, Wanting, Holding, Collecting, Checking, Answered, MachineState, held_by, with_held, change_at, with_reply, with_end, after_rules, after_look, after_swap, after_first, after_second, after_reply}
+use Rattle.ucl_steps.proofs.Explanations.{IsExplained, IsSequential}
+use Rattle.ucl_steps.proofs.Turns.{IsInner}
+use Rattle.ucl_steps.proofs.CallFacts.{Asks, Offers, Loaded, AreAt, Collects, Checks, in_call}
+use Rattle.ucl_steps.proofs.EntryMakers.{once_refused, once_accepted, made_within}
+use Rattle.ucl_steps.proofs.Invariant.{time_of, Keeps, moved, stayed, ended, begun}
+
+-- an entry of this event
+abbrev entered : EventCall → ℕ → Entry
+entered e r = record { game = e.game; reporter = r; kind = e.kind }
+
+unended_none : (o : Option ℕ) (P : ℕ → Type 0) → o ≡ None → IfSome o P
+unended_none o P none = subst (λ (z : Option ℕ). IfSome z P) (sym none) tt
+
+same_reporter : (n m : ℕ) → Reporter n ≡ Reporter m → n ≡ m
+same_reporter n m e = cc
+
+-- the number of the word that an accepted event leaves
+number_after : (m : MatchRecord) (r : ℕ) (k : Kind) → (after m r k).number ≡ m.number + 1
+unfolding after
+number_after m r k = refl
+
+sequential_reading : (h : List Entry) (k : ℕ) (c : Caller) (board : List ℕ) (version : ℕ) → board ≡ board_of (take k h) → version ≡ k → IsSequential h k c Reading (Copied (record { board = board; version = version }))
+sequential_reading h k (Reporter n) board version same is = (same, is)
+sequential_reading h k (Reader n) board version same is = (same, is)
+
+module _ (steps : List Step) (w : MachineState) (kept : Keeps steps w) where
+  abbrev now : ℕ
+  now = length w.history
+
+  -- a word that the board has now
+  pub word_now : (g : ℕ) → (1 ≤ g) × (g ≤ 12) → word_at w.words g ≡ word_of (match_after w.history g)
+  word_now g within = ap (λ (z : List ℕ). slice_index z (g - 1)) kept.words ∙ board_at w.history g within
+
+  record_now : (g : ℕ) → (1 ≤ g) × (g ≤ 12) → record_at (word_at w.words g) ≡ match_after w.history g
+  record_now g within = ap record_at (word_now g within) ∙ read_back w.history g kept.legal
+
+  begun_before : (k : ℕ) (a : CallRecord) → slice_get w.calls k ≡ Some a → a.begun ≤ now
+  begun_before k a at = (kept.turns.past k (time_of a) (slice_get-map time_of w.calls k ∙ ap (option_map time_of) at)).0
+
+  -- a refusal at the present place
+  refused_kept : (s : Step) (c : Caller) (k : ℕ) (e : EventCall) (x : Holds) (holds : held_by w.callers c ≡ Some x) (within : in_call x ≡ Some k) (refusal : Refusal) → IsInner s → Asks (kept.knows c x k holds within).call e
+      → refusal_of (match_after w.history e.game) e.expected e.kind ≡ Some refusal → Keeps (steps ++ s ∷ []) (after_reply c k now (Refused refusal) w)
+  refused_kept s c k e x holds within refusal inner asks refuses =
+      let m = kept.knows c x k holds within in
+      let h = w.history in
+      let f = with_reply now (Refused refusal) in
+      let base : sequential_reply (take now h) e ≡ Err refusal = ap (λ (z : List Entry). sequential_reply z e) (take-length h) ∙ ap (answer (match_after h e.game).number) refuses in
+      let is : IsSequential h now m.call.caller m.call.call (Refused refusal) =
+      subst (λ (z : Caller). IsSequential h now z m.call.call (Refused refusal)) (sym asks.caller) (subst (λ (z : Call). IsSequential h now (Reporter asks.reporter) z (Refused refusal)) (sym asks.call) base) in
+      let told : IsExplained h (f m.call) (Some now) (Some (Refused refusal)) = ((begun_before k m.call m.at, le_refl now, unended_none m.call.ended (λ z. now ≤ z) m.unended), is) in
+      moved steps w kept c x holds k within s (Answered k) h w.words f inner ([], sym (append-nil h)) kept.legal kept.words (λ a. refl)
+      (once_refused w.calls k f m.call m.at asks.reply h refl kept.once)
+      (λ a at. (subst (λ (z : CallRecord). IsExplained h (f z) (Some now) (Some (Refused refusal))) (same_Some m.call a (sym m.at ∙ at)) told, refl)) refl
+
+  look_kept : (n k : ℕ) (e : EventCall) (holds : held_by w.callers (Reporter n) ≡ Some (Wanting k e)) (o : Option Refusal) → refusal_of (record_at (word_at w.words e.game)) e.expected e.kind ≡ o
+      → Keeps (steps ++ Look (Reporter n) ∷ []) (after_rules (Reporter n) k e (word_at w.words e.game) o w)
+  look_kept n k e holds (Some refusal) is =
+      let m = kept.knows (Reporter n) (Wanting k e) k holds refl in
+      refused_kept (Look (Reporter n)) (Reporter n) k e (Wanting k e) holds refl refusal tt m.sees
+      (ap (λ (z : MatchRecord). refusal_of z e.expected e.kind) (sym (record_now e.game m.sees.game)) ∙ is)
+  look_kept n k e holds None is =
+      let m = kept.knows (Reporter n) (Wanting k e) k holds refl in
+      let word = word_at w.words e.game in
+      let new = word_of (after (record_at word) n e.kind) in
+      let r_is : m.sees.reporter ≡ n = same_reporter m.sees.reporter n (sym m.sees.caller ∙ m.caller) in
+      let offers : Offers w.history m.call e word new = record {
+        asks = m.sees;
+        place = now;
+        within = le_refl now;
+        found = word_now e.game m.sees.game ∙ ap (λ (z : List Entry). word_of (match_after z e.game)) (sym (take-length w.history));
+        accepted = is;
+        next = ap (λ (z : ℕ). word_of (after (record_at word) z e.kind)) (sym r_is);
+      } in
+      stayed steps w kept (Reporter n) (Wanting k e) holds k refl (Look (Reporter n)) (Holding k e word new) tt (λ a at. subst (λ (z : CallRecord). Offers w.history z e word new) (same_Some m.call a (sym m.at ∙ at)) offers) refl
+
+  module _ (n k : ℕ) (e : EventCall) (old new : ℕ) (holds : held_by w.callers (Reporter n) ≡ Some (Holding k e old new)) where
+    missed : (word_at w.words e.game == old) ≡ false → Keeps (steps ++ Swap (Reporter n) ∷ []) (after_reply (Reporter n) k now (Refused (Stale (record_at (word_at w.words e.game)).number)) w)
+    missed differs =
+        let m = kept.knows (Reporter n) (Holding k e old new) k holds refl in
+        let o = m.sees in
+        let h = w.history in
+        let g = e.game in
+        let game = o.asks.game in
+        let stale : e.expected ≡ (match_after h g).number → ⊥ = λ is.
+        let then : record_at old ≡ match_after (take o.place h) g = ap record_at o.found ∙ read_back (take o.place h) g (legal_beginning h o.place kept.legal) in
+        let number : e.expected ≡ (match_after (take o.place h) g).number = number_expected (record_at old) e.expected e.kind o.accepted ∙ ap (λ (z : MatchRecord). z.number) then in
+        let at_now : (match_after (take now h) g).number ≡ (match_after h g).number = ap (λ (z : List Entry). (match_after z g).number) (take-length h) in
+        let same = (same_number h o.place now g (sym number ∙ (is ∙ sym at_now))).1 in
+        eqb-false (word_at w.words g) old differs (word_now g game ∙ (ap (λ (z : List Entry). word_of (match_after z g)) (sym (take-length h)) ∙ (sym same ∙ sym o.found))) in
+        refused_kept (Swap (Reporter n)) (Reporter n) k e (Holding k e old new) holds refl (Stale (record_at (word_at w.words g)).number) tt o.asks
+        (is_stale (match_after h g) e.expected e.kind stale ∙ ap (λ (z : MatchRecord). Some (Stale z.number)) (sym (record_now g game)))
+
+    won : (word_at w.words e.game == old) ≡ true → Keeps (steps ++ Swap (Reporter n) ∷ []) (after_reply (Reporter n) k now (Accepted (record { number = (record_at new).number }))
+        (record w { words = slice_set w.words (e.game - 1) new; history = w.history ++ entered e n ∷ [] }))
+    won same =
+        let m = kept.knows (Reporter n) (Holding k e old new) k holds refl in
+        let o = m.sees in
+        let h = w.history in
+        let g = e.game in
+        let game = o.asks.game in
+        let now_is : old ≡ word_of (match_after h g) = sym (eqb-true (word_at w.words g) old same) ∙ word_now g game in
+        let match_is : record_at old ≡ match_after h g = ap record_at now_is ∙ read_back h g kept.legal in
+        let r_is : o.asks.reporter ≡ n = same_reporter o.asks.reporter n (sym o.asks.caller ∙ m.caller) in
+        let accepted : refusal_of (match_after h g) e.expected e.kind ≡ None = ap (λ (z : MatchRecord). refusal_of z e.expected e.kind) (sym match_is) ∙ o.accepted in
+        let number = number_expected (match_after h g) e.expected e.kind accepted in
+        let low = o.asks.low in
+        let high = o.asks.high in
+        let may : MayFollow h (entered e n) = record { game = game; accepted = record { reporter = (omega arith, omega arith); accepted = ap (λ (z : ℕ). refusal_of (match_after h g) z e.kind) (sym (number_is h g) ∙ sym number) ∙ accepted } } in
+        let h' = h ++ entered e n ∷ [] in
+        let legal = legal_snoc h (entered e n) kept.legal may in
+        let new_is : new ≡ word_of (after (match_after h g) n e.kind) = o.next ∙ (ap (λ (z : ℕ). word_of (after (record_at old) z e.kind)) r_is ∙ ap (λ (z : MatchRecord). word_of (after z n e.kind)) match_is) in
+        let words : slice_set w.words (g - 1) new ≡ board_of h' = ap (λ (z : List ℕ). slice_set z (g - 1) new) kept.words ∙ (ap (slice_set (board_of h) (g - 1)) new_is ∙ sym (board_next h (entered e n) kept.legal may)) in
+        let next = match_next h (entered e n) kept.legal may in
+        let count : (record_at new).number ≡ (match_after h g).number + 1 =
+        ap (λ (z : ℕ). (record_at z).number) (new_is ∙ ap word_of (sym next)) ∙ (ap (λ (z : MatchRecord). z.number) (read_back h' g legal ∙ next) ∙ number_after (match_after h g) n e.kind) in
+        let f = with_reply now (Accepted (record { number = (record_at new).number })) in
+        let base : IsSequential h' now (Reporter n) (Event e) (Accepted (record { number = (record_at new).number })) =
+        (ap (λ (z : List Entry). sequential_reply z e) (take-append_seam h (entered e n ∷ [])) ∙ (ap (answer (match_after h g).number) accepted ∙ ap (λ (z : ℕ). Ok (record { number = z })) (sym count)), at_end h (entered e n)) in
+        let is : IsSequential h' now m.call.caller m.call.call (Accepted (record { number = (record_at new).number })) =
+        subst (λ (z : Caller). IsSequential h' now z m.call.call (Accepted (record { number = (record_at new).number }))) (sym m.caller)
+        (subst (λ (z : Call). IsSequential h' now (Reporter n) z (Accepted (record { number = (record_at new).number }))) (sym o.asks.call) base) in
+        let long = length_push h (entered e n) in
+        let told : IsExplained h' (f m.call) (Some now) (Some (Accepted (record { number = (record_at new).number }))) = ((begun_before k m.call m.at, omega arith, unended_none m.call.ended (λ z. now < z) m.unended), is) in
+        moved steps w kept (Reporter n) (Holding k e old new) holds k refl (Swap (Reporter n)) (Answered k) h' (slice_set w.words (g - 1) new) f tt (entered e n ∷ [], refl) legal words (λ a. refl)
+        (once_accepted w.calls k f m.call m.at o.asks.reply h (entered e n) refl refl (made_within h w.calls kept.explained) kept.once)
+        (λ a at. (subst (λ (z : CallRecord). IsExplained h' (f z) (Some now) (Some (Accepted (record { number = (record_at new).number })))) (same_Some m.call a (sym m.at ∙ at)) told, refl)) refl
+
+    swap_kept : (b : Bool) → (word_at w.words e.game == old) ≡ b → Keeps (steps ++ Swap (Reporter n) ∷ []) (cond b
+        (after_reply (Reporter n) k now (Accepted (record { number = (record_at new).number })) (record w { words = slice_set w.words (e.game - 1) new; history = w.history ++ entered e n ∷ [] }))
+        (after_reply (Reporter n) k now (Refused (Stale (record_at (word_at w.words e.game)).number)) w))
+    swap_kept true is = won is
+    swap_kept false is = missed is
+
+  word_at_place : (i : ℕ) → i < 12 → get_or w.words i 0 ≡ word_of (match_after (take now w.history) (i + 1))
+  word_at_place i few = ap (λ (z : List ℕ). get_or z i 0) kept.words ∙ (board_get w.history i few ∙ ap (λ (z : List Entry). word_of (match_after z (i + 1))) (sym (take-length w.history)))
+
+  loaded_more : (loaded : List ℕ) → length loaded < 12 → Loaded w.history loaded now → Loaded w.history (loaded ++ slice_index w.words (length loaded) ∷ []) now
+  loaded_more loaded few before i less =
+      let long = length_push loaded (slice_index w.words (length loaded)) in
+      elim (cases_lt i (length loaded)) [
+        | inl l ↦ let t = before i l in (t.0, t.1, get_or_append_left loaded (slice_index w.words (length loaded) ∷ []) 0 i l ∙ t.2)
+        | inr l ↦
+            let is : length loaded ≡ i = omega arith in
+            (now, le_refl now, get_or_push loaded (slice_index w.words (length loaded)) 0 i is ∙ (ap (slice_index w.words) is ∙ word_at_place i (omega arith)))
+      ]
+
+  first_kept : (c : Caller) (k : ℕ) (loaded : List ℕ) (holds : held_by w.callers c ≡ Some (Collecting k loaded)) (b : Bool) → (length (loaded ++ slice_index w.words (length loaded) ∷ []) == 12) ≡ b
+      → Keeps (steps ++ First c ∷ []) (with_held (cond b (Checking k (loaded ++ slice_index w.words (length loaded) ∷ []) 0 now) (Collecting k (loaded ++ slice_index w.words (length loaded) ∷ []))) c w)
+  first_kept c k loaded holds true is =
+      let m = kept.knows c (Collecting k loaded) k holds refl in
+      let o = m.sees in
+      let more = loaded ++ slice_index w.words (length loaded) ∷ [] in
+      let checks : Checks w.history m.call more 0 now = record {
+        reads = o.reads;
+        twelve = eqb-true (length more) 12 is;
+        few = omega arith;
+        early = begun_before k m.call m.at;
+        late = le_refl now;
+        loaded = loaded_more loaded o.few o.loaded;
+        same = λ i none. absurd (omega arith);
+      } in
+      stayed steps w kept c (Collecting k loaded) holds k refl (First c) (Checking k more 0 now) tt (λ a at. subst (λ (z : CallRecord). Checks w.history z more 0 now) (same_Some m.call a (sym m.at ∙ at)) checks) refl
+  first_kept c k loaded holds false is =
+      let m = kept.knows c (Collecting k loaded) k holds refl in
+      let o = m.sees in
+      let more = loaded ++ slice_index w.words (length loaded) ∷ [] in
+      let long = length_push loaded (slice_index w.words (length loaded)) in
+      let few = o.few in
+      let not-all = eqb-false (length more) 12 is in
+      let collects : Collects w.history m.call more = record { reads = o.reads; few = below (length loaded) (length more) few long not-all; loaded = loaded_more loaded o.few o.loaded } in
+      stayed steps w kept c (Collecting k loaded) holds k refl (First c) (Collecting k more) tt (λ a at. subst (λ (z : CallRecord). Collects w.history z more) (same_Some m.call a (sym m.at ∙ at)) collects) refl
+    where
+      below : (n m : ℕ) → n < 12 → m ≡ n + 1 → (m ≡ 12 → ⊥) → m < 12
+      below n m few is not = omega arith
+
+  module _ (c : Caller) (k : ℕ) (words : List ℕ) (checked point : ℕ) (holds : held_by w.callers c ≡ Some (Checking k words checked point)) where
+    start_again : Keeps (steps ++ Second c ∷ []) (with_held (Collecting k []) c w)
+    start_again =
+        let m = kept.knows c (Checking k words checked point) k holds refl in
+        let collects : Collects w.history m.call [] = record { reads = m.sees.reads; few = omega arith; loaded = λ i none. absurd (omega arith) } in
+        stayed steps w kept c (Checking k words checked point) holds k refl (Second c) (Collecting k []) tt (λ a at. subst (λ (z : CallRecord). Collects w.history z []) (same_Some m.call a (sym m.at ∙ at)) collects) refl
+
+    pub one_more : (slice_index w.words checked == slice_index words checked) ≡ true → AreAt w.history words (checked + 1) point
+    one_more same i less =
+        let o = (kept.knows c (Checking k words checked point) k holds refl).sees in
+        let few = o.few in
+        let twelve = o.twelve in
+        elim (cases_lt i checked) [
+          | inl l ↦ o.same i l
+          | inr l ↦
+              let is : i ≡ checked = omega arith in
+              let t = o.loaded i (omega arith) in
+              let there : get_or words i 0 ≡ get_or w.words i 0 = ap (λ (z : ℕ). get_or words z 0) is ∙ (sym (eqb-true (get_or w.words checked 0) (get_or words checked 0) same) ∙ ap (λ (z : ℕ). get_or w.words z 0) (sym is)) in
+              squeezed (i + 1) (get_or words i 0) w.history t.0 point now kept.legal t.1 o.late t.2 (there ∙ word_at_place i (omega arith))
+        ]
+
+    goes_on : (slice_index w.words checked == slice_index words checked) ≡ true → (checked == 11) ≡ false → Keeps (steps ++ Second c ∷ []) (with_held (Checking k words (checked + 1) point) c w)
+    goes_on same other =
+        let m = kept.knows c (Checking k words checked point) k holds refl in
+        let o = m.sees in
+        let few = o.few in
+        let not-last = eqb-false checked 11 other in
+        let checks : Checks w.history m.call words (checked + 1) point = record { reads = o.reads; twelve = o.twelve; few = below checked few not-last; early = o.early; late = o.late; loaded = o.loaded; same = one_more same } in
+        stayed steps w kept c (Checking k words checked point) holds k refl (Second c) (Checking k words (checked + 1) point) tt (λ a at. subst (λ (z : CallRecord). Checks w.history z words (checked + 1) point) (same_Some m.call a (sym m.at ∙ at)) checks) refl
+      where
+        below : (n : ℕ) → n < 12 → (n ≡ 11 → ⊥) → n + 1 < 12
+        below n few not = omega arith
+
+    copied : (slice_index w.words checked == slice_index words checked) ≡ true → (checked == 11) ≡ true → Keeps (steps ++ Second c ∷ []) (after_reply c k point (Copied (record { board = words; version = version_of words })) w)
+    copied same last =
+        let m = kept.knows c (Checking k words checked point) k holds refl in
+        let o = m.sees in
+        let h = w.history in
+        let r = Copied (record { board = words; version = version_of words }) in
+        let f = with_reply point r in
+        let is_last = eqb-true checked 11 last in
+        let each = one_more same in
+        let board : words ≡ board_of (take point h) = board_from (take point h) words o.twelve (λ i few. each i (omega arith)) in
+        let version : version_of words ≡ point = ap version_of board ∙ (version_is (take point h) (legal_beginning h point kept.legal) ∙ length-take-le point h o.late) in
+        let is : IsSequential h point m.call.caller m.call.call r =
+        subst (λ (z : Call). IsSequential h point m.call.caller z r) (sym o.reads.call) (sequential_reading h point m.call.caller words (version_of words) board version) in
+        let late = o.late in
+        let told : IsExplained h (f m.call) (Some point) (Some r) = ((o.early, o.late, unended_none m.call.ended (λ z. point ≤ z) m.unended), is) in
+        moved steps w kept c (Checking k words checked point) holds k refl (Second c) (Answered k) h w.words f tt ([], sym (append-nil h)) kept.legal kept.words (λ a. refl)
+        (once_refused w.calls k f m.call m.at o.reads.reply h refl kept.once)
+        (λ a at. (subst (λ (z : CallRecord). IsExplained h (f z) (Some point) (Some r)) (same_Some m.call a (sym m.at ∙ at)) told, refl)) refl
+
+    second_kept : (a b : Bool) → (slice_index w.words checked == slice_index words checked) ≡ a → (checked == 11) ≡ b
+        → Keeps (steps ++ Second c ∷ []) (cond a (cond b (after_reply c k point (Copied (record { board = words; version = version_of words })) w) (with_held (Checking k words (checked + 1) point) c w)) (with_held (Collecting k []) c w))
+    second_kept true true same last = copied same last
+    second_kept true false same last = goes_on same last
+    second_kept false b same last = start_again
+
+  begin_kept : (c : Caller) (call : Call) → held_by w.callers c ≡ Some Idle → may_begin c call ≡ true → Keeps (steps ++ Begin c call ∷ []) (after_begin c call w)
+  begin_kept (Reporter zero) (Event e) holds may = absurd (none-some Idle holds)
+  begin_kept (Reporter (suc n)) (Event e) holds may =
+      let a = and_parts (nat_le 1 e.game) (nat_le e.game 12 && nat_le (suc n) 255) may in
+      let b = and_parts (nat_le e.game 12) (nat_le (suc n) 255) a.1 in
+      begun steps w kept (Reporter (suc n)) Idle holds refl (Event e) (Wanting (length w.calls) e)
+      (record { call = refl; reporter = suc n; caller = refl; low = omega arith; high = leb-true (suc n) 255 b.1; game = (leb-true 1 e.game a.0, leb-true e.game 12 b.0); point = refl; reply = refl }) refl
+  begin_kept (Reader n) (Event e) holds may = absurd (false≢true may)
+  begin_kept (Reporter n) Reading holds may = begun steps w kept (Reporter n) Idle holds refl Reading (Collecting (length w.calls) []) (record { reads = record { call = refl; point = refl; reply = refl }; few = omega arith; loaded = λ i none. absurd (omega arith) }) refl
+  begin_kept (Reader n) Reading holds may = begun steps w kept (Reader n) Idle holds refl Reading (Collecting (length w.calls) []) (record { reads = record { call = refl; point = refl; reply = refl }; few = omega arith; loaded = λ i none. absurd (omega arith) }) refl
+
+  -- a reader asks for no event
+  pub no_asker : (n : ℕ) (x : Holds) (k : ℕ) (e : EventCall) (holds : held_by w.callers (Reader n) ≡ Some x) (within : in_call x ≡ Some k) → Asks (kept.knows (Reader n) x k holds within).call e → ⊥
+  no_asker n x k e holds within asks = apart asks.reporter n (sym asks.caller ∙ (kept.knows (Reader n) x k holds within).caller)
+    where
+      apart : (r n : ℕ) → Reporter r ≡ Reader n → ⊥
+      apart r n e = cc
+
+  pub step_kept : (s : Step) (o : Option Holds) (w' : MachineState) → held_by w.callers (caller_of s) ≡ o → after_step_holding s o w ≡ Some w' → Keeps (steps ++ s ∷ []) w'
+  step_kept (Begin c call) (Some Idle) w' holds done =
+      let t = cond_some (may_begin c call) (after_begin c call w) w' done in
+      subst (Keeps (steps ++ Begin c call ∷ [])) t.1 (begin_kept c call holds t.0)
+  step_kept (Look (Reporter n)) (Some (Wanting k e)) w' holds done =
+      subst (Keeps (steps ++ Look (Reporter n) ∷ [])) (same_Some (after_look (Reporter n) k e w) w' done) (look_kept n k e holds (refusal_of (record_at (word_at w.words e.game)) e.expected e.kind) refl)
+  step_kept (Look (Reader n)) (Some (Wanting k e)) w' holds done = absurd (no_asker n (Wanting k e) k e holds refl (kept.knows (Reader n) (Wanting k e) k holds refl).sees)
+  step_kept (Swap (Reporter n)) (Some (Holding k e old new)) w' holds done =
+      subst (Keeps (steps ++ Swap (Reporter n) ∷ [])) (same_Some (after_swap (Reporter n) k e old new w) w' done) (swap_kept n k e old new holds (word_at w.words e.game == old) refl)
+  step_kept (Swap (Reader n)) (Some (Holding k e old new)) w' holds done = absurd (no_asker n (Holding k e old new) k e holds refl (kept.knows (Reader n) (Holding k e old new) k holds refl).sees.asks)
+  step_kept (First c) (Some (Collecting k loaded)) w' holds done =
+      subst (Keeps (steps ++ First c ∷ [])) (same_Some (after_first c k loaded w) w' done) (first_kept c k loaded holds (length (loaded ++ slice_index w.words (length loaded) ∷ []) == 12) refl)
+  step_kept (Second c) (Some (Checking k words checked point)) w' holds done =
+      subst (Keeps (steps ++ Second c ∷ [])) (same_Some (after_second c k words checked point w) w' done) (second_kept c k words checked point holds (slice_index w.words checked == slice_index words checked) (checked == 11) refl refl)
+  step_kept (End c) (Some (Answered k)) w' holds done =
+      subst (Keeps (steps ++ End c ∷ [])) (same_Some (with_held Idle c (record w { calls = change_at k (with_end now) w.calls })) w' done) (ended steps w kept c (Answered k) holds k refl (kept.knows c (Answered k) k holds refl).sees)
+  step_kept s o w' holds done = absurd (none-some w' done)

@@ -1,0 +1,177 @@
+-- What an enlistment and a meeting leave a pass with.
+use Rattle.std.proofs.Common.{◌≡◌, ◌≢◌, ℕ, ◌+◌, ◌<◌, ◌≤◌, ◌∷◌, [], ◌++◌, length, List, None, refl, sym, ap, ◌∙◌, subst, arith, le_refl, append-nil}
+use Rattle.std.specs.Prelude.{Option, Some, IfSome}
+use Rattle.std.proofs.lemmas.List.Elements.{All-head, All-tail}
+use mathlib.Core.List.{IsPrefix}
+use Rattle.ucl_board.specs.Log.{Access, Enlisted, Taken, step_taken, accesses_in}
+use Rattle.ucl_steps.specs.Trails.{Follows}
+use Rattle.ucl_pass.specs.declared.view.View.{View}
+use Rattle.ucl_pass.specs.Passes.{SeesOn, Continues, Enlistment, FullBoard, Meeting}
+use Rattle.ucl_pass.specs.Views.{pass_view_of, steps_of, count_of, trail_of, Takes, second_of, note_of, told_by}
+use Rattle.ucl_pass.specs.CallSteps.{EnlistSteps, MeetingSteps}
+use Rattle.ucl_pass.proofs.Lists.{begins_same, begins_through, none_by_zero}
+use Rattle.ucl_pass.proofs.Calls.{takes_none, takes_count, one_more}
+use Rattle.ucl_words.specs.WordSteps.{LoadsEnlisted, EnlistMissed, EnlistWon}
+use Rattle.ucl_words.specs.WordCalls.{HasTrail, IsSteady, KeepsTrail}
+use Rattle.ucl_words.proofs.StepRuns.{trail_longer, takes_trail}
+
+-- a step on the enlist word leaves no access
+no_access : (v w : View) → Takes v (step_taken Enlisted (length w.seen) None ∷ []) w → trail_of w ≡ trail_of v
+no_access v w t = takes_trail v w (step_taken Enlisted (length w.seen) None ∷ []) t ∙ append-nil (trail_of v)
+
+one_step : (v w : View) → Takes v (step_taken Enlisted (length w.seen) None ∷ []) w → count_of w ≡ count_of v + 1
+one_step v w t = takes_count v w (step_taken Enlisted (length w.seen) None ∷ []) t
+
+-- exchanges of the enlist word that were all missed: it was last found to be n
+pub record Missed (v x : View) (n : ℕ) : Type 0 where
+  pub steady : IsSteady x
+  pub on : SeesOn (pass_view_of v) (pass_view_of x)
+  pub mine : x.mine ≡ v.mine
+  pub number : x.number ≡ v.number
+  pub shown : x.shown ≡ v.shown
+  pub known : n ≤ x.listed
+  pub steps : EnlistSteps v x
+  pub trail : trail_of x ≡ trail_of v
+  pub taken : count_of x ≤ count_of v + n
+
+pub missed_none : (v : View) → IsSteady v → Missed v v 0
+missed_none v steady = record {
+  steady = steady;
+  on = record { seen = begins_same v.seen; listed = le_refl v.listed };
+  mine = refl;
+  number = refl;
+  shown = refl;
+  known = omega arith;
+  steps = record { steps = []; takes = takes_none v; on_enlisted = tt };
+  trail = refl;
+  taken = omega arith;
+}
+
+-- the trail of a step that leaves no access
+trail_kept : (x w : View) → HasTrail x → IsPrefix x.seen w.seen → trail_of w ≡ trail_of x → HasTrail w
+trail_kept x w was seen same = subst (λ (t : List Access). Follows w.seen 0 t (length w.seen)) (sym same) (trail_longer x.seen w.seen (trail_of x) seen was)
+
+module _ (v x w : View) (n found : ℕ) (was : Missed v x n) where
+  -- one that was missed again has found a higher number
+  module _ (other : found ≢ n) (missed : EnlistMissed x found w) where
+    pub missed_higher : (n < found) × (found ≤ 255)
+    missed_higher = (let a = was.known in let b = missed.above in omega arith, let a = missed.sees.goes.few in let b = missed.listed in omega arith)
+
+    pub missed_more : Missed v w found
+    missed_more =
+        let a = was.known in
+        let b = missed.above in
+        let listed = missed.listed in
+        let on = was.on.listed in
+        let taken = was.taken in
+        let one = one_step x w missed.sees.takes in
+        let goes = missed.sees.goes in
+        record {
+          steady = record {
+            sound = record { legal = goes.legal; own = goes.own; few = goes.few };
+            told = goes.told;
+            trail = trail_kept x w was.steady.trail goes.seen (no_access x w missed.sees.takes);
+          };
+          on = record { seen = begins_through v.seen x.seen w.seen was.on.seen goes.seen; listed = omega arith };
+          mine = missed.sees.mine ∙ was.mine;
+          number = missed.sees.number ∙ was.number;
+          shown = missed.shown ∙ was.shown;
+          known = omega arith;
+          steps = one_more v x w (length w.seen) was.steps missed.sees.takes;
+          trail = no_access x w missed.sees.takes ∙ was.trail;
+          taken = omega arith;
+        }
+
+  -- one that was won
+  module _ (below : n < 255) (same : found ≡ n) (won : EnlistWon x found w) where
+    pub won_steady : IsSteady w
+    won_steady =
+        let goes = won.enlists.goes in
+        record { sound = record { legal = goes.legal; own = goes.own; few = goes.few }; told = goes.told; trail = trail_kept x w was.steady.trail goes.seen (no_access x w won.enlists.takes) }
+
+    pub won_enlists : Enlistment (pass_view_of v) (pass_view_of w)
+    won_enlists =
+        let listed = won.listed in
+        let above = won.above in
+        let on = was.on.listed in
+        let e = won.enlists in
+        record {
+          sound = won_steady.sound;
+          on = record { seen = begins_through v.seen x.seen w.seen was.on.seen e.goes.seen; listed = omega arith };
+          number = e.number;
+          above = omega arith;
+          fresh = sym e.goes.own ∙ e.mine;
+          mine = e.mine;
+          shown = e.shown;
+        }
+
+    pub won_trail : KeepsTrail v w
+    won_trail = record {
+      steps = one_more v x w (length w.seen) was.steps won.enlists.takes;
+      trail = no_access x w won.enlists.takes ∙ was.trail;
+      whole_trail = won_steady.trail;
+    }
+
+    pub won_taken : count_of w ≤ count_of v + 255
+    won_taken = let one = one_step x w won.enlists.takes in let taken = was.taken in omega arith
+
+    pub won_number : w.number ≡ n + 1
+    won_number = won.enlists.number ∙ (won.listed ∙ ap (λ (k : ℕ). k + 1) same)
+
+pub missed_continues : (v x : View) (n : ℕ) → Missed v x n → Continues (pass_view_of v) (pass_view_of x)
+missed_continues v x n was = record { sound = was.steady.sound; on = was.on; number = was.number }
+
+pub missed_full : (v x : View) (n : ℕ) → Missed v x n → 255 ≤ n → FullBoard (pass_view_of v) (pass_view_of x)
+missed_full v x n was high = let few = was.steady.sound.few in let known = was.known in record { listed = omega arith; mine = was.mine; shown = was.shown }
+
+pub missed_trail : (v x : View) (n : ℕ) → Missed v x n → KeepsTrail v x
+missed_trail v x n was = record { steps = was.steps; trail = was.trail; whole_trail = was.steady.trail }
+
+-- a second pass
+second_trail : (v : View) → trail_of (second_of v) ≡ trail_of v
+second_trail v = ap accesses_in (append-nil (steps_of v))
+
+pub second_steady : (v : View) → IsSteady v → IsSteady (second_of v)
+second_steady v steady = record {
+  sound = record { legal = steady.sound.legal; own = sym (none_by_zero v.seen steady.sound.legal); few = steady.sound.few };
+  told = refl;
+  trail = subst (λ (t : List Access). Follows v.seen 0 t (length v.seen)) (sym (second_trail v)) steady.trail;
+}
+
+pub second_steps : (v : View) → (count_of (second_of v) ≡ count_of v) × (trail_of (second_of v) ≡ trail_of v)
+second_steps v = (ap length (append-nil (steps_of v)), second_trail v)
+
+-- a load of the enlist word
+pub counted_steady : (v w : View) → LoadsEnlisted v w → IsSteady v → IsSteady w
+counted_steady v w loads steady =
+    let goes = loads.sees.goes in
+    record { sound = record { legal = goes.legal; own = goes.own; few = goes.few }; told = goes.told; trail = trail_kept v w steady.trail goes.seen (no_access v w loads.sees.takes) }
+
+-- a meeting: a note of the first was joined to the second, which then loaded the enlist word
+module _ (a v w : View) (steady : IsSteady v) (loads : LoadsEnlisted (told_by v (note_of a)) w) where
+  own_first : IsPrefix v.seen w.seen
+  own_first = All-head (λ l. IsPrefix l w.seen) v.seen (a.seen ∷ v.told) loads.sees.goes.heard
+
+  pub met_steps : MeetingSteps v w
+  met_steps = record { own = loads.sees.takes.own; copied = loads.sees.takes.copied }
+
+  pub met_steady : IsSteady w
+  met_steady =
+      let goes = loads.sees.goes in
+      record { sound = record { legal = goes.legal; own = goes.own; few = goes.few }; told = goes.told; trail = trail_kept v w steady.trail own_first (no_access v w met_steps) }
+
+  pub met_continues : Continues (pass_view_of v) (pass_view_of w)
+  met_continues = let listed = loads.listed in record { sound = met_steady.sound; on = record { seen = own_first; listed = omega arith }; number = loads.sees.number }
+
+  pub met_says : Meeting (pass_view_of a) (pass_view_of v) (pass_view_of w)
+  met_says = record {
+    met = All-head (λ l. IsPrefix l w.seen) a.seen v.told (All-tail (λ l. IsPrefix l w.seen) v.seen (a.seen ∷ v.told) loads.sees.goes.heard);
+    mine = loads.sees.mine;
+    shown = loads.shown;
+  }
+
+  pub met_trail : KeepsTrail v w
+  met_trail = record { steps = record { steps = step_taken Enlisted (length w.seen) None ∷ []; takes = met_steps; on_enlisted = ((refl, refl), tt) }; trail = no_access v w met_steps; whole_trail = met_steady.trail }
+
+pub after_told : (a v n x w : View) → n ≡ note_of a → x ≡ told_by v n → LoadsEnlisted x w → LoadsEnlisted (told_by v (note_of a)) w
+after_told a v n x w note told loads = subst (λ (u : View). LoadsEnlisted u w) (told ∙ ap (told_by v) note) loads

@@ -1,0 +1,198 @@
+-- What a report says: one load on whose word the rules refuse, or a load and an exchange.
+use Rattle.std.proofs.Common.{◌≡◌, ◌≢◌, inl, inr, ℕ, ◌+◌, ◌-◌, ◌<◌, ◌≤◌, List, [], ◌∷◌, ◌++◌, length, set, refl, sym, ap, ◌∙◌, subst, arith, le_refl, append_assoc, length-append}
+use Rattle.std.specs.Prelude.{Result, Ok, Err, Some, None, IsOk}
+use Rattle.std.proofs.Math.Seq.{take-length}
+use mathlib.Core.List.{IsPrefix}
+use Rattle.ucl_word.specs.declared.record.MatchRecord.{MatchRecord}
+use Rattle.ucl_word.specs.declared.event.Kind.{Kind}
+use Rattle.ucl_word.specs.declared.event.EventCall.{EventCall}
+use Rattle.ucl_word.specs.declared.event.Accepted.{Accepted}
+use Rattle.ucl_word.specs.declared.refusal.Refusal.{Refusal}
+use Rattle.ucl_word.specs.declared.refusal.Refusal.TheVariants.{Stale}
+use Rattle.ucl_word.specs.Rules.{refusal_of, after, reply_of}
+use Rattle.ucl_word.specs.Layout.{word_of, record_at}
+use Rattle.ucl_word.specs.Counts.{MatchEntry, counted_match, entered, IsLegalMatch}
+use Rattle.ucl_word.proofs.AcceptedEvents.{after_number}
+use Rattle.ucl_board.specs.declared.entry.Entry.{Entry}
+use Rattle.ucl_board.specs.Fixtures.{IsMatch}
+use Rattle.ucl_board.specs.Words.{word_at}
+use Rattle.ucl_board.specs.History.{board_of, IsLegal, followed_by, entry_of, sequential_reply}
+use Rattle.ucl_board.proofs.HistoryLaws.{beginnings}
+use Rattle.ucl_board.proofs.Histories.{word_after, game_after, next_board, accepted_reply, refused_reply}
+use Rattle.ucl_board.specs.Log.{Look, Swap, Access, access, Match, Taken, step_taken}
+use Rattle.ucl_steps.specs.Trails.{Follows, ReportAccesses}
+use Rattle.ucl_steps.proofs.Accesses.{follows_longer, follows_wider, follows_append, follows_one, report_whole}
+use Rattle.ucl_pass.specs.Passes.{Continues, AcceptedReport, RefusedReport}
+use Rattle.ucl_pass.proofs.Lists.{begins_same, begins_more, begins_through, begins_length}
+use Rattle.ucl_pass.specs.declared.view.View.{View}
+use Rattle.ucl_pass.specs.Views.{pass_view_of, trail_of, Takes}
+use Rattle.ucl_pass.proofs.Calls.{takes_on, takes_count}
+use Rattle.ucl_words.specs.WordSteps.{Loads, ExchangeMissed, ExchangeWon, IsNextWord}
+use Rattle.ucl_words.specs.Collects.{Walks}
+use Rattle.ucl_words.specs.WordCalls.{HasTrail, IsSteady, steps_with, ReportSteps}
+use Rattle.ucl_words.proofs.StepRuns.{trail_on, takes_trail, walks_on, walks_load}
+use Rattle.ucl_words.proofs.CallsAsSteps.{refused_joined, accepted_joined}
+
+-- the word of the record with one event more, whatever the history is
+pub next_word : (game reporter : ℕ) (kind : Kind) (loaded next : ℕ) (before m : MatchRecord) → IsMatch game → before ≡ record_at loaded → next ≡ word_of m
+    → ((es : List MatchEntry) → IsLegalMatch es → counted_match es ≡ before → (m ≡ counted_match (entered es reporter kind)) × IsLegalMatch (entered es reporter kind))
+    → IsNextWord (record { game = game; reporter = reporter; kind = kind }) loaded next
+next_word game reporter kind loaded next before m is was packed counted h legal word =
+    let there : before ≡ record_at (word_at (board_of h) game) = was ∙ ap record_at (sym word) in
+    let made = next_board h (board_of h) game reporter kind m legal refl is (λ es legal_es same. counted es legal_es (same ∙ sym there)) in
+    (ap (λ (x : ℕ). set (board_of h) (game - 1) x) packed ∙ made.0, made.1)
+
+-- a load, for a report
+module _ (v u : View) (call : EventCall) (loaded : ℕ) (is : IsMatch call.game) (me : (0 < v.number) × (v.number ≤ 255)) (steady : IsSteady v) (looked : Loads Look call.game v loaded u) where
+  abbrev look_access : Access
+  look_access = access Look call.game loaded (length u.seen)
+
+  pub look_walks : Walks v (look_access ∷ []) u
+  look_walks = walks_load Look call.game loaded v u steady looked.loads
+
+  -- on whose word the rules refuse
+  module _ (refusal : Refusal) (refused : refusal_of (record_at loaded) call.expected call.kind ≡ Some refusal) where
+    look_report : ReportAccesses call (Err refusal) (look_access ∷ []) (length u.seen)
+    look_report = inl (record { looked = look_access; accesses = refl; kind = (refl, refl); answer = sym (refused_reply (record_at loaded) (record_at loaded) call refusal refl refused); last = refl })
+
+    pub look_steps : ReportSteps v call (Err refusal) u
+    look_steps =
+        let both = refused_joined v u call refusal (look_access ∷ []) me.0 me.1 is steady look_walks look_report in
+        record { may = (me, is); accesses = look_access ∷ []; leaves = look_walks.leaves; report = look_report; machine = both.machine; along = both.along }
+
+    pub look_refuses : RefusedReport (pass_view_of v) call refusal (pass_view_of u)
+    look_refuses = record {
+      answer = ap (λ (h : List Entry). sequential_reply h call) (sym (take-length u.seen))
+          ∙ report_whole u.seen (length v.seen) (length u.seen) (length u.seen) call (Err refusal) (look_access ∷ []) look_walks.steady.sound.legal look_walks.leaves.follows look_report;
+      mine = look_walks.mine;
+      shown = looked.shown;
+    }
+
+  -- on whose word they accept, and an exchange
+  module _ (reply : Accepted) (accepts : reply_of (record_at loaded) call ≡ Ok reply) (z : View) (found : ℕ) where
+    may : IsOk (reply_of (record_at loaded) call)
+    may = subst (λ (r : Result Accepted Refusal). IsOk r) (sym accepts) refl
+
+    -- that was missed
+    module _ (other : found ≢ loaded) (missed : ExchangeMissed call.game u found z) where
+      abbrev swap_access : Access
+      swap_access = access Swap call.game found (length z.seen)
+
+      pub miss_walks : Walks v (look_access ∷ swap_access ∷ []) z
+      miss_walks = walks_on v u z (look_access ∷ []) (swap_access ∷ []) look_walks (walks_load Swap call.game found u z look_walks.steady missed.loads)
+
+      miss_report : (refusal : Refusal) → refusal ≡ Stale (record_at found).number → ReportAccesses call (Err refusal) (look_access ∷ swap_access ∷ []) (length z.seen)
+      miss_report refusal stale = inr (record { looked = look_access; swapped = swap_access; accesses = refl; acts = ((refl, refl), (refl, refl)); may = may; other = other; answer = stale; last = refl })
+
+      pub miss_steps : (refusal : Refusal) → refusal ≡ Stale (record_at found).number → ReportSteps v call (Err refusal) z
+      miss_steps refusal stale =
+          let both = refused_joined v z call refusal (look_access ∷ swap_access ∷ []) me.0 me.1 is steady miss_walks (miss_report refusal stale) in
+          record { may = (me, is); accesses = look_access ∷ swap_access ∷ []; leaves = miss_walks.leaves; report = miss_report refusal stale; machine = both.machine; along = both.along }
+
+      pub miss_refuses : (refusal : Refusal) → refusal ≡ Stale (record_at found).number → RefusedReport (pass_view_of v) call refusal (pass_view_of z)
+      miss_refuses refusal stale = record {
+        answer = ap (λ (h : List Entry). sequential_reply h call) (sym (take-length z.seen))
+            ∙ report_whole z.seen (length v.seen) (length z.seen) (length z.seen) call (Err refusal) (look_access ∷ swap_access ∷ []) miss_walks.steady.sound.legal miss_walks.leaves.follows (miss_report refusal stale);
+        mine = miss_walks.mine;
+        shown = missed.shown ∙ looked.shown;
+      }
+
+    -- that was won
+    module _ (same : found ≡ loaded) (won : ExchangeWon (entry_of (v.number, call)) u found z) where
+      abbrev won_access : Access
+      won_access = access Swap call.game found (length won.before)
+
+      since : IsPrefix v.seen won.before
+      since = begins_through v.seen u.seen won.before look_walks.on.seen won.adds.since
+
+      begun : IsPrefix won.before z.seen
+      begun = subst (λ (h : List Entry). IsPrefix won.before h) (sym won.adds.last) (begins_more won.before won.before (entry_of (v.number, call)) (begins_same won.before))
+
+      one_more : length z.seen ≡ length won.before + 1
+      one_more = ap length won.adds.last ∙ length-append won.before (entry_of (v.number, call) ∷ [])
+
+      won_follows : Follows z.seen (length v.seen) (look_access ∷ won_access ∷ []) (length z.seen)
+      won_follows =
+          let n = one_more in
+          let one : Follows won.before (length u.seen) (won_access ∷ []) (length won.before) =
+          follows_one won.before (length u.seen) won_access (begins_length u.seen won.before won.adds.since) refl won.adds.there.1 in
+          let both : Follows won.before (length v.seen) (look_access ∷ won_access ∷ []) (length won.before) =
+          follows_append won.before (length v.seen) (length u.seen) (length won.before) (look_access ∷ []) (won_access ∷ [])
+          (follows_longer u.seen won.before (length v.seen) (length u.seen) (look_access ∷ []) won.adds.since (le_refl (length u.seen)) look_walks.leaves.follows) one in
+          follows_wider z.seen (length v.seen) (length v.seen) (length won.before) (length z.seen) (look_access ∷ won_access ∷ []) (le_refl (length v.seen)) (omega arith)
+          (follows_longer won.before z.seen (length v.seen) (length won.before) (look_access ∷ won_access ∷ []) begun (le_refl (length won.before)) both)
+
+      abbrev won_step : Taken
+      won_step = step_taken (Match Swap call.game found) (length won.before) (Some (entry_of (v.number, call)))
+
+      won_trail : trail_of z ≡ trail_of v ++ look_access ∷ won_access ∷ []
+      won_trail = takes_trail u z (won_step ∷ []) won.adds.takes ∙ (ap (λ (t : List Access). t ++ won_access ∷ []) look_walks.leaves.trail ∙ append_assoc (trail_of v) (look_access ∷ []) (won_access ∷ []))
+
+      won_takes : Takes v (steps_with (Some (entry_of (v.number, call))) (look_access ∷ won_access ∷ [])) z
+      won_takes = takes_on v u z (steps_with None (look_access ∷ [])) (won_step ∷ []) look_walks.leaves.takes won.adds.takes
+
+      won_whole : HasTrail z
+      won_whole = subst (λ (t : List Access). Follows z.seen 0 t (length z.seen)) (sym won_trail)
+          (trail_on v.seen z.seen (trail_of v) (look_access ∷ won_access ∷ []) (begins_through v.seen won.before z.seen since begun) steady.trail won_follows)
+
+      pub won_steady : IsSteady z
+      won_steady = record {
+        sound = record { legal = won.adds.goes.legal; own = won.adds.goes.own; few = won.adds.goes.few };
+        told = won.adds.goes.told;
+        trail = won_whole;
+      }
+
+      pub won_continues : Continues (pass_view_of v) (pass_view_of z)
+      won_continues = record {
+        sound = won_steady.sound;
+        on = record { seen = begins_through v.seen won.before z.seen since begun; listed = (let b = looked.loads.listed in let d = won.listed in omega arith) };
+        number = won.adds.number ∙ look_walks.number;
+      }
+
+      before_legal : IsLegal won.before
+      before_legal = beginnings won.before (entry_of (v.number, call) ∷ []) (subst IsLegal won.adds.last won.adds.goes.legal)
+
+      won_mine : z.mine ≡ followed_by v.mine (entry_of (v.number, call))
+      won_mine = won.adds.mine ∙ ap (λ (l : List Entry). followed_by l (entry_of (v.number, call))) look_walks.mine
+
+      won_report : ReportAccesses call (Ok reply) (look_access ∷ won_access ∷ []) (length z.seen)
+      won_report = record { looked = look_access; swapped = won_access; accesses = refl; acts = ((refl, refl), (refl, refl)); answer = accepts; same = same; last = sym one_more }
+
+      pub won_steps : ReportSteps v call (Ok reply) z
+      won_steps =
+          let both = accepted_joined v z call reply (look_access ∷ won_access ∷ []) won.before me.0 me.1 is steady won_steady won.adds.last since before_legal won_mine (won.adds.number ∙ look_walks.number) won_follows won_report in
+          record {
+            may = (me, is);
+            accesses = look_access ∷ won_access ∷ [];
+            leaves = record { takes = won_takes; trail = won_trail; taken = takes_count v z (steps_with (Some (entry_of (v.number, call))) (look_access ∷ won_access ∷ [])) won_takes; follows = won_follows; whole_trail = won_whole };
+            report = won_report;
+            machine = both.machine;
+            along = both.along;
+          }
+
+      pub won_accepts : AcceptedReport (pass_view_of v) call reply (pass_view_of z)
+      won_accepts = record {
+        before = won.before;
+        last = won.adds.last;
+        since = since;
+        answer = ap (λ (m : MatchRecord). reply_of m call) (sym (ap record_at (sym same ∙ (won.adds.there.1 ∙ sym (word_after won.before call.game is))) ∙ game_after won.before call.game before_legal is)) ∙ accepts;
+        mine = won_mine;
+        shown = won.adds.shown ∙ looked.shown;
+      }
+
+-- what the rules accept
+pub accepts_by : (word number : ℕ) (reporter : ℕ) (call : EventCall) (before m : MatchRecord) → before ≡ record_at word → refusal_of before call.expected call.kind ≡ None → m ≡ after before reporter call.kind → number ≡ m.number
+    → reply_of (record_at word) call ≡ Ok (record { number = number })
+accepts_by word number reporter call before m was none is said =
+    sym (accepted_reply before (record_at word) call number was none (said ∙ (ap (λ (x : MatchRecord). x.number) is ∙ after_number before reporter call.kind)))
+
+pub refused_by : (word : ℕ) (call : EventCall) (refusal : Refusal) (before : MatchRecord) → before ≡ record_at word → refusal_of before call.expected call.kind ≡ Some refusal → refusal_of (record_at word) call.expected call.kind ≡ Some refusal
+refused_by word call refusal before is refused = subst (λ (m : MatchRecord). refusal_of m call.expected call.kind ≡ Some refusal) is refused
+
+-- the entry under the number of the pass
+pub as_entry : (v u z : View) (call : EventCall) (reporter found : ℕ) → v.number ≡ reporter → ExchangeWon (record { game = call.game; reporter = reporter; kind = call.kind }) u found z → ExchangeWon (entry_of (v.number, call)) u found z
+as_entry v u z call reporter found is won = subst (λ (n : ℕ). ExchangeWon (record { game = call.game; reporter = n; kind = call.kind }) u found z) (sym is) won
+
+-- the number of a reporter's pass
+pub me_in : (v : View) (reporter : ℕ) → (0 < reporter) × (reporter ≤ 255) × (v.number ≡ reporter) → (0 < v.number) × (v.number ≤ 255)
+me_in v reporter me = let a = me.0 in let b = me.1 in let is = me.2 in (omega arith, omega arith)
