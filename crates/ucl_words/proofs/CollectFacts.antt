@@ -255,7 +255,7 @@ module _ (x u w : View) (words : List ℕ) (long : length words ≡ 12) (collect
     reading_accesses = record { tries = tried.tries; last = collects.accesses ++ again.accesses; accesses = refl; unclean = tried.unclean; clean = is_clean }
 
     whole : IsReadFrom w.seen (length v.seen) (length w.seen) clean_reading all_accesses reading_accesses
-    whole_trail = reading_whole w.seen (length v.seen) (length w.seen) clean_reading all_accesses all_walks.steady.sound.legal (le_refl (length w.seen)) all_walks.leaves.follows reading_accesses
+    whole = reading_whole w.seen (length v.seen) (length w.seen) clean_reading all_accesses all_walks.steady.sound.legal (le_refl (length w.seen)) all_walks.leaves.follows reading_accesses
 
     reads_clean : Reads v clean_reading w
     reads_clean =

@@ -129,7 +129,7 @@ swaps slots seat m e old new is pos me next s r _ here _ =
     let there = there_now s r Swap e.game is in
     let target : Target = Match Swap e.game n in
     exchanged n old new
-    (λ x. (w : View) × (a : Rattle.atomic_table.specs.Table.AccessKind Entry) × Valid s.homes m.1 a × TableKeepsOneHistory (stepped s e.game x seat m.1 w a) × ExchangeStep (step slots e.game old new (some e)) m n (w, carried_after m.1 a))
+    (λ x. (w : View) × (a : Rattle.atomic_table.specs.Table.Act Entry) × Valid s.homes m.1 a × TableKeepsOneHistory (stepped s e.game x seat m.1 w a) × ExchangeStep (step slots e.game old new (some e)) m n (w, carried_after m.1 a))
     (λ hit. (
       added s r seat v e old new here is pos me next hit,
       keeps,
@@ -160,7 +160,7 @@ enlists slots seat m old reader room s r _ here _ =
     let is : n ≡ r.enlisted = enlist_word s r in
     let below = f.listed in
     exchanged n old (old + 1)
-    (λ x. (w : View) × (a : Rattle.atomic_table.specs.Table.AccessKind Entry) × Valid s.homes m.1 a × TableKeepsOneHistory (stepped s 0 x seat m.1 w a) × EnlistStep (step slots 0 old (old + 1) none) m n (w, carried_after m.1 a))
+    (λ x. (w : View) × (a : Rattle.atomic_table.specs.Table.Act Entry) × Valid s.homes m.1 a × TableKeepsOneHistory (stepped s 0 x seat m.1 w a) × EnlistStep (step slots 0 old (old + 1) none) m n (w, carried_after m.1 a))
     (λ hit. let left : r.enlisted < 255 = omega arith in
     let same : old + 1 ≡ r.enlisted + 1 = omega arith in (
       enlisted_as words_after s.words s.views r seat v here reader left,

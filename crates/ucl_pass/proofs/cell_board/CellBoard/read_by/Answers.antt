@@ -3,7 +3,7 @@ use Rattle.ucl_pass.proofs.Calls.{are_words, read_continues, version_seen, read_
 use Rattle.ucl_pass.proofs.cell_board.CellBoard.read_by.Goals as goal
 
 pub board_at-board-requires : goal.board_at-board-requires
-board_at-board-requires g c = are_words _ (cell_view c.args.seat.now) (cell_view c.look_to_show-words.new.seat) c.look_to_show-words.ensures.looks.whole c.look_to_show-words.ensures.looks.sees.goes
+board_at-board-requires g c = are_words _ (cell_view c.args.seat.now) (cell_view c.look_to_show-words.new.seat) c.look_to_show-words.ensures.looks.seen_all c.look_to_show-words.ensures.looks.sees.goes
 
 pub returns-clause-always : goal.returns-clause-always
 returns-clause-always g c = read_continues (cell_view c.args.seat.now) (cell_view c.look_to_show-words.new.seat) _ (record { board = c.board_at-board.result; version = c.version-version.result }) c.look_to_show-words.ensures.looks c.board_at-board.ensures c.version-version.ensures.sum

@@ -14,7 +14,7 @@ use Rattle.ucl_pass.proofs.Calls.{won, lost, are_words, same_word, next_words, r
 use Rattle.ucl_pass.proofs.cell_board.CellBoard.report_by.Goals as goal
 
 pub board_at-board-requires : goal.board_at-board-requires
-board_at-board-requires g c = are_words c.look-words.result (cell_view c.retry.seat) (cell_view c.look-words.new.seat) c.look-words.ensures.looks.whole c.look-words.ensures.looks.sees.goes
+board_at-board-requires g c = are_words c.look-words.result (cell_view c.retry.seat) (cell_view c.look-words.new.seat) c.look-words.ensures.looks.seen_all c.look-words.ensures.looks.sees.goes
 
 pub returns-in-Err-clause-refused : goal.returns-in-Err-clause-refused
 returns-in-Err-clause-refused g c =
@@ -22,7 +22,7 @@ returns-in-Err-clause-refused g c =
     let x = c.look-words.result in
     let looks = c.look-words.ensures.looks in
     let twelve = ap (λ (ws : List ℕ). reply_of (game_at ws call.game) call) c.board_at-board.ensures in
-    let one = ap (λ (n : ℕ). reply_of (record_at n) call) (same_word x (cell_view c.retry.seat) (cell_view c.look-words.new.seat) looks.whole looks.sees.goes call.game c.look-words.ensures.game) in
+    let one = ap (λ (n : ℕ). reply_of (record_at n) call) (same_word x (cell_view c.retry.seat) (cell_view c.look-words.new.seat) looks.seen_all looks.sees.goes call.game c.look-words.ensures.game) in
     refuses call (cell_view c.args.seat.now) (cell_view c.retry.seat) (cell_view c.look-words.new.seat) x c.retry.invariant.tried looks c.in-Err.refusal
     (λ h legal is. c.in-Err.ensures.sequential h legal (is ∙ sym c.board_at-board.ensures)) (sym (c.in-Err.ensures.reply ∙ (twelve ∙ one)))
 
@@ -32,7 +32,7 @@ returns-in-Err-clause-steps g c =
     let x = c.look-words.result in
     let looks = c.look-words.ensures.looks in
     let twelve = ap (λ (ws : List ℕ). reply_of (game_at ws call.game) call) c.board_at-board.ensures in
-    let one = ap (λ (n : ℕ). reply_of (record_at n) call) (same_word x (cell_view c.retry.seat) (cell_view c.look-words.new.seat) looks.whole looks.sees.goes call.game c.look-words.ensures.game) in
+    let one = ap (λ (n : ℕ). reply_of (record_at n) call) (same_word x (cell_view c.retry.seat) (cell_view c.look-words.new.seat) looks.seen_all looks.sees.goes call.game c.look-words.ensures.game) in
     refused_steps call (cell_view c.args.seat.now) (cell_view c.retry.seat) (cell_view c.look-words.new.seat) x c.retry.invariant.tried looks c.in-Err.refusal
     (λ h legal is. c.in-Err.ensures.sequential h legal (is ∙ sym c.board_at-board.ensures)) (sym (c.in-Err.ensures.reply ∙ (twelve ∙ one)))
 
@@ -49,7 +49,7 @@ retry-preserved g c =
     let looks = c.look-words.ensures.looks in
     let e : Entry = record { game = call.game; reporter = c.args.reporter; kind = call.kind } in
     let twelve = ap (λ (ws : List ℕ). reply_of (game_at ws call.game) call) c.board_at-board.ensures in
-    let one = ap (λ (n : ℕ). reply_of (record_at n) call) (same_word x (cell_view c.retry.seat) u looks.whole looks.sees.goes call.game c.look-words.ensures.game) in
+    let one = ap (λ (n : ℕ). reply_of (record_at n) call) (same_word x (cell_view c.retry.seat) u looks.seen_all looks.sees.goes call.game c.look-words.ensures.game) in
     let may : IsOk (reply_of (record_at (word_at x call.game)) call) = subst (λ (r : Result Accepted Refusal). IsOk r) (c.in-Ok.ensures.reply ∙ (twelve ∙ one)) refl in
     let missed = lost c.store_event-stored.result (λ found. (found ≡ x) × StoresEntry e u x next z) (λ found. LooksOnly (word_looked_at Swap call.game found) u found found z) c.store_event-stored.ensures.stored (sym c.is_ok.ensures.value ∙ c.if-is_ok.false) in
     record {
@@ -99,6 +99,6 @@ returns-then-is_ok-clause-steps g c =
     let same : e ≡ entry_of (v.number, call) = (λ i. record { game = call.game; reporter = sym c.requires.me.1 i; kind = call.kind }) in
     let stored = won c.store_event-stored.result (λ found. (found ≡ x) × StoresEntry e u x next z) (λ found. LooksOnly (word_looked_at Swap call.game found) u found found z) c.store_event-stored.ensures.stored (sym c.is_ok.ensures.value ∙ c.if-is_ok.true) in
     let twelve = ap (λ (ws : List ℕ). reply_of (game_at ws call.game) call) c.board_at-board.ensures in
-    let one = ap (λ (n : ℕ). reply_of (record_at n) call) (same_word x (cell_view c.retry.seat) u looks.whole looks.sees.goes call.game c.look-words.ensures.game) in
+    let one = ap (λ (n : ℕ). reply_of (record_at n) call) (same_word x (cell_view c.retry.seat) u looks.seen_all looks.sees.goes call.game c.look-words.ensures.game) in
     accepted_steps call v (cell_view c.retry.seat) u x c.retry.invariant.tried looks z next (subst (λ (e : Entry). StoresEntry e u x next z) same stored.1.1)
     c.in-Ok.accepted (sym (c.in-Ok.ensures.reply ∙ (twelve ∙ one)))
