@@ -4,7 +4,7 @@ use Rattle.std.proofs.lemmas.Bool.Decides.{nat_tests}
 use Rattle.std.proofs.lemmas.List.{get_or-map, length-map}
 use Rattle.std.proofs.lemmas.List.Elements.{All-get_or}
 use Rattle.ucl_order.specs.declared.roster.Member.{Member}
-use Rattle.ucl_order.specs.Members.{member_seen, members_seen}
+use Rattle.ucl_order.specs.Code.Members.{member_seen, members_seen}
 use Rattle.ucl_order.specs.declared.roster.Club.{Club}
 use Rattle.ucl_order.specs.Roster.{club_seen, IsClub, IsRoster, is_club, is_name, bad_slot, bad_slot_from}
 

@@ -18,8 +18,10 @@ use Rattle.ucl_order.specs.declared.game.Match.{Match}
 use Rattle.ucl_order.specs.declared.game.Appearance.{Appearance}
 use Rattle.ucl_order.specs.declared.mark.Mark.TheVariants.{Plus, Minus, Blank}
 use Rattle.ucl_order.specs.Roster.{NamedClub}
-use Rattle.ucl_order.specs.Results.{match_at, matches_of, has_finished, started, finished, unfinished, seen_by, played, points}
-use Rattle.ucl_order.specs.Order.{all_clubs, order_of, is_in}
+use Rattle.ucl_order.specs.Matches.{match_at, matches_of, has_finished, started, finished, unfinished}
+use Rattle.ucl_order.specs.Appearances.{seen_by}
+use Rattle.ucl_order.specs.Results.{played, points}
+use Rattle.ucl_order.specs.Order.{all_clubs, order_of, order_by, is_in}
 use Rattle.ucl_order.specs.Marks.{IsCompletion, GoesThrough, sure_points, reach, rivals, out_of_reach, mark_of}
 use Rattle.ucl_order.proofs.Classes.{IsPermutation-order}
 use Rattle.ucl_order.proofs.ClubCounts.{count-le}
@@ -144,7 +146,7 @@ unfolding matches_of
 unchanged board later done all = all_kept match_numbers board later are_matches done all
 
 same_order : (profile : Profile) (board later : List ℕ) (roster : List NamedClub) → matches_of later ≡ matches_of board → order_of profile later roster ≡ order_of profile board roster
-unfolding order_of
+unfolding order_of order_by
 same_order profile board later roster e = rw e
 
 final_points : List ℕ → ℕ → ℕ

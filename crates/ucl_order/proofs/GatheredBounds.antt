@@ -4,8 +4,10 @@ use Rattle.std.proofs.lemmas.List.{take_more, get_or-set_other}
 use Rattle.std.proofs.lemmas.List.Elements.{All-set, filter-append}
 use Rattle.ucl_order.specs.declared.game.Match.{Match}
 use Rattle.ucl_order.specs.declared.game.Appearance.{Appearance}
-use Rattle.ucl_order.specs.Results.{IsPairing, finished, has_finished, played, points, seen_by, seen_from_away, seen_from_home, unfinished}
-use Rattle.ucl_order.specs.Counting.{point_bounds}
+use Rattle.ucl_order.specs.Matches.{IsPairing, finished, has_finished, unfinished}
+use Rattle.ucl_order.specs.Appearances.{seen_by, seen_from_away, seen_from_home}
+use Rattle.ucl_order.specs.Results.{played, points}
+use Rattle.ucl_order.specs.Code.Counting.{point_bounds}
 use Rattle.ucl_order.specs.Marks.{matches_left, reach, sure_points}
 use Rattle.ucl_order.specs.Order.{all_clubs}
 use Rattle.ucl_order.proofs.GatheredResults.{lists_more}

@@ -6,10 +6,12 @@ use Rattle.ucl_board.specs.Fixtures.{IsSlot, match_numbers}
 use Rattle.ucl_order.specs.declared.game.Match.{Match}
 use Rattle.ucl_order.specs.declared.game.Appearance.{Appearance}
 use Rattle.ucl_order.specs.declared.results.Results.{Results}
-use Rattle.ucl_order.specs.Results.{IsPairing, match_at, matches_of, results_of, seen_by, seen_from_away, seen_from_home}
-use Rattle.ucl_order.specs.Counting.{with_match, IsWithin}
+use Rattle.ucl_order.specs.Matches.{IsPairing, match_at, matches_of}
+use Rattle.ucl_order.specs.Appearances.{seen_by, seen_from_away, seen_from_home}
+use Rattle.ucl_order.specs.Results.{results_of}
+use Rattle.ucl_order.specs.Code.Counting.{with_match, IsWithin}
 use Rattle.ucl_order.specs.Order.{all_clubs}
-use Rattle.ucl_order.specs.Rounds.{results_of_clubs}
+use Rattle.ucl_order.specs.Code.Rounds.{results_of_clubs}
 use Rattle.ucl_order.proofs.OneMatchMore.{results_more, results_same, within_later}
 
 -- A list with a place for each club, in which two clubs have one match more. --

@@ -12,8 +12,11 @@ use Rattle.ucl_order.specs.declared.game.Match.{Match}
 use Rattle.ucl_order.specs.declared.game.Appearance.{Appearance}
 use Rattle.ucl_order.specs.declared.mark.Mark.{Mark}
 use Rattle.ucl_order.specs.Roster.{NamedClub}
-use Rattle.ucl_order.specs.Results.{seen_by, is_won, is_drawn, is_lost, appearances, played, wins, draws, losses, points, goals_for, goals_against, has_started, started, matches_of}
+use Rattle.ucl_order.specs.Matches.{has_started, started, matches_of}
+use Rattle.ucl_order.specs.Appearances.{seen_by, is_won, is_drawn, is_lost}
+use Rattle.ucl_order.specs.Results.{appearances, played, wins, draws, losses, points, goals_for, goals_against}
 use Rattle.ucl_order.specs.Order.{all_clubs, order_of}
+use Rattle.ucl_order.specs.Code.Counting.{worth}
 use Rattle.ucl_order.specs.Rows.{row_of, row_with, rows_of, IsWithinTable}
 use Rattle.ucl_order.proofs.Classes.{IsPermutation-order}
 use Rattle.ucl_order.proofs.TiedOrder.{slots}
@@ -27,7 +30,7 @@ plays (Some a) = 1
 
 unfoldable pub gains : Option Appearance → ℕ
 gains None = 0
-gains (Some a) = 3 * cond (is_won a) 1 0 + cond (is_drawn a) 1 0
+gains (Some a) = worth a
 
 played_one : (o : Option Appearance) (games : List Appearance) → length (cons_option o games) ≡ plays o + length games
 unfolding plays

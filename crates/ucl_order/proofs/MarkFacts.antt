@@ -3,7 +3,7 @@ use Rattle.std.proofs.Common.{◌≡◌, ℕ, false, List, [], ◌∷◌, length
 use Rattle.std.specs.List.{list_all}
 use Rattle.ucl_order.specs.declared.game.Match.{Match}
 use Rattle.ucl_order.specs.declared.mark.Mark.{Mark}
-use Rattle.ucl_order.specs.Results.{has_finished}
+use Rattle.ucl_order.specs.Matches.{has_finished}
 use Rattle.ucl_order.specs.Order.{all_clubs}
 use Rattle.ucl_order.specs.Marks.{early_mark, mark_by}
 

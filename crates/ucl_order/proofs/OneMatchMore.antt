@@ -12,10 +12,11 @@ use Rattle.ucl_board.specs.Fixtures.{fixture_of, match_numbers}
 use Rattle.ucl_board.specs.Words.{game_at}
 use Rattle.ucl_order.specs.declared.mark.Mark.{Mark}
 use Rattle.ucl_order.specs.Rows.{row_with}
-use Rattle.ucl_order.specs.Results.{seen_by, is_won, is_drawn, is_lost, disciplinary_points, appearances, results_of, match_at, matches_of}
-use Rattle.ucl_order.specs.Counting.{with_match, IsWithin}
+use Rattle.ucl_order.specs.Matches.{match_at, matches_of}
+use Rattle.ucl_order.specs.Appearances.{seen_by, is_won, is_drawn, is_lost, disciplinary_points}
+use Rattle.ucl_order.specs.Results.{points_for, appearances, results_of}
+use Rattle.ucl_order.specs.Code.Counting.{with_match, IsWithin, seen_among}
 use Rattle.ucl_order.specs.Order.{among, is_in}
-use Rattle.ucl_order.specs.Keys.{seen_among}
 
 -- the same of matches as the club saw them
 totals : List Appearance → Results
@@ -152,7 +153,7 @@ within_later m n r e h = record {
 
 -- What is read off such results. --
 
-pub row_of_results : (place slot : ℕ) (mark : Mark) (ms : List Match) (r : Results) (p : ℕ) → r ≡ results_of slot ms → p ≡ 3 * r.wins + r.draws →
+pub row_of_results : (place slot : ℕ) (mark : Mark) (ms : List Match) (r : Results) (p : ℕ) → r ≡ results_of slot ms → p ≡ points_for r.wins r.draws →
     record { slot = slot; place = place; mark = mark; played = r.played; wins = r.wins; draws = r.draws; losses = r.losses; goals_for = r.goals_for; goals_against = r.goals_against; points = p } ≡ row_with place slot mark ms
 unfolding results_of
 row_of_results place slot mark ms r p is h = rw (h, is)

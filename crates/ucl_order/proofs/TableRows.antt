@@ -7,10 +7,9 @@ use Rattle.ucl_order.specs.declared.game.Match.{Match}
 use Rattle.ucl_order.specs.declared.mark.Mark.{Mark}
 use Rattle.ucl_order.specs.declared.table.Row.{Row}
 use Rattle.ucl_order.specs.Roster.{NamedClub}
-use Rattle.ucl_order.specs.Results.{matches_of, started}
-use Rattle.ucl_order.specs.Order.{order_of}
+use Rattle.ucl_order.specs.Matches.{matches_of, started}
+use Rattle.ucl_order.specs.Order.{order_of, order_by}
 use Rattle.ucl_order.specs.Marks.{mark_by, mark_of}
-use Rattle.ucl_order.specs.Rounds.{order_by}
 use Rattle.ucl_order.specs.Rows.{IsWithinTable, MarkIsCertain, row_of, row_with, rows_of}
 use Rattle.ucl_order.proofs.Completions.{plus_is_certain, minus_is_certain}
 

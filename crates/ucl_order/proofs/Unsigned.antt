@@ -16,8 +16,10 @@ use Rattle.ucl_order.specs.declared.profile.Profile.{Profile}
 use Rattle.ucl_order.specs.declared.profile.Profile.TheVariants.{Uefa, AwayInTie}
 use Rattle.ucl_order.specs.declared.table.Row.{Row}
 use Rattle.ucl_order.specs.Roster.{NamedClub, coefficient_of}
-use Rattle.ucl_order.specs.Results.{appearances, seen_by, has_started, has_finished, is_won, is_drawn, is_lost, disciplinary_points, started, match_at, matches_of}
-use Rattle.ucl_order.specs.Order.{Ranking, among, is_in, by_points, by_profile, head_to_head, overall, split, is_one_class, settled_within, settled, all_clubs, order_of}
+use Rattle.ucl_order.specs.Matches.{has_started, has_finished, started, match_at, matches_of}
+use Rattle.ucl_order.specs.Appearances.{seen_by, is_won, is_drawn, is_lost, disciplinary_points}
+use Rattle.ucl_order.specs.Results.{points_for, appearances}
+use Rattle.ucl_order.specs.Order.{Ranking, among, is_in, by_points, by_profile, head_to_head, overall, split, is_one_class, settled_within, settled, all_clubs, order_of, order_by}
 use Rattle.ucl_order.specs.Marks.{mark_by, final_mark, mark_of}
 use Rattle.ucl_order.specs.Rows.{row_of, rows_of}
 
@@ -62,7 +64,7 @@ seen_where p ms same = ap seen_in (kept p same ms) ∙ all_seen (filter p ms)
 
 -- the numbers of a club by its appearances
 abbrev points_in : List Appearance → ℕ
-points_in xs = 3 * count_by is_won xs + count_by is_drawn xs
+points_in xs = points_for (count_by is_won xs) (count_by is_drawn xs)
 
 abbrev difference_in : List Appearance → ℤ
 difference_in xs = pos (sum_by (λ a. a.scored) xs) -ℤ pos (sum_by (λ a. a.conceded) xs)
@@ -153,7 +155,7 @@ rows_are profile roster ms =
     λ i. rows_by (order i) (λ club. if ended i then final_mark (order i) club else early_in (sure i) (left i) club) (begun i)
 
 rows_in_all : (profile : Profile) (roster : List NamedClub) (board : List ℕ) → rows_of profile board roster ≡ rows_in profile roster (matches_of board)
-unfolding order_of mark_of row_of
+unfolding order_of order_by mark_of row_of
 rows_in_all profile roster board = refl
 
 -- boards with the same records but for their reporters have one table

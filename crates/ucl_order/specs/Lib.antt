@@ -1,12 +1,12 @@
 pub mod Roster
-pub mod Members
+pub mod Matches
+pub mod Appearances
 pub mod Results
 pub mod Order
-pub mod Counting
 pub mod Standing
 pub mod Marks
-pub mod PointBounds
 pub mod Rows
 pub mod Keys
-pub mod Rounds
+pub mod KeyFields
+pub mod Code
 pub mod Laws

@@ -9,7 +9,8 @@ use Rattle.ucl_order.specs.declared.mark.Mark.{Mark}
 use Rattle.ucl_order.specs.declared.mark.Mark.TheVariants.{Plus, Minus, Blank}
 use Rattle.ucl_order.specs.declared.profile.Profile.{Profile}
 use Rattle.ucl_order.specs.Roster.{NamedClub}
-use Rattle.ucl_order.specs.Results.{matches_of, has_finished, finished, unfinished, played, points}
+use Rattle.ucl_order.specs.Matches.{matches_of, has_finished, finished, unfinished}
+use Rattle.ucl_order.specs.Results.{played, points}
 use Rattle.ucl_order.specs.Order.{is_in, all_clubs, order_of}
 
 -- the points from finished matches

@@ -7,7 +7,8 @@ use Rattle.ucl_order.specs.declared.mark.Mark.TheVariants.{Plus, Minus}
 use Rattle.ucl_order.specs.declared.profile.Profile.{Profile}
 use Rattle.ucl_order.specs.declared.table.Row.{Row}
 use Rattle.ucl_order.specs.Roster.{NamedClub}
-use Rattle.ucl_order.specs.Results.{matches_of, started, played, wins, draws, losses, goals_for, goals_against, points}
+use Rattle.ucl_order.specs.Matches.{matches_of, started}
+use Rattle.ucl_order.specs.Results.{played, wins, draws, losses, goals_for, goals_against, points}
 use Rattle.ucl_order.specs.Order.{order_of}
 use Rattle.ucl_order.specs.Marks.{IsCompletion, GoesThrough, mark_of}
 

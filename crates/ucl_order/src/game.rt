@@ -2,10 +2,11 @@
 
 ghost use Rattle.std.specs.Prelude.{◌≡◌, ◌≤◌, [], All, length};
 ghost use Rattle.ucl_word.specs.Record.{IsValid};
-ghost use Rattle.ucl_order.specs.Counting.{point_bounds, worth};
-ghost use Rattle.ucl_order.specs.Keys.{seen_among, slots_in};
+ghost use Rattle.ucl_order.specs.Code.Counting.{point_bounds, worth, seen_among};
+ghost use Rattle.ucl_order.specs.Keys.{slots_in};
 ghost use Rattle.ucl_order.specs.Order.{is_in};
-ghost use Rattle.ucl_order.specs.Results.{IsPairing, has_finished, has_started, is_drawn, is_lost, is_won, matches_of, disciplinary_points, seen_by, seen_from_away, seen_from_home, started};
+ghost use Rattle.ucl_order.specs.Matches.{IsPairing, has_finished, has_started, matches_of, started};
+ghost use Rattle.ucl_order.specs.Appearances.{is_drawn, is_lost, is_won, disciplinary_points, seen_by, seen_from_away, seen_from_home};
 
 use arrayvec::ArrayVec;
 use ucl_board::{Board, away_of, home_of};

@@ -4,9 +4,9 @@ ghost use Rattle.std.specs.Prelude.{◌≡◌, ◌≤◌, All, List, length, map
 ghost use Rattle.std.specs.List.{list_all};
 ghost use Rattle.ucl_board.specs.Fixtures.{IsSlot};
 ghost use Rattle.ucl_order.specs.declared.game.Match.{Match};
-ghost use Rattle.ucl_order.specs.Results.{IsPairing, has_finished};
+ghost use Rattle.ucl_order.specs.Matches.{IsPairing, has_finished};
 ghost use Rattle.ucl_order.specs.Marks.{early_mark, out_of_reach, final_mark, is_out_of_reach, is_rival, mark_by, reach, rivals, sure_points};
-ghost use Rattle.ucl_order.specs.PointBounds.{ArePointBounds};
+ghost use Rattle.ucl_order.specs.Code.PointBounds.{ArePointBounds};
 
 use crate::game::Match;
 

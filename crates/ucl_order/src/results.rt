@@ -1,11 +1,12 @@
 //! What a club has done.
 
 ghost use Rattle.std.specs.Prelude.{◌≡◌, ℕ, ◌≤◌, ◌+◌, ◌*◌, All, length};
-ghost use Rattle.ucl_order.specs.Results.{IsPairing, results_of};
-ghost use Rattle.ucl_order.specs.Counting.{IsWithin, with_match};
+ghost use Rattle.ucl_order.specs.Matches.{IsPairing};
+ghost use Rattle.ucl_order.specs.Results.{points_for, results_of};
+ghost use Rattle.ucl_order.specs.Code.Counting.{IsWithin, with_match};
 ghost use Rattle.ucl_order.specs.Keys.{slots_in};
 ghost use Rattle.ucl_order.specs.Order.{among};
-ghost use Rattle.ucl_order.specs.Rounds.{results_of_clubs};
+ghost use Rattle.ucl_order.specs.Code.Rounds.{results_of_clubs};
 
 use crate::game::{Appearance, Match};
 
@@ -104,8 +105,8 @@ impl Results {
 
     /// Three for a win, one for a draw.
     pub(crate) fn points(&self) -> u8
-        requires { IsWithin 12 self.now }
-        ensures value { result ≡ 3 * self.now.wins + self.now.draws }
+        requires { points_for self.now.wins self.now.draws ≤ 48 }
+        ensures value { result ≡ points_for self.now.wins self.now.draws }
         ensures few { result ≤ 48 }
     {
         3 * self.wins + self.draws

@@ -4,7 +4,7 @@ ghost use Rattle.std.specs.Prelude.{◌≡◌, ◌≤◌, None, Some, true, fals
 ghost use Rattle.std.specs.List.{list_all};
 ghost use Rattle.ucl_board.specs.Fixtures.{IsSlot};
 ghost use Rattle.ucl_order.specs.Roster.{club_seen, is_printed, is_name, is_club, IsClub, bad_slot, name_of, coefficient_of};
-ghost use Rattle.ucl_order.specs.Members.{member_seen};
+ghost use Rattle.ucl_order.specs.Code.Members.{member_seen};
 
 use arrayvec::ArrayVec;
 use std::marker::Model;
@@ -55,7 +55,7 @@ pub struct Roster {
 impl Model for Roster {
     ghost use Rattle.std.specs.Prelude.{List};
     ghost use Rattle.ucl_order.specs.Roster.{NamedClub, IsRoster};
-    ghost use Rattle.ucl_order.specs.Members.{members_seen};
+    ghost use Rattle.ucl_order.specs.Code.Members.{members_seen};
 
     ghost Value = { List NamedClub };
 

@@ -1,7 +1,7 @@
 use Rattle.std.proofs.Common.{◌≡◌, ◌-◌, ◌+◌, All, take, map, length}
 use Rattle.ucl_word.specs.Record.{IsValid}
 use Rattle.ucl_board.specs.Fixtures.{match_numbers}
-use Rattle.ucl_order.specs.Results.{match_at}
+use Rattle.ucl_order.specs.Matches.{match_at}
 use Rattle.ucl_order.proofs.game.fill_matches.Given as goal
 
 abbrev pub invariant-loop-number : goal.invariant-loop-number

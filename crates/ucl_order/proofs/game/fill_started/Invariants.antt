@@ -1,5 +1,5 @@
 use Rattle.std.proofs.Common.{◌≡◌, ◌≤◌, take, filter, length}
-use Rattle.ucl_order.specs.Results.{has_started}
+use Rattle.ucl_order.specs.Matches.{has_started}
 use Rattle.ucl_order.proofs.game.fill_started.Given as goal
 
 abbrev pub invariant-loop-game : goal.invariant-loop-game

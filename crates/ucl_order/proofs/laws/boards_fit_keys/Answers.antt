@@ -1,4 +1,4 @@
-use Rattle.ucl_order.specs.Results.{matches_of, started}
+use Rattle.ucl_order.specs.Matches.{matches_of, started}
 use Rattle.ucl_order.specs.Order.{among}
 use Rattle.ucl_order.proofs.KeysFit.{fits_all, fits_among, has_room, words_valid}
 use Rattle.ucl_order.proofs.laws.boards_fit_keys.Goals as goal

@@ -1,4 +1,4 @@
-use Rattle.ucl_order.specs.Results.{matches_of, started}
+use Rattle.ucl_order.specs.Matches.{matches_of, started}
 use Rattle.ucl_order.specs.Order.{among, by_profile, overall}
 use Rattle.ucl_order.specs.Keys.{overall_key, overall_number, slots_in, tie_key, tie_number}
 use Rattle.ucl_order.proofs.KeysFit.{coefficient_fits, fits_all, fits_among, words_valid}

@@ -1,4 +1,4 @@
-use Rattle.ucl_order.specs.Results.{matches_of, started}
+use Rattle.ucl_order.specs.Matches.{matches_of, started}
 use Rattle.ucl_order.proofs.Rankings.{by_points_total, head_to_head_total, overall_total}
 use Rattle.ucl_order.proofs.TieBreaks.{overall-same}
 use Rattle.ucl_order.proofs.laws.rankings_are_orders.Goals as goal

@@ -1,5 +1,5 @@
 use Rattle.std.proofs.Common.{arith, length}
-use Rattle.ucl_order.specs.Results.{matches_of, started}
+use Rattle.ucl_order.specs.Matches.{matches_of, started}
 use Rattle.ucl_order.proofs.TiedOrder.{bound_unused, settled-few, settled-level, settled-classes}
 use Rattle.ucl_order.proofs.laws.ties_follow_rule.Goals as goal
 

@@ -2,9 +2,9 @@ use Rattle.std.proofs.Common.{◌≡◌, ◌∙◌, ap, refl, sym, subst, All, L
 use Rattle.std.proofs.lemmas.List.Elements.{All-filter, All-same}
 use Rattle.ucl_order.specs.declared.game.Match.{Match}
 use Rattle.ucl_word.specs.Record.{IsValid}
-use Rattle.ucl_order.specs.Results.{IsPairing, has_started, matches_of, started}
+use Rattle.ucl_order.specs.Matches.{IsPairing, has_started, matches_of, started}
 use Rattle.ucl_order.specs.Marks.{mark_by}
-use Rattle.ucl_order.specs.Rounds.{results_of_clubs}
+use Rattle.ucl_order.specs.Code.Rounds.{results_of_clubs}
 use Rattle.ucl_order.specs.Order.{order_of}
 use Rattle.ucl_order.specs.Rows.{rows_of, row_of, IsWithinTable, MarkIsCertain}
 use Rattle.ucl_order.proofs.KeysFit.{started_is}

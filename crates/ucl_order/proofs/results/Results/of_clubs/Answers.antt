@@ -1,5 +1,5 @@
 use Rattle.std.proofs.Common.{◌≡◌, length, ◌≢◌, ◌∙◌, ap, refl, sym, arith}
-use Rattle.ucl_order.specs.Counting.{with_match}
+use Rattle.ucl_order.specs.Code.Counting.{with_match}
 use Rattle.ucl_order.proofs.OneMatchMore.{results_none}
 use Rattle.ucl_order.proofs.GatheredResults.{clubs_more, nothing_done, nothing_within, second_within, within_two}
 use Rattle.ucl_order.proofs.results.Results.of_clubs.Goals as goal

@@ -1,6 +1,6 @@
 use Rattle.std.proofs.Common.{◌≡◌, All, take}
-use Rattle.ucl_order.specs.Counting.{IsWithin}
-use Rattle.ucl_order.specs.Rounds.{results_of_clubs}
+use Rattle.ucl_order.specs.Code.Counting.{IsWithin}
+use Rattle.ucl_order.specs.Code.Rounds.{results_of_clubs}
 use Rattle.ucl_order.proofs.results.Results.of_clubs.Given as goal
 
 abbrev pub invariant-loop-game : goal.invariant-loop-game

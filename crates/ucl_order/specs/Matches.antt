@@ -1,0 +1,35 @@
+-- The matches of a board, each with the clubs that play it.
+use Rattle.std.specs.Prelude.{◌≢◌, ℕ, not, Bool, List, map, filter}
+use Rattle.ucl_word.specs.Rules.{is_scheduled, is_finished}
+use Rattle.ucl_board.specs.Fixtures.{IsSlot, fixture_of, match_numbers}
+use Rattle.ucl_board.specs.Words.{game_at}
+use Rattle.ucl_order.specs.declared.game.Match.{Match}
+
+-- the match with this number: who plays, and what is known of it
+abbrev pub match_at : List ℕ → ℕ → Match
+match_at board game = record { home = (fixture_of game).home; away = (fixture_of game).away; result = game_at board game }
+
+-- the twelve matches of the board
+unfoldable pub matches_of : List ℕ → List Match
+matches_of board = map (match_at board) match_numbers
+
+abbrev pub has_started : Match → Bool
+has_started m = not (is_scheduled m.result.state)
+
+abbrev pub has_finished : Match → Bool
+has_finished m = is_finished m.result.state
+
+-- two different clubs of the group play
+abbrev pub IsPairing : Match → Type 0
+IsPairing m = IsSlot m.home × IsSlot m.away × (m.home ≢ m.away)
+
+-- those in play and those that are finished
+abbrev pub started : List Match → List Match
+started ms = filter has_started ms
+
+abbrev pub finished : List Match → List Match
+finished ms = filter has_finished ms
+
+-- those that are still to be played, or to be played to their end
+abbrev pub unfinished : List Match → List Match
+unfinished ms = filter (λ m. not (has_finished m)) ms
