@@ -19,13 +19,14 @@ use Rattle.ucl_board.specs.History.{board_of, IsLegal, followed_by, entry_of, se
 use Rattle.ucl_board.specs.Log.{Look, Swap, Match, Enlisted, Taken, step_taken}
 use Rattle.ucl_board.proofs.Histories.{board_words, word_after}
 use Rattle.ucl_board.proofs.HistoryLaws.{versions}
+use Rattle.ucl_board.proofs.Beginnings.{begins_length, begins_same, begins_through}
 use Rattle.ucl_pass.specs.declared.view.View.{View}
 use Rattle.ucl_pass.specs.Passes.{PassView, IsSound, SeesOn, Continues, AcceptedReport, RefusedReport, SharedReading, Enlistment, FullBoard, Meeting}
 use Rattle.ucl_pass.specs.Views.{pass_view_of, count_of, Takes, second_of, note_of, told_by}
 use Rattle.ucl_pass.specs.Steps.{Goes}
 use Rattle.ucl_pass.specs.CellSteps.{IsNextBoard, with_one_more, word_looked_at, HasSeenAll, StoresEntry, StoresReporter, LooksOnly, LooksAtMatch, LooksAtEnlisted, LooksAndShows}
 use Rattle.ucl_pass.specs.CallSteps.{IsOnEnlisted, EnlistSteps, MeetingSteps, CellMissed, CellReport, CellReading}
-use Rattle.ucl_pass.proofs.Lists.{begins_same, begins_through, begins_length, none_by_zero, few_mine}
+use Rattle.ucl_pass.proofs.Lists.{none_by_zero, few_mine}
 use Rattle.ucl_pass.proofs.CellMoves.{match_words, match_word, last_word, one_more_last}
 
 -- an exchange that was won

@@ -1,4 +1,4 @@
--- Beginnings of lists, and the entries of one reporter.
+-- The entries of one reporter.
 use Rattle.std.proofs.Common.{◌≡◌, ◌≢◌, ℕ, zero, suc, ◌≤◌, Bool, cond, ◌==◌, List, [], ◌∷◌, ◌++◌, length, take, refl, sym, ap, ◌∙◌, subst, arith, append-nil, append_assoc, length-append, eq-eqb, ne_eqb, le_refl}
 use Rattle.std.specs.Prelude.{not}
 use Rattle.std.proofs.lemmas.List.Elements.{filter-append}
@@ -9,34 +9,8 @@ use Rattle.ucl_board.specs.declared.entry.Entry.{Entry}
 use Rattle.ucl_board.specs.Words.{greatest_version}
 use Rattle.ucl_board.specs.History.{MayFollow, IsLegal, followed_by}
 use Rattle.ucl_board.proofs.HistoryLaws.{versions}
+use Rattle.ucl_board.proofs.Beginnings.{begins_same}
 use Rattle.ucl_pass.specs.Passes.{PassView, IsSound, Continues, entries_by}
-
-module _ {X : Type 0} where
-  pub begins_none : (h : List X) → IsPrefix [] h
-  begins_none h = (h, refl)
-
-  pub begins_same : (h : List X) → IsPrefix h h
-  begins_same h = ([], append-nil h)
-
-  pub begins_longer : (s h more : List X) → IsPrefix s h → IsPrefix s (h ++ more)
-  begins_longer s h more p = (p.0 ++ more, sym (append_assoc s p.0 more) ∙ ap (λ l. l ++ more) p.1)
-
-  pub begins_more : (s h : List X) (e : X) → IsPrefix s h → IsPrefix s (h ++ e ∷ [])
-  begins_more s h e p = begins_longer s h (e ∷ []) p
-
-  pub begins_through : (a b c : List X) → IsPrefix a b → IsPrefix b c → IsPrefix a c
-  begins_through a b c p q = (p.0 ++ q.0, sym (append_assoc a p.0 q.0) ∙ (ap (λ l. l ++ q.0) p.1 ∙ q.1))
-
-  pub begins_length : (s h : List X) → IsPrefix s h → length s ≤ length h
-  begins_length s h p = let l = ap length (sym p.1) ∙ length-append s p.0 in omega arith
-
-take_front : (s r : List Entry) (v : ℕ) → length s ≤ v → (rest : List Entry) × (s ++ rest ≡ take v (s ++ r))
-take_front [] r v le = (take v r, refl)
-take_front (x ∷ s) r zero le = absurd (omega arith)
-take_front (x ∷ s) r (suc v) le = let p = take_front s r v (omega arith) in (p.0, ap (λ (l : List Entry). x ∷ l) p.1)
-
-pub begins_take : (s h : List Entry) (v : ℕ) → IsPrefix s h → length s ≤ v → IsPrefix s (take v h)
-begins_take s h v p le = let q = take_front s p.0 v le in (q.0, q.1 ∙ ap (take v) p.1)
 
 -- what a longer history has of one reporter, and what it has more
 pub by_more : (n : ℕ) (s h : List Entry) (p : IsPrefix s h) → entries_by n h ≡ entries_by n s ++ entries_by n p.0

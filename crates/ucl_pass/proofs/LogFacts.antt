@@ -12,10 +12,10 @@ use Rattle.atomic_table.proofs.Lists.{set_here, set_else}
 use Rattle.ucl_board.specs.declared.entry.Entry.{Entry}
 use Rattle.ucl_board.specs.Log.{Taken, Log, taken_by, history_of}
 use Rattle.ucl_board.proofs.Logs.{taken_append, taken_none, taken_own}
+use Rattle.ucl_board.proofs.Beginnings.{begins_length, begins_none}
 use Rattle.ucl_pass.specs.declared.view.View.{View}
 use Rattle.ucl_pass.specs.Views.{newcomer}
 use Rattle.ucl_pass.specs.OneHistory.{BoardsOpenFresh, StepsComeLast, LastStepsSeeAll}
-use Rattle.ucl_pass.proofs.Lists.{begins_none, begins_length}
 use Rattle.ucl_pass.proofs.Moves.{place_below}
 
 -- the first step of a log

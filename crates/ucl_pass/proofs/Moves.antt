@@ -15,12 +15,13 @@ use Rattle.ucl_board.specs.declared.entry.Entry.{Entry}
 use Rattle.ucl_board.specs.History.{MayFollow, IsLegal, followed_by}
 use Rattle.ucl_board.specs.Log.{Target, Match, Enlisted, Swap, Taken, step_taken, Log, taken_by, entry_list, added_by, history_of, IsThere, IsLog}
 use Rattle.ucl_board.proofs.Logs.{log_none, log_more, history_more, history_same, taken_own, taken_other, taken_none, added_more}
+use Rattle.ucl_board.proofs.Beginnings.{begins_more, begins_none, begins_same, begins_take, begins_through}
 use Rattle.ucl_pass.specs.declared.view.View.{View}
 use Rattle.ucl_pass.specs.Passes.{entries_by}
 use Rattle.ucl_pass.specs.Views.{newcomer, second_of, note_of, told_by}
 use Rattle.ucl_pass.specs.OneHistory.{Fits, KeepsOneHistory}
 use Rattle.ucl_pass.specs.Steps.{Sees, Adds, Enlists}
-use Rattle.ucl_pass.proofs.Lists.{begins_none, begins_same, begins_more, begins_through, begins_take, by_own, by_other, none_by_zero}
+use Rattle.ucl_pass.proofs.Lists.{by_own, by_other, none_by_zero}
 
 -- the reporters of a history
 

@@ -8,9 +8,10 @@ use Rattle.std.proofs.lemmas.List.Elements.{All-cons, All-nil}
 use mathlib.Core.List.{IsPrefix}
 use Rattle.ucl_board.specs.declared.entry.Entry.{Entry}
 use Rattle.ucl_board.specs.declared.reading.Reading.{Reading}
+use Rattle.ucl_board.proofs.Beginnings.{begins_length, begins_take, begins_through}
 use Rattle.ucl_pass.specs.Passes.{PassView, entries_by, IsSound, Continues, SharedReading, Meeting}
 use Rattle.ucl_pass.specs.Settling.{both_accepted, Settled, IsOfBoth}
-use Rattle.ucl_pass.proofs.Lists.{begins_through, begins_length, begins_take, by_more}
+use Rattle.ucl_pass.proofs.Lists.{by_more}
 
 pub differ : (a b : ℕ) (r : Bool) → r ≡ not (a == b) → r ≡ true → a ≢ b
 differ a b r is said same = true≢false (sym said ∙ (is ∙ ap not (eq-eqb a b same)))

@@ -12,10 +12,11 @@ use Rattle.ucl_word.proofs.Sequences.{at_longer, at_below, at_end, at_either}
 use Rattle.ucl_board.specs.declared.entry.Entry.{Entry}
 use Rattle.ucl_board.specs.History.{followed_by, entry_of, sequential_reply}
 use Rattle.ucl_screen.specs.declared.night.NightEvent.{NightEvent}
+use Rattle.ucl_board.proofs.Beginnings.{at_within, begins_length, begins_through}
 use Rattle.ucl_pass.specs.Passes.{PassView, IsSound, Continues, AcceptedReport, RefusedReport, entries_by}
-use Rattle.ucl_pass.proofs.Lists.{begins_through, begins_length, by_own, unchanged}
+use Rattle.ucl_pass.proofs.Lists.{by_own, unchanged}
 use Rattle.ucl_runs.specs.Nights.{IsRefusedAt, IsEnteredAt, TakesPlace, ComesFirst, IsOwnRow, HasEntered}
-use Rattle.ucl_runs.proofs.Points.{at_before, entered_on, place_on, entered_before, first_on, entered_within, place_within, same_first, none_by, stands_before}
+use Rattle.ucl_runs.proofs.Points.{entered_on, place_on, entered_before, first_on, entered_within, place_within, same_first, none_by, stands_before}
 
 -- a pass that has no entry of its own has entered no row
 pub entered_none : (k : PassView) (reporter : ℕ) → IsSound k → k.mine ≡ [] → HasEntered k k reporter []
@@ -93,7 +94,7 @@ module _ (k m z : PassView) (reporter : ℕ) (rows : List NightEvent) (row : Nig
 
   each_entry : row.reporter ≡ reporter → (p : ℕ) (x : Entry) → slice_get z.seen p ≡ Some x → x.reporter ≡ k.number → OldOrNew p → IsOwnRow k.number reporter (rows ++ row ∷ []) points z.seen p
   each_entry theirs p x at is (inl below) =
-      let o = e.entries p x (at_before m.seen z.seen on p x below at) is in
+      let o = e.entries p x (at_within m.seen z.seen p x on below at) is in
       record {
         index = o.index;
         row = o.row;

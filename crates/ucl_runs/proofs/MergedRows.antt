@@ -10,12 +10,12 @@ use Rattle.ucl_board.specs.declared.entry.Entry.{Entry}
 use Rattle.ucl_board.specs.History.{IsLegal, entry_of}
 use Rattle.ucl_board.proofs.HistoryLaws.{legal_take}
 use Rattle.ucl_screen.specs.declared.night.NightEvent.{NightEvent}
+use Rattle.ucl_board.proofs.Beginnings.{at_within, begins_take}
 use Rattle.ucl_pass.specs.Passes.{PassView, Continues}
 use Rattle.ucl_pass.specs.Settling.{Settled, IsOfBoth}
-use Rattle.ucl_pass.proofs.Lists.{begins_take}
 use Rattle.ucl_steps.proofs.Lists.{get_some}
 use Rattle.ucl_runs.specs.Nights.{number_of_two, attempt_by, IsOnDuty, IsEnteredAt, TakesPlace, ComesFirst, IsOfRow, IsMerge, HasEntered}
-use Rattle.ucl_runs.proofs.Points.{at_before, entered_on, place_on, first_on, same_first, stands_before}
+use Rattle.ucl_runs.proofs.Points.{entered_on, place_on, first_on, same_first, stands_before}
 
 -- all rows of a script are of reporters 1 and 2
 abbrev pub AllOnDuty : List NightEvent → Type 0
@@ -100,7 +100,7 @@ module _ (k l m n : PassView) (rows : List NightEvent) (h : List Entry) (first :
   row_1 : (p : ℕ) (e : Entry) → slice_get h p ≡ Some e → e.reporter ≡ m.number → (i : ℕ) × IsRowAt p i
   row_1 p e at is =
       let below = stands_before m.number m.seen h on_first (both.first ∙ first.always.sound.own) p e at is in
-      let o = first.entries p e (at_before m.seen h on_first p e below at) (is ∙ first.always.number) in (
+      let o = first.entries p e (at_within m.seen h p e on_first below at) (is ∙ first.always.number) in (
         o.index,
         record {
           row = o.row;
@@ -113,7 +113,7 @@ module _ (k l m n : PassView) (rows : List NightEvent) (h : List Entry) (first :
   row_2 : (p : ℕ) (e : Entry) → slice_get h p ≡ Some e → e.reporter ≡ n.number → (i : ℕ) × IsRowAt p i
   row_2 p e at is =
       let below = stands_before n.number n.seen h on_second (both.second ∙ second.always.sound.own) p e at is in
-      let o = second.entries p e (at_before n.seen h on_second p e below at) (is ∙ second.always.number) in (
+      let o = second.entries p e (at_within n.seen h p e on_second below at) (is ∙ second.always.number) in (
         o.index,
         record {
           row = o.row;

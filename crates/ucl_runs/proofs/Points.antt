@@ -9,30 +9,21 @@ use Rattle.ucl_word.specs.declared.event.EventCall.{EventCall}
 use Rattle.ucl_word.proofs.Sequences.{at_longer, at_below}
 use Rattle.ucl_board.specs.declared.entry.Entry.{Entry}
 use Rattle.ucl_board.specs.History.{Attempt, entry_of, sequential_reply}
+use Rattle.ucl_board.proofs.Beginnings.{at_beginning, at_within, begins_length, take_beginning}
 use Rattle.ucl_pass.specs.Passes.{entries_by}
-use Rattle.ucl_pass.proofs.Lists.{begins_length, by_more}
-use Rattle.ucl_steps.proofs.Lists.{get_back}
+use Rattle.ucl_pass.proofs.Lists.{by_more}
 use Rattle.ucl_runs.specs.Nights.{IsRefusedAt, IsEnteredAt, TakesPlace, ComesFirst}
 
 -- the beginning of a history
 module _ (s h : List Entry) (on : IsPrefix s h) where
-  beginning : (p : ℕ) → p ≤ length s → take p h ≡ take p s
-  beginning p within = ap (take p) (sym on.1) ∙ take-append-le p s on.0 within
-
-  pub at_on : (p : ℕ) (e : Entry) → slice_get s p ≡ Some e → slice_get h p ≡ Some e
-  at_on p e at = ap (λ (l : List Entry). slice_get l p) (sym on.1) ∙ at_longer s on.0 p e at
-
-  pub at_before : (p : ℕ) (e : Entry) → p < length s → slice_get h p ≡ Some e → slice_get s p ≡ Some e
-  at_before p e below at = get_back s on.0 p e below (ap (λ (l : List Entry). slice_get l p) on.1 ∙ at)
-
   reply_on : (call : EventCall) (p : ℕ) → p ≤ length s → is_ok (sequential_reply (take p h) call) ≡ is_ok (sequential_reply (take p s) call)
-  reply_on call p within = ap (λ (l : List Entry). is_ok (sequential_reply l call)) (beginning p within)
+  reply_on call p within = ap (λ (l : List Entry). is_ok (sequential_reply l call)) (take_beginning s h p on within)
 
   pub refused_on : (a : Attempt) (p : ℕ) → IsRefusedAt s a p → IsRefusedAt h a p
   refused_on a p r = record { within = (let x = r.within in let y = begins_length s h on in omega arith); reply = reply_on a.1 p r.within ∙ r.reply }
 
   pub entered_on : (a : Attempt) (p : ℕ) → IsEnteredAt s a p → IsEnteredAt h a p
-  entered_on a p e = record { entry = at_on p (entry_of a) e.entry; reply = (let x = at_below s p (entry_of a) e.entry in reply_on a.1 p (omega arith) ∙ e.reply) }
+  entered_on a p e = record { entry = at_beginning s h p (entry_of a) on e.entry; reply = (let x = at_below s p (entry_of a) e.entry in reply_on a.1 p (omega arith) ∙ e.reply) }
 
   pub place_on : (a : Attempt) (p : ℕ) → TakesPlace s a p → TakesPlace h a p
   place_on a p (inl r) = inl (refused_on a p r)

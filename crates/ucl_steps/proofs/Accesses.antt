@@ -18,6 +18,7 @@ use Rattle.ucl_board.specs.declared.entry.Entry.{Entry}
 use Rattle.ucl_board.specs.declared.reading.Reading.{Reading}
 use Rattle.ucl_board.specs.History.{match_after, board_of, IsLegal}
 use Rattle.ucl_board.proofs.HistoryLaws.{versions, same_number}
+use Rattle.ucl_board.proofs.Beginnings.{take_beginning}
 use Rattle.ucl_steps.proofs.Lists.{get_some}
 use Rattle.ucl_steps.proofs.Histories.{number_expected, is_stale, legal_beginning, read_back, squeezed, board_from}
 use Rattle.ucl_board.specs.Log.{AccessKind, Access}
@@ -30,19 +31,16 @@ pub follows_ends : (h : List Entry) (low high : ℕ) (ms : List Access) → Foll
 follows_ends h low high [] f = f
 follows_ends h low high (m ∷ ms) f = let a = f.0 in let b = follows_ends h m.at high ms f.2 in omega arith
 
-prefix_take : (h h' : List Entry) (k : ℕ) → IsPrefix h h' → k ≤ length h → take k h' ≡ take k h
-prefix_take h h' k p le = ap (take k) (sym p.1) ∙ take-append-le k h p.0 le
-
 -- a word that was found in a longer history, at a place within this one
 pub found_shorter : (h h' : List Entry) (m : Access) → IsPrefix h h' → m.at ≤ length h → IsFoundIn h' m → IsFoundIn h m
-found_shorter h h' m p le found = found ∙ ap (λ (z : List Entry). word_of (match_after z m.game)) (prefix_take h h' m.at p le)
+found_shorter h h' m p le found = found ∙ ap (λ (z : List Entry). word_of (match_after z m.game)) (take_beginning h h' m.at p le)
 
 -- the history may be longer
 pub follows_longer : (h h' : List Entry) (low high : ℕ) (ms : List Access) → IsPrefix h h' → high ≤ length h → Follows h low ms high → Follows h' low ms high
 follows_longer h h' low high [] p le f = f
 follows_longer h h' low high (m ∷ ms) p le f =
     let up = follows_ends h m.at high ms f.2 in
-    (f.0, f.1 ∙ ap (λ (z : List Entry). word_of (match_after z m.game)) (sym (prefix_take h h' m.at p (omega arith))), follows_longer h h' m.at high ms p le f.2)
+    (f.0, f.1 ∙ ap (λ (z : List Entry). word_of (match_after z m.game)) (sym (take_beginning h h' m.at p (omega arith))), follows_longer h h' m.at high ms p le f.2)
 
 -- the bounds may be wider
 pub follows_wider : (h : List Entry) (low low' high high' : ℕ) (ms : List Access) → low' ≤ low → high ≤ high' → Follows h low ms high → Follows h low' ms high'

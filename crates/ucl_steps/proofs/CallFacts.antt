@@ -2,12 +2,14 @@
 use Rattle.std.proofs.Common.{◌≡◌, ℕ, ◌+◌, ◌<◌, ◌≤◌, List, ◌++◌, take, length, Option, Some, None, sym, ap, ◌∙◌, arith, get_or, length-append, le_refl}
 use Rattle.std.specs.Prelude.{slice_get, IsSome}
 use Rattle.std.proofs.lemmas.List.{take-append-le}
+use mathlib.Core.List.{IsPrefix}
 use Rattle.ucl_word.specs.declared.event.EventCall.{EventCall}
 use Rattle.ucl_word.specs.Rules.{refusal_of, after}
 use Rattle.ucl_word.specs.Layout.{word_of, record_at}
 use Rattle.ucl_board.specs.declared.entry.Entry.{Entry}
 use Rattle.ucl_board.specs.History.{match_after, board_of, sequential_reply}
 use Rattle.ucl_word.proofs.Sequences.{at_longer}
+use Rattle.ucl_board.proofs.Beginnings.{at_beginning, begins_length, take_beginning}
 use Rattle.ucl_steps.specs.declared.step.Caller.{Caller}
 use Rattle.ucl_steps.specs.declared.step.Caller.TheVariants.{Reporter, Reader}
 use Rattle.ucl_steps.specs.declared.step.Call.{Call}
@@ -17,16 +19,6 @@ use Rattle.ucl_steps.specs.declared.trace.Reply.TheVariants.{Accepted, Refused, 
 use Rattle.ucl_steps.specs.declared.trace.CallRecord.{CallRecord}
 use Rattle.ucl_steps.specs.Machine.{Holds, Idle, Wanting, Holding, Collecting, Checking, Answered}
 use Rattle.ucl_steps.proofs.Explanations.{IsSequential, LiesWithin, IsExplained}
-
--- h' is h, or longer
-abbrev pub Begins : List Entry → List Entry → Type 0
-Begins h h' = (more : List Entry) × (h' ≡ h ++ more)
-
-pub begins_length : (h h' : List Entry) → Begins h h' → length h ≤ length h'
-begins_length h h' b = omega (arith, ap length b.1, length-append h b.0)
-
-pub begins_take : (h h' : List Entry) (k : ℕ) → Begins h h' → k ≤ length h → take k h' ≡ take k h
-begins_take h h' k b l = ap (take k) b.1 ∙ take-append-le k h b.0 l
 
 -- a reporter asks for an event of a match
 pub record Asks (a : CallRecord) (e : EventCall) : Type 0 where
@@ -99,9 +91,9 @@ pub record Knows (h : List Entry) (calls : List CallRecord) (c : Caller) (x : Ho
   pub unended : call.ended ≡ None
   pub sees : Sees h call x
 
-module _ (h h' : List Entry) (b : Begins h h') where
+module _ (h h' : List Entry) (b : IsPrefix h h') where
   moved_word : (words : List ℕ) (i k : ℕ) → k ≤ length h → get_or words i 0 ≡ word_of (match_after (take k h) (i + 1)) → get_or words i 0 ≡ word_of (match_after (take k h') (i + 1))
-  moved_word words i k l e = e ∙ ap (λ (z : List Entry). word_of (match_after z (i + 1))) (sym (begins_take h h' k b l))
+  moved_word words i k l e = e ∙ ap (λ (z : List Entry). word_of (match_after z (i + 1))) (sym (take_beginning h h' k b l))
 
   loaded_later : (words : List ℕ) (n m : ℕ) → n ≤ length h → n ≤ m → Loaded h words n → Loaded h' words m
   loaded_later words n m l le f i few = let t = f i few in let p = t.1 in (t.0, omega arith, moved_word words i t.0 (omega arith) t.2)
@@ -113,7 +105,7 @@ module _ (h h' : List Entry) (b : Begins h h') where
     asks = s.asks;
     place = s.place;
     within = omega arith;
-    found = s.found ∙ ap (λ (z : List Entry). word_of (match_after z e.game)) (sym (begins_take h h' s.place b s.within));
+    found = s.found ∙ ap (λ (z : List Entry). word_of (match_after z e.game)) (sym (take_beginning h h' s.place b s.within));
     accepted = s.accepted;
     next = s.next;
   }
@@ -131,16 +123,16 @@ module _ (h h' : List Entry) (b : Begins h h') where
 
   sequential_later : (k : ℕ) (c : Caller) (call : Call) (r : Reply) → k ≤ length h → IsSequential h k c call r → IsSequential h' k c call r
   sequential_later k (Reporter n) (Event e) (Accepted a) l s =
-      (ap (λ (z : List Entry). sequential_reply z e) (begins_take h h' k b l) ∙ s.0, ap (λ (z : List Entry). slice_get z k) b.1 ∙ at_longer h b.0 k (record { game = e.game; reporter = n; kind = e.kind }) s.1)
-  sequential_later k (Reporter n) (Event e) (Refused r) l s = ap (λ (z : List Entry). sequential_reply z e) (begins_take h h' k b l) ∙ s
+      (ap (λ (z : List Entry). sequential_reply z e) (take_beginning h h' k b l) ∙ s.0, at_beginning h h' k (record { game = e.game; reporter = n; kind = e.kind }) b s.1)
+  sequential_later k (Reporter n) (Event e) (Refused r) l s = ap (λ (z : List Entry). sequential_reply z e) (take_beginning h h' k b l) ∙ s
   sequential_later k (Reporter n) (Event e) (Copied r) l s = absurd s
   sequential_later k (Reader n) (Event e) r l s = absurd s
   sequential_later k (Reporter n) Reading (Accepted a) l s = absurd s
   sequential_later k (Reporter n) Reading (Refused a) l s = absurd s
-  sequential_later k (Reporter n) Reading (Copied r) l s = (s.0 ∙ ap board_of (sym (begins_take h h' k b l)), s.1)
+  sequential_later k (Reporter n) Reading (Copied r) l s = (s.0 ∙ ap board_of (sym (take_beginning h h' k b l)), s.1)
   sequential_later k (Reader n) Reading (Accepted a) l s = absurd s
   sequential_later k (Reader n) Reading (Refused a) l s = absurd s
-  sequential_later k (Reader n) Reading (Copied r) l s = (s.0 ∙ ap board_of (sym (begins_take h h' k b l)), s.1)
+  sequential_later k (Reader n) Reading (Copied r) l s = (s.0 ∙ ap board_of (sym (take_beginning h h' k b l)), s.1)
 
   within_later : (c : CallRecord) (k : ℕ) (r : Reply) → LiesWithin c k r (length h) → (k ≤ length h) × LiesWithin c k r (length h')
   within_later c k (Accepted a) s = let long = begins_length h h' b in let l = s.1 in (omega arith, (s.0, omega arith, s.2))

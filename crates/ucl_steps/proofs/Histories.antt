@@ -5,9 +5,9 @@ use Rattle.std.proofs.lemmas.Bool.{eqb-true, not-false, not_from_false}
 use Rattle.std.proofs.lemmas.List.{take-append-drop, ext_get_or}
 use Rattle.ucl_word.specs.declared.record.MatchRecord.{MatchRecord}
 use Rattle.ucl_word.specs.declared.event.Kind.{Kind}
-use Rattle.ucl_word.specs.declared.refusal.Refusal.TheVariants.{Stale, Finished, NotFinished, NotStarted, AlreadyStarted, NumberFull, NoGoal, NoCaution, LimitReached}
+use Rattle.ucl_word.specs.declared.refusal.Refusal.TheVariants.{Stale}
 use Rattle.ucl_word.specs.Record.{scheduled, last_in_play}
-use Rattle.ucl_word.specs.Rules.{is_scheduled, is_in_play, is_finished, is_kick_off, is_full_time, is_reopen, lacks_goal, lacks_caution, passes_limit, first_of, refusal_of, after}
+use Rattle.ucl_word.specs.Rules.{refusal_of, after}
 use Rattle.ucl_word.specs.Counts.{counted_match}
 use Rattle.ucl_word.specs.Layout.{word_of, record_at}
 use Rattle.ucl_word.proofs.AcceptedEvents.{accepts}
@@ -30,11 +30,7 @@ number_expected m expected kind e = eqb-true expected m.number (not-false (expec
 -- at another number the event is stale
 pub is_stale : (m : MatchRecord) (expected : ℕ) (kind : Kind) → (expected ≡ m.number → ⊥) → refusal_of m expected kind ≡ Some (Stale m.number)
 unfolding refusal_of
-is_stale m expected kind not-that =
-    let t : not (expected == m.number) ≡ true = not_from_false (expected == m.number) (ne_eqb expected m.number not-that) in
-    let cs = first_of ((is_finished m.state && not (is_reopen kind), Finished) ∷ (not (is_finished m.state) && is_reopen kind, NotFinished) ∷ (is_scheduled m.state && not (is_kick_off kind), NotStarted) ∷ (is_in_play m.state && is_kick_off kind, AlreadyStarted)
-    ∷ (nat_le last_in_play m.number && not (is_full_time kind), NumberFull) ∷ (lacks_goal m kind, NoGoal) ∷ (lacks_caution m kind, NoCaution) ∷ (passes_limit m kind, LimitReached) ∷ []) in
-    ap (λ (b : Bool). cond b (Some (Stale m.number)) cs) t
+is_stale m expected kind not-that = rw (not_from_false (expected == m.number) (ne_eqb expected m.number not-that))
 
 pub legal_none : IsLegal []
 legal_none = may_none MayFollow

@@ -10,6 +10,7 @@ use Rattle.ucl_word.proofs.Sequences.{at_end}
 use Rattle.ucl_word.specs.declared.event.Accepted as word
 use Rattle.ucl_board.specs.declared.entry.Entry.{Entry}
 use Rattle.ucl_board.specs.History.{board_of, IsLegal}
+use Rattle.ucl_board.proofs.Beginnings.{at_beginning, at_within, begins_length, begins_through, take_beginning}
 use Rattle.ucl_steps.specs.declared.step.Cast.{Cast}
 use Rattle.ucl_steps.specs.declared.step.Caller.{Caller}
 use Rattle.ucl_steps.specs.declared.step.Caller.TheVariants.{Reporter, Reader}
@@ -32,7 +33,7 @@ use Rattle.ucl_steps.proofs.Callers.{same_caller}
 use Rattle.ucl_steps.proofs.Runs.{linearizable_run}
 use Rattle.ucl_steps.proofs.Accesses.{follows_ends, follows_wider}
 use Rattle.ucl_steps.proofs.Calls.{began, planned, rest_at_start, within_before}
-use Rattle.ucl_steps.proofs.Schedules.{nobody, legal_prefix, prefix_take, prefix_get, prefix_long, prefix_length, prefix_trans, before_prefix, Rest, Waiting, Within, Ending, rest_steps, recorded_all, FitsWithin, Fits, Doing, World, set_rest, set_here, set_else, mine, begins, ends, goes_on, finishes_at}
+use Rattle.ucl_steps.proofs.Schedules.{nobody, legal_prefix, before_prefix, Rest, Waiting, Within, Ending, rest_steps, recorded_all, FitsWithin, Fits, Doing, World, set_rest, set_here, set_else, mine, begins, ends, goes_on, finishes_at}
 
 -- all accesses are at later places
 abbrev StartsAfter : ℕ → List Access → Type 0
@@ -82,7 +83,7 @@ module _ (cast : Cast) (H : List Entry) (legal : IsLegal H) (calls_of : Caller �
   -- calls that follow a call are calls from the place of the call's last step on
   none_earlier : (c : Caller) (p q : ℕ) (before h : List Entry) → q ≡ length before → IsPrefix before H → IsPrefix h H → NoneOwn c p before → NoneOwn c q h → NoneOwn c p h
   none_earlier c p q before h whole is_before is_h none later k e le at = elim (cases_lt k q) [
-    | inl less ↦ none k e le (prefix_get before H k e is_before (omega arith) (prefix_long h H k e is_h at))
+    | inl less ↦ none k e le (at_within before H k e is_before (omega arith) (at_beginning h H k e is_h at))
     | inr more ↦ later k e more at
   ]
 
@@ -92,7 +93,7 @@ module _ (cast : Cast) (H : List Entry) (legal : IsLegal H) (calls_of : Caller �
     record {
       may = calls.0.may;
       along = calls.0.along;
-      none = none_earlier c p q before m.before whole is (prefix_trans m.before (after_call c m) H (before_prefix c m.call m.reply m.before) calls.0.along) none calls.0.none;
+      none = none_earlier c p q before m.before whole is (begins_through m.before (after_call c m) H (before_prefix c m.call m.reply m.before) calls.0.along) none calls.0.none;
       leaves = record { follows = follows_wider (after_call c m) q p (length (after_call c m)) (length (after_call c m)) m.accesses le (le_refl (length (after_call c m))) calls.0.leaves.follows; shape = calls.0.leaves.shape };
     },
     calls.1,
@@ -120,7 +121,7 @@ module _ (cast : Cast) (H : List Entry) (legal : IsLegal H) (calls_of : Caller �
     act_wait : (m : CallMade) (ms : List CallMade) (accesses : List Access) → m.accesses ≡ accesses → R c ≡ Waiting (m ∷ ms) → Blocked p (Waiting (m ∷ ms)) ⊎ More p R c (Waiting (m ∷ ms))
     act_wait m ms [] e is =
         let call = (mine cast H legal calls_of p R steps w world c inside (Waiting (m ∷ ms)) is).fits.1.0 in
-        let before = prefix_trans m.before (after_call c m) H (before_prefix c m.call m.reply m.before) call.along in
+        let before = begins_through m.before (after_call c m) H (before_prefix c m.call m.reply m.before) call.along in
         let plan = planned nobody c m.call m.reply m.accesses m.before p 0 (began c m.call 0) cast inside call.may (legal_prefix cast H legal calls_of m.before before) call.leaves in
         absurd (omega (arith, ap length e, ap length plan.split, length-append plan.init (plan.last ∷ [])))
     act_wait m ms (l ∷ rest) e is = elim (cases_lt p l.at) [
@@ -144,9 +145,9 @@ module _ (cast : Cast) (H : List Entry) (legal : IsLegal H) (calls_of : Caller �
         let same : after_call c m ≡ m.before = history_plain c m.call m.reply m.before plain in
         let count = ap length same in
         let t = finishes_at cast H legal calls_of p R steps w world c inside m left ms is e here p
-        (history_plain c m.call m.reply (take p m.before) plain ∙ sym (prefix_take m.before H p before le))
+        (history_plain c m.call m.reply (take p m.before) plain ∙ sym (take_beginning m.before H p before le))
         (calls_earlier c p (length (after_call c m)) m.before ms (omega arith) count before f.none f.next)
-        (place_plain m.reply m.accesses plain ∙ (f.end ∙ here)) (let high = prefix_length m.before H before in omega arith)
+        (place_plain m.reply m.accesses plain ∙ (f.end ∙ here)) (let high = begins_length m.before H before in omega arith)
         (λ d not in_cast calls x high fits. fits) in
         inr (record { next = Ending m ms; steps = steps ++ step_of c f.last.kind ∷ []; state = t.0; world = t.1; less = ap (λ (z : List Access). length (rest_steps c (Within m z ms))) split })
 
@@ -166,7 +167,7 @@ module _ (cast : Cast) (H : List Entry) (legal : IsLegal H) (calls_of : Caller �
         let t : Follows m.before p (f.last ∷ []) (length m.before) = subst (λ (z : List Access). Follows m.before p z (length m.before)) split f.follows in
         let up = t.0 in
         let within = t.2 in
-        let before = prefix_trans m.before (after_call c m) H (before_prefix c m.call m.reply m.before) f.along in
+        let before = begins_through m.before (after_call c m) H (before_prefix c m.call m.reply m.before) f.along in
         elim (cases_lt p f.last.at) [
           | inl later ↦ inl (inl (subst (StartsAfter p) (sym split) later))
           | inr here ↦ act_last m left ms is e split before (omega arith) (omega arith) (is_accepted (Some m.reply)) refl
@@ -278,7 +279,7 @@ module _ (cast : Cast) (H : List Entry) (legal : IsLegal H) (calls_of : Caller �
       (none, split, t.0)
 
   in_history : (c : Caller) (m : CallMade) → IsPrefix (after_call c m) H → IsPrefix m.before H
-  in_history c m along = prefix_trans m.before (after_call c m) H (before_prefix c m.call m.reply m.before) along
+  in_history c m along = begins_through m.before (after_call c m) H (before_prefix c m.call m.reply m.before) along
 
   module _ (p : ℕ) (e : Entry) (at : slice_get H p ≡ Some e) where
     -- another caller, who does nothing at this place, is at the next place
@@ -331,7 +332,7 @@ module _ (cast : Cast) (H : List Entry) (legal : IsLegal H) (calls_of : Caller �
           | inr here ↦
               let place : length m.before ≡ p = omega arith in
               let there : slice_get (after_call d m) p ≡ Some made.0.entry = ap (λ (z : List Entry). slice_get z p) made.0.whole ∙ (ap (slice_get (m.before ++ made.0.entry ∷ [])) (sym place) ∙ at_end m.before made.0.entry) in
-              let same : made.0.entry ≡ e = same_Some made.0.entry e (sym (prefix_long (after_call d m) H p made.0.entry f.along there) ∙ at) in
+              let same : made.0.entry ≡ e = same_Some made.0.entry e (sym (at_beginning (after_call d m) H p made.0.entry f.along there) ∙ at) in
               absurd (not (sym made.0.own ∙ ap (λ (z : Entry). Reporter z.reporter) same))
         ]
     later d not (Ending m ms) b calls x high f = absurd b
@@ -345,7 +346,7 @@ module _ (cast : Cast) (H : List Entry) (legal : IsLegal H) (calls_of : Caller �
 
       -- the entry's caller has no way to be past it
       past : (before : List Entry) → IsPrefix before H → p < length before → NoneOwn c p before → ⊥
-      past before is less none = none p e (le_refl p) (prefix_get before H p e is less at) refl
+      past before is less none = none p e (le_refl p) (at_within before H p e is less at) refl
 
       won : (r : Rest) → quiet.rests c ≡ r → Blocked p r → (R : Caller → Rest) × (steps : List Step) × (w : MachineState) × IsWorld (p + 1) R steps w
       won (Waiting []) is b = absurd ((doing_now (Waiting []) is).fits.1 p e (le_refl p) at refl)
@@ -367,10 +368,10 @@ module _ (cast : Cast) (H : List Entry) (legal : IsLegal H) (calls_of : Caller �
             | inl after ↦ absurd (past m.before (in_history c m f.along) (omega arith) f.none)
             | inr here ↦
                 let place : length m.before ≡ p = omega arith in
-                let long = prefix_length (after_call c m) H f.along in
+                let long = begins_length (after_call c m) H f.along in
                 let count : length (after_call c m) ≡ p + 1 = omega (arith, ap length made.0.whole, length_push m.before made.0.entry) in
                 let all : take p m.before ≡ m.before = ap (λ (z : ℕ). take z m.before) (sym place) ∙ take-length m.before in
-                let history : after_call c m ≡ take (p + 1) H = sym (prefix_take (after_call c m) H (p + 1) f.along (omega arith) ∙ (ap (λ (z : ℕ). take z (after_call c m)) (sym count) ∙ take-length (after_call c m))) in
+                let history : after_call c m ≡ take (p + 1) H = sym (take_beginning (after_call c m) H (p + 1) f.along (omega arith) ∙ (ap (λ (z : ℕ). take z (after_call c m)) (sym count) ∙ take-length (after_call c m))) in
                 let t = finishes_at cast H legal calls_of p quiet.rests quiet.steps quiet.state quiet.world c inside m left ms is o.0 (omega arith) (p + 1)
                 (ap (history_after c m.call m.reply) all ∙ history) (subst (λ (z : ℕ). AreCallsAlong H c z ms) count f.next)
                 (place_won m.reply m.accesses t.2 ∙ omega (arith, f.end)) (omega arith)
@@ -384,19 +385,19 @@ module _ (cast : Cast) (H : List Entry) (legal : IsLegal H) (calls_of : Caller �
   over p end c steps w (Waiting (m ∷ ms)) doing b =
       let call = doing.fits.1.0 in
       let late = ends_late m.before p (length m.before) m.accesses p b (within_before c m.call m.reply m.accesses m.before p call.may call.leaves) in
-      let high = prefix_length m.before H (in_history c m call.along) in
+      let high = begins_length m.before H (in_history c m call.along) in
       absurd (omega arith)
   over p end c steps w (Within m left ms) doing (inl after) =
       let f = doing.fits in
       let late = ends_late m.before p (length m.before) left p after f.follows in
-      let high = prefix_length m.before H (in_history c m f.along) in
+      let high = begins_length m.before H (in_history c m f.along) in
       absurd (omega arith)
   over p end c steps w (Within m left ms) doing (inr t) =
       let f = doing.fits in
       let low = (only_last c p w.calls doing.holds doing.high m left ms f t.0 t.1).2 in
       let made = makes c p w.calls doing.holds doing.high m left ms f t.2 in
       let here = made.1 in
-      let high = prefix_length (after_call c m) H f.along in
+      let high = begins_length (after_call c m) H f.along in
       absurd (omega (arith, ap length made.0.whole, length_push m.before made.0.entry))
   over p end c steps w (Ending m ms) doing b = absurd b
 

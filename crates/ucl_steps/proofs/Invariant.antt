@@ -7,7 +7,9 @@ use Rattle.std.proofs.lemmas.Bool.{false≢true}
 use Rattle.std.proofs.lemmas.List.{map-append, length-map}
 use Rattle.ucl_board.specs.declared.entry.Entry.{Entry}
 use Rattle.ucl_board.specs.History.{board_of, IsLegal}
+use mathlib.Core.List.{IsPrefix}
 use Rattle.ucl_word.proofs.Sequences.{at_below, at_longer, at_end, at_either}
+use Rattle.ucl_board.proofs.Beginnings.{begins_length, begins_same}
 use Rattle.ucl_steps.proofs.Lists.{get_some}
 use Rattle.ucl_steps.specs.declared.step.Caller.{Caller}
 use Rattle.ucl_steps.specs.declared.step.Call.{Call}
@@ -22,7 +24,7 @@ use Rattle.ucl_steps.proofs.Explanations.{IsExplained}
 use Rattle.ucl_steps.proofs.ChangedLists.{get-change_at, change_at_here, change_at_else, map_unseen, map-change_at}
 use Rattle.ucl_steps.proofs.Callers.{same_caller, held_here, held_else}
 use Rattle.ucl_steps.proofs.Turns.{Time, Turns, IsInner, turns_inner, turns_begin, turns_end, ended_at}
-use Rattle.ucl_steps.proofs.CallFacts.{Begins, begins_length, in_call, Sees, Knows, sees_later, explained_later}
+use Rattle.ucl_steps.proofs.CallFacts.{in_call, Sees, Knows, sees_later, explained_later}
 use Rattle.ucl_steps.proofs.EntryMakers.{once_kept, once_begun}
 
 abbrev pub time_of : CallRecord → Time
@@ -63,7 +65,7 @@ explained_closed h c None None s some = absurd (false≢true some)
 
 module _ (steps : List Step) (w : MachineState) (kept : Keeps steps w) (c : Caller) (x : Holds) (holds : held_by w.callers c ≡ Some x) where
   -- what other callers hold, and know
-  knows_else : (h' : List Entry) (calls : List CallRecord) (y : Holds) → Begins w.history h' → ((d : Caller) (k : ℕ) (b : CallRecord) → d ≢ c → slice_get w.calls k ≡ Some b → b.caller ≡ d → slice_get calls k ≡ Some b)
+  knows_else : (h' : List Entry) (calls : List CallRecord) (y : Holds) → IsPrefix w.history h' → ((d : Caller) (k : ℕ) (b : CallRecord) → d ≢ c → slice_get w.calls k ≡ Some b → b.caller ≡ d → slice_get calls k ≡ Some b)
       → (d : Caller) (z : Holds) (k : ℕ) → d ≢ c → held_by (set_held y c w.callers) d ≡ Some z → in_call z ≡ Some k → Knows h' calls d z k
   knows_else h' calls y b same d z k not at within =
       let t = kept.knows d z k (sym (held_else w.callers c d y x holds not) ∙ at) within in
@@ -77,7 +79,7 @@ module _ (steps : List Step) (w : MachineState) (kept : Keeps steps w) (c : Call
     other_call : (d : Caller) (i : ℕ) (b : CallRecord) → d ≢ c → slice_get w.calls i ≡ Some b → b.caller ≡ d → i ≢ k
     other_call d i b not at is same = not (sym is ∙ (ap (λ (z : CallRecord). z.caller) (same_Some b (kept.knows c x k holds within).call (sym at ∙ (ap (slice_get w.calls) same ∙ (kept.knows c x k holds within).at))) ∙ (kept.knows c x k holds within).caller))
 
-    pub moved : (s : Step) (y : Holds) (h' : List Entry) (words' : List ℕ) (f : CallRecord → CallRecord) → IsInner s → Begins w.history h' → IsLegal h' → words' ≡ board_of h'
+    pub moved : (s : Step) (y : Holds) (h' : List Entry) (words' : List ℕ) (f : CallRecord → CallRecord) → IsInner s → IsPrefix w.history h' → IsLegal h' → words' ≡ board_of h'
         → ((a : CallRecord) → time_of (f a) ≡ time_of a) → EntryHasOneCall h' (change_at k f w.calls)
         → ((a : CallRecord) → slice_get w.calls k ≡ Some a → IsExplained h' (f a) (f a).point (f a).reply × Sees h' (f a) y) → in_call y ≡ Some k
         → Keeps (steps ++ s ∷ []) (with_held y c (record w { words = words'; history = h'; calls = change_at k f w.calls }))
@@ -125,7 +127,7 @@ module _ (steps : List Step) (w : MachineState) (kept : Keeps steps w) (c : Call
     pub stayed : (s : Step) (y : Holds) → IsInner s → ((a : CallRecord) → slice_get w.calls k ≡ Some a → Sees w.history a y) → in_call y ≡ Some k → Keeps (steps ++ s ∷ []) (with_held y c w)
     stayed s y inner told inside =
         subst (λ (cs : List CallRecord). Keeps (steps ++ s ∷ []) (with_held y c (record w { calls = cs }))) (change_at_same k w.calls)
-        (moved s y w.history w.words (λ a. a) inner ([], sym (append-nil w.history)) kept.legal kept.words (λ a. refl) (subst (EntryHasOneCall w.history) (sym (change_at_same k w.calls)) kept.once) (λ a at. (kept.explained k a at, told a at)) inside)
+        (moved s y w.history w.words (λ a. a) inner (begins_same w.history) kept.legal kept.words (λ a. refl) (subst (EntryHasOneCall w.history) (sym (change_at_same k w.calls)) kept.once) (λ a at. (kept.explained k a at, told a at)) inside)
 
     -- the end of a call
     pub ended : Sees w.history (kept.knows c x k holds within).call (Answered k) → Keeps (steps ++ End c ∷ []) (with_held Idle c (record w { calls = change_at k (with_end (length w.history)) w.calls }))
@@ -150,7 +152,7 @@ module _ (steps : List Step) (w : MachineState) (kept : Keeps steps w) (c : Call
             | inl is ↦
                 let z_is : Idle ≡ z = same_Some Idle z (sym (held_here w.callers c x Idle holds) ∙ (ap (held_by (set_held Idle c w.callers)) (sym is) ∙ at)) in
                 absurd (none-some i (ap in_call z_is ∙ within_z))
-            | inr not ↦ knows_else w.history calls' Idle ([], sym (append-nil w.history)) (λ e j a other there own. change_at_else k f w.calls j a (other_call e j a other there own) there) d z i not at within_z
+            | inr not ↦ knows_else w.history calls' Idle (begins_same w.history) (λ e j a other there own. change_at_else k f w.calls j a (other_call e j a other there own) there) d z i not at within_z
           ];
           unended = λ i a at none. elim (get-change_at k f w.calls i a at) [
             | inl u ↦ absurd (none-some n (sym none ∙ ap (λ (z : CallRecord). z.ended) (sym u.3)))
@@ -197,7 +199,7 @@ module _ (steps : List Step) (w : MachineState) (kept : Keeps steps w) (c : Call
                 unended = refl;
                 sees = sees;
               }))
-          | inr not ↦ knows_else w.history calls' y ([], sym (append-nil w.history)) (λ e j a other there own. at_longer w.calls (new ∷ []) j a there) d z i not at within_z
+          | inr not ↦ knows_else w.history calls' y (begins_same w.history) (λ e j a other there own. at_longer w.calls (new ∷ []) j a there) d z i not at within_z
         ];
         unended = λ i a at none. elim (at_either w.calls new i a at) [
           | inl u ↦

@@ -19,6 +19,7 @@ use Rattle.ucl_word.specs.Rules.{answer}
 use Rattle.ucl_board.specs.History.{match_after, board_of, MayFollow, sequential_reply}
 use Rattle.ucl_word.proofs.Sequences.{at_end}
 use Rattle.ucl_board.proofs.HistoryLaws.{same_number}
+use Rattle.ucl_board.proofs.Beginnings.{begins_same}
 use Rattle.ucl_steps.proofs.Histories.{number_expected, is_stale, legal_snoc, legal_beginning, match_next, read_back, number_is, squeezed, board_at, board_get, board_next, board_from, version_is}
 use Rattle.ucl_steps.specs.declared.step.Caller.{Caller}
 use Rattle.ucl_steps.specs.declared.step.Caller.TheVariants.{Reporter, Reader}
@@ -79,7 +80,7 @@ module _ (steps : List Step) (w : MachineState) (kept : Keeps steps w) where
       let is : IsSequential h now m.call.caller m.call.call (Refused refusal) =
       subst (λ (z : Caller). IsSequential h now z m.call.call (Refused refusal)) (sym asks.caller) (subst (λ (z : Call). IsSequential h now (Reporter asks.reporter) z (Refused refusal)) (sym asks.call) base) in
       let told : IsExplained h (f m.call) (Some now) (Some (Refused refusal)) = ((begun_before k m.call m.at, le_refl now, unended_none m.call.ended (λ z. now ≤ z) m.unended), is) in
-      moved steps w kept c x holds k within s (Answered k) h w.words f inner ([], sym (append-nil h)) kept.legal kept.words (λ a. refl)
+      moved steps w kept c x holds k within s (Answered k) h w.words f inner (begins_same h) kept.legal kept.words (λ a. refl)
       (once_refused w.calls k f m.call m.at asks.reply h refl kept.once)
       (λ a at. (subst (λ (z : CallRecord). IsExplained h (f z) (Some now) (Some (Refused refusal))) (same_Some m.call a (sym m.at ∙ at)) told, refl)) refl
 
@@ -252,7 +253,7 @@ module _ (steps : List Step) (w : MachineState) (kept : Keeps steps w) where
         subst (λ (z : Call). IsSequential h point m.call.caller z r) (sym o.reads.call) (sequential_reading h point m.call.caller words (version_of words) board version) in
         let late = o.late in
         let told : IsExplained h (f m.call) (Some point) (Some r) = ((o.early, o.late, unended_none m.call.ended (λ z. point ≤ z) m.unended), is) in
-        moved steps w kept c (Checking k words checked point) holds k refl (Second c) (Answered k) h w.words f tt ([], sym (append-nil h)) kept.legal kept.words (λ a. refl)
+        moved steps w kept c (Checking k words checked point) holds k refl (Second c) (Answered k) h w.words f tt (begins_same h) kept.legal kept.words (λ a. refl)
         (once_refused w.calls k f m.call m.at o.reads.reply h refl kept.once)
         (λ a at. (subst (λ (z : CallRecord). IsExplained h (f z) (Some point) (Some r)) (same_Some m.call a (sym m.at ∙ at)) told, refl)) refl
 

@@ -18,11 +18,6 @@ module _ {A : Type 0} where
   at_middle [] x ys = refl
   at_middle (y ∷ xs) x ys = at_middle xs x ys
 
-  pub get_back : (xs ys : List A) (k : ℕ) (x : A) → k < length xs → slice_get (xs ++ ys) k ≡ Some x → slice_get xs k ≡ Some x
-  get_back [] ys k x l e = absurd (omega arith)
-  get_back (y ∷ xs) ys zero x l e = e
-  get_back (y ∷ xs) ys (suc k) x l e = get_back xs ys k x (omega arith) e
-
   pub take_one : (xs : List A) (k : ℕ) (x : A) → slice_get xs k ≡ Some x → take (suc k) xs ≡ take k xs ++ x ∷ []
   take_one [] k x e = absurd (none-some x e)
   take_one (y ∷ xs) zero x e = ap (λ (z : A). z ∷ []) (same_Some y x e)

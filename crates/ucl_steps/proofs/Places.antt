@@ -6,7 +6,8 @@ use Rattle.std.proofs.lemmas.Bool.{cases_lt}
 use Rattle.std.proofs.lemmas.List.{take-append-le, take-append-drop}
 use Rattle.std.proofs.Math.Seq.{take-length}
 use Rattle.ucl_word.proofs.Sequences.{at_longer, at_below, at_end, at_either}
-use Rattle.ucl_steps.proofs.Lists.{get_back, take_one, take_split}
+use Rattle.ucl_board.proofs.Beginnings.{get_back}
+use Rattle.ucl_steps.proofs.Lists.{take_one, take_split}
 use Rattle.ucl_steps.specs.declared.step.Caller.{Caller}
 use Rattle.ucl_steps.specs.declared.step.Call.{Call}
 use Rattle.ucl_steps.specs.declared.step.Step.{Step}

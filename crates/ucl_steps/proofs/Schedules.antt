@@ -11,6 +11,7 @@ use Rattle.ucl_word.specs.declared.event.Accepted as word
 use Rattle.ucl_board.specs.declared.entry.Entry.{Entry}
 use Rattle.ucl_board.specs.History.{board_of, IsLegal, entry_of}
 use Rattle.ucl_board.proofs.HistoryLaws.{beginnings}
+use Rattle.ucl_board.proofs.Beginnings.{begins_length, begins_through, take_beginning}
 use Rattle.ucl_steps.specs.declared.step.Cast.{Cast}
 use Rattle.ucl_steps.specs.declared.step.Caller.{Caller}
 use Rattle.ucl_steps.specs.declared.step.Caller.TheVariants.{Reporter, Reader}
@@ -26,30 +27,12 @@ use Rattle.ucl_board.specs.Log.{Access}
 use Rattle.ucl_steps.specs.Trails.{Follows}
 use Rattle.ucl_steps.specs.CallRuns.{is_caller, own_steps, step_of, accesses_of_step, accesses_left, IsInCast, NoneOwn, entry_by, history_after, point_of, CallAccesses}
 use Rattle.ucl_steps.specs.Interleaving.{CallMade, after_call, AreCallsAlong, steps_of_calls, accesses_of_calls, first_place, last_place, place_after, IsRecorded, AreRecorded}
-use Rattle.ucl_steps.proofs.Lists.{get_back}
 use Rattle.ucl_steps.proofs.ChangedLists.{change_at_here, change_at_else, length-change_at}
 use Rattle.ucl_steps.proofs.Callers.{same_caller, held_here, held_else}
 use Rattle.ucl_steps.proofs.Accesses.{follows_ends}
 use Rattle.ucl_steps.proofs.JoinedRuns.{is_caller_same, is_caller_else, steps_on, steps_append, accesses_append, Amid}
 use Rattle.ucl_steps.proofs.CallsAsSteps.{Through, Frame, inner, caller_of_kind}
 use Rattle.ucl_steps.proofs.Calls.{Finishes, began, within_before, planned}
-
--- lists
-
-pub prefix_take : (s h : List Entry) (k : ℕ) → IsPrefix s h → k ≤ length s → take k h ≡ take k s
-prefix_take s h k p le = ap (take k) (sym p.1) ∙ take-append-le k s p.0 le
-
-pub prefix_get : (s h : List Entry) (k : ℕ) (e : Entry) → IsPrefix s h → k < length s → slice_get h k ≡ Some e → slice_get s k ≡ Some e
-prefix_get s h k e p le at = get_back s p.0 k e le (ap (λ (z : List Entry). slice_get z k) p.1 ∙ at)
-
-pub prefix_long : (s h : List Entry) (k : ℕ) (e : Entry) → IsPrefix s h → slice_get s k ≡ Some e → slice_get h k ≡ Some e
-prefix_long s h k e p at = ap (λ (z : List Entry). slice_get z k) (sym p.1) ∙ at_longer s p.0 k e at
-
-pub prefix_length : (s h : List Entry) → IsPrefix s h → length s ≤ length h
-prefix_length s h p = let l = ap length (sym p.1) ∙ length-append s p.0 in omega arith
-
-pub prefix_trans : (a b c : List Entry) → IsPrefix a b → IsPrefix b c → IsPrefix a c
-prefix_trans a b c p q = (p.0 ++ q.0, sym (append_assoc a p.0 q.0) ∙ (ap (λ (l : List Entry). l ++ q.0) p.1 ∙ q.1))
 
 pub before_prefix : (c : Caller) (call : Call) (reply : Reply) (h : List Entry) → IsPrefix h (history_after c call reply h)
 before_prefix c call (Accepted reply) h = (entry_by c call, refl)
@@ -301,7 +284,7 @@ module _ (cast : Cast) (H : List Entry) (legal : IsLegal H) where
     amid_at : (c : Caller) (k : ℕ) (a : CallRecord) (x : Holds) (w : MachineState) (p q : ℕ) (before : List Entry) → w.history ≡ take p H → w.words ≡ board_of (take p H) → IsPrefix before H → p ≤ length before
         → held_by w.callers c ≡ Some x → slice_get w.calls k ≡ Some a → p ≡ q → Amid nobody c k a x (take q before) w
     amid_at c k a x w p q before history words along le held at same =
-        let place : take p H ≡ take q before = prefix_take before H p along le ∙ ap (λ (z : ℕ). take z before) same in
+        let place : take p H ≡ take q before = take_beginning before H p along le ∙ ap (λ (z : ℕ). take z before) same in
         record {
           history_is = history ∙ place;
           words_are = words ∙ ap board_of place;
@@ -330,10 +313,10 @@ module _ (cast : Cast) (H : List Entry) (legal : IsLegal H) where
           let held : held_by w.callers c ≡ Some Idle = doing.held_is ∙ ap Some f.0 in
           let one : after_step w s ≡ Some w' = ap (λ (o : Option Holds). after_step_holding s o w) held ∙ ap (λ (b : Bool). cond b (Some w') None) call.may in
           let long = length_push w.calls a in
-          let before = prefix_trans m.before (after_call c m) H (before_prefix c m.call m.reply m.before) call.along in
+          let before = begins_through m.before (after_call c m) H (before_prefix c m.call m.reply m.before) call.along in
           let follows = within_before c m.call m.reply m.accesses m.before p call.may call.leaves in
           let low = follows_ends m.before p (length m.before) m.accesses follows in
-          let high = prefix_length m.before H before in
+          let high = begins_length m.before H before in
           let now : length w.history ≡ p = ap length world.history_is ∙ length-take-le p H (omega arith) in
           let plan = planned nobody c m.call m.reply m.accesses m.before p k a cast inside call.may (legal_prefix m.before before) call.leaves in
           world_next p p R steps w w' c s (Within m m.accesses ms) world refl one
@@ -426,7 +409,7 @@ module _ (cast : Cast) (H : List Entry) (legal : IsLegal H) where
             let up = t.0 in
             let within = follows_ends m.before l.at (length m.before) rest t.2 in
             let same : p ≡ l.at = omega arith in
-            let before = prefix_trans m.before (after_call c m) H (before_prefix c m.call m.reply m.before) f.along in
+            let before = begins_through m.before (after_call c m) H (before_prefix c m.call m.reply m.before) f.along in
             let amid = amid_at c k b doing.holds w p l.at m.before world.history_is world.words_are before (omega arith) doing.held_is f.at same in
             let y = through.0 in
             let w' = with_held y c w in
@@ -484,7 +467,7 @@ module _ (cast : Cast) (H : List Entry) (legal : IsLegal H) where
             let t : Follows m.before p (l ∷ []) (length m.before) = subst (λ (z : List Access). Follows m.before p z (length m.before)) split f.follows in
             let x_is : doing.holds ≡ f.holds = subst (λ (z : List Access). Through c doing.holds z f.holds) cut f.through in
             let up = t.2 in
-            let before = prefix_trans m.before (after_call c m) H (before_prefix c m.call m.reply m.before) f.along in
+            let before = begins_through m.before (after_call c m) H (before_prefix c m.call m.reply m.before) f.along in
             let amid = amid_at c k b f.holds w p l.at m.before world.history_is world.words_are before (omega arith) (doing.held_is ∙ ap Some x_is) f.at (sym here) in
             let end = f.finishes w amid in
             let w' = end.0 in

@@ -5,7 +5,8 @@ use Rattle.std.proofs.lemmas.Option.{none-some, same_Some, slice_get-map}
 use Rattle.std.proofs.lemmas.Bool.{cases_order, false≢true}
 use Rattle.std.proofs.lemmas.List.{length-map, map-append}
 use Rattle.ucl_word.proofs.Sequences.{at_below, at_longer, at_end, at_either}
-use Rattle.ucl_steps.proofs.Lists.{get_some, get_back}
+use Rattle.ucl_board.proofs.Beginnings.{get_back}
+use Rattle.ucl_steps.proofs.Lists.{get_some}
 use Rattle.ucl_steps.specs.declared.step.Caller.{Caller}
 use Rattle.ucl_steps.specs.declared.step.Call.{Call}
 use Rattle.ucl_steps.specs.declared.step.Step.{Step}

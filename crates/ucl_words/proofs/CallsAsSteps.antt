@@ -12,6 +12,7 @@ use Rattle.ucl_board.specs.declared.entry.Entry.{Entry}
 use Rattle.ucl_board.specs.declared.reading.Reading.{Reading}
 use Rattle.ucl_board.specs.Fixtures.{IsMatch}
 use Rattle.ucl_board.specs.History.{IsLegal, followed_by, entry_of}
+use Rattle.ucl_board.proofs.Beginnings.{begins_same, take_whole}
 use Rattle.ucl_steps.specs.declared.step.Caller.{Caller}
 use Rattle.ucl_steps.specs.declared.step.Caller.TheVariants.{Reporter, Reader}
 use Rattle.ucl_steps.specs.declared.step.Call.{Call}
@@ -24,7 +25,7 @@ use Rattle.ucl_steps.specs.Trails.{Follows, ReportAccesses, ReadingAccesses}
 use Rattle.ucl_steps.specs.CallRuns.{IsAtRest, NoneOwn, history_after, Leaves}
 use Rattle.ucl_steps.proofs.Calls.{calls_made}
 use Rattle.ucl_pass.specs.Passes.{entries_by}
-use Rattle.ucl_pass.proofs.Lists.{begins_same, by_more, by_own}
+use Rattle.ucl_pass.proofs.Lists.{by_more, by_own}
 use Rattle.ucl_pass.specs.declared.view.View.{View}
 use Rattle.ucl_words.specs.WordMachine.{IsCallerOf, IsMadeByMachine, IsAlong}
 use Rattle.ucl_words.specs.Collects.{Walks}
@@ -69,9 +70,6 @@ none_own : (v : View) (c : Caller) (h : List Entry) → IsCallerOf v c → IsPre
 none_own v (Reporter n) h is p same k e le at own = none_came v.number v.seen h p same k e le at (ap number_in own ∙ is)
 none_own v (Reader n) h is p same k e le at own = true≢false (ap is_reporter own)
 
-front : (s h : List Entry) → IsPrefix s h → take (length s) h ≡ s
-front s h p = ap (take (length s)) (sym p.1) ∙ take-append_seam s p.0
-
 -- a call, by the machine and along what its pass has seen
 pub record IsJoined (v : View) (call : Call) (reply : Reply) (accesses : List Access) (before : List Entry) (w : View) : Type 0 where
   pub machine : IsMadeByMachine v call reply accesses before
@@ -83,7 +81,7 @@ joined : (v w : View) (call : Call) (reply : Reply) (accesses : List Access) (be
     → IsJoined v call reply accesses before w
 joined v w call reply accesses before legal p same leaves = record {
   machine = λ cast c state all inside is rest.
-      calls_made cast c call reply accesses before (length v.seen) state all inside (leaves c is).0 legal (none_own v c before is p same) (leaves c is).1 (subst (λ (h : List Entry). IsAtRest cast h state) (sym (front v.seen before p)) rest);
+      calls_made cast c call reply accesses before (length v.seen) state all inside (leaves c is).0 legal (none_own v c before is p same) (leaves c is).1 (subst (λ (h : List Entry). IsAtRest cast h state) (sym (take_whole v.seen before p)) rest);
   along = λ c is. (
     record { may = (leaves c is).0; along = subst (λ (h : List Entry). IsPrefix h w.seen) (sym (leaves c is).2) (begins_same w.seen); none = none_own v c before is p same; leaves = (leaves c is).1 },
     (leaves c is).2,

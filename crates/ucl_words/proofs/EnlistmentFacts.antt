@@ -4,12 +4,13 @@ use Rattle.std.specs.Prelude.{Option, Some, IfSome}
 use Rattle.std.proofs.lemmas.List.Elements.{All-head, All-tail}
 use mathlib.Core.List.{IsPrefix}
 use Rattle.ucl_board.specs.Log.{Access, Enlisted, Taken, step_taken, accesses_in}
+use Rattle.ucl_board.proofs.Beginnings.{begins_same, begins_through}
 use Rattle.ucl_steps.specs.Trails.{Follows}
 use Rattle.ucl_pass.specs.declared.view.View.{View}
 use Rattle.ucl_pass.specs.Passes.{SeesOn, Continues, Enlistment, FullBoard, Meeting}
 use Rattle.ucl_pass.specs.Views.{pass_view_of, steps_of, count_of, trail_of, Takes, second_of, note_of, told_by}
 use Rattle.ucl_pass.specs.CallSteps.{EnlistSteps, MeetingSteps}
-use Rattle.ucl_pass.proofs.Lists.{begins_same, begins_through, none_by_zero}
+use Rattle.ucl_pass.proofs.Lists.{none_by_zero}
 use Rattle.ucl_pass.proofs.Calls.{takes_none, takes_count, one_more}
 use Rattle.ucl_words.specs.WordSteps.{LoadsEnlisted, EnlistMissed, EnlistWon}
 use Rattle.ucl_words.specs.WordCalls.{HasTrail, IsSteady, KeepsTrail}

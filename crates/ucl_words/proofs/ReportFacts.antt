@@ -20,10 +20,10 @@ use Rattle.ucl_board.specs.History.{board_of, IsLegal, followed_by, entry_of, se
 use Rattle.ucl_board.proofs.HistoryLaws.{beginnings}
 use Rattle.ucl_board.proofs.Histories.{word_after, game_after, next_board, accepted_reply, refused_reply}
 use Rattle.ucl_board.specs.Log.{Look, Swap, Access, access, Match, Taken, step_taken}
+use Rattle.ucl_board.proofs.Beginnings.{begins_length, begins_more, begins_same, begins_through}
 use Rattle.ucl_steps.specs.Trails.{Follows, ReportAccesses}
 use Rattle.ucl_steps.proofs.Accesses.{follows_longer, follows_wider, follows_append, follows_one, report_whole}
 use Rattle.ucl_pass.specs.Passes.{Continues, AcceptedReport, RefusedReport}
-use Rattle.ucl_pass.proofs.Lists.{begins_same, begins_more, begins_through, begins_length}
 use Rattle.ucl_pass.specs.declared.view.View.{View}
 use Rattle.ucl_pass.specs.Views.{pass_view_of, trail_of, Takes}
 use Rattle.ucl_pass.proofs.Calls.{takes_on, takes_count}
