@@ -21,7 +21,7 @@ use Rattle.ucl_runs.proofs.Unsigned.{screen_of_script}
 
 -- The output of a night. --
 
-pub looked : (profile : Profile) (k m : Known) (readings : ℕ) (roster : List NamedClub) (group : ℕ) (last : Option (List ℕ)) → HasShown profile k m readings roster group last → HasLooked profile readings roster group last
+pub looked : (profile : Profile) (k m : PassView) (readings : ℕ) (roster : List NamedClub) (group : ℕ) (last : Option (List ℕ)) → HasShown profile k m readings roster group last → HasLooked profile readings roster group last
 looked profile k m readings roster group last h = record { seen = m.seen; versions = m.shown; legal = h.legal; many = h.many; high = h.high; last_is = h.last_is }
 
 pub closing-of : (profile : Profile) (settled : Reading) (seen : List Entry) (roster : List NamedClub) (group : ℕ) (closing : List ℕ) → settled ≡ snapshot_at seen settled.version
