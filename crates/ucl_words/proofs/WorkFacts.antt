@@ -27,7 +27,7 @@ use Rattle.ucl_pass.specs.CallSteps.{IsOnEnlisted}
 use Rattle.ucl_pass.proofs.LogFacts.{view_at}
 use Rattle.ucl_words.specs.WordRule.{TableKeepsOneHistory}
 use Rattle.ucl_words.specs.WordMachine.{report_reply}
-use Rattle.ucl_words.specs.WordCalls.{steps_with, entry_added, ReportSteps, ReadingSteps, KeepsTrail}
+use Rattle.ucl_words.specs.WordCalls.{steps_with, ReportSteps, ReadingSteps, KeepsTrail}
 use Rattle.ucl_words.specs.Laws.{HaveDone, IsRunOfBoard, BoardsAreRuns, AddsCall, CallsAddWork}
 
 pub boards_run : BoardsAreRuns
@@ -84,10 +84,6 @@ report_now : (call : EventCall) (reply : Result Accepted Refusal) (ms : List Acc
 report_now call (Ok reply) ms now m = subst (ReportAccesses call (Ok reply) ms) (sym m.last ∙ ap (place_after (replies.Accepted reply)) (sym m.accesses)) m
 report_now call (Err refusal) ms now m = subst (ReportAccesses call (Err refusal) ms) (refused_now call refusal ms now m) m
 
-entry_same : (n : ℕ) (call : EventCall) (reply : Result Accepted Refusal) → entry_added n call reply ≡ entry_made n (calls.Event call) (report_reply reply)
-entry_same n call (Ok reply) = refl
-entry_same n call (Err refusal) = refl
-
 reports : (v w : View) (work : Work) (call : EventCall) (reply : Result Accepted Refusal) → IsWork v.own work → work.number ≡ v.number → work.begun ≡ None → ReportSteps v call reply w → AddsCall work (calls.Event call) (report_reply reply) w
 reports v w work call reply is number none steps =
     let f : Finished = record { call = calls.Event call; reply = report_reply reply; accesses = steps.accesses } in
@@ -95,9 +91,9 @@ reports v w work call reply is number none steps =
       added = f;
       call_is = refl;
       reply_is = refl;
-      work_is = adds v w work f (entry_added v.number call reply) is none
+      work_is = adds v w work f (entry_made v.number (calls.Event call) (report_reply reply)) is none
           (record { may = subst (λ (n : ℕ). MayAsk n (calls.Event call)) (sym number) steps.may; accesses = report_now call reply steps.accesses (length w.seen) steps.report })
-          (entry_same v.number call reply ∙ ap (λ (n : ℕ). entry_made n (calls.Event call) (report_reply reply)) (sym number))
+          (ap (λ (n : ℕ). entry_made n (calls.Event call) (report_reply reply)) (sym number))
           steps.leaves.takes.own;
     }
 

@@ -1,15 +1,14 @@
 -- What a call of the word board says of the steps that it takes, one by one: the pass was v and is w.
-use Rattle.std.specs.Prelude.{◌≡◌, ℕ, ◌+◌, ◌≤◌, List, [], ◌∷◌, ◌++◌, length, take, Option, Some, None, Result, Ok, Err}
+use Rattle.std.specs.Prelude.{◌≡◌, ℕ, ◌+◌, ◌≤◌, List, [], ◌++◌, map, length, take, Option, None, Result}
 use Rattle.ucl_word.specs.declared.event.EventCall.{EventCall}
 use Rattle.ucl_word.specs.declared.event.Accepted.{Accepted}
 use Rattle.ucl_word.specs.declared.refusal.Refusal.{Refusal}
 use Rattle.ucl_board.specs.declared.entry.Entry.{Entry}
 use Rattle.ucl_board.specs.declared.reading.Reading.{Reading}
-use Rattle.ucl_board.specs.History.{entry_of}
 use Rattle.ucl_board.specs.Log.{Access, Match, Taken, step_taken}
 use Rattle.ucl_steps.specs.declared.step.Call.TheVariants as calls
 use Rattle.ucl_steps.specs.declared.trace.Reply.TheVariants as replies
-use Rattle.ucl_steps.specs.LogRuns.{MayAsk}
+use Rattle.ucl_steps.specs.LogRuns.{Done, MayAsk, entry_made, with_entry}
 use Rattle.ucl_steps.specs.Trails.{Follows, ReportAccesses, decided_at, most_tries, ReadingAccesses}
 use Rattle.ucl_pass.specs.declared.view.View.{View}
 use Rattle.ucl_pass.specs.Passes.{IsSound}
@@ -27,11 +26,13 @@ pub record IsSteady (v : View) : Type 0 where
   pub told : v.told ≡ []
   pub trail : HasTrail v
 
+-- a step on a match word, with the entry that it added
+abbrev pub step_done : Done → Taken
+step_done d = step_taken (Match d.0.kind d.0.game d.0.found) d.0.at d.1
+
 -- the steps of accesses, of which the last may have added an entry
 abbrev pub steps_with : Option Entry → List Access → List Taken
-steps_with entry [] = []
-steps_with entry (m ∷ []) = step_taken (Match m.kind m.game m.found) m.at entry ∷ []
-steps_with entry (m ∷ n ∷ ms) = step_taken (Match m.kind m.game m.found) m.at None ∷ steps_with entry (n ∷ ms)
+steps_with entry accesses = map step_done (with_entry entry accesses)
 
 -- the steps of a call are on match words alone: each leaves one access, these are between what was seen before and what is seen after, and
 -- the last may have added an entry
@@ -42,16 +43,11 @@ pub record LeavesAccesses (v : View) (accesses : List Access) (entry : Option En
   pub follows : Follows w.seen (length v.seen) accesses (length w.seen)
   pub whole_trail : HasTrail w
 
--- the entry of an accepted event
-abbrev pub entry_added : ℕ → EventCall → Result Accepted Refusal → Option Entry
-entry_added number call (Ok reply) = Some (entry_of (number, call))
-entry_added number call (Err refusal) = None
-
 -- the steps of a report, each of them a step of the machine
 pub record ReportSteps (v : View) (call : EventCall) (reply : Result Accepted Refusal) (w : View) : Type 0 where
   pub may : MayAsk v.number (calls.Event call)
   pub accesses : List Access
-  pub leaves : LeavesAccesses v accesses (entry_added v.number call reply) w
+  pub leaves : LeavesAccesses v accesses (entry_made v.number (calls.Event call) (report_reply reply)) w
   pub report : ReportAccesses call reply accesses (length w.seen)
   pub machine : IsMadeByMachine v (calls.Event call) (report_reply reply) accesses (take (decided_at reply (length w.seen)) w.seen)
   pub along : IsAlong v (calls.Event call) (report_reply reply) accesses (take (decided_at reply (length w.seen)) w.seen) w
