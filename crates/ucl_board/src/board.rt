@@ -2,7 +2,6 @@
 
 ghost use Rattle.std.specs.Prelude.{◌≡◌, ℕ, ◌+◌, ◌-◌, ◌≤◌, List, [], ◌↔◌, Ok, IsOk, IfOk, IfErr};
 ghost use Rattle.ucl_word.specs.Record.{IsValid};
-ghost use Rattle.ucl_word.specs.Layout.{IsWord, record_at};
 ghost use Rattle.ucl_word.specs.Rules.{reply_of};
 ghost use Rattle.ucl_board.specs.declared.entry.Entry.{Entry};
 ghost use Rattle.ucl_board.specs.Words.{AreWords, AreReadable, AreReadAs, IsFirstBad, game_at, greatest_version, version_of};
@@ -11,8 +10,8 @@ ghost use Rattle.ucl_board.specs.History.{IsLegal, board_of, board_after, sequen
 use std::marker::Model;
 use thiserror::Error;
 use ucl_word::{
-    Accepted, EventCall, MatchNo, MatchRecord, Refusal, ReporterNo, apply, migrate, number_of,
-    pack, unpack,
+    Accepted, EventCall, MatchNo, MatchRecord, Refusal, ReporterNo, migrate, next_word, number_of,
+    pack, record_of,
 };
 
 /// 10: the first of twelve words that is the packing of no valid record, in neither layout.
@@ -40,18 +39,6 @@ impl Model for Board {
     ghost invariant = { λ b. AreWords b.words };
 
     ghost inverse = { λ words. record { words = words } };
-}
-
-/// The record of a word that a valid record has.
-fn record_of(word: u64) -> MatchRecord
-    requires { IsWord word }
-    ensures value { result ≡ record_at word }
-    ensures valid { IsValid result }
-{
-    match unpack(word) {
-        Ok(game) => game,
-        Err(_) => unreachable!(),
-    }
 }
 
 impl Board {
@@ -136,15 +123,10 @@ impl Board {
         ensures counted { (history : List Entry) → IsLegal history → board_of history ≡ self.old → let next = followed_by history (entry_of (reporter, call.now)) in IfOk result (λ a. (self.new ≡ board_of next) × IsLegal next) }
     {
         let at = usize::from(call.game.get() - 1);
-        let before = record_of(self.words[at]);
-        match apply(&before, reporter, call.expected, call.kind) {
-            Ok(next) => {
-                self.words[at] = pack(&next);
-                Ok(Accepted {
-                    number: next.number,
-                })
-            }
-            Err(refusal) => Err(refusal),
-        }
+        let next = next_word(self.words[at], reporter, call.expected, call.kind)?;
+        self.words[at] = next;
+        Ok(Accepted {
+            number: number_of(next),
+        })
     }
 }

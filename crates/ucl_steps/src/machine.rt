@@ -2,8 +2,6 @@
 
 ghost use Rattle.std.specs.Prelude.{◌≡◌, ◌<◌, [], length, IfOk, IsSome};
 ghost use Rattle.std.specs.Option.{option_map};
-ghost use Rattle.ucl_word.specs.Layout.{IsWord, record_at};
-ghost use Rattle.ucl_word.specs.Record.{IsValid};
 ghost use Rattle.ucl_board.specs.Words.{AreWords, version_of};
 ghost use Rattle.ucl_steps.specs.declared.step.Step.TheVariants.{Begin, Look, Swap, First, Second, End};
 ghost use Rattle.ucl_steps.specs.Machine.{Collecting, initial_state, held_by, with_held, after_reply};
@@ -14,7 +12,7 @@ use crate::step::{Call, Caller, Cast, Step};
 use crate::trace::{CallRecord, Reply, Trace};
 use std::alloc::{AllocError, Global};
 use ucl_board::{Board, Entry, Reading};
-use ucl_word::{Accepted, EventCall, MatchRecord, Refusal, apply, pack, unpack};
+use ucl_word::{Accepted, EventCall, Refusal, next_word, number_of};
 
 /// What a caller holds between two of its steps. `call` is the place of its call among the calls.
 #[derive(Clone, Copy)]
@@ -73,18 +71,6 @@ pub(crate) struct Machine {
     calls: Vec<CallRecord>,
     reporters: Vec<Held>,
     readers: Vec<Held>,
-}
-
-/// The record of a word that a valid record has.
-fn record_of(word: u64) -> MatchRecord
-    requires { IsWord word }
-    ensures value { result ≡ record_at word }
-    ensures valid { IsValid result }
-{
-    match unpack(word) {
-        Ok(game) => game,
-        Err(_) => unreachable!(),
-    }
 }
 
 /// The reading of twelve words of valid records.
@@ -192,14 +178,14 @@ impl Machine {
             return false;
         };
         let old = self.words[usize::from(event.game.get() - 1)];
-        match apply(&record_of(old), *reporter, event.expected, event.kind) {
-            Ok(next) => self.hold(
+        match next_word(old, *reporter, event.expected, event.kind) {
+            Ok(new) => self.hold(
                 caller,
                 Held::Holding {
                     call: *call,
                     event: *event,
                     old,
-                    new: pack(&next),
+                    new,
                 },
             ),
             Err(refusal) => self.reply(caller, *call, self.now(), Reply::Refused(refusal)),
@@ -236,10 +222,10 @@ impl Machine {
                 kind: event.kind,
             })?;
             self.words[at] = *new;
-            let number = record_of(*new).number;
+            let number = number_of(*new);
             self.reply(caller, *call, point, Reply::Accepted(Accepted { number }));
         } else {
-            let found = record_of(self.words[at]).number;
+            let found = number_of(self.words[at]);
             let stale = Refusal::Stale { found };
             self.reply(caller, *call, point, Reply::Refused(stale));
         }

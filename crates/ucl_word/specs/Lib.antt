@@ -6,3 +6,4 @@ pub mod Layout
 pub mod Migration
 pub mod Laws
 pub mod Texts
+pub mod Next

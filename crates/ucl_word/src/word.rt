@@ -11,29 +11,29 @@ use crate::refusal::BadWord;
 // The lowest bit of each field, and how many bits it has. The event number is the lowest field.
 const NUMBER_WIDTH: u32 = 12;
 
-const STATE_LOW: u32 = 12;
+pub(crate) const STATE_LOW: u32 = 12;
 
 pub(crate) const STATE_WIDTH: u32 = 2;
 
-const HOME_GOALS_LOW: u32 = 14;
+pub(crate) const HOME_GOALS_LOW: u32 = 14;
 
-const AWAY_GOALS_LOW: u32 = 20;
+pub(crate) const AWAY_GOALS_LOW: u32 = 20;
 
 pub(crate) const GOALS_WIDTH: u32 = 6;
 
-const HOME_YELLOWS_LOW: u32 = 26;
+pub(crate) const HOME_YELLOWS_LOW: u32 = 26;
 
-const AWAY_YELLOWS_LOW: u32 = 32;
+pub(crate) const AWAY_YELLOWS_LOW: u32 = 32;
 
 pub(crate) const YELLOWS_WIDTH: u32 = 6;
 
-const HOME_EXPULSIONS_LOW: u32 = 38;
+pub(crate) const HOME_EXPULSIONS_LOW: u32 = 38;
 
-const AWAY_EXPULSIONS_LOW: u32 = 43;
+pub(crate) const AWAY_EXPULSIONS_LOW: u32 = 43;
 
 pub(crate) const EXPULSIONS_WIDTH: u32 = 5;
 
-const REPORTER_LOW: u32 = 48;
+pub(crate) const REPORTER_LOW: u32 = 48;
 
 pub(crate) const REPORTER_WIDTH: u32 = 8;
 
@@ -105,6 +105,18 @@ pub fn number_of(word: u64) -> u16
     field(word, 0, NUMBER_WIDTH) as u16
 }
 
+/// The state in a word, where 3 stands for finished.
+#[tactic(auto, unfolding(crate::specs::Layout::record_at))]
+pub(crate) fn state_in(word: u64) -> State
+    ensures { result ≡ (record_at word).state }
+{
+    match field(word, STATE_LOW, STATE_WIDTH) {
+        0 => State::Scheduled,
+        1 => State::InPlay,
+        _ => State::Finished,
+    }
+}
+
 pub(crate) fn state_of(code: u64) -> Option<State>
     ensures { MatchOption result (2 < code) (λ s. code ≡ state_code s) }
 {
@@ -150,5 +162,24 @@ pub fn unpack(word: u64) -> Result<MatchRecord, BadWord>
         Ok(game)
     } else {
         Err(BadWord)
+    }
+}
+
+/// The record of a word that a valid record has. The word is not looked at again, as `unpack` does.
+pub fn record_of(word: u64) -> MatchRecord
+    requires { IsWord word }
+    ensures value { result ≡ record_at word }
+    ensures valid { IsValid result }
+{
+    MatchRecord {
+        number: number_of(word),
+        state: state_in(word),
+        home_goals: field(word, HOME_GOALS_LOW, GOALS_WIDTH) as u8,
+        away_goals: field(word, AWAY_GOALS_LOW, GOALS_WIDTH) as u8,
+        home_yellows: field(word, HOME_YELLOWS_LOW, YELLOWS_WIDTH) as u8,
+        away_yellows: field(word, AWAY_YELLOWS_LOW, YELLOWS_WIDTH) as u8,
+        home_expulsions: field(word, HOME_EXPULSIONS_LOW, EXPULSIONS_WIDTH) as u8,
+        away_expulsions: field(word, AWAY_EXPULSIONS_LOW, EXPULSIONS_WIDTH) as u8,
+        reporter: field(word, REPORTER_LOW, REPORTER_WIDTH) as u8,
     }
 }

@@ -10,9 +10,10 @@ use Rattle.ucl_word.specs.declared.event.Accepted.{Accepted}
 use Rattle.ucl_word.specs.declared.refusal.Refusal.{Refusal}
 use Rattle.ucl_word.specs.declared.refusal.Refusal.TheVariants.{Stale}
 use Rattle.ucl_word.specs.Rules.{refusal_of, after, reply_of}
-use Rattle.ucl_word.specs.Layout.{word_of, record_at}
+use Rattle.ucl_word.specs.Layout.{record_at, IsWord}
 use Rattle.ucl_word.specs.Counts.{MatchEntry, counted_match, entered, IsLegalMatch}
 use Rattle.ucl_word.proofs.AcceptedEvents.{after_number}
+use Rattle.ucl_word.proofs.Words.{word_packed}
 use Rattle.ucl_board.specs.declared.entry.Entry.{Entry}
 use Rattle.ucl_board.specs.Fixtures.{IsMatch}
 use Rattle.ucl_board.specs.Words.{word_at}
@@ -33,14 +34,14 @@ use Rattle.ucl_words.specs.WordCalls.{HasTrail, IsSteady, steps_with, ReportStep
 use Rattle.ucl_words.proofs.StepRuns.{trail_on, takes_trail, walks_on, walks_load}
 use Rattle.ucl_words.proofs.CallsAsSteps.{refused_joined, accepted_joined}
 
--- the word of the record with one event more, whatever the history is
-pub next_word : (game reporter : ℕ) (kind : Kind) (loaded next : ℕ) (before m : MatchRecord) → IsMatch game → before ≡ record_at loaded → next ≡ word_of m
-    → ((es : List MatchEntry) → IsLegalMatch es → counted_match es ≡ before → (m ≡ counted_match (entered es reporter kind)) × IsLegalMatch (entered es reporter kind))
+-- the word with one event more, whatever the history is
+pub next_after : (game reporter : ℕ) (kind : Kind) (loaded next : ℕ) → IsMatch game → IsWord next
+    → ((es : List MatchEntry) → IsLegalMatch es → counted_match es ≡ record_at loaded → (record_at next ≡ counted_match (entered es reporter kind)) × IsLegalMatch (entered es reporter kind))
     → IsNextWord (record { game = game; reporter = reporter; kind = kind }) loaded next
-next_word game reporter kind loaded next before m is was packed counted h legal word =
-    let there : before ≡ record_at (word_at (board_of h) game) = was ∙ ap record_at (sym word) in
-    let made = next_board h (board_of h) game reporter kind m legal refl is (λ es legal_es same. counted es legal_es (same ∙ sym there)) in
-    (ap (λ (x : ℕ). set (board_of h) (game - 1) x) packed ∙ made.0, made.1)
+next_after game reporter kind loaded next is valid counted h legal word =
+    let there : record_at loaded ≡ record_at (word_at (board_of h) game) = ap record_at (sym word) in
+    let made = next_board h (board_of h) game reporter kind (record_at next) legal refl is (λ es legal_es same. counted es legal_es (same ∙ sym there)) in
+    (ap (λ (x : ℕ). set (board_of h) (game - 1) x) (sym (word_packed next valid)) ∙ made.0, made.1)
 
 -- a load, for a report
 module _ (v u : View) (call : EventCall) (loaded : ℕ) (is : IsMatch call.game) (me : (0 < v.number) × (v.number ≤ 255)) (steady : IsSteady v) (looked : Loads Look call.game v loaded u) where
@@ -181,13 +182,10 @@ module _ (v u : View) (call : EventCall) (loaded : ℕ) (is : IsMatch call.game)
       }
 
 -- what the rules accept
-pub accepts_by : (word number : ℕ) (reporter : ℕ) (call : EventCall) (before m : MatchRecord) → before ≡ record_at word → refusal_of before call.expected call.kind ≡ None → m ≡ after before reporter call.kind → number ≡ m.number
+pub accepts_by : (word next number reporter : ℕ) (call : EventCall) → refusal_of (record_at word) call.expected call.kind ≡ None → record_at next ≡ after (record_at word) reporter call.kind → number ≡ (record_at next).number
     → reply_of (record_at word) call ≡ Ok (record { number = number })
-accepts_by word number reporter call before m was none is said =
-    sym (accepted_reply before (record_at word) call number was none (said ∙ (ap (λ (x : MatchRecord). x.number) is ∙ after_number before reporter call.kind)))
-
-pub refused_by : (word : ℕ) (call : EventCall) (refusal : Refusal) (before : MatchRecord) → before ≡ record_at word → refusal_of before call.expected call.kind ≡ Some refusal → refusal_of (record_at word) call.expected call.kind ≡ Some refusal
-refused_by word call refusal before is refused = subst (λ (m : MatchRecord). refusal_of m call.expected call.kind ≡ Some refusal) is refused
+accepts_by word next number reporter call none is said =
+    sym (accepted_reply (record_at word) (record_at word) call number refl none (said ∙ (ap (λ (x : MatchRecord). x.number) is ∙ after_number (record_at word) reporter call.kind)))
 
 -- the entry under the number of the pass
 pub as_entry : (v u z : View) (call : EventCall) (reporter found : ℕ) → v.number ≡ reporter → ExchangeWon (record { game = call.game; reporter = reporter; kind = call.kind }) u found z → ExchangeWon (entry_of (v.number, call)) u found z

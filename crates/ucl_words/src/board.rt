@@ -2,8 +2,6 @@
 
 ghost use Rattle.std.specs.Prelude.{◌≡◌, ◌≢◌, ◌+◌, ◌<◌, ◌≤◌, ◌++◌, ◌∷◌, [], length, IfOk, IfErr, IfSome, IfNone, MatchResult, MatchBool};
 ghost use Rattle.atomic_table.specs.Seated.{TableId};
-ghost use Rattle.ucl_word.specs.Record.{IsValid};
-ghost use Rattle.ucl_word.specs.Layout.{IsWord, record_at};
 ghost use Rattle.ucl_board.specs.Fixtures.{IsMatch};
 ghost use Rattle.ucl_board.specs.Words.{AreWords, version_of};
 ghost use Rattle.ucl_board.specs.Log as trails;
@@ -26,8 +24,7 @@ use std::marker::Model;
 use ucl_board::{Board, Entry, Reading};
 use ucl_pass::TooManyReporters;
 use ucl_word::{
-    Accepted, EventCall, MatchNo, MatchRecord, OutOfMemory, Refusal, ReporterNo, apply, pack,
-    unpack,
+    Accepted, EventCall, MatchNo, OutOfMemory, Refusal, ReporterNo, next_word, number_of,
 };
 
 /// Which word of the table is the number of enlisted reporters; words 1 to 12 are the matches.
@@ -62,18 +59,6 @@ fn fresh_words() -> [u64; 13]
     let mut words = [0; 13];
     words[1..].copy_from_slice(&Board::fresh().words());
     words
-}
-
-/// The record of a word that a valid record has.
-fn record_of(word: u64) -> MatchRecord
-    requires { IsWord word }
-    ensures value { result ≡ record_at word }
-    ensures valid { IsValid result }
-{
-    match unpack(word) {
-        Ok(game) => game,
-        Err(_) => unreachable!(),
-    }
 }
 
 /// The reading of twelve words, whose board they are.
@@ -145,23 +130,20 @@ impl WordBoard {
         ensures steps { ReportSteps seat.old.me.0 call.now result seat.new.me.0 }
     {
         let loaded = self.look(seat, call.game);
-        let next = match apply(&record_of(loaded), reporter, call.expected, call.kind) {
-            Ok(next) => next,
-            Err(refusal) => return Err(refusal),
-        };
+        let next = next_word(loaded, reporter, call.expected, call.kind)?;
         let entry = Entry {
             game: call.game,
             reporter,
             kind: call.kind,
         };
-        let found = self.swap(seat, loaded, pack(&next), entry);
+        let found = self.swap(seat, loaded, next, entry);
         if found == loaded {
             Ok(Accepted {
-                number: next.number,
+                number: number_of(next),
             })
         } else {
             Err(Refusal::Stale {
-                found: record_of(found).number,
+                found: number_of(found),
             })
         }
     }

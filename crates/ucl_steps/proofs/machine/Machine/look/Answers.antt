@@ -10,8 +10,8 @@ returns-in_default-caller c =
     let is : c.held-held.result ≡ Some (has.Wanting c.in-Some-Wanting.call c.in-Some-Wanting.event) = search rules in
     absurd (reporter_wants (state_of c.args.self.now) c.requires c.args.caller c.held-held.result c.held-held.ensures c.in_default-caller.field-0 c.in-Some-Wanting.call c.in-Some-Wanting.event c.in_default-caller.is is)
 
-pub record_of-requires : goal.record_of-requires
-record_of-requires c =
+pub next_word-requires : goal.next_word-requires
+next_word-requires c =
     let is : c.held-held.result ≡ Some (has.Wanting c.in-Some-Wanting.call c.in-Some-Wanting.event) = search rules in
     subst (λ (n : ℕ). IsWord (get_or c.args.self.now.words n 0)) (sym (c.from.ensures ∙ ap (λ (n : ℕ). n - 1) c.get.ensures.value))
     (wanted_word (state_of c.args.self.now) c.requires c.args.caller c.held-held.result c.held-held.ensures c.in-Some-Wanting.call c.in-Some-Wanting.event is)

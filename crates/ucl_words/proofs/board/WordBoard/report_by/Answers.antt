@@ -1,45 +1,41 @@
-use Rattle.std.proofs.Common.{refl, ap}
-use Rattle.ucl_word.specs.declared.record.MatchRecord.{MatchRecord}
+use Rattle.std.proofs.Common.{◌≡◌, ℕ, Err, refl, ap, rules}
+use Rattle.ucl_word.specs.Layout.{record_at}
 use Rattle.ucl_word.specs.declared.refusal.Refusal.TheVariants.{Stale}
 use Rattle.ucl_words.proofs.StepRuns.{found_valid, walks_continue}
-use Rattle.ucl_words.proofs.ReportFacts.{next_word, look_walks, look_steps, look_refuses, miss_walks, miss_steps, miss_refuses, won_steady, won_continues, won_steps, won_accepts, accepts_by, refused_by, as_entry, me_in}
+use Rattle.ucl_words.proofs.ReportFacts.{next_after, look_walks, look_steps, look_refuses, miss_walks, miss_steps, miss_refuses, won_steady, won_continues, won_steps, won_accepts, accepts_by, as_entry, me_in}
 use Rattle.ucl_words.proofs.board.WordBoard.report_by.Goals as goal
 
-pub record_of-requires : goal.record_of-requires
-record_of-requires c =
+pub next_word-requires : goal.next_word-requires
+next_word-requires c =
     let u = c.look-loaded.new.seat.me.0 in
     let said = c.look-loaded.ensures in
     found_valid u.seen c.args.call.now.game c.look-loaded.result said.looks.loads.sees.goes.legal said.game said.looks.loads.sees.there.1
 
-pub returns-in-Err-clause-steady : goal.returns-in-Err-clause-steady
-returns-in-Err-clause-steady c =
+pub returns-in_err-next-clause-steady : goal.returns-in_err-next-clause-steady
+returns-in_err-next-clause-steady c =
     let said = c.look-loaded.ensures in
     (look_walks c.args.seat.now.me.0 c.look-loaded.new.seat.me.0 c.args.call.now c.look-loaded.result said.game (me_in c.args.seat.now.me.0 c.args.reporter c.requires.me) c.requires.steady said.looks).steady
 
-pub returns-in-Err-clause-refused : goal.returns-in-Err-clause-refused
-returns-in-Err-clause-refused c =
+pub returns-in_err-next-clause-refused : goal.returns-in_err-next-clause-refused
+returns-in_err-next-clause-refused c =
     let said = c.look-loaded.ensures in
     let call = c.args.call.now in
-    look_refuses c.args.seat.now.me.0 c.look-loaded.new.seat.me.0 call c.look-loaded.result said.game (me_in c.args.seat.now.me.0 c.args.reporter c.requires.me) c.requires.steady said.looks c.in-Err.refusal
-    (refused_by c.look-loaded.result call c.in-Err.refusal c.record_of.result c.record_of.ensures.value c.in-Err.ensures.refused)
+    let refusal = c.in_err-next.field-0.0 in
+    let is : c.from_residual.result ≡ Err refusal = search rules in
+    rw is (look_refuses c.args.seat.now.me.0 c.look-loaded.new.seat.me.0 call c.look-loaded.result said.game (me_in c.args.seat.now.me.0 c.args.reporter c.requires.me) c.requires.steady said.looks refusal c.in_err-next.ensures.refused)
 
-pub returns-in-Err-clause-steps : goal.returns-in-Err-clause-steps
-returns-in-Err-clause-steps c =
+pub returns-in_err-next-clause-steps : goal.returns-in_err-next-clause-steps
+returns-in_err-next-clause-steps c =
     let said = c.look-loaded.ensures in
     let call = c.args.call.now in
-    look_steps c.args.seat.now.me.0 c.look-loaded.new.seat.me.0 call c.look-loaded.result said.game (me_in c.args.seat.now.me.0 c.args.reporter c.requires.me) c.requires.steady said.looks c.in-Err.refusal
-    (refused_by c.look-loaded.result call c.in-Err.refusal c.record_of.result c.record_of.ensures.value c.in-Err.ensures.refused)
+    let refusal = c.in_err-next.field-0.0 in
+    let is : c.from_residual.result ≡ Err refusal = search rules in
+    rw is (look_steps c.args.seat.now.me.0 c.look-loaded.new.seat.me.0 call c.look-loaded.result said.game (me_in c.args.seat.now.me.0 c.args.reporter c.requires.me) c.requires.steady said.looks refusal c.in_err-next.ensures.refused)
 
 pub swap-found-requires-clause-next : goal.swap-found-requires-clause-next
 swap-found-requires-clause-next c =
     let call = c.args.call.now in
-    next_word call.game c.args.reporter call.kind c.look-loaded.result c.pack.result c.record_of.result c.in-Ok.next c.look-loaded.ensures.game c.record_of.ensures.value c.pack.ensures c.in-Ok.ensures.counted
-
-pub record_of-requires-else-found-loaded : goal.record_of-requires-else-found-loaded
-record_of-requires-else-found-loaded c =
-    let z = c.swap-found.new.seat.me.0 in
-    let missed = c.swap-found.ensures.missed c.if-found-loaded.false in
-    found_valid z.seen c.args.call.now.game c.swap-found.result missed.loads.sees.goes.legal c.look-loaded.ensures.game missed.loads.sees.there.1
+    next_after call.game c.args.reporter call.kind c.look-loaded.result c.in_ok-next.next c.look-loaded.ensures.game c.in_ok-next.ensures.valid c.in_ok-next.ensures.counted
 
 pub returns-then-found-loaded-clause-steady : goal.returns-then-found-loaded-clause-steady
 returns-then-found-loaded-clause-steady c =
@@ -49,8 +45,8 @@ returns-then-found-loaded-clause-steady c =
     let call = c.args.call.now in
     let said = c.look-loaded.ensures in
     let won = as_entry v u z call c.args.reporter c.swap-found.result c.requires.me.2 (c.swap-found.ensures.won c.if-found-loaded.true) in
-    let accepts = accepts_by c.look-loaded.result c.in-Ok.next.number c.args.reporter call c.record_of.result c.in-Ok.next c.record_of.ensures.value c.in-Ok.ensures.accepted.0 c.in-Ok.ensures.accepted.1 refl in
-    won_steady v u call c.look-loaded.result said.game (me_in c.args.seat.now.me.0 c.args.reporter c.requires.me) c.requires.steady said.looks (record { number = c.in-Ok.next.number }) accepts z c.swap-found.result c.if-found-loaded.true won
+    let accepts = accepts_by c.look-loaded.result c.in_ok-next.next c.number_of.result c.args.reporter call c.in_ok-next.ensures.accepted.0 c.in_ok-next.ensures.record c.number_of.ensures.value in
+    won_steady v u call c.look-loaded.result said.game (me_in c.args.seat.now.me.0 c.args.reporter c.requires.me) c.requires.steady said.looks (record { number = c.number_of.result }) accepts z c.swap-found.result c.if-found-loaded.true won
 
 pub returns-then-found-loaded-clause-always : goal.returns-then-found-loaded-clause-always
 returns-then-found-loaded-clause-always c =
@@ -60,8 +56,8 @@ returns-then-found-loaded-clause-always c =
     let call = c.args.call.now in
     let said = c.look-loaded.ensures in
     let won = as_entry v u z call c.args.reporter c.swap-found.result c.requires.me.2 (c.swap-found.ensures.won c.if-found-loaded.true) in
-    let accepts = accepts_by c.look-loaded.result c.in-Ok.next.number c.args.reporter call c.record_of.result c.in-Ok.next c.record_of.ensures.value c.in-Ok.ensures.accepted.0 c.in-Ok.ensures.accepted.1 refl in
-    won_continues v u call c.look-loaded.result said.game (me_in c.args.seat.now.me.0 c.args.reporter c.requires.me) c.requires.steady said.looks (record { number = c.in-Ok.next.number }) accepts z c.swap-found.result c.if-found-loaded.true won
+    let accepts = accepts_by c.look-loaded.result c.in_ok-next.next c.number_of.result c.args.reporter call c.in_ok-next.ensures.accepted.0 c.in_ok-next.ensures.record c.number_of.ensures.value in
+    won_continues v u call c.look-loaded.result said.game (me_in c.args.seat.now.me.0 c.args.reporter c.requires.me) c.requires.steady said.looks (record { number = c.number_of.result }) accepts z c.swap-found.result c.if-found-loaded.true won
 
 pub returns-then-found-loaded-clause-accepted : goal.returns-then-found-loaded-clause-accepted
 returns-then-found-loaded-clause-accepted c =
@@ -71,8 +67,8 @@ returns-then-found-loaded-clause-accepted c =
     let call = c.args.call.now in
     let said = c.look-loaded.ensures in
     let won = as_entry v u z call c.args.reporter c.swap-found.result c.requires.me.2 (c.swap-found.ensures.won c.if-found-loaded.true) in
-    let accepts = accepts_by c.look-loaded.result c.in-Ok.next.number c.args.reporter call c.record_of.result c.in-Ok.next c.record_of.ensures.value c.in-Ok.ensures.accepted.0 c.in-Ok.ensures.accepted.1 refl in
-    won_accepts v u call c.look-loaded.result said.game (me_in c.args.seat.now.me.0 c.args.reporter c.requires.me) c.requires.steady said.looks (record { number = c.in-Ok.next.number }) accepts z c.swap-found.result c.if-found-loaded.true won
+    let accepts = accepts_by c.look-loaded.result c.in_ok-next.next c.number_of.result c.args.reporter call c.in_ok-next.ensures.accepted.0 c.in_ok-next.ensures.record c.number_of.ensures.value in
+    won_accepts v u call c.look-loaded.result said.game (me_in c.args.seat.now.me.0 c.args.reporter c.requires.me) c.requires.steady said.looks (record { number = c.number_of.result }) accepts z c.swap-found.result c.if-found-loaded.true won
 
 pub returns-then-found-loaded-clause-steps : goal.returns-then-found-loaded-clause-steps
 returns-then-found-loaded-clause-steps c =
@@ -82,8 +78,8 @@ returns-then-found-loaded-clause-steps c =
     let call = c.args.call.now in
     let said = c.look-loaded.ensures in
     let won = as_entry v u z call c.args.reporter c.swap-found.result c.requires.me.2 (c.swap-found.ensures.won c.if-found-loaded.true) in
-    let accepts = accepts_by c.look-loaded.result c.in-Ok.next.number c.args.reporter call c.record_of.result c.in-Ok.next c.record_of.ensures.value c.in-Ok.ensures.accepted.0 c.in-Ok.ensures.accepted.1 refl in
-    won_steps v u call c.look-loaded.result said.game (me_in c.args.seat.now.me.0 c.args.reporter c.requires.me) c.requires.steady said.looks (record { number = c.in-Ok.next.number }) accepts z c.swap-found.result c.if-found-loaded.true won
+    let accepts = accepts_by c.look-loaded.result c.in_ok-next.next c.number_of.result c.args.reporter call c.in_ok-next.ensures.accepted.0 c.in_ok-next.ensures.record c.number_of.ensures.value in
+    won_steps v u call c.look-loaded.result said.game (me_in c.args.seat.now.me.0 c.args.reporter c.requires.me) c.requires.steady said.looks (record { number = c.number_of.result }) accepts z c.swap-found.result c.if-found-loaded.true won
 
 pub returns-else-found-loaded-clause-steady : goal.returns-else-found-loaded-clause-steady
 returns-else-found-loaded-clause-steady c =
@@ -93,8 +89,8 @@ returns-else-found-loaded-clause-steady c =
     let call = c.args.call.now in
     let said = c.look-loaded.ensures in
     let other = c.if-found-loaded.false in
-    let accepts = accepts_by c.look-loaded.result c.in-Ok.next.number c.args.reporter call c.record_of.result c.in-Ok.next c.record_of.ensures.value c.in-Ok.ensures.accepted.0 c.in-Ok.ensures.accepted.1 refl in
-    (miss_walks v u call c.look-loaded.result said.game (me_in c.args.seat.now.me.0 c.args.reporter c.requires.me) c.requires.steady said.looks (record { number = c.in-Ok.next.number }) accepts z c.swap-found.result other (c.swap-found.ensures.missed other)).steady
+    let accepts = accepts_by c.look-loaded.result c.in_ok-next.next (record_at c.in_ok-next.next).number c.args.reporter call c.in_ok-next.ensures.accepted.0 c.in_ok-next.ensures.record refl in
+    (miss_walks v u call c.look-loaded.result said.game (me_in c.args.seat.now.me.0 c.args.reporter c.requires.me) c.requires.steady said.looks (record { number = (record_at c.in_ok-next.next).number }) accepts z c.swap-found.result other (c.swap-found.ensures.missed other)).steady
 
 pub returns-else-found-loaded-clause-always : goal.returns-else-found-loaded-clause-always
 returns-else-found-loaded-clause-always c =
@@ -104,8 +100,8 @@ returns-else-found-loaded-clause-always c =
     let call = c.args.call.now in
     let said = c.look-loaded.ensures in
     let other = c.if-found-loaded.false in
-    let accepts = accepts_by c.look-loaded.result c.in-Ok.next.number c.args.reporter call c.record_of.result c.in-Ok.next c.record_of.ensures.value c.in-Ok.ensures.accepted.0 c.in-Ok.ensures.accepted.1 refl in
-    walks_continue v z _ (miss_walks v u call c.look-loaded.result said.game (me_in c.args.seat.now.me.0 c.args.reporter c.requires.me) c.requires.steady said.looks (record { number = c.in-Ok.next.number }) accepts z c.swap-found.result other (c.swap-found.ensures.missed other))
+    let accepts = accepts_by c.look-loaded.result c.in_ok-next.next (record_at c.in_ok-next.next).number c.args.reporter call c.in_ok-next.ensures.accepted.0 c.in_ok-next.ensures.record refl in
+    walks_continue v z _ (miss_walks v u call c.look-loaded.result said.game (me_in c.args.seat.now.me.0 c.args.reporter c.requires.me) c.requires.steady said.looks (record { number = (record_at c.in_ok-next.next).number }) accepts z c.swap-found.result other (c.swap-found.ensures.missed other))
 
 pub returns-else-found-loaded-clause-refused : goal.returns-else-found-loaded-clause-refused
 returns-else-found-loaded-clause-refused c =
@@ -115,9 +111,9 @@ returns-else-found-loaded-clause-refused c =
     let call = c.args.call.now in
     let said = c.look-loaded.ensures in
     let other = c.if-found-loaded.false in
-    let accepts = accepts_by c.look-loaded.result c.in-Ok.next.number c.args.reporter call c.record_of.result c.in-Ok.next c.record_of.ensures.value c.in-Ok.ensures.accepted.0 c.in-Ok.ensures.accepted.1 refl in
-    miss_refuses v u call c.look-loaded.result said.game (me_in c.args.seat.now.me.0 c.args.reporter c.requires.me) c.requires.steady said.looks (record { number = c.in-Ok.next.number }) accepts z c.swap-found.result other (c.swap-found.ensures.missed other) _
-    (ap (λ (m : MatchRecord). Stale m.number) c.record_of-else-found-loaded.ensures.value)
+    let accepts = accepts_by c.look-loaded.result c.in_ok-next.next (record_at c.in_ok-next.next).number c.args.reporter call c.in_ok-next.ensures.accepted.0 c.in_ok-next.ensures.record refl in
+    miss_refuses v u call c.look-loaded.result said.game (me_in c.args.seat.now.me.0 c.args.reporter c.requires.me) c.requires.steady said.looks (record { number = (record_at c.in_ok-next.next).number }) accepts z c.swap-found.result other (c.swap-found.ensures.missed other) _
+    (ap (λ (n : ℕ). Stale n) c.number_of-else-found-loaded.ensures.value)
 
 pub returns-else-found-loaded-clause-steps : goal.returns-else-found-loaded-clause-steps
 returns-else-found-loaded-clause-steps c =
@@ -127,6 +123,6 @@ returns-else-found-loaded-clause-steps c =
     let call = c.args.call.now in
     let said = c.look-loaded.ensures in
     let other = c.if-found-loaded.false in
-    let accepts = accepts_by c.look-loaded.result c.in-Ok.next.number c.args.reporter call c.record_of.result c.in-Ok.next c.record_of.ensures.value c.in-Ok.ensures.accepted.0 c.in-Ok.ensures.accepted.1 refl in
-    miss_steps v u call c.look-loaded.result said.game (me_in c.args.seat.now.me.0 c.args.reporter c.requires.me) c.requires.steady said.looks (record { number = c.in-Ok.next.number }) accepts z c.swap-found.result other (c.swap-found.ensures.missed other) _
-    (ap (λ (m : MatchRecord). Stale m.number) c.record_of-else-found-loaded.ensures.value)
+    let accepts = accepts_by c.look-loaded.result c.in_ok-next.next (record_at c.in_ok-next.next).number c.args.reporter call c.in_ok-next.ensures.accepted.0 c.in_ok-next.ensures.record refl in
+    miss_steps v u call c.look-loaded.result said.game (me_in c.args.seat.now.me.0 c.args.reporter c.requires.me) c.requires.steady said.looks (record { number = (record_at c.in_ok-next.next).number }) accepts z c.swap-found.result other (c.swap-found.ensures.missed other) _
+    (ap (λ (n : ℕ). Stale n) c.number_of-else-found-loaded.ensures.value)

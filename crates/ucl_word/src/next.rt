@@ -1,0 +1,164 @@
+//! The next word of a match: what `apply` does to a record, done to the bits of the word.
+
+ghost use Rattle.std.specs.Prelude.{◌≡◌, ◌<◌, ◌^◌, IfOk, IfErr, Some, None, MatchResult, List};
+ghost use Rattle.ucl_word.specs.Layout.{word_of, record_at, IsWord};
+ghost use Rattle.ucl_word.specs.Rules.{refusal_of, after};
+ghost use Rattle.ucl_word.specs.Counts.{MatchEntry, IsLegalMatch, counted_match, entered};
+ghost use Rattle.ucl_word.specs.Next.{state_for, change_refusal, goals_field, yellows_field, expulsions_field, Raises, Lowers, Changes};
+
+use crate::event::{Kind, Side};
+use crate::record::{LAST_NUMBER_IN_PLAY, MOST_EXPULSIONS, MOST_GOALS, MOST_YELLOWS, State};
+use crate::refusal::Refusal;
+use crate::reporter_no::ReporterNo;
+use crate::word::{
+    AWAY_EXPULSIONS_LOW, AWAY_GOALS_LOW, AWAY_YELLOWS_LOW, EXPULSIONS_WIDTH, GOALS_WIDTH,
+    HOME_EXPULSIONS_LOW, HOME_GOALS_LOW, HOME_YELLOWS_LOW, REPORTER_LOW, REPORTER_WIDTH, STATE_LOW,
+    YELLOWS_WIDTH, field, number_of, state_in,
+};
+
+/// One more in the state: from scheduled to in play, and from in play to finished.
+const NEXT_STATE: u64 = 1 << STATE_LOW;
+
+/// The state of a match in which an event of this kind is entered.
+fn state_for(kind: Kind) -> State
+    ensures { result ≡ state_for kind }
+{
+    match kind {
+        Kind::KickOff => State::Scheduled,
+        Kind::Reopen => State::Finished,
+        _ => State::InPlay,
+    }
+}
+
+fn goals_low(side: Side) -> u32
+    ensures { result ≡ (goals_field side).low }
+{
+    match side {
+        Side::Home => HOME_GOALS_LOW,
+        Side::Away => AWAY_GOALS_LOW,
+    }
+}
+
+fn yellows_low(side: Side) -> u32
+    ensures { result ≡ (yellows_field side).low }
+{
+    match side {
+        Side::Home => HOME_YELLOWS_LOW,
+        Side::Away => AWAY_YELLOWS_LOW,
+    }
+}
+
+fn expulsions_low(side: Side) -> u32
+    ensures { result ≡ (expulsions_field side).low }
+{
+    match side {
+        Side::Home => HOME_EXPULSIONS_LOW,
+        Side::Away => AWAY_EXPULSIONS_LOW,
+    }
+}
+
+/// The rules on the event number and the state, which are the first six.
+#[tactic(auto, unfolding(crate::specs::Rules::refusal_of))]
+fn in_turn(word: u64, expected: u16, kind: Kind) -> Result<(), Refusal>
+    ensures { MatchResult result
+        (λ _. ((record_at word).state ≡ state_for kind) × (refusal_of (record_at word) expected kind ≡ change_refusal (record_at word) kind))
+        (λ refusal. refusal_of (record_at word) expected kind ≡ Some refusal) }
+{
+    let number = number_of(word);
+    if expected != number {
+        return Err(Refusal::Stale { found: number });
+    }
+    let state = state_in(word);
+    if state != state_for(kind) {
+        return Err(match state {
+            State::Finished => Refusal::Finished,
+            _ if kind == Kind::Reopen => Refusal::NotFinished,
+            State::Scheduled => Refusal::NotStarted,
+            State::InPlay => Refusal::AlreadyStarted,
+        });
+    }
+    if number >= LAST_NUMBER_IN_PLAY && kind != Kind::FullTime {
+        return Err(Refusal::NumberFull);
+    }
+    Ok(())
+}
+
+/// The word with one more in a field, which is refused where `most` are there.
+fn raised(word: u64, low: u32, width: u32, most: u8) -> Result<u64, Refusal>
+    requires word { word < 2 ^ 63 }
+    requires low { low < 63 }
+    requires width { width < 64 }
+    ensures { Raises word low width most result }
+{
+    if field(word, low, width) >= u64::from(most) {
+        Err(Refusal::LimitReached)
+    } else {
+        Ok(word + (1 << low))
+    }
+}
+
+/// The word with one less in a field, which is refused as `missing` where none is there.
+fn lowered(word: u64, low: u32, width: u32, missing: Refusal) -> Result<u64, Refusal>
+    requires low { low < 64 }
+    requires width { width < 64 }
+    ensures { Lowers word low width missing result }
+{
+    if field(word, low, width) == 0 {
+        Err(missing)
+    } else {
+        Ok(word - (1 << low))
+    }
+}
+
+/// The word with what the kind of an event changes, or the first of the last three rules that refuses the change.
+// As a call of its own it would hand the word back through memory, which a report on a shared board would wait for.
+#[inline(always)]
+fn changed(word: u64, kind: Kind) -> Result<u64, Refusal>
+    requires word { IsWord word }
+    requires state { (record_at word).state ≡ state_for kind }
+    ensures { Changes word kind result }
+{
+    match kind {
+        Kind::KickOff => Ok(word + NEXT_STATE),
+        Kind::FullTime => Ok(word + NEXT_STATE),
+        Kind::Reopen => Ok(word - NEXT_STATE),
+        Kind::Goal(side) => raised(word, goals_low(side), GOALS_WIDTH, MOST_GOALS),
+        Kind::Disallow(side) => lowered(word, goals_low(side), GOALS_WIDTH, Refusal::NoGoal),
+        Kind::Yellow(side) => raised(word, yellows_low(side), YELLOWS_WIDTH, MOST_YELLOWS),
+        Kind::SecondYellow(side) => {
+            let fewer = lowered(word, yellows_low(side), YELLOWS_WIDTH, Refusal::NoCaution)?;
+            raised(
+                fewer,
+                expulsions_low(side),
+                EXPULSIONS_WIDTH,
+                MOST_EXPULSIONS,
+            )
+        }
+        Kind::Red(side) => raised(
+            word,
+            expulsions_low(side),
+            EXPULSIONS_WIDTH,
+            MOST_EXPULSIONS,
+        ),
+    }
+}
+
+/// The word of a match after an event of this reporter, or the first rule that refuses the event: what `pack` makes of the record that
+/// `apply` answers for the record of the word. `word` has to be that of a valid record, and so is the next. Over counting it says of the
+/// records of both words what `apply` says.
+// The same goes for the whole.
+#[inline(always)]
+pub fn next_word(word: u64, reporter: ReporterNo, expected: u16, kind: Kind) -> Result<u64, Refusal>
+    requires { IsWord word }
+    ensures refused { IfErr result (λ r. refusal_of (record_at word) expected kind ≡ Some r) }
+    ensures accepted { IfOk result (λ next. (refusal_of (record_at word) expected kind ≡ None) × (next ≡ word_of (after (record_at word) reporter kind))) }
+    ensures record { IfOk result (λ next. record_at next ≡ after (record_at word) reporter kind) }
+    ensures valid { IfOk result IsWord }
+    ensures counted { IfOk result (λ next. (es : List MatchEntry) → IsLegalMatch es → counted_match es ≡ record_at word → (record_at next ≡ counted_match (entered es reporter kind)) × IsLegalMatch (entered es reporter kind)) }
+{
+    in_turn(word, expected, kind)?;
+    let changed = changed(word, kind)?;
+    let before = field(word, REPORTER_LOW, REPORTER_WIDTH) << REPORTER_LOW;
+    let now = u64::from(reporter.get()) << REPORTER_LOW;
+    Ok(changed + 1 - before + now)
+}
