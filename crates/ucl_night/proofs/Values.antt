@@ -6,7 +6,7 @@ use Rattle.clap.specs.Values.{read_as}
 use Rattle.clap.specs.Kinds.{range_kinds}
 use Rattle.clap.specs.Walk.{Row, Rule, Text, at_row, default_rows, first_of, has_row, more_values, one_of, reading_by, row_text, used, values_or_missing, with_default}
 use Rattle.clap.specs.Walk.{with_values, without}
-use Rattle.clap.specs.Simple.{filled, help_rule, new_rule}
+use Rattle.clap.specs.Simple.{filled, help_rule}
 use Rattle.clap.specs.Faults.{action_fault, default_fault, defaults_fault, given_default_fault, values_fault}
 use Rattle.clap.specs.declared.builder.action.ArgAction.TheVariants.{Set}
 use Rattle.clap.specs.declared.builder.value_parser.Reading.{Reading}
@@ -14,11 +14,12 @@ use Rattle.clap.specs.declared.builder.value_parser.ValueParser.{ValueParser}
 use Rattle.clap.specs.declared.error.kind.ErrorKind.TheVariants as kind
 use Rattle.clap.specs.declared.parser.matches.ValueSource.{ValueSource}
 use Rattle.clap.specs.declared.parser.matches.ValueSource.TheVariants.{CommandLine, DefaultValue}
+use Rattle.ucl_night.specs.CommandLine.{option_rule}
 use Rattle.ucl_night.proofs.WalkFacts.{Keeps, neither}
 
 -- an option of one value as it is built, and the flag of help
 abbrev pub option_built : Text → ValueParser → Text → Rule
-option_built id parser default = filled (record (new_rule id) { long = Some id; action = Some Set; parser = Some parser; defaults = default ∷ [] })
+option_built id parser default = filled (option_rule id parser default)
 
 abbrev pub help_built : Rule
 help_built = filled help_rule

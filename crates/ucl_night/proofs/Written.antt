@@ -195,6 +195,18 @@ show_help : FailsAs (words (codes "ucl_night show --help")) (kind.DisplayHelp �
 unfolding clap_on_literals
 show_help = failed (words (codes "ucl_night show --help")) (kind.DisplayHelp ∷ []) (λ p q g o. refl)
 
+version : FailsAs (words (codes "ucl_night --version")) (kind.DisplayVersion ∷ [])
+unfolding clap_on_literals
+version = failed (words (codes "ucl_night --version")) (kind.DisplayVersion ∷ []) (λ p q g o. refl)
+
+short_version : FailsAs (words (codes "ucl_night -V")) (kind.DisplayVersion ∷ [])
+unfolding clap_on_literals
+short_version = failed (words (codes "ucl_night -V")) (kind.DisplayVersion ∷ []) (λ p q g o. refl)
+
+show_version : FailsAs (words (codes "ucl_night show --version")) (kind.UnknownArgument ∷ [])
+unfolding clap_on_literals
+show_version = failed (words (codes "ucl_night show --version")) (kind.UnknownArgument ∷ []) (λ p q g o. refl)
+
 -- ---- a number of readings
 
 spelled : (v : Text) → starts_with_minus v ≡ false → (slice_index v 0 == 43) ≡ false → IsNumeral 10 v → digits_value 10 v ≤ 1000
@@ -312,4 +324,7 @@ refused_lines = record {
   twice = twice;
   help = help;
   show_help = show_help;
+  version = version;
+  short_version = short_version;
+  show_version = show_version;
 }

@@ -7,6 +7,7 @@ use Rattle.clap.specs.Words.{App, IsAmong, Row, Rule, Shape, Text, fault_of, fir
 use Rattle.clap.specs.Simple.{new_shape}
 use Rattle.clap.specs.ValueTests.{is_numeral}
 use Rattle.clap.specs.declared.builder.action.ArgAction.TheVariants.{Set}
+use Rattle.clap.specs.declared.builder.value_parser.ValueParser.{ValueParser}
 use Rattle.clap.specs.declared.builder.value_parser.ValueParser.TheVariants.{Names, Signed}
 use Rattle.clap.specs.declared.error.kind.ErrorKind.{ErrorKind}
 use Rattle.clap.specs.declared.error.kind.ErrorKind.TheVariants.{DisplayHelp, DisplayVersion}
@@ -45,26 +46,43 @@ pub record Tables : Type 0 where
   pub groups_are : map (λ t. t.now) groups.now ≡ letters
   pub orders_are : map (λ t. t.now) orders.now ≡ order_names
 
+-- an option of one value that this parser takes, which is the default where it is left out
+abbrev pub option_rule : Text → ValueParser → Text → Rule
+option_rule name parser default = record (new_rule name) {
+  long = Some name;
+  action = Some Set;
+  value_names = 1;
+  parser = Some parser;
+  defaults = default ∷ [];
+}
+
 -- `--group` with one of these letters, which is A where it is left out
 abbrev pub group_option : Texts → Rule
-group_option names = record (new_rule (codes "group")) { long = Some (codes "group"); action = Some Set; parser = Some (Names names); defaults = codes "A" ∷ [] }
+group_option names = option_rule (codes "group") (Names names) (codes "A")
 
 -- `--readings` with a number to 1,000, which is 0 where it is left out
 abbrev pub readings_option : Rule
-readings_option = record (new_rule (codes "readings")) { long = Some (codes "readings"); action = Some Set; parser = Some (Signed (pos 0) (pos 1000)); defaults = codes "0" ∷ [] }
+readings_option = option_rule (codes "readings") (Signed (pos 0) (pos 1000)) (codes "0")
 
 -- `--order` with one of these names, which is the UEFA order where it is left out
 abbrev pub order_option : Texts → Rule
-order_option names = record (new_rule (codes "order")) { long = Some (codes "order"); action = Some Set; parser = Some (Names names); defaults = codes "uefa" ∷ [] }
+order_option names = option_rule (codes "order") (Names names) (codes "uefa")
 
 -- a subcommand with these options
 abbrev pub subcommand : Text → List Rule → Shape
 subcommand name options = record (new_shape name) { rules = options }
 
--- a command of three subcommands, each with its options, one of which has to be named
+-- the program, which tells its version, and of which a subcommand has to be named, before it has one
+abbrev pub top_command : App
+top_command = record {
+  top = record (new_shape (codes "ucl_night")) { has_version = true; subcommand_required = true };
+  subs = [];
+}
+
+-- the program with its three subcommands, each with its options
 abbrev pub program_with : Texts → Texts → App
 program_with groups orders = record {
-  top = record (new_shape (codes "ucl_night")) { is_leaf = false; subcommand_required = true };
+  top = record top_command.top { is_leaf = false };
   subs = subcommand (codes "feed") []
       ∷ subcommand (codes "show") (group_option groups ∷ order_option orders ∷ [])
       ∷ subcommand (codes "night") (group_option groups ∷ readings_option ∷ order_option orders ∷ [])
@@ -133,7 +151,7 @@ AskFor words line = (t : Tables) × (fault_of (program t) words ≡ []) × (line
 abbrev pub AreTaken : List Text → Type 0
 AreTaken words = (t : Tables) → takes (program t) words ≡ true
 
--- help goes with one of these kinds of error
+-- help and the version go with these kinds of error
 abbrev pub IsHelp : ErrorKind → Type 0
 IsHelp kind = (kind ≡ DisplayHelp) ⊎ (kind ≡ DisplayVersion)
 
@@ -141,7 +159,7 @@ IsHelp kind = (kind ≡ DisplayHelp) ⊎ (kind ≡ DisplayVersion)
 abbrev pub MayFailBy : List Text → ErrorKind → Type 0
 MayFailBy words kind = (t : Tables) × IsAmong kind (fault_of (program t) words)
 
--- help is told where help was asked for, and a refusal where it was not
+-- help is told where help or the version was asked for, and a refusal where neither was
 abbrev pub Tells : LineFault → ErrorKind → Type 0
 Tells (Help text) kind = IsHelp kind
 Tells (Refused text) kind = IsHelp kind → ⊥

@@ -44,7 +44,7 @@ pub record TakenLines : Type 0 where
       → Means (words (codes "ucl_night night --group") ++ (letter ∷ []) ∷ words (codes "--readings 3")) (Night letter 3 Uefa)
   pub night_all : Means (words (codes "ucl_night night --order away-in-tie --group B --readings 12")) (Night 66 12 AwayInTie)
 
--- lines that are refused, and calls for help
+-- lines that are refused, and calls for help, and for the version, which no subcommand tells
 pub record RefusedLines : Type 0 where
   pub nothing : FailsAs (words (codes "ucl_night")) (kind.MissingSubcommand ∷ [])
   pub other : FailsAs (words (codes "ucl_night other")) (kind.UnknownArgument ∷ kind.InvalidSubcommand ∷ [])
@@ -59,3 +59,6 @@ pub record RefusedLines : Type 0 where
   pub twice : FailsAs (words (codes "ucl_night show --group A --group B")) (kind.ArgumentConflict ∷ [])
   pub help : FailsAs (words (codes "ucl_night --help")) (kind.DisplayHelp ∷ [])
   pub show_help : FailsAs (words (codes "ucl_night show --help")) (kind.DisplayHelp ∷ [])
+  pub version : FailsAs (words (codes "ucl_night --version")) (kind.DisplayVersion ∷ [])
+  pub short_version : FailsAs (words (codes "ucl_night -V")) (kind.DisplayVersion ∷ [])
+  pub show_version : FailsAs (words (codes "ucl_night show --version")) (kind.UnknownArgument ∷ [])

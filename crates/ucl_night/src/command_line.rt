@@ -2,9 +2,10 @@
 
 ghost use Rattle.std.specs.Prelude.{◌≡◌, IfErr, IfOk, false, map, option_and_then, string_bytes};
 ghost use Rattle.clap.specs.Words.{app_of, found_of, kind_of, rows_of, rule_of, subcommand_rows_of};
-ghost use Rattle.ucl_night.specs.CommandLine.{AreTaken, AskFor, IsFaultOf, IsInRange, Tables, Tells};
-ghost use Rattle.ucl_night.specs.CommandLine.{group_in, group_option, line_in, order_in, order_option, program, readings_in, readings_option};
+ghost use Rattle.ucl_night.specs.CommandLine.{AreTaken, AskFor, IsFaultOf, IsInRange, Tables, Tells, program, top_command};
+ghost use Rattle.ucl_night.specs.CommandLine.{group_in, group_option, line_in, order_in, order_option, readings_in, readings_option};
 
+use crate::texts;
 use clap::error::ErrorKind;
 use clap::{Arg, ArgAction, ArgMatches, Command, Error, value_parser};
 use std::alloc::{AllocError, Global};
@@ -37,7 +38,7 @@ pub enum Line {
 /// Why the words name nothing to do.
 #[derive(Debug, Drop)]
 pub enum LineFault {
-    /// Help was asked for, and is this text.
+    /// Help or the version was asked for, and is this text.
     Help(String),
     /// The words are refused, as this text says.
     Refused(String),
@@ -66,6 +67,8 @@ fn group_option<'a>(alloc: Global, letters: &'a [&'a str]) -> Arg<'a>
     Arg::new(alloc, "group")
         .long("group")
         .action(ArgAction::Set)
+        .value_name("GROUP")
+        .help(texts::GROUP)
         .value_parser(letters)
         .default_value("A")
 }
@@ -78,6 +81,8 @@ fn readings_option<'a>(alloc: Global) -> Arg<'a>
     Arg::new(alloc, "readings")
         .long("readings")
         .action(ArgAction::Set)
+        .value_name("NUMBER")
+        .help(texts::READINGS)
         .value_parser(value_parser!(u32).range(0..=i64::from(MOST_READINGS)))
         .default_value("0")
 }
@@ -90,8 +95,21 @@ fn order_option<'a>(alloc: Global, names: &'a [&'a str]) -> Arg<'a>
     Arg::new(alloc, "order")
         .long("order")
         .action(ArgAction::Set)
+        .value_name("ORDER")
+        .help(texts::ORDER)
         .value_parser(names)
         .default_value(UEFA)
+}
+
+/// The program's command, before it has subcommands.
+fn top_command<'a>(alloc: Global) -> Command<'a>
+    ensures { app_of result ≡ top_command }
+{
+    Command::new(alloc, "ucl_night")
+        .version(texts::VERSION)
+        .about(texts::PROGRAM)
+        .after_help(texts::PROGRAM_MORE)
+        .subcommand_required(true)
 }
 
 /// The program's command, with a subcommand for each line.
@@ -100,20 +118,21 @@ fn command<'a>(alloc: Global) -> Result<Command<'a>, AllocError>
 {
     let letters = GROUPS.as_slice();
     let orders = ORDERS.as_slice();
-    let feed = Command::new(alloc, "feed").about(
-        "Enters a script, and writes a reply for each event",
-    );
+    let feed = Command::new(alloc, "feed")
+        .about(texts::FEED)
+        .after_help(texts::FEED_MORE);
     let show = Command::new(alloc, "show")
-        .about("Writes the screen of a board")
+        .about(texts::SHOW)
+        .after_help(texts::SHOW_MORE)
         .arg(group_option(alloc, letters))?
         .arg(order_option(alloc, orders))?;
     let night = Command::new(alloc, "night")
-        .about("Enters a script by two reporters in threads, and writes the screens")
+        .about(texts::NIGHT)
+        .after_help(texts::NIGHT_MORE)
         .arg(group_option(alloc, letters))?
         .arg(readings_option(alloc))?
         .arg(order_option(alloc, orders))?;
-    Command::new(alloc, "ucl_night")
-        .subcommand_required(true)
+    top_command(alloc)
         .subcommand(feed)?
         .subcommand(show)?
         .subcommand(night)
@@ -188,7 +207,8 @@ fn fault_of(alloc: Global, error: &Error) -> LineFault
 /// The words are read by `clap`: the name is followed by the subcommand `feed`, `show` or `night`. The latter two take
 /// `--group` with a letter from `A` to `H`, which is `A` where it is left out, and `--order` with `uefa` or `away-in-tie`, which
 /// is `uefa` where it is left out, and `night` also `--readings` with a number from 0 to 1,000, which is 0 where it is left out.
-/// `Help` comes where help is asked for, and `Refused` where the words have no subcommand, an unknown one, or what it does not take.
+/// `Help` comes where help is asked for, or the version, by `--version` or `-V` before any subcommand; and `Refused` where the words have
+/// no subcommand, an unknown one, or what it does not take.
 pub fn line_of(alloc: Global, words: &[String]) -> Result<Line, LineFault>
     ensures in_range { IfOk result IsInRange }
     ensures meant { IfOk result (AskFor (map string_bytes words.now)) }

@@ -8,6 +8,7 @@ mod command_line;
 mod laws;
 mod program;
 mod refusal;
+mod texts;
 
 pub use command_line::{Line, LineFault, line_of};
 pub use laws::{words_that_are_refused, words_that_are_taken};

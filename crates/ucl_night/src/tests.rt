@@ -1,5 +1,6 @@
 //! What words mean, and what the program does for them over memory in place of the standard streams.
 
+use crate::texts::VERSION;
 use crate::{Line, LineFault, line_of, run};
 use std::alloc::Global;
 use std::io;
@@ -193,6 +194,8 @@ fn command_lines(rt: HostRuntime) -> Result<(), Fail> {
         "ucl_night feed --help",
         "ucl_night show --help",
         "ucl_night night --help",
+        "ucl_night --version",
+        "ucl_night -V",
     ] {
         let words = words_of(alloc, line)?;
         assert!(rt;
@@ -222,6 +225,8 @@ fn command_lines(rt: HostRuntime) -> Result<(), Fail> {
         "ucl_night other",
         "ucl_night feed more",
         "ucl_night --group A",
+        "ucl_night --version=1",
+        "ucl_night show --version",
     ];
     for line in refused {
         let words = words_of(alloc, line)?;
@@ -359,7 +364,11 @@ fn refused_words_and_help(rt: HostRuntime) -> Result<(), Fail> {
             "at {line}"
         );
     }
-    for line in ["ucl_night --help", "ucl_night night --help"] {
+    for line in [
+        "ucl_night --help",
+        "ucl_night night --help",
+        "ucl_night --version",
+    ] {
         let words = words_of(alloc, line)?;
         let Err(LineFault::Help(text)) = line_of(alloc, &words) else {
             return Err("no help".into());
@@ -373,6 +382,130 @@ fn refused_words_and_help(rt: HostRuntime) -> Result<(), Fail> {
         let (status, _, errors) = ran(&rt, alloc, line, b"", 5)?;
         assert_eq!(rt; status, 4, "at {line}");
         assert!(rt; errors.as_slice() == b"writing failed 26: after 5 bytes\n".as_slice());
+    }
+    Ok(())
+}
+
+/// What a user has to find in the help of a line: the usage, each option with what it takes, the rows of the input, and an example.
+const HELP: [(&str, &[&str]); 4] = [
+    (
+        "ucl_night --help",
+        &[
+            "Usage: ucl_night <COMMAND>\n",
+            "\n  feed ",
+            "\n  show ",
+            "\n  night ",
+            "\n  -V, --version ",
+            CLUB_ROW,
+            EVENT_ROW,
+            WORD_ROW,
+            "\n  0  done",
+            "\n  2  the words",
+            "\n  3  the input",
+            "\n  4  reading or writing",
+            "\n  5  there is no memory",
+            "\n  6  the board",
+            "\n  ucl_night feed < ",
+            "\n  ucl_night show --group B < ",
+            "\n  ucl_night night --readings 3 < ",
+        ],
+    ),
+    (
+        "ucl_night feed --help",
+        &[
+            "Usage: ucl_night feed\n",
+            CLUB_ROW,
+            EVENT_ROW,
+            WORD_ROW,
+            "\n  ROW ok MATCH NUMBER VERSION ",
+            "\n  ROW refused CODE NAME ",
+            "\n  ucl_night feed < ",
+        ],
+    ),
+    (
+        "ucl_night show --help",
+        &[
+            "Usage: ucl_night show [OPTIONS]\n",
+            "\n      --group <GROUP> ",
+            LETTERS,
+            "\n      --order <ORDER> ",
+            ORDERS,
+            CLUB_ROW,
+            WORD_ROW,
+            "\n  ucl_night show --group B < ",
+        ],
+    ),
+    (
+        "ucl_night night --help",
+        &[
+            "Usage: ucl_night night [OPTIONS]\n",
+            "\n      --group <GROUP> ",
+            LETTERS,
+            "\n      --readings <NUMBER> ",
+            ", 0 to 1,000 [default: 0]\n",
+            "\n      --order <ORDER> ",
+            ORDERS,
+            "\n  ucl_night night --readings 3 < ",
+        ],
+    ),
+];
+
+const CLUB_ROW: &str = "\n  club,SLOT,NAME,COEFFICIENT ";
+
+const EVENT_ROW: &str = "\n  REPORTER,MATCH,EXPECTED,EVENT ";
+
+const WORD_ROW: &str = "\n  word,MATCH,WORD, ";
+
+const LETTERS: &str = "[default: A] [possible values: A, B, C, D, E, F, G, H]\n";
+
+const ORDERS: &str = "[default: uefa] [possible values: uefa, away-in-tie]\n";
+
+#[test]
+fn help_tells(rt: HostRuntime) -> Result<(), Fail> {
+    let alloc = rt.alloc();
+    for (line, parts) in HELP {
+        let (status, out, errors) = ran(&rt, alloc, line, b"", usize::MAX)?;
+        assert!(rt; status == 0 && errors.is_empty(), "at {line}");
+        let text = std::str::from_utf8(out.as_slice())?;
+        for part in parts {
+            assert!(rt; text.contains(part), "{part} at {line}");
+        }
+    }
+    Ok(())
+}
+
+/// Each event of a script stands in the help of `feed`, by the word that `feed` takes.
+#[test]
+fn help_names_each_event(rt: HostRuntime) -> Result<(), Fail> {
+    let alloc = rt.alloc();
+    let (_, out, _) = ran(&rt, alloc, "ucl_night feed --help", b"", usize::MAX)?;
+    let help = std::str::from_utf8(out.as_slice())?;
+    let Some((_, events)) = help.split_once("\nEvents:\n") else {
+        return Err("no events".into());
+    };
+    let Some((events, _)) = events.split_once("\n\n") else {
+        return Err("no end of the events".into());
+    };
+    assert_eq!(rt; events.split(',').count(), 13);
+    for event in events.split(',') {
+        let mut script = String::from_str(alloc, SCRIPT)?;
+        write!(&mut script, "1,1,1,{}\n", event.trim())?;
+        let (status, _, _) = ran(&rt, alloc, "ucl_night feed", script.as_bytes(), usize::MAX)?;
+        assert_eq!(rt; status, 0, "at {event}");
+    }
+    Ok(())
+}
+
+/// The version is the program's name and the version, on the output; so is that of `-V`, whatever the words after it are.
+#[test]
+fn version_is_told(rt: HostRuntime) -> Result<(), Fail> {
+    let alloc = rt.alloc();
+    let mut told = String::new(alloc);
+    write!(&mut told, "ucl_night {VERSION}\n")?;
+    for line in ["ucl_night --version", "ucl_night -V", "ucl_night -V feed"] {
+        let (status, out, errors) = ran(&rt, alloc, line, b"", usize::MAX)?;
+        assert!(rt; status == 0 && errors.is_empty(), "at {line}");
+        assert!(rt; out.as_slice() == told.as_bytes(), "at {line}");
     }
     Ok(())
 }

@@ -69,6 +69,12 @@ fn one_more_reporter(words: [u64; 13]) -> [u64; 13]
 impl CellBoard {
     /// The fresh board, and the reader's pass from which all its passes come. The rule of the cell lets no board open but one of no event,
     /// no reporter and no step. Where the memory of the cell is refused the answer is `OutOfMemory`, and there is no board.
+    ///
+    /// ```rust
+    /// let (board, mut reader) = CellBoard::open(&rt, rt.alloc())?;
+    /// let reading = board.read(&rt, &mut reader);
+    /// assert_eq!(rt; reading.version, 0);
+    /// ```
     pub fn open<R>(_rt: &R, alloc: Global) -> Result<(CellBoard, CellReaderPass), OutOfMemory>
         ensures own { IfOk result (λ opened. opened.1.0 ≡ opened.0) }
         ensures fresh { IfOk result (λ opened. pass_view_of opened.1.1 ≡ opening_pass) }

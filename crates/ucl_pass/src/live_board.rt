@@ -32,6 +32,18 @@ pub trait LiveBoard: Sync {
 
     /// Enters an event under the number of the pass. An accepted event is the last that the pass has seen; a refusal is the reply
     /// of a board of one thread after all that the pass has then seen, enters nothing, and may leave the pass having seen more.
+    ///
+    /// ```rust
+    /// let (board, pass) = CellBoard::open(&rt, rt.alloc())?;
+    /// let mut reporter = board.enlist(&rt, pass).ok().ok_or("no number")?;
+    /// let kick_off = EventCall {
+    ///     game: MatchNo::new(1).ok_or("no match")?,
+    ///     expected: 0,
+    ///     kind: Kind::KickOff,
+    /// };
+    /// let reply = board.report(&rt, &mut reporter, &kick_off);
+    /// assert_eq!(rt; reply, Ok(Accepted { number: 1 }));
+    /// ```
     fn report<R: Wait>(
         &self,
         rt: &R,
@@ -45,6 +57,13 @@ pub trait LiveBoard: Sync {
         ensures refused { IfErr result (λ refusal. RefusedReport (reporter pass.old) call.now refusal (reporter pass.new)) };
 
     /// The board after a beginning of the history that has all that the pass had seen, and its version.
+    ///
+    /// ```rust
+    /// let (board, mut reader) = CellBoard::open(&rt, rt.alloc())?;
+    /// let reading = board.read(&rt, &mut reader);
+    /// assert_eq!(rt; reading.version, 0);
+    /// assert_eq!(rt; reading.board.words(), [0x2000000000000000; 12]);
+    /// ```
     fn read<R: Wait>(&self, rt: &R, pass: &mut Self::ReaderPass) -> Reading
         requires { is_reader self.now pass.old }
         ensures own { is_reader self.now pass.new }
@@ -52,6 +71,19 @@ pub trait LiveBoard: Sync {
         ensures reading { SharedReading (reader pass.old) result (reader pass.new) };
 
     /// The same for a reporter.
+    ///
+    /// ```rust
+    /// let (board, pass) = CellBoard::open(&rt, rt.alloc())?;
+    /// let mut reporter = board.enlist(&rt, pass).ok().ok_or("no number")?;
+    /// let kick_off = EventCall {
+    ///     game: MatchNo::new(1).ok_or("no match")?,
+    ///     expected: 0,
+    ///     kind: Kind::KickOff,
+    /// };
+    /// let accepted = board.report(&rt, &mut reporter, &kick_off).is_ok();
+    /// let reading = board.read_own(&rt, &mut reporter);
+    /// assert_eq!(rt; (accepted, reading.version), (true, 1));
+    /// ```
     fn read_own<R: Wait>(&self, rt: &R, pass: &mut Self::ReporterPass) -> Reading
         requires { is_reporter self.now pass.old }
         ensures own { is_reporter self.now pass.new }
@@ -59,6 +91,13 @@ pub trait LiveBoard: Sync {
         ensures reading { SharedReading (reporter pass.old) result (reporter pass.new) };
 
     /// A second pass, which has seen as much as the lent one, for another thread.
+    ///
+    /// ```rust
+    /// let (board, mut reader) = CellBoard::open(&rt, rt.alloc())?;
+    /// let mut other = board.split(&rt, &mut reader);
+    /// let reading = board.read(&rt, &mut reader);
+    /// assert_eq!(rt; board.read(&rt, &mut other), reading);
+    /// ```
     fn split<R: Wait>(&self, rt: &R, pass: &mut Self::ReaderPass) -> Self::ReaderPass
         requires { is_reader self.now pass.old }
         ensures own { is_reader self.now pass.new × is_reader self.now result }
@@ -68,6 +107,15 @@ pub trait LiveBoard: Sync {
 
     /// Makes a reader a reporter, under a number of its own. Where 255 are enlisted the answer is 30 with the pass, which may have
     /// seen more.
+    ///
+    /// ```rust
+    /// let (board, pass) = CellBoard::open(&rt, rt.alloc())?;
+    /// let version = match board.enlist(&rt, pass) {
+    ///     Ok(mut reporter) => board.read_own(&rt, &mut reporter).version,
+    ///     Err(TooManyReporters(mut reader)) => board.read(&rt, &mut reader).version,
+    /// };
+    /// assert_eq!(rt; version, 0);
+    /// ```
     fn enlist<R: Wait>(
         &self,
         rt: &R,
@@ -80,6 +128,15 @@ pub trait LiveBoard: Sync {
         ensures full { IfErr result (λ full. FullBoard (reader pass) (reader full.0)) };
 
     /// Afterwards the second pass has seen all that either had seen. The first is as it was.
+    ///
+    /// ```rust
+    /// let (board, mut pass) = CellBoard::open(&rt, rt.alloc())?;
+    /// let other = board.split(&rt, &mut pass);
+    /// let mut first = board.enlist(&rt, pass).ok().ok_or("no number")?;
+    /// let mut second = board.enlist(&rt, other).ok().ok_or("no number")?;
+    /// board.meet(&rt, &mut first, &mut second);
+    /// assert_eq!(rt; board.read_own(&rt, &mut second).version, 0);
+    /// ```
     fn meet<R: Wait>(&self, rt: &R, first: &mut Self::ReporterPass, second: &mut Self::ReporterPass)
         requires { is_reporter self.now first.old × is_reporter self.now second.old }
         ensures own { is_reporter self.now first.new × is_reporter self.now second.new }
@@ -89,10 +146,32 @@ pub trait LiveBoard: Sync {
         ensures meeting { Meeting (reporter first.old) (reporter second.old) (reporter second.new) };
 
     /// The number of a reporter's pass.
+    ///
+    /// ```rust
+    /// let (board, mut pass) = CellBoard::open(&rt, rt.alloc())?;
+    /// let other = board.split(&rt, &mut pass);
+    /// let first = board.enlist(&rt, pass).ok().ok_or("no number")?;
+    /// let second = board.enlist(&rt, other).ok().ok_or("no number")?;
+    /// assert_eq!(rt; CellBoard::number_of(&first).get(), 1);
+    /// assert_eq!(rt; CellBoard::number_of(&second).get(), 2);
+    /// ```
     fn number_of(pass: &Self::ReporterPass) -> ReporterNo
         ensures { result ≡ (reporter_figures (reporter pass.now)).0 };
 
     /// How many events of a reporter's pass were accepted.
+    ///
+    /// ```rust
+    /// let (board, pass) = CellBoard::open(&rt, rt.alloc())?;
+    /// let mut reporter = board.enlist(&rt, pass).ok().ok_or("no number")?;
+    /// let kick_off = EventCall {
+    ///     game: MatchNo::new(1).ok_or("no match")?,
+    ///     expected: 0,
+    ///     kind: Kind::KickOff,
+    /// };
+    /// assert!(rt; board.report(&rt, &mut reporter, &kick_off).is_ok());
+    /// assert!(rt; board.report(&rt, &mut reporter, &kick_off).is_err());
+    /// assert_eq!(rt; CellBoard::accepted_of(&reporter), 1);
+    /// ```
     fn accepted_of(pass: &Self::ReporterPass) -> u16
         ensures { result ≡ (reporter_figures (reporter pass.now)).1 };
 }

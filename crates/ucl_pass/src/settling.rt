@@ -13,6 +13,15 @@ use ucl_board::Reading;
 /// The two meet, and the second reads. The reading is answered where the two numbers differ and its version is the sum of both
 /// accepted counts: then each of its entries is one of theirs. Else the answer is 31 with the version that was read. Nothing is
 /// entered, and both passes stay usable; the second may have seen more.
+///
+/// ```rust
+/// let (board, mut pass) = CellBoard::open(&rt, rt.alloc())?;
+/// let other = board.split(&rt, &mut pass);
+/// let mut first = board.enlist(&rt, pass).ok().ok_or("no number")?;
+/// let mut second = board.enlist(&rt, other).ok().ok_or("no number")?;
+/// let settled = settle(&board, &rt, &mut first, &mut second);
+/// assert_eq!(rt; settled.map(|reading| reading.version), Ok(0));
+/// ```
 pub fn settle<B: LiveBoard, R: Wait>(
     board: &B,
     rt: &R,

@@ -1,6 +1,8 @@
 //! A board in one cell, and the texts of the refusals. The rows that every live board passes are run on this one too by the tests of the
 //! crate of the word board.
 
+mod examples;
+
 use crate::{CellBoard, LiveBoard, Strangers, TooManyReporters};
 use std::test::Fail;
 

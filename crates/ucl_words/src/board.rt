@@ -76,6 +76,12 @@ impl WordBoard {
     /// The fresh board, and the reader's pass from which all its passes come. The rule of the table lets no board open but one of no event,
     /// no reporter and no step. Where the memory of the table is refused the answer is `OutOfMemory`, and there is no board. No other call
     /// takes memory.
+    ///
+    /// ```rust
+    /// let (board, mut reader) = WordBoard::open(&rt, rt.alloc())?;
+    /// let reading = board.read_now(&mut reader);
+    /// assert_eq!(rt; reading.version, 0);
+    /// ```
     pub fn open<R>(_rt: &R, alloc: Global) -> Result<(WordBoard, WordReaderPass), OutOfMemory>
         ensures own { IfOk result (λ opened. opened.1.0 ≡ opened.0) }
         ensures fresh { IfOk result (λ opened. pass_view_of opened.1.1 ≡ opening_pass) }
@@ -261,6 +267,18 @@ impl WordBoard {
     /// Enters an event under the number of the pass, by one load and at most one compare and exchange of its match word. An accepted
     /// event is the last that the pass has seen. A refusal is the reply of a board of one thread after all that the pass has then seen,
     /// and enters nothing; where another event of the match came between the load and the exchange, it is `Stale` with the number found.
+    ///
+    /// ```rust
+    /// let (board, pass) = WordBoard::open(&rt, rt.alloc())?;
+    /// let mut reporter = board.enlist_now(pass).ok().ok_or("no number")?;
+    /// let kick_off = EventCall {
+    ///     game: MatchNo::new(1).ok_or("no match")?,
+    ///     expected: 0,
+    ///     kind: Kind::KickOff,
+    /// };
+    /// let reply = board.report_now(&mut reporter, &kick_off);
+    /// assert_eq!(rt; reply, Ok(Accepted { number: 1 }));
+    /// ```
     pub fn report_now(
         &self,
         pass: &mut WordReporterPass,
@@ -284,6 +302,13 @@ impl WordBoard {
 
     /// The board after a beginning of the history that has all that the pass had seen, and its version: loads all match words, and loads
     /// them again, anew from the first where one is another, in no more tries than a history can have lengths, of at most 24 loads.
+    ///
+    /// ```rust
+    /// let (board, mut reader) = WordBoard::open(&rt, rt.alloc())?;
+    /// let reading = board.read_now(&mut reader);
+    /// assert_eq!(rt; reading.version, 0);
+    /// assert_eq!(rt; reading.board.words(), [0x2000000000000000; 12]);
+    /// ```
     pub fn read_now(&self, pass: &mut WordReaderPass) -> Reading
         requires { pass.old.0 ≡ self.now }
         ensures own { pass.new.0 ≡ self.now }
@@ -297,6 +322,19 @@ impl WordBoard {
     }
 
     /// The same for a reporter.
+    ///
+    /// ```rust
+    /// let (board, pass) = WordBoard::open(&rt, rt.alloc())?;
+    /// let mut reporter = board.enlist_now(pass).ok().ok_or("no number")?;
+    /// let kick_off = EventCall {
+    ///     game: MatchNo::new(1).ok_or("no match")?,
+    ///     expected: 0,
+    ///     kind: Kind::KickOff,
+    /// };
+    /// let accepted = board.report_now(&mut reporter, &kick_off).is_ok();
+    /// let reading = board.read_own_now(&mut reporter);
+    /// assert_eq!(rt; (accepted, reading.version), (true, 1));
+    /// ```
     pub fn read_own_now(&self, pass: &mut WordReporterPass) -> Reading
         requires { pass.old.0 ≡ self.now }
         ensures own { pass.new.0 ≡ self.now }
@@ -311,6 +349,13 @@ impl WordBoard {
     }
 
     /// A second pass, which has seen as much as the lent one, for another thread. It has a copy of the trail.
+    ///
+    /// ```rust
+    /// let (board, mut reader) = WordBoard::open(&rt, rt.alloc())?;
+    /// let mut other = board.split_now(&mut reader);
+    /// let reading = board.read_now(&mut reader);
+    /// assert_eq!(rt; board.read_now(&mut other), reading);
+    /// ```
     pub fn split_now(&self, pass: &mut WordReaderPass) -> WordReaderPass
         requires { pass.old.0 ≡ self.now }
         ensures own { (pass.new.0 ≡ self.now) × (result.0 ≡ self.now) }
@@ -326,6 +371,15 @@ impl WordBoard {
 
     /// Makes a reader a reporter, under a number of its own, by at most 255 compare and exchanges of the enlist word. Where 255 are
     /// enlisted the answer is 30 with the pass, which may have seen more.
+    ///
+    /// ```rust
+    /// let (board, pass) = WordBoard::open(&rt, rt.alloc())?;
+    /// let version = match board.enlist_now(pass) {
+    ///     Ok(mut reporter) => board.read_own_now(&mut reporter).version,
+    ///     Err(TooManyReporters(mut reader)) => board.read_now(&mut reader).version,
+    /// };
+    /// assert_eq!(rt; version, 0);
+    /// ```
     pub fn enlist_now(
         &self,
         pass: WordReaderPass,
@@ -350,6 +404,15 @@ impl WordBoard {
     }
 
     /// Afterwards the second pass has seen all that either had seen, by one load of the enlist word. The first is as it was.
+    ///
+    /// ```rust
+    /// let (board, mut pass) = WordBoard::open(&rt, rt.alloc())?;
+    /// let other = board.split_now(&mut pass);
+    /// let mut first = board.enlist_now(pass).ok().ok_or("no number")?;
+    /// let mut second = board.enlist_now(other).ok().ok_or("no number")?;
+    /// board.meet_now(&mut first, &mut second);
+    /// assert_eq!(rt; board.read_own_now(&mut second).version, 0);
+    /// ```
     pub fn meet_now(&self, first: &mut WordReporterPass, second: &mut WordReporterPass)
         requires { (first.old.0 ≡ self.now) × (second.old.0 ≡ self.now) }
         ensures own { (first.new.0 ≡ self.now) × (second.new.0 ≡ self.now) }

@@ -1,6 +1,7 @@
 //! Boards of words, by one and by several threads, and the rows that every live board passes.
 
 mod boards;
+mod examples;
 
 ghost use Rattle.std.specs.Prelude.{◌≡◌};
 
