@@ -123,10 +123,14 @@ impl Board {
         ensures counted { (history : List Entry) → IsLegal history → board_of history ≡ self.old → let next = followed_by history (entry_of (reporter, call.now)) in IfOk result (λ a. (self.new ≡ board_of next) × IsLegal next) }
     {
         let at = usize::from(call.game.get() - 1);
-        let next = next_word(self.words[at], reporter, call.expected, call.kind)?;
-        self.words[at] = next;
-        Ok(Accepted {
-            number: number_of(next),
-        })
+        match next_word(self.words[at], reporter, call.expected, call.kind) {
+            Ok(next) => {
+                self.words[at] = next;
+                Ok(Accepted {
+                    number: number_of(next),
+                })
+            }
+            Err(refusal) => Err(refusal),
+        }
     }
 }

@@ -1,15 +1,14 @@
 //! Words of the first layout, which boards were written down in before.
 
-ghost use Rattle.std.specs.Prelude.{◌≡◌, ◌≤◌, ◌↔◌, IsTrue, Ok, IfOk, IfErr};
+ghost use Rattle.std.specs.Prelude.{◌≡◌, ◌<◌, ◌≤◌, ◌↔◌, IsTrue, Ok, IfOk, IfErr, MatchOption};
 ghost use Rattle.ucl_word.specs.declared.record.MatchRecord.{MatchRecord};
-ghost use Rattle.ucl_word.specs.Layout.{first_layout, word_of, IsMarked, IsWord};
+ghost use Rattle.ucl_word.specs.Layout.{first_layout, word_of, state_code, IsMarked, IsWord};
 ghost use Rattle.ucl_word.specs.Migration.{most_in_first, first_word_of, IsFirstValid, IsFirstWord, IsReadAs};
 
 use crate::record::{MatchRecord, State};
 use crate::refusal::BadWord;
 use crate::word::{
-    EXPULSIONS_WIDTH, GOALS_WIDTH, REPORTER_WIDTH, STATE_WIDTH, YELLOWS_WIDTH, field, pack,
-    state_of, unpack,
+    EXPULSIONS_WIDTH, GOALS_WIDTH, REPORTER_WIDTH, STATE_WIDTH, YELLOWS_WIDTH, field, pack, unpack,
 };
 
 // The lowest bit of each field in the first layout. The event number is the lowest field and has fewer bits than now; the
@@ -52,6 +51,18 @@ fn has_no_mark(word: u64) -> bool
     ensures { IsTrue result ↔ IsMarked first_layout word }
 {
     word >> FIELDS_END == 0
+}
+
+/// The state with this code, where there is one.
+fn state_of(code: u64) -> Option<State>
+    ensures { MatchOption result (2 < code) (λ s. code ≡ state_code s) }
+{
+    match code {
+        0 => Some(State::Scheduled),
+        1 => Some(State::InPlay),
+        2 => Some(State::Finished),
+        _ => None,
+    }
 }
 
 /// The record with this word in the first layout. A word that no record packed to which was valid in it is a bad word.

@@ -48,7 +48,7 @@ fn yellows_low(side: Side) -> u32
     }
 }
 
-fn expulsions_low(side: Side) -> u32
+fn expelled_low(side: Side) -> u32
     ensures { result ≡ (expulsions_field side).low }
 {
     match side {
@@ -127,19 +127,9 @@ fn changed(word: u64, kind: Kind) -> Result<u64, Refusal>
         Kind::Yellow(side) => raised(word, yellows_low(side), YELLOWS_WIDTH, MOST_YELLOWS),
         Kind::SecondYellow(side) => {
             let fewer = lowered(word, yellows_low(side), YELLOWS_WIDTH, Refusal::NoCaution)?;
-            raised(
-                fewer,
-                expulsions_low(side),
-                EXPULSIONS_WIDTH,
-                MOST_EXPULSIONS,
-            )
+            raised(fewer, expelled_low(side), EXPULSIONS_WIDTH, MOST_EXPULSIONS)
         }
-        Kind::Red(side) => raised(
-            word,
-            expulsions_low(side),
-            EXPULSIONS_WIDTH,
-            MOST_EXPULSIONS,
-        ),
+        Kind::Red(side) => raised(word, expelled_low(side), EXPULSIONS_WIDTH, MOST_EXPULSIONS),
     }
 }
 

@@ -1,9 +1,10 @@
 //! A match as one word.
 
-ghost use Rattle.std.specs.Prelude.{◌≡◌, ◌*◌, ◌+◌, ◌^◌, ◌<◌, ◌≤◌, ◌/◌, ◌%◌, ◌↔◌, IsTrue, Ok, IfOk, IfErr, MatchOption};
+ghost use Rattle.std.specs.Prelude.{◌≡◌, ◌*◌, ◌+◌, ◌^◌, ◌<◌, ◌≤◌, ◌/◌, ◌%◌, ◌↔◌, IsTrue, Ok, IfOk, IfErr};
 ghost use Rattle.ucl_word.specs.declared.record.MatchRecord.{MatchRecord};
 ghost use Rattle.ucl_word.specs.Record.{last_number, IsValid};
-ghost use Rattle.ucl_word.specs.Layout.{layout, word_of, record_at, state_code, state_at, bits_at, IsMarked, IsWord};
+ghost use Rattle.ucl_word.specs.Layout.{layout, word_of, record_at, state_code, bits_at, IsMarked, IsWord};
+ghost use Rattle.ucl_word.specs.Reading.{HoldsRecord};
 
 use crate::record::{MatchRecord, State};
 use crate::refusal::BadWord;
@@ -117,17 +118,6 @@ pub(crate) fn state_in(word: u64) -> State
     }
 }
 
-pub(crate) fn state_of(code: u64) -> Option<State>
-    ensures { MatchOption result (2 < code) (λ s. code ≡ state_code s) }
-{
-    match code {
-        0 => Some(State::Scheduled),
-        1 => Some(State::InPlay),
-        2 => Some(State::Finished),
-        _ => None,
-    }
-}
-
 /// Whether the mark of the layout, and nothing else, stands above the fields.
 fn is_marked(word: u64) -> bool
     ensures { IsTrue result ↔ IsMarked layout word }
@@ -135,41 +125,9 @@ fn is_marked(word: u64) -> bool
     word >> FIELDS_END == MARK << (MARK_LOW - FIELDS_END)
 }
 
-/// The valid record with this word. A word that no valid record packs to is a bad word: one whose bits from
-/// `FIELDS_END` on are not the mark, with state 3, or with fields that no match can have.
-pub fn unpack(word: u64) -> Result<MatchRecord, BadWord>
-    ensures valid { IfOk result IsValid }
-    ensures packed { IfOk result (λ m. word_of m ≡ word) }
-    ensures value { IfOk result (λ m. m ≡ record_at word) }
-    ensures refused { IfErr result (λ _. IsWord word → ⊥) }
-    ensures read_back { (m : MatchRecord) → IsValid m → word_of m ≡ word → result ≡ Ok m }
-{
-    let Some(state) = state_of(field(word, STATE_LOW, STATE_WIDTH)) else {
-        return Err(BadWord);
-    };
-    let game = MatchRecord {
-        number: field(word, 0, NUMBER_WIDTH) as u16,
-        state,
-        home_goals: field(word, HOME_GOALS_LOW, GOALS_WIDTH) as u8,
-        away_goals: field(word, AWAY_GOALS_LOW, GOALS_WIDTH) as u8,
-        home_yellows: field(word, HOME_YELLOWS_LOW, YELLOWS_WIDTH) as u8,
-        away_yellows: field(word, AWAY_YELLOWS_LOW, YELLOWS_WIDTH) as u8,
-        home_expulsions: field(word, HOME_EXPULSIONS_LOW, EXPULSIONS_WIDTH) as u8,
-        away_expulsions: field(word, AWAY_EXPULSIONS_LOW, EXPULSIONS_WIDTH) as u8,
-        reporter: field(word, REPORTER_LOW, REPORTER_WIDTH) as u8,
-    };
-    if is_marked(word) && game.is_valid() {
-        Ok(game)
-    } else {
-        Err(BadWord)
-    }
-}
-
-/// The record of a word that a valid record has. The word is not looked at again, as `unpack` does.
-pub fn record_of(word: u64) -> MatchRecord
-    requires { IsWord word }
-    ensures value { result ≡ record_at word }
-    ensures valid { IsValid result }
+/// What the fields of a word hold, whatever they hold.
+fn fields_of(word: u64) -> MatchRecord
+    ensures { result ≡ record_at word }
 {
     MatchRecord {
         number: number_of(word),
@@ -182,4 +140,38 @@ pub fn record_of(word: u64) -> MatchRecord
         away_expulsions: field(word, AWAY_EXPULSIONS_LOW, EXPULSIONS_WIDTH) as u8,
         reporter: field(word, REPORTER_LOW, REPORTER_WIDTH) as u8,
     }
+}
+
+/// Whether a word is that of a valid record, which is then what its fields hold.
+fn is_packed(word: u64, fields: &MatchRecord) -> bool
+    requires { fields.now ≡ record_at word }
+    ensures { IsTrue result ↔ HoldsRecord word }
+{
+    is_marked(word) && field(word, STATE_LOW, STATE_WIDTH) < 3 && fields.is_valid()
+}
+
+/// The valid record with this word. A word that no valid record packs to is a bad word: one whose bits from
+/// `FIELDS_END` on are not the mark, with state 3, or with fields that no match can have.
+pub fn unpack(word: u64) -> Result<MatchRecord, BadWord>
+    ensures valid { IfOk result IsValid }
+    ensures packed { IfOk result (λ m. word_of m ≡ word) }
+    ensures value { IfOk result (λ m. m ≡ record_at word) }
+    ensures refused { IfErr result (λ _. IsWord word → ⊥) }
+    ensures read_back { (m : MatchRecord) → IsValid m → word_of m ≡ word → result ≡ Ok m }
+{
+    let game = fields_of(word);
+    if is_packed(word, &game) {
+        Ok(game)
+    } else {
+        Err(BadWord)
+    }
+}
+
+/// The record of a word that a valid record has. The word is not looked at again, as `unpack` does.
+pub fn record_of(word: u64) -> MatchRecord
+    requires { IsWord word }
+    ensures value { result ≡ record_at word }
+    ensures valid { IsValid result }
+{
+    fields_of(word)
 }

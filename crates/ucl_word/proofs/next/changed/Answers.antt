@@ -9,7 +9,7 @@ pub overflow_add-result-in-FullTime : goal.overflow_add-result-in-FullTime
 overflow_add-result-in-FullTime c = let below = word_below c.args.word c.requires.word in omega arith
 
 pub overflow_sub-result : goal.overflow_sub-result
-overflow_sub-result c = reopen_below c.args.word c.requires.word (rw c.in-Reopen.is at c.requires.state)
+overflow_sub-result c = let below = reopen_below c.args.word c.requires.word (rw c.in-Reopen.is at c.requires.state) in omega arith
 
 pub raised-requires-clause-word : goal.raised-requires-clause-word
 raised-requires-clause-word c = let below = word_below c.args.word c.requires.word in omega arith
@@ -42,7 +42,7 @@ pub returns-in-Yellow : goal.returns-in-Yellow
 returns-in-Yellow c = rw c.in-Yellow.is (yellow_changes c.args.word c.requires.word c.in-Yellow.side c.raised-in-Yellow.result (rw (← c.yellows_low.ensures) c.raised-in-Yellow.ensures))
 
 pub returns-in-Red : goal.returns-in-Red
-returns-in-Red c = rw c.in-Red.is (red_changes c.args.word c.requires.word c.in-Red.side c.raised-in-Red.result (rw (← c.expulsions_low-in-Red.ensures) c.raised-in-Red.ensures))
+returns-in-Red c = rw c.in-Red.is (red_changes c.args.word c.requires.word c.in-Red.side c.raised-in-Red.result (rw (← c.expelled_low-in-Red.ensures) c.raised-in-Red.ensures))
 
 pub returns-in_err-fewer-in-SecondYellow : goal.returns-in_err-fewer-in-SecondYellow
 returns-in_err-fewer-in-SecondYellow c =
@@ -55,4 +55,4 @@ pub returns-in_ok-fewer-in-SecondYellow : goal.returns-in_ok-fewer-in-SecondYell
 returns-in_ok-fewer-in-SecondYellow c =
     rw c.in-SecondYellow.is (second_yellow_changes c.args.word c.requires.word c.in-SecondYellow.side c.in_ok-fewer-in-SecondYellow.fewer (rw c.in-SecondYellow.is at c.requires.state)
     (rw (← c.yellows_low-in-SecondYellow.ensures) c.in_ok-fewer-in-SecondYellow.ensures.0) (rw (← c.yellows_low-in-SecondYellow.ensures) c.in_ok-fewer-in-SecondYellow.ensures.1)
-    c.raised-in-SecondYellow.result (rw (← c.expulsions_low.ensures) c.raised-in-SecondYellow.ensures))
+    c.raised-in-SecondYellow.result (rw (← c.expelled_low.ensures) c.raised-in-SecondYellow.ensures))
