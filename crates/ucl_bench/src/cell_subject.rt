@@ -8,7 +8,7 @@ use std::alloc::Global;
 use std::sync::{Arc, Wait};
 use ucl_board::Reading;
 use ucl_pass::{CellBoard, CellReaderPass, CellReporterPass, LiveBoard};
-use ucl_word::{EventCall, OutOfMemory};
+use ucl_word::{Accepted, EventCall, OutOfMemory, Refusal};
 
 /// A reader's pass with its board.
 #[derive(Drop)]
@@ -60,8 +60,13 @@ impl Subject for CellSubject {
         reader.board.read(rt, &mut reader.pass)
     }
 
-    fn report<R: Wait>(rt: &R, reporter: &mut CellReporter, call: &EventCall) -> bool {
-        reporter.board.report(rt, &mut reporter.pass, call).is_ok()
+    #[inline(always)]
+    fn report<R: Wait>(
+        rt: &R,
+        reporter: &mut CellReporter,
+        call: &EventCall,
+    ) -> Result<Accepted, Refusal> {
+        reporter.board.report(rt, &mut reporter.pass, call)
     }
 
     fn version_of(reading: &Reading) -> u16 {
@@ -70,5 +75,10 @@ impl Subject for CellSubject {
 
     fn words_of(reading: &Reading) -> [u64; 12] {
         reading.board.words()
+    }
+
+    /// A pass does not tell.
+    fn retries_of(_reader: &CellReader) -> Option<u64> {
+        None
     }
 }

@@ -19,21 +19,42 @@ pub fn nanos_since(clock: &impl Clock, begun: u64) -> u64 {
     nanos(clock).saturating_sub(begun)
 }
 
+/// The quotient of two numbers, in parts of a power of ten; 0 where the divisor is 0.
+fn parts_of(number: u64, divisor: u64, power: u128) -> u128 {
+    match u128::from(number)
+        .wrapping_mul(power)
+        .checked_div(u128::from(divisor))
+    {
+        Some(parts) => parts,
+        None => 0,
+    }
+}
+
 /// The quotient of two numbers, written with two decimals; 0 where the divisor is 0.
 #[derive(Clone, Copy)]
 pub struct Quotient(pub u64, pub u64);
 
 impl fmt::Display for Quotient {
     fn fmt<W: fmt::Write>(&self, f: &mut fmt::Formatter<W>) -> fmt::Result {
-        let hundredths = match u128::from(self.0)
-            .wrapping_mul(100)
-            .checked_div(u128::from(self.1))
-        {
-            Some(hundredths) => hundredths,
-            None => 0,
-        };
-        let whole = hundredths / 100;
-        let part = hundredths % 100;
+        let parts = parts_of(self.0, self.1, 100);
+        let whole = parts / 100;
+        let part = parts % 100;
         write!(f, "{whole}.{part:02}")
+    }
+}
+
+/// The quotient of two numbers, written with six decimals; `null` where the first is not known.
+#[derive(Clone, Copy)]
+pub struct FineQuotient(pub Option<u64>, pub u64);
+
+impl fmt::Display for FineQuotient {
+    fn fmt<W: fmt::Write>(&self, f: &mut fmt::Formatter<W>) -> fmt::Result {
+        let Some(number) = self.0 else {
+            return write!(f, "null");
+        };
+        let parts = parts_of(number, self.1, 1_000_000);
+        let whole = parts / 1_000_000;
+        let part = parts % 1_000_000;
+        write!(f, "{whole}.{part:06}")
     }
 }

@@ -2,12 +2,16 @@
 
 use crate::cell_subject::CellSubject;
 use crate::locked_words::LockedSubject;
-use crate::nights::{Nights, Plan};
+use crate::nights::{Plan, Style};
 use crate::one_thread::{Chunks, measure_read, measure_report};
 use crate::plain_table::PlainTable;
 use crate::plain_words::PlainSubject;
-use crate::starts::{cell_nights, locked_nights, plain_nights, word_nights};
-use crate::tables::{OurTable, boards_of, measure_screens, measure_standings};
+use crate::starts::measure_nights;
+use crate::subject::Subject;
+use crate::tables::{
+    OurTable, Rounds, Table, boards_of, measure_screens, measure_standings, print_screens,
+    print_standings,
+};
 use crate::word_subject::WordSubject;
 use anyhow::{Context, Result};
 use std::alloc::Global;
@@ -15,35 +19,53 @@ use std::fs;
 use std::rt::{Clock, Files};
 use std::sync::Wait;
 use std::thread::Threads;
+use ucl_board::Board;
 
 /// What can be measured.
-const LIST: &str = "word_board read report mix-R-W paced-R-W
-cell_board read report mix-R-W paced-R-W
-plain_words read report mix-R-W paced-R-W
-locked_words read report mix-R-W paced-R-W
+const LIST: &str = "word_board read report mix-R-W paced-R-W night
+cell_board read report mix-R-W paced-R-W night
+plain_words read report mix-R-W paced-R-W night
+locked_words read report mix-R-W paced-R-W night
 our_table standings screen
 plain_table standings screen
 ";
 
+/// What words there are.
+const USAGE: &str = "list, run SUBJECT WORKLOAD MS [FILE], or check SUBJECT standings|screen FILE";
+
+/// Calls by one thread.
+#[derive(Clone, Copy, Debug, PartialEq, Eq)]
+pub enum Calls {
+    Reads,
+    Reports,
+}
+
 /// A workload of a board.
 #[derive(Clone, Copy, Debug, PartialEq, Eq)]
 pub enum Workload {
-    Read,
-    Report,
+    Calls(Calls),
     Nights(Plan),
 }
 
-/// A workload by its name: `read`, `report`, `mix-R-W` or `paced-R-W`, with R readers and W reporters, each 0 to 12.
+/// A workload by its name: `read`, `report`, `mix-R-W` or `paced-R-W`, with R readers and W reporters, each 0 to 12; or `night`, with
+/// two of each.
 pub fn workload_of(name: &str) -> Option<Workload> {
     match name {
-        "read" => return Some(Workload::Read),
-        "report" => return Some(Workload::Report),
+        "read" => return Some(Workload::Calls(Calls::Reads)),
+        "report" => return Some(Workload::Calls(Calls::Reports)),
+        "night" => {
+            return Some(Workload::Nights(Plan {
+                style: Style::Night,
+                readers: 2,
+                reporters: 2,
+            }));
+        }
         _ => {}
     }
     let mut parts = name.split('-');
-    let is_paced = match parts.next()? {
-        "mix" => false,
-        "paced" => true,
+    let style = match parts.next()? {
+        "mix" => Style::Mix,
+        "paced" => Style::Paced,
         _ => return None,
     };
     let readers = parts.next()?.parse::<u8>().ok()?;
@@ -52,79 +74,75 @@ pub fn workload_of(name: &str) -> Option<Workload> {
         return None;
     }
     Some(Workload::Nights(Plan {
+        style,
         readers,
         reporters,
-        is_paced,
     }))
 }
 
-/// Readings of a subject by one thread.
-fn reads_of<R: Wait + Clock>(rt: &R, alloc: Global, subject: &str, millis: u64) -> Result<Chunks> {
-    match subject {
-        "word_board" => measure_read::<WordSubject, R>(rt, alloc, millis),
-        "cell_board" => measure_read::<CellSubject, R>(rt, alloc, millis),
-        "plain_words" => measure_read::<PlainSubject, R>(rt, alloc, millis),
-        "locked_words" => measure_read::<LockedSubject, R>(rt, alloc, millis),
-        _ => anyhow::bail!("no such subject"),
+/// Measures calls of a subject by one thread.
+fn measure_calls<S: Subject, R: Wait + Clock>(
+    rt: &R,
+    alloc: Global,
+    calls: Calls,
+    millis: u64,
+) -> Result<Chunks> {
+    match calls {
+        Calls::Reads => measure_read::<S, R>(rt, alloc, millis),
+        Calls::Reports => measure_report::<S, R>(rt, alloc, millis),
     }
 }
 
-/// Reports to a subject by one thread.
-fn reports_of<R: Wait + Clock>(
+/// The same of the subject of this name.
+fn calls_of<R: Wait + Clock>(
     rt: &R,
     alloc: Global,
     subject: &str,
+    calls: Calls,
     millis: u64,
 ) -> Result<Chunks> {
     match subject {
-        "word_board" => measure_report::<WordSubject, R>(rt, alloc, millis),
-        "cell_board" => measure_report::<CellSubject, R>(rt, alloc, millis),
-        "plain_words" => measure_report::<PlainSubject, R>(rt, alloc, millis),
-        "locked_words" => measure_report::<LockedSubject, R>(rt, alloc, millis),
+        "word_board" => measure_calls::<WordSubject, R>(rt, alloc, calls, millis),
+        "cell_board" => measure_calls::<CellSubject, R>(rt, alloc, calls, millis),
+        "plain_words" => measure_calls::<PlainSubject, R>(rt, alloc, calls, millis),
+        "locked_words" => measure_calls::<LockedSubject, R>(rt, alloc, calls, millis),
         _ => anyhow::bail!("no such subject"),
     }
 }
 
-/// Nights of a subject.
-fn nights_of<R: Threads + Wait + Clock + Copy + Send + 'static>(
-    rt: R,
-    alloc: Global,
-    subject: &str,
-    plan: Plan,
-    millis: u64,
-) -> Result<Nights> {
-    match subject {
-        "word_board" => word_nights(rt, alloc, plan, millis),
-        "cell_board" => cell_nights(rt, alloc, plan, millis),
-        "plain_words" => plain_nights(rt, alloc, plan, millis),
-        "locked_words" => locked_nights(rt, alloc, plan, millis),
-        _ => anyhow::bail!("no such subject"),
-    }
-}
-
-/// Measures the table or the screen of the boards of a file, and prints a line of JSON.
-fn run_table<R: Print + Files + AllocGlobal + Wait + Clock>(
+/// Measures the table or the screen of boards.
+fn measure_table<T: Table, R: Wait + Clock>(
     rt: &R,
     alloc: Global,
-    subject: &str,
     name: &str,
     millis: u64,
-    path: &str,
-) -> Result<()> {
-    let text = fs::read_to_string(rt, path)?;
-    let boards = boards_of(alloc, text.as_str())?;
-    let boards = boards.as_slice();
-    let rounds = match (subject, name) {
-        ("our_table", "standings") => measure_standings::<OurTable, R>(rt, alloc, boards, millis)?,
-        ("our_table", "screen") => measure_screens::<OurTable, R>(rt, alloc, boards, millis)?,
-        ("plain_table", "standings") => {
-            measure_standings::<PlainTable, R>(rt, alloc, boards, millis)?
-        }
-        ("plain_table", "screen") => measure_screens::<PlainTable, R>(rt, alloc, boards, millis)?,
+    boards: &[Board],
+) -> Result<Rounds> {
+    match name {
+        "standings" => measure_standings::<T, R>(rt, alloc, boards, millis),
+        "screen" => measure_screens::<T, R>(rt, alloc, boards, millis),
         _ => anyhow::bail!("no such workload"),
-    };
-    println!(rt; "{{\"subject\":\"{subject}\",\"workload\":\"{name}\",{rounds}}}")?;
-    Ok(())
+    }
+}
+
+/// Prints the rows, or the screens, of boards.
+fn print_table<T: Table, R: Print + AllocGlobal>(
+    rt: &R,
+    alloc: Global,
+    name: &str,
+    boards: &[Board],
+) -> Result<()> {
+    match name {
+        "standings" => print_standings::<T, R>(rt, alloc, boards),
+        "screen" => print_screens::<T, R>(rt, alloc, boards),
+        _ => anyhow::bail!("no such workload"),
+    }
+}
+
+/// The boards of a file.
+fn boards_in<R: Files + AllocGlobal>(rt: &R, alloc: Global, path: &str) -> Result<Vec<Board>> {
+    let text = fs::read_to_string(rt, path)?;
+    boards_of(alloc, text.as_str())
 }
 
 /// A word; empty where there is none.
@@ -135,44 +153,67 @@ fn word_at(words: &[String], i: usize) -> &str {
     }
 }
 
-/// Does what the words ask for; the first of them is the program's name.
-pub fn run<R: Print + Files + AllocGlobal + Threads + Wait + Clock + Copy + Send + 'static>(
+/// Prints the rows, or the screens, of the boards of a file.
+fn check<R: Print + Files + AllocGlobal>(rt: &R, alloc: Global, words: &[String]) -> Result<()> {
+    let name = word_at(words, 3);
+    let boards = boards_in(rt, alloc, word_at(words, 4))?;
+    match word_at(words, 2) {
+        "our_table" => print_table::<OurTable, R>(rt, alloc, name, &boards),
+        "plain_table" => print_table::<PlainTable, R>(rt, alloc, name, &boards),
+        _ => anyhow::bail!("no such subject"),
+    }
+}
+
+/// Measures what the words name, and prints a line of JSON.
+fn run_workload<R: Print + Files + AllocGlobal + Threads + Wait + Clock + Copy + Send + 'static>(
     rt: R,
     alloc: Global,
     words: &[String],
 ) -> Result<()> {
-    if word_at(words, 1) == "list" {
-        print!(&rt; "{LIST}")?;
-        return Ok(());
-    }
-    if word_at(words, 1) != "run" {
-        anyhow::bail!("list, or run SUBJECT WORKLOAD MS [FILE]");
-    }
     let subject = word_at(words, 2);
     let name = word_at(words, 3);
     let millis = word_at(words, 4)
         .parse::<u64>()
         .ok()
         .context("how many milliseconds?")?;
-    if subject == "our_table" || subject == "plain_table" {
-        return run_table(&rt, alloc, subject, name, millis, word_at(words, 5));
-    }
-    let head = format!(in alloc; "{{\"subject\":\"{subject}\",\"workload\":\"{name}\",")?;
-    match workload_of(name).context("no such workload")? {
-        Workload::Read => {
-            let chunks = reads_of(&rt, alloc, subject, millis)?;
-            println!(&rt; "{head}{chunks}}}")?;
+    let head = format!(in alloc; "{{\"board\":\"{subject}\",\"workload\":\"{name}\",")?;
+    match subject {
+        "our_table" => {
+            let boards = boards_in(&rt, alloc, word_at(words, 5))?;
+            let rounds = measure_table::<OurTable, R>(&rt, alloc, name, millis, &boards)?;
+            println!(&rt; "{head}{rounds}}}")?;
         }
-        Workload::Report => {
-            let chunks = reports_of(&rt, alloc, subject, millis)?;
-            println!(&rt; "{head}{chunks}}}")?;
+        "plain_table" => {
+            let boards = boards_in(&rt, alloc, word_at(words, 5))?;
+            let rounds = measure_table::<PlainTable, R>(&rt, alloc, name, millis, &boards)?;
+            println!(&rt; "{head}{rounds}}}")?;
         }
-        Workload::Nights(plan) => {
-            let nights = nights_of(rt, alloc, subject, plan, millis)?;
-            println!(&rt; "{head}{nights}}}")?;
-        }
+        _ => match workload_of(name).context("no such workload")? {
+            Workload::Calls(calls) => {
+                let chunks = calls_of(&rt, alloc, subject, calls, millis)?;
+                println!(&rt; "{head}{chunks}}}")?;
+            }
+            Workload::Nights(plan) => {
+                let nights = measure_nights(rt, alloc, subject, plan, millis)?;
+                println!(&rt; "{head}{nights}}}")?;
+            }
+        },
     }
     Ok(())
+}
+
+/// Does what the words ask for; the first of them is the program's name.
+pub fn run<R: Print + Files + AllocGlobal + Threads + Wait + Clock + Copy + Send + 'static>(
+    rt: R,
+    alloc: Global,
+    words: &[String],
+) -> Result<()> {
+    match word_at(words, 1) {
+        "list" => Ok(print!(&rt; "{LIST}")?),
+        "run" => run_workload(rt, alloc, words),
+        "check" => check(&rt, alloc, words),
+        _ => anyhow::bail!("{USAGE}"),
+    }
 }
 
 #[cfg(test)]

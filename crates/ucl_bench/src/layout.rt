@@ -37,3 +37,8 @@ pub const REPORTER: u64 = 255;
 
 /// The word of a match that has not kicked off: the mark of the layout alone.
 pub const SCHEDULED: u64 = 2 << 60;
+
+/// The event number of a word.
+pub fn number_of(word: u64) -> u16 {
+    (word & NUMBER) as u16
+}

@@ -1,11 +1,11 @@
 //! A reference: twelve match words under a lock.
 
-use crate::layout::SCHEDULED;
+use crate::layout::{SCHEDULED, number_of};
 use crate::plain_words::{PlainReading, next_word, version_of};
 use crate::subject::Subject;
 use std::alloc::Global;
 use std::sync::{Arc, Mutex, Wait};
-use ucl_word::{EventCall, OutOfMemory};
+use ucl_word::{Accepted, EventCall, OutOfMemory, Refusal};
 
 /// The lock with the words.
 pub type Locked = Arc<Mutex<[u64; 12]>>;
@@ -48,16 +48,18 @@ impl Subject for LockedSubject {
         PlainReading { words, version }
     }
 
-    fn report<R: Wait>(rt: &R, reporter: &mut LockedReporter, call: &EventCall) -> bool {
+    #[inline(always)]
+    fn report<R: Wait>(
+        rt: &R,
+        reporter: &mut LockedReporter,
+        call: &EventCall,
+    ) -> Result<Accepted, Refusal> {
         let mut words = reporter.words.lock(rt);
         let word = &mut words[usize::from(call.game.get() - 1)];
-        match next_word(*word, reporter.number, call.expected, call.kind) {
-            Some(next) => {
-                *word = next;
-                true
-            }
-            None => false,
-        }
+        *word = next_word(*word, reporter.number, call)?;
+        Ok(Accepted {
+            number: number_of(*word),
+        })
     }
 
     fn version_of(reading: &PlainReading) -> u16 {
@@ -66,5 +68,10 @@ impl Subject for LockedSubject {
 
     fn words_of(reading: &PlainReading) -> [u64; 12] {
         reading.words
+    }
+
+    /// A lock is waited for, and no reading is taken twice.
+    fn retries_of(_reader: &Locked) -> Option<u64> {
+        Some(0)
     }
 }

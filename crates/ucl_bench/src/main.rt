@@ -1,5 +1,6 @@
-//! Measures the boards and the table, beside plain references in the same program: `ucl_bench list` prints what can be measured, and
-//! `ucl_bench run SUBJECT WORKLOAD MS [FILE]` measures for about so many milliseconds and prints one line of JSON.
+//! Measures the boards and the table, beside plain references in the same program: `ucl_bench list` prints what can be measured,
+//! `ucl_bench run SUBJECT WORKLOAD MS [FILE]` measures for about so many milliseconds and prints one line of JSON, and
+//! `ucl_bench check SUBJECT standings|screen FILE` prints the rows, or the screens, of the boards of a file.
 #![tactic(auto)]
 
 mod cell_subject;

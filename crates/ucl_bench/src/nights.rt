@@ -1,7 +1,9 @@
-//! Nights: readers and reporters in threads of their own, which stay for all nights, each of which has a fresh board.
+//! Nights: readers and reporters in threads of their own, which stay for all nights, each of which has a fresh board. Nights without a
+//! clock, of which the rates are told, and nights in which each reading is timed and checked take turns.
 
-use crate::clock::{Quotient, nanos, nanos_since};
+use crate::clock::{FineQuotient, Quotient, nanos, nanos_since};
 use crate::events::{ALL_EVENTS, MATCHES, event_at, is_of};
+use crate::layout::LAST_NUMBER;
 use crate::subject::{Subject, read_once, report_once};
 use crate::tally::{Cut, Tally, is_whole};
 use anyhow::{Context, Result};
@@ -20,33 +22,47 @@ const PACE_NANOS: u64 = 5_000;
 /// How many events of each match a paced reporter enters.
 const PACED_EVENTS: u16 = 100;
 
-/// Of so many readings one is timed and checked.
-const TIMED_ONE_IN: u64 = 8;
+/// How long a night without a reporter is.
+const QUIET_NIGHT_MILLIS: u64 = 20;
+
+/// How many readings are taken without a clock before a reader looks whether the night has ended.
+const READINGS_AT_ONCE: u64 = 16;
+
+/// How reporters share the matches of a night.
+#[derive(Clone, Copy, Debug, PartialEq, Eq)]
+pub enum Style {
+    /// Each has matches of its own, and enters one event after the other.
+    Mix,
+    /// Each has matches of its own, and enters an event each five microseconds.
+    Paced,
+    /// All enter every match, and go on from the number that a reply tells.
+    Night,
+}
 
 /// Who works on each night, and how.
 #[derive(Clone, Copy, Debug, PartialEq, Eq)]
 pub struct Plan {
+    pub style: Style,
     pub readers: u8,
     pub reporters: u8,
-    pub is_paced: bool,
 }
 
 impl Plan {
+    /// How the events are cut. Where all reporters enter every match, each match ends before the next begins, as by one reporter.
     pub fn cut(&self) -> Cut {
-        Cut {
-            events: if self.is_paced {
-                PACED_EVENTS
-            } else {
-                ALL_EVENTS
-            },
-            reporters: self.reporters,
-        }
+        let (events, reporters) = match self.style {
+            Style::Mix => (ALL_EVENTS, self.reporters),
+            Style::Paced => (PACED_EVENTS, self.reporters),
+            Style::Night => (ALL_EVENTS, 1),
+        };
+        Cut { events, reporters }
     }
 }
 
 /// What the workers of one night share.
 #[derive(Drop)]
 pub struct Night {
+    is_timed: bool,
     workers: u64,
     come: AtomicU64,
     reporting: AtomicU64,
@@ -84,10 +100,11 @@ pub struct Shift {
     entered: u64,
 }
 
-/// What all nights came to.
+/// What all nights came to: how many there were, and of those without a clock how many, for how long, and how many events.
 #[derive(Clone, Copy)]
 struct Sums {
     nights: u64,
+    untimed: u64,
     nanos: u64,
     entered: u64,
 }
@@ -110,66 +127,82 @@ impl fmt::Display for Nights {
         } = self.plan;
         let Sums {
             nights,
+            untimed,
             nanos,
             entered,
         } = self.sums;
-        let reads_per_s = Quotient(
-            self.tally.reads.wrapping_mul(1_000_000),
-            self.tally.nanos / 1000,
-        );
+        let tally = &self.tally;
+        let reads_per_s = Quotient(tally.reads.wrapping_mul(1_000_000), tally.nanos / 1000);
         let reports_per_s = Quotient(entered.wrapping_mul(1_000_000), nanos / 1000);
-        let night_ms = Quotient(nanos / 10_000, nights.wrapping_mul(100));
-        let p50 = self.tally.time_at(500);
-        let p999 = self.tally.time_at(999);
-        let max = self.tally.longest;
-        let checked = self.tally.checked;
-        let torn = self.tally.torn;
+        let night_ms = Quotient(nanos / 10_000, untimed.wrapping_mul(100));
+        let retries = FineQuotient(tally.retries, tally.reads);
+        let p50 = tally.time_at(500);
+        let p999 = tally.time_at(999);
+        let max = tally.longest;
         let clock = self.clock_nanos;
+        let checked = tally.checked;
+        let whole = tally.whole;
+        let torn = tally.torn();
         write!(
             f,
             "\"readers\":{readers},\"reporters\":{reporters},\"nights\":{nights},"
         )?;
         write!(
             f,
-            "\"reads_per_s\":{reads_per_s},\"reports_per_s\":{reports_per_s},\"night_ms\":{night_ms},"
+            "\"reads_per_s\":{reads_per_s},\"reports_per_s\":{reports_per_s},\"night_ms\":{night_ms},\"retries_per_read\":{retries},"
         )?;
         write!(
             f,
             "\"p50_ns\":{p50},\"p999_ns\":{p999},\"max_ns\":{max},\"clock_ns\":{clock},"
         )?;
-        write!(f, "\"checked\":{checked},\"torn\":{torn}")
+        write!(f, "\"checked\":{checked},\"whole\":{whole},\"torn\":{torn}")
     }
 }
 
-/// Reads through a night.
-fn read_night<S: Subject, R: Wait + Clock>(
+/// Reads through a night without a clock.
+fn read_freely<S: Subject, R: Wait + Clock>(
     rt: &R,
-    ticket: Ticket<S::Reader>,
-    cut: Cut,
+    part: &mut S::Reader,
+    night: &Night,
     tally: &mut Tally,
 ) {
-    let Ticket { mut part, night } = ticket;
-    night.begin(rt);
-    let mut last = 0;
+    let mut reads = 0u64;
     let begun = nanos(rt);
     for _ in rt.forever() {
         if night.has_ended() {
             break;
         }
-        for _ in 1..TIMED_ONE_IN {
-            let version = S::version_of(&read_once::<S, R>(rt, &mut part));
-            tally.torn = tally.torn.wrapping_add(u64::from(version < last));
-            last = version;
+        for _ in 0..READINGS_AT_ONCE {
+            read_once::<S, R>(rt, part);
         }
-        let from = nanos(rt);
-        let reading = read_once::<S, R>(rt, &mut part);
-        tally.add_time(nanos_since(rt, from));
-        let version = S::version_of(&reading);
-        tally.add_check(last <= version && is_whole(&S::words_of(&reading), version, cut));
-        last = version;
-        tally.reads = tally.reads.wrapping_add(TIMED_ONE_IN);
+        reads = reads.wrapping_add(READINGS_AT_ONCE);
     }
-    tally.nanos = tally.nanos.wrapping_add(nanos_since(rt, begun));
+    tally.add_reads(reads, nanos_since(rt, begun), S::retries_of(part));
+}
+
+/// Reads through a night, and times and checks each reading.
+fn read_timed<S: Subject, R: Wait + Clock>(
+    rt: &R,
+    part: &mut S::Reader,
+    night: &Night,
+    cut: Cut,
+    tally: &mut Tally,
+) {
+    let mut last = 0;
+    for _ in rt.forever() {
+        if night.has_ended() {
+            break;
+        }
+        let begun = nanos(rt);
+        let reading = read_once::<S, R>(rt, part);
+        let taken = nanos_since(rt, begun);
+        let version = S::version_of(&reading);
+        tally.add_checked(
+            taken,
+            last <= version && is_whole(&S::words_of(&reading), version, cut),
+        );
+        last = version;
+    }
 }
 
 /// Reads through all nights, and hands back what was found.
@@ -181,7 +214,13 @@ pub fn read_nights<S: Subject, R: Wait + Clock>(
 ) -> Tally {
     let mut tally = tally;
     for ticket in nights.iter(rt) {
-        read_night::<S, R>(rt, ticket, cut, &mut tally);
+        let Ticket { mut part, night } = ticket;
+        night.begin(rt);
+        if night.is_timed {
+            read_timed::<S, R>(rt, &mut part, &night, cut, &mut tally);
+        } else {
+            read_freely::<S, R>(rt, &mut part, &night, &mut tally);
+        }
     }
     tally
 }
@@ -195,42 +234,51 @@ fn wait_for<R: Wait + Clock>(rt: &R, due: u64) {
     }
 }
 
-/// Enters a reporter's events of a night.
-fn enter_night<S: Subject, R: Wait + Clock>(
+/// Enters the events of a reporter's own matches, and tells how many were accepted.
+fn enter_own<S: Subject, R: Wait + Clock>(
     rt: &R,
-    ticket: Ticket<S::Reporter>,
+    part: &mut S::Reporter,
     index: u8,
     plan: Plan,
-) -> Shift {
-    let Ticket { mut part, night } = ticket;
+) -> u64 {
     let cut = plan.cut();
-    night.begin(rt);
-    let begun = nanos(rt);
-    let mut due = begun;
+    let mut due = nanos(rt);
     let mut entered = 0u64;
-    for number in 1..=MATCHES {
-        let Some(game) = MatchNo::new(number) else {
-            continue;
-        };
-        if !is_of(number, index, plan.reporters) {
+    for game in (1..=MATCHES).filter_map(MatchNo::new) {
+        if !is_of(game.get(), index, cut.reporters) {
             continue;
         }
         for expected in 0..cut.events {
-            if plan.is_paced {
+            if plan.style == Style::Paced {
                 wait_for(rt, due);
                 due = due.wrapping_add(PACE_NANOS);
             }
-            let accepted = report_once::<S, R>(rt, &mut part, &event_at(game, expected));
-            entered = entered.wrapping_add(u64::from(accepted));
+            let told = report_once::<S, R>(rt, part, &event_at(game, expected));
+            entered = entered.wrapping_add(u64::from(told.is_accepted));
         }
     }
-    let ended = nanos(rt);
-    night.reporting.fetch_sub(1, Ordering::SeqCst);
-    Shift {
-        begun,
-        ended,
-        entered,
+    entered
+}
+
+/// Enters events of every match up to full time, each with the number that the last reply told, and tells how many were accepted.
+fn enter_all<S: Subject, R: Wait>(rt: &R, part: &mut S::Reporter) -> u64 {
+    let mut entered = 0u64;
+    for game in (1..=MATCHES).filter_map(MatchNo::new) {
+        let mut number = 0;
+        for _ in rt.forever() {
+            if number >= LAST_NUMBER {
+                break;
+            }
+            let told = report_once::<S, R>(rt, part, &event_at(game, number));
+            entered = entered.wrapping_add(u64::from(told.is_accepted));
+            if told.number == number {
+                // Refused, and not as stale: no event of a night is.
+                break;
+            }
+            number = told.number;
+        }
     }
+    entered
 }
 
 /// Enters a reporter's events of all nights, and tells of each night.
@@ -242,7 +290,20 @@ pub fn enter_nights<S: Subject, R: Wait + Clock>(
     shifts: Sender<Shift>,
 ) {
     for ticket in nights.iter(rt) {
-        let shift = enter_night::<S, R>(rt, ticket, index, plan);
+        let Ticket { mut part, night } = ticket;
+        night.begin(rt);
+        let begun = nanos(rt);
+        let entered = match plan.style {
+            Style::Mix | Style::Paced => enter_own::<S, R>(rt, &mut part, index, plan),
+            Style::Night => enter_all::<S, R>(rt, &mut part),
+        };
+        let ended = nanos(rt);
+        night.reporting.fetch_sub(1, Ordering::SeqCst);
+        let shift = Shift {
+            begun,
+            ended,
+            entered,
+        };
         if shifts.send(rt, shift).is_err() {
             return;
         }
@@ -282,20 +343,55 @@ fn begin_night<S: Subject, R: Wait>(
     Ok(())
 }
 
-/// Holds a night, and adds what it came to. With no reporter a night takes so many milliseconds.
+/// Waits for the end of a night, and tells when it began and ended, and how many events were entered. A quiet night is one without a
+/// reporter, or one to which not all have come.
+fn end_night<R: Wait + Clock>(
+    rt: &R,
+    night: &Night,
+    reporters: u64,
+    is_quiet: bool,
+    shifts: &Receiver<Shift>,
+) -> Result<Shift> {
+    if is_quiet {
+        let begun = nanos(rt);
+        thread::sleep(rt, Duration::from_millis(QUIET_NIGHT_MILLIS));
+        let ended = nanos(rt);
+        night.reporting.store(0, Ordering::SeqCst);
+        return Ok(Shift {
+            begun,
+            ended,
+            entered: 0,
+        });
+    }
+    let mut all = Shift {
+        begun: u64::MAX,
+        ended: 0,
+        entered: 0,
+    };
+    for _ in 0..reporters {
+        let shift = shifts.recv(rt)?;
+        all.begun = all.begun.min(shift.begun);
+        all.ended = all.ended.max(shift.ended);
+        all.entered = all.entered.wrapping_add(shift.entered);
+    }
+    Ok(all)
+}
+
+/// Holds a night, and adds what it came to.
 fn hold_night<S: Subject, R: Wait + Clock>(
     rt: &R,
     alloc: Global,
     crew: &Crew<S>,
     shifts: &Receiver<Shift>,
-    millis: u64,
     sums: &mut Sums,
 ) -> Result<()> {
     let reporters = crew.reporters.len() as u64;
     let workers = (crew.readers.len() as u64).wrapping_add(reporters);
+    let is_timed = sums.nights % 2 == 1;
     let night = Arc::new(
         alloc,
         Night {
+            is_timed,
             workers,
             come: AtomicU64::new(0),
             reporting: AtomicU64::new(reporters.max(1)),
@@ -306,27 +402,19 @@ fn hold_night<S: Subject, R: Wait + Clock>(
         // Whoever has come goes on alone.
         night.come.fetch_add(workers, Ordering::SeqCst);
     }
-    let mut begun = u64::MAX;
-    let mut ended = 0;
-    if reporters == 0 || sent.is_err() {
-        begun = nanos(rt);
-        thread::sleep(rt, Duration::from_millis(millis));
-        ended = nanos(rt);
-        night.reporting.store(0, Ordering::SeqCst);
-    } else {
-        for _ in 0..reporters {
-            let shift = shifts.recv(rt)?;
-            begun = begun.min(shift.begun);
-            ended = ended.max(shift.ended);
-            sums.entered = sums.entered.wrapping_add(shift.entered);
-        }
-    }
+    let is_quiet = reporters == 0 || sent.is_err();
+    let shift = end_night(rt, &night, reporters, is_quiet, shifts)?;
     sums.nights = sums.nights.wrapping_add(1);
-    sums.nanos = sums.nanos.wrapping_add(ended.saturating_sub(begun));
+    if !is_timed {
+        let taken = shift.ended.saturating_sub(shift.begun);
+        sums.untimed = sums.untimed.wrapping_add(1);
+        sums.nanos = sums.nanos.wrapping_add(taken);
+        sums.entered = sums.entered.wrapping_add(shift.entered);
+    }
     sent
 }
 
-/// Holds nights for so many milliseconds.
+/// Holds nights for so many milliseconds, at least one without a clock and one that is timed.
 fn hold_nights<S: Subject, R: Wait + Clock>(
     rt: &R,
     alloc: Global,
@@ -336,13 +424,14 @@ fn hold_nights<S: Subject, R: Wait + Clock>(
 ) -> Result<Sums> {
     let mut sums = Sums {
         nights: 0,
+        untimed: 0,
         nanos: 0,
         entered: 0,
     };
     let begun = nanos(rt);
     for _ in rt.forever() {
-        hold_night(rt, alloc, crew, shifts, millis, &mut sums)?;
-        if nanos_since(rt, begun) / 1_000_000 >= millis {
+        hold_night(rt, alloc, crew, shifts, &mut sums)?;
+        if sums.nights >= 2 && nanos_since(rt, begun) / 1_000_000 >= millis {
             break;
         }
     }

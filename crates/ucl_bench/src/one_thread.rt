@@ -42,11 +42,9 @@ impl fmt::Display for Chunks {
 /// The events of all matches, one match after the other, up to this number.
 pub fn events_to(alloc: Global, last: u16) -> Result<Vec<EventCall>> {
     let mut events = Vec::new(alloc);
-    for number in 1..=MATCHES {
-        if let Some(game) = MatchNo::new(number) {
-            for expected in 0..last {
-                events.push(event_at(game, expected))?;
-            }
+    for game in (1..=MATCHES).filter_map(MatchNo::new) {
+        for expected in 0..last {
+            events.push(event_at(game, expected))?;
         }
     }
     Ok(events)
@@ -62,7 +60,7 @@ fn board_with<S: Subject, R: Wait>(
     let second = S::split(rt, &mut reader)?;
     let mut reporter = S::enlist(rt, second).context("no number is left")?;
     for call in events {
-        S::report(rt, &mut reporter, call);
+        let _ = S::report(rt, &mut reporter, call);
     }
     Ok(reader)
 }
@@ -115,8 +113,8 @@ pub fn measure_report<S: Subject, R: Wait + Clock>(
         for part in events.chunks_exact(CHUNK) {
             let from = nanos(rt);
             for call in part {
-                let accepted = report_once::<S, R>(rt, &mut reporter, call);
-                chunks.answers = chunks.answers.wrapping_add(u64::from(accepted));
+                let told = report_once::<S, R>(rt, &mut reporter, call);
+                chunks.answers = chunks.answers.wrapping_add(u64::from(told.number));
             }
             chunks.nanos.push(nanos_since(rt, from))?;
         }

@@ -3,14 +3,14 @@
 use crate::layout::{
     AWAY_EXPULSIONS_LOW, AWAY_GOALS_LOW, AWAY_YELLOWS_LOW, EXPULSIONS, GOALS, HOME_EXPULSIONS_LOW,
     HOME_GOALS_LOW, HOME_YELLOWS_LOW, LAST_NUMBER_IN_PLAY, NUMBER, REPORTER, REPORTER_LOW,
-    SCHEDULED, STATE, STATE_LOW, YELLOWS,
+    SCHEDULED, STATE, STATE_LOW, YELLOWS, number_of,
 };
 use crate::subject::Subject;
 use std::alloc::Global;
 use std::hint::spin_loop;
 use std::sync::atomic::{AtomicU64, Ordering};
 use std::sync::{Arc, Wait};
-use ucl_word::{EventCall, Kind, OutOfMemory, Side};
+use ucl_word::{Accepted, EventCall, Kind, OutOfMemory, Refusal, Side};
 
 const IN_PLAY: u64 = 1 << STATE_LOW;
 
@@ -109,26 +109,32 @@ impl PlainWords {
         true
     }
 
-    fn read<R: Wait>(&self, rt: &R) -> PlainReading {
+    /// Adds to `retries` how many tries were in vain.
+    fn read<R: Wait>(&self, rt: &R, retries: &mut u64) -> PlainReading {
         for _ in rt.forever() {
             let words = self.collect();
             if self.still_has(&words) {
                 let version = version_of(&words);
                 return PlainReading { words, version };
             }
+            *retries = retries.wrapping_add(1);
             spin_loop();
         }
         unreachable!()
     }
 
-    fn report(&self, reporter: u8, call: &EventCall) -> bool {
+    #[inline(always)]
+    fn report(&self, reporter: u8, call: &EventCall) -> Result<Accepted, Refusal> {
         let word = &self.words[usize::from(call.game.get() - 1)];
         let before = word.load(Ordering::SeqCst);
-        match next_word(before, reporter, call.expected, call.kind) {
-            Some(next) => word
-                .compare_exchange(before, next, Ordering::SeqCst, Ordering::SeqCst)
-                .is_ok(),
-            None => false,
+        let next = next_word(before, reporter, call)?;
+        match word.compare_exchange(before, next, Ordering::SeqCst, Ordering::SeqCst) {
+            Ok(_) => Ok(Accepted {
+                number: number_of(next),
+            }),
+            Err(found) => Err(Refusal::Stale {
+                found: number_of(found),
+            }),
         }
     }
 }
@@ -143,15 +149,15 @@ pub fn version_of(words: &[u64; 12]) -> u16 {
 }
 
 /// The word with one more in a field, unless it is at its greatest value.
-fn raised(word: u64, field: Field) -> Option<u64> {
+fn raised(word: u64, field: Field) -> Result<u64, Refusal> {
     if word & field.all == field.all {
-        None
+        Err(Refusal::LimitReached)
     } else {
-        Some(word.wrapping_add(field.one))
+        Ok(word.wrapping_add(field.one))
     }
 }
 
-/// The word with one less in a field, unless that is 0.
+/// The word with one less in a field; nothing where that is 0.
 fn lowered(word: u64, field: Field) -> Option<u64> {
     if word & field.all == 0 {
         None
@@ -160,42 +166,66 @@ fn lowered(word: u64, field: Field) -> Option<u64> {
     }
 }
 
-/// The word with what the kind of an event changes; nothing where the kind is refused.
-fn changed(word: u64, kind: Kind) -> Option<u64> {
+/// The word with what the kind of an event changes.
+#[inline(always)]
+fn changed(word: u64, kind: Kind) -> Result<u64, Refusal> {
     match kind {
-        Kind::KickOff => Some(word | IN_PLAY),
-        Kind::FullTime => Some(word & !ALL_STATES | FINISHED),
-        Kind::Reopen => Some(word & !ALL_STATES | IN_PLAY),
+        Kind::KickOff => Ok(word | IN_PLAY),
+        Kind::FullTime => Ok(word & !ALL_STATES | FINISHED),
+        Kind::Reopen => Ok(word & !ALL_STATES | IN_PLAY),
         Kind::Goal(Side::Home) => raised(word, HOME_GOALS),
         Kind::Goal(Side::Away) => raised(word, AWAY_GOALS),
-        Kind::Disallow(Side::Home) => lowered(word, HOME_GOALS),
-        Kind::Disallow(Side::Away) => lowered(word, AWAY_GOALS),
+        Kind::Disallow(Side::Home) => lowered(word, HOME_GOALS).ok_or(Refusal::NoGoal),
+        Kind::Disallow(Side::Away) => lowered(word, AWAY_GOALS).ok_or(Refusal::NoGoal),
         Kind::Yellow(Side::Home) => raised(word, HOME_YELLOWS),
         Kind::Yellow(Side::Away) => raised(word, AWAY_YELLOWS),
-        Kind::SecondYellow(Side::Home) => raised(lowered(word, HOME_YELLOWS)?, HOME_EXPULSIONS),
-        Kind::SecondYellow(Side::Away) => raised(lowered(word, AWAY_YELLOWS)?, AWAY_EXPULSIONS),
+        Kind::SecondYellow(Side::Home) => {
+            let word = lowered(word, HOME_YELLOWS).ok_or(Refusal::NoCaution)?;
+            raised(word, HOME_EXPULSIONS)
+        }
+        Kind::SecondYellow(Side::Away) => {
+            let word = lowered(word, AWAY_YELLOWS).ok_or(Refusal::NoCaution)?;
+            raised(word, AWAY_EXPULSIONS)
+        }
         Kind::Red(Side::Home) => raised(word, HOME_EXPULSIONS),
         Kind::Red(Side::Away) => raised(word, AWAY_EXPULSIONS),
     }
 }
 
-/// The word after an event; nothing where the event is refused.
-pub fn next_word(word: u64, reporter: u8, expected: u16, kind: Kind) -> Option<u64> {
-    let number = word & NUMBER;
+/// The word after an event, or why the event is refused. As a call it would hand its answer on through memory.
+#[inline(always)]
+pub fn next_word(word: u64, reporter: u8, call: &EventCall) -> Result<u64, Refusal> {
+    let number = number_of(word);
     let state = word & ALL_STATES;
-    if number != u64::from(expected)
-        || (state == FINISHED) != (kind == Kind::Reopen)
-        || (state == 0) != (kind == Kind::KickOff)
-        || number >= u64::from(LAST_NUMBER_IN_PLAY) && kind != Kind::FullTime
-    {
-        return None;
+    let kind = call.kind;
+    if number != call.expected {
+        return Err(Refusal::Stale { found: number });
+    }
+    if state == FINISHED && kind != Kind::Reopen {
+        return Err(Refusal::Finished);
+    }
+    if state != FINISHED && kind == Kind::Reopen {
+        return Err(Refusal::NotFinished);
+    }
+    if state == 0 && kind != Kind::KickOff {
+        return Err(Refusal::NotStarted);
+    }
+    if state == IN_PLAY && kind == Kind::KickOff {
+        return Err(Refusal::AlreadyStarted);
+    }
+    if number >= LAST_NUMBER_IN_PLAY && kind != Kind::FullTime {
+        return Err(Refusal::NumberFull);
     }
     let next = changed(word, kind)?.wrapping_add(1);
-    Some(next & !ALL_REPORTERS | u64::from(reporter).wrapping_mul(FIRST_REPORTER))
+    Ok(next & !ALL_REPORTERS | u64::from(reporter).wrapping_mul(FIRST_REPORTER))
 }
 
 /// A reader of plain words.
-pub type PlainReader = Arc<PlainWords>;
+#[derive(Drop)]
+pub struct PlainReader {
+    words: Arc<PlainWords>,
+    retries: u64,
+}
 
 /// A reporter of plain words.
 #[derive(Drop)]
@@ -208,35 +238,43 @@ pub struct PlainReporter {
 pub struct PlainSubject;
 
 impl Subject for PlainSubject {
-    type Reader = Arc<PlainWords>;
+    type Reader = PlainReader;
 
     type Reporter = PlainReporter;
 
     type Reading = PlainReading;
 
-    fn open<R: Wait>(_rt: &R, alloc: Global) -> Result<Arc<PlainWords>, OutOfMemory> {
-        Ok(Arc::new(alloc, PlainWords::fresh())?)
+    fn open<R: Wait>(_rt: &R, alloc: Global) -> Result<PlainReader, OutOfMemory> {
+        Ok(PlainReader {
+            words: Arc::new(alloc, PlainWords::fresh())?,
+            retries: 0,
+        })
     }
 
-    fn split<R: Wait>(
-        _rt: &R,
-        reader: &mut Arc<PlainWords>,
-    ) -> Result<Arc<PlainWords>, OutOfMemory> {
-        Ok(Arc::try_clone(reader)?)
+    fn split<R: Wait>(_rt: &R, reader: &mut PlainReader) -> Result<PlainReader, OutOfMemory> {
+        Ok(PlainReader {
+            words: Arc::try_clone(&reader.words)?,
+            retries: 0,
+        })
     }
 
-    fn enlist<R: Wait>(_rt: &R, reader: Arc<PlainWords>) -> Option<PlainReporter> {
+    fn enlist<R: Wait>(_rt: &R, reader: PlainReader) -> Option<PlainReporter> {
         Some(PlainReporter {
-            words: reader,
+            words: reader.words,
             number: 1,
         })
     }
 
-    fn read<R: Wait>(rt: &R, reader: &mut Arc<PlainWords>) -> PlainReading {
-        reader.read(rt)
+    fn read<R: Wait>(rt: &R, reader: &mut PlainReader) -> PlainReading {
+        reader.words.read(rt, &mut reader.retries)
     }
 
-    fn report<R: Wait>(_rt: &R, reporter: &mut PlainReporter, call: &EventCall) -> bool {
+    #[inline(always)]
+    fn report<R: Wait>(
+        _rt: &R,
+        reporter: &mut PlainReporter,
+        call: &EventCall,
+    ) -> Result<Accepted, Refusal> {
         reporter.words.report(reporter.number, call)
     }
 
@@ -246,5 +284,9 @@ impl Subject for PlainSubject {
 
     fn words_of(reading: &PlainReading) -> [u64; 12] {
         reading.words
+    }
+
+    fn retries_of(reader: &PlainReader) -> Option<u64> {
+        Some(reader.retries)
     }
 }

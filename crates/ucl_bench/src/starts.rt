@@ -35,42 +35,19 @@ macro_rules! hold_nights {
     }};
 }
 
-/// Nights of the word board.
-pub fn word_nights<R: Threads + Wait + Clock + Copy + Send + 'static>(
+/// Nights of the subject of this name.
+pub fn measure_nights<R: Threads + Wait + Clock + Copy + Send + 'static>(
     rt: R,
     alloc: Global,
+    subject: &str,
     plan: Plan,
     millis: u64,
 ) -> Result<Nights> {
-    hold_nights!(WordSubject, rt, alloc, plan, millis)
-}
-
-/// Nights of the cell board.
-pub fn cell_nights<R: Threads + Wait + Clock + Copy + Send + 'static>(
-    rt: R,
-    alloc: Global,
-    plan: Plan,
-    millis: u64,
-) -> Result<Nights> {
-    hold_nights!(CellSubject, rt, alloc, plan, millis)
-}
-
-/// Nights of plain words.
-pub fn plain_nights<R: Threads + Wait + Clock + Copy + Send + 'static>(
-    rt: R,
-    alloc: Global,
-    plan: Plan,
-    millis: u64,
-) -> Result<Nights> {
-    hold_nights!(PlainSubject, rt, alloc, plan, millis)
-}
-
-/// Nights of words under a lock.
-pub fn locked_nights<R: Threads + Wait + Clock + Copy + Send + 'static>(
-    rt: R,
-    alloc: Global,
-    plan: Plan,
-    millis: u64,
-) -> Result<Nights> {
-    hold_nights!(LockedSubject, rt, alloc, plan, millis)
+    match subject {
+        "word_board" => hold_nights!(WordSubject, rt, alloc, plan, millis),
+        "cell_board" => hold_nights!(CellSubject, rt, alloc, plan, millis),
+        "plain_words" => hold_nights!(PlainSubject, rt, alloc, plan, millis),
+        "locked_words" => hold_nights!(LockedSubject, rt, alloc, plan, millis),
+        _ => anyhow::bail!("no such subject"),
+    }
 }

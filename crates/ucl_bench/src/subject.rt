@@ -2,7 +2,7 @@
 
 use std::alloc::Global;
 use std::sync::Wait;
-use ucl_word::{EventCall, OutOfMemory};
+use ucl_word::{Accepted, EventCall, OutOfMemory, Refusal};
 
 /// A board under measure. Each reader and each reporter holds the board by a counted reference, and goes to the thread that uses it.
 pub trait Subject {
@@ -23,12 +23,18 @@ pub trait Subject {
 
     fn read<R: Wait>(rt: &R, reader: &mut Self::Reader) -> Self::Reading;
 
-    /// Enters an event, and says whether it was accepted.
-    fn report<R: Wait>(rt: &R, reporter: &mut Self::Reporter, call: &EventCall) -> bool;
+    fn report<R: Wait>(
+        rt: &R,
+        reporter: &mut Self::Reporter,
+        call: &EventCall,
+    ) -> Result<Accepted, Refusal>;
 
     fn version_of(reading: &Self::Reading) -> u16;
 
     fn words_of(reading: &Self::Reading) -> [u64; 12];
+
+    /// How many tries of a reader's readings were in vain; nothing where that is not known.
+    fn retries_of(reader: &Self::Reader) -> Option<u64>;
 }
 
 /// A reading that is really taken: the call is not put into the caller, so its answer is made in full.
@@ -37,12 +43,27 @@ pub fn read_once<S: Subject, R: Wait>(rt: &R, reader: &mut S::Reader) -> S::Read
     S::read(rt, reader)
 }
 
-/// A report that is really made.
+/// What a report tells: whether the event was accepted, and the event number of its match then.
+#[derive(Clone, Copy)]
+pub struct Told {
+    pub is_accepted: bool,
+    pub number: u16,
+}
+
+/// A report that is really made. An event that is refused, and not as stale, named the number that its match has.
 #[inline(never)]
 pub fn report_once<S: Subject, R: Wait>(
     rt: &R,
     reporter: &mut S::Reporter,
     call: &EventCall,
-) -> bool {
-    S::report(rt, reporter, call)
+) -> Told {
+    let (is_accepted, number) = match S::report(rt, reporter, call) {
+        Ok(accepted) => (true, accepted.number),
+        Err(Refusal::Stale { found }) => (false, found),
+        Err(_) => (false, call.expected),
+    };
+    Told {
+        is_accepted,
+        number,
+    }
 }

@@ -7,7 +7,7 @@ use std::fmt;
 use std::sync::Wait;
 use std::time::Clock;
 use ucl_board::Board;
-use ucl_order::{Club, Profile, Roster, Row, standings};
+use ucl_order::{Club, Mark, Profile, Roster, Row, standings};
 use ucl_screen::screen;
 use ucl_word::OutOfMemory;
 
@@ -135,15 +135,15 @@ fn compare_screens<T: Table>(alloc: Global, boards: &[Board], roster: &Roster) -
     Ok(())
 }
 
-/// Takes the table of all boards, again and again, for so many milliseconds, once each table is seen to be that of `standings`.
-pub fn measure_standings<T: Table, R: Wait + Clock>(
+/// Takes an answer of all boards, again and again, for so many milliseconds. The answers are added up, so that none is left out.
+fn measure<R: Wait + Clock, F: Fn(&Board) -> Result<u64>>(
     rt: &R,
-    alloc: Global,
     boards: &[Board],
     millis: u64,
-) -> Result<Rounds> {
-    let roster = roster(alloc)?;
-    compare_standings::<T>(boards, &roster)?;
+    answer: F,
+) -> Result<Rounds>
+    requires { F.IsAlwaysCallable answer }
+{
     let mut answers = 0u64;
     let mut least = u64::MAX;
     let mut rounds = 0u64;
@@ -151,8 +151,7 @@ pub fn measure_standings<T: Table, R: Wait + Clock>(
     for _ in rt.forever() {
         let from = nanos(rt);
         for board in boards {
-            let [first, ..] = standings_once::<T>(board, &roster);
-            answers = answers.wrapping_add(u64::from(first.slot));
+            answers = answers.wrapping_add(answer(board)?);
         }
         least = least.min(nanos_since(rt, from));
         rounds = rounds.wrapping_add(1);
@@ -169,7 +168,22 @@ pub fn measure_standings<T: Table, R: Wait + Clock>(
     })
 }
 
-/// Makes the screen of all boards, again and again, for so many milliseconds, once each screen is seen to be that of `screen`.
+/// Takes the table of all boards for so many milliseconds, once each table is seen to be that of `standings`.
+pub fn measure_standings<T: Table, R: Wait + Clock>(
+    rt: &R,
+    alloc: Global,
+    boards: &[Board],
+    millis: u64,
+) -> Result<Rounds> {
+    let roster = roster(alloc)?;
+    compare_standings::<T>(boards, &roster)?;
+    measure(rt, boards, millis, |board| {
+        let [first, ..] = standings_once::<T>(board, &roster);
+        Ok(u64::from(first.slot))
+    })
+}
+
+/// Makes the screen of all boards for so many milliseconds, once each screen is seen to be that of `screen`.
 pub fn measure_screens<T: Table, R: Wait + Clock>(
     rt: &R,
     alloc: Global,
@@ -178,29 +192,56 @@ pub fn measure_screens<T: Table, R: Wait + Clock>(
 ) -> Result<Rounds> {
     let roster = roster(alloc)?;
     compare_screens::<T>(alloc, boards, &roster)?;
-    let mut answers = 0u64;
-    let mut least = u64::MAX;
-    let mut rounds = 0u64;
-    let begun = nanos(rt);
-    for _ in rt.forever() {
-        let from = nanos(rt);
-        for board in boards {
-            let text = screen_once::<T>(alloc, board, &roster)?;
-            answers = answers.wrapping_add(text.len() as u64);
-        }
-        least = least.min(nanos_since(rt, from));
-        rounds = rounds.wrapping_add(1);
-        if nanos_since(rt, begun) / 1_000_000 >= millis {
-            break;
+    measure(rt, boards, millis, |board| {
+        let text = screen_once::<T>(alloc, board, &roster)?;
+        Ok(text.len() as u64)
+    })
+}
+
+/// The line of a row: place, mark (`.` for none), slot, played, wins, draws, losses, goals for and against, points.
+fn print_row<R: Print>(rt: &R, row: &Row) -> Result<()> {
+    let Row {
+        slot,
+        place,
+        mark,
+        played,
+        wins,
+        draws,
+        losses,
+        goals_for,
+        goals_against,
+        points,
+    } = *row;
+    let sign = match mark {
+        Mark::Plus => '+',
+        Mark::Minus => '-',
+        Mark::Blank => '.',
+    };
+    println!(rt;
+        "{place} {sign} {slot} {played} {wins} {draws} {losses} {goals_for} {goals_against} {points}"
+    )?;
+    Ok(())
+}
+
+/// Prints the rows of each board.
+pub fn print_standings<T: Table, R: Print>(rt: &R, alloc: Global, boards: &[Board]) -> Result<()> {
+    let roster = roster(alloc)?;
+    for board in boards {
+        for row in &T::standings(board, &roster) {
+            print_row(rt, row)?;
         }
     }
-    Ok(Rounds {
-        boards: boards.len() as u64,
-        rounds,
-        least,
-        all: nanos_since(rt, begun),
-        answers,
-    })
+    Ok(())
+}
+
+/// Prints the screen of each board.
+pub fn print_screens<T: Table, R: Print>(rt: &R, alloc: Global, boards: &[Board]) -> Result<()> {
+    let roster = roster(alloc)?;
+    for board in boards {
+        let text = T::screen(alloc, board, &roster)?;
+        print!(rt; "{text}")?;
+    }
+    Ok(())
 }
 
 #[cfg(test)]

@@ -3,7 +3,7 @@
 use crate::events::{MATCHES, is_of};
 use crate::layout::{
     AWAY_EXPULSIONS_LOW, AWAY_GOALS_LOW, AWAY_YELLOWS_LOW, EXPULSIONS, GOALS, HOME_EXPULSIONS_LOW,
-    HOME_GOALS_LOW, HOME_YELLOWS_LOW, LAST_NUMBER, NUMBER, STATE, STATE_LOW, YELLOWS,
+    HOME_GOALS_LOW, HOME_YELLOWS_LOW, LAST_NUMBER, STATE, STATE_LOW, YELLOWS, number_of,
 };
 use std::alloc::{AllocError, Global};
 
@@ -42,16 +42,26 @@ pub struct Cut {
 #[derive(Drop)]
 pub struct Tally {
     counts: Vec<u64>,
-    /// How many readings were taken.
+    /// How many readings were taken without a clock.
     pub reads: u64,
-    /// For how long readers read.
+    /// For how long they were taken.
     pub nanos: u64,
+    /// How many of their tries were in vain; nothing where that is not known.
+    pub retries: Option<u64>,
     /// How many readings were timed, and checked word by word.
     pub checked: u64,
-    /// How many readings can't be.
-    pub torn: u64,
+    /// How many of these can be of one moment.
+    pub whole: u64,
     /// The longest of the timed readings.
     pub longest: u64,
+}
+
+/// The sum of what two readers know; where one has not read, what the other knows.
+fn sum_of(first: Option<u64>, second: Option<u64>) -> Option<u64> {
+    match (first, second) {
+        (Some(first), Some(second)) => Some(first.wrapping_add(second)),
+        (first, second) => first.or(second),
+    }
 }
 
 impl Tally {
@@ -61,24 +71,28 @@ impl Tally {
             counts,
             reads: 0,
             nanos: 0,
+            retries: None,
             checked: 0,
-            torn: 0,
+            whole: 0,
             longest: 0,
         })
     }
 
-    /// Counts the time of a reading.
-    pub fn add_time(&mut self, nanos: u64) {
+    /// Counts readings that were taken without a clock.
+    pub fn add_reads(&mut self, reads: u64, nanos: u64, retries: Option<u64>) {
+        self.reads = self.reads.wrapping_add(reads);
+        self.nanos = self.nanos.wrapping_add(nanos);
+        self.retries = sum_of(self.retries, retries);
+    }
+
+    /// Counts a reading that was timed and checked.
+    pub fn add_checked(&mut self, nanos: u64, is_whole: bool) {
         self.longest = self.longest.max(nanos);
         if let Some(count) = self.counts.get_mut(place_of(nanos)) {
             *count = count.wrapping_add(1);
         }
-    }
-
-    /// Counts a reading that was checked.
-    pub fn add_check(&mut self, right: bool) {
         self.checked = self.checked.wrapping_add(1);
-        self.torn = self.torn.wrapping_add(u64::from(!right));
+        self.whole = self.whole.wrapping_add(u64::from(is_whole));
     }
 
     /// Adds what another reader found.
@@ -86,11 +100,15 @@ impl Tally {
         for (count, more) in self.counts.iter_mut().zip(other.counts.iter()) {
             *count = count.wrapping_add(*more);
         }
-        self.reads = self.reads.wrapping_add(other.reads);
-        self.nanos = self.nanos.wrapping_add(other.nanos);
+        self.add_reads(other.reads, other.nanos, other.retries);
         self.checked = self.checked.wrapping_add(other.checked);
-        self.torn = self.torn.wrapping_add(other.torn);
+        self.whole = self.whole.wrapping_add(other.whole);
         self.longest = self.longest.max(other.longest);
+    }
+
+    /// How many of the checked readings can't be of one moment.
+    pub fn torn(&self) -> u64 {
+        self.checked.saturating_sub(self.whole)
     }
 
     /// The time that so many thousandths of the timed readings did not pass.
@@ -105,11 +123,6 @@ impl Tally {
         }
         self.longest
     }
-}
-
-/// The event number of a word.
-fn number_of(word: u64) -> u16 {
-    (word & NUMBER) as u16
 }
 
 /// The fields that no event of a night changes: the goals of the visitors, and the cards.

@@ -7,7 +7,7 @@ use crate::subject::Subject;
 use std::alloc::Global;
 use std::sync::{Arc, Wait};
 use ucl_board::Reading;
-use ucl_word::{EventCall, OutOfMemory};
+use ucl_word::{Accepted, EventCall, OutOfMemory, Refusal};
 use ucl_words::{WordBoard, WordReaderPass, WordReporterPass};
 
 /// A reader's pass with its board.
@@ -60,8 +60,13 @@ impl Subject for WordSubject {
         reader.board.read_now(&mut reader.pass)
     }
 
-    fn report<R: Wait>(_rt: &R, reporter: &mut WordReporter, call: &EventCall) -> bool {
-        reporter.board.report_now(&mut reporter.pass, call).is_ok()
+    #[inline(always)]
+    fn report<R: Wait>(
+        _rt: &R,
+        reporter: &mut WordReporter,
+        call: &EventCall,
+    ) -> Result<Accepted, Refusal> {
+        reporter.board.report_now(&mut reporter.pass, call)
     }
 
     fn version_of(reading: &Reading) -> u16 {
@@ -70,5 +75,10 @@ impl Subject for WordSubject {
 
     fn words_of(reading: &Reading) -> [u64; 12] {
         reading.board.words()
+    }
+
+    /// A pass does not tell.
+    fn retries_of(_reader: &WordReader) -> Option<u64> {
+        None
     }
 }

@@ -1,25 +1,26 @@
 //! Names of workloads.
 
-use super::{Workload, workload_of};
-use crate::nights::Plan;
+use super::{Calls, Workload, workload_of};
+use crate::nights::{Plan, Style};
 
-fn nights(readers: u8, reporters: u8, is_paced: bool) -> Option<Workload> {
+fn nights(style: Style, readers: u8, reporters: u8) -> Option<Workload> {
     Some(Workload::Nights(Plan {
+        style,
         readers,
         reporters,
-        is_paced,
     }))
 }
 
 #[test]
 fn names_of_workloads(rt: HostRuntime) {
     for (name, workload) in [
-        ("read", Some(Workload::Read)),
-        ("report", Some(Workload::Report)),
-        ("mix-3-1", nights(3, 1, false)),
-        ("mix-12-12", nights(12, 12, false)),
-        ("paced-2-0", nights(2, 0, true)),
-        ("paced-0-12", nights(0, 12, true)),
+        ("read", Some(Workload::Calls(Calls::Reads))),
+        ("report", Some(Workload::Calls(Calls::Reports))),
+        ("mix-3-1", nights(Style::Mix, 3, 1)),
+        ("mix-12-12", nights(Style::Mix, 12, 12)),
+        ("paced-2-0", nights(Style::Paced, 2, 0)),
+        ("paced-0-12", nights(Style::Paced, 0, 12)),
+        ("night", nights(Style::Night, 2, 2)),
     ] {
         assert!(rt; workload_of(name) == workload, "{name}");
     }
@@ -42,6 +43,7 @@ fn other_names(rt: HostRuntime) {
         "mix-1-",
         "mix-1-1-1",
         "paced-256-0",
+        "night-2-2",
         "3-1",
     ] {
         assert!(rt; workload_of(name).is_none(), "{name}");

@@ -1,0 +1,43 @@
+//! The events of a night, and how a night is cut.
+
+use crate::word::{Event, Kind, Side, LAST_NUMBER, LAST_NUMBER_IN_PLAY};
+
+/// How many events a match takes.
+pub const ALL_EVENTS: u16 = LAST_NUMBER;
+
+/// The event of a match under this number: a kick-off, then a home goal and a home goal disallowed in turn, and last full time.
+pub fn event_at(game: u8, expected: u16) -> Event {
+    let kind = match expected {
+        0 => Kind::KickOff,
+        LAST_NUMBER_IN_PLAY => Kind::FullTime,
+        _ if expected % 2 == 1 => Kind::Goal(Side::Home),
+        _ => Kind::Disallow(Side::Home),
+    };
+    Event {
+        game,
+        expected,
+        kind,
+    }
+}
+
+/// The events of all matches, one match after the other, up to this number.
+pub fn events_to(last: u16) -> Vec<Event> {
+    (1..=12)
+        .flat_map(|game| (0..last).map(move |expected| event_at(game, expected)))
+        .collect()
+}
+
+/// How a night is cut: so many events for each match, whose reporters are so many. A match is of the reporter whose index is left as
+/// remainder of its number.
+#[derive(Clone, Copy)]
+pub struct Cut {
+    pub events: u16,
+    pub reporters: u8,
+}
+
+impl Cut {
+    /// The matches of a reporter, in its order.
+    pub fn games_of(self, index: u8) -> impl Iterator<Item = u8> {
+        (1..=12).filter(move |game| game % self.reporters == index)
+    }
+}

@@ -1,0 +1,182 @@
+//! A script of events, entered on a board of one thread: a reply for each event, and the twelve match words.
+
+use crate::records::{Record, Records};
+use crate::word::{next_word, number_of, Event, Kind, Side, Words, FRESH};
+use std::fmt::{self, Write};
+use std::io::{self, Read};
+use std::ops::RangeInclusive;
+
+/// How many bytes a script has at most.
+const MOST_BYTES: usize = 4_194_304;
+
+/// Room for a reply line.
+const REPLY_BYTES: usize = 24;
+
+/// Why a script is not taken.
+pub enum Fault {
+    Row(usize),
+    Slot(usize),
+    TooLong,
+    Reading(usize),
+}
+
+impl fmt::Display for Fault {
+    fn fmt(&self, f: &mut fmt::Formatter) -> fmt::Result {
+        match self {
+            Fault::Row(row) => write!(f, "input refused 20: row {row}"),
+            Fault::Slot(slot) => write!(f, "input refused 21: slot {slot}"),
+            Fault::TooLong => f.write_str("input refused 24: too long"),
+            Fault::Reading(bytes) => write!(f, "reading failed 22: after {bytes} bytes"),
+        }
+    }
+}
+
+/// An event with the number of its reporter.
+struct Report {
+    reporter: u8,
+    event: Event,
+}
+
+/// The number of a field of so many decimal digits at most, where it is in a range.
+fn number(field: &[u8], digits: usize, range: RangeInclusive<u32>) -> Option<u32> {
+    if field.is_empty() || field.len() > digits || !field.iter().all(u8::is_ascii_digit) {
+        return None;
+    }
+    let number = field
+        .iter()
+        .fold(0, |number, digit| 10 * number + u32::from(digit - b'0'));
+    range.contains(&number).then_some(number)
+}
+
+fn kind_of(word: &[u8]) -> Option<Kind> {
+    Some(match word {
+        b"kickoff" => Kind::KickOff,
+        b"goal-home" => Kind::Goal(Side::Home),
+        b"goal-away" => Kind::Goal(Side::Away),
+        b"disallow-home" => Kind::Disallow(Side::Home),
+        b"disallow-away" => Kind::Disallow(Side::Away),
+        b"yellow-home" => Kind::Yellow(Side::Home),
+        b"yellow-away" => Kind::Yellow(Side::Away),
+        b"second-yellow-home" => Kind::SecondYellow(Side::Home),
+        b"second-yellow-away" => Kind::SecondYellow(Side::Away),
+        b"red-home" => Kind::Red(Side::Home),
+        b"red-away" => Kind::Red(Side::Away),
+        b"fulltime" => Kind::FullTime,
+        b"reopen" => Kind::Reopen,
+        _ => return None,
+    })
+}
+
+/// Whether the club of a row can be in a roster; nothing where the row is not that of the club in this slot.
+fn is_good_club(record: &Record, slot: usize) -> Option<bool> {
+    let [first, row, name, coefficient] = record.four_fields()?;
+    let coefficient = number(coefficient, 9, 0..=999_999_999)?;
+    if first != b"club" || row != slot.to_string().as_bytes() {
+        return None;
+    }
+    let is_named =
+        (1..=20).contains(&name.len()) && name.iter().all(|byte| (0x20..=0x7e).contains(byte));
+    Some(is_named && coefficient <= 999_999)
+}
+
+/// The report of a row.
+fn report_of(record: &Record) -> Option<Report> {
+    let [reporter, game, expected, word] = record.four_fields()?;
+    Some(Report {
+        reporter: number(reporter, 3, 1..=255)? as u8,
+        event: Event {
+            game: number(game, 2, 1..=12)? as u8,
+            expected: number(expected, 5, 0..=65_535)? as u16,
+            kind: kind_of(word)?,
+        },
+    })
+}
+
+/// The reports of a script, or its first fault.
+fn reports_of(input: &[u8]) -> Result<Vec<Report>, Fault> {
+    let mut records = Records::of(input);
+    let mut record = Record::default();
+    let mut bad_slot = None;
+    for slot in 1..=4 {
+        let is_good = if records.read(&mut record) {
+            is_good_club(&record, slot)
+        } else {
+            None
+        };
+        if !is_good.ok_or(Fault::Row(slot))? {
+            bad_slot = bad_slot.or(Some(slot));
+        }
+    }
+    if let Some(slot) = bad_slot {
+        return Err(Fault::Slot(slot));
+    }
+    let mut reports = Vec::new();
+    while records.read(&mut record) {
+        reports.push(report_of(&record).ok_or(Fault::Row(reports.len() + 5))?);
+    }
+    Ok(reports)
+}
+
+/// Appends a number in decimal digits, and a byte after it.
+fn push_number(text: &mut String, number: usize, after: char) {
+    let mut digits = [0; 20];
+    let mut first = digits.len();
+    let mut rest = number;
+    loop {
+        first -= 1;
+        digits[first] = b'0' + (rest % 10) as u8;
+        rest /= 10;
+        if rest == 0 {
+            break;
+        }
+    }
+    text.extend(digits[first..].iter().map(|digit| char::from(*digit)));
+    text.push(after);
+}
+
+/// The replies to the reports of a script, and the match words after them.
+fn replies_to(reports: &[Report]) -> String {
+    let mut text = String::with_capacity(REPLY_BYTES * (reports.len() + 24));
+    let mut words: Words = [FRESH; 12];
+    let mut version = 0;
+    for (row, Report { reporter, event }) in (5..).zip(reports) {
+        let word = &mut words[usize::from(event.game) - 1];
+        push_number(&mut text, row, ' ');
+        match next_word(*word, *reporter, event) {
+            Ok(next) => {
+                *word = next;
+                version += 1;
+                text.push_str("ok ");
+                push_number(&mut text, usize::from(event.game), ' ');
+                push_number(&mut text, usize::from(number_of(next)), ' ');
+                push_number(&mut text, version, '\n');
+            }
+            Err(refusal) => {
+                let _ = writeln!(text, "refused {refusal}");
+            }
+        }
+    }
+    for (index, word) in (1..).zip(words) {
+        let _ = writeln!(text, "word,{index},{word:016x},");
+    }
+    text
+}
+
+/// The whole input.
+fn read_all(source: impl Read) -> Result<Vec<u8>, Fault> {
+    let mut input = Vec::new();
+    let most = MOST_BYTES as u64 + 1;
+    if source.take(most).read_to_end(&mut input).is_err() {
+        return Err(Fault::Reading(input.len()));
+    }
+    if input.len() > MOST_BYTES {
+        return Err(Fault::TooLong);
+    }
+    Ok(input)
+}
+
+/// What `feed` writes of a script on standard input.
+pub fn feed() -> Result<String, Fault> {
+    let input = read_all(io::stdin().lock())?;
+    Ok(replies_to(&reports_of(&input)?))
+}

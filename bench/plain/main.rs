@@ -1,0 +1,138 @@
+//! References for the benchmark, in plain Rust with its standard library alone: boards, the table with its screen, and `feed`. They do
+//! what docs/RULES.md says, without a proof. `rustc -O --edition 2021 main.rs` builds them; bench/compare does so, and compares.
+
+mod boards;
+mod events;
+mod feed;
+mod nights;
+mod one_thread;
+mod records;
+mod samples;
+mod table;
+mod tables;
+mod tally;
+mod word;
+
+use boards::{Board, DoubleCollect, SequenceLock};
+use nights::{Plan, Style};
+use samples::Sample;
+use std::process::ExitCode;
+use std::sync::{Mutex, RwLock};
+use std::{env, fs};
+use word::Words;
+
+const USAGE: &str = "plain list
+plain run SUBJECT WORKLOAD MS [FILE]    measures, and prints a line of JSON
+plain check record_table standings|screen FILE
+                                        the rows, or the screens, of the boards of a file
+plain boards KIND                       1,000 boards: mixed, evening, finished, goalless or fresh
+plain feed                              enters a script of events from standard input";
+
+const LIST: &str = "double_collect read report mix-R-W paced-R-W night
+sequence_lock read report mix-R-W paced-R-W night
+mutex read report mix-R-W paced-R-W night
+read_write_lock read report mix-R-W paced-R-W night
+record_table standings screen";
+
+/// Why nothing was done: the exit status, and what to say.
+type Failure = (u8, String);
+
+fn usage() -> Failure {
+    (2, USAGE.to_string())
+}
+
+/// Nights by the name of a workload: `mix-R-W` or `paced-R-W`, with R readers and W reporters, each 0 to 12; or `night`.
+fn plan_of(name: &str) -> Option<Plan> {
+    if name == "night" {
+        return Some(Plan {
+            style: Style::Night,
+            readers: 2,
+            reporters: 2,
+        });
+    }
+    let (style, numbers) = name.split_once('-')?;
+    let (readers, reporters) = numbers.split_once('-')?;
+    let style = match style {
+        "mix" => Style::Mix,
+        "paced" => Style::Paced,
+        _ => return None,
+    };
+    let number = |digits: &str| digits.parse().ok().filter(|number| *number <= 12);
+    Some(Plan {
+        style,
+        readers: number(readers)?,
+        reporters: number(reporters)?,
+    })
+}
+
+/// Measures a board, and gives the figures.
+fn measured<B: Board>(workload: &str, millis: u64) -> Result<String, Failure> {
+    match workload {
+        "read" => Ok(one_thread::measure_read::<B>(millis).to_string()),
+        "report" => Ok(one_thread::measure_report::<B>(millis).to_string()),
+        _ => Ok(nights::hold_nights::<B>(plan_of(workload).ok_or_else(usage)?, millis).to_string()),
+    }
+}
+
+/// The boards of a file.
+fn boards_in(path: &str) -> Result<Vec<Words>, Failure> {
+    let text = fs::read_to_string(path).map_err(|error| (1, format!("{path}: {error}")))?;
+    tables::boards_of(&text).ok_or_else(|| (1, format!("{path}: not boards, one a line")))
+}
+
+fn run(board: &str, workload: &str, millis: &str, path: Option<&str>) -> Result<(), Failure> {
+    let millis = millis.parse().map_err(|_| usage())?;
+    let figures = match (board, workload, path) {
+        ("double_collect", _, None) => measured::<DoubleCollect>(workload, millis)?,
+        ("sequence_lock", _, None) => measured::<SequenceLock>(workload, millis)?,
+        ("mutex", _, None) => measured::<Mutex<Words>>(workload, millis)?,
+        ("read_write_lock", _, None) => measured::<RwLock<Words>>(workload, millis)?,
+        ("record_table", "standings", Some(path)) => {
+            tables::measure_standings(&boards_in(path)?, millis).to_string()
+        }
+        ("record_table", "screen", Some(path)) => {
+            tables::measure_screens(&boards_in(path)?, millis).to_string()
+        }
+        _ => return Err(usage()),
+    };
+    println!("{{\"board\":\"{board}\",\"workload\":\"{workload}\",{figures}}}");
+    Ok(())
+}
+
+/// Prints the boards of a kind, one a line.
+fn print_boards(kind: &str) -> Result<(), Failure> {
+    let (_, sample) = Sample::ALL
+        .into_iter()
+        .find(|(name, _)| *name == kind)
+        .ok_or_else(usage)?;
+    for words in sample.boards() {
+        println!("{}", words.map(|word| format!("{word:016x}")).join(" "));
+    }
+    Ok(())
+}
+
+fn obey(words: &[&str]) -> Result<(), Failure> {
+    match words {
+        ["list"] => println!("{LIST}"),
+        ["run", board, workload, millis] => run(board, workload, millis, None)?,
+        ["run", board, workload, millis, path] => run(board, workload, millis, Some(path))?,
+        ["check", "record_table", "standings", path] => tables::print_standings(&boards_in(path)?),
+        ["check", "record_table", "screen", path] => tables::print_screens(&boards_in(path)?),
+        ["boards", kind] => print_boards(kind)?,
+        ["feed"] => print!("{}", feed::feed().map_err(|fault| (3, fault.to_string()))?),
+        _ => return Err(usage()),
+    }
+    Ok(())
+}
+
+fn main() -> ExitCode {
+    let words: Vec<String> = env::args().skip(1).collect();
+    let words: Vec<&str> = words.iter().map(String::as_str).collect();
+    match obey(&words) {
+        Ok(()) => ExitCode::SUCCESS,
+        Err((status, text)) => {
+            eprintln!("{text}");
+            ExitCode::from(status)
+        }
+    }
+}

@@ -1,0 +1,358 @@
+//! Nights: readers and reporters in threads of their own, which stay for all nights, each of which has a fresh board. Nights without a
+//! clock, of which the rates are told, and nights in which each reading is timed and checked take turns.
+
+use crate::boards::{read_once, report_once, Board};
+use crate::events::{event_at, Cut, ALL_EVENTS};
+use crate::tally::{is_whole, Tally};
+use crate::word::LAST_NUMBER;
+use std::sync::atomic::{AtomicUsize, Ordering};
+use std::sync::mpsc::{channel, Receiver, Sender};
+use std::sync::Arc;
+use std::time::{Duration, Instant};
+use std::{fmt, iter, thread};
+
+/// How far apart the events of a paced reporter are, and how many of each match it enters.
+const PACE: Duration = Duration::from_micros(5);
+const PACED_EVENTS: u16 = 100;
+
+/// How long a night without a reporter is.
+const QUIET_NIGHT: Duration = Duration::from_millis(20);
+
+/// How many readings are taken without a clock before a reader looks whether the night has ended.
+const READINGS_AT_ONCE: u64 = 16;
+
+/// How reporters share the matches of a night.
+#[derive(Clone, Copy, PartialEq, Eq, Debug)]
+pub enum Style {
+    /// Each has matches of its own, and enters one event after the other.
+    Mix,
+    /// Each has matches of its own, and enters an event each five microseconds.
+    Paced,
+    /// Both enter every match, and go on from the number that a reply tells.
+    Night,
+}
+
+/// Who works on each night, and how.
+#[derive(Clone, Copy, PartialEq, Eq, Debug)]
+pub struct Plan {
+    pub style: Style,
+    pub readers: u8,
+    pub reporters: u8,
+}
+
+impl Plan {
+    /// How the events are cut. Where all reporters enter every match, each match ends before the next begins, as by one reporter.
+    fn cut(self) -> Cut {
+        match self.style {
+            Style::Mix => Cut {
+                events: ALL_EVENTS,
+                reporters: self.reporters,
+            },
+            Style::Paced => Cut {
+                events: PACED_EVENTS,
+                reporters: self.reporters,
+            },
+            Style::Night => Cut {
+                events: ALL_EVENTS,
+                reporters: 1,
+            },
+        }
+    }
+}
+
+/// A night, which its workers share.
+struct Night<B> {
+    board: B,
+    is_timed: bool,
+    workers: usize,
+    come: AtomicUsize,
+    reporting: AtomicUsize,
+}
+
+impl<B: Board> Night<B> {
+    /// Comes to the night, and waits until all have.
+    fn begin(&self) {
+        self.come.fetch_add(1, Ordering::SeqCst);
+        while self.come.load(Ordering::SeqCst) < self.workers {
+            thread::yield_now();
+        }
+    }
+
+    fn has_ended(&self) -> bool {
+        self.reporting.load(Ordering::SeqCst) == 0
+    }
+
+    /// Reads through the night without a clock.
+    fn read_freely(&self, tally: &mut Tally) {
+        let begun = Instant::now();
+        while !self.has_ended() {
+            for _ in 0..READINGS_AT_ONCE {
+                read_once(&self.board, &mut tally.retries);
+            }
+            tally.reads += READINGS_AT_ONCE;
+        }
+        tally.nanos += begun.elapsed().as_nanos() as u64;
+    }
+
+    /// Reads through the night, and times and checks each reading.
+    fn read_timed(&self, cut: Cut, tally: &mut Tally) {
+        let mut retries = 0;
+        let mut last = 0;
+        while !self.has_ended() {
+            let begun = Instant::now();
+            let reading = read_once(&self.board, &mut retries);
+            let nanos = begun.elapsed().as_nanos() as u64;
+            tally.add_checked(nanos, last <= reading.version && is_whole(&reading, cut));
+            last = reading.version;
+        }
+    }
+
+    /// Enters the events of a reporter's own matches, and gives how many were accepted.
+    fn enter_own(&self, plan: Plan, index: u8) -> u64 {
+        let cut = plan.cut();
+        let mut due = Instant::now();
+        let mut entered = 0;
+        for game in cut.games_of(index) {
+            for expected in 0..cut.events {
+                if plan.style == Style::Paced {
+                    while Instant::now() < due {}
+                    due += PACE;
+                }
+                let told = report_once(&self.board, index + 1, &event_at(game, expected));
+                entered += u64::from(told.is_accepted);
+            }
+        }
+        entered
+    }
+
+    /// Enters events of every match up to full time, each with the number that the last reply told, and gives how many were accepted.
+    fn enter_all(&self, index: u8) -> u64 {
+        let mut entered = 0;
+        for game in 1..=12 {
+            let mut number = 0;
+            while number < LAST_NUMBER {
+                let told = report_once(&self.board, index + 1, &event_at(game, number));
+                entered += u64::from(told.is_accepted);
+                assert_ne!(
+                    told.number, number,
+                    "no event of a night is refused but as stale"
+                );
+                number = told.number;
+            }
+        }
+        entered
+    }
+}
+
+/// What a reporter did in a night.
+struct Shift {
+    begun: Instant,
+    ended: Instant,
+    entered: u64,
+}
+
+/// Reads through all nights, and gives what was found.
+fn read_nights<B: Board>(nights: Receiver<Arc<Night<B>>>, cut: Cut) -> Tally {
+    let mut tally = Tally::new();
+    for night in nights {
+        night.begin();
+        if night.is_timed {
+            night.read_timed(cut, &mut tally);
+        } else {
+            night.read_freely(&mut tally);
+        }
+    }
+    tally
+}
+
+/// Enters a reporter's events of all nights, and tells of each night.
+fn enter_nights<B: Board>(
+    nights: Receiver<Arc<Night<B>>>,
+    plan: Plan,
+    index: u8,
+    shifts: Sender<Shift>,
+) {
+    for night in nights {
+        night.begin();
+        let begun = Instant::now();
+        let entered = match plan.style {
+            Style::Night => night.enter_all(index),
+            _ => night.enter_own(plan, index),
+        };
+        let ended = Instant::now();
+        night.reporting.fetch_sub(1, Ordering::SeqCst);
+        if shifts
+            .send(Shift {
+                begun,
+                ended,
+                entered,
+            })
+            .is_err()
+        {
+            return;
+        }
+    }
+}
+
+/// The figures of all nights. Times and events are those of nights without a clock.
+pub struct Nights {
+    plan: Plan,
+    nights: u64,
+    untimed: u64,
+    time: Duration,
+    entered: u64,
+    tally: Tally,
+}
+
+/// The quotient of two numbers; 0 where the divisor is 0.
+fn quotient(number: u64, divisor: u64) -> f64 {
+    if divisor == 0 {
+        0.0
+    } else {
+        number as f64 / divisor as f64
+    }
+}
+
+/// The time of asking the clock: the least of many.
+fn clock_nanos() -> u128 {
+    let times = (0..1000).map(|_| Instant::now().elapsed().as_nanos());
+    times.min().unwrap_or(0)
+}
+
+impl fmt::Display for Nights {
+    fn fmt(&self, f: &mut fmt::Formatter) -> fmt::Result {
+        let Nights {
+            plan: Plan {
+                readers, reporters, ..
+            },
+            nights,
+            untimed,
+            time,
+            entered,
+            tally,
+        } = self;
+        let nanos = time.as_nanos() as u64;
+        let Tally {
+            checked,
+            whole,
+            longest,
+            ..
+        } = tally;
+        write!(
+            f,
+            "\"readers\":{readers},\"reporters\":{reporters},\"nights\":{nights},"
+        )?;
+        write!(
+            f,
+            "\"reads_per_s\":{:.2},",
+            1e9 * quotient(tally.reads, tally.nanos)
+        )?;
+        write!(
+            f,
+            "\"reports_per_s\":{:.2},",
+            1e9 * quotient(*entered, nanos)
+        )?;
+        write!(f, "\"night_ms\":{:.2},", quotient(nanos, *untimed) / 1e6)?;
+        write!(
+            f,
+            "\"retries_per_read\":{:.6},",
+            quotient(tally.retries, tally.reads)
+        )?;
+        write!(
+            f,
+            "\"p50_ns\":{},\"p999_ns\":{},\"max_ns\":{longest},",
+            tally.time_at(500),
+            tally.time_at(999)
+        )?;
+        write!(f, "\"clock_ns\":{},", clock_nanos())?;
+        write!(
+            f,
+            "\"checked\":{checked},\"whole\":{whole},\"torn\":{}",
+            checked - whole
+        )
+    }
+}
+
+/// Holds nights of a plan for so many milliseconds, at least one of each sort.
+pub fn hold_nights<B: Board>(plan: Plan, millis: u64) -> Nights {
+    let reporters = usize::from(plan.reporters);
+    let workers = usize::from(plan.readers) + reporters;
+    let (told, shifts) = channel();
+    let mut result = Nights {
+        plan,
+        nights: 0,
+        untimed: 0,
+        time: Duration::ZERO,
+        entered: 0,
+        tally: Tally::new(),
+    };
+    thread::scope(|scope| {
+        let (mut senders, receivers): (Vec<_>, Vec<_>) =
+            iter::repeat_with(channel::<Arc<Night<B>>>)
+                .take(workers)
+                .unzip();
+        let mut receivers = receivers.into_iter();
+        for (index, nights) in (0..plan.reporters).zip(receivers.by_ref()) {
+            let told = told.clone();
+            scope.spawn(move || enter_nights(nights, plan, index, told));
+        }
+        let readers: Vec<_> = receivers
+            .map(|nights| scope.spawn(move || read_nights(nights, plan.cut())))
+            .collect();
+        let end = Instant::now() + Duration::from_millis(millis);
+        while Instant::now() < end || result.nights < 2 {
+            let is_timed = result.nights % 2 == 1;
+            let night = Arc::new(Night {
+                board: B::fresh(),
+                is_timed,
+                workers,
+                come: AtomicUsize::new(0),
+                reporting: AtomicUsize::new(reporters.max(1)),
+            });
+            hold_night(&night, &senders, &shifts, reporters, &mut result);
+        }
+        senders.clear();
+        for reader in readers {
+            result
+                .tally
+                .add_all(&reader.join().expect("no reader has panicked"));
+        }
+    });
+    result
+}
+
+/// Holds a night, and adds what it came to.
+fn hold_night<B: Board>(
+    night: &Arc<Night<B>>,
+    workers: &[Sender<Arc<Night<B>>>],
+    shifts: &Receiver<Shift>,
+    reporters: usize,
+    result: &mut Nights,
+) {
+    for worker in workers {
+        worker
+            .send(Arc::clone(night))
+            .expect("a worker waits for the next night");
+    }
+    result.nights += 1;
+    result.untimed += u64::from(!night.is_timed);
+    if reporters == 0 {
+        thread::sleep(QUIET_NIGHT);
+        night.reporting.store(0, Ordering::SeqCst);
+        result.time += if night.is_timed {
+            Duration::ZERO
+        } else {
+            QUIET_NIGHT
+        };
+        return;
+    }
+    let shifts: Vec<Shift> = shifts.iter().take(reporters).collect();
+    if !night.is_timed {
+        let begun = shifts.iter().map(|shift| shift.begun).min();
+        let ended = shifts.iter().map(|shift| shift.ended).max();
+        result.time += begun
+            .zip(ended)
+            .map_or(Duration::ZERO, |(begun, ended)| ended - begun);
+        result.entered += shifts.iter().map(|shift| shift.entered).sum::<u64>();
+    }
+}
