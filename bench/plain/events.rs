@@ -27,16 +27,25 @@ pub fn events_to(last: u16) -> Vec<Event> {
         .collect()
 }
 
-/// How a night is cut: so many events for each match, whose reporters are so many. A match is of the reporter whose index is left as
-/// remainder of its number.
+/// In which order the events of a night are entered.
+#[derive(Clone, Copy, PartialEq, Eq, Debug)]
+pub enum Order {
+    /// Each reporter ends a match of its own before its next begins.
+    Matches,
+    /// All reporters enter one event of each match in turn.
+    Turns,
+}
+
+/// How a night is cut: so many events for each match, whose reporters are so many, in this order.
 #[derive(Clone, Copy)]
 pub struct Cut {
     pub events: u16,
     pub reporters: u8,
+    pub order: Order,
 }
 
 impl Cut {
-    /// The matches of a reporter, in its order.
+    /// A reporter's own matches, in its order: those whose number leaves the reporter's index as remainder.
     pub fn games_of(self, index: u8) -> impl Iterator<Item = u8> {
         (1..=12).filter(move |game| game % self.reporters == index)
     }

@@ -1,8 +1,8 @@
 //! A script of events, entered on a board of one thread: a reply for each event, and the twelve match words.
 
 use crate::records::{Record, Records};
-use crate::word::{next_word, number_of, Event, Kind, Side, Words, FRESH};
-use std::fmt::{self, Write};
+use crate::word::{next_word, number_of, Event, Kind, Refusal, Side, Words, FRESH};
+use std::fmt;
 use std::io::{self, Read};
 use std::ops::RangeInclusive;
 
@@ -118,7 +118,7 @@ fn reports_of(input: &[u8]) -> Result<Vec<Report>, Fault> {
 }
 
 /// Appends a number in decimal digits, and a byte after it.
-fn push_number(text: &mut String, number: usize, after: char) {
+fn push_number(text: &mut Vec<u8>, number: usize, after: u8) {
     let mut digits = [0; 20];
     let mut first = digits.len();
     let mut rest = number;
@@ -130,34 +130,49 @@ fn push_number(text: &mut String, number: usize, after: char) {
             break;
         }
     }
-    text.extend(digits[first..].iter().map(|digit| char::from(*digit)));
+    text.extend_from_slice(&digits[first..]);
     text.push(after);
 }
 
+/// Appends the reply to an event.
+fn push_reply(text: &mut Vec<u8>, event: &Event, reply: Result<u64, Refusal>, version: usize) {
+    match reply {
+        Ok(word) => {
+            text.extend_from_slice(b"ok ");
+            push_number(text, usize::from(event.game), b' ');
+            push_number(text, usize::from(number_of(word)), b' ');
+            push_number(text, version, b'\n');
+        }
+        Err(refusal) => {
+            text.extend_from_slice(b"refused ");
+            text.extend_from_slice(refusal.text().as_bytes());
+            if let Refusal::Stale(found) = refusal {
+                text.push(b' ');
+                push_number(text, usize::from(found), b'\n');
+            } else {
+                text.push(b'\n');
+            }
+        }
+    }
+}
+
 /// The replies to the reports of a script, and the match words after them.
-fn replies_to(reports: &[Report]) -> String {
-    let mut text = String::with_capacity(REPLY_BYTES * (reports.len() + 24));
+fn replies_to(reports: &[Report]) -> Vec<u8> {
+    let mut text = Vec::with_capacity(REPLY_BYTES * (reports.len() + 24));
     let mut words: Words = [FRESH; 12];
     let mut version = 0;
     for (row, Report { reporter, event }) in (5..).zip(reports) {
         let word = &mut words[usize::from(event.game) - 1];
-        push_number(&mut text, row, ' ');
-        match next_word(*word, *reporter, event) {
-            Ok(next) => {
-                *word = next;
-                version += 1;
-                text.push_str("ok ");
-                push_number(&mut text, usize::from(event.game), ' ');
-                push_number(&mut text, usize::from(number_of(next)), ' ');
-                push_number(&mut text, version, '\n');
-            }
-            Err(refusal) => {
-                let _ = writeln!(text, "refused {refusal}");
-            }
+        let reply = next_word(*word, *reporter, event);
+        if let Ok(next) = reply {
+            *word = next;
+            version += 1;
         }
+        push_number(&mut text, row, b' ');
+        push_reply(&mut text, event, reply, version);
     }
     for (index, word) in (1..).zip(words) {
-        let _ = writeln!(text, "word,{index},{word:016x},");
+        text.extend_from_slice(format!("word,{index},{word:016x},\n").as_bytes());
     }
     text
 }
@@ -176,7 +191,7 @@ fn read_all(source: impl Read) -> Result<Vec<u8>, Fault> {
 }
 
 /// What `feed` writes of a script on standard input.
-pub fn feed() -> Result<String, Fault> {
+pub fn feed() -> Result<Vec<u8>, Fault> {
     let input = read_all(io::stdin().lock())?;
     Ok(replies_to(&reports_of(&input)?))
 }

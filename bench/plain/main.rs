@@ -16,6 +16,7 @@ mod word;
 use boards::{Board, DoubleCollect, SequenceLock};
 use nights::{Plan, Style};
 use samples::Sample;
+use std::io::{self, Write};
 use std::process::ExitCode;
 use std::sync::{Mutex, RwLock};
 use std::{env, fs};
@@ -119,7 +120,12 @@ fn obey(words: &[&str]) -> Result<(), Failure> {
         ["check", "record_table", "standings", path] => tables::print_standings(&boards_in(path)?),
         ["check", "record_table", "screen", path] => tables::print_screens(&boards_in(path)?),
         ["boards", kind] => print_boards(kind)?,
-        ["feed"] => print!("{}", feed::feed().map_err(|fault| (3, fault.to_string()))?),
+        ["feed"] => {
+            let text = feed::feed().map_err(|fault| (3, fault.to_string()))?;
+            io::stdout()
+                .write_all(&text)
+                .map_err(|error| (4, error.to_string()))?;
+        }
         _ => return Err(usage()),
     }
     Ok(())

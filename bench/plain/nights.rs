@@ -2,9 +2,8 @@
 //! clock, of which the rates are told, and nights in which each reading is timed and checked take turns.
 
 use crate::boards::{read_once, report_once, Board};
-use crate::events::{event_at, Cut, ALL_EVENTS};
+use crate::events::{event_at, Cut, Order, ALL_EVENTS};
 use crate::tally::{is_whole, Tally};
-use crate::word::LAST_NUMBER;
 use std::sync::atomic::{AtomicUsize, Ordering};
 use std::sync::mpsc::{channel, Receiver, Sender};
 use std::sync::Arc;
@@ -28,7 +27,7 @@ pub enum Style {
     Mix,
     /// Each has matches of its own, and enters an event each five microseconds.
     Paced,
-    /// Both enter every match, and go on from the number that a reply tells.
+    /// All enter every match, one event of each in turn, and go on from the number that a reply tells.
     Night,
 }
 
@@ -41,21 +40,16 @@ pub struct Plan {
 }
 
 impl Plan {
-    /// How the events are cut. Where all reporters enter every match, each match ends before the next begins, as by one reporter.
     fn cut(self) -> Cut {
-        match self.style {
-            Style::Mix => Cut {
-                events: ALL_EVENTS,
-                reporters: self.reporters,
-            },
-            Style::Paced => Cut {
-                events: PACED_EVENTS,
-                reporters: self.reporters,
-            },
-            Style::Night => Cut {
-                events: ALL_EVENTS,
-                reporters: 1,
-            },
+        let (events, order) = match self.style {
+            Style::Mix => (ALL_EVENTS, Order::Matches),
+            Style::Paced => (PACED_EVENTS, Order::Matches),
+            Style::Night => (ALL_EVENTS, Order::Turns),
+        };
+        Cut {
+            events,
+            reporters: self.reporters,
+            order,
         }
     }
 }
@@ -125,19 +119,18 @@ impl<B: Board> Night<B> {
         entered
     }
 
-    /// Enters events of every match up to full time, each with the number that the last reply told, and gives how many were accepted.
+    /// Enters events of all matches, one of each in turn up to full time, with the number that the last reply of the match told, and gives
+    /// how many were accepted. A match that another reporter has brought beyond the turn is passed over.
     fn enter_all(&self, index: u8) -> u64 {
         let mut entered = 0;
-        for game in 1..=12 {
-            let mut number = 0;
-            while number < LAST_NUMBER {
-                let told = report_once(&self.board, index + 1, &event_at(game, number));
-                entered += u64::from(told.is_accepted);
-                assert_ne!(
-                    told.number, number,
-                    "no event of a night is refused but as stale"
-                );
-                number = told.number;
+        let mut numbers = [0; 12];
+        for turn in 0..ALL_EVENTS {
+            for (game, number) in (1..).zip(&mut numbers) {
+                if *number == turn {
+                    let told = report_once(&self.board, index + 1, &event_at(game, turn));
+                    entered += u64::from(told.is_accepted);
+                    *number = told.number;
+                }
             }
         }
         entered

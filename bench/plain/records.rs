@@ -14,10 +14,6 @@ impl Record {
         self.ends.clear();
     }
 
-    fn end_field(&mut self) {
-        self.ends.push(self.bytes.len());
-    }
-
     /// The fields, where they are four.
     pub fn four_fields(&self) -> Option<[&[u8]; 4]> {
         let [a, b, c, d] = *self.ends.as_slice() else {
@@ -30,16 +26,6 @@ impl Record {
             &self.bytes[c..d],
         ])
     }
-}
-
-/// Where in a field the next byte stands.
-#[derive(Clone, Copy)]
-enum Place {
-    Start,
-    Plain,
-    Quoted,
-    /// After a quote in a quoted field: it ends the quoted part, unless another quote follows.
-    Quote,
 }
 
 /// What is left of an input.
@@ -64,36 +50,50 @@ impl<'a> Records<'a> {
         if self.rest.is_empty() {
             return false;
         }
-        let mut place = Place::Start;
-        for (i, byte) in self.rest.iter().enumerate() {
-            place = match (place, *byte) {
-                (Place::Start, b'"') => Place::Quoted,
-                (Place::Quoted, b'"') => Place::Quote,
-                (Place::Quoted, byte) => {
-                    record.bytes.push(byte);
-                    Place::Quoted
-                }
-                (Place::Quote, b'"') => {
-                    record.bytes.push(b'"');
-                    Place::Quoted
-                }
-                (_, b',') => {
-                    record.end_field();
-                    Place::Start
-                }
-                (_, b'\n' | b'\r') => {
-                    record.end_field();
-                    self.rest = &self.rest[i + 1..];
-                    return true;
-                }
-                (_, byte) => {
-                    record.bytes.push(byte);
-                    Place::Plain
-                }
-            };
-        }
-        record.end_field();
-        self.rest = &[];
+        while self.read_field(record) {}
         true
+    }
+
+    /// Takes what is left up to the first byte that is an end, or all of it.
+    fn take_to(&mut self, is_end: impl Fn(&u8) -> bool) -> &'a [u8] {
+        let length = self.rest.iter().position(is_end).unwrap_or(self.rest.len());
+        let (taken, rest) = self.rest.split_at(length);
+        self.rest = rest;
+        taken
+    }
+
+    /// Takes the next byte.
+    fn next(&mut self) -> Option<u8> {
+        let (first, rest) = self.rest.split_first()?;
+        self.rest = rest;
+        Some(*first)
+    }
+
+    /// Reads a field, and tells whether another follows in the record.
+    fn read_field(&mut self, record: &mut Record) -> bool {
+        if self.rest.first() == Some(&b'"') {
+            self.next();
+            self.read_quoted(record);
+        }
+        record
+            .bytes
+            .extend_from_slice(self.take_to(|byte| matches!(byte, b',' | b'\n' | b'\r')));
+        record.ends.push(record.bytes.len());
+        self.next() == Some(b',')
+    }
+
+    /// Reads up to the closing quote of a field, in which two quotes are one. A quote that is still open at the end is closed there.
+    fn read_quoted(&mut self, record: &mut Record) {
+        loop {
+            record
+                .bytes
+                .extend_from_slice(self.take_to(|byte| *byte == b'"'));
+            self.next();
+            if self.rest.first() != Some(&b'"') {
+                return;
+            }
+            self.next();
+            record.bytes.push(b'"');
+        }
     }
 }

@@ -1,7 +1,7 @@
 //! What readings took, and whether one was torn.
 
 use crate::boards::Reading;
-use crate::events::Cut;
+use crate::events::{Cut, Order};
 use crate::word::{
     number_of, Words, AWAY_EXPULSIONS, AWAY_GOALS, AWAY_YELLOWS, FINISHED, HOME_EXPULSIONS,
     HOME_GOALS, HOME_YELLOWS, IN_PLAY, LAST_NUMBER, SCHEDULED, STATE,
@@ -107,9 +107,8 @@ fn can_be(word: u64) -> bool {
         && unchanged.iter().all(|field| field.of(word) == 0)
 }
 
-/// Whether each reporter has ended each match before its next. Two moments that are mixed show as a match that stands while the next has
-/// begun.
-fn stand_in_turn(words: &Words, cut: Cut) -> bool {
+/// Whether each reporter has ended each match before its next.
+fn stand_in_order(words: &Words, cut: Cut) -> bool {
     (0..cut.reporters).all(|index| {
         let mut numbers = cut
             .games_of(index)
@@ -119,14 +118,24 @@ fn stand_in_turn(words: &Words, cut: Cut) -> bool {
     })
 }
 
-/// Whether a reading can be of one moment of the night.
+/// Whether the first matches are one event ahead of the others, or none is.
+fn stand_in_turns(words: &Words) -> bool {
+    let numbers = words.map(number_of);
+    numbers.is_sorted_by(|first, second| first >= second) && numbers[0] - numbers[11] <= 1
+}
+
+/// Whether a reading can be of one moment of the night. Two moments that are mixed show as a match that stands while the next has gone on.
 pub fn is_whole(reading: &Reading, cut: Cut) -> bool {
     let sum = reading
         .words
         .iter()
         .map(|word| u32::from(number_of(*word)))
         .sum::<u32>();
+    let is_in_order = match cut.order {
+        Order::Matches => stand_in_order(&reading.words, cut),
+        Order::Turns => stand_in_turns(&reading.words),
+    };
     reading.words.iter().all(|word| can_be(*word))
         && sum == u32::from(reading.version)
-        && stand_in_turn(&reading.words, cut)
+        && is_in_order
 }

@@ -1,7 +1,5 @@
 //! A match as a word of 64 bits, and the rules by which an event changes it, as docs/RULES.md has both.
 
-use std::fmt;
-
 /// The words of a board, for matches 1 to 12.
 pub type Words = [u64; 12];
 
@@ -116,18 +114,19 @@ pub enum Refusal {
     LimitReached,
 }
 
-impl fmt::Display for Refusal {
-    fn fmt(&self, f: &mut fmt::Formatter) -> fmt::Result {
+impl Refusal {
+    /// The number of the refusal and its name. The event number that was found is told with the first.
+    pub fn text(self) -> &'static str {
         match self {
-            Refusal::Stale(number) => write!(f, "1 stale {number}"),
-            Refusal::Finished => f.write_str("2 finished"),
-            Refusal::NotStarted => f.write_str("3 not-started"),
-            Refusal::AlreadyStarted => f.write_str("4 already-started"),
-            Refusal::NumberFull => f.write_str("5 number-full"),
-            Refusal::NoGoal => f.write_str("6 no-goal"),
-            Refusal::NoCaution => f.write_str("7 no-caution"),
-            Refusal::LimitReached => f.write_str("8 limit-reached"),
-            Refusal::NotFinished => f.write_str("9 not-finished"),
+            Refusal::Stale(_) => "1 stale",
+            Refusal::Finished => "2 finished",
+            Refusal::NotStarted => "3 not-started",
+            Refusal::AlreadyStarted => "4 already-started",
+            Refusal::NumberFull => "5 number-full",
+            Refusal::NoGoal => "6 no-goal",
+            Refusal::NoCaution => "7 no-caution",
+            Refusal::LimitReached => "8 limit-reached",
+            Refusal::NotFinished => "9 not-finished",
         }
     }
 }

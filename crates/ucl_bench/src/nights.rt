@@ -3,9 +3,8 @@
 
 use crate::clock::{FineQuotient, Quotient, nanos, nanos_since};
 use crate::events::{ALL_EVENTS, MATCHES, event_at, is_of};
-use crate::layout::LAST_NUMBER;
 use crate::subject::{Subject, read_once, report_once};
-use crate::tally::{Cut, Tally, is_whole};
+use crate::tally::{Cut, Order, Tally, is_whole};
 use anyhow::{Context, Result};
 use crossbeam_channel::{Receiver, Sender, unbounded};
 use std::alloc::Global;
@@ -35,7 +34,7 @@ pub enum Style {
     Mix,
     /// Each has matches of its own, and enters an event each five microseconds.
     Paced,
-    /// All enter every match, and go on from the number that a reply tells.
+    /// All enter every match, one event of each in turn, and go on from the number that a reply tells.
     Night,
 }
 
@@ -48,14 +47,17 @@ pub struct Plan {
 }
 
 impl Plan {
-    /// How the events are cut. Where all reporters enter every match, each match ends before the next begins, as by one reporter.
     pub fn cut(&self) -> Cut {
-        let (events, reporters) = match self.style {
-            Style::Mix => (ALL_EVENTS, self.reporters),
-            Style::Paced => (PACED_EVENTS, self.reporters),
-            Style::Night => (ALL_EVENTS, 1),
+        let (events, order) = match self.style {
+            Style::Mix => (ALL_EVENTS, Order::Matches),
+            Style::Paced => (PACED_EVENTS, Order::Matches),
+            Style::Night => (ALL_EVENTS, Order::Turns),
         };
-        Cut { events, reporters }
+        Cut {
+            events,
+            reporters: self.reporters,
+            order,
+        }
     }
 }
 
@@ -260,22 +262,21 @@ fn enter_own<S: Subject, R: Wait + Clock>(
     entered
 }
 
-/// Enters events of every match up to full time, each with the number that the last reply told, and tells how many were accepted.
+/// Enters events of all matches, one of each in turn up to full time, with the number that the last reply of the match told, and tells
+/// how many were accepted. A match that another reporter has brought beyond the turn is passed over.
 fn enter_all<S: Subject, R: Wait>(rt: &R, part: &mut S::Reporter) -> u64 {
     let mut entered = 0u64;
-    for game in (1..=MATCHES).filter_map(MatchNo::new) {
-        let mut number = 0;
-        for _ in rt.forever() {
-            if number >= LAST_NUMBER {
-                break;
+    let mut numbers = [0; 12];
+    for turn in 0..ALL_EVENTS {
+        for (number, game) in numbers.iter_mut().zip(1..=MATCHES) {
+            let Some(game) = MatchNo::new(game) else {
+                continue;
+            };
+            if *number == turn {
+                let told = report_once::<S, R>(rt, part, &event_at(game, turn));
+                entered = entered.wrapping_add(u64::from(told.is_accepted));
+                *number = told.number;
             }
-            let told = report_once::<S, R>(rt, part, &event_at(game, number));
-            entered = entered.wrapping_add(u64::from(told.is_accepted));
-            if told.number == number {
-                // Refused, and not as stale: no event of a night is.
-                break;
-            }
-            number = told.number;
         }
     }
     entered

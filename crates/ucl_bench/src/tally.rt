@@ -31,11 +31,21 @@ fn time_of(place: usize) -> u64 {
     fine.wrapping_mul(2u64.wrapping_pow(u32::try_from(above).unwrap_or(0)))
 }
 
-/// How a night is cut: so many events for each match, whose reporters are so many.
+/// In which order the events of a night are entered.
+#[derive(Clone, Copy, PartialEq, Eq)]
+pub enum Order {
+    /// Each reporter ends a match of its own before its next begins.
+    Matches,
+    /// All reporters enter one event of each match in turn.
+    Turns,
+}
+
+/// How a night is cut: so many events for each match, whose reporters are so many, in this order.
 #[derive(Clone, Copy)]
 pub struct Cut {
     pub events: u16,
     pub reporters: u8,
+    pub order: Order,
 }
 
 /// What readings took, and what was found of them.
@@ -146,8 +156,8 @@ fn can_be(word: u64) -> bool {
     in_state && goals == u64::from(scored) && word & NO_EVENT == 0
 }
 
-/// Whether these words can stand on a board at one moment of the night, with this version. A reporter begins a match only when it has
-/// ended the one before, so a reading that mixes two moments shows as a match that stands while the next has begun.
+/// Whether these words can stand on a board at one moment of the night, with this version. A reading that mixes two moments shows as a
+/// match that stands while the next has gone on.
 pub fn is_whole(words: &[u64; 12], version: u16, cut: Cut) -> bool {
     let mut sum = 0u32;
     for word in words {
@@ -156,11 +166,15 @@ pub fn is_whole(words: &[u64; 12], version: u16, cut: Cut) -> bool {
         }
         sum = sum.wrapping_add(u32::from(number_of(*word)));
     }
-    sum == u32::from(version) && stand_in_turn(words, cut)
+    let is_in_order = match cut.order {
+        Order::Matches => stand_in_order(words, cut),
+        Order::Turns => stand_in_turns(words),
+    };
+    sum == u32::from(version) && is_in_order
 }
 
 /// Whether each reporter has ended each match before its next.
-fn stand_in_turn(words: &[u64; 12], cut: Cut) -> bool {
+fn stand_in_order(words: &[u64; 12], cut: Cut) -> bool {
     for reporter in 0..cut.reporters {
         let mut is_open = false;
         for (game, word) in (1..=MATCHES).zip(words.iter()) {
@@ -172,6 +186,20 @@ fn stand_in_turn(words: &[u64; 12], cut: Cut) -> bool {
                 is_open = number != cut.events;
             }
         }
+    }
+    true
+}
+
+/// Whether the first matches are one event ahead of the others, or none is.
+fn stand_in_turns(words: &[u64; 12]) -> bool {
+    let first = number_of(words[0]);
+    let mut before = first;
+    for word in words {
+        let number = number_of(*word);
+        if number > before || first.saturating_sub(number) > 1 {
+            return false;
+        }
+        before = number;
     }
     true
 }

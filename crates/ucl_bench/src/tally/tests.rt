@@ -1,6 +1,6 @@
 //! The check of readings, and the places of times.
 
-use super::{Cut, PLACES, is_whole, place_of, time_of};
+use super::{Cut, Order, PLACES, is_whole, place_of, time_of};
 
 // Words of the events of a night, by reporter 1: a kick-off, then a home goal and a home goal disallowed in turn, and last full time.
 const SCHEDULED: u64 = 0x2000000000000000;
@@ -20,16 +20,25 @@ const ENDED: u64 = 0x2001000000006fff;
 const PACED_BY_ONE: Cut = Cut {
     events: 100,
     reporters: 1,
+    order: Order::Matches,
 };
 
 const PACED_BY_TWO: Cut = Cut {
     events: 100,
     reporters: 2,
+    order: Order::Matches,
 };
 
 const WHOLE_BY_ONE: Cut = Cut {
     events: 4095,
     reporters: 1,
+    order: Order::Matches,
+};
+
+const IN_TURNS: Cut = Cut {
+    events: 4095,
+    reporters: 2,
+    order: Order::Turns,
 };
 
 /// The words of a night whose first matches have these, and whose others are scheduled.
@@ -121,6 +130,43 @@ fn words_of_two_moments(rt: HostRuntime) {
         ),
     ] {
         assert!(rt; !is_whole(&first_words(first), version, cut), "{name}");
+    }
+}
+
+/// Words of a night in which matches take turns: so many of the first have this word, and the others that one.
+fn turned_words(ahead: usize, word: u64, behind: u64) -> [u64; 12] {
+    let mut words = [behind; 12];
+    for early in words.iter_mut().take(ahead) {
+        *early = word;
+    }
+    words
+}
+
+#[test]
+fn words_in_turns(rt: HostRuntime) {
+    for (ahead, word, behind, version) in [
+        (0, SCHEDULED, SCHEDULED, 0),
+        (1, KICKED_OFF, SCHEDULED, 1),
+        (11, AFTER_100, AFTER_99, 1199),
+        (12, AFTER_100, AFTER_99, 1200),
+        (5, ENDED, AFTER_4094, 49_133),
+    ] {
+        let words = turned_words(ahead, word, behind);
+        assert!(rt; is_whole(&words, version, IN_TURNS), "{version}");
+    }
+}
+
+/// A single collect copies a match, and a later one in the next turn; or a match that is two turns behind.
+#[test]
+fn words_of_two_turns(rt: HostRuntime) {
+    for (ahead, word, behind, version) in [
+        (1, SCHEDULED, KICKED_OFF, 11),
+        (11, AFTER_99, AFTER_100, 1189),
+        (3, AFTER_2, SCHEDULED, 6),
+        (6, AFTER_100, AFTER_2, 612),
+    ] {
+        let words = turned_words(ahead, word, behind);
+        assert!(rt; !is_whole(&words, version, IN_TURNS), "{version}");
     }
 }
 
