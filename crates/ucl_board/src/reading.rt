@@ -7,6 +7,6 @@ use crate::board::Board;
 pub struct Reading {
     /// The board.
     pub board: Board,
-    /// The version of the board: the sum of its twelve event numbers.
+    /// In what a board that threads share answers, the version of `board`: the sum of its twelve event numbers.
     pub version: u16,
 }

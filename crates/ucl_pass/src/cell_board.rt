@@ -170,7 +170,7 @@ impl CellBoard {
         ensures accepted { IfOk result (λ reply. AcceptedReport (pass_view_of (cell_view seat.old)) call.now reply (pass_view_of (cell_view seat.new))) }
         ensures refused { IfErr result (λ refusal. RefusedReport (pass_view_of (cell_view seat.old)) call.now refusal (pass_view_of (cell_view seat.new))) }
         ensures steps { CellReport (cell_view seat.old) call.now result (cell_view seat.new) }
-        ensures whole { IsUpToDate (cell_view seat.new) }
+        ensures up_to_date { IsUpToDate (cell_view seat.new) }
     {
         'retry: for _ in rt.forever() {
             let words = self.look::<Brand, R>(rt, seat, call.game);
@@ -201,7 +201,7 @@ impl CellBoard {
         ensures reading { SharedReading (pass_view_of (cell_view seat.old)) result (pass_view_of (cell_view seat.new)) }
         ensures version { result.version ≡ length (cell_view seat.new).seen }
         ensures steps { CellReading (cell_view seat.old) result (cell_view seat.new) }
-        ensures whole { IsUpToDate (cell_view seat.new) }
+        ensures up_to_date { IsUpToDate (cell_view seat.new) }
     {
         let words = self.look_to_show(rt, seat);
         let board = board_at(&words);
@@ -219,7 +219,7 @@ impl CellBoard {
         ensures full { IfNone result (FullBoard (pass_view_of (cell_view seat.old)) (pass_view_of (cell_view seat.new))) }
         ensures acts { count_of (cell_view seat.old) < count_of (cell_view seat.new) }
         ensures steps { EnlistSteps (cell_view seat.old) (cell_view seat.new) }
-        ensures whole { IsUpToDate (cell_view seat.new) }
+        ensures up_to_date { IsUpToDate (cell_view seat.new) }
     {
         'retry: for _ in rt.forever() {
             let words = self.count(rt, seat);
@@ -253,7 +253,7 @@ impl CellBoard {
         ensures always { Continues (pass_view_of (cell_view second.old)) (pass_view_of (cell_view second.new)) }
         ensures meeting { Meeting (pass_view_of (cell_view first.old)) (pass_view_of (cell_view second.old)) (pass_view_of (cell_view second.new)) }
         ensures steps { MeetingSteps (cell_view second.old) (cell_view second.new) }
-        ensures whole { IsUpToDate (cell_view second.new) }
+        ensures up_to_date { IsUpToDate (cell_view second.new) }
     {
         let note = self.cell.split_pass::<Note>(first);
         self.cell.join_pass::<Note>(second, note);

@@ -15,7 +15,7 @@ use ucl_board::Reading;
 use ucl_word::{Accepted, EventCall, Refusal, ReporterNo};
 
 /// Beside what every live board says, the clause `steps` says which steps a call takes, each of them in the log of the board; `acts` counts
-/// them; and by `whole` the pass has then seen the whole history, up to its last step. The version that is read is the length of what the
+/// them; and by `up_to_date` the pass has then seen the whole history, up to its last step. The version that is read is the length of what the
 /// pass has then seen. The calls may wait inside the cell; an event or an enlistment is tried again, without a bound, where another call
 /// changed a word of the cell.
 impl LiveBoard for CellBoard {
@@ -44,7 +44,7 @@ impl LiveBoard for CellBoard {
         ensures refused { IfErr result (λ refusal. RefusedReport (pass_view_of pass.old.1) call.now refusal (pass_view_of pass.new.1)) }
         ensures acts { count_of pass.old.1 < count_of pass.new.1 }
         ensures steps { CellReport pass.old.1 call.now result pass.new.1 }
-        ensures whole { IsUpToDate pass.new.1 }
+        ensures up_to_date { IsUpToDate pass.new.1 }
     {
         let reporter = pass.number;
         let result = self.report_by(rt, &mut pass.seat, reporter, call);
@@ -62,7 +62,7 @@ impl LiveBoard for CellBoard {
         ensures version { result.version ≡ length pass.new.1.seen }
         ensures acts { count_of pass.new.1 ≡ count_of pass.old.1 + 1 }
         ensures steps { CellReading pass.old.1 result pass.new.1 }
-        ensures whole { IsUpToDate pass.new.1 }
+        ensures up_to_date { IsUpToDate pass.new.1 }
     {
         self.read_by(rt, &mut pass.seat)
     }
@@ -75,7 +75,7 @@ impl LiveBoard for CellBoard {
         ensures version { result.version ≡ length pass.new.1.seen }
         ensures acts { count_of pass.new.1 ≡ count_of pass.old.1 + 1 }
         ensures steps { CellReading pass.old.1 result pass.new.1 }
-        ensures whole { IsUpToDate pass.new.1 }
+        ensures up_to_date { IsUpToDate pass.new.1 }
     {
         let seat = &mut pass.seat;
         self.read_by(rt, seat)
@@ -106,7 +106,7 @@ impl LiveBoard for CellBoard {
         ensures full { IfErr result (λ full. FullBoard (pass_view_of pass.1) (pass_view_of full.0.1)) }
         ensures acts { MatchResult result (λ enlisted. count_of pass.1 < count_of enlisted.1) (λ full. count_of pass.1 < count_of full.0.1) }
         ensures steps { MatchResult result (λ enlisted. EnlistSteps pass.1 enlisted.1) (λ full. EnlistSteps pass.1 full.0.1) }
-        ensures whole { MatchResult result (λ enlisted. IsUpToDate enlisted.1) (λ full. IsUpToDate full.0.1) }
+        ensures up_to_date { MatchResult result (λ enlisted. IsUpToDate enlisted.1) (λ full. IsUpToDate full.0.1) }
     {
         let CellReaderPass { mut seat } = pass;
         match self.enlist_by(rt, &mut seat) {
@@ -128,7 +128,7 @@ impl LiveBoard for CellBoard {
         ensures meeting { Meeting (pass_view_of first.old.1) (pass_view_of second.old.1) (pass_view_of second.new.1) }
         ensures acts { count_of second.new.1 ≡ count_of second.old.1 + 1 }
         ensures steps { MeetingSteps second.old.1 second.new.1 }
-        ensures whole { IsUpToDate second.new.1 }
+        ensures up_to_date { IsUpToDate second.new.1 }
     {
         self.meet_by(rt, &mut first.seat, &mut second.seat);
     }
