@@ -26,10 +26,8 @@ use Rattle.ucl_word.proofs.Sequences.{at_below}
 use Rattle.ucl_steps.proofs.Invariant.{Keeps}
 use Rattle.ucl_steps.proofs.CallFacts.{in_call}
 use Rattle.ucl_steps.proofs.KeptBySteps.{word_now, no_asker}
-use Rattle.ucl_steps.proofs.Histories.{legal_beginning, read_back, board_none}
-use Rattle.ucl_word.specs.Rules.{after}
-use Rattle.ucl_word.specs.Record.{scheduled, IsValid}
-use Rattle.ucl_word.proofs.AcceptedEvents.{accepts, after_valid}
+use Rattle.ucl_steps.proofs.Histories.{legal_beginning, board_none}
+use Rattle.ucl_word.specs.Record.{scheduled}
 use Rattle.ucl_steps.proofs.Runs.{kept_at_start, run_kept}
 
 pub reached_kept : (w : MachineState) (r : IsReachable w) → Keeps r.1 w
@@ -154,18 +152,6 @@ module _ (w : MachineState) (r : IsReachable w) (c : Caller) (o : Option Held) (
 
   pub wanted_word : (k : ℕ) (e : EventCall) → o ≡ Some (has.Wanting k e) → IsWord (word_at w.words e.game)
   wanted_word k e is = word_is w r e.game ((reached_kept w r).knows c (Wanting k e) k (holds (has.Wanting k e) is) refl).sees.game
-
-  pub held_word : (k : ℕ) (e : EventCall) (old new : ℕ) → o ≡ Some (has.Holding k e old new) → IsWord (word_at w.words e.game)
-  held_word k e old new is = word_is w r e.game ((reached_kept w r).knows c (Holding k e old new) k (holds (has.Holding k e old new) is) refl).sees.asks.game
-
-  pub new_word : (k : ℕ) (e : EventCall) (old new : ℕ) → o ≡ Some (has.Holding k e old new) → IsWord new
-  new_word k e old new at =
-      let kept = reached_kept w r in
-      let o = (kept.knows c (Holding k e old new) k (holds (has.Holding k e old new) at) refl).sees in
-      let legal = legal_beginning w.history o.place kept.legal in
-      let is : record_at old ≡ match_after (take o.place w.history) e.game = ap record_at o.found ∙ read_back (take o.place w.history) e.game legal in
-      let valid : IsValid (record_at old) = subst IsValid (sym is) (match_valid e.game (take o.place w.history) legal) in
-      record { of = after (record_at old) o.asks.reporter e.kind; valid = after_valid (record_at old) o.asks.reporter e.expected e.kind valid (o.asks.low, o.asks.high) (accepts (record_at old) e.expected e.kind o.accepted); packed = sym o.next }
 
   -- only a reporter enters events
   pub reporter_wants : (n k : ℕ) (e : EventCall) → c ≡ Reader n → o ≡ Some (has.Wanting k e) → ⊥

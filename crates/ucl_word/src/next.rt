@@ -30,6 +30,7 @@ fn state_for(kind: Kind) -> State
     }
 }
 
+/// The lowest bit of the side's goals.
 fn goals_low(side: Side) -> u32
     ensures { result ≡ (goals_field side).low }
 {
@@ -39,6 +40,7 @@ fn goals_low(side: Side) -> u32
     }
 }
 
+/// The lowest bit of the side's standing yellows.
 fn yellows_low(side: Side) -> u32
     ensures { result ≡ (yellows_field side).low }
 {
@@ -48,6 +50,7 @@ fn yellows_low(side: Side) -> u32
     }
 }
 
+/// The lowest bit of the side's expulsions.
 fn expelled_low(side: Side) -> u32
     ensures { result ≡ (expulsions_field side).low }
 {
@@ -111,7 +114,7 @@ fn lowered(word: u64, low: u32, width: u32, missing: Refusal) -> Result<u64, Ref
 }
 
 /// The word with what the kind of an event changes, or the first of the last three rules that refuses the change.
-// As a call of its own it would hand the word back through memory, which a report on a shared board would wait for.
+// As calls of their own, this and `next_word` would hand the word back through memory, which a report on a shared board would wait for.
 #[inline(always)]
 fn changed(word: u64, kind: Kind) -> Result<u64, Refusal>
     requires word { IsWord word }
@@ -136,7 +139,6 @@ fn changed(word: u64, kind: Kind) -> Result<u64, Refusal>
 /// The word of a match after an event of this reporter, or the first rule that refuses the event: what `pack` makes of the record that
 /// `apply` answers for the record of the word. `word` has to be that of a valid record, and so is the next. Over counting it says of the
 /// records of both words what `apply` says.
-// The same goes for the whole.
 #[inline(always)]
 pub fn next_word(word: u64, reporter: ReporterNo, expected: u16, kind: Kind) -> Result<u64, Refusal>
     requires { IsWord word }
