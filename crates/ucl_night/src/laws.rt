@@ -9,7 +9,7 @@ pub fn words_that_are_taken()
 {}
 
 /// By what kinds of error the program refuses lines: no subcommand or another one, a word too many, an option of another
-/// subcommand, no value or one that the option does not take, an option twice, and calls for help.
+/// subcommand, no value or one that the option does not take, an option twice, and calls for help and for the version.
 pub fn words_that_are_refused()
     ensures { RefusedLines }
 {}
