@@ -20,6 +20,16 @@ pub enum Fault {
     Reading(usize),
 }
 
+impl Fault {
+    /// The exit status.
+    pub fn status(&self) -> u8 {
+        match self {
+            Fault::Reading(_) => 4,
+            _ => 3,
+        }
+    }
+}
+
 impl fmt::Display for Fault {
     fn fmt(&self, f: &mut fmt::Formatter) -> fmt::Result {
         match self {

@@ -26,7 +26,7 @@ const USAGE: &str = "plain list
 plain run SUBJECT WORKLOAD MS [FILE]    measures, and prints a line of JSON
 plain check record_table standings|screen FILE
                                         the rows, or the screens, of the boards of a file
-plain boards KIND                       1,000 boards: mixed, evening, finished, goalless or fresh
+plain boards KIND                       1,000 boards: mixed, evening, finished, goalless or fresh; 20,000: narrow
 plain feed                              enters a script of events from standard input";
 
 const LIST: &str = "double_collect read report mix-R-W paced-R-W night
@@ -121,7 +121,7 @@ fn obey(words: &[&str]) -> Result<(), Failure> {
         ["check", "record_table", "screen", path] => tables::print_screens(&boards_in(path)?),
         ["boards", kind] => print_boards(kind)?,
         ["feed"] => {
-            let text = feed::feed().map_err(|fault| (3, fault.to_string()))?;
+            let text = feed::feed().map_err(|fault| (fault.status(), fault.to_string()))?;
             io::stdout()
                 .write_all(&text)
                 .map_err(|error| (4, error.to_string()))?;

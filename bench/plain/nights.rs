@@ -8,7 +8,7 @@ use std::sync::atomic::{AtomicUsize, Ordering};
 use std::sync::mpsc::{channel, Receiver, Sender};
 use std::sync::Arc;
 use std::time::{Duration, Instant};
-use std::{fmt, iter, thread};
+use std::{fmt, thread};
 
 /// How far apart the events of a paced reporter are, and how many of each match it enters.
 const PACE: Duration = Duration::from_micros(5);
@@ -64,6 +64,17 @@ struct Night<B> {
 }
 
 impl<B: Board> Night<B> {
+    /// A night on a fresh board. With no reporter it ends when it is told to.
+    fn of(plan: Plan, is_timed: bool) -> Arc<Night<B>> {
+        Arc::new(Night {
+            board: B::fresh(),
+            is_timed,
+            workers: usize::from(plan.readers) + usize::from(plan.reporters),
+            come: AtomicUsize::new(0),
+            reporting: AtomicUsize::new(usize::from(plan.reporters.max(1))),
+        })
+    }
+
     /// Comes to the night, and waits until all have.
     fn begin(&self) {
         self.come.fetch_add(1, Ordering::SeqCst);
@@ -214,63 +225,37 @@ fn clock_nanos() -> u128 {
 
 impl fmt::Display for Nights {
     fn fmt(&self, f: &mut fmt::Formatter) -> fmt::Result {
-        let Nights {
-            plan: Plan {
-                readers, reporters, ..
-            },
-            nights,
-            untimed,
-            time,
-            entered,
-            tally,
-        } = self;
-        let nanos = time.as_nanos() as u64;
+        let Plan {
+            readers, reporters, ..
+        } = self.plan;
         let Tally {
             checked,
             whole,
             longest,
             ..
-        } = tally;
+        } = self.tally;
+        let nights = self.nights;
+        let nanos = self.time.as_nanos() as u64;
+        let reads_per_s = 1e9 * quotient(self.tally.reads, self.tally.nanos);
+        let reports_per_s = 1e9 * quotient(self.entered, nanos);
+        let night_ms = quotient(nanos, self.untimed) / 1e6;
+        let retries = quotient(self.tally.retries, self.tally.reads);
+        let p50 = self.tally.time_at(500);
+        let p999 = self.tally.time_at(999);
+        let clock = clock_nanos();
+        let torn = checked - whole;
         write!(
             f,
-            "\"readers\":{readers},\"reporters\":{reporters},\"nights\":{nights},"
-        )?;
-        write!(
-            f,
-            "\"reads_per_s\":{:.2},",
-            1e9 * quotient(tally.reads, tally.nanos)
-        )?;
-        write!(
-            f,
-            "\"reports_per_s\":{:.2},",
-            1e9 * quotient(*entered, nanos)
-        )?;
-        write!(f, "\"night_ms\":{:.2},", quotient(nanos, *untimed) / 1e6)?;
-        write!(
-            f,
-            "\"retries_per_read\":{:.6},",
-            quotient(tally.retries, tally.reads)
-        )?;
-        write!(
-            f,
-            "\"p50_ns\":{},\"p999_ns\":{},\"max_ns\":{longest},",
-            tally.time_at(500),
-            tally.time_at(999)
-        )?;
-        write!(f, "\"clock_ns\":{},", clock_nanos())?;
-        write!(
-            f,
-            "\"checked\":{checked},\"whole\":{whole},\"torn\":{}",
-            checked - whole
+            "\"readers\":{readers},\"reporters\":{reporters},\"nights\":{nights},\
+             \"reads_per_s\":{reads_per_s:.2},\"reports_per_s\":{reports_per_s:.2},\"night_ms\":{night_ms:.2},\
+             \"retries_per_read\":{retries:.6},\"p50_ns\":{p50},\"p999_ns\":{p999},\"max_ns\":{longest},\
+             \"clock_ns\":{clock},\"checked\":{checked},\"whole\":{whole},\"torn\":{torn}"
         )
     }
 }
 
 /// Holds nights of a plan for so many milliseconds, at least one of each sort.
 pub fn hold_nights<B: Board>(plan: Plan, millis: u64) -> Nights {
-    let reporters = usize::from(plan.reporters);
-    let workers = usize::from(plan.readers) + reporters;
-    let (told, shifts) = channel();
     let mut result = Nights {
         plan,
         nights: 0,
@@ -279,32 +264,31 @@ pub fn hold_nights<B: Board>(plan: Plan, millis: u64) -> Nights {
         entered: 0,
         tally: Tally::new(),
     };
+    let (told, shifts) = channel();
     thread::scope(|scope| {
-        let (mut senders, receivers): (Vec<_>, Vec<_>) =
-            iter::repeat_with(channel::<Arc<Night<B>>>)
-                .take(workers)
-                .unzip();
-        let mut receivers = receivers.into_iter();
-        for (index, nights) in (0..plan.reporters).zip(receivers.by_ref()) {
+        let mut workers = Vec::new();
+        let mut readers = Vec::new();
+        for _ in 0..plan.readers {
+            let (to, nights) = channel::<Arc<Night<B>>>();
+            workers.push(to);
+            readers.push(scope.spawn(move || read_nights(nights, plan.cut())));
+        }
+        for index in 0..plan.reporters {
+            let (to, nights) = channel::<Arc<Night<B>>>();
+            workers.push(to);
             let told = told.clone();
             scope.spawn(move || enter_nights(nights, plan, index, told));
         }
-        let readers: Vec<_> = receivers
-            .map(|nights| scope.spawn(move || read_nights(nights, plan.cut())))
-            .collect();
         let end = Instant::now() + Duration::from_millis(millis);
         while Instant::now() < end || result.nights < 2 {
-            let is_timed = result.nights % 2 == 1;
-            let night = Arc::new(Night {
-                board: B::fresh(),
-                is_timed,
-                workers,
-                come: AtomicUsize::new(0),
-                reporting: AtomicUsize::new(reporters.max(1)),
-            });
-            hold_night(&night, &senders, &shifts, reporters, &mut result);
+            hold_night(
+                &Night::of(plan, result.nights % 2 == 1),
+                &workers,
+                &shifts,
+                &mut result,
+            );
         }
-        senders.clear();
+        drop(workers);
         for reader in readers {
             result
                 .tally
@@ -319,7 +303,6 @@ fn hold_night<B: Board>(
     night: &Arc<Night<B>>,
     workers: &[Sender<Arc<Night<B>>>],
     shifts: &Receiver<Shift>,
-    reporters: usize,
     result: &mut Nights,
 ) {
     for worker in workers {
@@ -327,6 +310,7 @@ fn hold_night<B: Board>(
             .send(Arc::clone(night))
             .expect("a worker waits for the next night");
     }
+    let reporters = usize::from(result.plan.reporters);
     result.nights += 1;
     result.untimed += u64::from(!night.is_timed);
     if reporters == 0 {

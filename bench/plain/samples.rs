@@ -4,9 +4,6 @@ use crate::word::{
     Words, EXPULSIONS, FINISHED, FRESH, GOALS, IN_PLAY, NUMBER, REPORTER, SCHEDULED, STATE, YELLOWS,
 };
 
-/// How many boards there are of each kind.
-pub const BOARDS: usize = 1000;
-
 /// Numbers by a linear congruence modulo two to the power of 64, with the factor and the summand that Knuth gives for MMIX; of each state
 /// the upper half is used.
 struct Numbers {
@@ -27,7 +24,8 @@ impl Numbers {
     }
 }
 
-/// The kinds of boards.
+/// The kinds of boards: 1,000 of each are measured. Of the last there are 20,000, which are compared only: among them are boards that
+/// come to the late criteria, as wins and away wins.
 #[derive(Clone, Copy, PartialEq, Eq)]
 pub enum Sample {
     /// Each match has a state of its own.
@@ -40,21 +38,29 @@ pub enum Sample {
     Goalless,
     /// No match has begun.
     Fresh,
+    /// Each match has a state of its own, with a goal a side at most and no card.
+    Narrow,
 }
 
 impl Sample {
-    pub const ALL: [(&'static str, Sample); 5] = [
+    pub const ALL: [(&'static str, Sample); 6] = [
         ("mixed", Sample::Mixed),
         ("evening", Sample::Evening),
         ("finished", Sample::Finished),
         ("goalless", Sample::Goalless),
         ("fresh", Sample::Fresh),
+        ("narrow", Sample::Narrow),
     ];
 
     /// The boards of this kind.
     pub fn boards(self) -> Vec<Words> {
         let mut numbers = Numbers { state: self as u64 };
-        (0..BOARDS).map(|_| self.board(&mut numbers)).collect()
+        let count = if self == Sample::Narrow {
+            20_000
+        } else {
+            1_000
+        };
+        (0..count).map(|_| self.board(&mut numbers)).collect()
     }
 
     /// The next board: first how many matches are finished of an evening, and then match by match the state, and the match.
@@ -66,7 +72,7 @@ impl Sample {
         };
         std::array::from_fn(|index| {
             let state = match self {
-                Sample::Mixed => numbers.below(3),
+                Sample::Mixed | Sample::Narrow => numbers.below(3),
                 Sample::Evening if (index as u64) < ended => FINISHED,
                 Sample::Evening if (index as u64) < ended + 2 => IN_PLAY,
                 Sample::Finished | Sample::Goalless => FINISHED,
@@ -80,19 +86,23 @@ impl Sample {
         })
     }
 
-    /// The word of a match that has begun, with as many events as lead to it: a kick-off, each goal and card, and full time. Goals are 0
-    /// to 3 a side, yellows 0 to 4, and in one of eight a side has a player sent off.
+    /// The word of a match that has begun, with as many events as lead to it: a kick-off, each goal and card, and full time. Where a kind
+    /// says nothing else, goals are 0 to 3 a side and yellows 0 to 4, and in one of eight a side has a player sent off.
     fn begun(self, numbers: &mut Numbers, state: u64) -> u64 {
+        let (goals_below, has_cards) = match self {
+            Sample::Goalless => (1, true),
+            Sample::Narrow => (2, false),
+            _ => (4, true),
+        };
         let mut word = FRESH + STATE.place(state);
         let mut events = state;
         for side in 0..2 {
-            let goals = if self == Sample::Goalless {
-                0
+            let goals = numbers.below(goals_below);
+            let (yellows, expulsions) = if has_cards {
+                (numbers.below(5), u64::from(numbers.below(8) == 0))
             } else {
-                numbers.below(4)
+                (0, 0)
             };
-            let yellows = numbers.below(5);
-            let expulsions = u64::from(numbers.below(8) == 0);
             word += GOALS[side].place(goals)
                 + YELLOWS[side].place(yellows)
                 + EXPULSIONS[side].place(expulsions);

@@ -1,6 +1,6 @@
 //! What the words of the command line ask for.
 
-use crate::cell_subject::CellSubject;
+use crate::live_subject::LiveSubject;
 use crate::locked_words::LockedSubject;
 use crate::nights::{Plan, Style};
 use crate::one_thread::{Chunks, measure_read, measure_report};
@@ -12,7 +12,6 @@ use crate::tables::{
     OurTable, Rounds, Table, boards_of, measure_screens, measure_standings, print_screens,
     print_standings,
 };
-use crate::word_subject::WordSubject;
 use anyhow::{Context, Result};
 use std::alloc::Global;
 use std::fs;
@@ -20,6 +19,8 @@ use std::rt::{Clock, Files};
 use std::sync::Wait;
 use std::thread::Threads;
 use ucl_board::Board;
+use ucl_pass::CellBoard;
+use ucl_words::WordBoard;
 
 /// What can be measured.
 const LIST: &str = "word_board read report mix-R-W paced-R-W night
@@ -102,8 +103,8 @@ fn calls_of<R: Wait + Clock>(
     millis: u64,
 ) -> Result<Chunks> {
     match subject {
-        "word_board" => measure_calls::<WordSubject, R>(rt, alloc, calls, millis),
-        "cell_board" => measure_calls::<CellSubject, R>(rt, alloc, calls, millis),
+        "word_board" => measure_calls::<LiveSubject<WordBoard>, R>(rt, alloc, calls, millis),
+        "cell_board" => measure_calls::<LiveSubject<CellBoard>, R>(rt, alloc, calls, millis),
         "plain_words" => measure_calls::<PlainSubject, R>(rt, alloc, calls, millis),
         "locked_words" => measure_calls::<LockedSubject, R>(rt, alloc, calls, millis),
         _ => anyhow::bail!("no such subject"),

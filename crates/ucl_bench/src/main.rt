@@ -3,11 +3,11 @@
 //! `ucl_bench check SUBJECT standings|screen FILE` prints the rows, or the screens, of the boards of a file.
 #![tactic(auto)]
 
-mod cell_subject;
 mod clock;
 mod command;
 mod events;
 mod layout;
+mod live_subject;
 mod locked_words;
 mod nights;
 mod one_thread;
@@ -17,7 +17,6 @@ mod starts;
 mod subject;
 mod tables;
 mod tally;
-mod word_subject;
 
 use std::env;
 

@@ -1,17 +1,18 @@
 //! Nights of each subject, with a thread for each worker. What a thread takes in has to be of types that are known, so a macro writes
 //! the same body for each subject.
 
-use crate::cell_subject::CellSubject;
+use crate::live_subject::LiveSubject;
 use crate::locked_words::LockedSubject;
 use crate::nights::{Nights, Plan, Staff, enter_nights, read_nights};
 use crate::plain_words::PlainSubject;
-use crate::word_subject::WordSubject;
 use anyhow::Result;
 use std::alloc::Global;
 use std::sync::Wait;
 use std::thread;
 use std::thread::Threads;
 use std::time::Clock;
+use ucl_pass::CellBoard;
+use ucl_words::WordBoard;
 
 /// Starts the workers of a plan, and holds nights of the subject. `R` is the runtime's type where the macro is called.
 macro_rules! hold_nights {
@@ -44,8 +45,8 @@ pub fn measure_nights<R: Threads + Wait + Clock + Copy + Send + 'static>(
     millis: u64,
 ) -> Result<Nights> {
     match subject {
-        "word_board" => hold_nights!(WordSubject, rt, alloc, plan, millis),
-        "cell_board" => hold_nights!(CellSubject, rt, alloc, plan, millis),
+        "word_board" => hold_nights!(LiveSubject<WordBoard>, rt, alloc, plan, millis),
+        "cell_board" => hold_nights!(LiveSubject<CellBoard>, rt, alloc, plan, millis),
         "plain_words" => hold_nights!(PlainSubject, rt, alloc, plan, millis),
         "locked_words" => hold_nights!(LockedSubject, rt, alloc, plan, millis),
         _ => anyhow::bail!("no such subject"),
