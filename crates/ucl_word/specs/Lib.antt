@@ -3,8 +3,7 @@ pub mod Rules
 pub mod Sequence
 pub mod Counts
 pub mod Layout
-pub mod Reading
 pub mod Migration
 pub mod Laws
 pub mod Texts
-pub mod Next
+pub mod Code

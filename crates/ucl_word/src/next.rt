@@ -4,7 +4,7 @@ ghost use Rattle.std.specs.Prelude.{◌≡◌, ◌<◌, ◌^◌, IfOk, IfErr, So
 ghost use Rattle.ucl_word.specs.Layout.{word_of, record_at, IsWord};
 ghost use Rattle.ucl_word.specs.Rules.{refusal_of, after};
 ghost use Rattle.ucl_word.specs.Counts.{MatchEntry, IsLegalMatch, counted_match, entered};
-ghost use Rattle.ucl_word.specs.Next.{state_for, change_refusal, goals_field, yellows_field, expulsions_field, Raises, Lowers, Changes};
+ghost use Rattle.ucl_word.specs.Code.Next.{state_for, change_refusal, goals_field, yellows_field, expulsions_field, Raises, Lowers, Changes};
 
 use crate::event::{Kind, Side};
 use crate::record::{LAST_NUMBER_IN_PLAY, MOST_EXPULSIONS, MOST_GOALS, MOST_YELLOWS, State};

@@ -4,7 +4,7 @@ ghost use Rattle.std.specs.Prelude.{◌≡◌, ◌*◌, ◌+◌, ◌^◌, ◌<�
 ghost use Rattle.ucl_word.specs.declared.record.MatchRecord.{MatchRecord};
 ghost use Rattle.ucl_word.specs.Record.{last_number, IsValid};
 ghost use Rattle.ucl_word.specs.Layout.{layout, word_of, record_at, state_code, bits_at, IsMarked, IsWord};
-ghost use Rattle.ucl_word.specs.Reading.{HoldsRecord};
+ghost use Rattle.ucl_word.specs.Code.Reading.{HoldsRecord};
 
 use crate::record::{MatchRecord, State};
 use crate::refusal::BadWord;
