@@ -145,12 +145,16 @@ fn steps(alloc: Global) -> anyhow::Result<Outcome<StepFault>> {
     })
 }
 
-fn cells<R: Wait>(rt: &R, alloc: Global) -> anyhow::Result<Outcome<OutOfMemory>> {
-    begins(alloc)?;
-    let first = CellBoard::open(rt, alloc);
-    ends(alloc)?;
-    let second = CellBoard::open(rt, alloc);
-    let (board, mut pass) = second?;
+/// Two boards that were opened, of which the first may have found no memory; the second is read.
+fn opened<B: LiveBoard + Drop, R: Wait>(
+    rt: &R,
+    alloc: Global,
+    first: Result<(B, B::ReaderPass), OutOfMemory>,
+    second: (B, B::ReaderPass),
+) -> anyhow::Result<Outcome<OutOfMemory>>
+    requires { B.is_reader second.0 second.1 }
+{
+    let (board, mut pass) = second;
     let version = board.read(rt, &mut pass).version;
     Ok(Outcome {
         first: first.err(),
@@ -158,67 +162,48 @@ fn cells<R: Wait>(rt: &R, alloc: Global) -> anyhow::Result<Outcome<OutOfMemory>>
         second: None,
         text: format!(in alloc; "version {version}\n")?,
     })
+}
+
+fn cells<R: Wait>(rt: &R, alloc: Global) -> anyhow::Result<Outcome<OutOfMemory>> {
+    begins(alloc)?;
+    let first = CellBoard::open(rt, alloc);
+    ends(alloc)?;
+    opened(rt, alloc, first, CellBoard::open(rt, alloc)?)
 }
 
 fn tables<R: Wait>(rt: &R, alloc: Global) -> anyhow::Result<Outcome<OutOfMemory>> {
     begins(alloc)?;
     let first = WordBoard::open(rt, alloc);
     ends(alloc)?;
-    let second = WordBoard::open(rt, alloc);
-    let (board, mut pass) = second?;
-    let version = board.read(rt, &mut pass).version;
-    Ok(Outcome {
-        first: first.err(),
-        is_kept: true,
-        second: None,
-        text: format!(in alloc; "version {version}\n")?,
-    })
+    opened(rt, alloc, first, WordBoard::open(rt, alloc)?)
 }
 
-/// The answer of `feed` to an input, and what went out.
-fn fed(alloc: Global, input: &[u8]) -> (Result<(), RunFault>, Room) {
+/// A run over a source and a sink.
+#[derive(Clone, Copy, Debug)]
+enum Engine {
+    Feed,
+    Show,
+}
+
+/// The answer of a run to an input, and what went out.
+fn answered(alloc: Global, engine: Engine, input: &[u8]) -> (Result<(), RunFault>, Room) {
     let mut room = Room::new();
     let answer = {
+        let mut source = FromRead::new(input);
         let mut sink = ToWrite::new(Filling { room: &mut room });
-        feed_run(alloc, &mut FromRead::new(input), &mut sink)
+        match engine {
+            Engine::Feed => feed_run(alloc, &mut source, &mut sink),
+            Engine::Show => show_run(alloc, &mut source, &mut sink, b'A', Profile::Uefa),
+        }
     };
     (answer, room)
 }
 
-fn feeds(alloc: Global, input: &[u8]) -> anyhow::Result<Outcome<RunFault>> {
+fn runs(alloc: Global, engine: Engine, input: &[u8]) -> anyhow::Result<Outcome<RunFault>> {
     begins(alloc)?;
-    let (first, part) = fed(alloc, input);
+    let (first, part) = answered(alloc, engine, input);
     ends(alloc)?;
-    let (second, whole) = fed(alloc, input);
-    Ok(Outcome {
-        first: first.err(),
-        is_kept: whole.written().starts_with(part.written()),
-        second: second.err(),
-        text: text_of(alloc, whole.written())?,
-    })
-}
-
-/// The answer of `show` to an input, and what went out.
-fn shown(alloc: Global, input: &[u8]) -> (Result<(), RunFault>, Room) {
-    let mut room = Room::new();
-    let answer = {
-        let mut sink = ToWrite::new(Filling { room: &mut room });
-        show_run(
-            alloc,
-            &mut FromRead::new(input),
-            &mut sink,
-            b'A',
-            Profile::Uefa,
-        )
-    };
-    (answer, room)
-}
-
-fn shows(alloc: Global, input: &[u8]) -> anyhow::Result<Outcome<RunFault>> {
-    begins(alloc)?;
-    let (first, part) = shown(alloc, input);
-    ends(alloc)?;
-    let (second, whole) = shown(alloc, input);
+    let (second, whole) = answered(alloc, engine, input);
     Ok(Outcome {
         first: first.err(),
         is_kept: whole.written().starts_with(part.written()),
@@ -286,8 +271,8 @@ pub fn run<R: Print + Threads + Wait + Sync>(
         Some("screen") => tell(rt, screens(alloc, input)?),
         Some("read_night") => tell(rt, scripts(alloc, input)?),
         Some("read_words") => tell(rt, sheets(alloc, input)?),
-        Some("feed_run") => tell(rt, feeds(alloc, input)?),
-        Some("show_run") => tell(rt, shows(alloc, input)?),
+        Some("feed_run") => tell(rt, runs(alloc, Engine::Feed, input)?),
+        Some("show_run") => tell(rt, runs(alloc, Engine::Show, input)?),
         Some("night_run") => {
             let night = read_night(alloc, &mut FromRead::new(input))?;
             let (first, second) = (WordBoard::open(rt, alloc)?, WordBoard::open(rt, alloc)?);
