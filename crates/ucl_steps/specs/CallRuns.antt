@@ -26,7 +26,7 @@ is_caller _ _ = false
 abbrev pub own_steps : Caller → List Step → List Step
 own_steps c steps = filter (λ step. is_caller c (caller_of step)) steps
 
--- the step of a kind
+-- the step that makes an access of this kind
 abbrev pub step_of : Caller → AccessKind → Step
 step_of c trail.Look = Look c
 step_of c trail.Swap = Swap c

@@ -75,7 +75,7 @@ most_tries = greatest_version + 1
 abbrev pub most_loads : ℕ
 most_loads = 24 * most_tries
 
--- the matches 1, 2 and so on, with these words, by the same kind
+-- the matches 1, 2 and so on, with these words, by accesses of one kind
 abbrev pub IsCollect : AccessKind → List ℕ → List Access → Type 0
 IsCollect kind words ms = (k : ℕ) (m : Access) → slice_get ms k ≡ Some m → Does kind (k + 1) m × (m.found ≡ slice_index words k)
 
