@@ -10,7 +10,7 @@ use std::alloc::{AllocError, Global};
 use std::str;
 use ucl_board::Board;
 use ucl_order::{Profile, Roster, Row, standings};
-use ucl_word::{OutOfMemory, State, unpack};
+use ucl_word::{OutOfMemory, State, record_of};
 
 /// The names of the columns, 53 bytes and a line feed.
 const COLUMNS: &str = "    Club                  P  W  D  L  GF  GA   GD Pts\n";
@@ -29,9 +29,7 @@ fn matches_in_play(board: &Board) -> u8
     let words = board.words();
     let mut count = 0;
     for word in &words {
-        if let Ok(game) = unpack(*word)
-            && game.state == State::InPlay
-        {
+        if record_of(*word).state == State::InPlay {
             count += 1;
         }
     }

@@ -1,3 +1,3 @@
 -- What the code goes by on its way: contracts of private functions cite these, and no public one does.
-pub mod Next
+pub mod Changes
 pub mod Reading

@@ -82,3 +82,8 @@ IsLegalMatch es = EachMay IsAccepted es
 -- one entry more
 abbrev pub entered : List MatchEntry → ℕ → Kind → List MatchEntry
 entered es reporter kind = es ++ record { reporter = reporter; kind = kind } ∷ []
+
+-- where a record is the match after a legal list of entries, the next is the match after the list with this entry, which is legal
+abbrev pub CountsOneMore : MatchRecord → ℕ → Kind → MatchRecord → Type 0
+CountsOneMore m reporter kind next = (es : List MatchEntry) → IsLegalMatch es → counted_match es ≡ m
+    → (next ≡ counted_match (entered es reporter kind)) × IsLegalMatch (entered es reporter kind)

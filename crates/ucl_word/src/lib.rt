@@ -6,7 +6,6 @@ mod event;
 mod laws;
 mod match_no;
 mod migration;
-mod next;
 mod record;
 mod refusal;
 mod reporter_no;
@@ -21,11 +20,10 @@ pub use laws::{
 };
 pub use match_no::MatchNo;
 pub use migration::migrate;
-pub use next::next_word;
 pub use record::{MatchRecord, State};
 pub use refusal::{BadWord, OutOfMemory, Refusal};
 pub use reporter_no::ReporterNo;
-pub use rules::apply;
+pub use rules::{apply, next_word};
 pub use word::{number_of, pack, record_of, unpack};
 
 #[cfg(test)]

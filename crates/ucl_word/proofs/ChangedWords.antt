@@ -1,0 +1,228 @@
+-- What each change of a word does to its record, and that the next word is that of the record after the event.
+use Rattle.std.proofs.Common.{◌≡◌, ℕ, ◌+◌, ◌-◌, ◌*◌, ◌^◌, ◌<◌, ◌≤◌, true, false, None, Result, Ok, Err, refl, sym, ap, ◌∙◌, subst, arith}
+use Rattle.std.proofs.lemmas.Bool.Decides.{nat_tests}
+use Rattle.std.specs.Prelude.{nat_le, ◌==◌}
+use Rattle.ucl_word.specs.declared.record.MatchRecord.{MatchRecord}
+use Rattle.ucl_word.specs.declared.record.State.{State}
+use Rattle.ucl_word.specs.declared.record.State.TheVariants.{Scheduled, InPlay, Finished}
+use Rattle.ucl_word.specs.declared.event.Side.{Side}
+use Rattle.ucl_word.specs.declared.event.Side.TheVariants.{Home, Away}
+use Rattle.ucl_word.specs.declared.event.Kind.{Kind}
+use Rattle.ucl_word.specs.declared.event.Kind.TheVariants.{KickOff, Goal, Disallow, Yellow, SecondYellow, Red, FullTime, Reopen}
+use Rattle.ucl_word.specs.declared.refusal.Refusal.{Refusal}
+use Rattle.ucl_word.specs.declared.refusal.Refusal.TheVariants.{NoGoal, NoCaution}
+use Rattle.ucl_word.specs.Record.{IsReporter, SuitsState, IsValid}
+use Rattle.ucl_word.specs.Layout.{layout, word_of, record_at, state_code, bits_at, IsWord}
+use Rattle.ucl_word.specs.Rules.{goals, yellows, expulsions, refusal_of, changed_by, after}
+use Rattle.ucl_word.specs.Code.Changes.{goals_field, yellows_field, expulsions_field, Raises, Lowers, Changes}
+use Rattle.ucl_word.proofs.Words.{word_high, word_valid, word_packed, record_back}
+use Rattle.ucl_word.proofs.AcceptedEvents.{accepts, after_valid}
+
+pub word_below : (word : ℕ) → IsWord word → word < 2 ^ 62
+word_below word is = let high = word_high word is in omega arith
+
+-- the fields of a side
+goals_held : (side : Side) (word : ℕ) → goals side (record_at word) ≡ bits_at word (goals_field side).low layout.home_goals.width
+unfolding record_at
+goals_held Home word = refl
+goals_held Away word = refl
+
+yellows_held : (side : Side) (word : ℕ) → yellows side (record_at word) ≡ bits_at word (yellows_field side).low layout.home_yellows.width
+unfolding record_at
+yellows_held Home word = refl
+yellows_held Away word = refl
+
+expulsions_held : (side : Side) (word : ℕ) → expulsions side (record_at word) ≡ bits_at word (expulsions_field side).low layout.home_expulsions.width
+unfolding record_at
+expulsions_held Home word = refl
+expulsions_held Away word = refl
+
+-- each kind's change of the record, as a sum
+goal_added : (side : Side) (m : MatchRecord) → word_of (changed_by (Goal side) m) ≡ word_of m + 2 ^ (goals_field side).low
+unfolding word_of
+goal_added Home m = omega arith
+goal_added Away m = omega arith
+
+goal_taken : (side : Side) (m : MatchRecord) → 0 < goals side m → word_of (changed_by (Disallow side) m) + 2 ^ (goals_field side).low ≡ word_of m
+unfolding word_of
+goal_taken Home m some = omega arith
+goal_taken Away m some = omega arith
+
+yellow_added : (side : Side) (m : MatchRecord) → word_of (changed_by (Yellow side) m) ≡ word_of m + 2 ^ (yellows_field side).low
+unfolding word_of
+yellow_added Home m = omega arith
+yellow_added Away m = omega arith
+
+red_added : (side : Side) (m : MatchRecord) → word_of (changed_by (Red side) m) ≡ word_of m + 2 ^ (expulsions_field side).low
+unfolding word_of
+red_added Home m = omega arith
+red_added Away m = omega arith
+
+kicked_off : (m : MatchRecord) → m.state ≡ Scheduled → word_of (changed_by KickOff m) ≡ word_of m + 2 ^ layout.state.low
+unfolding word_of
+kicked_off m state = let code : state_code m.state ≡ 0 = ap state_code state in omega arith
+
+ended : (m : MatchRecord) → m.state ≡ InPlay → word_of (changed_by FullTime m) ≡ word_of m + 2 ^ layout.state.low
+unfolding word_of
+ended m state = let code : state_code m.state ≡ 1 = ap state_code state in omega arith
+
+reopened : (m : MatchRecord) → m.state ≡ Finished → word_of (changed_by Reopen m) + 2 ^ layout.state.low ≡ word_of m
+unfolding word_of
+reopened m state = let code : state_code m.state ≡ 2 = ap state_code state in omega arith
+
+-- the record with one yellow less of a side
+without_yellow : Side → MatchRecord → MatchRecord
+without_yellow Home m = record m { home_yellows = m.home_yellows - 1 }
+without_yellow Away m = record m { away_yellows = m.away_yellows - 1 }
+
+yellow_taken : (side : Side) (m : MatchRecord) → 0 < yellows side m → word_of (without_yellow side m) + 2 ^ (yellows_field side).low ≡ word_of m
+unfolding word_of without_yellow
+yellow_taken Home m some = omega arith
+yellow_taken Away m some = omega arith
+
+yellow_turned : (side : Side) (m : MatchRecord) → word_of (changed_by (SecondYellow side) m) ≡ word_of (without_yellow side m) + 2 ^ (expulsions_field side).low
+unfolding word_of without_yellow
+yellow_turned Home m = omega arith
+yellow_turned Away m = omega arith
+
+fewer_valid : (side : Side) (m : MatchRecord) → m.state ≡ InPlay → IsValid m → IsValid (without_yellow side m)
+unfolding without_yellow
+fewer_valid Home m e v = let w = v.within in let s = subst (λ (s : State). SuitsState s m) e v.suits in record {
+  within = record { home_goals = omega arith; away_goals = omega arith; home_yellows = omega arith; away_yellows = omega arith; home_expulsions = omega arith; away_expulsions = omega arith };
+  suits = subst (λ (s : State). SuitsState s (without_yellow Home m)) (sym e) s;
+}
+fewer_valid Away m e v = let w = v.within in let s = subst (λ (s : State). SuitsState s m) e v.suits in record {
+  within = record { home_goals = omega arith; away_goals = omega arith; home_yellows = omega arith; away_yellows = omega arith; home_expulsions = omega arith; away_expulsions = omega arith };
+  suits = subst (λ (s : State). SuitsState s (without_yellow Away m)) (sym e) s;
+}
+
+fewer_expulsions : (side : Side) (m : MatchRecord) → expulsions side (without_yellow side m) ≡ expulsions side m
+unfolding without_yellow
+fewer_expulsions Home m = refl
+fewer_expulsions Away m = refl
+
+-- tests on what a field holds
+under_limit : (most n : ℕ) → n < most → nat_le most n ≡ false
+under_limit most n below = grind (arith, nat_tests)
+
+at_limit : (most n : ℕ) → most ≤ n → nat_le most n ≡ true
+at_limit most n le = grind (arith, nat_tests)
+
+is_some : (n : ℕ) → 0 < n → (n == 0) ≡ false
+is_some n some = grind (arith, nat_tests)
+
+is_none : (n : ℕ) → n ≡ 0 → (n == 0) ≡ true
+is_none n none = grind (arith, nat_tests)
+
+-- a kind's change leaves the number and the reporter
+kept : (kind : Kind) (m : MatchRecord) → ((changed_by kind m).number ≡ m.number) × ((changed_by kind m).reporter ≡ m.reporter)
+kept KickOff m = (refl, refl)
+kept FullTime m = (refl, refl)
+kept Reopen m = (refl, refl)
+kept (Goal Home) m = (refl, refl)
+kept (Goal Away) m = (refl, refl)
+kept (Disallow Home) m = (refl, refl)
+kept (Disallow Away) m = (refl, refl)
+kept (Yellow Home) m = (refl, refl)
+kept (Yellow Away) m = (refl, refl)
+kept (SecondYellow Home) m = (refl, refl)
+kept (SecondYellow Away) m = (refl, refl)
+kept (Red Home) m = (refl, refl)
+kept (Red Away) m = (refl, refl)
+
+-- the number and the reporter, as a sum
+entered_word : (kind : Kind) (m : MatchRecord) (reporter : ℕ)
+    → word_of (after m reporter kind) + m.reporter * 2 ^ layout.reporter.low ≡ word_of (changed_by kind m) + 1 + reporter * 2 ^ layout.reporter.low
+unfolding word_of after
+entered_word kind m reporter = let k = kept kind m in omega arith
+
+reporter_below : (kind : Kind) (m : MatchRecord) (reporter : ℕ) → reporter * 2 ^ layout.reporter.low < word_of (after m reporter kind)
+unfolding word_of after
+reporter_below kind m reporter = omega arith
+
+-- what is known of the word after an accepted event, where the change of its kind and the reporter before are known
+pub record Entered (changed before reporter : ℕ) (next : MatchRecord) : Type 0 where
+  pub valid : IsValid next
+  pub sum : word_of next + before * 2 ^ layout.reporter.low ≡ changed + 1 + reporter * 2 ^ layout.reporter.low
+  pub above : reporter * 2 ^ layout.reporter.low < word_of next
+  pub below : word_of next < 2 ^ 62
+
+module _ (word : ℕ) (is : IsWord word) where
+  abbrev m : MatchRecord
+  m = record_at word
+
+  again : word_of m ≡ word
+  again = word_packed word is
+
+  module _ (d next : ℕ) (n : MatchRecord) where
+    by_sum : next ≡ word + d → word_of n ≡ word_of m + d → next ≡ word_of n
+    by_sum is_next sum = let a = again in omega arith
+
+    by_difference : next + d ≡ word → word_of n + d ≡ word_of m → next ≡ word_of n
+    by_difference is_next sum = let a = again in omega arith
+
+  pub kick_off_changes : m.state ≡ Scheduled → Changes word KickOff (Ok (word + 2 ^ layout.state.low))
+  kick_off_changes state = (refl, by_sum (2 ^ layout.state.low) _ (changed_by KickOff m) refl (kicked_off m state))
+
+  pub full_time_changes : m.state ≡ InPlay → Changes word FullTime (Ok (word + 2 ^ layout.state.low))
+  full_time_changes state = (refl, by_sum (2 ^ layout.state.low) _ (changed_by FullTime m) refl (ended m state))
+
+  pub reopen_below : m.state ≡ Finished → 2 ^ layout.state.low ≤ word
+  reopen_below state = let a = again in let r = reopened m state in omega arith
+
+  pub reopen_changes : m.state ≡ Finished → Changes word Reopen (Ok (word - 2 ^ layout.state.low))
+  reopen_changes state = let below = reopen_below state in (refl, by_difference (2 ^ layout.state.low) _ (changed_by Reopen m) (omega arith) (reopened m state))
+
+  pub goal_changes : (side : Side) (result : Result ℕ Refusal) → Raises word (goals_field side).low layout.home_goals.width 63 result → Changes word (Goal side) result
+  goal_changes side (Ok next) r = (rw (goals_held side word, under_limit _ _ r.0) refl, by_sum _ next _ r.1 (goal_added side m))
+  goal_changes side (Err refusal) r = rw (goals_held side word, at_limit _ _ r.0, r.1) refl
+
+  pub disallow_changes : (side : Side) (result : Result ℕ Refusal) → Lowers word (goals_field side).low layout.home_goals.width NoGoal result → Changes word (Disallow side) result
+  disallow_changes side (Ok next) l =
+      let some : 0 < goals side m = rw (goals_held side word) l.0 in
+      (rw (is_some _ some) refl, by_difference _ next _ l.1 (goal_taken side m some))
+  disallow_changes side (Err refusal) l = rw (goals_held side word, is_none _ l.0, l.1) refl
+
+  pub yellow_changes : (side : Side) (result : Result ℕ Refusal) → Raises word (yellows_field side).low layout.home_yellows.width 63 result → Changes word (Yellow side) result
+  yellow_changes side (Ok next) r = (rw (yellows_held side word, under_limit _ _ r.0) refl, by_sum _ next _ r.1 (yellow_added side m))
+  yellow_changes side (Err refusal) r = rw (yellows_held side word, at_limit _ _ r.0, r.1) refl
+
+  pub red_changes : (side : Side) (result : Result ℕ Refusal) → Raises word (expulsions_field side).low layout.home_expulsions.width 31 result → Changes word (Red side) result
+  red_changes side (Ok next) r = (rw (expulsions_held side word, under_limit _ _ r.0) refl, by_sum _ next _ r.1 (red_added side m))
+  red_changes side (Err refusal) r = rw (expulsions_held side word, at_limit _ _ r.0, r.1) refl
+
+  -- no second yellow where none stands
+  pub no_caution : (side : Side) (refusal : Refusal) → bits_at word (yellows_field side).low layout.home_yellows.width ≡ 0 → refusal ≡ NoCaution → Changes word (SecondYellow side) (Err refusal)
+  no_caution side refusal none missing = rw (yellows_held side word, is_none _ none, missing) refl
+
+  -- the word with one yellow less is that of a valid record, whose expulsions are those of the match
+  module _ (side : Side) (fewer : ℕ) (state : m.state ≡ InPlay) (some : 0 < bits_at word (yellows_field side).low layout.home_yellows.width)
+      (is_fewer : fewer + 2 ^ (yellows_field side).low ≡ word) where
+    cautioned : 0 < yellows side m
+    cautioned = rw (yellows_held side word) some
+
+    fewer_packed : fewer ≡ word_of (without_yellow side m)
+    fewer_packed = by_difference _ fewer (without_yellow side m) is_fewer (yellow_taken side m cautioned)
+
+    fewer_expelled : bits_at fewer (expulsions_field side).low layout.home_expulsions.width ≡ expulsions side m
+    fewer_expelled =
+        sym (expulsions_held side fewer)
+        ∙ (ap (λ (x : ℕ). expulsions side (record_at x)) fewer_packed
+        ∙ (ap (expulsions side) (record_back (without_yellow side m) (fewer_valid side m state (word_valid word is)))
+        ∙ fewer_expulsions side m))
+
+    pub second_yellow_changes : (result : Result ℕ Refusal) → Raises fewer (expulsions_field side).low layout.home_expulsions.width 31 result → Changes word (SecondYellow side) result
+    second_yellow_changes (Ok next) r =
+        (rw (is_some _ cautioned, ← fewer_expelled, under_limit _ _ r.0) refl, r.1 ∙ (ap (λ (x : ℕ). x + 2 ^ (expulsions_field side).low) fewer_packed ∙ sym (yellow_turned side m)))
+    second_yellow_changes (Err refusal) r = rw (is_some _ cautioned, ← fewer_expelled, at_limit _ _ r.0, r.1) refl
+
+  -- the word after an accepted event, as a sum, and its bounds
+  pub entered : (kind : Kind) (reporter expected changed before : ℕ) → IsReporter reporter → refusal_of m expected kind ≡ None → changed ≡ word_of (changed_by kind m)
+      → before ≡ bits_at word layout.reporter.low layout.reporter.width → Entered changed before reporter (after m reporter kind)
+  unfolding record_at
+  entered kind reporter expected changed before by none is_changed is_before =
+      let valid = after_valid m reporter expected kind (word_valid word is) by (accepts m expected kind none) in
+      let below = word_below (word_of (after m reporter kind)) (record { of = after m reporter kind; valid = valid; packed = refl }) in
+      let above = reporter_below kind m reporter in
+      let sum = entered_word kind m reporter in
+      record { valid = valid; sum = omega arith; above = above; below = below }
