@@ -1,27 +1,24 @@
 -- The table of a board does not tell by whom events were entered.
-use Rattle.std.proofs.Common.{◌≡◌, ℕ, zero, suc, ◌+◌, ◌-◌, ◌*◌, ◌==◌, Bool, true, false, cond, not, ◌&&◌, nat_lt, nat_le, if◌then◌else◌, List, [], ◌∷◌, ◌++◌, length, map, filter, flat_map, count_by, refl, sym, ap, ◌∙◌, arith}
-use Rattle.std.specs.Prelude.{sum_by, slice_index, ℤ, pos, ◌-ℤ◌}
+use Rattle.std.proofs.Common.{◌≡◌, ℕ, zero, suc, ◌-◌, Bool, true, false, cond, not, ◌&&◌, if◌then◌else◌, List, [], ◌∷◌, length, map, filter, flat_map, count_by, refl, sym, ap, ◌∙◌, arith}
+use Rattle.std.specs.Prelude.{slice_index}
 use Rattle.std.specs.List.{cons_option}
-use Rattle.std.specs.Ordering.{nat_cmp, int_cmp, ordering_then}
 use Rattle.std.proofs.lemmas.List.Folds.{list_all-map}
 use mathlib.Core.Path.{fun_ext}
 use Rattle.ucl_word.specs.declared.record.MatchRecord.{MatchRecord}
 use Rattle.ucl_board.specs.Fixtures.{IsMatch, fixture_of}
 use Rattle.ucl_board.specs.Words.{game_at}
 use Rattle.ucl_order.specs.declared.game.Match.{Match}
-use Rattle.ucl_order.specs.declared.game.Appearance.{Appearance}
 use Rattle.ucl_order.specs.declared.mark.Mark.{Mark}
-use Rattle.ucl_order.specs.declared.mark.Mark.TheVariants.{Plus, Minus, Blank}
 use Rattle.ucl_order.specs.declared.profile.Profile.{Profile}
 use Rattle.ucl_order.specs.declared.profile.Profile.TheVariants.{Uefa, AwayInTie}
 use Rattle.ucl_order.specs.declared.table.Row.{Row}
-use Rattle.ucl_order.specs.Roster.{NamedClub, coefficient_of}
-use Rattle.ucl_order.specs.Matches.{has_started, has_finished, started, match_at, matches_of}
-use Rattle.ucl_order.specs.Appearances.{seen_by, is_won, is_drawn, is_lost, disciplinary_points}
-use Rattle.ucl_order.specs.Results.{points_for, appearances}
-use Rattle.ucl_order.specs.Order.{Ranking, among, is_in, by_points, by_profile, head_to_head, overall, split, is_one_class, settled_within, settled, all_clubs, order_of, order_by}
-use Rattle.ucl_order.specs.Marks.{mark_by, final_mark, mark_of}
-use Rattle.ucl_order.specs.Rows.{row_of, rows_of}
+use Rattle.ucl_order.specs.Roster.{NamedClub}
+use Rattle.ucl_order.specs.Matches.{has_started, has_finished, started, finished, unfinished, match_at, matches_of}
+use Rattle.ucl_order.specs.Appearances.{seen_by}
+use Rattle.ucl_order.specs.Results.{appearances}
+use Rattle.ucl_order.specs.Order.{among, is_in, by_points, by_profile, head_to_head, overall, split, is_one_class, settled_within, settled, all_clubs, order_of, order_by}
+use Rattle.ucl_order.specs.Marks.{sure_points, matches_left, is_rival, is_out_of_reach, rivals, out_of_reach, mark_by, mark_of}
+use Rattle.ucl_order.specs.Rows.{row_with, row_of, rows_of}
 
 -- The record of a match without its reporter. --
 
@@ -49,55 +46,22 @@ appearances_are : (club : ℕ) (ms : List Match) → appearances club (map forgo
 appearances_are club [] = refl
 appearances_are club (m ∷ ms) = ap (cons_option (seen_by club m)) (appearances_are club ms)
 
--- the appearances of each club
-abbrev Seen : Type 0
-Seen = ℕ → List Appearance
-
-abbrev seen_in : List Match → Seen
-seen_in ms club = appearances club ms
-
-all_seen : (ms : List Match) → seen_in (map forgotten ms) ≡ seen_in ms
-all_seen ms = fun_ext (λ club. appearances_are club ms)
-
-seen_where : (p : Match → Bool) (ms : List Match) → ((m : Match) → p (forgotten m) ≡ p m) → seen_in (filter p (map forgotten ms)) ≡ seen_in (filter p ms)
-seen_where p ms same = ap seen_in (kept p same ms) ∙ all_seen (filter p ms)
-
--- the numbers of a club by its appearances
-abbrev points_in : List Appearance → ℕ
-points_in xs = points_for (count_by is_won xs) (count_by is_drawn xs)
-
-abbrev difference_in : List Appearance → ℤ
-difference_in xs = pos (sum_by (λ a. a.scored) xs) -ℤ pos (sum_by (λ a. a.conceded) xs)
-
-abbrev triple_in : Seen → Ranking
-triple_in s a b =
-    ordering_then (nat_cmp (points_in (s a)) (points_in (s b)))
-    (ordering_then (int_cmp (difference_in (s a)) (difference_in (s b)))
-    (nat_cmp (sum_by (λ x. x.scored) (s a)) (sum_by (λ x. x.scored) (s b))))
-
-abbrev away_in : List Appearance → ℕ
-away_in xs = sum_by (λ a. a.scored) (filter (λ a. a.is_away) xs)
-
-abbrev overall_in : List NamedClub → Seen → Ranking
-overall_in roster s a b =
-    ordering_then (int_cmp (difference_in (s a)) (difference_in (s b)))
-    (ordering_then (nat_cmp (sum_by (λ x. x.scored) (s a)) (sum_by (λ x. x.scored) (s b)))
-    (ordering_then (nat_cmp (away_in (s a)) (away_in (s b)))
-    (ordering_then (nat_cmp (count_by is_won (s a)) (count_by is_won (s b)))
-    (ordering_then (nat_cmp (count_by is_won (filter (λ x. x.is_away) (s a))) (count_by is_won (filter (λ x. x.is_away) (s b))))
-    (ordering_then (nat_cmp (sum_by disciplinary_points (s b)) (sum_by disciplinary_points (s a)))
-    (ordering_then (nat_cmp (coefficient_of roster a) (coefficient_of roster b))
-    (nat_cmp b a)))))))
+-- Comparisons of clubs. --
 
 profile_is : (profile : Profile) (ms : List Match) → by_profile profile (map forgotten ms) ≡ by_profile profile ms
-profile_is Uefa ms = λ i. triple_in (all_seen ms i)
-profile_is AwayInTie ms = λ i a b. ordering_then (triple_in (all_seen ms i) a b) (nat_cmp (away_in (all_seen ms i a)) (away_in (all_seen ms i b)))
+profile_is Uefa ms = fun_ext (λ (a : ℕ). fun_ext (λ (b : ℕ). rw (appearances_are a ms, appearances_are b ms) refl))
+profile_is AwayInTie ms = fun_ext (λ (a : ℕ). fun_ext (λ (b : ℕ). rw (appearances_are a ms, appearances_are b ms) refl))
+
+points_are : (ms : List Match) → by_points (map forgotten ms) ≡ by_points ms
+points_are ms = fun_ext (λ (a : ℕ). fun_ext (λ (b : ℕ). rw (appearances_are a ms, appearances_are b ms) refl))
 
 heads_are : (profile : Profile) (ms : List Match) (clubs : List ℕ) → head_to_head profile (map forgotten ms) clubs ≡ head_to_head profile ms clubs
 heads_are profile ms clubs = ap (by_profile profile) (kept (λ m. is_in clubs m.home && is_in clubs m.away) (λ m. refl) ms) ∙ profile_is profile (among clubs ms)
 
 overall_is : (ms : List Match) (roster : List NamedClub) → overall (map forgotten ms) roster ≡ overall ms roster
-overall_is ms roster = λ i. overall_in roster (all_seen ms i)
+overall_is ms roster = fun_ext (λ (a : ℕ). fun_ext (λ (b : ℕ). rw (appearances_are a ms, appearances_are b ms) refl))
+
+-- The order. --
 
 within_is : (profile : Profile) (most : ℕ) (ms : List Match) (roster : List NamedClub) (clubs : List ℕ) → settled_within profile most (map forgotten ms) roster clubs ≡ settled_within profile most ms roster clubs
 within_is profile most ms roster [] = refl
@@ -109,54 +73,68 @@ within_is profile (suc most) ms roster (a ∷ b ∷ clubs) =
     let again = fun_ext (λ (cs : List ℕ). within_is profile most ms roster cs) in
     λ i. if is_one_class (heads i) tied then flat_map (λ class. class) (split (overall_is ms roster i) tied) else flat_map (again i) (split (heads i) tied)
 
--- the order by these matches, those that have started
-abbrev order_in : Profile → List NamedClub → List Match → List ℕ
-order_in profile roster ms = flat_map (settled profile ms roster) (split (by_points ms) all_clubs)
-
-order_is : (profile : Profile) (roster : List NamedClub) (ms : List Match) → order_in profile roster (map forgotten ms) ≡ order_in profile roster ms
+order_is : (profile : Profile) (roster : List NamedClub) (ms : List Match) → order_by profile (map forgotten ms) roster ≡ order_by profile ms roster
+unfolding order_by
 order_is profile roster ms =
-    let tied = fun_ext (λ (clubs : List ℕ). within_is profile (length clubs) ms roster clubs) in
-    λ i. flat_map (tied i) (split (λ a b. nat_cmp (points_in (all_seen ms i a)) (points_in (all_seen ms i b))) all_clubs)
+    let tied : settled profile (map forgotten ms) roster ≡ settled profile ms roster = fun_ext (λ (clubs : List ℕ). within_is profile (length clubs) ms roster clubs) in
+    λ i. flat_map (tied i) (split (points_are ms i) all_clubs)
 
--- an early mark, by the appearances in finished matches and in those that are not
-abbrev early_in : Seen → Seen → ℕ → Mark
-early_in sure left club =
-    if nat_le (count_by (λ other. not (other == club) && nat_le (points_in (sure club)) (points_in (sure other) + 3 * length (left other))) all_clubs) 1 then Plus
-    else (if nat_le 2 (count_by (λ other. not (other == club) && nat_lt (points_in (sure club) + 3 * length (left club)) (points_in (sure other))) all_clubs) then Minus else Blank)
+order_of_started : (profile : Profile) (roster : List NamedClub) (ms : List Match) → order_by profile (started (map forgotten ms)) roster ≡ order_by profile (started ms) roster
+order_of_started profile roster ms = rw (kept has_started (λ m. refl) ms) (order_is profile roster (started ms))
 
-abbrev row_in : ℕ → ℕ → Mark → List Appearance → Row
-row_in place slot mark xs = record {
-  slot = slot;
-  place = place;
-  mark = mark;
-  played = length xs;
-  wins = count_by is_won xs;
-  draws = count_by is_drawn xs;
-  losses = count_by is_lost xs;
-  goals_for = sum_by (λ a. a.scored) xs;
-  goals_against = sum_by (λ a. a.conceded) xs;
-  points = points_in xs;
-}
+-- The marks. --
 
--- the rows of the table, by the order, the marks and the appearances in matches that have started
-abbrev rows_by : List ℕ → (ℕ → Mark) → Seen → List Row
-rows_by order marks s = map (λ place. row_in place (slice_index order (place - 1)) (marks (slice_index order (place - 1))) (s (slice_index order (place - 1)))) (1 ∷ 2 ∷ 3 ∷ 4 ∷ [])
+sure_are : (ms : List Match) (club : ℕ) → sure_points (map forgotten ms) club ≡ sure_points ms club
+sure_are ms club = rw (kept has_finished (λ m. refl) ms, appearances_are club (finished ms)) refl
 
-abbrev rows_in : Profile → List NamedClub → List Match → List Row
-rows_in profile roster ms = let order = order_in profile roster (started ms) in rows_by order (mark_by ms order) (seen_in (started ms))
+left_are : (ms : List Match) (club : ℕ) → matches_left (map forgotten ms) club ≡ matches_left ms club
+left_are ms club = rw (kept (λ m. not (has_finished m)) (λ m. refl) ms, appearances_are club (unfinished ms)) refl
 
-rows_are : (profile : Profile) (roster : List NamedClub) (ms : List Match) → rows_in profile roster (map forgotten ms) ≡ rows_in profile roster ms
+rival_is : (ms : List Match) (club other : ℕ) → is_rival (map forgotten ms) club other ≡ is_rival ms club other
+rival_is ms club other = rw (sure_are ms club, sure_are ms other, left_are ms other) refl
+
+out_of_reach_is : (ms : List Match) (club other : ℕ) → is_out_of_reach (map forgotten ms) club other ≡ is_out_of_reach ms club other
+out_of_reach_is ms club other = rw (sure_are ms club, sure_are ms other, left_are ms club) refl
+
+rivals_are : (ms : List Match) (club : ℕ) → rivals (map forgotten ms) club ≡ rivals ms club
+rivals_are ms club =
+    let each = fun_ext (λ (other : ℕ). rival_is ms club other) in
+    ap (λ (is_such : ℕ → Bool). count_by is_such all_clubs) each
+
+out_of_reach_are : (ms : List Match) (club : ℕ) → out_of_reach (map forgotten ms) club ≡ out_of_reach ms club
+out_of_reach_are ms club =
+    let each = fun_ext (λ (other : ℕ). out_of_reach_is ms club other) in
+    ap (λ (is_such : ℕ → Bool). count_by is_such all_clubs) each
+
+mark_is : (ms : List Match) (order : List ℕ) (club : ℕ) → mark_by (map forgotten ms) order club ≡ mark_by ms order club
+mark_is ms order club = rw (list_all-map has_finished forgotten ms, rivals_are ms club, out_of_reach_are ms club) refl
+
+-- The rows. --
+
+row_is : (place slot : ℕ) (mark : Mark) (ms : List Match) → row_with place slot mark (map forgotten ms) ≡ row_with place slot mark ms
+row_is place slot mark ms = rw (appearances_are slot ms) refl
+
+-- the row of a club, by the matches of a board and their order
+abbrev row_by : List Match → List ℕ → ℕ → Row
+row_by ms order place = let slot = slice_index order (place - 1) in row_with place slot (mark_by ms order slot) (started ms)
+
+abbrev rows_by : Profile → List NamedClub → List Match → List Row
+rows_by profile roster ms = map (row_by ms (order_by profile (started ms) roster)) (1 ∷ 2 ∷ 3 ∷ 4 ∷ [])
+
+row_by_is : (ms : List Match) (order : List ℕ) → row_by (map forgotten ms) order ≡ row_by ms order
+row_by_is ms order = fun_ext (λ (place : ℕ).
+    let slot : ℕ = slice_index order (place - 1) in
+    ap (λ (mark : Mark). row_with place slot mark (started (map forgotten ms))) (mark_is ms order slot)
+    ∙ (ap (row_with place slot (mark_by ms order slot)) (kept has_started (λ m. refl) ms) ∙ row_is place slot (mark_by ms order slot) (started ms)))
+
+rows_are : (profile : Profile) (roster : List NamedClub) (ms : List Match) → rows_by profile roster (map forgotten ms) ≡ rows_by profile roster ms
 rows_are profile roster ms =
-    let order = ap (order_in profile roster) (kept has_started (λ m. refl) ms) ∙ order_is profile roster (started ms) in
-    let begun = seen_where has_started ms (λ m. refl) in
-    let sure = seen_where has_finished ms (λ m. refl) in
-    let left = seen_where (λ m. not (has_finished m)) ms (λ m. refl) in
-    let ended = list_all-map has_finished forgotten ms in
-    λ i. rows_by (order i) (λ club. if ended i then final_mark (order i) club else early_in (sure i) (left i) club) (begun i)
+    ap (λ (order : List ℕ). map (row_by (map forgotten ms) order) (1 ∷ 2 ∷ 3 ∷ 4 ∷ [])) (order_of_started profile roster ms)
+    ∙ ap (λ (row : ℕ → Row). map row (1 ∷ 2 ∷ 3 ∷ 4 ∷ [])) (row_by_is ms (order_by profile (started ms) roster))
 
-rows_in_all : (profile : Profile) (roster : List NamedClub) (board : List ℕ) → rows_of profile board roster ≡ rows_in profile roster (matches_of board)
-unfolding order_of order_by mark_of row_of
-rows_in_all profile roster board = refl
+rows_of_matches : (profile : Profile) (roster : List NamedClub) (board : List ℕ) → rows_of profile board roster ≡ rows_by profile roster (matches_of board)
+unfolding order_of mark_of row_of
+rows_of_matches profile roster board = refl
 
 -- boards with the same records but for their reporters have one table
 module _ (a b : List ℕ) (same : (game : ℕ) → IsMatch game → without (game_at a game) ≡ without (game_at b game)) where
@@ -182,6 +160,6 @@ module _ (a b : List ℕ) (same : (game : ℕ) → IsMatch game → without (gam
 
   pub same_rows : (profile : Profile) (roster : List NamedClub) → rows_of profile a roster ≡ rows_of profile b roster
   same_rows profile roster =
-      rows_in_all profile roster a ∙ (sym (rows_are profile roster (matches_of a))
-      ∙ (ap (rows_in profile roster) matches_alike
-      ∙ (rows_are profile roster (matches_of b) ∙ sym (rows_in_all profile roster b))))
+      rows_of_matches profile roster a ∙ (sym (rows_are profile roster (matches_of a))
+      ∙ (ap (rows_by profile roster) matches_alike
+      ∙ (rows_are profile roster (matches_of b) ∙ sym (rows_of_matches profile roster b))))
