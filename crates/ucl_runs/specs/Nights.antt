@@ -1,5 +1,5 @@
 -- A night: the rows of a script, entered by two reporters in threads of their own while readers look on.
-use Rattle.std.specs.Prelude.{◌≡◌, ◌⊎◌, ℕ, ◌+◌, ◌<◌, ◌≤◌, ◌==◌, true, false, List, [], ◌∷◌, ◌++◌, All, length, map, take, slice_get, Option, Some, None, if◌then◌else◌, codes}
+use Rattle.std.specs.Prelude.{◌≡◌, ◌⊎◌, ℕ, ◌+◌, ◌<◌, ◌≤◌, ◌==◌, true, false, List, [], ◌∷◌, ◌++◌, All, length, map, take, slice_get, slice_index_or, Option, Some, None, option_map, if◌then◌else◌, codes, String, string_bytes}
 use Rattle.std.specs.Result.{is_ok}
 use Rattle.ucl_board.specs.declared.entry.Entry.{Entry}
 use Rattle.ucl_board.specs.History.{IsLegal, Attempt, entry_of, sequential_reply, accepted_of, board_of}
@@ -134,6 +134,10 @@ pub record IsFirstOffDuty (rows : List NightEvent) (row : ℕ) : Type 0 where
   pub on_duty : All IsOnDuty before
   pub off_duty : IsOnDuty event → ⊥
   pub row_is : row ≡ length before + 5
+
+-- the last screen of a reader, counted from 0, among those of all readers
+abbrev pub last_shown : {Z : Type 0} → List (Option (String Z)) → ℕ → Option (List ℕ)
+last_shown last reader = option_map string_bytes (slice_index_or last reader None)
 
 -- the text of a reader's last screen with its heading, and nothing where it showed none
 abbrev pub last_text : List ℕ → Option (List ℕ) → List ℕ

@@ -1,11 +1,11 @@
 //! Nights: two reporters and two readers over one live board.
 
-ghost use Rattle.std.specs.Prelude.{◌≡◌, ◌≢◌, ◌≤◌, ◌+◌, length, All, None, IfOk, IfErr, MatchResult, OnOk, take, slice_index_or, option_map, string_bytes};
+ghost use Rattle.std.specs.Prelude.{◌≡◌, ◌≢◌, ◌≤◌, ◌+◌, length, All, IfOk, IfErr, MatchResult, OnOk, take, string_bytes};
 ghost use Rattle.std.specs.Io.KnownBytes.{Appends};
 ghost use Rattle.ucl_board.specs.History.{snapshot_at};
 ghost use Rattle.ucl_screen.specs.Screen.{IsGroup, screen_text};
 ghost use Rattle.ucl_runs.specs.Faults.{IsOfNight};
-ghost use Rattle.ucl_runs.specs.Nights.{EachMatchHasOneReporter, HasShown, IsFirstOffDuty, IsMerge, IsOnDuty, night_board, night_text, number_of_two};
+ghost use Rattle.ucl_runs.specs.Nights.{EachMatchHasOneReporter, HasShown, IsFirstOffDuty, IsMerge, IsOnDuty, last_shown, night_board, night_text, number_of_two};
 ghost use Rattle.ucl_runs.specs.Run.{IsStopped, MatchDuty};
 
 use crate::RunFault;
@@ -111,8 +111,8 @@ pub fn night_run<B: LiveBoard, G: Gate, R: Threads + Wait + Sync>(
     ensures board { IfOk result (λ end. EachMatchHasOneReporter night.entry.now.events.items → end.settled.board ≡ night_board (number_of_two (B.reporter end.reporter_1).number (B.reporter end.reporter_2).number) night.entry.now.events.items) }
 
     // What the readers showed.
-    ensures shown_1 { IfOk result (λ end. HasShown profile (B.reader pass) (B.reader end.reader_1) readings night.entry.now.roster group (option_map string_bytes (slice_index_or end.last 0 None))) }
-    ensures shown_2 { IfOk result (λ end. HasShown profile (B.reader pass) (B.reader end.reader_2) readings night.entry.now.roster group (option_map string_bytes (slice_index_or end.last 1 None))) }
+    ensures shown_1 { IfOk result (λ end. HasShown profile (B.reader pass) (B.reader end.reader_1) readings night.entry.now.roster group (last_shown end.last 0)) }
+    ensures shown_2 { IfOk result (λ end. HasShown profile (B.reader pass) (B.reader end.reader_2) readings night.entry.now.roster group (last_shown end.last 1)) }
 {
     check_duty(&night.events)?;
     let second = board.split(rt, &mut pass);
@@ -159,8 +159,8 @@ pub fn night_run<B: LiveBoard, G: Gate, R: Threads + Wait + Sync>(
 /// `WriteFailed`, only where the sink has failed: exactly the first `written` bytes of the output went out. (Were they more
 /// than `usize::MAX`, that would be told.)
 pub fn put_night<R, P, W: Sink>(end: &NightEnd<R, P>, sink: &mut W) -> Result<(), RunFault>
-    ensures all { OnOk result (Appends (W.taken sink.old) (W.taken sink.new) (night_text (option_map string_bytes (slice_index_or end.now.last 0 None)) (option_map string_bytes (slice_index_or end.now.last 1 None)) (string_bytes end.now.closing))) }
-    ensures part { IfErr result (IsStopped 0 (W.failed sink.new) (W.taken sink.old) (W.taken sink.new) (night_text (option_map string_bytes (slice_index_or end.now.last 0 None)) (option_map string_bytes (slice_index_or end.now.last 1 None)) (string_bytes end.now.closing))) }
+    ensures all { OnOk result (Appends (W.taken sink.old) (W.taken sink.new) (night_text (last_shown end.now.last 0) (last_shown end.now.last 1) (string_bytes end.now.closing))) }
+    ensures part { IfErr result (IsStopped 0 (W.failed sink.new) (W.taken sink.old) (W.taken sink.new) (night_text (last_shown end.now.last 0) (last_shown end.now.last 1) (string_bytes end.now.closing))) }
 {
     let written = put_lasts(sink, &end.last)?;
     match put_under(sink, written, "FINAL\n", end.closing.as_str()) {

@@ -1,8 +1,8 @@
 //! Writing texts.
 
-ghost use Rattle.std.specs.Prelude.{◌≡◌, ◌+◌, ◌-◌, ◌^◌, ◌++◌, codes, min, length, None, OnOk, IfOk, IfErr, slice_index_or, option_map, string_bytes};
+ghost use Rattle.std.specs.Prelude.{◌≡◌, ◌+◌, ◌-◌, ◌^◌, ◌++◌, codes, min, length, OnOk, IfOk, IfErr, option_map, string_bytes};
 ghost use Rattle.std.specs.Io.KnownBytes.{Appends};
-ghost use Rattle.ucl_runs.specs.Nights.{last_text, lasts_text};
+ghost use Rattle.ucl_runs.specs.Nights.{last_shown, last_text, lasts_text};
 ghost use Rattle.ucl_runs.specs.Run.{IsCutShort, IsStopped};
 
 use crate::RunFault;
@@ -85,9 +85,9 @@ pub fn put_last<W: Sink>(
 /// Writes the last screens of both readers, where there are any, and tells how many bytes are out then.
 #[tactic(auto, using(crate::proofs::Parts::stopped_first, crate::proofs::Parts::stopped_second))]
 pub fn put_lasts<W: Sink>(sink: &mut W, last: &[Option<String>; 2]) -> Result<usize, RunFault>
-    ensures all { OnOk result (Appends (W.taken sink.old) (W.taken sink.new) (lasts_text (option_map string_bytes (slice_index_or last.now 0 None)) (option_map string_bytes (slice_index_or last.now 1 None)))) }
-    ensures count { IfOk result (λ after. after ≡ min (length (lasts_text (option_map string_bytes (slice_index_or last.now 0 None)) (option_map string_bytes (slice_index_or last.now 1 None)))) (2 ^ 64 - 1)) }
-    ensures part { IfErr result (IsStopped 0 (W.failed sink.new) (W.taken sink.old) (W.taken sink.new) (lasts_text (option_map string_bytes (slice_index_or last.now 0 None)) (option_map string_bytes (slice_index_or last.now 1 None)))) }
+    ensures all { OnOk result (Appends (W.taken sink.old) (W.taken sink.new) (lasts_text (last_shown last.now 0) (last_shown last.now 1))) }
+    ensures count { IfOk result (λ after. after ≡ min (length (lasts_text (last_shown last.now 0) (last_shown last.now 1))) (2 ^ 64 - 1)) }
+    ensures part { IfErr result (IsStopped 0 (W.failed sink.new) (W.taken sink.old) (W.taken sink.new) (lasts_text (last_shown last.now 0) (last_shown last.now 1))) }
 {
     let written = put_last(sink, 0, "READER 1\n", &last[0])?;
     put_last(sink, written, "READER 2\n", &last[1])

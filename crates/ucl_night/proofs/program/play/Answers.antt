@@ -1,6 +1,6 @@
-use Rattle.std.specs.Prelude.{option_map, slice_index_or, string_bytes, None}
+use Rattle.std.specs.Prelude.{string_bytes}
 use Rattle.ucl_screen.specs.Parsing.{night_seen}
-use Rattle.ucl_runs.specs.Nights.{night_text}
+use Rattle.ucl_runs.specs.Nights.{last_shown, night_text}
 use Rattle.ucl_night.proofs.NightOutput.{closing-of, looked, played, put}
 use Rattle.ucl_night.proofs.program.play.Goals as goal
 
@@ -9,8 +9,8 @@ returns g c =
     let known = g.S.Source.left c.args.source.now in
     let end = c.in_ok-end.end in
     let told = c.in_ok-end.ensures in
-    let left = option_map string_bytes (slice_index_or end.last 0 None) in
-    let right = option_map string_bytes (slice_index_or end.last 1 None) in
+    let left = last_shown end.last 0 in
+    let right = last_shown end.last 1 in
     let closing = string_bytes end.closing in
     let is =
     played c.args.profile known (night_seen c.in_ok-night.night) c.args.group c.args.readings _ _ _ left right closing c.in_ok-night.ensures.reads.1 told.duty told.apart told.merge (looked _ _ _ _ _ _ _ told.shown_1) (looked _ _ _ _ _ _ _ told.shown_2)
