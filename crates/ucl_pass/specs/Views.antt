@@ -1,9 +1,15 @@
 -- What contracts read off the view of a pass; and the view of a new pass, of a second pass, of a note, and of a pass that took in a note.
 use Rattle.std.specs.Prelude.{◌≡◌, ℕ, List, [], ◌∷◌, ◌++◌, length, nat_lt, if◌then◌else◌}
+use Rattle.atomic_table.specs.Seated.{TableId}
 use Rattle.ucl_board.specs.declared.entry.Entry.{Entry}
 use Rattle.ucl_board.specs.Log.{Access, Taken, accesses_in}
 use Rattle.ucl_pass.specs.declared.view.View.{View}
 use Rattle.ucl_pass.specs.Passes.{PassView}
+
+-- what contracts see of a pass: the board that it is of, and what it knows
+pub record Pass : Type 0 where
+  pub board : TableId
+  pub view : View
 
 abbrev pub pass_view_of : View → PassView
 pass_view_of v = record { seen = v.seen; mine = v.mine; number = v.number; listed = v.listed; shown = v.shown }

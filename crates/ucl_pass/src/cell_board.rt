@@ -76,9 +76,9 @@ impl CellBoard {
     /// assert_eq!(rt; reading.version, 0);
     /// ```
     pub fn open<R>(_rt: &R, alloc: Global) -> Result<(CellBoard, CellReaderPass), OutOfMemory>
-        ensures own { IfOk result (λ opened. opened.1.0 ≡ opened.0) }
-        ensures fresh { IfOk result (λ opened. pass_view_of opened.1.1 ≡ opening_pass) }
-        ensures acts { IfOk result (λ opened. (opened.1.1.copied ≡ []) × (opened.1.1.own ≡ [])) }
+        ensures own { IfOk result (λ opened. opened.1.board ≡ opened.0) }
+        ensures fresh { IfOk result (λ opened. pass_view_of opened.1.view ≡ opening_pass) }
+        ensures acts { IfOk result (λ opened. (opened.1.view.copied ≡ []) × (opened.1.view.own ≡ [])) }
         ensures rule { BoardsOpenFresh words_after }
     {
         let (cell, seat) = Cell::ruled(alloc, words_with(&Board::fresh(), 0))?;

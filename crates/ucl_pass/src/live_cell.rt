@@ -23,13 +23,13 @@ impl LiveBoard for CellBoard {
 
     type ReporterPass = CellReporterPass;
 
-    ghost is_reader = { λ board pass. pass.0 ≡ board };
+    ghost is_reader = { λ board pass. pass.board ≡ board };
 
-    ghost is_reporter = { λ board pass. pass.0 ≡ board };
+    ghost is_reporter = { λ board pass. pass.board ≡ board };
 
-    ghost reader = { λ pass. pass_view_of pass.1 };
+    ghost reader = { λ pass. pass_view_of pass.view };
 
-    ghost reporter = { λ pass. pass_view_of pass.1 };
+    ghost reporter = { λ pass. pass_view_of pass.view };
 
     fn report<R: Wait>(
         &self,
@@ -37,14 +37,14 @@ impl LiveBoard for CellBoard {
         pass: &mut CellReporterPass,
         call: &EventCall,
     ) -> Result<Accepted, Refusal>
-        requires { pass.old.0 ≡ self.now }
-        ensures own { pass.new.0 ≡ self.now }
-        ensures always { Continues (pass_view_of pass.old.1) (pass_view_of pass.new.1) }
-        ensures accepted { IfOk result (λ reply. AcceptedReport (pass_view_of pass.old.1) call.now reply (pass_view_of pass.new.1)) }
-        ensures refused { IfErr result (λ refusal. RefusedReport (pass_view_of pass.old.1) call.now refusal (pass_view_of pass.new.1)) }
-        ensures acts { count_of pass.old.1 < count_of pass.new.1 }
-        ensures steps { CellReport pass.old.1 call.now result pass.new.1 }
-        ensures up_to_date { IsUpToDate pass.new.1 }
+        requires { pass.old.board ≡ self.now }
+        ensures own { pass.new.board ≡ self.now }
+        ensures always { Continues (pass_view_of pass.old.view) (pass_view_of pass.new.view) }
+        ensures accepted { IfOk result (λ reply. AcceptedReport (pass_view_of pass.old.view) call.now reply (pass_view_of pass.new.view)) }
+        ensures refused { IfErr result (λ refusal. RefusedReport (pass_view_of pass.old.view) call.now refusal (pass_view_of pass.new.view)) }
+        ensures acts { count_of pass.old.view < count_of pass.new.view }
+        ensures steps { CellReport pass.old.view call.now result pass.new.view }
+        ensures up_to_date { IsUpToDate pass.new.view }
     {
         let reporter = pass.number;
         let result = self.report_by(rt, &mut pass.seat, reporter, call);
@@ -55,40 +55,40 @@ impl LiveBoard for CellBoard {
     }
 
     fn read<R: Wait>(&self, rt: &R, pass: &mut CellReaderPass) -> Reading
-        requires { pass.old.0 ≡ self.now }
-        ensures own { pass.new.0 ≡ self.now }
-        ensures always { Continues (pass_view_of pass.old.1) (pass_view_of pass.new.1) }
-        ensures reading { SharedReading (pass_view_of pass.old.1) result (pass_view_of pass.new.1) }
-        ensures version { result.version ≡ length pass.new.1.seen }
-        ensures acts { count_of pass.new.1 ≡ count_of pass.old.1 + 1 }
-        ensures steps { CellReading pass.old.1 result pass.new.1 }
-        ensures up_to_date { IsUpToDate pass.new.1 }
+        requires { pass.old.board ≡ self.now }
+        ensures own { pass.new.board ≡ self.now }
+        ensures always { Continues (pass_view_of pass.old.view) (pass_view_of pass.new.view) }
+        ensures reading { SharedReading (pass_view_of pass.old.view) result (pass_view_of pass.new.view) }
+        ensures version { result.version ≡ length pass.new.view.seen }
+        ensures acts { count_of pass.new.view ≡ count_of pass.old.view + 1 }
+        ensures steps { CellReading pass.old.view result pass.new.view }
+        ensures up_to_date { IsUpToDate pass.new.view }
     {
         self.read_by(rt, &mut pass.seat)
     }
 
     fn read_own<R: Wait>(&self, rt: &R, pass: &mut CellReporterPass) -> Reading
-        requires { pass.old.0 ≡ self.now }
-        ensures own { pass.new.0 ≡ self.now }
-        ensures always { Continues (pass_view_of pass.old.1) (pass_view_of pass.new.1) }
-        ensures reading { SharedReading (pass_view_of pass.old.1) result (pass_view_of pass.new.1) }
-        ensures version { result.version ≡ length pass.new.1.seen }
-        ensures acts { count_of pass.new.1 ≡ count_of pass.old.1 + 1 }
-        ensures steps { CellReading pass.old.1 result pass.new.1 }
-        ensures up_to_date { IsUpToDate pass.new.1 }
+        requires { pass.old.board ≡ self.now }
+        ensures own { pass.new.board ≡ self.now }
+        ensures always { Continues (pass_view_of pass.old.view) (pass_view_of pass.new.view) }
+        ensures reading { SharedReading (pass_view_of pass.old.view) result (pass_view_of pass.new.view) }
+        ensures version { result.version ≡ length pass.new.view.seen }
+        ensures acts { count_of pass.new.view ≡ count_of pass.old.view + 1 }
+        ensures steps { CellReading pass.old.view result pass.new.view }
+        ensures up_to_date { IsUpToDate pass.new.view }
     {
         let seat = &mut pass.seat;
         self.read_by(rt, seat)
     }
 
     fn split<R: Wait>(&self, _rt: &R, pass: &mut CellReaderPass) -> CellReaderPass
-        requires { pass.old.0 ≡ self.now }
-        ensures own { (pass.new.0 ≡ self.now) × (result.0 ≡ self.now) }
-        ensures sound { IsSound (pass_view_of pass.old.1) }
-        ensures unchanged { pass.new.1 ≡ pass.old.1 }
-        ensures given { pass_view_of result.1 ≡ split_pass (pass_view_of pass.old.1) }
-        ensures acts { count_of result.1 ≡ count_of pass.old.1 }
-        ensures steps { HasCopyOf result.1 pass.old.1 }
+        requires { pass.old.board ≡ self.now }
+        ensures own { (pass.new.board ≡ self.now) × (result.board ≡ self.now) }
+        ensures sound { IsSound (pass_view_of pass.old.view) }
+        ensures unchanged { pass.new.view ≡ pass.old.view }
+        ensures given { pass_view_of result.view ≡ split_pass (pass_view_of pass.old.view) }
+        ensures acts { count_of result.view ≡ count_of pass.old.view }
+        ensures steps { HasCopyOf result.view pass.old.view }
     {
         let seat = self.split_seat(&mut pass.seat);
         CellReaderPass { seat }
@@ -99,14 +99,14 @@ impl LiveBoard for CellBoard {
         rt: &R,
         pass: CellReaderPass,
     ) -> Result<CellReporterPass, TooManyReporters<CellReaderPass>>
-        requires { pass.0 ≡ self.now }
-        ensures own { MatchResult result (λ enlisted. enlisted.0 ≡ self.now) (λ full. full.0.0 ≡ self.now) }
-        ensures enlisted { IfOk result (λ enlisted. Enlistment (pass_view_of pass.1) (pass_view_of enlisted.1)) }
-        ensures always { IfErr result (λ full. Continues (pass_view_of pass.1) (pass_view_of full.0.1)) }
-        ensures full { IfErr result (λ full. FullBoard (pass_view_of pass.1) (pass_view_of full.0.1)) }
-        ensures acts { MatchResult result (λ enlisted. count_of pass.1 < count_of enlisted.1) (λ full. count_of pass.1 < count_of full.0.1) }
-        ensures steps { MatchResult result (λ enlisted. EnlistSteps pass.1 enlisted.1) (λ full. EnlistSteps pass.1 full.0.1) }
-        ensures up_to_date { MatchResult result (λ enlisted. IsUpToDate enlisted.1) (λ full. IsUpToDate full.0.1) }
+        requires { pass.board ≡ self.now }
+        ensures own { MatchResult result (λ enlisted. enlisted.board ≡ self.now) (λ full. full.0.board ≡ self.now) }
+        ensures enlisted { IfOk result (λ enlisted. Enlistment (pass_view_of pass.view) (pass_view_of enlisted.view)) }
+        ensures always { IfErr result (λ full. Continues (pass_view_of pass.view) (pass_view_of full.0.view)) }
+        ensures full { IfErr result (λ full. FullBoard (pass_view_of pass.view) (pass_view_of full.0.view)) }
+        ensures acts { MatchResult result (λ enlisted. count_of pass.view < count_of enlisted.view) (λ full. count_of pass.view < count_of full.0.view) }
+        ensures steps { MatchResult result (λ enlisted. EnlistSteps pass.view enlisted.view) (λ full. EnlistSteps pass.view full.0.view) }
+        ensures up_to_date { MatchResult result (λ enlisted. IsUpToDate enlisted.view) (λ full. IsUpToDate full.0.view) }
     {
         let CellReaderPass { mut seat } = pass;
         match self.enlist_by(rt, &mut seat) {
@@ -120,27 +120,27 @@ impl LiveBoard for CellBoard {
     }
 
     fn meet<R: Wait>(&self, rt: &R, first: &mut CellReporterPass, second: &mut CellReporterPass)
-        requires { (first.old.0 ≡ self.now) × (second.old.0 ≡ self.now) }
-        ensures own { (first.new.0 ≡ self.now) × (second.new.0 ≡ self.now) }
-        ensures sound { IsSound (pass_view_of first.old.1) }
-        ensures always { Continues (pass_view_of second.old.1) (pass_view_of second.new.1) }
-        ensures unchanged { first.new.1 ≡ first.old.1 }
-        ensures meeting { Meeting (pass_view_of first.old.1) (pass_view_of second.old.1) (pass_view_of second.new.1) }
-        ensures acts { count_of second.new.1 ≡ count_of second.old.1 + 1 }
-        ensures steps { MeetingSteps second.old.1 second.new.1 }
-        ensures up_to_date { IsUpToDate second.new.1 }
+        requires { (first.old.board ≡ self.now) × (second.old.board ≡ self.now) }
+        ensures own { (first.new.board ≡ self.now) × (second.new.board ≡ self.now) }
+        ensures sound { IsSound (pass_view_of first.old.view) }
+        ensures always { Continues (pass_view_of second.old.view) (pass_view_of second.new.view) }
+        ensures unchanged { first.new.view ≡ first.old.view }
+        ensures meeting { Meeting (pass_view_of first.old.view) (pass_view_of second.old.view) (pass_view_of second.new.view) }
+        ensures acts { count_of second.new.view ≡ count_of second.old.view + 1 }
+        ensures steps { MeetingSteps second.old.view second.new.view }
+        ensures up_to_date { IsUpToDate second.new.view }
     {
         self.meet_by(rt, &mut first.seat, &mut second.seat);
     }
 
     fn number_of(pass: &CellReporterPass) -> ReporterNo
-        ensures { result ≡ (reporter_figures (pass_view_of pass.now.1)).0 }
+        ensures { result ≡ (reporter_figures (pass_view_of pass.now.view)).0 }
     {
         pass.number
     }
 
     fn accepted_of(pass: &CellReporterPass) -> u16
-        ensures { result ≡ (reporter_figures (pass_view_of pass.now.1)).1 }
+        ensures { result ≡ (reporter_figures (pass_view_of pass.now.view)).1 }
     {
         pass.accepted
     }

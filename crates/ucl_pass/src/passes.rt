@@ -1,11 +1,9 @@
 //! The passes of the cell board.
 
 ghost use Rattle.std.specs.Prelude.{◌≡◌, length};
-ghost use Rattle.atomic_table.specs.Seated.{TableId};
 ghost use Rattle.crossbeam_utils.specs.Seq.{cell_view};
-ghost use Rattle.ucl_pass.specs.declared.view.View.{View};
 ghost use Rattle.ucl_pass.specs.Passes.{IsSound};
-ghost use Rattle.ucl_pass.specs.Views.{pass_view_of};
+ghost use Rattle.ucl_pass.specs.Views.{Pass, pass_view_of};
 
 use crate::rule::Seat;
 use std::marker::Model;
@@ -18,9 +16,9 @@ pub struct CellReaderPass {
 }
 
 impl Model for CellReaderPass {
-    ghost Value = { TableId × View };
+    ghost Value = { Pass };
 
-    ghost view = { λ p. (p.seat.table_id, cell_view p.seat) };
+    ghost view = { λ p. record { board = p.seat.table_id; view = cell_view p.seat } };
 
     ghost invariant = { λ p. IsSound (pass_view_of (cell_view p.seat)) × ((cell_view p.seat).number ≡ 0) };
 }
@@ -34,9 +32,9 @@ pub struct CellReporterPass {
 }
 
 impl Model for CellReporterPass {
-    ghost Value = { TableId × View };
+    ghost Value = { Pass };
 
-    ghost view = { λ p. (p.seat.table_id, cell_view p.seat) };
+    ghost view = { λ p. record { board = p.seat.table_id; view = cell_view p.seat } };
 
     ghost invariant = { λ p. IsSound (pass_view_of (cell_view p.seat)) × ((cell_view p.seat).number ≡ p.number) × (length (cell_view p.seat).mine ≡ p.accepted) };
 }

@@ -83,9 +83,9 @@ impl WordBoard {
     /// assert_eq!(rt; reading.version, 0);
     /// ```
     pub fn open<R>(_rt: &R, alloc: Global) -> Result<(WordBoard, WordReaderPass), OutOfMemory>
-        ensures own { IfOk result (λ opened. opened.1.0 ≡ opened.0) }
-        ensures fresh { IfOk result (λ opened. pass_view_of opened.1.1 ≡ opening_pass) }
-        ensures untaken { IfOk result (λ opened. (opened.1.1.copied ≡ []) × (opened.1.1.own ≡ [])) }
+        ensures own { IfOk result (λ opened. opened.1.board ≡ opened.0) }
+        ensures fresh { IfOk result (λ opened. pass_view_of opened.1.view ≡ opening_pass) }
+        ensures untaken { IfOk result (λ opened. (opened.1.view.copied ≡ []) × (opened.1.view.own ≡ [])) }
         ensures rule { BoardsOpenFresh words_after }
     {
         let (table, seat) = Table::of_words(alloc, &fresh_words(), &())?;
@@ -284,13 +284,13 @@ impl WordBoard {
         pass: &mut WordReporterPass,
         call: &EventCall,
     ) -> Result<Accepted, Refusal>
-        requires { pass.old.0 ≡ self.now }
-        ensures own { pass.new.0 ≡ self.now }
-        ensures always { Continues (pass_view_of pass.old.1) (pass_view_of pass.new.1) }
-        ensures accepted { IfOk result (λ reply. AcceptedReport (pass_view_of pass.old.1) call.now reply (pass_view_of pass.new.1)) }
-        ensures refused { IfErr result (λ refusal. RefusedReport (pass_view_of pass.old.1) call.now refusal (pass_view_of pass.new.1)) }
-        ensures steps { ReportSteps pass.old.1 call.now result pass.new.1 }
-        ensures most { count_of pass.new.1 ≤ count_of pass.old.1 + 2 }
+        requires { pass.old.board ≡ self.now }
+        ensures own { pass.new.board ≡ self.now }
+        ensures always { Continues (pass_view_of pass.old.view) (pass_view_of pass.new.view) }
+        ensures accepted { IfOk result (λ reply. AcceptedReport (pass_view_of pass.old.view) call.now reply (pass_view_of pass.new.view)) }
+        ensures refused { IfErr result (λ refusal. RefusedReport (pass_view_of pass.old.view) call.now refusal (pass_view_of pass.new.view)) }
+        ensures steps { ReportSteps pass.old.view call.now result pass.new.view }
+        ensures most { count_of pass.new.view ≤ count_of pass.old.view + 2 }
     {
         let reporter = pass.number;
         let result = self.report_by(&mut pass.seat, reporter, call);
@@ -310,13 +310,13 @@ impl WordBoard {
     /// assert_eq!(rt; reading.board.words(), [0x2000000000000000; 12]);
     /// ```
     pub fn read_now(&self, pass: &mut WordReaderPass) -> Reading
-        requires { pass.old.0 ≡ self.now }
-        ensures own { pass.new.0 ≡ self.now }
-        ensures always { Continues (pass_view_of pass.old.1) (pass_view_of pass.new.1) }
-        ensures reading { SharedReading (pass_view_of pass.old.1) result (pass_view_of pass.new.1) }
-        ensures steps { ReadingSteps pass.old.1 result pass.new.1 }
-        ensures least { count_of pass.old.1 + 24 ≤ count_of pass.new.1 }
-        ensures most { count_of pass.new.1 ≤ count_of pass.old.1 + most_loads }
+        requires { pass.old.board ≡ self.now }
+        ensures own { pass.new.board ≡ self.now }
+        ensures always { Continues (pass_view_of pass.old.view) (pass_view_of pass.new.view) }
+        ensures reading { SharedReading (pass_view_of pass.old.view) result (pass_view_of pass.new.view) }
+        ensures steps { ReadingSteps pass.old.view result pass.new.view }
+        ensures least { count_of pass.old.view + 24 ≤ count_of pass.new.view }
+        ensures most { count_of pass.new.view ≤ count_of pass.old.view + most_loads }
     {
         self.read_by(&mut pass.seat)
     }
@@ -336,13 +336,13 @@ impl WordBoard {
     /// assert_eq!(rt; (accepted, reading.version), (true, 1));
     /// ```
     pub fn read_own_now(&self, pass: &mut WordReporterPass) -> Reading
-        requires { pass.old.0 ≡ self.now }
-        ensures own { pass.new.0 ≡ self.now }
-        ensures always { Continues (pass_view_of pass.old.1) (pass_view_of pass.new.1) }
-        ensures reading { SharedReading (pass_view_of pass.old.1) result (pass_view_of pass.new.1) }
-        ensures steps { ReadingSteps pass.old.1 result pass.new.1 }
-        ensures least { count_of pass.old.1 + 24 ≤ count_of pass.new.1 }
-        ensures most { count_of pass.new.1 ≤ count_of pass.old.1 + most_loads }
+        requires { pass.old.board ≡ self.now }
+        ensures own { pass.new.board ≡ self.now }
+        ensures always { Continues (pass_view_of pass.old.view) (pass_view_of pass.new.view) }
+        ensures reading { SharedReading (pass_view_of pass.old.view) result (pass_view_of pass.new.view) }
+        ensures steps { ReadingSteps pass.old.view result pass.new.view }
+        ensures least { count_of pass.old.view + 24 ≤ count_of pass.new.view }
+        ensures most { count_of pass.new.view ≤ count_of pass.old.view + most_loads }
     {
         let seat = &mut pass.seat;
         self.read_by(seat)
@@ -357,13 +357,13 @@ impl WordBoard {
     /// assert_eq!(rt; board.read_now(&mut other), reading);
     /// ```
     pub fn split_now(&self, pass: &mut WordReaderPass) -> WordReaderPass
-        requires { pass.old.0 ≡ self.now }
-        ensures own { (pass.new.0 ≡ self.now) × (result.0 ≡ self.now) }
-        ensures sound { IsSound (pass_view_of pass.old.1) }
-        ensures unchanged { pass.new.1 ≡ pass.old.1 }
-        ensures given { pass_view_of result.1 ≡ split_pass (pass_view_of pass.old.1) }
-        ensures steps { (count_of result.1 ≡ count_of pass.old.1) × (trail_of result.1 ≡ trail_of pass.old.1) }
-        ensures copy { HasCopyOf result.1 pass.old.1 }
+        requires { pass.old.board ≡ self.now }
+        ensures own { (pass.new.board ≡ self.now) × (result.board ≡ self.now) }
+        ensures sound { IsSound (pass_view_of pass.old.view) }
+        ensures unchanged { pass.new.view ≡ pass.old.view }
+        ensures given { pass_view_of result.view ≡ split_pass (pass_view_of pass.old.view) }
+        ensures steps { (count_of result.view ≡ count_of pass.old.view) × (trail_of result.view ≡ trail_of pass.old.view) }
+        ensures copy { HasCopyOf result.view pass.old.view }
     {
         let seat = self.table.shared.split_seat::<SecondPass>(&mut pass.seat);
         WordReaderPass { seat }
@@ -384,13 +384,13 @@ impl WordBoard {
         &self,
         pass: WordReaderPass,
     ) -> Result<WordReporterPass, TooManyReporters<WordReaderPass>>
-        requires { pass.0 ≡ self.now }
-        ensures own { MatchResult result (λ enlisted. enlisted.0 ≡ self.now) (λ full. full.0.0 ≡ self.now) }
-        ensures enlisted { IfOk result (λ enlisted. Enlistment (pass_view_of pass.1) (pass_view_of enlisted.1)) }
-        ensures always { IfErr result (λ full. Continues (pass_view_of pass.1) (pass_view_of full.0.1)) }
-        ensures full { IfErr result (λ full. FullBoard (pass_view_of pass.1) (pass_view_of full.0.1)) }
-        ensures trail { MatchResult result (λ enlisted. KeepsTrail pass.1 enlisted.1) (λ full. KeepsTrail pass.1 full.0.1) }
-        ensures most { MatchResult result (λ enlisted. count_of enlisted.1 ≤ count_of pass.1 + 255) (λ full. count_of full.0.1 ≤ count_of pass.1 + 255) }
+        requires { pass.board ≡ self.now }
+        ensures own { MatchResult result (λ enlisted. enlisted.board ≡ self.now) (λ full. full.0.board ≡ self.now) }
+        ensures enlisted { IfOk result (λ enlisted. Enlistment (pass_view_of pass.view) (pass_view_of enlisted.view)) }
+        ensures always { IfErr result (λ full. Continues (pass_view_of pass.view) (pass_view_of full.0.view)) }
+        ensures full { IfErr result (λ full. FullBoard (pass_view_of pass.view) (pass_view_of full.0.view)) }
+        ensures trail { MatchResult result (λ enlisted. KeepsTrail pass.view enlisted.view) (λ full. KeepsTrail pass.view full.0.view) }
+        ensures most { MatchResult result (λ enlisted. count_of enlisted.view ≤ count_of pass.view + 255) (λ full. count_of full.0.view ≤ count_of pass.view + 255) }
     {
         let WordReaderPass { mut seat } = pass;
         match self.enlist_by(&mut seat) {
@@ -414,15 +414,15 @@ impl WordBoard {
     /// assert_eq!(rt; board.read_own_now(&mut second).version, 0);
     /// ```
     pub fn meet_now(&self, first: &mut WordReporterPass, second: &mut WordReporterPass)
-        requires { (first.old.0 ≡ self.now) × (second.old.0 ≡ self.now) }
-        ensures own { (first.new.0 ≡ self.now) × (second.new.0 ≡ self.now) }
-        ensures sound { IsSound (pass_view_of first.old.1) }
-        ensures always { Continues (pass_view_of second.old.1) (pass_view_of second.new.1) }
-        ensures unchanged { first.new.1 ≡ first.old.1 }
-        ensures meeting { Meeting (pass_view_of first.old.1) (pass_view_of second.old.1) (pass_view_of second.new.1) }
-        ensures trail { KeepsTrail second.old.1 second.new.1 }
-        ensures steps { MeetingSteps second.old.1 second.new.1 }
-        ensures taken { count_of second.new.1 ≡ count_of second.old.1 + 1 }
+        requires { (first.old.board ≡ self.now) × (second.old.board ≡ self.now) }
+        ensures own { (first.new.board ≡ self.now) × (second.new.board ≡ self.now) }
+        ensures sound { IsSound (pass_view_of first.old.view) }
+        ensures always { Continues (pass_view_of second.old.view) (pass_view_of second.new.view) }
+        ensures unchanged { first.new.view ≡ first.old.view }
+        ensures meeting { Meeting (pass_view_of first.old.view) (pass_view_of second.old.view) (pass_view_of second.new.view) }
+        ensures trail { KeepsTrail second.old.view second.new.view }
+        ensures steps { MeetingSteps second.old.view second.new.view }
+        ensures taken { count_of second.new.view ≡ count_of second.old.view + 1 }
     {
         self.meet_by(&mut first.seat, &mut second.seat);
     }

@@ -20,13 +20,13 @@ impl LiveBoard for WordBoard {
 
     type ReporterPass = WordReporterPass;
 
-    ghost is_reader = { λ board pass. pass.0 ≡ board };
+    ghost is_reader = { λ board pass. pass.board ≡ board };
 
-    ghost is_reporter = { λ board pass. pass.0 ≡ board };
+    ghost is_reporter = { λ board pass. pass.board ≡ board };
 
-    ghost reader = { λ pass. pass_view_of pass.1 };
+    ghost reader = { λ pass. pass_view_of pass.view };
 
-    ghost reporter = { λ pass. pass_view_of pass.1 };
+    ghost reporter = { λ pass. pass_view_of pass.view };
 
     fn report<R: Wait>(
         &self,
@@ -34,49 +34,49 @@ impl LiveBoard for WordBoard {
         pass: &mut WordReporterPass,
         call: &EventCall,
     ) -> Result<Accepted, Refusal>
-        requires { pass.old.0 ≡ self.now }
-        ensures own { pass.new.0 ≡ self.now }
-        ensures always { Continues (pass_view_of pass.old.1) (pass_view_of pass.new.1) }
-        ensures accepted { IfOk result (λ reply. AcceptedReport (pass_view_of pass.old.1) call.now reply (pass_view_of pass.new.1)) }
-        ensures refused { IfErr result (λ refusal. RefusedReport (pass_view_of pass.old.1) call.now refusal (pass_view_of pass.new.1)) }
-        ensures steps { ReportSteps pass.old.1 call.now result pass.new.1 }
-        ensures most { count_of pass.new.1 ≤ count_of pass.old.1 + 2 }
+        requires { pass.old.board ≡ self.now }
+        ensures own { pass.new.board ≡ self.now }
+        ensures always { Continues (pass_view_of pass.old.view) (pass_view_of pass.new.view) }
+        ensures accepted { IfOk result (λ reply. AcceptedReport (pass_view_of pass.old.view) call.now reply (pass_view_of pass.new.view)) }
+        ensures refused { IfErr result (λ refusal. RefusedReport (pass_view_of pass.old.view) call.now refusal (pass_view_of pass.new.view)) }
+        ensures steps { ReportSteps pass.old.view call.now result pass.new.view }
+        ensures most { count_of pass.new.view ≤ count_of pass.old.view + 2 }
     {
         self.report_now(pass, call)
     }
 
     fn read<R: Wait>(&self, _rt: &R, pass: &mut WordReaderPass) -> Reading
-        requires { pass.old.0 ≡ self.now }
-        ensures own { pass.new.0 ≡ self.now }
-        ensures always { Continues (pass_view_of pass.old.1) (pass_view_of pass.new.1) }
-        ensures reading { SharedReading (pass_view_of pass.old.1) result (pass_view_of pass.new.1) }
-        ensures steps { ReadingSteps pass.old.1 result pass.new.1 }
-        ensures least { count_of pass.old.1 + 24 ≤ count_of pass.new.1 }
-        ensures most { count_of pass.new.1 ≤ count_of pass.old.1 + most_loads }
+        requires { pass.old.board ≡ self.now }
+        ensures own { pass.new.board ≡ self.now }
+        ensures always { Continues (pass_view_of pass.old.view) (pass_view_of pass.new.view) }
+        ensures reading { SharedReading (pass_view_of pass.old.view) result (pass_view_of pass.new.view) }
+        ensures steps { ReadingSteps pass.old.view result pass.new.view }
+        ensures least { count_of pass.old.view + 24 ≤ count_of pass.new.view }
+        ensures most { count_of pass.new.view ≤ count_of pass.old.view + most_loads }
     {
         self.read_now(pass)
     }
 
     fn read_own<R: Wait>(&self, _rt: &R, pass: &mut WordReporterPass) -> Reading
-        requires { pass.old.0 ≡ self.now }
-        ensures own { pass.new.0 ≡ self.now }
-        ensures always { Continues (pass_view_of pass.old.1) (pass_view_of pass.new.1) }
-        ensures reading { SharedReading (pass_view_of pass.old.1) result (pass_view_of pass.new.1) }
-        ensures steps { ReadingSteps pass.old.1 result pass.new.1 }
-        ensures least { count_of pass.old.1 + 24 ≤ count_of pass.new.1 }
-        ensures most { count_of pass.new.1 ≤ count_of pass.old.1 + most_loads }
+        requires { pass.old.board ≡ self.now }
+        ensures own { pass.new.board ≡ self.now }
+        ensures always { Continues (pass_view_of pass.old.view) (pass_view_of pass.new.view) }
+        ensures reading { SharedReading (pass_view_of pass.old.view) result (pass_view_of pass.new.view) }
+        ensures steps { ReadingSteps pass.old.view result pass.new.view }
+        ensures least { count_of pass.old.view + 24 ≤ count_of pass.new.view }
+        ensures most { count_of pass.new.view ≤ count_of pass.old.view + most_loads }
     {
         self.read_own_now(pass)
     }
 
     fn split<R: Wait>(&self, _rt: &R, pass: &mut WordReaderPass) -> WordReaderPass
-        requires { pass.old.0 ≡ self.now }
-        ensures own { (pass.new.0 ≡ self.now) × (result.0 ≡ self.now) }
-        ensures sound { IsSound (pass_view_of pass.old.1) }
-        ensures unchanged { pass.new.1 ≡ pass.old.1 }
-        ensures given { pass_view_of result.1 ≡ split_pass (pass_view_of pass.old.1) }
-        ensures steps { (count_of result.1 ≡ count_of pass.old.1) × (trail_of result.1 ≡ trail_of pass.old.1) }
-        ensures copy { HasCopyOf result.1 pass.old.1 }
+        requires { pass.old.board ≡ self.now }
+        ensures own { (pass.new.board ≡ self.now) × (result.board ≡ self.now) }
+        ensures sound { IsSound (pass_view_of pass.old.view) }
+        ensures unchanged { pass.new.view ≡ pass.old.view }
+        ensures given { pass_view_of result.view ≡ split_pass (pass_view_of pass.old.view) }
+        ensures steps { (count_of result.view ≡ count_of pass.old.view) × (trail_of result.view ≡ trail_of pass.old.view) }
+        ensures copy { HasCopyOf result.view pass.old.view }
     {
         self.split_now(pass)
     }
@@ -86,39 +86,39 @@ impl LiveBoard for WordBoard {
         _rt: &R,
         pass: WordReaderPass,
     ) -> Result<WordReporterPass, TooManyReporters<WordReaderPass>>
-        requires { pass.0 ≡ self.now }
-        ensures own { MatchResult result (λ enlisted. enlisted.0 ≡ self.now) (λ full. full.0.0 ≡ self.now) }
-        ensures enlisted { IfOk result (λ enlisted. Enlistment (pass_view_of pass.1) (pass_view_of enlisted.1)) }
-        ensures always { IfErr result (λ full. Continues (pass_view_of pass.1) (pass_view_of full.0.1)) }
-        ensures full { IfErr result (λ full. FullBoard (pass_view_of pass.1) (pass_view_of full.0.1)) }
-        ensures trail { MatchResult result (λ enlisted. KeepsTrail pass.1 enlisted.1) (λ full. KeepsTrail pass.1 full.0.1) }
-        ensures most { MatchResult result (λ enlisted. count_of enlisted.1 ≤ count_of pass.1 + 255) (λ full. count_of full.0.1 ≤ count_of pass.1 + 255) }
+        requires { pass.board ≡ self.now }
+        ensures own { MatchResult result (λ enlisted. enlisted.board ≡ self.now) (λ full. full.0.board ≡ self.now) }
+        ensures enlisted { IfOk result (λ enlisted. Enlistment (pass_view_of pass.view) (pass_view_of enlisted.view)) }
+        ensures always { IfErr result (λ full. Continues (pass_view_of pass.view) (pass_view_of full.0.view)) }
+        ensures full { IfErr result (λ full. FullBoard (pass_view_of pass.view) (pass_view_of full.0.view)) }
+        ensures trail { MatchResult result (λ enlisted. KeepsTrail pass.view enlisted.view) (λ full. KeepsTrail pass.view full.0.view) }
+        ensures most { MatchResult result (λ enlisted. count_of enlisted.view ≤ count_of pass.view + 255) (λ full. count_of full.0.view ≤ count_of pass.view + 255) }
     {
         self.enlist_now(pass)
     }
 
     fn meet<R: Wait>(&self, _rt: &R, first: &mut WordReporterPass, second: &mut WordReporterPass)
-        requires { (first.old.0 ≡ self.now) × (second.old.0 ≡ self.now) }
-        ensures own { (first.new.0 ≡ self.now) × (second.new.0 ≡ self.now) }
-        ensures sound { IsSound (pass_view_of first.old.1) }
-        ensures always { Continues (pass_view_of second.old.1) (pass_view_of second.new.1) }
-        ensures unchanged { first.new.1 ≡ first.old.1 }
-        ensures meeting { Meeting (pass_view_of first.old.1) (pass_view_of second.old.1) (pass_view_of second.new.1) }
-        ensures trail { KeepsTrail second.old.1 second.new.1 }
-        ensures steps { MeetingSteps second.old.1 second.new.1 }
-        ensures taken { count_of second.new.1 ≡ count_of second.old.1 + 1 }
+        requires { (first.old.board ≡ self.now) × (second.old.board ≡ self.now) }
+        ensures own { (first.new.board ≡ self.now) × (second.new.board ≡ self.now) }
+        ensures sound { IsSound (pass_view_of first.old.view) }
+        ensures always { Continues (pass_view_of second.old.view) (pass_view_of second.new.view) }
+        ensures unchanged { first.new.view ≡ first.old.view }
+        ensures meeting { Meeting (pass_view_of first.old.view) (pass_view_of second.old.view) (pass_view_of second.new.view) }
+        ensures trail { KeepsTrail second.old.view second.new.view }
+        ensures steps { MeetingSteps second.old.view second.new.view }
+        ensures taken { count_of second.new.view ≡ count_of second.old.view + 1 }
     {
         self.meet_now(first, second);
     }
 
     fn number_of(pass: &WordReporterPass) -> ReporterNo
-        ensures { result ≡ (reporter_figures (pass_view_of pass.now.1)).0 }
+        ensures { result ≡ (reporter_figures (pass_view_of pass.now.view)).0 }
     {
         pass.number
     }
 
     fn accepted_of(pass: &WordReporterPass) -> u16
-        ensures { result ≡ (reporter_figures (pass_view_of pass.now.1)).1 }
+        ensures { result ≡ (reporter_figures (pass_view_of pass.now.view)).1 }
     {
         pass.accepted
     }

@@ -1,8 +1,7 @@
 //! The passes of the word board.
 
 ghost use Rattle.std.specs.Prelude.{◌≡◌, length};
-ghost use Rattle.atomic_table.specs.Seated.{TableId};
-ghost use Rattle.ucl_pass.specs.declared.view.View.{View};
+ghost use Rattle.ucl_pass.specs.Views.{Pass};
 ghost use Rattle.ucl_words.specs.WordCalls.{IsSteady};
 
 use crate::rule::Seat;
@@ -16,9 +15,9 @@ pub struct WordReaderPass {
 }
 
 impl Model for WordReaderPass {
-    ghost Value = { TableId × View };
+    ghost Value = { Pass };
 
-    ghost view = { λ p. (p.seat.table_id, p.seat.me.0) };
+    ghost view = { λ p. record { board = p.seat.table_id; view = p.seat.me.0 } };
 
     ghost invariant = { λ p. IsSteady p.seat.me.0 × (p.seat.me.0.number ≡ 0) };
 }
@@ -32,9 +31,9 @@ pub struct WordReporterPass {
 }
 
 impl Model for WordReporterPass {
-    ghost Value = { TableId × View };
+    ghost Value = { Pass };
 
-    ghost view = { λ p. (p.seat.table_id, p.seat.me.0) };
+    ghost view = { λ p. record { board = p.seat.table_id; view = p.seat.me.0 } };
 
     ghost invariant = { λ p. IsSteady p.seat.me.0 × (p.seat.me.0.number ≡ p.number) × (length p.seat.me.0.mine ≡ p.accepted) };
 }

@@ -7,7 +7,7 @@ use Rattle.ucl_words.proofs.EnlistmentFacts.{second_steady, second_steps}
 use Rattle.ucl_words.proofs.board.WordBoard.split_now.Goals as goal
 
 pub split_seat-seat-requires : goal.split_seat-seat-requires
-split_seat-seat-requires c = (ap (λ p. p.0) c.pass.view_is ∙ (c.requires ∙ sym c.self.view_is), omega (arith, c.self.invariant.0), seconds c.pass.inside.seat.id c.pass.inside.seat.me.0)
+split_seat-seat-requires c = (ap (λ p. p.board) c.pass.view_is ∙ (c.requires ∙ sym c.self.view_is), omega (arith, c.self.invariant.0), seconds c.pass.inside.seat.id c.pass.inside.seat.me.0)
 
 pub invariant_of-result : goal.invariant_of-result
 invariant_of-result c = subst (λ (v : View). IsSteady v × (v.number ≡ 0)) (sym (ap (λ m. m.0) c.split_seat-seat.ensures.4)) (second_steady c.pass.inside.seat.me.0 c.pass.invariant.0, refl)
@@ -15,5 +15,5 @@ invariant_of-result c = subst (λ (v : View). IsSteady v × (v.number ≡ 0)) (s
 pub returns-clause-steps : goal.returns-clause-steps
 returns-clause-steps c =
     let given = c.split_seat-seat.result.me.0 in
-    subst (λ (old : View). (count_of given ≡ count_of old) × (trail_of given ≡ trail_of old)) (ap (λ p. p.1) c.pass.view_is)
+    subst (λ (old : View). (count_of given ≡ count_of old) × (trail_of given ≡ trail_of old)) (ap (λ p. p.view) c.pass.view_is)
     (subst (λ (v : View). (count_of v ≡ count_of c.pass.inside.seat.me.0) × (trail_of v ≡ trail_of c.pass.inside.seat.me.0)) (sym (ap (λ m. m.0) c.split_seat-seat.ensures.4)) (second_steps c.pass.inside.seat.me.0))
