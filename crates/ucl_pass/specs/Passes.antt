@@ -92,5 +92,9 @@ pub record Meeting (first k m : PassView) : Type 0 where
   pub shown : m.shown ≡ k.shown
 
 -- a reporter's figures: its number, and how many of its events were accepted
-abbrev pub reporter_figures : PassView → ℕ × ℕ
-reporter_figures k = (k.number, length k.mine)
+pub record Figures : Type 0 where
+  pub number : ℕ
+  pub accepted : ℕ
+
+abbrev pub reporter_figures : PassView → Figures
+reporter_figures k = record { number = k.number; accepted = length k.mine }

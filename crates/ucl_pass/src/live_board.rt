@@ -156,7 +156,7 @@ pub trait LiveBoard: Sync {
     /// assert_eq!(rt; CellBoard::number_of(&second).get(), 2);
     /// ```
     fn number_of(pass: &Self::ReporterPass) -> ReporterNo
-        ensures { result ≡ (reporter_figures (reporter pass.now)).0 };
+        ensures { result ≡ (reporter_figures (reporter pass.now)).number };
 
     /// How many events of a reporter's pass were accepted.
     ///
@@ -173,5 +173,5 @@ pub trait LiveBoard: Sync {
     /// assert_eq!(rt; CellBoard::accepted_of(&reporter), 1);
     /// ```
     fn accepted_of(pass: &Self::ReporterPass) -> u16
-        ensures { result ≡ (reporter_figures (reporter pass.now)).1 };
+        ensures { result ≡ (reporter_figures (reporter pass.now)).accepted };
 }

@@ -134,13 +134,13 @@ impl LiveBoard for CellBoard {
     }
 
     fn number_of(pass: &CellReporterPass) -> ReporterNo
-        ensures { result ≡ (reporter_figures (pass_view_of pass.now.view)).0 }
+        ensures { result ≡ (reporter_figures (pass_view_of pass.now.view)).number }
     {
         pass.number
     }
 
     fn accepted_of(pass: &CellReporterPass) -> u16
-        ensures { result ≡ (reporter_figures (pass_view_of pass.now.view)).1 }
+        ensures { result ≡ (reporter_figures (pass_view_of pass.now.view)).accepted }
     {
         pass.accepted
     }

@@ -112,13 +112,13 @@ impl LiveBoard for WordBoard {
     }
 
     fn number_of(pass: &WordReporterPass) -> ReporterNo
-        ensures { result ≡ (reporter_figures (pass_view_of pass.now.view)).0 }
+        ensures { result ≡ (reporter_figures (pass_view_of pass.now.view)).number }
     {
         pass.number
     }
 
     fn accepted_of(pass: &WordReporterPass) -> u16
-        ensures { result ≡ (reporter_figures (pass_view_of pass.now.view)).1 }
+        ensures { result ≡ (reporter_figures (pass_view_of pass.now.view)).accepted }
     {
         pass.accepted
     }
