@@ -3,13 +3,13 @@ use Rattle.std.proofs.Common.{◌≡◌, ◌≢◌, inl, inr, ℕ, zero, suc, �
 use Rattle.std.specs.Result.{is_ok}
 use Rattle.std.proofs.lemmas.Bool.{cases_lt, false≢true}
 use Rattle.std.proofs.lemmas.Option.{none-some, same_Some}
-use Rattle.std.proofs.lemmas.List.{take-append-le, nil_from_length}
+use Rattle.std.proofs.lemmas.List.{nil_from_length}
 use mathlib.Core.List.{IsPrefix}
 use Rattle.ucl_word.specs.declared.event.EventCall.{EventCall}
-use Rattle.ucl_word.proofs.Sequences.{at_longer, at_below}
+use Rattle.ucl_word.proofs.Sequences.{at_below}
 use Rattle.ucl_board.specs.declared.entry.Entry.{Entry}
 use Rattle.ucl_board.specs.History.{Attempt, entry_of, sequential_reply}
-use Rattle.ucl_board.proofs.Beginnings.{at_beginning, at_within, begins_length, take_beginning}
+use Rattle.ucl_board.proofs.Beginnings.{at_beginning, begins_length, take_beginning}
 use Rattle.ucl_pass.specs.Passes.{entries_by}
 use Rattle.ucl_pass.proofs.Lists.{by_more}
 use Rattle.ucl_runs.specs.Nights.{IsRefusedAt, IsEnteredAt, TakesPlace, ComesFirst}

@@ -1,5 +1,5 @@
 -- What a screen shows does not tell by whom the events were entered.
-use Rattle.std.proofs.Common.{◌≡◌, ℕ, zero, suc, ◌+◌, ◌-◌, ◌*◌, ◌==◌, Bool, true, false, cond, not, ◌&&◌, nat_lt, nat_le, if◌then◌else◌, List, [], ◌∷◌, ◌++◌, length, map, filter, take, flat_map, count_by, Option, Some, None, All, ◌⊎◌, ⊎_elim, refl, sym, ap, ◌∙◌, subst, arith}
+use Rattle.std.proofs.Common.{◌≡◌, ℕ, zero, suc, ◌+◌, ◌-◌, ◌==◌, Bool, true, false, cond, if◌then◌else◌, List, [], ◌∷◌, ◌++◌, length, map, filter, take, flat_map, count_by, Option, Some, None, All, ◌⊎◌, ⊎_elim, refl, sym, ap, ◌∙◌, subst, arith}
 use Rattle.std.specs.Prelude.{sum_by, slice_get, option_map}
 use Rattle.std.specs.List.{fold}
 use Rattle.std.specs.Result.{is_ok}
@@ -16,7 +16,7 @@ use Rattle.ucl_word.specs.declared.refusal.Refusal.{Refusal}
 use Rattle.ucl_word.specs.Record.{IsReporter}
 use Rattle.ucl_word.specs.Layout.{word_of, record_at}
 use Rattle.ucl_word.specs.Rules.{refusal_of, answer, reply_of, is_kick_off, is_full_time, is_reopen, is_in_play}
-use Rattle.ucl_word.specs.Counts.{MatchEntry, IsAccepted, IsLegalMatch, count, counted_match, is_goal, is_disallow, is_yellow, is_second_yellow, is_red}
+use Rattle.ucl_word.specs.Counts.{MatchEntry, IsLegalMatch, count, counted_match, is_goal, is_disallow, is_yellow, is_second_yellow, is_red}
 use Rattle.ucl_word.proofs.Words.{record_back}
 use Rattle.ucl_word.proofs.EntryCounts.{legal_valid}
 use Rattle.ucl_board.specs.declared.entry.Entry.{Entry}

@@ -1,12 +1,12 @@
 -- Histories: one entry more, their beginnings, and the words of their boards.
-use Rattle.std.proofs.Common.{◌≡◌, ℕ, ◌+◌, ◌-◌, ◌==◌, ◌&&◌, not, nat_le, ◌<◌, ◌≤◌, Bool, true, cond, List, [], ◌∷◌, ◌++◌, take, drop, length, Some, None, refl, sym, ap, ◌∙◌, subst, arith, length-append, get_or, set, ne_eqb}
+use Rattle.std.proofs.Common.{◌≡◌, ℕ, ◌+◌, ◌-◌, ◌==◌, ◌<◌, ◌≤◌, List, [], ◌∷◌, ◌++◌, take, drop, length, Some, None, refl, sym, ap, ◌∙◌, subst, arith, length-append, get_or, set, ne_eqb}
 use Rattle.std.specs.Prelude.{slice_index, slice_set, replicate}
 use Rattle.std.proofs.lemmas.Bool.{eqb-true, not-false, not_from_false}
 use Rattle.std.proofs.lemmas.List.{take-append-drop, ext_get_or}
 use Rattle.ucl_word.specs.declared.record.MatchRecord.{MatchRecord}
 use Rattle.ucl_word.specs.declared.event.Kind.{Kind}
 use Rattle.ucl_word.specs.declared.refusal.Refusal.TheVariants.{Stale}
-use Rattle.ucl_word.specs.Record.{scheduled, last_in_play}
+use Rattle.ucl_word.specs.Record.{scheduled}
 use Rattle.ucl_word.specs.Rules.{refusal_of, after}
 use Rattle.ucl_word.specs.Counts.{counted_match}
 use Rattle.ucl_word.specs.Layout.{word_of, record_at}

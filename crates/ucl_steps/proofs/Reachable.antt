@@ -6,7 +6,7 @@ use Rattle.std.proofs.lemmas.Option.{none-some, same_Some, slice_get-map, slice_
 use Rattle.std.proofs.lemmas.Bool.{false≢true}
 use Rattle.std.proofs.lemmas.List.{get_or_default, take_more_set, take_all, length-take-le, map-set, length-set}
 use Rattle.ucl_word.specs.declared.event.EventCall.{EventCall}
-use Rattle.ucl_word.specs.Layout.{word_of, record_at, IsWord}
+use Rattle.ucl_word.specs.Layout.{word_of, IsWord}
 use Rattle.ucl_board.specs.Fixtures.{IsMatch}
 use Rattle.ucl_board.specs.Words.{AreWords, word_at, greatest_version}
 use Rattle.ucl_board.specs.History.{match_after, board_of}

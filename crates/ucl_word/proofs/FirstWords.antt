@@ -1,12 +1,12 @@
 -- Words of the first layout: each is read back, no word is of both layouts, and what words are read as.
-use Rattle.std.proofs.Common.{◌≡◌, ℕ, ◌+◌, ◌-◌, ◌*◌, ◌/◌, ◌^◌, ◌<◌, ◌≤◌, refl, sym, ap, ◌∙◌, arith, inl, inr, true, true≢false}
+use Rattle.std.proofs.Common.{◌≡◌, ℕ, ◌^◌, ◌<◌, ◌≤◌, refl, sym, ap, ◌∙◌, arith, inl, inr, true, true≢false}
 use Rattle.std.specs.Prelude.{Result, Ok, Err, IfOk, is_ok}
 use Rattle.ucl_word.specs.declared.refusal.BadWord.{BadWord}
 use Rattle.ucl_word.specs.declared.record.MatchRecord.{MatchRecord}
 use Rattle.ucl_word.specs.declared.record.State.{State}
 use Rattle.ucl_word.specs.declared.record.State.TheVariants.{Scheduled, InPlay, Finished}
 use Rattle.ucl_word.specs.Record.{IsValid}
-use Rattle.ucl_word.specs.Layout.{first_layout, IsMarked, word_in, word_of, state_code, held_at, IsWord}
+use Rattle.ucl_word.specs.Layout.{first_layout, IsMarked, word_of, state_code, held_at, IsWord}
 use Rattle.ucl_word.specs.Migration.{most_in_first, first_word_of, IsFirstValid, IsFirstWord, IsReadable, IsMoved, IsReadAs}
 use Rattle.ucl_word.specs.Laws.{LayoutsDiffer, WordsAreReadOneWay}
 use Rattle.ucl_word.proofs.Words.{Tells, tells, record_told, told_back, told_again, step, code_below, word_high}

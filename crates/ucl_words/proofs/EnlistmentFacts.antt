@@ -1,9 +1,8 @@
 -- What an enlistment and a meeting leave a pass with.
-use Rattle.std.proofs.Common.{◌≡◌, ◌≢◌, ℕ, ◌+◌, ◌<◌, ◌≤◌, ◌∷◌, [], ◌++◌, length, List, None, refl, sym, ap, ◌∙◌, subst, arith, le_refl, append-nil}
-use Rattle.std.specs.Prelude.{Option, Some, IfSome}
+use Rattle.std.proofs.Common.{◌≡◌, ◌≢◌, ℕ, ◌+◌, ◌<◌, ◌≤◌, ◌∷◌, [], length, List, None, refl, sym, ap, ◌∙◌, subst, arith, le_refl, append-nil}
 use Rattle.std.proofs.lemmas.List.Elements.{All-head, All-tail}
 use mathlib.Core.List.{IsPrefix}
-use Rattle.ucl_board.specs.Log.{Access, Enlisted, Taken, step_taken, accesses_in}
+use Rattle.ucl_board.specs.Log.{Access, Enlisted, step_taken, accesses_in}
 use Rattle.ucl_board.proofs.Beginnings.{begins_same, begins_through}
 use Rattle.ucl_steps.specs.Trails.{Follows}
 use Rattle.ucl_pass.specs.declared.view.View.{View}

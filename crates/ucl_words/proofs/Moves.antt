@@ -1,19 +1,16 @@
 -- Each kind of atomic step on the table keeps the rule, and tells its pass what it says.
-use Rattle.std.proofs.Common.{◌≡◌, ◌≢◌, true, nat_eq, ℕ, zero, suc, ◌+◌, ◌-◌, ◌==◌, ◌<◌, ◌≤◌, List, [], ◌∷◌, ◌++◌, length, set, get_or, replicate, refl, sym, ap, ◌∙◌, subst, arith, le_refl}
+use Rattle.std.proofs.Common.{◌≡◌, ℕ, zero, suc, ◌+◌, ◌-◌, ◌==◌, ◌<◌, ◌≤◌, List, [], ◌∷◌, ◌++◌, set, get_or, refl, sym, ap, ◌∙◌, subst, arith}
 use Rattle.std.proofs.lemmas.List.{set-get_or}
-use mathlib.Core.Option.{Option, none, some, some-injective}
+use mathlib.Core.Option.{none, some, some-injective}
 use lib.ListN.{get_elem?}
-use lib.Pointwise.{pointwise, bytes_decides}
 use prog.Atomic.{either}
 use Rattle.atomic_table.specs.Table.{State, Me, Step, step, keeps, stepped, carried_after, Valid, opening, Allows, Splits, Joins}
 use Rattle.atomic_table.proofs.Lists.{exchanged}
-use Rattle.ucl_word.specs.Layout.{word_of}
-use Rattle.ucl_word.specs.Counts.{counted_match}
 use Rattle.ucl_board.specs.declared.entry.Entry.{Entry}
 use Rattle.ucl_board.specs.Fixtures.{IsMatch}
 use Rattle.ucl_board.specs.Words.{word_at}
-use Rattle.ucl_board.specs.History.{match_after, board_of, IsLegal, followed_by}
-use Rattle.ucl_board.specs.Log.{AccessKind, Access, access, Second, Swap, Target, Match, Enlisted, history_of, IsThere}
+use Rattle.ucl_board.specs.History.{board_of, IsLegal, followed_by}
+use Rattle.ucl_board.specs.Log.{AccessKind, Second, Swap, Target, Match, Enlisted, history_of, IsThere}
 use Rattle.ucl_board.proofs.Histories.{word_after}
 use Rattle.ucl_pass.specs.declared.view.View.{View}
 use Rattle.ucl_pass.specs.Views.{newcomer, second_of, note_of, told_by, trail_of}
@@ -21,7 +18,7 @@ use Rattle.ucl_pass.specs.OneHistory.{KeepsOneHistory}
 use Rattle.ucl_pass.proofs.Moves.{looked, look_keeps, look_tells, entered, add_keeps, add_tells, enlisted_as, enlist_keeps, enlist_tells, second_added, note_added, note_joined}
 use Rattle.ucl_pass.proofs.Moves as moves
 use Rattle.ucl_words.specs.WordRule.{words_after, TableKeepsOneHistory}
-use Rattle.ucl_words.specs.WordSteps.{version_shown, ExchangeWon, IsNextWord, EnlistWon, LoadStep, LastLoadStep, EnlistedStep, ExchangeStep, EnlistStep}
+use Rattle.ucl_words.specs.WordSteps.{version_shown, ExchangeWon, IsNextWord, LoadStep, LastLoadStep, EnlistedStep, ExchangeStep, EnlistStep}
 
 abbrev Position : Type 0
 Position = State Entry View

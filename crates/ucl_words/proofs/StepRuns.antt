@@ -1,12 +1,12 @@
 -- Steps on match words, one after another.
-use Rattle.std.proofs.Common.{◌≡◌, ℕ, ◌+◌, List, [], ◌∷◌, ◌++◌, length, map, Option, None, refl, sym, ap, ◌∙◌, subst, arith, le_refl, append_assoc, append-nil, length-append}
+use Rattle.std.proofs.Common.{◌≡◌, ℕ, ◌+◌, List, [], ◌∷◌, ◌++◌, length, map, None, refl, sym, ap, ◌∙◌, subst, arith, le_refl, append_assoc, append-nil, length-append}
 use Rattle.std.proofs.lemmas.List.{map-append}
 use mathlib.Core.List.{IsPrefix}
 use Rattle.ucl_word.specs.Layout.{word_of, IsWord}
 use Rattle.ucl_board.specs.declared.entry.Entry.{Entry}
 use Rattle.ucl_board.specs.Fixtures.{IsMatch}
 use Rattle.ucl_board.specs.History.{match_after, IsLegal}
-use Rattle.ucl_board.specs.Log.{AccessKind, Access, access, Match, Taken, step_taken, accesses_in, IsThere}
+use Rattle.ucl_board.specs.Log.{AccessKind, Access, access, Match, Taken, step_taken, accesses_in}
 use Rattle.ucl_board.proofs.Histories.{match_valid}
 use Rattle.ucl_board.proofs.Logs.{accesses_append}
 use Rattle.ucl_board.proofs.Beginnings.{begins_length, begins_same, begins_through}
@@ -14,7 +14,7 @@ use Rattle.ucl_steps.specs.Trails.{Follows}
 use Rattle.ucl_steps.proofs.Accesses.{follows_longer, follows_wider, follows_append, follows_one}
 use Rattle.ucl_pass.specs.declared.view.View.{View}
 use Rattle.ucl_pass.specs.Passes.{Continues}
-use Rattle.ucl_pass.specs.Views.{pass_view_of, steps_of, count_of, trail_of, Takes}
+use Rattle.ucl_pass.specs.Views.{pass_view_of, count_of, trail_of, Takes}
 use Rattle.ucl_pass.proofs.Calls.{takes_none, takes_on, takes_count}
 use Rattle.ucl_words.specs.WordSteps.{LoadsMatch}
 use Rattle.ucl_words.specs.Collects.{Walks}

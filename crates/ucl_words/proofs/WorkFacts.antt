@@ -1,34 +1,30 @@
 -- A running board as a run of the machine, and calls as the work of their passes.
-use Rattle.std.proofs.Common.{◌≡◌, ◌⊎◌, inl, inr, ⊎_elim, ℕ, zero, suc, ◌+◌, ◌<◌, ◌≤◌, List, [], ◌∷◌, ◌++◌, length, Option, Some, None, Ok, Err, refl, sym, ap, ◌∙◌, subst, arith, append-nil, append_assoc, le_refl}
+use Rattle.std.proofs.Common.{◌≡◌, inl, inr, ℕ, ◌<◌, List, [], ◌∷◌, ◌++◌, length, Option, None, Ok, Err, refl, sym, ap, ◌∙◌, subst, arith, append-nil}
 use Rattle.std.specs.Prelude.{All, IfSome, Result}
 use Rattle.std.specs.List.{AllByRecursion, flat_map}
 use Rattle.std.proofs.lemmas.Grind.{flat_map-append}
 use Rattle.std.proofs.lemmas.List.Elements.{All-append, All-head, All-tail, All-cons, All-nil}
-use mathlib.Core.Option.{some, some-ne-none}
-use lib.ListN.{get_elem?}
 use Rattle.ucl_word.specs.declared.event.EventCall.{EventCall}
 use Rattle.ucl_word.specs.declared.event.Accepted.{Accepted}
 use Rattle.ucl_word.specs.declared.refusal.Refusal.{Refusal}
 use Rattle.ucl_board.specs.declared.entry.Entry.{Entry}
 use Rattle.ucl_board.specs.declared.reading.Reading.{Reading}
-use Rattle.ucl_board.specs.History.{board_of}
 use Rattle.ucl_board.specs.Log.{Access, Match, Enlisted, Taken, history_of, access_list}
 use Rattle.ucl_steps.specs.declared.step.Call.{Call}
 use Rattle.ucl_steps.specs.declared.step.Call.TheVariants as calls
 use Rattle.ucl_steps.specs.declared.trace.Reply.{Reply}
 use Rattle.ucl_steps.specs.declared.trace.Reply.TheVariants as replies
-use Rattle.ucl_steps.specs.Trails.{ReportAccesses, LookRefused, SwapMissed, SwapWon}
+use Rattle.ucl_steps.specs.Trails.{ReportAccesses}
 use Rattle.ucl_steps.specs.CallRuns.{CallAccesses}
 use Rattle.ucl_steps.specs.Interleaving.{place_after}
-use Rattle.ucl_steps.specs.LogRuns.{Finished, Begun, Work, Done, done_list, on_matches, entry_made, with_entry, done_by_call, done_so_far, MayAsk, IsFinished, IsBegun, IsWork, IsRunOfLog}
+use Rattle.ucl_steps.specs.LogRuns.{Finished, Begun, Work, Done, done_list, on_matches, entry_made, with_entry, done_by_call, done_so_far, MayAsk, IsFinished, IsWork, IsRunOfLog}
 use Rattle.ucl_steps.proofs.LogRuns.{logs_run}
 use Rattle.ucl_pass.specs.declared.view.View.{View}
 use Rattle.ucl_pass.specs.CallSteps.{IsOnEnlisted}
 use Rattle.ucl_pass.proofs.LogFacts.{view_at}
-use Rattle.ucl_words.specs.WordRule.{TableKeepsOneHistory}
 use Rattle.ucl_words.specs.WordMachine.{report_reply}
 use Rattle.ucl_words.specs.WordCalls.{steps_with, ReportSteps, ReadingSteps, KeepsTrail}
-use Rattle.ucl_words.specs.Laws.{HaveDone, IsRunOfBoard, BoardsAreRuns, AddsCall, CallsAddWork}
+use Rattle.ucl_words.specs.Laws.{BoardsAreRuns, AddsCall, CallsAddWork}
 
 pub boards_run : BoardsAreRuns
 boards_run s r works done =

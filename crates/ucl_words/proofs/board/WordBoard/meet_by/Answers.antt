@@ -1,4 +1,4 @@
-use Rattle.std.proofs.Common.{rules, ap, sym, ◌∙◌, subst, arith}
+use Rattle.std.proofs.Common.{rules, ap, sym, subst, arith}
 use Rattle.atomic_table.specs.Table.{Joins}
 use Rattle.ucl_pass.specs.declared.view.View.{View}
 use Rattle.ucl_pass.specs.Views.{newcomer, told_by}
