@@ -1,5 +1,5 @@
 -- Histories: which are legal, the board after one, and the reply of the board of one thread.
-use Rattle.std.specs.Prelude.{ℕ, ◌-◌, ◌==◌, List, [], ◌∷◌, ◌++◌, map, filter, take, slice_set, if◌then◌else◌, Result}
+use Rattle.std.specs.Prelude.{◌≡◌, ℕ, ◌-◌, ◌==◌, List, [], ◌∷◌, ◌++◌, map, filter, take, slice_set, if◌then◌else◌, Result}
 use Rattle.std.specs.List.{fold}
 use Rattle.std.specs.Result.{is_ok}
 use Rattle.ucl_word.specs.declared.record.MatchRecord.{MatchRecord}
@@ -44,6 +44,10 @@ IsLegal history = EachMay MayFollow history
 -- one entry more
 abbrev pub followed_by : List Entry → Entry → List Entry
 followed_by history e = history ++ e ∷ []
+
+-- where the words are those of a legal history, the next are those of the history with this entry, which is legal
+abbrev pub GainsEntry : List ℕ → Entry → List ℕ → Type 0
+GainsEntry words e next = (history : List Entry) → IsLegal history → board_of history ≡ words → (next ≡ board_of (followed_by history e)) × IsLegal (followed_by history e)
 
 -- what the board of one thread replies after a history
 abbrev pub sequential_reply : List Entry → EventCall → Result Accepted Refusal

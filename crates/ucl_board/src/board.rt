@@ -5,7 +5,7 @@ ghost use Rattle.ucl_word.specs.Record.{IsValid};
 ghost use Rattle.ucl_word.specs.Rules.{reply_of};
 ghost use Rattle.ucl_board.specs.declared.entry.Entry.{Entry};
 ghost use Rattle.ucl_board.specs.Words.{AreWords, AreReadable, AreReadAs, IsFirstBad, game_at, greatest_version, version_of};
-ghost use Rattle.ucl_board.specs.History.{IsLegal, board_of, board_after, sequential_reply, followed_by, entry_of};
+ghost use Rattle.ucl_board.specs.History.{GainsEntry, IsLegal, board_of, board_after, sequential_reply, entry_of};
 
 use std::marker::Model;
 use thiserror::Error;
@@ -120,7 +120,7 @@ impl Board {
         ensures unchanged { IfErr result (λ r. self.new ≡ self.old) }
         ensures board { self.new ≡ board_after self.old (reporter, call.now) }
         ensures sequential { (history : List Entry) → IsLegal history → board_of history ≡ self.old → result ≡ sequential_reply history call.now }
-        ensures counted { (history : List Entry) → IsLegal history → board_of history ≡ self.old → let next = followed_by history (entry_of (reporter, call.now)) in IfOk result (λ a. (self.new ≡ board_of next) × IsLegal next) }
+        ensures counted { IfOk result (λ _. GainsEntry self.old (entry_of (reporter, call.now)) self.new) }
     {
         let at = usize::from(call.game.get() - 1);
         match next_word(self.words[at], reporter, call.expected, call.kind) {

@@ -1,6 +1,6 @@
 //! The clubs of a group, by their slots.
 
-ghost use Rattle.std.specs.Prelude.{◌≡◌, ◌≤◌, None, Some, true, false, IfOk, IfErr, IfSome, IfNone, length, map};
+ghost use Rattle.std.specs.Prelude.{◌≡◌, ◌≤◌, None, Some, true, false, IfOk, IfErr, length, map};
 ghost use Rattle.std.specs.List.{list_all};
 ghost use Rattle.ucl_board.specs.Fixtures.{IsSlot};
 ghost use Rattle.ucl_order.specs.Roster.{club_seen, is_printed, is_name, is_club, IsClub, bad_slot, name_of, coefficient_of};

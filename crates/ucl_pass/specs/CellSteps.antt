@@ -1,5 +1,5 @@
 -- What each kind of step on the cell tells its pass: v before and w after, x the words found and y the words left.
-use Rattle.std.specs.Prelude.{◌≡◌, ◌≢◌, ◌⊎◌, ℕ, ◌+◌, ◌≤◌, List, [], ◌∷◌, ◌++◌, length, slice_index, slice_set}
+use Rattle.std.specs.Prelude.{◌≡◌, ◌≢◌, ◌⊎◌, ℕ, ◌+◌, ◌≤◌, List, [], ◌∷◌, ◌++◌, length, slice_index, slice_set, Result, MatchResult}
 use Rattle.ucl_word.specs.declared.event.Kind.TheVariants.{KickOff}
 use Rattle.ucl_board.specs.declared.entry.Entry.{Entry}
 use Rattle.ucl_board.specs.Words.{word_at}
@@ -66,6 +66,18 @@ LooksAndShows v x y w = Looks Whole v (v.shown ++ length w.seen ∷ []) y w
 -- an exchange for an event: the words stay, or they gain its entry
 abbrev pub AddsOrLooks : Entry → View → List ℕ → List ℕ → View → Type 0
 AddsOrLooks e v x y w = ((x ≡ y) × LooksOnly (word_looked_at Swap e.game x) v x y w) ⊎ ((x ≢ y) × StoresEntry e v x y w)
+
+-- what an exchange for an event answers: the words that were given, and it stored the next ones; or others, and it stored nothing
+abbrev pub ExchangesEntry : Entry → View → List ℕ → List ℕ → Result (List ℕ) (List ℕ) → View → Type 0
+ExchangesEntry e v current next answer w = MatchResult answer
+    (λ found. (found ≡ current) × StoresEntry e v current next w)
+    (λ found. LooksOnly (word_looked_at Swap e.game found) v found found w)
+
+-- the same of an exchange for an enlistment
+abbrev pub ExchangesReporter : View → List ℕ → List ℕ → Result (List ℕ) (List ℕ) → View → Type 0
+ExchangesReporter v current next answer w = MatchResult answer
+    (λ found. (found ≡ current) × StoresReporter v next w)
+    (λ found. LooksAtEnlisted v found found w)
 
 -- an exchange for an enlistment: the words stay, or they gain a reporter
 abbrev pub EnlistsOrLooks : View → List ℕ → List ℕ → View → Type 0

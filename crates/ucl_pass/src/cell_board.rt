@@ -1,16 +1,16 @@
 //! The board in one cell, and its calls by a seat.
 
-ghost use Rattle.std.specs.Prelude.{◌≡◌, ◌+◌, ◌<◌, ◌≤◌, ◌++◌, ◌∷◌, [], take, length, slice_index, IfOk, IfErr, IfSome, IfNone, MatchResult};
+ghost use Rattle.std.specs.Prelude.{◌≡◌, ◌+◌, ◌<◌, ◌++◌, ◌∷◌, [], take, length, slice_index, IfOk, IfErr, IfSome, IfNone};
 ghost use Rattle.atomic_table.specs.Seated.{TableId};
 ghost use Rattle.crossbeam_utils.specs.Seq.{cell_view};
 ghost use Rattle.ucl_board.specs.Fixtures.{IsMatch};
-ghost use Rattle.ucl_board.specs.Words.{AreWords, word_at};
-ghost use Rattle.ucl_board.specs.Log.{Look, Swap, Enlisted};
+ghost use Rattle.ucl_board.specs.Words.{AreWords};
+ghost use Rattle.ucl_board.specs.Log.{};
 ghost use Rattle.ucl_pass.specs.Passes.{Continues, AcceptedReport, RefusedReport, SharedReading, Enlistment, FullBoard, Meeting, opening_pass};
-ghost use Rattle.ucl_pass.specs.Views.{pass_view_of, count_of, second_of, note_of};
+ghost use Rattle.ucl_pass.specs.Views.{pass_view_of, count_of, second_of};
 ghost use Rattle.ucl_pass.specs.OneHistory.{BoardsOpenFresh};
 ghost use Rattle.ucl_pass.specs.CellRule.{words_after, IsUpToDate};
-ghost use Rattle.ucl_pass.specs.CellSteps.{IsNextBoard, with_one_more, word_looked_at, LooksOnly, LooksAtMatch, LooksAtEnlisted, LooksAndShows, StoresEntry, StoresReporter};
+ghost use Rattle.ucl_pass.specs.CellSteps.{ExchangesEntry, ExchangesReporter, IsNextBoard, with_one_more, LooksAtMatch, LooksAtEnlisted, LooksAndShows};
 ghost use Rattle.ucl_pass.specs.CallSteps.{EnlistSteps, MeetingSteps, CellReport, CellReading};
 
 use crate::passes::CellReaderPass;
@@ -130,7 +130,7 @@ impl CellBoard {
         requires game { IsMatch K.entry.game }
         requires next { IsNextBoard K.entry current next }
         ensures own { seat.new.table_id ≡ seat.old.table_id }
-        ensures stored { MatchResult result (λ found. (found ≡ current) × StoresEntry K.entry (cell_view seat.old) current next (cell_view seat.new)) (λ found. LooksOnly (word_looked_at Swap K.entry.game found) (cell_view seat.old) found found (cell_view seat.new)) }
+        ensures stored { ExchangesEntry K.entry (cell_view seat.old) current next result (cell_view seat.new) }
     {
         self.cell
             .compare_exchange_as::<Adds<K>, R>(rt, seat, current, next)
@@ -149,7 +149,7 @@ impl CellBoard {
         requires room { slice_index current 12 < 255 }
         requires reader { (cell_view seat.old).number ≡ 0 }
         ensures own { seat.new.table_id ≡ seat.old.table_id }
-        ensures stored { MatchResult result (λ found. (found ≡ current) × StoresReporter (cell_view seat.old) next (cell_view seat.new)) (λ found. LooksAtEnlisted (cell_view seat.old) found found (cell_view seat.new)) }
+        ensures stored { ExchangesReporter (cell_view seat.old) current next result (cell_view seat.new) }
     {
         self.cell
             .compare_exchange_as::<Enlists, R>(rt, seat, current, next)

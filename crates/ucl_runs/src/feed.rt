@@ -4,7 +4,7 @@ ghost use Rattle.std.specs.Prelude.{◌≡◌, ◌≤◌, ◌+◌, ◌++◌, Lis
 ghost use Rattle.std.specs.Io.KnownBytes.{Appends};
 ghost use Rattle.ucl_board.specs.declared.entry.Entry.{Entry};
 ghost use Rattle.ucl_board.specs.Words.{greatest_version};
-ghost use Rattle.ucl_board.specs.History.{IsLegal, after_attempt, accepted_of, board_of};
+ghost use Rattle.ucl_board.specs.History.{after_attempt, accepted_of, board_of};
 ghost use Rattle.ucl_screen.specs.Input.{Reads};
 ghost use Rattle.ucl_screen.specs.Parsing.{MeansNight, night_seen};
 ghost use Rattle.ucl_runs.specs.Faults.{IsOfOneThread};

@@ -1,6 +1,6 @@
 //! Single lines of the screen.
 
-ghost use Rattle.std.specs.Prelude.{◌≡◌, ◌++◌, ◌≤◌, length, replicate, OnOk, string_bytes, decimal};
+ghost use Rattle.std.specs.Prelude.{◌≡◌, ◌++◌, ◌≤◌, replicate, OnOk, string_bytes, decimal};
 ghost use Rattle.ucl_screen.specs.Lines.{header, place_line, mark_text, left, right, zeros_before, difference_text};
 
 use itoa::Buffer;

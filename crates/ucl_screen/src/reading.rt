@@ -4,7 +4,7 @@ ghost use Rattle.std.specs.Prelude.{◌≡◌, ◌+◌, ◌≤◌, length, Some,
 ghost use Rattle.csv.specs.Records.{fields_of};
 ghost use Rattle.ucl_order.specs.Roster.{club_seen};
 ghost use Rattle.ucl_screen.specs.Input.{Reads};
-ghost use Rattle.ucl_screen.specs.Rows.{Fields, IsReading, four_seen, rows_left, rows_of};
+ghost use Rattle.ucl_screen.specs.Rows.{IsReading, four_seen, rows_left, rows_of};
 ghost use Rattle.ucl_screen.specs.Events.{event_of};
 ghost use Rattle.ucl_screen.specs.Script.{said_by, club_of, club_at, roster_at, events_from, word_of_row, words_from, night_of_rows, sheet_of_rows};
 ghost use Rattle.ucl_screen.specs.Parsing.{Gives, MeansNight, MeansSheet, night_seen, sheet_seen};

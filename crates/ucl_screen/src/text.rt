@@ -1,6 +1,6 @@
 //! The screen of a board.
 
-ghost use Rattle.std.specs.Prelude.{◌≡◌, ◌≤◌, ◌↔◌, ◌++◌, IsTrue, IfOk, OnOk, true, All, flat_map, string_bytes};
+ghost use Rattle.std.specs.Prelude.{◌≡◌, ◌↔◌, ◌++◌, IsTrue, IfOk, OnOk, true, All, flat_map, string_bytes};
 ghost use Rattle.ucl_order.specs.Roster.{is_name};
 ghost use Rattle.ucl_order.specs.Rows.{IsWithinTable};
 ghost use Rattle.ucl_screen.specs.Screen.{IsGroup, in_play, row_line, screen_text};

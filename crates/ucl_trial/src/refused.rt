@@ -1,6 +1,5 @@
 //! Calls that may find no memory, each made twice.
 
-ghost use Rattle.std.specs.Prelude.{◌≡◌};
 
 use crate::marks::{begins, ends};
 use crate::room::{Filling, Room};

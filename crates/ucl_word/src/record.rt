@@ -1,6 +1,6 @@
 //! What is known of one match.
 
-ghost use Rattle.std.specs.Prelude.{◌↔◌, ◌≡◌, IsTrue, ◌≤◌};
+ghost use Rattle.std.specs.Prelude.{◌↔◌, IsTrue};
 ghost use Rattle.ucl_word.specs.Record.{IsValid, IsWithinLimits, SuitsState};
 
 /// The most goals of a side.

@@ -1,6 +1,6 @@
 //! A match as one word.
 
-ghost use Rattle.std.specs.Prelude.{◌≡◌, ◌*◌, ◌+◌, ◌^◌, ◌<◌, ◌≤◌, ◌/◌, ◌%◌, ◌↔◌, IsTrue, Ok, IfOk, IfErr};
+ghost use Rattle.std.specs.Prelude.{◌≡◌, ◌*◌, ◌+◌, ◌^◌, ◌<◌, ◌≤◌, ◌/◌, ◌↔◌, IsTrue, Ok, IfOk, IfErr};
 ghost use Rattle.ucl_word.specs.declared.record.MatchRecord.{MatchRecord};
 ghost use Rattle.ucl_word.specs.Record.{last_number, IsValid};
 ghost use Rattle.ucl_word.specs.Layout.{layout, word_of, record_at, state_code, bits_at, IsMarked, IsWord};

@@ -1,6 +1,5 @@
 //! Nights: merges that are settled, gates that only threads get through, and what goes out.
 
-ghost use Rattle.std.specs.Prelude.{◌≡◌};
 
 use super::devices::{Full, Out};
 use super::{CLUBS, HEAD_TO_HEAD_SCREEN, head_to_head_script, joined};
