@@ -1,6 +1,5 @@
 //! Calls that may find no memory, each made twice.
 
-
 use crate::marks::{begins, ends};
 use crate::room::{Filling, Room};
 use anyhow::Context;

@@ -1,6 +1,5 @@
 //! Random nights on both boards, of two reporters and a reader in threads of their own. Each answer is compared with the board of one thread.
 
-
 use crate::random::Random;
 use anyhow::Context;
 use std::alloc::{AllocError, Global};

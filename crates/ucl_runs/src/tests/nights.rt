@@ -1,6 +1,5 @@
 //! Nights: merges that are settled, gates that only threads get through, and what goes out.
 
-
 use super::devices::{Full, Out};
 use super::{CLUBS, HEAD_TO_HEAD_SCREEN, head_to_head_script, joined};
 use crate::{Gate, NightEnd, OpenGate, RunFault, night_run, put_night};
