@@ -39,9 +39,9 @@ pub trait Opens: LiveBoard + Send + Drop + 'static {
 impl Opens for WordBoard {
     ghost board_id = { λ board. board };
 
-    ghost reader_id = { λ pass. pass.0 };
+    ghost reader_id = { λ pass. pass.board };
 
-    ghost reporter_id = { λ pass. pass.0 };
+    ghost reporter_id = { λ pass. pass.board };
 
     ghost reads = { λ board pass same. same };
 
@@ -59,9 +59,9 @@ impl Opens for WordBoard {
 impl Opens for CellBoard {
     ghost board_id = { λ board. board };
 
-    ghost reader_id = { λ pass. pass.0 };
+    ghost reader_id = { λ pass. pass.board };
 
-    ghost reporter_id = { λ pass. pass.0 };
+    ghost reporter_id = { λ pass. pass.board };
 
     ghost reads = { λ board pass same. same };
 

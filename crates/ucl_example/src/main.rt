@@ -31,7 +31,7 @@ fn clubs(alloc: Global) -> anyhow::Result<Roster> {
 
 /// Kicks a match off and enters a goal of the home side. A report names the event number that was last seen of the match.
 fn enter(board: &WordBoard, mut pass: WordReporterPass, game: MatchNo)
-    requires { pass.0 ≡ board.now }
+    requires { pass.board ≡ board.now }
 {
     let kick_off = EventCall {
         game,
@@ -62,10 +62,10 @@ fn main(rt: HostRuntime) -> anyhow::Result<()> {
     thread::join(
         &rt,
         ||
-            requires { first.0 ≡ board }
+            requires { first.board ≡ board }
         { enter(&board, first, one) },
         ||
-            requires { second.0 ≡ board }
+            requires { second.board ≡ board }
         { enter(&board, second, two) },
     );
     let reading = board.read_now(&mut stadium);

@@ -13,9 +13,9 @@ abbrev pub refused_line : ℕ → Refusal → List ℕ
 refused_line row refusal = decimal row ++ codes " refused " ++ refusal_text refusal ++ codes "\n"
 
 -- a number in sixteen hexadecimal digits of lower case, with leading zeros: what `{:016x}` writes
-abbrev pub hex_word : ℕ → List ℕ
-hex_word word = padded_integral (format_spec 32 0 4 16 (2 ^ 64 - 1)) false [] (digits 16 false word)
+abbrev pub hex_digits : ℕ → List ℕ
+hex_digits word = padded_integral (format_spec 32 0 4 16 (2 ^ 64 - 1)) false [] (digits 16 false word)
 
 -- word,INDEX,HEX,
 abbrev pub word_line : ℕ → ℕ → List ℕ
-word_line index word = codes "word," ++ decimal index ++ codes "," ++ hex_word word ++ codes ",\n"
+word_line index word = codes "word," ++ decimal index ++ codes "," ++ hex_digits word ++ codes ",\n"

@@ -16,7 +16,7 @@ fn one_kick_off_by_two(
     board: &WordBoard,
     reader: &mut WordReaderPass,
 ) -> Option<([Result<Accepted, Refusal>; 2], Reading, Reading)>
-    requires { reader.old.0 ≡ board.now }
+    requires { reader.old.board ≡ board.now }
 {
     let pass = board.split_now(reader);
     let mut first = board.enlist_now(pass).ok()?;
