@@ -47,7 +47,8 @@ followed_by history e = history ++ e ∷ []
 
 -- where the words are those of a legal history, the next are those of the history with this entry, which is legal
 abbrev pub GainsEntry : List ℕ → Entry → List ℕ → Type 0
-GainsEntry words e next = (history : List Entry) → IsLegal history → board_of history ≡ words → (next ≡ board_of (followed_by history e)) × IsLegal (followed_by history e)
+GainsEntry words e next = (history : List Entry) → IsLegal history → board_of history ≡ words
+    → (next ≡ board_of (followed_by history e)) × IsLegal (followed_by history e)
 
 -- what the board of one thread replies after a history
 abbrev pub sequential_reply : List Entry → EventCall → Result Accepted Refusal

@@ -5,7 +5,6 @@ ghost use Rattle.atomic_table.specs.Seated.{TableId};
 ghost use Rattle.crossbeam_utils.specs.Seq.{cell_view};
 ghost use Rattle.ucl_board.specs.Fixtures.{IsMatch};
 ghost use Rattle.ucl_board.specs.Words.{AreWords};
-ghost use Rattle.ucl_board.specs.Log.{};
 ghost use Rattle.ucl_pass.specs.Passes.{Continues, AcceptedReport, RefusedReport, SharedReading, Enlistment, FullBoard, Meeting, opening_pass};
 ghost use Rattle.ucl_pass.specs.Views.{pass_view_of, count_of, second_of};
 ghost use Rattle.ucl_pass.specs.OneHistory.{BoardsOpenFresh};
