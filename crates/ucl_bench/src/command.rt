@@ -216,6 +216,3 @@ pub fn run<R: Print + Files + AllocGlobal + Threads + Wait + Clock + Copy + Send
         _ => anyhow::bail!("{USAGE}"),
     }
 }
-
-#[cfg(test)]
-mod tests;

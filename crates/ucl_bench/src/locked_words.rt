@@ -1,10 +1,10 @@
 //! A reference: twelve match words under a lock.
 
-use crate::layout::{SCHEDULED, number_of};
 use crate::plain_words::{PlainReading, next_word, version_of};
 use crate::subject::Subject;
 use std::alloc::Global;
 use std::sync::{Arc, Mutex, Wait};
+use ucl_tally::layout::{SCHEDULED, number_of};
 use ucl_word::{Accepted, EventCall, OutOfMemory, Refusal};
 
 /// The lock with the words.

@@ -5,8 +5,6 @@
 
 mod clock;
 mod command;
-mod events;
-mod layout;
 mod live_subject;
 mod locked_words;
 mod nights;
@@ -16,7 +14,6 @@ mod plain_words;
 mod starts;
 mod subject;
 mod tables;
-mod tally;
 
 use std::env;
 

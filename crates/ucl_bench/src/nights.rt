@@ -2,9 +2,7 @@
 //! clock, of which the rates are told, and nights in which each reading is timed and checked take turns.
 
 use crate::clock::{FineQuotient, Quotient, nanos, nanos_since};
-use crate::events::{ALL_EVENTS, MATCHES, event_at, is_of};
 use crate::subject::{Subject, read_once, report_once};
-use crate::tally::{Cut, Order, Tally, is_whole};
 use anyhow::{Context, Result};
 use crossbeam_channel::{Receiver, Sender, unbounded};
 use std::alloc::Global;
@@ -13,6 +11,8 @@ use std::sync::{Arc, Wait};
 use std::thread::{JoinHandle, Threads};
 use std::time::{Clock, Duration};
 use std::{fmt, thread};
+use ucl_tally::events::{ALL_EVENTS, MATCHES, event_at, is_of};
+use ucl_tally::tally::{Cut, Order, Tally, is_whole};
 use ucl_word::MatchNo;
 
 /// How far apart the events of a paced reporter are.

@@ -1,13 +1,13 @@
 //! Readings and reports by one thread, on a board that no other thread uses.
 
 use crate::clock::{Quotient, nanos, nanos_since};
-use crate::events::{ALL_EVENTS, MATCHES, event_at};
 use crate::subject::{Subject, read_once, report_once};
 use anyhow::{Context, Result};
 use std::alloc::Global;
 use std::fmt;
 use std::sync::Wait;
 use std::time::Clock;
+use ucl_tally::events::{ALL_EVENTS, MATCHES, event_at};
 use ucl_word::{EventCall, MatchNo};
 
 /// How many calls are timed as one.

@@ -1,15 +1,15 @@
 //! A reference: twelve match words as plain atomics, read by a double collect and reported to by a compare and exchange, with no proof.
 
-use crate::layout::{
-    AWAY_EXPULSIONS_LOW, AWAY_GOALS_LOW, AWAY_YELLOWS_LOW, EXPULSIONS, GOALS, HOME_EXPULSIONS_LOW,
-    HOME_GOALS_LOW, HOME_YELLOWS_LOW, LAST_NUMBER_IN_PLAY, NUMBER, REPORTER, REPORTER_LOW,
-    SCHEDULED, STATE, STATE_LOW, YELLOWS, number_of,
-};
 use crate::subject::Subject;
 use std::alloc::Global;
 use std::hint::spin_loop;
 use std::sync::atomic::{AtomicU64, Ordering};
 use std::sync::{Arc, Wait};
+use ucl_tally::layout::{
+    AWAY_EXPULSIONS_LOW, AWAY_GOALS_LOW, AWAY_YELLOWS_LOW, EXPULSIONS, GOALS, HOME_EXPULSIONS_LOW,
+    HOME_GOALS_LOW, HOME_YELLOWS_LOW, LAST_NUMBER_IN_PLAY, NUMBER, REPORTER, REPORTER_LOW,
+    SCHEDULED, STATE, STATE_LOW, YELLOWS, number_of,
+};
 use ucl_word::{Accepted, EventCall, Kind, OutOfMemory, Refusal, Side};
 
 const IN_PLAY: u64 = 1 << STATE_LOW;

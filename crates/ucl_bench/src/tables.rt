@@ -243,6 +243,3 @@ pub fn print_screens<T: Table, R: Print>(rt: &R, alloc: Global, boards: &[Board]
     }
     Ok(())
 }
-
-#[cfg(test)]
-mod tests;

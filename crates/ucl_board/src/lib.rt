@@ -16,6 +16,3 @@ pub use laws::{
     versions_are_lengths,
 };
 pub use reading::Reading;
-
-#[cfg(test)]
-mod tests;

@@ -4,19 +4,13 @@
 //! and writes their last screens and the closing one.
 #![tactic(auto)]
 
-mod command_line;
-mod laws;
-mod program;
-mod refusal;
-mod texts;
-
-pub use command_line::{Line, LineFault, line_of};
-pub use laws::{words_that_are_refused, words_that_are_taken};
-pub use program::{obey, run};
-use refusal::tell_refusal;
 use std::env;
 use std::io::ErrorKind;
 use std::process::ExitCode;
+use ucl_command::tell_refusal;
+pub use ucl_command::{
+    Line, LineFault, line_of, obey, run, words_that_are_refused, words_that_are_taken,
+};
 use ucl_runs::tell;
 pub use ucl_runs::{
     Gate, NightEnd, OpenGate, RunFault, every_run_has_one_history, feed_run, night_run, put_night,
@@ -49,6 +43,3 @@ fn main(rt: HostRuntime) -> ExitCode {
     };
     ExitCode::from(status)
 }
-
-#[cfg(test)]
-mod tests;

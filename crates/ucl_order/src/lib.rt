@@ -21,6 +21,3 @@ pub use mark::Mark;
 pub use profile::Profile;
 pub use roster::{BadRoster, Club, Roster};
 pub use table::{Row, standings};
-
-#[cfg(test)]
-mod tests;

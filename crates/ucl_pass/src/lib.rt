@@ -18,6 +18,3 @@ pub use live_board::LiveBoard;
 pub use passes::{CellReaderPass, CellReporterPass};
 pub use settling::settle;
 pub use view::View;
-
-#[cfg(test)]
-mod tests;

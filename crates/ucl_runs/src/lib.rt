@@ -23,6 +23,3 @@ pub use night::{NightEnd, night_run, put_night};
 pub use output::put_text;
 pub use show::show_run;
 pub use telling::tell;
-
-#[cfg(test)]
-mod tests;

@@ -24,6 +24,3 @@ pub use sheet::Sheet;
 pub use stream::{Sink, Source};
 pub use text::{is_group, screen};
 pub use transfer::give_all;
-
-#[cfg(test)]
-mod tests;

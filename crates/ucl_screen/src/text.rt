@@ -79,6 +79,3 @@ pub fn screen(
     push_rows(&mut text, &rows, roster)?;
     Ok(text)
 }
-
-#[cfg(test)]
-mod tests;

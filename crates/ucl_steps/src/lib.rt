@@ -17,6 +17,3 @@ pub use laws::{
 pub use run::run_steps;
 pub use step::{Call, Caller, Cast, Step};
 pub use trace::{CallRecord, Reply, StepFault, Trace};
-
-#[cfg(test)]
-mod tests;

@@ -25,6 +25,3 @@ pub use refusal::{BadWord, OutOfMemory, Refusal};
 pub use reporter_no::ReporterNo;
 pub use rules::{apply, next_word};
 pub use word::{number_of, pack, record_of, unpack};
-
-#[cfg(test)]
-mod tests;

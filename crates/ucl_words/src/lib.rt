@@ -11,6 +11,3 @@ mod rule;
 pub use board::WordBoard;
 pub use laws::{boards_are_runs, calls_add_work, words_tell_the_entry};
 pub use passes::{WordReaderPass, WordReporterPass};
-
-#[cfg(test)]
-mod tests;

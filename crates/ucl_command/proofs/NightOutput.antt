@@ -1,0 +1,87 @@
+-- What a night, and a line, does with its streams, from what its calls answer.
+use Rattle.std.proofs.Common.{◌≡◌, ◌≢◌, ℕ, Bool, false, List, [], ◌∷◌, length, Option, Some, None, All, refl, ap, ◌∙◌, arith, length-append}
+use Rattle.std.specs.Prelude.{⊤, IfSome, IfErr, OnOk, Result, Ok, Err, take}
+use Rattle.std.specs.Io.KnownBytes.{Appends}
+use Rattle.ucl_board.specs.declared.entry.Entry.{Entry}
+use Rattle.ucl_board.specs.declared.reading.Reading.{Reading}
+use Rattle.ucl_board.specs.History.{board_of, snapshot_at}
+use Rattle.ucl_order.specs.declared.profile.Profile.{Profile}
+use Rattle.ucl_order.specs.Roster.{NamedClub}
+use Rattle.ucl_screen.specs.Script.{Script}
+use Rattle.ucl_screen.specs.Parsing.{MeansNight}
+use Rattle.ucl_screen.specs.Screen.{screen_text}
+use Rattle.ucl_pass.specs.Passes.{PassView}
+use Rattle.ucl_command.specs.declared.command_line.Line.TheVariants.{Night}
+use Rattle.ucl_runs.specs.declared.fault.RunFault.{RunFault}
+use Rattle.ucl_runs.specs.declared.fault.RunFault.TheVariants.{Input, OutOfMemory, WriteFailed, NotOnDuty, NoThread, TooManyReporters, Strangers}
+use Rattle.ucl_runs.specs.Nights.{EachMatchHasOneReporter, HasShown, IsLastScreen, IsMerge, IsOnDuty, night_text, number_of_two}
+use Rattle.ucl_command.specs.Program.{HasLooked, IsPlayed, Obeys, streams}
+use Rattle.ucl_runs.specs.Run.{IsStopped, StoppedShort, TextHas}
+use Rattle.ucl_runs.proofs.Unsigned.{screen_of_script}
+
+-- The output of a night. --
+
+pub looked : (profile : Profile) (k m : PassView) (readings : ℕ) (roster : List NamedClub) (group : ℕ) (last : Option (List ℕ)) → HasShown profile k m readings roster group last → HasLooked profile readings roster group last
+looked profile k m readings roster group last h = record { seen = m.seen; versions = m.shown; legal = h.legal; many = h.many; high = h.high; last_is = h.last_is }
+
+pub closing-of : (profile : Profile) (settled : Reading) (seen : List Entry) (roster : List NamedClub) (group : ℕ) (closing : List ℕ) → settled ≡ snapshot_at seen settled.version
+    → closing ≡ screen_text profile settled.board roster group → closing ≡ screen_text profile (board_of (take settled.version seen)) roster group
+closing-of profile settled seen roster group closing is text = text ∙ ap (λ (r : Reading). screen_text profile r.board roster group) is
+
+-- a reader who took no reading has no last screen
+none_shown : (profile : Profile) (seen : List Entry) (versions : List ℕ) (roster : List NamedClub) (group : ℕ) (last : Option (List ℕ)) → length versions ≡ 0 → IsLastScreen profile seen versions roster group last → last ≡ None
+none_shown profile seen versions roster group None none is = refl
+none_shown profile seen versions roster group (Some text) none is =
+    let many = length-append is.before (is.version ∷ []) in
+    let all = ap length is.last in
+    absurd (omega arith)
+
+unlooked : (profile : Profile) (readings : ℕ) (roster : List NamedClub) (group : ℕ) (last : Option (List ℕ)) → HasLooked profile readings roster group last → readings ≡ 0 → last ≡ None
+unlooked profile readings roster group last looks none = none_shown profile looks.seen looks.versions roster group last (looks.many ∙ none) looks.last_is
+
+pub played : (profile : Profile) (known : Option (List ℕ)) (night : Script) (group readings first second : ℕ) (history : List Entry) (left right : Option (List ℕ)) (closing : List ℕ)
+    → IfSome known (λ bytes. MeansNight bytes (Ok night)) → All IsOnDuty night.events → first ≢ second → IsMerge (number_of_two first second) night.events history
+    → HasLooked profile readings night.clubs group left → HasLooked profile readings night.clubs group right → closing ≡ screen_text profile (board_of history) night.clubs group
+    → IfSome known (λ bytes. IsPlayed profile group readings bytes (night_text left right closing))
+played profile None night group readings first second history left right closing means duty apart merge one two is = tt
+played profile (Some bytes) night group readings first second history left right closing means duty apart merge one two is =
+    let screen = λ (alone : EachMatchHasOneReporter night.events). screen_of_script first second night.events history merge alone duty profile night.clubs group in
+    record {
+      night = night;
+      means = means;
+      first = first;
+      second = second;
+      apart = apart;
+      history = history;
+      merge = merge;
+      left = left;
+      right = right;
+      left_is = one;
+      right_is = two;
+      text_is = ap (night_text left right) is;
+      closing = screen;
+      unwatched = λ alone none.
+          ap (λ (l : Option (List ℕ)). night_text l right closing) (unlooked profile readings night.clubs group left one none)
+          ∙ (ap (λ (r : Option (List ℕ)). night_text None r closing) (unlooked profile readings night.clubs group right two none)
+          ∙ ap (night_text None None) (is ∙ screen alone));
+    }
+
+-- How a night ends. --
+
+module _ (profile : Profile) (group readings : ℕ) (old new taken : Option (List ℕ)) (reads_before writes_before : Bool) where
+  has_text : (known : Option (List ℕ)) (text : List ℕ) (Q : List ℕ → Type 0) → IfSome known (λ bytes. IsPlayed profile group readings bytes text) → Q text → TextHas (IsPlayed profile group readings) known Q
+  has_text None text Q is h = tt
+  has_text (Some bytes) text Q is h = (text, is, h)
+
+  -- the output was written, or stopped within
+  pub put : (text : List ℕ) (failed write_failed : Bool) (after : Option (List ℕ)) (r : Result ⊤ RunFault) → failed ≡ false → IfSome old (λ bytes. IsPlayed profile group readings bytes text)
+      → OnOk r (Appends taken after text) → IfErr r (IsStopped 0 write_failed taken after text)
+      → Obeys (Night group readings profile) (streams old reads_before taken writes_before) (streams new failed after write_failed) r
+  put text failed write_failed after (Ok done) reads is out part = record { text = has_text old text (Appends taken after) is out; kinds = tt; memory = λ bad. absurd (cc); input = tt; duty = tt; unwritten = tt; read_failed = reads; write_failed = tt; written = tt }
+  put text failed write_failed after (Err (WriteFailed written)) reads is out part = record { text = tt; kinds = tt; memory = λ bad. absurd (cc); input = tt; duty = tt; unwritten = tt; read_failed = reads; write_failed = part.failed_is; written = has_text old text (λ t. StoppedShort 0 write_failed taken after t written) is part }
+  put text failed write_failed after (Err (Input e)) reads is out part = absurd part
+  put text failed write_failed after (Err OutOfMemory) reads is out part = absurd part
+  put text failed write_failed after (Err (NotOnDuty row)) reads is out part = absurd part
+  put text failed write_failed after (Err NoThread) reads is out part = absurd part
+  put text failed write_failed after (Err TooManyReporters) reads is out part = absurd part
+  put text failed write_failed after (Err (Strangers version)) reads is out part = absurd part

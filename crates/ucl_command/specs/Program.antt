@@ -1,0 +1,130 @@
+-- What the program does with what its words ask for.
+use Rattle.std.specs.Prelude.{◌≡◌, ◌≢◌, ℕ, ◌≤◌, ⊤, Bool, true, List, All, length, map, Option, None, IfSome, Result, Ok, Err, IfErr, IsErrOf, OnOk, string_bytes}
+use Rattle.std.specs.Io.KnownBytes.{Appends}
+use Rattle.ucl_board.specs.declared.entry.Entry.{Entry}
+use Rattle.ucl_board.specs.History.{IsLegal, accepted_of, board_of}
+use Rattle.ucl_order.specs.declared.profile.Profile.{Profile}
+use Rattle.ucl_order.specs.Roster.{NamedClub}
+use Rattle.ucl_screen.specs.declared.fault.InputFault.{InputFault}
+use Rattle.ucl_screen.specs.declared.fault.InputFault.TheVariants as input
+use Rattle.ucl_screen.specs.Input.{Reads}
+use Rattle.ucl_screen.specs.Script.{Script}
+use Rattle.ucl_screen.specs.Parsing.{MeansNight, MeansSheet, night_seen, sheet_seen}
+use Rattle.ucl_screen.specs.Screen.{screen_text}
+use Rattle.ucl_command.specs.declared.command_line.Line.{Line}
+use Rattle.ucl_command.specs.declared.command_line.Line.TheVariants.{Feed, Show, Night}
+use Rattle.ucl_command.specs.declared.command_line.LineFault.{LineFault}
+use Rattle.ucl_command.specs.declared.command_line.LineFault.TheVariants as words
+use Rattle.ucl_runs.specs.declared.fault.RunFault.{RunFault}
+use Rattle.ucl_runs.specs.declared.fault.RunFault.TheVariants.{Input, OutOfMemory, NotOnDuty}
+use Rattle.ucl_runs.specs.Faults.{IsOfOneThread, status}
+use Rattle.ucl_runs.specs.Feed.{IsFed, attempt_of}
+use Rattle.ucl_runs.specs.Show.{IsShown}
+use Rattle.ucl_runs.specs.Telling.{Tells, fault_line}
+use Rattle.ucl_runs.specs.Nights.{EachMatchHasOneReporter, IsFirstOffDuty, IsLastScreen, IsMerge, night_text, number_of_two}
+use Rattle.ucl_runs.specs.Run.{IfInput, IfWriteFailed, IsCutShort, StoppedShort, TextHas, UnlessWriteFailed, WroteFirst, is_read_failed}
+
+-- The text that a line calls for. --
+
+-- a reader took so many readings along a legal history, and this is its last screen
+pub record HasLooked (profile : Profile) (readings : ℕ) (roster : List NamedClub) (group : ℕ) (last : Option (List ℕ)) : Type 0 where
+  pub seen : List Entry
+  pub versions : List ℕ
+  pub legal : IsLegal seen
+  pub many : length versions ≡ readings
+  pub high : All (λ version. version ≤ length seen) versions
+  pub last_is : IsLastScreen profile seen versions roster group last
+
+-- the screen of the rows of a script, entered in script order by reporters 1 and 2
+abbrev pub script_screen : Profile → ℕ → Script → List ℕ
+script_screen profile group night = screen_text profile (board_of (accepted_of (map attempt_of night.events))) night.clubs group
+
+-- the input is a script, and this is the output of a night of it: the last screens of both readers, and the screen of a merge of the rows.
+-- Where each match has one reporter, that is the screen of the script, whoever was faster; where besides no reading is asked for, the
+-- text is worked out from the input alone
+pub record IsPlayed (profile : Profile) (group readings : ℕ) (bytes text : List ℕ) : Type 0 where
+  pub night : Script
+  pub means : MeansNight bytes (Ok night)
+  pub first : ℕ
+  pub second : ℕ
+  pub apart : first ≢ second
+  pub history : List Entry
+  pub merge : IsMerge (number_of_two first second) night.events history
+  pub left : Option (List ℕ)
+  pub right : Option (List ℕ)
+  pub left_is : HasLooked profile readings night.clubs group left
+  pub right_is : HasLooked profile readings night.clubs group right
+  pub text_is : text ≡ night_text left right (screen_text profile (board_of history) night.clubs group)
+  pub closing : EachMatchHasOneReporter night.events → screen_text profile (board_of history) night.clubs group ≡ script_screen profile group night
+  pub unwatched : EachMatchHasOneReporter night.events → readings ≡ 0 → text ≡ night_text None None (script_screen profile group night)
+
+-- the text that a line calls for
+abbrev pub CallsFor : Line → List ℕ → List ℕ → Type 0
+CallsFor Feed bytes text = IsFed bytes text
+CallsFor (Show group profile) bytes text = IsShown profile group bytes text
+CallsFor (Night group readings profile) bytes text = IsPlayed profile group readings bytes text
+
+-- The faults of a line. --
+
+-- a night can meet each fault, the others those of one thread
+abbrev pub IsFaultOf : Line → RunFault → Type 0
+IsFaultOf (Night group readings profile) fault = ⊤
+IsFaultOf _ fault = IsOfOneThread fault
+
+-- an input, its bytes before and after, is refused or cannot be read: a sheet for `show`, else a script
+abbrev pub RefusesInput : Line → Option (List ℕ) → Option (List ℕ) → Bool → InputFault → Type 0
+RefusesInput (Show group profile) old new failed e = Reads MeansSheet sheet_seen old new failed (Err e)
+RefusesInput _ old new failed e = Reads MeansNight night_seen old new failed (Err e)
+
+-- a row that is told is the first of a script that is of no reporter on duty
+abbrev pub TellsDuty : Option (List ℕ) → RunFault → Type 0
+TellsDuty known (NotOnDuty row) = IfSome known (λ bytes. (night : Script) × MeansNight bytes (Ok night) × IsFirstOffDuty night.events row)
+TellsDuty known _ = ⊤
+
+-- the output stopped within the text: it took the first so many bytes, and their number is told
+abbrev pub StopsWithin : Line → Bool → Option (List ℕ) → Option (List ℕ) → ℕ → List ℕ → Type 0
+StopsWithin (Night group readings profile) failed old new written text = StoppedShort 0 failed old new text written
+StopsWithin _ failed old new written text = WroteFirst old new written text
+
+-- What the program does. --
+
+-- what is known of the source and of the sink
+pub record Streams : Type 0 where
+  pub left : Option (List ℕ)
+  pub read_failed : Bool
+  pub taken : Option (List ℕ)
+  pub write_failed : Bool
+
+abbrev pub streams : Option (List ℕ) → Bool → Option (List ℕ) → Bool → Streams
+streams left read_failed taken write_failed = record { left = left; read_failed = read_failed; taken = taken; write_failed = write_failed }
+
+-- a line was done, or has the fault r, over these streams
+pub record Obeys (line : Line) (before after : Streams) (r : Result ⊤ RunFault) : Type 0 where
+  pub text : OnOk r (TextHas (CallsFor line) before.left (Appends before.taken after.taken))
+  pub kinds : IfErr r (IsFaultOf line)
+  pub memory : IsErrOf r (Input input.OutOfMemory) → ⊥
+  pub input : IfErr r (λ f. IfInput f (RefusesInput line before.left after.left after.read_failed))
+  pub duty : IfErr r (TellsDuty before.left)
+  pub unwritten : IfErr r (λ f. UnlessWriteFailed f (after.taken ≡ before.taken))
+  pub read_failed : after.read_failed ≡ is_read_failed r
+  pub write_failed : IfErr r (λ f. IfWriteFailed f (λ written. after.write_failed ≡ true))
+  pub written : IfErr r (λ f. IfWriteFailed f (λ written. TextHas (CallsFor line) before.left (StopsWithin line after.write_failed before.taken after.taken written)))
+
+-- status 0 and nothing is told; or the line of the fault is told, and its status
+abbrev pub Ends : Result ⊤ RunFault → ℕ → Bool → Option (List ℕ) → Option (List ℕ) → Type 0
+Ends (Ok done) code failed old new = (code ≡ 0) × (new ≡ old)
+Ends (Err fault) code failed old new = (code ≡ status fault) × Tells failed old new (fault_line fault)
+
+-- a text was written whole, or has the fault r
+pub record WritesText (text : List ℕ) (before after : Streams) (r : Result ⊤ RunFault) : Type 0 where
+  pub all : OnOk r (Appends before.taken after.taken text)
+  pub part : IfErr r (IsCutShort after.write_failed before.taken after.taken text)
+
+-- what the program does where its words ask for a line, ask for help, are refused, or could not be read for want of memory; and its
+-- exit status, and what it tells on the error sink
+abbrev pub Runs : Result Line LineFault → Streams → Streams → ℕ → Bool → Option (List ℕ) → Option (List ℕ) → Type 0
+Runs (Ok line) before after code failed old new = (r : Result ⊤ RunFault) × Obeys line before after r × Ends r code failed old new
+Runs (Err (words.Help text)) before after code failed old new =
+    (r : Result ⊤ RunFault) × WritesText (string_bytes text) before after r × Ends r code failed old new
+Runs (Err (words.Refused text)) before after code failed old new = (after ≡ before) × (code ≡ 2) × Tells failed old new (string_bytes text)
+Runs (Err words.OutOfMemory) before after code failed old new = (after ≡ before) × Ends (Err OutOfMemory) code failed old new

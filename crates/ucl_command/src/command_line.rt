@@ -1,0 +1,229 @@
+//! The program's words, read by `clap`.
+
+ghost use Rattle.std.specs.Prelude.{◌≡◌, IfErr, IfOk, false, map, option_and_then, string_bytes};
+ghost use Rattle.clap.specs.Words.{app_of, found_of, kind_of, rows_of, rule_of, subcommand_rows_of};
+ghost use Rattle.ucl_command.specs.CommandLine.{AreTaken, AskFor, IsFaultOf, IsInRange, Tables, Tells, program, top_command};
+ghost use Rattle.ucl_command.specs.CommandLine.{group_in, group_option, line_in, order_in, order_option, readings_in, readings_option};
+
+use crate::texts;
+use clap::error::ErrorKind;
+use clap::{Arg, ArgAction, ArgMatches, Command, Error, value_parser};
+use std::alloc::{AllocError, Global};
+use ucl_order::Profile;
+use ucl_screen::is_group;
+
+/// What the program is to do.
+#[derive(Clone, Copy, Debug, PartialEq, Eq)]
+pub enum Line {
+    /// Enter a script, and write a reply for each event.
+    Feed,
+    /// Write the screen of a sheet.
+    Show {
+        /// The letter of the group, `A` to `H`.
+        group: u8,
+        /// The order of the clubs.
+        profile: Profile,
+    },
+    /// Enter a script by two reporters in threads while two readers look on, and write the screens.
+    Night {
+        /// The letter of the group, `A` to `H`.
+        group: u8,
+        /// How many readings each reader takes, 0 to 1,000.
+        readings: u32,
+        /// The order of the clubs.
+        profile: Profile,
+    },
+}
+
+/// Why the words name nothing to do.
+#[derive(Debug, Drop)]
+pub enum LineFault {
+    /// Help or the version was asked for, and is this text.
+    Help(String),
+    /// The words are refused, as this text says.
+    Refused(String),
+    /// 23: memory was asked for, and there was none.
+    OutOfMemory,
+}
+
+/// The letters that `--group` takes.
+static GROUPS: [&str; 8] = ["A", "B", "C", "D", "E", "F", "G", "H"];
+
+/// The orders that `--order` takes, the UEFA order first.
+static ORDERS: [&str; 2] = [UEFA, AWAY_IN_TIE];
+
+const UEFA: &str = "uefa";
+
+const AWAY_IN_TIE: &str = "away-in-tie";
+
+/// The most readings that `--readings` asks of each reader.
+const MOST_READINGS: u32 = 1000;
+
+/// The option `--group`, with the letters that it takes.
+fn group_option<'a>(alloc: Global, letters: &'a [&'a str]) -> Arg<'a>
+    ensures rule { rule_of result ≡ group_option letters.entry }
+    ensures local { result.global ≡ false }
+{
+    Arg::new(alloc, "group")
+        .long("group")
+        .action(ArgAction::Set)
+        .value_name("GROUP")
+        .help(texts::GROUP)
+        .value_parser(letters)
+        .default_value("A")
+}
+
+/// The option `--readings`.
+fn readings_option<'a>(alloc: Global) -> Arg<'a>
+    ensures rule { rule_of result ≡ readings_option }
+    ensures local { result.global ≡ false }
+{
+    Arg::new(alloc, "readings")
+        .long("readings")
+        .action(ArgAction::Set)
+        .value_name("NUMBER")
+        .help(texts::READINGS)
+        .value_parser(value_parser!(u32).range(0..=i64::from(MOST_READINGS)))
+        .default_value("0")
+}
+
+/// The option `--order`, with the names that it takes.
+fn order_option<'a>(alloc: Global, names: &'a [&'a str]) -> Arg<'a>
+    ensures rule { rule_of result ≡ order_option names.entry }
+    ensures local { result.global ≡ false }
+{
+    Arg::new(alloc, "order")
+        .long("order")
+        .action(ArgAction::Set)
+        .value_name("ORDER")
+        .help(texts::ORDER)
+        .value_parser(names)
+        .default_value(UEFA)
+}
+
+/// The program's command, before it has subcommands.
+fn top_command<'a>(alloc: Global) -> Command<'a>
+    ensures { app_of result ≡ top_command }
+{
+    Command::new(alloc, "ucl_night")
+        .version(texts::VERSION)
+        .about(texts::PROGRAM)
+        .after_help(texts::PROGRAM_MORE)
+        .subcommand_required(true)
+}
+
+/// The program's command, with a subcommand for each line.
+fn command<'a>(alloc: Global) -> Result<Command<'a>, AllocError>
+    ensures { IfOk result (λ command. (t : Tables) × (app_of command ≡ program t)) }
+{
+    let letters = GROUPS.as_slice();
+    let orders = ORDERS.as_slice();
+    let feed = Command::new(alloc, "feed")
+        .about(texts::FEED)
+        .after_help(texts::FEED_MORE);
+    let show = Command::new(alloc, "show")
+        .about(texts::SHOW)
+        .after_help(texts::SHOW_MORE)
+        .arg(group_option(alloc, letters))?
+        .arg(order_option(alloc, orders))?;
+    let night = Command::new(alloc, "night")
+        .about(texts::NIGHT)
+        .after_help(texts::NIGHT_MORE)
+        .arg(group_option(alloc, letters))?
+        .arg(readings_option(alloc))?
+        .arg(order_option(alloc, orders))?;
+    top_command(alloc)
+        .subcommand(feed)?
+        .subcommand(show)?
+        .subcommand(night)
+}
+
+/// The group that was named.
+fn group_of(matches: &ArgMatches<'_>) -> Option<u8>
+    ensures { result ≡ group_in (rows_of (found_of matches.now)) }
+{
+    match matches.get_str("group")?.as_bytes() {
+        [letter] if is_group(*letter) => Some(*letter),
+        _ => None,
+    }
+}
+
+/// How many readings were asked for.
+fn readings_of(matches: &ArgMatches<'_>) -> Option<u32>
+    ensures { result ≡ readings_in (rows_of (found_of matches.now)) }
+{
+    let readings = matches.get_one::<u32>("readings")?;
+    (readings <= MOST_READINGS).then_some(readings)
+}
+
+/// The order that was named.
+fn profile_of(matches: &ArgMatches<'_>) -> Option<Profile>
+    ensures { result ≡ order_in (rows_of (found_of matches.now)) }
+{
+    match matches.get_str("order")? {
+        UEFA => Some(Profile::Uefa),
+        AWAY_IN_TIE => Some(Profile::AwayInTie),
+        _ => None,
+    }
+}
+
+/// The line that was named.
+fn line_in(matches: &ArgMatches<'_>) -> Option<Line>
+    ensures { result ≡ option_and_then line_in (subcommand_rows_of matches.now) }
+{
+    let (name, found) = matches.subcommand()?;
+    match name {
+        "feed" => Some(Line::Feed),
+        "show" => Some(Line::Show {
+            group: group_of(found)?,
+            profile: profile_of(found)?,
+        }),
+        "night" => Some(Line::Night {
+            group: group_of(found)?,
+            readings: readings_of(found)?,
+            profile: profile_of(found)?,
+        }),
+        _ => None,
+    }
+}
+
+/// What to tell of words that were not taken.
+fn fault_of(alloc: Global, error: &Error) -> LineFault
+    ensures memory { kind_of error.now ≡ ErrorKind.OutOfMemory → result ≡ LineFault.OutOfMemory }
+    ensures tells { Tells result (kind_of error.now) }
+{
+    if error.kind() == ErrorKind::OutOfMemory {
+        return LineFault::OutOfMemory;
+    }
+    match error.to_string(alloc) {
+        Err(_) => LineFault::OutOfMemory,
+        Ok(text) if error.use_stderr() => LineFault::Refused(text),
+        Ok(text) => LineFault::Help(text),
+    }
+}
+
+/// What the program's words ask for. The first word is the program's name.
+///
+/// The words are read by `clap`: the name is followed by the subcommand `feed`, `show` or `night`. The latter two take
+/// `--group` with a letter from `A` to `H`, which is `A` where it is left out, and `--order` with `uefa` or `away-in-tie`, which
+/// is `uefa` where it is left out, and `night` also `--readings` with a number from 0 to 1,000, which is 0 where it is left out.
+/// `Help` comes where help is asked for, or the version, by `--version` or `-V` before any subcommand; and `Refused` where the words have
+/// no subcommand, an unknown one, or what it does not take.
+pub fn line_of(alloc: Global, words: &[String]) -> Result<Line, LineFault>
+    ensures in_range { IfOk result IsInRange }
+    ensures meant { IfOk result (AskFor (map string_bytes words.now)) }
+    ensures taken { AreTaken (map string_bytes words.now) → IfErr result (λ fault. fault ≡ LineFault.OutOfMemory) }
+    ensures answers { IfErr result (IsFaultOf (map string_bytes words.now)) }
+{
+    let Ok(command) = command(alloc) else {
+        return Err(LineFault::OutOfMemory);
+    };
+    let matches = match command.try_get_matches_from(words) {
+        Ok(matches) => matches,
+        Err(error) => return Err(fault_of(alloc, &error)),
+    };
+    let Some(line) = line_in(&matches) else {
+        unreachable!("what the parser has taken names a line")
+    };
+    Ok(line)
+}

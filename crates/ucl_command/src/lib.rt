@@ -1,0 +1,15 @@
+//! What the words of the command line ask for, and what is done for them over a source, a sink and an error sink, which stand for the
+//! standard streams.
+#![tactic(auto)]
+
+mod command_line;
+mod laws;
+mod program;
+mod refusal;
+mod texts;
+
+pub use command_line::{Line, LineFault, line_of};
+pub use laws::{words_that_are_refused, words_that_are_taken};
+pub use program::{obey, run};
+pub use refusal::tell_refusal;
+pub use texts::VERSION;

@@ -1,0 +1,510 @@
+//! What words mean, and what the program does for them over memory in place of the standard streams.
+
+use std::alloc::Global;
+use std::io;
+use std::sync::Wait;
+use std::test::Fail;
+use std::thread::Threads;
+use ucl_command::{Line, LineFault, VERSION, line_of, run};
+use ucl_order::Profile;
+use ucl_screen::{FromRead, ToWrite};
+
+/// A match that kicks off, entered twice.
+const SCRIPT: &str = "\
+club,1,Alpha,60000
+club,2,Bravo,95000
+club,3,Charlie,60000
+club,4,Delta,81500
+1,1,0,kickoff
+1,1,0,kickoff
+";
+
+const SHEET: &str = "\
+club,1,Alpha,60000
+club,2,Bravo,95000
+club,3,Charlie,60000
+club,4,Delta,81500
+word,1,2001000000001001,
+word,2,2000000000000000,
+word,3,2000000000000000,
+word,4,2000000000000000,
+word,5,2000000000000000,
+word,6,2000000000000000,
+word,7,2000000000000000,
+word,8,2000000000000000,
+word,9,2000000000000000,
+word,10,2000000000000000,
+word,11,2000000000000000,
+word,12,2000000000000000,
+";
+
+const REPLIES: &str = "\
+5 ok 1 1 1
+6 refused 1 stale 1
+word,1,2001000000001001,
+word,2,2000000000000000,
+word,3,2000000000000000,
+word,4,2000000000000000,
+word,5,2000000000000000,
+word,6,2000000000000000,
+word,7,2000000000000000,
+word,8,2000000000000000,
+word,9,2000000000000000,
+word,10,2000000000000000,
+word,11,2000000000000000,
+word,12,2000000000000000,
+";
+
+const SCREEN: &str = "\
+GROUP A v00001 IN PLAY 1
+    Club                  P  W  D  L  GF  GA   GD Pts
+1   Bravo                 1  0  1  0   0   0   +0   1
+2   Charlie               1  0  1  0   0   0   +0   1
+3   Delta                 0  0  0  0   0   0   +0   0
+4   Alpha                 0  0  0  0   0   0   +0   0
+";
+
+/// A writer that takes at most `piece` bytes at a time, and none after `room` bytes.
+#[derive(Drop)]
+struct Full<'a> {
+    taken: &'a mut Vec<u8>,
+    piece: usize,
+    room: usize,
+}
+
+impl io::Write for Full<'_> {
+    fn write(&mut self, buf: &[u8]) -> io::Result<usize> {
+        let n = buf.len().min(self.piece).min(self.room);
+        if self.taken.extend_from_slice(&buf[..n]).is_err() {
+            return Ok(0);
+        }
+        self.room -= n;
+        Ok(n)
+    }
+
+    fn flush(&mut self) -> io::Result<()> {
+        Ok(())
+    }
+}
+
+fn words_of(alloc: Global, line: &str) -> Result<Vec<String>, Fail> {
+    let mut words = Vec::new(alloc);
+    for word in line.split_whitespace() {
+        words.push(String::from_str(alloc, word)?)?;
+    }
+    Ok(words)
+}
+
+#[test]
+fn command_lines(rt: HostRuntime) -> Result<(), Fail> {
+    let alloc = rt.alloc();
+    let taken = [
+        ("ucl_night feed", Line::Feed),
+        (
+            "ucl_night show",
+            Line::Show {
+                group: b'A',
+                profile: Profile::Uefa,
+            },
+        ),
+        (
+            "ucl_night show --group A",
+            Line::Show {
+                group: b'A',
+                profile: Profile::Uefa,
+            },
+        ),
+        (
+            "ucl_night show --group H",
+            Line::Show {
+                group: b'H',
+                profile: Profile::Uefa,
+            },
+        ),
+        (
+            "ucl_night show --order away-in-tie",
+            Line::Show {
+                group: b'A',
+                profile: Profile::AwayInTie,
+            },
+        ),
+        (
+            "ucl_night show --order uefa --group C",
+            Line::Show {
+                group: b'C',
+                profile: Profile::Uefa,
+            },
+        ),
+        (
+            "ucl_night night",
+            Line::Night {
+                group: b'A',
+                readings: 0,
+                profile: Profile::Uefa,
+            },
+        ),
+        (
+            "ucl_night night --group B --readings 3",
+            Line::Night {
+                group: b'B',
+                readings: 3,
+                profile: Profile::Uefa,
+            },
+        ),
+        (
+            "ucl_night night --order away-in-tie --readings 2",
+            Line::Night {
+                group: b'A',
+                readings: 2,
+                profile: Profile::AwayInTie,
+            },
+        ),
+        (
+            "ucl_night night --readings 1000 --group H",
+            Line::Night {
+                group: b'H',
+                readings: 1000,
+                profile: Profile::Uefa,
+            },
+        ),
+    ];
+    for (line, asked) in taken {
+        let words = words_of(alloc, line)?;
+        assert!(rt;
+            line_of(alloc, &words).is_ok_and(|line| line == asked),
+            "at {line}"
+        );
+    }
+    for letter in b'A'..=b'H' {
+        for subcommand in ["show", "night"] {
+            let mut line = String::from_str(alloc, "ucl_night ")?;
+            write!(&mut line, "{subcommand} --group {}", char::from(letter))?;
+            let words = words_of(alloc, line.as_str())?;
+            let group = match line_of(alloc, &words) {
+                Ok(Line::Show { group, .. } | Line::Night { group, .. }) => Some(group),
+                _ => None,
+            };
+            assert_eq!(rt; group, Some(letter), "at {line}");
+        }
+    }
+    for line in [
+        "ucl_night --help",
+        "ucl_night help",
+        "ucl_night feed --help",
+        "ucl_night show --help",
+        "ucl_night night --help",
+        "ucl_night --version",
+        "ucl_night -V",
+    ] {
+        let words = words_of(alloc, line)?;
+        assert!(rt;
+            matches!(line_of(alloc, &words), Err(LineFault::Help(_))),
+            "at {line}"
+        );
+    }
+    let refused = [
+        "",
+        "ucl_night",
+        "ucl_night night --readings",
+        "ucl_night night --readings 1001",
+        "ucl_night night --readings -1",
+        "ucl_night night --readings three",
+        "ucl_night night --group I",
+        "ucl_night show --readings 3",
+        "ucl_night show --group",
+        "ucl_night show --group I",
+        "ucl_night show --group a",
+        "ucl_night show --order",
+        "ucl_night show --order away",
+        "ucl_night show --order UEFA",
+        "ucl_night night --order goals",
+        "ucl_night feed --order uefa",
+        "ucl_night show --group AB",
+        "ucl_night feed --group A",
+        "ucl_night other",
+        "ucl_night feed more",
+        "ucl_night --group A",
+        "ucl_night --version=1",
+        "ucl_night show --version",
+    ];
+    for line in refused {
+        let words = words_of(alloc, line)?;
+        assert!(rt;
+            matches!(line_of(alloc, &words), Err(LineFault::Refused(_))),
+            "at {line}"
+        );
+    }
+    Ok(())
+}
+
+/// What the program does for a line of words and an input: its status, its output and what it tells of errors.
+fn ran<R: Threads + Wait + Sync>(
+    rt: &R,
+    alloc: Global,
+    line: &str,
+    input: &[u8],
+    room: usize,
+) -> Result<(u8, Vec<u8>, Vec<u8>), Fail> {
+    let words = words_of(alloc, line)?;
+    let mut out = Vec::new(alloc);
+    let mut errors = Vec::new(alloc);
+    let status = {
+        let mut source = FromRead::new(input);
+        let mut sink = ToWrite::new(Full {
+            taken: &mut out,
+            piece: 64,
+            room,
+        });
+        let mut told = ToWrite::new(Full {
+            taken: &mut errors,
+            piece: 7,
+            room: usize::MAX,
+        });
+        let asked = line_of(alloc, &words);
+        run(rt, alloc, asked, &mut source, &mut sink, &mut told)
+    };
+    Ok((status, out, errors))
+}
+
+#[test]
+fn lines_are_done(rt: HostRuntime) -> Result<(), Fail> {
+    let alloc = rt.alloc();
+    let mut closing = String::from_str(alloc, "FINAL\n")?;
+    closing.push_str(SCREEN)?;
+    let rows = [
+        ("ucl_night feed", SCRIPT, REPLIES),
+        ("ucl_night show", SHEET, SCREEN),
+        ("ucl_night night", SCRIPT, closing.as_str()),
+    ];
+    for (line, input, output) in rows {
+        let (status, out, errors) = ran(&rt, alloc, line, input.as_bytes(), usize::MAX)?;
+        assert_eq!(rt; status, 0, "at {line}");
+        assert!(rt;
+            out.as_slice() == output.as_bytes() && errors.is_empty(),
+            "at {line}"
+        );
+        for room in 0..output.len() {
+            let (status, out, errors) = ran(&rt, alloc, line, input.as_bytes(), room)?;
+            let mut told = String::new(alloc);
+            write!(&mut told, "writing failed 26: after {room} bytes\n")?;
+            assert_eq!(rt; status, 4, "at {line}");
+            assert!(rt;
+                Some(out.as_slice()) == output.as_bytes().get(..room),
+                "at {room}"
+            );
+            assert!(rt; errors.as_slice() == told.as_bytes(), "at {room}");
+        }
+    }
+    Ok(())
+}
+
+#[test]
+fn night_of_the_program_with_readings(rt: HostRuntime) -> Result<(), Fail> {
+    let alloc = rt.alloc();
+    let line = "ucl_night night --group A --readings 3";
+    let (status, out, errors) = ran(&rt, alloc, line, SCRIPT.as_bytes(), usize::MAX)?;
+    assert_eq!(rt; status, 0);
+    let text = std::str::from_utf8(out.as_slice())?;
+    assert!(rt; text.starts_with("READER 1\nGROUP A v0000") && text.ends_with(SCREEN));
+    assert_eq!(rt; text.lines().count(), 21);
+    assert!(rt; text.contains("\nREADER 2\nGROUP A v0000") && errors.is_empty());
+    Ok(())
+}
+
+#[test]
+fn faults_are_told(rt: HostRuntime) -> Result<(), Fail> {
+    let alloc = rt.alloc();
+    let mut third = String::from_str(alloc, SCRIPT)?;
+    third.push_str("3,1,0,kickoff\n")?;
+    let rows = [
+        ("ucl_night feed", "", "input refused 20: row 1\n"),
+        ("ucl_night show", SCRIPT, "input refused 20: row 5\n"),
+        (
+            "ucl_night night",
+            third.as_str(),
+            "input refused 25: row 7\n",
+        ),
+    ];
+    for (line, input, told) in rows {
+        let (status, out, errors) = ran(&rt, alloc, line, input.as_bytes(), usize::MAX)?;
+        assert_eq!(rt; status, 3, "at {line}");
+        assert!(rt;
+            out.is_empty() && errors.as_slice() == told.as_bytes(),
+            "at {line}"
+        );
+    }
+    Ok(())
+}
+
+/// The whole text of words that are refused goes to the error sink, and that of help to the output.
+#[test]
+fn refused_words_and_help(rt: HostRuntime) -> Result<(), Fail> {
+    let alloc = rt.alloc();
+    let refused = [
+        ("ucl_night show --group I", "'I'"),
+        ("ucl_night other", "'other'"),
+        ("ucl_night", "subcommand"),
+        ("ucl_night night --readings 1001", "1001"),
+    ];
+    for (line, reason) in refused {
+        let words = words_of(alloc, line)?;
+        let Err(LineFault::Refused(text)) = line_of(alloc, &words) else {
+            return Err("not refused".into());
+        };
+        let (status, out, errors) = ran(&rt, alloc, line, SCRIPT.as_bytes(), usize::MAX)?;
+        assert_eq!(rt; status, 2, "at {line}");
+        assert!(rt;
+            out.is_empty() && errors.as_slice() == text.as_bytes(),
+            "at {line}"
+        );
+        let text = text.as_str();
+        assert!(rt;
+            text.starts_with("error: ") && text.contains(reason),
+            "at {line}"
+        );
+    }
+    for line in [
+        "ucl_night --help",
+        "ucl_night night --help",
+        "ucl_night --version",
+    ] {
+        let words = words_of(alloc, line)?;
+        let Err(LineFault::Help(text)) = line_of(alloc, &words) else {
+            return Err("no help".into());
+        };
+        let (status, out, errors) = ran(&rt, alloc, line, b"", usize::MAX)?;
+        assert_eq!(rt; status, 0, "at {line}");
+        assert!(rt;
+            errors.is_empty() && out.as_slice() == text.as_bytes(),
+            "at {line}"
+        );
+        let (status, _, errors) = ran(&rt, alloc, line, b"", 5)?;
+        assert_eq!(rt; status, 4, "at {line}");
+        assert!(rt; errors.as_slice() == b"writing failed 26: after 5 bytes\n".as_slice());
+    }
+    Ok(())
+}
+
+/// What a user has to find in the help of a line: the usage, each option with what it takes, the rows of the input, and an example.
+const HELP: [(&str, &[&str]); 4] = [
+    (
+        "ucl_night --help",
+        &[
+            "Usage: ucl_night <COMMAND>\n",
+            "\n  feed ",
+            "\n  show ",
+            "\n  night ",
+            "\n  -V, --version ",
+            CLUB_ROW,
+            EVENT_ROW,
+            WORD_ROW,
+            "\n  0  done",
+            "\n  2  the words",
+            "\n  3  the input",
+            "\n  4  reading or writing",
+            "\n  5  there is no memory",
+            "\n  6  the board",
+            "\n  ucl_night feed < ",
+            "\n  ucl_night show --group B < ",
+            "\n  ucl_night night --readings 3 < ",
+        ],
+    ),
+    (
+        "ucl_night feed --help",
+        &[
+            "Usage: ucl_night feed\n",
+            CLUB_ROW,
+            EVENT_ROW,
+            WORD_ROW,
+            "\n  ROW ok MATCH NUMBER VERSION ",
+            "\n  ROW refused CODE NAME ",
+            "\n  ucl_night feed < ",
+        ],
+    ),
+    (
+        "ucl_night show --help",
+        &[
+            "Usage: ucl_night show [OPTIONS]\n",
+            "\n      --group <GROUP> ",
+            LETTERS,
+            "\n      --order <ORDER> ",
+            ORDERS,
+            CLUB_ROW,
+            WORD_ROW,
+            "\n  ucl_night show --group B < ",
+        ],
+    ),
+    (
+        "ucl_night night --help",
+        &[
+            "Usage: ucl_night night [OPTIONS]\n",
+            "\n      --group <GROUP> ",
+            LETTERS,
+            "\n      --readings <NUMBER> ",
+            ", 0 to 1,000 [default: 0]\n",
+            "\n      --order <ORDER> ",
+            ORDERS,
+            "\n  ucl_night night --readings 3 < ",
+        ],
+    ),
+];
+
+const CLUB_ROW: &str = "\n  club,SLOT,NAME,COEFFICIENT ";
+
+const EVENT_ROW: &str = "\n  REPORTER,MATCH,EXPECTED,EVENT ";
+
+const WORD_ROW: &str = "\n  word,MATCH,WORD, ";
+
+const LETTERS: &str = "[default: A] [possible values: A, B, C, D, E, F, G, H]\n";
+
+const ORDERS: &str = "[default: uefa] [possible values: uefa, away-in-tie]\n";
+
+#[test]
+fn help_tells(rt: HostRuntime) -> Result<(), Fail> {
+    let alloc = rt.alloc();
+    for (line, parts) in HELP {
+        let (status, out, errors) = ran(&rt, alloc, line, b"", usize::MAX)?;
+        assert!(rt; status == 0 && errors.is_empty(), "at {line}");
+        let text = std::str::from_utf8(out.as_slice())?;
+        for part in parts {
+            assert!(rt; text.contains(part), "{part} at {line}");
+        }
+    }
+    Ok(())
+}
+
+/// Each event of a script stands in the help of `feed`, by the word that `feed` takes.
+#[test]
+fn help_names_each_event(rt: HostRuntime) -> Result<(), Fail> {
+    let alloc = rt.alloc();
+    let (_, out, _) = ran(&rt, alloc, "ucl_night feed --help", b"", usize::MAX)?;
+    let help = std::str::from_utf8(out.as_slice())?;
+    let Some((_, events)) = help.split_once("\nEvents:\n") else {
+        return Err("no events".into());
+    };
+    let Some((events, _)) = events.split_once("\n\n") else {
+        return Err("no end of the events".into());
+    };
+    assert_eq!(rt; events.split(',').count(), 13);
+    for event in events.split(',') {
+        let mut script = String::from_str(alloc, SCRIPT)?;
+        write!(&mut script, "1,1,1,{}\n", event.trim())?;
+        let (status, _, _) = ran(&rt, alloc, "ucl_night feed", script.as_bytes(), usize::MAX)?;
+        assert_eq!(rt; status, 0, "at {event}");
+    }
+    Ok(())
+}
+
+/// The version is the program's name and the version, on the output; so is that of `-V`, whatever the words after it are.
+#[test]
+fn version_is_told(rt: HostRuntime) -> Result<(), Fail> {
+    let alloc = rt.alloc();
+    let mut told = String::new(alloc);
+    write!(&mut told, "ucl_night {VERSION}\n")?;
+    for line in ["ucl_night --version", "ucl_night -V", "ucl_night -V feed"] {
+        let (status, out, errors) = ran(&rt, alloc, line, b"", usize::MAX)?;
+        assert!(rt; status == 0 && errors.is_empty(), "at {line}");
+        assert!(rt; out.as_slice() == told.as_bytes(), "at {line}");
+    }
+    Ok(())
+}

@@ -1,0 +1,31 @@
+//! A board in one cell, and the texts of the refusals. The rows that every live board passes are run on this one too by the tests of the
+//! crate of the word board.
+
+mod examples;
+
+use std::test::Fail;
+use ucl_pass::{CellBoard, LiveBoard, Strangers, TooManyReporters};
+
+#[test]
+fn opened(rt: HostRuntime) -> Result<(), Fail> {
+    let (board, mut reader) = CellBoard::open(&rt, rt.alloc())?;
+    let reading = board.read(&rt, &mut reader);
+    assert_eq!(rt; reading.version, 0);
+    for word in reading.board.words() {
+        assert_eq!(rt; word, 0x2000000000000000);
+    }
+    Ok(())
+}
+
+#[test]
+fn texts(rt: HostRuntime) -> Result<(), Fail> {
+    let alloc = rt.alloc();
+    let full = TooManyReporters(7u8);
+    assert_eq!(rt; full.to_string(alloc)?.as_str(), "board refused 30");
+    let strangers = Strangers { version: 49140 };
+    assert_eq!(rt;
+        strangers.to_string(alloc)?.as_str(),
+        "board refused 31: version 49140"
+    );
+    Ok(())
+}

@@ -1,0 +1,443 @@
+//! Texts, statuses, and runs over memory in place of the standard streams.
+
+mod devices;
+mod nights;
+
+use devices::{Cut, Full, fed, shown};
+use std::alloc::Global;
+use std::test::Fail;
+use ucl_order::Profile;
+use ucl_runs::{RunFault, status_of};
+use ucl_screen::{FromRead, InputFault, read_night, screen};
+use ucl_steps::{Call, Caller, Cast, Reply, Step, run_steps};
+use ucl_word::{EventCall, Kind, MatchNo, ReporterNo};
+
+const CLUBS: &str =
+    "club,1,Alpha,60000\nclub,2,Bravo,95000\nclub,3,Charlie,60000\nclub,4,Delta,81500\n";
+
+const TWO_MATCHES: &str =
+    "1,1,0,kickoff\n1,1,1,goal-home\n2,1,1,goal-away\n2,2,0,goal-home\n2,2,0,kickoff\n1,1,2,yellow-away\n1,1,3,second-yellow-away\n1,1,4,disallow-home\n1,1,5,disallow-home\n1,1,5,fulltime\n";
+
+const TWO_MATCHES_OUT: &str =
+    "5 ok 1 1 1\n6 ok 1 2 2\n7 refused 1 stale 2\n8 refused 3 not-started\n9 ok 2 1 3\n10 ok 1 3 4\n11 ok 1 4 5\n12 ok 1 5 6\n13 refused 6 no-goal\n14 ok 1 6 7\nword,1,2001080000002006,\nword,2,2002000000001001,\nword,3,2000000000000000,\nword,4,2000000000000000,\nword,5,2000000000000000,\nword,6,2000000000000000,\nword,7,2000000000000000,\nword,8,2000000000000000,\nword,9,2000000000000000,\nword,10,2000000000000000,\nword,11,2000000000000000,\nword,12,2000000000000000,\n";
+
+const NO_EVENT_OUT: &str =
+    "word,1,2000000000000000,\nword,2,2000000000000000,\nword,3,2000000000000000,\nword,4,2000000000000000,\nword,5,2000000000000000,\nword,6,2000000000000000,\nword,7,2000000000000000,\nword,8,2000000000000000,\nword,9,2000000000000000,\nword,10,2000000000000000,\nword,11,2000000000000000,\nword,12,2000000000000000,\n";
+
+/// The word lines of the stored run.
+const TWO_MATCHES_WORDS: &str =
+    "word,1,2001080000002006,\nword,2,2002000000001001,\nword,3,2000000000000000,\nword,4,2000000000000000,\nword,5,2000000000000000,\nword,6,2000000000000000,\nword,7,2000000000000000,\nword,8,2000000000000000,\nword,9,2000000000000000,\nword,10,2000000000000000,\nword,11,2000000000000000,\nword,12,2000000000000000,\n";
+
+/// The same matches in words of the first layout.
+const TWO_MATCHES_OLD_WORDS: &str =
+    "word,1,0000420000000806,\nword,2,0000800000000401,\nword,3,0000000000000000,\nword,4,0000000000000000,\nword,5,0000000000000000,\nword,6,0000000000000000,\nword,7,0000000000000000,\nword,8,0000000000000000,\nword,9,0000000000000000,\nword,10,0000000000000000,\nword,11,0000000000000000,\nword,12,0000000000000000,\n";
+
+const TWO_MATCHES_SCREEN: &str = "\
+GROUP A v00007 IN PLAY 1
+    Club                  P  W  D  L  GF  GA   GD Pts
+1   Bravo                 1  0  1  0   0   0   +0   1
+2   Delta                 1  0  1  0   0   0   +0   1
+3   Alpha                 1  0  1  0   0   0   +0   1
+4   Charlie               1  0  1  0   0   0   +0   1
+";
+
+fn joined(alloc: Global, first: &str, second: &str) -> Result<String, Fail> {
+    let mut text = String::from_str(alloc, first)?;
+    text.push_str(second)?;
+    Ok(text)
+}
+
+#[test]
+fn fault_lines_and_statuses(rt: HostRuntime) -> Result<(), Fail> {
+    let rows = [
+        (
+            RunFault::Input(InputFault::BadWordAt { index: 4 }),
+            "input refused 10: word 4",
+            3,
+        ),
+        (
+            RunFault::Input(InputFault::BadRow { row: 299_590 }),
+            "input refused 20: row 299590",
+            3,
+        ),
+        (
+            RunFault::Input(InputFault::BadRoster { slot: 2 }),
+            "input refused 21: slot 2",
+            3,
+        ),
+        (
+            RunFault::Input(InputFault::ReadFailed { bytes: 100 }),
+            "reading failed 22: after 100 bytes",
+            4,
+        ),
+        (
+            RunFault::Input(InputFault::OutOfMemory),
+            "out of memory 23",
+            5,
+        ),
+        (
+            RunFault::Input(InputFault::TooLong),
+            "input refused 24: too long",
+            3,
+        ),
+        (RunFault::OutOfMemory, "out of memory 23", 5),
+        (
+            RunFault::WriteFailed { written: 7 },
+            "writing failed 26: after 7 bytes",
+            4,
+        ),
+        (
+            RunFault::NotOnDuty { row: 45 },
+            "input refused 25: row 45",
+            3,
+        ),
+        (RunFault::NoThread, "no thread 27", 5),
+        (RunFault::TooManyReporters, "board refused 30", 6),
+        (
+            RunFault::Strangers { version: 6 },
+            "board refused 31: version 6",
+            6,
+        ),
+    ];
+    for (fault, line, status) in rows {
+        let text = fault.to_string(rt.alloc())?;
+        assert_eq!(rt; text.as_str(), line);
+        assert_eq!(rt; status_of(&fault), status, "at {line}");
+    }
+    Ok(())
+}
+
+#[test]
+fn stored_run(rt: HostRuntime) -> Result<(), Fail> {
+    let alloc = rt.alloc();
+    let script = joined(alloc, CLUBS, TWO_MATCHES)?;
+    let (answer, out) = fed(alloc, script.as_bytes(), usize::MAX, Full::Fails);
+    assert_eq!(rt; answer, Ok(()));
+    assert!(rt; out.as_slice() == TWO_MATCHES_OUT.as_bytes());
+    Ok(())
+}
+
+#[test]
+fn script_faults(rt: HostRuntime) -> Result<(), Fail> {
+    let alloc = rt.alloc();
+    let whole = [
+        ("", InputFault::BadRow { row: 1 }),
+        (
+            "club,1,Alpha,60000\nclub,2,Bravo,95000\nclub,3,Charlie,60000\n",
+            InputFault::BadRow { row: 4 },
+        ),
+        ("club,1,\"Alp", InputFault::BadRow { row: 1 }),
+        (
+            "club,1,Alpha,60000\nclub,2,Bravo Bravo Bravo Bra,95000\nclub,3,Charlie,1000000\nclub,4,Delta,81500\n",
+            InputFault::BadRoster { slot: 2 },
+        ),
+    ];
+    for (script, fault) in whole {
+        let (answer, out) = fed(alloc, script.as_bytes(), usize::MAX, Full::Fails);
+        assert_eq!(rt; answer, Err(RunFault::Input(fault)), "at {script}");
+        assert!(rt; out.is_empty(), "at {script}");
+    }
+    let fifth = [
+        "1,13,0,kickoff\n",
+        "0,1,0,kickoff\n",
+        "1,1,65536,kickoff\n",
+        "1,1,0,kick\n",
+        "club,5,Echo,1\n",
+    ];
+    for row in fifth {
+        let script = joined(alloc, CLUBS, row)?;
+        let (answer, out) = fed(alloc, script.as_bytes(), usize::MAX, Full::Fails);
+        let fault = InputFault::BadRow { row: 5 };
+        assert_eq!(rt; answer, Err(RunFault::Input(fault)), "at {row}");
+        assert!(rt; out.is_empty(), "at {row}");
+    }
+    let (answer, out) = fed(alloc, CLUBS.as_bytes(), usize::MAX, Full::Fails);
+    assert_eq!(rt; answer, Ok(()));
+    assert!(rt; out.as_slice() == NO_EVENT_OUT.as_bytes());
+    Ok(())
+}
+
+/// Writes the rows of a match with this score.
+fn push_match(
+    script: &mut String,
+    reporter: u8,
+    game: u8,
+    home: u16,
+    away: u16,
+) -> Result<(), Fail> {
+    write!(script, "{reporter},{game},0,kickoff\n")?;
+    let mut number = 1u16;
+    for _ in 0..home {
+        write!(script, "{reporter},{game},{number},goal-home\n")?;
+        number = number.saturating_add(1);
+    }
+    for _ in 0..away {
+        write!(script, "{reporter},{game},{number},goal-away\n")?;
+        number = number.saturating_add(1);
+    }
+    write!(script, "{reporter},{game},{number},fulltime\n")?;
+    Ok(())
+}
+
+/// The script of the head to head group: 40 events.
+fn head_to_head_script(alloc: Global) -> Result<String, Fail> {
+    let scores = [
+        (1, 1, 1, 0),
+        (2, 2, 1, 0),
+        (1, 3, 1, 0),
+        (2, 4, 5, 0),
+        (1, 5, 1, 0),
+        (2, 6, 1, 0),
+        (1, 7, 2, 0),
+        (2, 8, 0, 1),
+        (1, 9, 0, 0),
+        (2, 10, 0, 0),
+        (1, 11, 0, 2),
+        (2, 12, 0, 1),
+    ];
+    let mut script = String::from_str(alloc, CLUBS)?;
+    for (reporter, game, home, away) in scores {
+        push_match(&mut script, reporter, game, home, away)?;
+    }
+    Ok(script)
+}
+
+#[test]
+fn head_to_head(rt: HostRuntime) -> Result<(), Fail> {
+    let alloc = rt.alloc();
+    let script = head_to_head_script(alloc)?;
+    let (answer, out) = fed(alloc, script.as_bytes(), usize::MAX, Full::Fails);
+    assert_eq!(rt; answer, Ok(()));
+    let text = std::str::from_utf8(out.as_slice())?;
+    let mut accepted = 0u32;
+    for line in text.lines() {
+        if line.contains(" ok ") {
+            accepted = accepted.saturating_add(1);
+        }
+    }
+    assert_eq!(rt; accepted, 40);
+    let rows = [
+        "\n44 ok 12 3 40\nword,1,2001000000006003,\n",
+        "\nword,4,2002000000016007,\n",
+        "\nword,11,2001000000202004,\n",
+    ];
+    for row in rows {
+        assert!(rt; text.contains(row), "at {row}");
+    }
+    Ok(())
+}
+
+/// A reopening of the first match, and one of a match that has not kicked off.
+#[test]
+fn two_reopenings(rt: HostRuntime) -> Result<(), Fail> {
+    let alloc = rt.alloc();
+    let script = joined(alloc, CLUBS, TWO_MATCHES)?;
+    let script = joined(alloc, script.as_str(), "1,1,6,reopen\n1,3,0,reopen\n")?;
+    let (answer, out) = fed(alloc, script.as_bytes(), usize::MAX, Full::Fails);
+    assert_eq!(rt; answer, Ok(()));
+    let text = std::str::from_utf8(out.as_slice())?;
+    let row = "\n14 ok 1 6 7\n15 ok 1 7 8\n16 refused 9 not-finished\nword,1,2001080000001007,\n";
+    assert!(rt; text.contains(row));
+    Ok(())
+}
+
+/// A source or a sink that fails once is not asked again: the first failure is the answer, and tells exactly what had gone out or in.
+#[test]
+fn failing_devices(rt: HostRuntime) -> Result<(), Fail> {
+    let alloc = rt.alloc();
+    let script = joined(alloc, CLUBS, TWO_MATCHES)?;
+    for full in [Full::Fails, Full::TakesNone] {
+        for room in 0..TWO_MATCHES_OUT.len() {
+            let (answer, out) = fed(alloc, script.as_bytes(), room, full);
+            assert_eq!(rt; answer, Err(RunFault::WriteFailed { written: room }));
+            assert!(rt;
+                Some(out.as_slice()) == TWO_MATCHES_OUT.as_bytes().get(..room),
+                "{full:?} at {room}"
+            );
+        }
+    }
+    for room in [0, 1, 100, script.len()] {
+        let text = script.as_bytes();
+        let (answer, out) = fed(alloc, Cut { text, room }, usize::MAX, Full::Fails);
+        let fault = InputFault::ReadFailed { bytes: room };
+        assert_eq!(rt; answer, Err(RunFault::Input(fault)));
+        assert!(rt; out.is_empty(), "at {room}");
+    }
+    Ok(())
+}
+
+/// The screen of the head to head group, by way of the word lines that `feed` writes for it.
+const HEAD_TO_HEAD_SCREEN: &str = "\
+GROUP A v00040 IN PLAY 0
+    Club                  P  W  D  L  GF  GA   GD Pts
+1 + Alpha                 6  3  1  2   5   2   +3  10
+2 + Bravo                 6  3  1  2   3   3   +0  10
+3 - Charlie               6  3  1  2   7   3   +4  10
+4 - Delta                 6  1  1  4   1   8   -7   4
+";
+
+/// The same with the last match reopened: who was sure of a place may lose it now.
+const REOPENED_SCREEN: &str = "\
+GROUP A v00041 IN PLAY 1
+    Club                  P  W  D  L  GF  GA   GD Pts
+1   Alpha                 6  3  1  2   5   2   +3  10
+2   Bravo                 6  3  1  2   3   3   +0  10
+3   Charlie               6  3  1  2   7   3   +4  10
+4 - Delta                 6  1  1  4   1   8   -7   4
+";
+
+/// The word lines of what `feed` writes.
+fn word_lines(alloc: Global, text: &str) -> Result<String, Fail> {
+    let mut words = String::new(alloc);
+    for line in text.lines().filter(|line| line.starts_with("word,")) {
+        write!(&mut words, "{line}\n")?;
+    }
+    Ok(words)
+}
+
+/// The screen of a board of no event.
+const FRESH_SCREEN: &str = "\
+GROUP A v00000 IN PLAY 0
+    Club                  P  W  D  L  GF  GA   GD Pts
+1   Bravo                 0  0  0  0   0   0   +0   0
+2   Delta                 0  0  0  0   0   0   +0   0
+3   Alpha                 0  0  0  0   0   0   +0   0
+4   Charlie               0  0  0  0   0   0   +0   0
+";
+
+#[test]
+fn screens_of_sheets(rt: HostRuntime) -> Result<(), Fail> {
+    let alloc = rt.alloc();
+    let mut script = head_to_head_script(alloc)?;
+    let (answer, out) = fed(alloc, script.as_bytes(), usize::MAX, Full::Fails);
+    assert_eq!(rt; answer, Ok(()));
+    let text = std::str::from_utf8(out.as_slice())?;
+    let words = word_lines(alloc, text)?;
+    write!(&mut script, "2,12,3,reopen\n")?;
+    let (answer, out) = fed(alloc, script.as_bytes(), usize::MAX, Full::Fails);
+    assert_eq!(rt; answer, Ok(()));
+    let text = std::str::from_utf8(out.as_slice())?;
+    let reopened = word_lines(alloc, text)?;
+    let sheets = [
+        (words.as_str(), HEAD_TO_HEAD_SCREEN),
+        (reopened.as_str(), REOPENED_SCREEN),
+        (TWO_MATCHES_WORDS, TWO_MATCHES_SCREEN),
+        (TWO_MATCHES_OLD_WORDS, TWO_MATCHES_SCREEN),
+        (NO_EVENT_OUT, FRESH_SCREEN),
+    ];
+    for (words, screen) in sheets {
+        let sheet = joined(alloc, CLUBS, words)?;
+        let (answer, out) = shown(alloc, sheet.as_bytes(), usize::MAX, Full::Fails);
+        assert_eq!(rt; answer, Ok(()));
+        assert!(rt; out.as_slice() == screen.as_bytes());
+        for full in [Full::Fails, Full::TakesNone] {
+            for room in 0..screen.len() {
+                let (answer, out) = shown(alloc, sheet.as_bytes(), room, full);
+                assert_eq!(rt; answer, Err(RunFault::WriteFailed { written: room }));
+                assert!(rt;
+                    Some(out.as_slice()) == screen.as_bytes().get(..room),
+                    "{full:?} at {room}"
+                );
+            }
+        }
+    }
+    Ok(())
+}
+
+/// The largest words of the first layout.
+const LARGEST_SCREEN: &str = "\
+GROUP A v12276 IN PLAY 0
+    Club                  P  W  D  L  GF  GA   GD Pts
+1 + Bravo                 6  0  6  0 378 378   +0   6
+2 + Delta                 6  0  6  0 378 378   +0   6
+3 - Alpha                 6  0  6  0 378 378   +0   6
+4 - Charlie               6  0  6  0 378 378   +0   6
+";
+
+#[test]
+fn largest_words(rt: HostRuntime) -> Result<(), Fail> {
+    let alloc = rt.alloc();
+    let mut sheet = String::from_str(alloc, CLUBS)?;
+    for game in 1..=12 {
+        write!(&mut sheet, "word,{game},003FFFFFFFFFFBFF,\n")?;
+    }
+    let (answer, out) = shown(alloc, sheet.as_bytes(), usize::MAX, Full::Fails);
+    assert_eq!(rt; answer, Ok(()));
+    assert!(rt; out.as_slice() == LARGEST_SCREEN.as_bytes());
+    Ok(())
+}
+
+#[test]
+fn sheet_faults(rt: HostRuntime) -> Result<(), Fail> {
+    let alloc = rt.alloc();
+    let rows = [
+        ("word,2,2000000000000000,\n", InputFault::BadRow { row: 5 }),
+        ("word,1,000000000000000,\n", InputFault::BadRow { row: 5 }),
+        ("word,1,2000000000000000,\n", InputFault::BadRow { row: 6 }),
+    ];
+    for (words, fault) in rows {
+        let sheet = joined(alloc, CLUBS, words)?;
+        let (answer, out) = shown(alloc, sheet.as_bytes(), usize::MAX, Full::Fails);
+        assert_eq!(rt; answer, Err(RunFault::Input(fault)), "at {words}");
+        assert!(rt; out.is_empty(), "at {words}");
+    }
+    Ok(())
+}
+
+/// A reader whose first collect is torn: two matches kick off after its first load. The steps after the second begin anew.
+fn torn_reading(alloc: Global) -> Result<Vec<Step>, Fail> {
+    let reader = Caller::Reader(1);
+    let mut steps = vec![in alloc; Step::Begin(reader, Call::Reading), Step::First(reader)]?;
+    for number in 1..3u8 {
+        let reporter = Caller::Reporter(ReporterNo::new(number).ok_or("no such reporter")?);
+        let kick_off = EventCall {
+            game: MatchNo::new(number).ok_or("no such match")?,
+            expected: 0,
+            kind: Kind::KickOff,
+        };
+        steps.push(Step::Begin(reporter, Call::Event(kick_off)))?;
+        steps.push(Step::Look(reporter))?;
+        steps.push(Step::Swap(reporter))?;
+        steps.push(Step::End(reporter))?;
+    }
+    for _ in 0..11 {
+        steps.push(Step::First(reader))?;
+    }
+    steps.push(Step::Second(reader))?;
+    for _ in 0..12 {
+        steps.push(Step::First(reader))?;
+    }
+    for _ in 0..12 {
+        steps.push(Step::Second(reader))?;
+    }
+    steps.push(Step::End(reader))?;
+    Ok(steps)
+}
+
+const TWO_KICK_OFFS_SCREEN: &str = "\
+GROUP A v00002 IN PLAY 2
+    Club                  P  W  D  L  GF  GA   GD Pts
+1   Bravo                 1  0  1  0   0   0   +0   1
+2   Delta                 1  0  1  0   0   0   +0   1
+3   Alpha                 1  0  1  0   0   0   +0   1
+4   Charlie               1  0  1  0   0   0   +0   1
+";
+
+#[test]
+fn screen_of_a_reading(rt: HostRuntime) -> Result<(), Fail> {
+    let alloc = rt.alloc();
+    let cast = Cast {
+        reporters: 2,
+        readers: 1,
+    };
+    let steps = torn_reading(alloc)?;
+    assert_eq!(rt; steps.len(), 47);
+    let trace = run_steps(alloc, &cast, &steps)?;
+    let Some(Some(Reply::Copied(reading))) = trace.calls.first().map(|call| call.reply) else {
+        return Err("no reading".into());
+    };
+    let night = read_night(alloc, &mut FromRead::new(CLUBS.as_bytes()))?;
+    let text = screen(alloc, &reading.board, &night.roster, b'A', Profile::Uefa)?;
+    assert_eq!(rt; text.as_str(), TWO_KICK_OFFS_SCREEN);
+    Ok(())
+}

@@ -1,5 +1,0 @@
-use Rattle.ucl_night.proofs.Written.{refused_lines}
-use Rattle.ucl_night.proofs.laws.words_that_are_refused.Goals as goal
-
-pub returns : goal.returns
-returns c = refused_lines

@@ -1,0 +1,177 @@
+//! Devices that fail, and inputs that are too long.
+
+use super::CLUB_ROWS;
+use std::io;
+use std::io::{Read, Write};
+use std::test::Fail;
+use ucl_screen::{FromRead, InputFault, Sink, Source, ToWrite, give_all, read_night, read_words};
+
+/// A reader of a text, seven bytes at a time, which fails where the text ends.
+#[derive(Drop)]
+struct Broken<'a> {
+    text: &'a [u8],
+}
+
+impl Read for Broken<'_> {
+    fn read(&mut self, buf: &mut [u8]) -> io::Result<usize> {
+        let n = buf.len().min(self.text.len()).min(7);
+        if n == 0 {
+            return Err(io::Error::from(io::ErrorKind::BrokenPipe));
+        }
+        let (front, rest) = self.text.split_at(n);
+        buf[..n].copy_from_slice(front);
+        self.text = rest;
+        Ok(n)
+    }
+}
+
+#[test]
+fn reader_that_fails(rt: HostRuntime) -> Result<(), Fail> {
+    for bytes in 0..CLUB_ROWS.len() + 1 {
+        let failed = Some(InputFault::ReadFailed { bytes });
+        let mut source = FromRead::new(Broken {
+            text: &CLUB_ROWS[..bytes],
+        });
+        assert_eq!(rt; read_night(rt.alloc(), &mut source).err(), failed);
+        let mut source = FromRead::new(Broken {
+            text: &CLUB_ROWS[..bytes],
+        });
+        assert_eq!(rt; read_words(rt.alloc(), &mut source).err(), failed);
+    }
+    Ok(())
+}
+
+#[test]
+fn source_stays_failed(rt: HostRuntime) {
+    let mut source = FromRead::new(Broken { text: b"a" });
+    let mut buf = [0; 4];
+    assert_eq!(rt; source.take(&mut []), Some(0));
+    assert_eq!(rt; source.take(&mut buf), Some(1));
+    assert_eq!(rt; source.take(&mut buf), None);
+    assert_eq!(rt; source.take(&mut []), None);
+}
+
+/// A reader of the club rows and then of one row of a script again and again, a row at a time.
+#[derive(Drop)]
+struct Repeated {
+    given: usize,
+    length: usize,
+}
+
+impl Read for Repeated {
+    fn read(&mut self, buf: &mut [u8]) -> io::Result<usize> {
+        let row = match self.given {
+            0 => CLUB_ROWS,
+            78 | 96 => b"1,1,00000,kickoff\n".as_slice(),
+            _ => b"1,1,0,kickoff\n".as_slice(),
+        };
+        let n = row
+            .len()
+            .min(buf.len())
+            .min(self.length - self.given.min(self.length));
+        buf[..n].copy_from_slice(&row[..n]);
+        self.given = self.given.saturating_add(n);
+        Ok(n)
+    }
+}
+
+#[test]
+fn longest_script(rt: HostRuntime) -> Result<(), Fail> {
+    let mut source = FromRead::new(Repeated {
+        given: 0,
+        length: 4_194_304,
+    });
+    let night = read_night(rt.alloc(), &mut source)?;
+    assert_eq!(rt; night.events.len(), 299_587);
+    Ok(())
+}
+
+#[test]
+fn too_long(rt: HostRuntime) {
+    for length in [4_194_305, usize::MAX] {
+        let mut source = FromRead::new(Repeated { given: 0, length });
+        let fault = read_night(rt.alloc(), &mut source).err();
+        assert_eq!(rt; fault, Some(InputFault::TooLong));
+        let mut source = FromRead::new(Repeated { given: 0, length });
+        let fault = read_words(rt.alloc(), &mut source).err();
+        assert_eq!(rt; fault, Some(InputFault::TooLong));
+    }
+}
+
+/// A writer with room for so many bytes, which takes four at a time. Where it is full it fails, or takes none.
+#[derive(Drop)]
+struct Small<'a> {
+    room: &'a mut [u8],
+    taken: usize,
+    fails: bool,
+}
+
+impl Write for Small<'_> {
+    fn write(&mut self, buf: &[u8]) -> io::Result<usize> {
+        let taken = self.taken.min(self.room.len());
+        let n = buf.len().min(4).min(self.room.len() - taken);
+        if n == 0 && self.fails {
+            return Err(io::Error::from(io::ErrorKind::StorageFull));
+        }
+        self.room[taken..taken + n].copy_from_slice(&buf[..n]);
+        self.taken = taken + n;
+        Ok(n)
+    }
+
+    fn flush(&mut self) -> io::Result<()> {
+        Ok(())
+    }
+}
+
+#[test]
+fn writer_that_fails(rt: HostRuntime) -> Result<(), Fail> {
+    let text = b"five ok 1 1 1\n".as_slice();
+    for fails in [true, false] {
+        for room in 0..text.len() {
+            let mut bytes = [0; 14];
+            let mut sink = ToWrite::new(Small {
+                room: &mut bytes[..room],
+                taken: 0,
+                fails,
+            });
+            assert_eq!(rt; give_all(&mut sink, text), Err(room));
+            assert_eq!(rt; sink.give(b"more"), None);
+            assert_eq!(rt; sink.give(b""), None);
+            drop(sink);
+            assert!(rt; bytes[..room] == text[..room], "room for {room}");
+        }
+        let mut bytes = [0; 14];
+        let mut sink = ToWrite::new(Small {
+            room: &mut bytes,
+            taken: 0,
+            fails,
+        });
+        assert_eq!(rt; give_all(&mut sink, text), Ok(()));
+    }
+    Ok(())
+}
+
+#[test]
+fn fault_lines(rt: HostRuntime) -> Result<(), Fail> {
+    for (fault, line) in [
+        (
+            InputFault::BadWordAt { index: 3 },
+            "input refused 10: word 3",
+        ),
+        (InputFault::BadRow { row: 17 }, "input refused 20: row 17"),
+        (
+            InputFault::BadRoster { slot: 2 },
+            "input refused 21: slot 2",
+        ),
+        (
+            InputFault::ReadFailed { bytes: 100 },
+            "reading failed 22: after 100 bytes",
+        ),
+        (InputFault::OutOfMemory, "out of memory 23"),
+        (InputFault::TooLong, "input refused 24: too long"),
+    ] {
+        let text = format!(in rt.alloc(); "{fault}")?;
+        assert_eq!(rt; text.as_str(), line);
+    }
+    Ok(())
+}

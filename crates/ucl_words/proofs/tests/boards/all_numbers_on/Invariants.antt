@@ -1,4 +1,0 @@
-use Rattle.ucl_words.proofs.tests.boards.all_numbers_on.Given as goal
-
-abbrev pub invariant-loop-number : goal.invariant-loop-number
-invariant-loop-number g l = g.B.LiveBoard.is_reader l.fn.board l.reader
