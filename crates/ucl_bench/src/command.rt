@@ -35,50 +35,54 @@ plain_table standings screen
 const USAGE: &str = "list, run SUBJECT WORKLOAD MS [FILE], or check SUBJECT standings|screen FILE";
 
 /// Calls by one thread.
-#[derive(Clone, Copy, Debug, PartialEq, Eq)]
+#[derive(Clone, Copy)]
 pub enum Calls {
     Reads,
     Reports,
 }
 
 /// A workload of a board.
-#[derive(Clone, Copy, Debug, PartialEq, Eq)]
+#[derive(Clone, Copy)]
 pub enum Workload {
     Calls(Calls),
     Nights(Plan),
 }
 
-/// A workload by its name: `read`, `report`, `mix-R-W` or `paced-R-W`, with R readers and W reporters, each 0 to 12; or `night`, with
-/// two of each.
-pub fn workload_of(name: &str) -> Option<Workload> {
-    match name {
-        "read" => return Some(Workload::Calls(Calls::Reads)),
-        "report" => return Some(Workload::Calls(Calls::Reports)),
-        "night" => {
-            return Some(Workload::Nights(Plan {
-                style: Style::Night,
-                readers: 2,
-                reporters: 2,
-            }));
-        }
-        _ => {}
+/// How many readers, or reporters, a name asks for: 0 to 12.
+fn workers_of(digits: &str) -> Option<u8> {
+    digits.parse::<u8>().ok().filter(|workers| *workers <= 12)
+}
+
+/// A plan by its name: `mix-R-W` or `paced-R-W`, with R readers and W reporters; or `night`, with two of each.
+fn plan_of(name: &str) -> Option<Plan> {
+    if name == "night" {
+        return Some(Plan {
+            style: Style::Night,
+            readers: 2,
+            reporters: 2,
+        });
     }
-    let mut parts = name.split('-');
-    let style = match parts.next()? {
+    let (style, workers) = name.split_once('-')?;
+    let (readers, reporters) = workers.split_once('-')?;
+    let style = match style {
         "mix" => Style::Mix,
         "paced" => Style::Paced,
         _ => return None,
     };
-    let readers = parts.next()?.parse::<u8>().ok()?;
-    let reporters = parts.next()?.parse::<u8>().ok()?;
-    if readers > 12 || reporters > 12 || parts.next().is_some() {
-        return None;
-    }
-    Some(Workload::Nights(Plan {
+    Some(Plan {
         style,
-        readers,
-        reporters,
-    }))
+        readers: workers_of(readers)?,
+        reporters: workers_of(reporters)?,
+    })
+}
+
+/// A workload by its name: `read`, `report`, or that of a plan.
+fn workload_of(name: &str) -> Option<Workload> {
+    match name {
+        "read" => Some(Workload::Calls(Calls::Reads)),
+        "report" => Some(Workload::Calls(Calls::Reports)),
+        _ => plan_of(name).map(Workload::Nights),
+    }
 }
 
 /// Measures calls of a subject by one thread.

@@ -28,7 +28,7 @@ const QUIET_NIGHT_MILLIS: u64 = 20;
 const READINGS_AT_ONCE: u64 = 16;
 
 /// How reporters share the matches of a night.
-#[derive(Clone, Copy, Debug, PartialEq, Eq)]
+#[derive(Clone, Copy, PartialEq, Eq)]
 pub enum Style {
     /// Each has matches of its own, and enters one event after the other.
     Mix,
@@ -39,7 +39,7 @@ pub enum Style {
 }
 
 /// Who works on each night, and how.
-#[derive(Clone, Copy, Debug, PartialEq, Eq)]
+#[derive(Clone, Copy)]
 pub struct Plan {
     pub style: Style,
     pub readers: u8,

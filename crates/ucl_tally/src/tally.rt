@@ -32,7 +32,7 @@ fn time_of(place: usize) -> u64 {
 }
 
 /// In which order the events of a night are entered.
-#[derive(Clone, Copy, PartialEq, Eq)]
+#[derive(Clone, Copy)]
 pub enum Order {
     /// Each reporter ends a match of its own before its next begins.
     Matches,

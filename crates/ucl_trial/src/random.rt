@@ -3,7 +3,7 @@
 use ucl_word::{Kind, Side};
 
 /// A source of numbers (xorshift with 64 bits of state).
-#[derive(Clone, Copy, Debug)]
+#[derive(Clone, Copy)]
 pub struct Random {
     state: u64,
 }

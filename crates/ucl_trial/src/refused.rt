@@ -177,7 +177,7 @@ fn tables<R: Wait>(rt: &R, alloc: Global) -> anyhow::Result<Outcome<OutOfMemory>
 }
 
 /// A run over a source and a sink.
-#[derive(Clone, Copy, Debug)]
+#[derive(Clone, Copy)]
 enum Engine {
     Feed,
     Show,

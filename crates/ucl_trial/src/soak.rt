@@ -27,7 +27,7 @@ const RANDOM_MATCHES: u8 = 10;
 const FIRST_IN_TURN: u8 = 11;
 
 /// An event that a reporter entered, and the answer.
-#[derive(Clone, Copy, Debug)]
+#[derive(Clone, Copy)]
 struct Entered {
     reporter: ReporterNo,
     call: EventCall,
@@ -35,7 +35,7 @@ struct Entered {
 }
 
 /// The event numbers that a reporter has seen of the twelve matches.
-#[derive(Clone, Copy, Debug)]
+#[derive(Clone, Copy)]
 struct Numbers([u16; 12]);
 
 impl Numbers {
