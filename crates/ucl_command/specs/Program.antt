@@ -7,6 +7,8 @@ use Rattle.ucl_order.specs.declared.profile.Profile.{Profile}
 use Rattle.ucl_order.specs.Roster.{NamedClub}
 use Rattle.ucl_screen.specs.declared.fault.InputFault.{InputFault}
 use Rattle.ucl_screen.specs.declared.fault.InputFault.TheVariants as input
+use Rattle.ucl_screen.specs.declared.stream.Source as reads
+use Rattle.ucl_screen.specs.declared.stream.Sink as writes
 use Rattle.ucl_screen.specs.Input.{Reads}
 use Rattle.ucl_screen.specs.Script.{Script}
 use Rattle.ucl_screen.specs.Parsing.{MeansNight, MeansSheet, night_seen, sheet_seen}
@@ -97,6 +99,10 @@ pub record Streams : Type 0 where
 
 abbrev pub streams : Option (List ℕ) → Bool → Option (List ℕ) → Bool → Streams
 streams left read_failed taken write_failed = record { left = left; read_failed = read_failed; taken = taken; write_failed = write_failed }
+
+-- the same of a source and a sink, at one moment
+abbrev pub streams_at : {S W : Type 0} → reads.Ghosts S → writes.Ghosts W → S → W → Streams
+streams_at source sink s w = streams (source.left s) (source.failed s) (sink.taken w) (sink.failed w)
 
 -- a line was done, or has the fault r, over these streams
 pub record Obeys (line : Line) (before after : Streams) (r : Result ⊤ RunFault) : Type 0 where

@@ -3,7 +3,7 @@
 ghost use Rattle.std.specs.Prelude.{IfOk};
 ghost use Rattle.ucl_screen.specs.Screen.{IsGroup};
 ghost use Rattle.ucl_command.specs.CommandLine.{IsInRange};
-ghost use Rattle.ucl_command.specs.Program.{Ends, Obeys, Runs, streams};
+ghost use Rattle.ucl_command.specs.Program.{Ends, Obeys, Runs, streams_at};
 
 use crate::refusal::tell_refusal;
 use crate::{Line, LineFault};
@@ -26,7 +26,7 @@ fn play<S: Source, W: Sink, R: Threads + Wait + Sync>(
     profile: Profile,
 ) -> Result<(), RunFault>
     requires { IsGroup group }
-    ensures { Obeys (Line.Night group readings profile) (streams (S.left source.old) (S.failed source.old) (W.taken sink.old) (W.failed sink.old)) (streams (S.left source.new) (S.failed source.new) (W.taken sink.new) (W.failed sink.new)) result }
+    ensures { Obeys (Line.Night group readings profile) (streams_at S.Source W.Sink source.old sink.old) (streams_at S.Source W.Sink source.new sink.new) result }
 {
     let night = read_night(alloc, source)?;
     let (board, pass) = WordBoard::open(rt, alloc)?;
@@ -51,7 +51,7 @@ pub fn obey<S: Source, W: Sink, R: Threads + Wait + Sync>(
     sink: &mut W,
 ) -> Result<(), RunFault>
     requires { IsInRange line }
-    ensures { Obeys line (streams (S.left source.old) (S.failed source.old) (W.taken sink.old) (W.failed sink.old)) (streams (S.left source.new) (S.failed source.new) (W.taken sink.new) (W.failed sink.new)) result }
+    ensures { Obeys line (streams_at S.Source W.Sink source.old sink.old) (streams_at S.Source W.Sink source.new sink.new) result }
 {
     match line {
         Line::Feed => feed_run(alloc, source, sink),
@@ -85,7 +85,7 @@ pub fn run<S: Source, W: Sink, E: Sink, R: Threads + Wait + Sync>(
     errors: &mut E,
 ) -> u8
     requires { IfOk asked IsInRange }
-    ensures { Runs asked (streams (S.left source.old) (S.failed source.old) (W.taken sink.old) (W.failed sink.old)) (streams (S.left source.new) (S.failed source.new) (W.taken sink.new) (W.failed sink.new)) result (E.failed errors.new) (E.taken errors.old) (E.taken errors.new) }
+    ensures { Runs asked (streams_at S.Source W.Sink source.old sink.old) (streams_at S.Source W.Sink source.new sink.new) result (E.failed errors.new) (E.taken errors.old) (E.taken errors.new) }
 {
     match asked {
         Ok(line) => {
