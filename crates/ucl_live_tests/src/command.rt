@@ -95,80 +95,109 @@ fn words_of(alloc: Global, line: &str) -> Result<Vec<String>, Fail> {
     Ok(words)
 }
 
+/// Lines of words, and what they ask for.
+const TAKEN: [(&str, Line); 10] = [
+    ("ucl_night feed", Line::Feed),
+    (
+        "ucl_night show",
+        Line::Show {
+            group: b'A',
+            profile: Profile::Uefa,
+        },
+    ),
+    (
+        "ucl_night show --group A",
+        Line::Show {
+            group: b'A',
+            profile: Profile::Uefa,
+        },
+    ),
+    (
+        "ucl_night show --group H",
+        Line::Show {
+            group: b'H',
+            profile: Profile::Uefa,
+        },
+    ),
+    (
+        "ucl_night show --order away-in-tie",
+        Line::Show {
+            group: b'A',
+            profile: Profile::AwayInTie,
+        },
+    ),
+    (
+        "ucl_night show --order uefa --group C",
+        Line::Show {
+            group: b'C',
+            profile: Profile::Uefa,
+        },
+    ),
+    (
+        "ucl_night night",
+        Line::Night {
+            group: b'A',
+            readings: 0,
+            profile: Profile::Uefa,
+        },
+    ),
+    (
+        "ucl_night night --group B --readings 3",
+        Line::Night {
+            group: b'B',
+            readings: 3,
+            profile: Profile::Uefa,
+        },
+    ),
+    (
+        "ucl_night night --order away-in-tie --readings 2",
+        Line::Night {
+            group: b'A',
+            readings: 2,
+            profile: Profile::AwayInTie,
+        },
+    ),
+    (
+        "ucl_night night --readings 1000 --group H",
+        Line::Night {
+            group: b'H',
+            readings: 1000,
+            profile: Profile::Uefa,
+        },
+    ),
+];
+
+/// Lines of words that are refused.
+const REFUSED: [&str; 23] = [
+    "",
+    "ucl_night",
+    "ucl_night night --readings",
+    "ucl_night night --readings 1001",
+    "ucl_night night --readings -1",
+    "ucl_night night --readings three",
+    "ucl_night night --group I",
+    "ucl_night show --readings 3",
+    "ucl_night show --group",
+    "ucl_night show --group I",
+    "ucl_night show --group a",
+    "ucl_night show --order",
+    "ucl_night show --order away",
+    "ucl_night show --order UEFA",
+    "ucl_night night --order goals",
+    "ucl_night feed --order uefa",
+    "ucl_night show --group AB",
+    "ucl_night feed --group A",
+    "ucl_night other",
+    "ucl_night feed more",
+    "ucl_night --group A",
+    "ucl_night --version=1",
+    "ucl_night show --version",
+];
+
 #[test]
 fn command_lines(rt: HostRuntime) -> Result<(), Fail> {
     let alloc = rt.alloc();
-    let taken = [
-        ("ucl_night feed", Line::Feed),
-        (
-            "ucl_night show",
-            Line::Show {
-                group: b'A',
-                profile: Profile::Uefa,
-            },
-        ),
-        (
-            "ucl_night show --group A",
-            Line::Show {
-                group: b'A',
-                profile: Profile::Uefa,
-            },
-        ),
-        (
-            "ucl_night show --group H",
-            Line::Show {
-                group: b'H',
-                profile: Profile::Uefa,
-            },
-        ),
-        (
-            "ucl_night show --order away-in-tie",
-            Line::Show {
-                group: b'A',
-                profile: Profile::AwayInTie,
-            },
-        ),
-        (
-            "ucl_night show --order uefa --group C",
-            Line::Show {
-                group: b'C',
-                profile: Profile::Uefa,
-            },
-        ),
-        (
-            "ucl_night night",
-            Line::Night {
-                group: b'A',
-                readings: 0,
-                profile: Profile::Uefa,
-            },
-        ),
-        (
-            "ucl_night night --group B --readings 3",
-            Line::Night {
-                group: b'B',
-                readings: 3,
-                profile: Profile::Uefa,
-            },
-        ),
-        (
-            "ucl_night night --order away-in-tie --readings 2",
-            Line::Night {
-                group: b'A',
-                readings: 2,
-                profile: Profile::AwayInTie,
-            },
-        ),
-        (
-            "ucl_night night --readings 1000 --group H",
-            Line::Night {
-                group: b'H',
-                readings: 1000,
-                profile: Profile::Uefa,
-            },
-        ),
-    ];
-    for (line, asked) in taken {
+    for (line, asked) in TAKEN {
         let words = words_of(alloc, line)?;
         assert!(rt;
             line_of(alloc, &words).is_ok_and(|line| line == asked),
@@ -202,32 +231,7 @@ fn command_lines(rt: HostRuntime) -> Result<(), Fail> {
             "at {line}"
         );
     }
-    let refused = [
-        "",
-        "ucl_night",
-        "ucl_night night --readings",
-        "ucl_night night --readings 1001",
-        "ucl_night night --readings -1",
-        "ucl_night night --readings three",
-        "ucl_night night --group I",
-        "ucl_night show --readings 3",
-        "ucl_night show --group",
-        "ucl_night show --group I",
-        "ucl_night show --group a",
-        "ucl_night show --order",
-        "ucl_night show --order away",
-        "ucl_night show --order UEFA",
-        "ucl_night night --order goals",
-        "ucl_night feed --order uefa",
-        "ucl_night show --group AB",
-        "ucl_night feed --group A",
-        "ucl_night other",
-        "ucl_night feed more",
-        "ucl_night --group A",
-        "ucl_night --version=1",
-        "ucl_night show --version",
-    ];
-    for line in refused {
+    for line in REFUSED {
         let words = words_of(alloc, line)?;
         assert!(rt;
             matches!(line_of(alloc, &words), Err(LineFault::Refused(_))),

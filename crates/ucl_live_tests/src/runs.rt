@@ -47,59 +47,61 @@ fn joined(alloc: Global, first: &str, second: &str) -> Result<String, Fail> {
     Ok(text)
 }
 
+/// Each fault of a run, its line and its status.
+const FAULTS: [(RunFault, &str, u8); 12] = [
+    (
+        RunFault::Input(InputFault::BadWordAt { index: 4 }),
+        "input refused 10: word 4",
+        3,
+    ),
+    (
+        RunFault::Input(InputFault::BadRow { row: 299_590 }),
+        "input refused 20: row 299590",
+        3,
+    ),
+    (
+        RunFault::Input(InputFault::BadRoster { slot: 2 }),
+        "input refused 21: slot 2",
+        3,
+    ),
+    (
+        RunFault::Input(InputFault::ReadFailed { bytes: 100 }),
+        "reading failed 22: after 100 bytes",
+        4,
+    ),
+    (
+        RunFault::Input(InputFault::OutOfMemory),
+        "out of memory 23",
+        5,
+    ),
+    (
+        RunFault::Input(InputFault::TooLong),
+        "input refused 24: too long",
+        3,
+    ),
+    (RunFault::OutOfMemory, "out of memory 23", 5),
+    (
+        RunFault::WriteFailed { written: 7 },
+        "writing failed 26: after 7 bytes",
+        4,
+    ),
+    (
+        RunFault::NotOnDuty { row: 45 },
+        "input refused 25: row 45",
+        3,
+    ),
+    (RunFault::NoThread, "no thread 27", 5),
+    (RunFault::TooManyReporters, "board refused 30", 6),
+    (
+        RunFault::Strangers { version: 6 },
+        "board refused 31: version 6",
+        6,
+    ),
+];
+
 #[test]
 fn fault_lines_and_statuses(rt: HostRuntime) -> Result<(), Fail> {
-    let rows = [
-        (
-            RunFault::Input(InputFault::BadWordAt { index: 4 }),
-            "input refused 10: word 4",
-            3,
-        ),
-        (
-            RunFault::Input(InputFault::BadRow { row: 299_590 }),
-            "input refused 20: row 299590",
-            3,
-        ),
-        (
-            RunFault::Input(InputFault::BadRoster { slot: 2 }),
-            "input refused 21: slot 2",
-            3,
-        ),
-        (
-            RunFault::Input(InputFault::ReadFailed { bytes: 100 }),
-            "reading failed 22: after 100 bytes",
-            4,
-        ),
-        (
-            RunFault::Input(InputFault::OutOfMemory),
-            "out of memory 23",
-            5,
-        ),
-        (
-            RunFault::Input(InputFault::TooLong),
-            "input refused 24: too long",
-            3,
-        ),
-        (RunFault::OutOfMemory, "out of memory 23", 5),
-        (
-            RunFault::WriteFailed { written: 7 },
-            "writing failed 26: after 7 bytes",
-            4,
-        ),
-        (
-            RunFault::NotOnDuty { row: 45 },
-            "input refused 25: row 45",
-            3,
-        ),
-        (RunFault::NoThread, "no thread 27", 5),
-        (RunFault::TooManyReporters, "board refused 30", 6),
-        (
-            RunFault::Strangers { version: 6 },
-            "board refused 31: version 6",
-            6,
-        ),
-    ];
-    for (fault, line, status) in rows {
+    for (fault, line, status) in FAULTS {
         let text = fault.to_string(rt.alloc())?;
         assert_eq!(rt; text.as_str(), line);
         assert_eq!(rt; status_of(&fault), status, "at {line}");
@@ -179,24 +181,26 @@ fn push_match(
     Ok(())
 }
 
+/// The matches of the head to head group: the reporter, the match, and the goals of either side.
+const SCORES: [(u8, u8, u16, u16); 12] = [
+    (1, 1, 1, 0),
+    (2, 2, 1, 0),
+    (1, 3, 1, 0),
+    (2, 4, 5, 0),
+    (1, 5, 1, 0),
+    (2, 6, 1, 0),
+    (1, 7, 2, 0),
+    (2, 8, 0, 1),
+    (1, 9, 0, 0),
+    (2, 10, 0, 0),
+    (1, 11, 0, 2),
+    (2, 12, 0, 1),
+];
+
 /// The script of the head to head group: 40 events.
 fn head_to_head_script(alloc: Global) -> Result<String, Fail> {
-    let scores = [
-        (1, 1, 1, 0),
-        (2, 2, 1, 0),
-        (1, 3, 1, 0),
-        (2, 4, 5, 0),
-        (1, 5, 1, 0),
-        (2, 6, 1, 0),
-        (1, 7, 2, 0),
-        (2, 8, 0, 1),
-        (1, 9, 0, 0),
-        (2, 10, 0, 0),
-        (1, 11, 0, 2),
-        (2, 12, 0, 1),
-    ];
     let mut script = String::from_str(alloc, CLUBS)?;
-    for (reporter, game, home, away) in scores {
+    for (reporter, game, home, away) in SCORES {
         push_match(&mut script, reporter, game, home, away)?;
     }
     Ok(script)

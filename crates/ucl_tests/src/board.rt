@@ -52,21 +52,25 @@ fn reply(
     Some(board.report(ReporterNo::new(reporter)?, &call))
 }
 
+/// Two reporters in one match: the reporter, the expected number, the kind and the reply.
+const EXCHANGES: [(u8, u16, Kind, Result<Accepted, Refusal>); 6] = [
+    (1, 0, Kind::KickOff, Ok(Accepted { number: 1 })),
+    (1, 1, Kind::Goal(Side::Home), Ok(Accepted { number: 2 })),
+    (1, 2, Kind::Goal(Side::Away), Ok(Accepted { number: 3 })),
+    (1, 3, Kind::Yellow(Side::Home), Ok(Accepted { number: 4 })),
+    (1, 4, Kind::Goal(Side::Home), Ok(Accepted { number: 5 })),
+    (
+        2,
+        4,
+        Kind::Goal(Side::Away),
+        Err(Refusal::Stale { found: 5 }),
+    ),
+];
+
 #[test]
 fn two_exchanges(rt: HostRuntime) {
     let mut board = Board::fresh();
-    let home_goal = Kind::Goal(Side::Home);
-    let away_goal = Kind::Goal(Side::Away);
-    let home_yellow = Kind::Yellow(Side::Home);
-    let rows = [
-        (1, 0, Kind::KickOff, Ok(Accepted { number: 1 })),
-        (1, 1, home_goal, Ok(Accepted { number: 2 })),
-        (1, 2, away_goal, Ok(Accepted { number: 3 })),
-        (1, 3, home_yellow, Ok(Accepted { number: 4 })),
-        (1, 4, home_goal, Ok(Accepted { number: 5 })),
-        (2, 4, away_goal, Err(Refusal::Stale { found: 5 })),
-    ];
-    for (reporter, expected, kind, answer) in rows {
+    for (reporter, expected, kind, answer) in EXCHANGES {
         let said = reply(&mut board, reporter, expected, kind);
         assert_eq!(rt; said, Some(answer), "at {expected}");
     }
@@ -83,23 +87,25 @@ fn two_exchanges(rt: HostRuntime) {
     assert_eq!(rt; Board::of_words(&words), Ok(reading.board));
 }
 
+/// Each match, its home club and its away club.
+const FIXTURES: [(u8, u8, u8); 12] = [
+    (1, 2, 3),
+    (2, 4, 1),
+    (3, 1, 2),
+    (4, 3, 4),
+    (5, 3, 1),
+    (6, 2, 4),
+    (7, 1, 3),
+    (8, 4, 2),
+    (9, 3, 2),
+    (10, 1, 4),
+    (11, 2, 1),
+    (12, 4, 3),
+];
+
 #[test]
 fn fixtures(rt: HostRuntime) {
-    let rows = [
-        (1, 2, 3),
-        (2, 4, 1),
-        (3, 1, 2),
-        (4, 3, 4),
-        (5, 3, 1),
-        (6, 2, 4),
-        (7, 1, 3),
-        (8, 4, 2),
-        (9, 3, 2),
-        (10, 1, 4),
-        (11, 2, 1),
-        (12, 4, 3),
-    ];
-    for (number, home, away) in rows {
+    for (number, home, away) in FIXTURES {
         let clubs = MatchNo::new(number).map(|game| (home_of(game), away_of(game)));
         assert_eq!(rt; clubs, Some((home, away)), "at {number}");
     }

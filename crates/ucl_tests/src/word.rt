@@ -45,59 +45,65 @@ fn entered(word: u64, expected: u16, kind: Kind) -> Option<Result<u64, Refusal>>
     Some(apply(&before, reporter, expected, kind).map(|next| pack(&next)))
 }
 
+/// A match that reporter 1 has kicked off.
+const KICKED_OFF: MatchRecord = MatchRecord {
+    number: 1,
+    state: State::InPlay,
+    reporter: 1,
+    ..SCHEDULED
+};
+
+/// A match that reporter 1 has ended as its sixth event.
+const FINISHED: MatchRecord = MatchRecord {
+    number: 6,
+    state: State::Finished,
+    reporter: 1,
+    ..SCHEDULED
+};
+
+/// Words of the layout, and the records that they are of.
+const RECORDS: [(u64, MatchRecord); 7] = [
+    (0x2000000000000000, SCHEDULED),
+    (0x2001000000001001, KICKED_OFF),
+    (
+        0x2001000000005002,
+        MatchRecord {
+            number: 2,
+            home_goals: 1,
+            ..KICKED_OFF
+        },
+    ),
+    (
+        0x2002000000001001,
+        MatchRecord {
+            reporter: 2,
+            ..KICKED_OFF
+        },
+    ),
+    (
+        0x2001080000002006,
+        MatchRecord {
+            away_expulsions: 1,
+            ..FINISHED
+        },
+    ),
+    (
+        0x200100010410a007,
+        MatchRecord {
+            number: 7,
+            home_goals: 2,
+            away_goals: 1,
+            home_yellows: 1,
+            away_yellows: 1,
+            ..FINISHED
+        },
+    ),
+    (0x20ffffffffffefff, LARGEST),
+];
+
 #[test]
 fn words_of_the_layout(rt: HostRuntime) {
-    let in_play = MatchRecord {
-        number: 1,
-        state: State::InPlay,
-        reporter: 1,
-        ..SCHEDULED
-    };
-    let finished = MatchRecord {
-        number: 6,
-        state: State::Finished,
-        reporter: 1,
-        ..SCHEDULED
-    };
-    let rows = [
-        (0x2000000000000000, SCHEDULED),
-        (0x2001000000001001, in_play),
-        (
-            0x2001000000005002,
-            MatchRecord {
-                number: 2,
-                home_goals: 1,
-                ..in_play
-            },
-        ),
-        (
-            0x2002000000001001,
-            MatchRecord {
-                reporter: 2,
-                ..in_play
-            },
-        ),
-        (
-            0x2001080000002006,
-            MatchRecord {
-                away_expulsions: 1,
-                ..finished
-            },
-        ),
-        (
-            0x200100010410a007,
-            MatchRecord {
-                number: 7,
-                home_goals: 2,
-                away_goals: 1,
-                home_yellows: 1,
-                away_yellows: 1,
-                ..finished
-            },
-        ),
-        (0x20ffffffffffefff, LARGEST),
-    ];
-    for (word, game) in rows {
+    for (word, game) in RECORDS {
         assert_eq!(rt; unpack(word), Ok(game), "at {word:x}");
         assert!(rt; game.is_valid(), "at {word:x}");
         assert_eq!(rt; pack(&game), word, "at {word:x}");
@@ -116,20 +122,22 @@ fn bad_words(rt: HostRuntime) {
     }
 }
 
+/// Words of either layout, and the words that they are read as.
+const WORDS_READ: [(u64, Result<u64, BadWord>); 9] = [
+    (0x0000000000000000, Ok(0x2000000000000000)),
+    (0x0000420000000806, Ok(0x2001080000002006)),
+    (0x003ffffffffffbff, Ok(0x20ffffffffffe3ff)),
+    (0x2001080000002006, Ok(0x2001080000002006)),
+    (0x20ffffffffffefff, Ok(0x20ffffffffffefff)),
+    (0x0000000000000c00, Err(BadWord)),
+    (0x0000000000000401, Err(BadWord)),
+    (0x0040000000000000, Err(BadWord)),
+    (0x2000000000003000, Err(BadWord)),
+];
+
 #[test]
 fn words_of_the_first_layout(rt: HostRuntime) {
-    let rows = [
-        (0x0000000000000000, Ok(0x2000000000000000)),
-        (0x0000420000000806, Ok(0x2001080000002006)),
-        (0x003ffffffffffbff, Ok(0x20ffffffffffe3ff)),
-        (0x2001080000002006, Ok(0x2001080000002006)),
-        (0x20ffffffffffefff, Ok(0x20ffffffffffefff)),
-        (0x0000000000000c00, Err(BadWord)),
-        (0x0000000000000401, Err(BadWord)),
-        (0x0040000000000000, Err(BadWord)),
-        (0x2000000000003000, Err(BadWord)),
-    ];
-    for (word, read) in rows {
+    for (word, read) in WORDS_READ {
         assert_eq!(rt; migrate(word), read, "at {word:x}");
     }
     let full = 0x00004000000017fe;
@@ -153,42 +161,86 @@ fn kick_off_and_goal_words(rt: HostRuntime) {
     }
 }
 
+/// The same with an expulsion of the visitors.
+const SENT_OFF_AND_FINISHED: MatchRecord = MatchRecord {
+    away_expulsions: 1,
+    ..FINISHED
+};
+
+const NO_EXPULSION_LEFT: MatchRecord = MatchRecord {
+    home_expulsions: 31,
+    ..LONG
+};
+
+const CAUTIONED: MatchRecord = MatchRecord {
+    home_yellows: 1,
+    ..NO_EXPULSION_LEFT
+};
+
+const NO_GOAL_LEFT: MatchRecord = MatchRecord {
+    home_goals: 63,
+    ..LONG
+};
+
+/// Events that are refused in a record: the expected number, the kind, and the first refusal that holds.
+const REFUSALS: [(MatchRecord, u16, Kind, Refusal); 11] = [
+    (
+        SENT_OFF_AND_FINISHED,
+        5,
+        Kind::Goal(Side::Home),
+        Refusal::Stale { found: 6 },
+    ),
+    (
+        SENT_OFF_AND_FINISHED,
+        6,
+        Kind::Goal(Side::Home),
+        Refusal::Finished,
+    ),
+    (SENT_OFF_AND_FINISHED, 6, Kind::FullTime, Refusal::Finished),
+    (
+        SCHEDULED,
+        0,
+        Kind::Disallow(Side::Home),
+        Refusal::NotStarted,
+    ),
+    (KICKED_OFF, 1, Kind::KickOff, Refusal::AlreadyStarted),
+    (KICKED_OFF, 1, Kind::Disallow(Side::Home), Refusal::NoGoal),
+    (
+        KICKED_OFF,
+        1,
+        Kind::SecondYellow(Side::Home),
+        Refusal::NoCaution,
+    ),
+    (
+        NO_EXPULSION_LEFT,
+        400,
+        Kind::SecondYellow(Side::Home),
+        Refusal::NoCaution,
+    ),
+    (
+        NO_EXPULSION_LEFT,
+        400,
+        Kind::Red(Side::Home),
+        Refusal::LimitReached,
+    ),
+    (
+        CAUTIONED,
+        400,
+        Kind::SecondYellow(Side::Home),
+        Refusal::LimitReached,
+    ),
+    (
+        NO_GOAL_LEFT,
+        400,
+        Kind::Goal(Side::Home),
+        Refusal::LimitReached,
+    ),
+];
+
 #[test]
 fn order_of_refusals(rt: HostRuntime) -> Result<(), Fail> {
-    let unpacked = |word: u64| unpack(word);
-    let finished = unpacked(0x2001080000002006)?;
-    let kicked_off = unpacked(0x2001000000001001)?;
-    let sent_off = MatchRecord {
-        home_expulsions: 31,
-        ..LONG
-    };
-    let cautioned = MatchRecord {
-        home_yellows: 1,
-        ..sent_off
-    };
-    let full_of_goals = MatchRecord {
-        home_goals: 63,
-        ..LONG
-    };
-    let goal = Kind::Goal(Side::Home);
-    let disallow = Kind::Disallow(Side::Home);
-    let second_yellow = Kind::SecondYellow(Side::Home);
-    let red = Kind::Red(Side::Home);
-    let rows = [
-        (finished, 5, goal, Refusal::Stale { found: 6 }),
-        (finished, 6, goal, Refusal::Finished),
-        (finished, 6, Kind::FullTime, Refusal::Finished),
-        (SCHEDULED, 0, disallow, Refusal::NotStarted),
-        (kicked_off, 1, Kind::KickOff, Refusal::AlreadyStarted),
-        (kicked_off, 1, disallow, Refusal::NoGoal),
-        (kicked_off, 1, second_yellow, Refusal::NoCaution),
-        (sent_off, 400, second_yellow, Refusal::NoCaution),
-        (sent_off, 400, red, Refusal::LimitReached),
-        (cautioned, 400, second_yellow, Refusal::LimitReached),
-        (full_of_goals, 400, goal, Refusal::LimitReached),
-    ];
     let reporter = ReporterNo::new(1).ok_or("no reporter 1")?;
-    for (game, expected, kind, refusal) in rows {
+    for (game, expected, kind, refusal) in REFUSALS {
         assert!(rt; game.is_valid());
         assert_eq!(rt;
             apply(&game, reporter, expected, kind),
@@ -225,39 +277,45 @@ fn number_full(rt: HostRuntime) {
     }
 }
 
+/// Events round a reopening: the word before, the expected number, the kind, and the word after or the refusal.
+const REOPENINGS: [(u64, u16, Kind, Result<u64, Refusal>); 7] = [
+    (0x2001080000002006, 6, Kind::Reopen, Ok(0x2001080000001007)),
+    (
+        0x2001080000001007,
+        6,
+        Kind::Reopen,
+        Err(Refusal::Stale { found: 7 }),
+    ),
+    (
+        0x2001080000001007,
+        7,
+        Kind::Reopen,
+        Err(Refusal::NotFinished),
+    ),
+    (
+        0x2001080000001007,
+        7,
+        Kind::Goal(Side::Home),
+        Ok(0x2001080000005008),
+    ),
+    (
+        0x2001080000005008,
+        8,
+        Kind::FullTime,
+        Ok(0x2001080000006009),
+    ),
+    (0x2001080000006009, 9, Kind::KickOff, Err(Refusal::Finished)),
+    (
+        0x2000000000000000,
+        0,
+        Kind::Reopen,
+        Err(Refusal::NotFinished),
+    ),
+];
+
 #[test]
 fn reopened_words(rt: HostRuntime) {
-    let goal = Kind::Goal(Side::Home);
-    let rows = [
-        (0x2001080000002006, 6, Kind::Reopen, Ok(0x2001080000001007)),
-        (
-            0x2001080000001007,
-            6,
-            Kind::Reopen,
-            Err(Refusal::Stale { found: 7 }),
-        ),
-        (
-            0x2001080000001007,
-            7,
-            Kind::Reopen,
-            Err(Refusal::NotFinished),
-        ),
-        (0x2001080000001007, 7, goal, Ok(0x2001080000005008)),
-        (
-            0x2001080000005008,
-            8,
-            Kind::FullTime,
-            Ok(0x2001080000006009),
-        ),
-        (0x2001080000006009, 9, Kind::KickOff, Err(Refusal::Finished)),
-        (
-            0x2000000000000000,
-            0,
-            Kind::Reopen,
-            Err(Refusal::NotFinished),
-        ),
-    ];
-    for (word, expected, kind, answer) in rows {
+    for (word, expected, kind, answer) in REOPENINGS {
         assert_eq!(rt;
             entered(word, expected, kind),
             Some(answer),
@@ -302,21 +360,23 @@ fn numbers_of_matches_and_reporters(rt: HostRuntime) {
     assert_eq!(rt; ReporterNo::new(255).map(ReporterNo::get), Some(255));
 }
 
+/// Each refusal, and its number and name.
+const TEXTS: [(Refusal, &str); 9] = [
+    (Refusal::Stale { found: 6 }, "1 stale 6"),
+    (Refusal::Finished, "2 finished"),
+    (Refusal::NotStarted, "3 not-started"),
+    (Refusal::AlreadyStarted, "4 already-started"),
+    (Refusal::NumberFull, "5 number-full"),
+    (Refusal::NoGoal, "6 no-goal"),
+    (Refusal::NoCaution, "7 no-caution"),
+    (Refusal::LimitReached, "8 limit-reached"),
+    (Refusal::NotFinished, "9 not-finished"),
+];
+
 #[test]
 fn texts(rt: HostRuntime) -> Result<(), Fail> {
     let alloc = rt.alloc();
-    let refusals = [
-        (Refusal::Stale { found: 6 }, "1 stale 6"),
-        (Refusal::Finished, "2 finished"),
-        (Refusal::NotStarted, "3 not-started"),
-        (Refusal::AlreadyStarted, "4 already-started"),
-        (Refusal::NumberFull, "5 number-full"),
-        (Refusal::NoGoal, "6 no-goal"),
-        (Refusal::NoCaution, "7 no-caution"),
-        (Refusal::LimitReached, "8 limit-reached"),
-        (Refusal::NotFinished, "9 not-finished"),
-    ];
-    for (refusal, text) in refusals {
+    for (refusal, text) in TEXTS {
         assert_eq!(rt; refusal.to_string(alloc)?.as_str(), text);
     }
     assert_eq!(rt; BadWord.to_string(alloc)?.as_str(), "bad word 10");

@@ -47,6 +47,17 @@ fn read_in_thread<B: LiveBoard, R: Threads + Wait + Sync>(
     version
 }
 
+/// A match from its kick-off to full time: the expected numbers and the kinds.
+const SEVEN_EVENTS: [(u16, Kind); 7] = [
+    (0, Kind::KickOff),
+    (1, Kind::Goal(Side::Home)),
+    (2, Kind::Goal(Side::Away)),
+    (3, Kind::Yellow(Side::Home)),
+    (4, Kind::Yellow(Side::Away)),
+    (5, Kind::Goal(Side::Home)),
+    (6, Kind::FullTime),
+];
+
 /// Seven events of one match, and what their reporter, a reader, and a second reader in a thread of its own read.
 fn read_back_on<B: LiveBoard, R: Threads + Wait + Sync + Abort>(
     rt: &R,
@@ -55,19 +66,10 @@ fn read_back_on<B: LiveBoard, R: Threads + Wait + Sync + Abort>(
 ) -> Result<(), Fail>
     requires { B.is_reader board.now reader }
 {
-    let rows = [
-        (0, Kind::KickOff),
-        (1, Kind::Goal(Side::Home)),
-        (2, Kind::Goal(Side::Away)),
-        (3, Kind::Yellow(Side::Home)),
-        (4, Kind::Yellow(Side::Away)),
-        (5, Kind::Goal(Side::Home)),
-        (6, Kind::FullTime),
-    ];
     let mut reporter = enlisted(rt, board, &mut reader).ok_or("no number is left")?;
     assert_eq!(rt; board.read(rt, &mut reader).version, 0);
     let game = MatchNo::new(1).ok_or("no such match")?;
-    for (expected, kind) in rows {
+    for (expected, kind) in SEVEN_EVENTS {
         let call = EventCall {
             game,
             expected,
@@ -295,6 +297,14 @@ fn both_rise<B: LiveBoard, R: Threads + Wait + Sync>(
     rise && rise_too
 }
 
+/// Events on a board that takes no more: the match, the kind and the refusal.
+const LATE_EVENTS: [(u8, Kind, Refusal); 4] = [
+    (1, Kind::KickOff, Refusal::Finished),
+    (6, Kind::Goal(Side::Away), Refusal::Finished),
+    (12, Kind::FullTime, Refusal::Finished),
+    (1, Kind::Reopen, Refusal::NumberFull),
+];
+
 /// One reporter enters all events that a board can take while two readers read; then no event is taken.
 fn all_events_on<B: LiveBoard, R: Threads + Wait + Sync + Abort>(
     rt: &R,
@@ -324,13 +334,7 @@ fn all_events_on<B: LiveBoard, R: Threads + Wait + Sync + Abort>(
     let mut reporter = reporter;
     assert_eq!(rt; board.read_own(rt, &mut reporter).version, 49140);
     assert_eq!(rt; B::accepted_of(&reporter), 49140);
-    let rows = [
-        (1, Kind::KickOff, Refusal::Finished),
-        (6, Kind::Goal(Side::Away), Refusal::Finished),
-        (12, Kind::FullTime, Refusal::Finished),
-        (1, Kind::Reopen, Refusal::NumberFull),
-    ];
-    for (number, kind, refusal) in rows {
+    for (number, kind, refusal) in LATE_EVENTS {
         let call = EventCall {
             game: MatchNo::new(number).ok_or("no such match")?,
             expected: EVENTS_OF_A_MATCH,
@@ -408,6 +412,82 @@ fn each_event_once(rt: HostRuntime) -> Result<(), Fail> {
     one_match_by_two(&rt, &board, reader)
 }
 
+/// A finished match that goes on: the expected number, the kind, the reply, and the word of the match after it.
+const REOPENINGS: [(u16, Kind, Result<Accepted, Refusal>, u64); 12] = [
+    (
+        0,
+        Kind::Reopen,
+        Err(Refusal::NotFinished),
+        0x2000000000000000,
+    ),
+    (
+        0,
+        Kind::KickOff,
+        Ok(Accepted { number: 1 }),
+        0x2001000000001001,
+    ),
+    (
+        1,
+        Kind::Goal(Side::Home),
+        Ok(Accepted { number: 2 }),
+        0x2001000000005002,
+    ),
+    (
+        2,
+        Kind::Yellow(Side::Away),
+        Ok(Accepted { number: 3 }),
+        0x2001000100005003,
+    ),
+    (
+        3,
+        Kind::SecondYellow(Side::Away),
+        Ok(Accepted { number: 4 }),
+        0x2001080000005004,
+    ),
+    (
+        4,
+        Kind::Disallow(Side::Home),
+        Ok(Accepted { number: 5 }),
+        0x2001080000001005,
+    ),
+    (
+        5,
+        Kind::FullTime,
+        Ok(Accepted { number: 6 }),
+        0x2001080000002006,
+    ),
+    (
+        6,
+        Kind::Reopen,
+        Ok(Accepted { number: 7 }),
+        0x2001080000001007,
+    ),
+    (
+        6,
+        Kind::Reopen,
+        Err(Refusal::Stale { found: 7 }),
+        0x2001080000001007,
+    ),
+    (
+        7,
+        Kind::Reopen,
+        Err(Refusal::NotFinished),
+        0x2001080000001007,
+    ),
+    (
+        7,
+        Kind::Goal(Side::Home),
+        Ok(Accepted { number: 8 }),
+        0x2001080000005008,
+    ),
+    (
+        8,
+        Kind::FullTime,
+        Ok(Accepted { number: 9 }),
+        0x2001080000006009,
+    ),
+];
+
 /// A finished match goes on, and is ended again: replies, and the word of the match after each.
 fn reopened_on<B: LiveBoard, R: Wait + Abort>(
     rt: &R,
@@ -418,28 +498,7 @@ fn reopened_on<B: LiveBoard, R: Wait + Abort>(
 {
     let mut reporter = enlisted(rt, board, &mut reader).ok_or("no number is left")?;
     let game = MatchNo::new(1).ok_or("no such match")?;
-    let accepted = |number: u16| Ok(Accepted { number });
-    let home_goal = Kind::Goal(Side::Home);
-    let no_goal = Kind::Disallow(Side::Home);
-    let away_yellow = Kind::Yellow(Side::Away);
-    let second_yellow = Kind::SecondYellow(Side::Away);
-    let not_finished = Err(Refusal::NotFinished);
-    let stale = Err(Refusal::Stale { found: 7 });
-    let rows = [
-        (0, Kind::Reopen, not_finished, 0x2000000000000000),
-        (0, Kind::KickOff, accepted(1), 0x2001000000001001),
-        (1, home_goal, accepted(2), 0x2001000000005002),
-        (2, away_yellow, accepted(3), 0x2001000100005003),
-        (3, second_yellow, accepted(4), 0x2001080000005004),
-        (4, no_goal, accepted(5), 0x2001080000001005),
-        (5, Kind::FullTime, accepted(6), 0x2001080000002006),
-        (6, Kind::Reopen, accepted(7), 0x2001080000001007),
-        (6, Kind::Reopen, stale, 0x2001080000001007),
-        (7, Kind::Reopen, not_finished, 0x2001080000001007),
-        (7, home_goal, accepted(8), 0x2001080000005008),
-        (8, Kind::FullTime, accepted(9), 0x2001080000006009),
-    ];
-    for (expected, kind, reply, word) in rows {
+    for (expected, kind, reply, word) in REOPENINGS {
         let call = EventCall {
             game,
             expected,

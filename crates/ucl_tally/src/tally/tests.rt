@@ -48,87 +48,93 @@ fn first_words(first: [u64; 3]) -> [u64; 12] {
     words
 }
 
+/// What the first matches of a night can have at one moment, and the version.
+const OF_ONE_MOMENT: [(&str, [u64; 3], u16, Cut); 7] = [
+    ("fresh", [SCHEDULED; 3], 0, PACED_BY_ONE),
+    (
+        "kicked off",
+        [KICKED_OFF, SCHEDULED, SCHEDULED],
+        1,
+        PACED_BY_ONE,
+    ),
+    (
+        "second match",
+        [AFTER_100, AFTER_2, SCHEDULED],
+        102,
+        PACED_BY_ONE,
+    ),
+    (
+        "next is due",
+        [AFTER_100, SCHEDULED, SCHEDULED],
+        100,
+        PACED_BY_ONE,
+    ),
+    (
+        "two at once",
+        [AFTER_99, KICKED_OFF, SCHEDULED],
+        100,
+        PACED_BY_TWO,
+    ),
+    (
+        "two go on",
+        [AFTER_100, AFTER_99, AFTER_2],
+        201,
+        PACED_BY_TWO,
+    ),
+    (
+        "to full time",
+        [ENDED, AFTER_4094, SCHEDULED],
+        8189,
+        WHOLE_BY_ONE,
+    ),
+];
+
 #[test]
 fn words_of_one_moment(rt: HostRuntime) {
-    for (name, first, version, cut) in [
-        ("fresh", [SCHEDULED; 3], 0, PACED_BY_ONE),
-        (
-            "kicked off",
-            [KICKED_OFF, SCHEDULED, SCHEDULED],
-            1,
-            PACED_BY_ONE,
-        ),
-        (
-            "second match",
-            [AFTER_100, AFTER_2, SCHEDULED],
-            102,
-            PACED_BY_ONE,
-        ),
-        (
-            "next is due",
-            [AFTER_100, SCHEDULED, SCHEDULED],
-            100,
-            PACED_BY_ONE,
-        ),
-        (
-            "two at once",
-            [AFTER_99, KICKED_OFF, SCHEDULED],
-            100,
-            PACED_BY_TWO,
-        ),
-        (
-            "two go on",
-            [AFTER_100, AFTER_99, AFTER_2],
-            201,
-            PACED_BY_TWO,
-        ),
-        (
-            "to full time",
-            [ENDED, AFTER_4094, SCHEDULED],
-            8189,
-            WHOLE_BY_ONE,
-        ),
-    ] {
+    for (name, first, version, cut) in OF_ONE_MOMENT {
         assert!(rt; is_whole(&first_words(first), version, cut), "{name}");
     }
     assert!(rt; is_whole(&[ENDED; 12], 49140, WHOLE_BY_ONE), "all ended");
 }
 
+/// The same of two moments.
+const OF_TWO_MOMENTS: [(&str, [u64; 3], u16, Cut); 5] = [
+    (
+        "stands",
+        [AFTER_99, KICKED_OFF, SCHEDULED],
+        100,
+        PACED_BY_ONE,
+    ),
+    (
+        "not begun",
+        [SCHEDULED, KICKED_OFF, SCHEDULED],
+        1,
+        PACED_BY_ONE,
+    ),
+    (
+        "passed over",
+        [AFTER_100, SCHEDULED, AFTER_2],
+        102,
+        PACED_BY_ONE,
+    ),
+    (
+        "no full time",
+        [AFTER_4094, KICKED_OFF, SCHEDULED],
+        4095,
+        WHOLE_BY_ONE,
+    ),
+    (
+        "of reporter 2",
+        [AFTER_99, SCHEDULED, KICKED_OFF],
+        100,
+        PACED_BY_TWO,
+    ),
+];
+
 /// What a single collect can give: it copies a match, and a later one when that has gone on.
 #[test]
 fn words_of_two_moments(rt: HostRuntime) {
-    for (name, first, version, cut) in [
-        (
-            "stands",
-            [AFTER_99, KICKED_OFF, SCHEDULED],
-            100,
-            PACED_BY_ONE,
-        ),
-        (
-            "not begun",
-            [SCHEDULED, KICKED_OFF, SCHEDULED],
-            1,
-            PACED_BY_ONE,
-        ),
-        (
-            "passed over",
-            [AFTER_100, SCHEDULED, AFTER_2],
-            102,
-            PACED_BY_ONE,
-        ),
-        (
-            "no full time",
-            [AFTER_4094, KICKED_OFF, SCHEDULED],
-            4095,
-            WHOLE_BY_ONE,
-        ),
-        (
-            "of reporter 2",
-            [AFTER_99, SCHEDULED, KICKED_OFF],
-            100,
-            PACED_BY_TWO,
-        ),
-    ] {
+    for (name, first, version, cut) in OF_TWO_MOMENTS {
         assert!(rt; !is_whole(&first_words(first), version, cut), "{name}");
     }
 }

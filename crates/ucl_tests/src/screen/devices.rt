@@ -151,25 +151,28 @@ fn writer_that_fails(rt: HostRuntime) -> Result<(), Fail> {
     Ok(())
 }
 
+/// Each fault of an input, and its line.
+const FAULT_LINES: [(InputFault, &str); 6] = [
+    (
+        InputFault::BadWordAt { index: 3 },
+        "input refused 10: word 3",
+    ),
+    (InputFault::BadRow { row: 17 }, "input refused 20: row 17"),
+    (
+        InputFault::BadRoster { slot: 2 },
+        "input refused 21: slot 2",
+    ),
+    (
+        InputFault::ReadFailed { bytes: 100 },
+        "reading failed 22: after 100 bytes",
+    ),
+    (InputFault::OutOfMemory, "out of memory 23"),
+    (InputFault::TooLong, "input refused 24: too long"),
+];
+
 #[test]
 fn fault_lines(rt: HostRuntime) -> Result<(), Fail> {
-    for (fault, line) in [
-        (
-            InputFault::BadWordAt { index: 3 },
-            "input refused 10: word 3",
-        ),
-        (InputFault::BadRow { row: 17 }, "input refused 20: row 17"),
-        (
-            InputFault::BadRoster { slot: 2 },
-            "input refused 21: slot 2",
-        ),
-        (
-            InputFault::ReadFailed { bytes: 100 },
-            "reading failed 22: after 100 bytes",
-        ),
-        (InputFault::OutOfMemory, "out of memory 23"),
-        (InputFault::TooLong, "input refused 24: too long"),
-    ] {
+    for (fault, line) in FAULT_LINES {
         let text = format!(in rt.alloc(); "{fault}")?;
         assert_eq!(rt; text.as_str(), line);
     }

@@ -74,6 +74,16 @@ fn event(reporter: u8, game: u8, expected: u16, kind: Kind) -> Option<NightEvent
     })
 }
 
+/// Some events of the script by their place: the reporter, the match, the expected number and the kind.
+const SOME_EVENTS: [(usize, u8, u8, u16, Kind); 6] = [
+    (0, 1, 1, 0, Kind::KickOff),
+    (1, 1, 1, 1, Kind::Goal(Side::Home)),
+    (2, 1, 1, 2, Kind::FullTime),
+    (3, 2, 2, 0, Kind::KickOff),
+    (38, 2, 12, 1, Kind::Goal(Side::Away)),
+    (39, 2, 12, 2, Kind::FullTime),
+];
+
 #[test]
 fn head_to_head_events(rt: HostRuntime) -> Result<(), Fail> {
     let night = night_of(rt.alloc(), &head_to_head_script(rt.alloc())?)?;
@@ -81,37 +91,33 @@ fn head_to_head_events(rt: HostRuntime) -> Result<(), Fail> {
     assert!(rt; night.roster.name(3) == b"Charlie".as_slice());
     assert_eq!(rt; night.roster.coefficient(4), 81500);
     assert_eq!(rt; night.events.len(), 40);
-    for (at, reporter, game, expected, kind) in [
-        (0, 1, 1, 0, Kind::KickOff),
-        (1, 1, 1, 1, Kind::Goal(Side::Home)),
-        (2, 1, 1, 2, Kind::FullTime),
-        (3, 2, 2, 0, Kind::KickOff),
-        (38, 2, 12, 1, Kind::Goal(Side::Away)),
-        (39, 2, 12, 2, Kind::FullTime),
-    ] {
+    for (at, reporter, game, expected, kind) in SOME_EVENTS {
         let said = night.events.get(at).copied();
         assert_eq!(rt; said, event(reporter, game, expected, kind), "event {at}");
     }
     Ok(())
 }
 
+/// Each event word.
+const EVENT_WORDS: [(&str, Kind); 13] = [
+    ("kickoff", Kind::KickOff),
+    ("goal-home", Kind::Goal(Side::Home)),
+    ("goal-away", Kind::Goal(Side::Away)),
+    ("disallow-home", Kind::Disallow(Side::Home)),
+    ("disallow-away", Kind::Disallow(Side::Away)),
+    ("yellow-home", Kind::Yellow(Side::Home)),
+    ("yellow-away", Kind::Yellow(Side::Away)),
+    ("second-yellow-home", Kind::SecondYellow(Side::Home)),
+    ("second-yellow-away", Kind::SecondYellow(Side::Away)),
+    ("red-home", Kind::Red(Side::Home)),
+    ("red-away", Kind::Red(Side::Away)),
+    ("fulltime", Kind::FullTime),
+    ("reopen", Kind::Reopen),
+];
+
 #[test]
 fn event_words(rt: HostRuntime) -> Result<(), Fail> {
-    for (word, kind) in [
-        ("kickoff", Kind::KickOff),
-        ("goal-home", Kind::Goal(Side::Home)),
-        ("goal-away", Kind::Goal(Side::Away)),
-        ("disallow-home", Kind::Disallow(Side::Home)),
-        ("disallow-away", Kind::Disallow(Side::Away)),
-        ("yellow-home", Kind::Yellow(Side::Home)),
-        ("yellow-away", Kind::Yellow(Side::Away)),
-        ("second-yellow-home", Kind::SecondYellow(Side::Home)),
-        ("second-yellow-away", Kind::SecondYellow(Side::Away)),
-        ("red-home", Kind::Red(Side::Home)),
-        ("red-away", Kind::Red(Side::Away)),
-        ("fulltime", Kind::FullTime),
-        ("reopen", Kind::Reopen),
-    ] {
+    for (word, kind) in EVENT_WORDS {
         let mut text = after_club_rows(rt.alloc(), b"")?;
         push(&mut text, rt.alloc(), 255, 12, 65535, word)?;
         let night = night_of(rt.alloc(), &text)?;
@@ -208,28 +214,19 @@ fn comma_in_a_name(rt: HostRuntime) -> Result<(), Fail> {
     Ok(())
 }
 
+/// Rows whose numbers have zeros in front, too many digits or a sign.
+const NUMBERS: [(&[u8], Option<InputFault>); 6] = [
+    (b"1,1,00000,kickoff", None),
+    (b"001,01,0,kickoff", None),
+    (b"1,1,000000,kickoff", Some(InputFault::BadRow { row: 5 })),
+    (b"1,1,+0,kickoff", Some(InputFault::BadRow { row: 5 })),
+    (b"256,1,0,kickoff", Some(InputFault::BadRow { row: 5 })),
+    (b"1,1,0,kickoff,", Some(InputFault::BadRow { row: 5 })),
+];
+
 #[test]
 fn digits_and_signs(rt: HostRuntime) -> Result<(), Fail> {
-    for (row, fault) in [
-        (b"1,1,00000,kickoff".as_slice(), None),
-        (b"001,01,0,kickoff".as_slice(), None),
-        (
-            b"1,1,000000,kickoff".as_slice(),
-            Some(InputFault::BadRow { row: 5 }),
-        ),
-        (
-            b"1,1,+0,kickoff".as_slice(),
-            Some(InputFault::BadRow { row: 5 }),
-        ),
-        (
-            b"256,1,0,kickoff".as_slice(),
-            Some(InputFault::BadRow { row: 5 }),
-        ),
-        (
-            b"1,1,0,kickoff,".as_slice(),
-            Some(InputFault::BadRow { row: 5 }),
-        ),
-    ] {
+    for (row, fault) in NUMBERS {
         let text = after_club_rows(rt.alloc(), row)?;
         assert_eq!(rt; night_of(rt.alloc(), &text).err(), fault);
     }
