@@ -12,4 +12,3 @@ pub use command_line::{Line, LineFault, line_of};
 pub use laws::{words_that_are_refused, words_that_are_taken};
 pub use program::{obey, run};
 pub use refusal::tell_refusal;
-pub use texts::VERSION;
