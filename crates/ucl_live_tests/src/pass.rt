@@ -1,5 +1,4 @@
-//! A board in one cell, and the texts of the refusals. The rows that every live board passes are run on this one too by the tests of the
-//! crate of the word board.
+//! A board in one cell, and the texts of the refusals. The rows that every live board passes are run on this one too, in `words/boards.rt`.
 
 mod examples;
 
