@@ -8,6 +8,8 @@ use Rattle.ucl_order.specs.Roster.{NamedClub}
 use Rattle.ucl_screen.specs.declared.night.NightEvent.{NightEvent}
 use Rattle.ucl_screen.specs.Screen.{screen_text}
 use Rattle.ucl_pass.specs.Passes.{PassView, IsSound, SeesOn, Continues}
+use Rattle.ucl_runs.specs.declared.fault.RunFault.{RunFault}
+use Rattle.ucl_runs.specs.Run.{MatchDuty}
 
 -- the numbers on the board that stand for reporters 1 and 2 of the script
 abbrev pub number_of_two : ℕ → ℕ → ℕ → ℕ
@@ -63,6 +65,14 @@ pub record IsMerge (number : ℕ → ℕ) (rows : List NightEvent) (history : Li
       → ComesFirst history (attempt_by number row) (point i) (point j)
   pub one_row : (p : ℕ) → p < length history → IsOfOneRow number rows point history p
 
+-- the history that the passes of reporters 1 and 2 have at a version is a merge of the rows
+abbrev pub HaveMerged : PassView → PassView → List NightEvent → ℕ → Type 0
+HaveMerged first second rows version = IsMerge (number_of_two first.number second.number) rows (take version second.seen)
+
+-- the second of two reporters' passes has seen this version, and both have entered just so many events
+abbrev pub HaveEnteredAll : PassView → PassView → ℕ → Type 0
+HaveEnteredAll first second version = (version ≤ length second.seen) × (length first.mine + length second.mine ≡ version)
+
 -- rows of one match are all of one reporter
 abbrev pub EachMatchHasOneReporter : List NightEvent → Type 0
 EachMatchHasOneReporter rows = (i j : ℕ) (row other : NightEvent) → slice_get rows i ≡ Some row → slice_get rows j ≡ Some other → row.call.game ≡ other.call.game → row.reporter ≡ other.reporter
@@ -70,6 +80,10 @@ EachMatchHasOneReporter rows = (i j : ℕ) (row other : NightEvent) → slice_ge
 -- the board after all rows, entered in script order
 abbrev pub night_board : (ℕ → ℕ) → List NightEvent → List ℕ
 night_board number rows = board_of (accepted_of (map (attempt_by number) rows))
+
+-- where each match has one reporter, the board of two reporters' passes is that of the rows in script order
+abbrev pub HaveNightBoard : PassView → PassView → List NightEvent → List ℕ → Type 0
+HaveNightBoard first second rows board = EachMatchHasOneReporter rows → board ≡ night_board (number_of_two first.number second.number) rows
 
 -- where each match has one reporter, all merges of the rows have the same board: that of the rows in script order
 abbrev pub ScheduleDoesNotMatter : Type 0
@@ -135,6 +149,10 @@ pub record IsFirstOffDuty (rows : List NightEvent) (row : ℕ) : Type 0 where
   pub off_duty : IsOnDuty event → ⊥
   pub row_is : row ≡ length before + 5
 
+-- a fault tells the first row whose reporter is not on duty where there is one, and where there is none it is another fault
+abbrev pub IsDutyTold : List NightEvent → RunFault → Type 0
+IsDutyTold rows f = MatchDuty f (IsFirstOffDuty rows) (All IsOnDuty rows)
+
 -- the last screen of a reader, counted from 0, among those of all readers
 abbrev pub last_shown : {Z : Type 0} → List (Option (String Z)) → ℕ → Option (List ℕ)
 last_shown last reader = option_map string_bytes (slice_index_or last reader None)
@@ -151,3 +169,7 @@ lasts_text first second = last_text (codes "READER 1\n") first ++ last_text (cod
 -- the output of a night: the last screens of both readers, where there are any, and the closing screen
 abbrev pub night_text : Option (List ℕ) → Option (List ℕ) → List ℕ → List ℕ
 night_text first second closing = lasts_text first second ++ (codes "FINAL\n" ++ closing)
+
+-- the output of a night whose readers had these last screens, and whose closing screen is this
+abbrev pub night_output : {Y Z : Type 0} → List (Option (String Y)) → String Z → List ℕ
+night_output last closing = night_text (last_shown last 0) (last_shown last 1) (string_bytes closing)

@@ -1,11 +1,11 @@
 //! Nights: two reporters and two readers over one live board.
 
-ghost use Rattle.std.specs.Prelude.{◌≡◌, ◌≢◌, ◌≤◌, ◌+◌, length, All, IfOk, IfErr, MatchResult, OnOk, take, string_bytes};
+ghost use Rattle.std.specs.Prelude.{◌≡◌, ◌≢◌, All, IfOk, IfErr, MatchResult, OnOk, string_bytes};
 ghost use Rattle.std.specs.Io.KnownBytes.{Appends};
 ghost use Rattle.ucl_board.specs.History.{snapshot_at};
 ghost use Rattle.ucl_screen.specs.Screen.{IsGroup, screen_text};
 ghost use Rattle.ucl_runs.specs.Faults.{IsOfNight};
-ghost use Rattle.ucl_runs.specs.Nights.{EachMatchHasOneReporter, HasShown, IsFirstOffDuty, IsMerge, IsOnDuty, last_shown, night_board, night_text, number_of_two};
+ghost use Rattle.ucl_runs.specs.Nights.{HasShown, HaveEnteredAll, HaveMerged, HaveNightBoard, IsDutyTold, IsFirstOffDuty, IsOnDuty, last_shown, night_output};
 ghost use Rattle.ucl_runs.specs.Run.{IsStopped, MatchDuty};
 
 use crate::RunFault;
@@ -92,7 +92,7 @@ pub fn night_run<B: LiveBoard, G: Gate, R: Threads + Wait + Sync>(
     ensures kinds { IfErr result IsOfNight }
 
     // A row of a reporter who is not on duty is told exactly where there is one, and the first is.
-    ensures duty { MatchResult result (λ _. All IsOnDuty night.entry.now.events.items) (λ f. MatchDuty f (IsFirstOffDuty night.entry.now.events.items) (All IsOnDuty night.entry.now.events.items)) }
+    ensures duty { MatchResult result (λ _. All IsOnDuty night.entry.now.events.items) (IsDutyTold night.entry.now.events.items) }
 
     // The four passes are of the board that was lent, and the reporters' numbers differ.
     ensures own_readers { IfOk result (λ end. B.is_reader board.entry.now end.reader_1 × B.is_reader board.entry.now end.reader_2) }
@@ -100,15 +100,15 @@ pub fn night_run<B: LiveBoard, G: Gate, R: Threads + Wait + Sync>(
     ensures apart { IfOk result (λ end. (B.reporter end.reporter_1).number ≢ (B.reporter end.reporter_2).number) }
 
     // The history that was settled is a merge of the rows, the settled reading is of it, and the closing screen is of that.
-    ensures merge { IfOk result (λ end. IsMerge (number_of_two (B.reporter end.reporter_1).number (B.reporter end.reporter_2).number) night.entry.now.events.items (take end.settled.version (B.reporter end.reporter_2).seen)) }
+    ensures merge { IfOk result (λ end. HaveMerged (B.reporter end.reporter_1) (B.reporter end.reporter_2) night.entry.now.events.items end.settled.version) }
     ensures settled { IfOk result (λ end. end.settled ≡ snapshot_at (B.reporter end.reporter_2).seen end.settled.version) }
     ensures closing { IfOk result (λ end. string_bytes end.closing ≡ screen_text profile end.settled.board night.entry.now.roster group) }
 
     // Reporter 2's pass has seen the settled history, and both reporters have entered just its events: none after it.
-    ensures count { IfOk result (λ end. (end.settled.version ≤ length (B.reporter end.reporter_2).seen) × (length (B.reporter end.reporter_1).mine + length (B.reporter end.reporter_2).mine ≡ end.settled.version)) }
+    ensures count { IfOk result (λ end. HaveEnteredAll (B.reporter end.reporter_1) (B.reporter end.reporter_2) end.settled.version) }
 
     // Where each match has one reporter, the schedule does not matter.
-    ensures board { IfOk result (λ end. EachMatchHasOneReporter night.entry.now.events.items → end.settled.board ≡ night_board (number_of_two (B.reporter end.reporter_1).number (B.reporter end.reporter_2).number) night.entry.now.events.items) }
+    ensures board { IfOk result (λ end. HaveNightBoard (B.reporter end.reporter_1) (B.reporter end.reporter_2) night.entry.now.events.items end.settled.board) }
 
     // What the readers showed.
     ensures shown_1 { IfOk result (λ end. HasShown profile (B.reader pass) (B.reader end.reader_1) readings night.entry.now.roster group (last_shown end.last 0)) }
@@ -159,8 +159,8 @@ pub fn night_run<B: LiveBoard, G: Gate, R: Threads + Wait + Sync>(
 /// `WriteFailed`, only where the sink has failed: exactly the first `written` bytes of the output went out. (Were they more
 /// than `usize::MAX`, that would be told.)
 pub fn put_night<R, P, W: Sink>(end: &NightEnd<R, P>, sink: &mut W) -> Result<(), RunFault>
-    ensures all { OnOk result (Appends (W.taken sink.old) (W.taken sink.new) (night_text (last_shown end.now.last 0) (last_shown end.now.last 1) (string_bytes end.now.closing))) }
-    ensures part { IfErr result (IsStopped 0 (W.failed sink.new) (W.taken sink.old) (W.taken sink.new) (night_text (last_shown end.now.last 0) (last_shown end.now.last 1) (string_bytes end.now.closing))) }
+    ensures all { OnOk result (Appends (W.taken sink.old) (W.taken sink.new) (night_output end.now.last end.now.closing)) }
+    ensures part { IfErr result (IsStopped 0 (W.failed sink.new) (W.taken sink.old) (W.taken sink.new) (night_output end.now.last end.now.closing)) }
 {
     let written = put_lasts(sink, &end.last)?;
     match put_under(sink, written, "FINAL\n", end.closing.as_str()) {
