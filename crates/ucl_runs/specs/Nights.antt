@@ -65,7 +65,7 @@ pub record IsMerge (number : ℕ → ℕ) (rows : List NightEvent) (history : Li
       → ComesFirst history (attempt_by number row) (point i) (point j)
   pub one_row : (p : ℕ) → p < length history → IsOfOneRow number rows point history p
 
--- the history that the passes of reporters 1 and 2 have at a version is a merge of the rows
+-- the history at a version, as the second of two reporters' passes has seen it, is a merge of the rows under the numbers of both
 abbrev pub HaveMerged : PassView → PassView → List NightEvent → ℕ → Type 0
 HaveMerged first second rows version = IsMerge (number_of_two first.number second.number) rows (take version second.seen)
 
@@ -81,7 +81,7 @@ EachMatchHasOneReporter rows = (i j : ℕ) (row other : NightEvent) → slice_ge
 abbrev pub night_board : (ℕ → ℕ) → List NightEvent → List ℕ
 night_board number rows = board_of (accepted_of (map (attempt_by number) rows))
 
--- where each match has one reporter, the board of two reporters' passes is that of the rows in script order
+-- where each match has one reporter, a board is that of the rows in script order, entered under the numbers of two passes
 abbrev pub HaveNightBoard : PassView → PassView → List NightEvent → List ℕ → Type 0
 HaveNightBoard first second rows board = EachMatchHasOneReporter rows → board ≡ night_board (number_of_two first.number second.number) rows
 
