@@ -2,6 +2,7 @@
 
 use std::alloc::Global;
 use std::io;
+use std::process::Abort;
 use std::sync::Wait;
 use std::test::Fail;
 use std::thread::Threads;
@@ -64,6 +65,16 @@ GROUP A v00001 IN PLAY 1
 4   Alpha                 0  0  0  0   0   0   +0   0
 ";
 
+const CLOSING: &str = "\
+FINAL
+GROUP A v00001 IN PLAY 1
+    Club                  P  W  D  L  GF  GA   GD Pts
+1   Bravo                 1  0  1  0   0   0   +0   1
+2   Charlie               1  0  1  0   0   0   +0   1
+3   Delta                 0  0  0  0   0   0   +0   0
+4   Alpha                 0  0  0  0   0   0   +0   0
+";
+
 /// A writer that takes at most `piece` bytes at a time, and none after `room` bytes.
 #[derive(Drop)]
 struct Full<'a> {
@@ -96,7 +107,7 @@ fn words_of(alloc: Global, line: &str) -> Result<Vec<String>, Fail> {
 }
 
 /// Lines of words, and what they ask for.
-const TAKEN: [(&str, Line); 10] = [
+static TAKEN: [(&str, Line); 10] = [
     ("ucl_night feed", Line::Feed),
     (
         "ucl_night show",
@@ -168,7 +179,7 @@ const TAKEN: [(&str, Line); 10] = [
 ];
 
 /// Lines of words that are refused.
-const REFUSED: [&str; 23] = [
+static REFUSED: [&str; 23] = [
     "",
     "ucl_night",
     "ucl_night night --readings",
@@ -194,49 +205,84 @@ const REFUSED: [&str; 23] = [
     "ucl_night show --version",
 ];
 
+/// Lines of words that ask for help or the version.
+static HELPED: [&str; 7] = [
+    "ucl_night --help",
+    "ucl_night help",
+    "ucl_night feed --help",
+    "ucl_night show --help",
+    "ucl_night night --help",
+    "ucl_night --version",
+    "ucl_night -V",
+];
+
+/// What words are answered, without the texts.
+#[derive(Clone, Copy, PartialEq, Eq)]
+enum Answer {
+    Asks(Line),
+    Helps,
+    Refuses,
+    LacksMemory,
+}
+
+fn answer_to(alloc: Global, line: &str) -> Result<Answer, Fail> {
+    let words = words_of(alloc, line)?;
+    Ok(match line_of(alloc, &words) {
+        Ok(line) => Answer::Asks(line),
+        Err(LineFault::Help(_)) => Answer::Helps,
+        Err(LineFault::Refused(_)) => Answer::Refuses,
+        Err(LineFault::OutOfMemory) => Answer::LacksMemory,
+    })
+}
+
 #[test]
 fn command_lines(rt: HostRuntime) -> Result<(), Fail> {
-    let alloc = rt.alloc();
-    for (line, asked) in TAKEN {
-        let words = words_of(alloc, line)?;
-        assert!(rt;
-            line_of(alloc, &words).is_ok_and(|line| line == asked),
-            "at {line}"
-        );
+    for &(line, asked) in TAKEN.as_slice() {
+        let answer = answer_to(rt.alloc(), line)?;
+        assert!(rt; answer == Answer::Asks(asked), "at {line}");
     }
+    Ok(())
+}
+
+#[test]
+fn command_lines_that_ask_for_help(rt: HostRuntime) -> Result<(), Fail> {
+    for line in HELPED.as_slice() {
+        let answer = answer_to(rt.alloc(), line)?;
+        assert!(rt; answer == Answer::Helps, "at {line}");
+    }
+    Ok(())
+}
+
+#[test]
+fn refused_command_lines(rt: HostRuntime) -> Result<(), Fail> {
+    for line in REFUSED.as_slice() {
+        let answer = answer_to(rt.alloc(), line)?;
+        assert!(rt; answer == Answer::Refuses, "at {line}");
+    }
+    Ok(())
+}
+
+/// The group that a subcommand with this letter asks for.
+fn group_asked(alloc: Global, subcommand: &str, letter: u8) -> Result<Option<u8>, Fail> {
+    let mut line = String::new(alloc);
+    write!(
+        &mut line,
+        "ucl_night {subcommand} --group {}",
+        char::from(letter)
+    )?;
+    Ok(match answer_to(alloc, line.as_str())? {
+        Answer::Asks(Line::Show { group, .. } | Line::Night { group, .. }) => Some(group),
+        _ => None,
+    })
+}
+
+#[test]
+fn groups_of_command_lines(rt: HostRuntime) -> Result<(), Fail> {
     for letter in b'A'..=b'H' {
         for subcommand in ["show", "night"] {
-            let mut line = String::from_str(alloc, "ucl_night ")?;
-            write!(&mut line, "{subcommand} --group {}", char::from(letter))?;
-            let words = words_of(alloc, line.as_str())?;
-            let group = match line_of(alloc, &words) {
-                Ok(Line::Show { group, .. } | Line::Night { group, .. }) => Some(group),
-                _ => None,
-            };
-            assert_eq!(rt; group, Some(letter), "at {line}");
+            let group = group_asked(rt.alloc(), subcommand, letter)?;
+            assert_eq!(rt; group, Some(letter), "at {subcommand}");
         }
-    }
-    for line in [
-        "ucl_night --help",
-        "ucl_night help",
-        "ucl_night feed --help",
-        "ucl_night show --help",
-        "ucl_night night --help",
-        "ucl_night --version",
-        "ucl_night -V",
-    ] {
-        let words = words_of(alloc, line)?;
-        assert!(rt;
-            matches!(line_of(alloc, &words), Err(LineFault::Help(_))),
-            "at {line}"
-        );
-    }
-    for line in REFUSED {
-        let words = words_of(alloc, line)?;
-        assert!(rt;
-            matches!(line_of(alloc, &words), Err(LineFault::Refused(_))),
-            "at {line}"
-        );
     }
     Ok(())
 }
@@ -270,36 +316,75 @@ fn ran<R: Threads + Wait + Sync>(
     Ok((status, out, errors))
 }
 
-#[test]
-fn lines_are_done(rt: HostRuntime) -> Result<(), Fail> {
-    let alloc = rt.alloc();
-    let mut closing = String::from_str(alloc, "FINAL\n")?;
-    closing.push_str(SCREEN)?;
-    let rows = [
-        ("ucl_night feed", SCRIPT, REPLIES),
-        ("ucl_night show", SHEET, SCREEN),
-        ("ucl_night night", SCRIPT, closing.as_str()),
-    ];
-    for (line, input, output) in rows {
-        let (status, out, errors) = ran(&rt, alloc, line, input.as_bytes(), usize::MAX)?;
-        assert_eq!(rt; status, 0, "at {line}");
-        assert!(rt;
-            out.as_slice() == output.as_bytes() && errors.is_empty(),
-            "at {line}"
-        );
-        for room in 0..output.len() {
-            let (status, out, errors) = ran(&rt, alloc, line, input.as_bytes(), room)?;
-            let mut told = String::new(alloc);
-            write!(&mut told, "writing failed 26: after {room} bytes\n")?;
-            assert_eq!(rt; status, 4, "at {line}");
-            assert!(rt;
-                Some(out.as_slice()) == output.as_bytes().get(..room),
-                "at {room}"
-            );
-            assert!(rt; errors.as_slice() == told.as_bytes(), "at {room}");
-        }
+/// A line of words, its input, and the text that it writes.
+static DONE: [(&str, &str, &str); 3] = [
+    ("ucl_night feed", SCRIPT, REPLIES),
+    ("ucl_night show", SHEET, SCREEN),
+    ("ucl_night night", SCRIPT, CLOSING),
+];
+
+/// What is told of an output that is full after so many bytes.
+fn told_of_full(alloc: Global, room: usize) -> Result<String, Fail> {
+    let mut told = String::new(alloc);
+    write!(&mut told, "writing failed 26: after {room} bytes\n")?;
+    Ok(told)
+}
+
+/// The status of a line with so much room for its output, whether it wrote this, and whether it told of a full output.
+fn end_with_room<R: Threads + Wait + Sync>(
+    rt: &R,
+    alloc: Global,
+    (line, input, output): (&str, &str, &str),
+    room: usize,
+) -> Result<(u8, bool, bool), Fail> {
+    let (status, out, errors) = ran(rt, alloc, line, input.as_bytes(), room)?;
+    let told = told_of_full(alloc, room)?;
+    let is_front = Some(out.as_slice()) == output.as_bytes().get(..room);
+    Ok((status, is_front, errors.as_slice() == told.as_bytes()))
+}
+
+/// The status of a line with ample room for its output, whether it wrote just this, and whether it told just that.
+fn end_of<R: Threads + Wait + Sync>(
+    rt: &R,
+    alloc: Global,
+    (line, input, output): (&str, &str, &str),
+    told: &str,
+) -> Result<(u8, bool, bool), Fail> {
+    let (status, out, errors) = ran(rt, alloc, line, input.as_bytes(), usize::MAX)?;
+    let is_whole = out.as_slice() == output.as_bytes();
+    Ok((status, is_whole, errors.as_slice() == told.as_bytes()))
+}
+
+/// Asserts that a line writes just the front of its text that fits wherever its output is full, and tells of it.
+fn assert_stops<R: Threads + Wait + Sync + Abort>(
+    rt: &R,
+    alloc: Global,
+    row: (&str, &str, &str),
+) -> Result<(), Fail> {
+    let (line, _, output) = row;
+    for room in 0..output.len() {
+        let end = end_with_room(rt, alloc, row, room)?;
+        assert_eq!(rt; end, (4, true, true), "at {line} with room for {room}");
     }
     Ok(())
+}
+
+#[test]
+fn lines_are_done(rt: HostRuntime) -> Result<(), Fail> {
+    for &row in DONE.as_slice() {
+        let (line, _, _) = row;
+        let end = end_of(&rt, rt.alloc(), row, "")?;
+        assert_eq!(rt; end, (0, true, true), "at {line}");
+        assert_stops(&rt, rt.alloc(), row)?;
+    }
+    Ok(())
+}
+
+/// Whether a text has screens of both readers, and then the closing screen.
+fn has_all_screens(text: &str) -> bool {
+    text.starts_with("READER 1\nGROUP A v0000")
+        && text.contains("\nREADER 2\nGROUP A v0000")
+        && text.ends_with(SCREEN)
 }
 
 #[test]
@@ -307,35 +392,39 @@ fn night_of_the_program_with_readings(rt: HostRuntime) -> Result<(), Fail> {
     let alloc = rt.alloc();
     let line = "ucl_night night --group A --readings 3";
     let (status, out, errors) = ran(&rt, alloc, line, SCRIPT.as_bytes(), usize::MAX)?;
-    assert_eq!(rt; status, 0);
     let text = std::str::from_utf8(out.as_slice())?;
-    assert!(rt; text.starts_with("READER 1\nGROUP A v0000") && text.ends_with(SCREEN));
-    assert_eq!(rt; text.lines().count(), 21);
-    assert!(rt; text.contains("\nREADER 2\nGROUP A v0000") && errors.is_empty());
+    assert_eq!(rt; (status, text.lines().count()), (0, 21));
+    assert!(rt; has_all_screens(text) && errors.is_empty());
     Ok(())
 }
 
+/// The match of the script, and then a row of a third reporter.
+const SCRIPT_OF_THREE: &str = "\
+club,1,Alpha,60000
+club,2,Bravo,95000
+club,3,Charlie,60000
+club,4,Delta,81500
+1,1,0,kickoff
+1,1,0,kickoff
+3,1,0,kickoff
+";
+
+/// A line of words, an input that is refused, and what is told of it.
+static TOLD: [(&str, &str, &str); 3] = [
+    ("ucl_night feed", "", "input refused 20: row 1\n"),
+    ("ucl_night show", SCRIPT, "input refused 20: row 5\n"),
+    (
+        "ucl_night night",
+        SCRIPT_OF_THREE,
+        "input refused 25: row 7\n",
+    ),
+];
+
 #[test]
 fn faults_are_told(rt: HostRuntime) -> Result<(), Fail> {
-    let alloc = rt.alloc();
-    let mut third = String::from_str(alloc, SCRIPT)?;
-    third.push_str("3,1,0,kickoff\n")?;
-    let rows = [
-        ("ucl_night feed", "", "input refused 20: row 1\n"),
-        ("ucl_night show", SCRIPT, "input refused 20: row 5\n"),
-        (
-            "ucl_night night",
-            third.as_str(),
-            "input refused 25: row 7\n",
-        ),
-    ];
-    for (line, input, told) in rows {
-        let (status, out, errors) = ran(&rt, alloc, line, input.as_bytes(), usize::MAX)?;
-        assert_eq!(rt; status, 3, "at {line}");
-        assert!(rt;
-            out.is_empty() && errors.as_slice() == told.as_bytes(),
-            "at {line}"
-        );
+    for &(line, input, told) in TOLD.as_slice() {
+        let end = end_of(&rt, rt.alloc(), (line, input, ""), told)?;
+        assert_eq!(rt; end, (3, true, true), "at {line}");
     }
     Ok(())
 }

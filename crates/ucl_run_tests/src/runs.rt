@@ -3,8 +3,9 @@
 mod devices;
 mod nights;
 
-use devices::{Cut, Full, fed, shown};
-use std::alloc::Global;
+use devices::{Cut, Full, fed, has_refused, has_stopped, has_written, shown};
+use std::alloc::{AllocError, Global};
+use std::process::Abort;
 use std::test::Fail;
 use ucl_order::Profile;
 use ucl_runs::{RunFault, status_of};
@@ -48,7 +49,7 @@ fn joined(alloc: Global, first: &str, second: &str) -> Result<String, Fail> {
 }
 
 /// Each fault of a run, its line and its status.
-const FAULTS: [(RunFault, &str, u8); 12] = [
+static FAULTS: [(RunFault, &str, u8); 12] = [
     (
         RunFault::Input(InputFault::BadWordAt { index: 4 }),
         "input refused 10: word 4",
@@ -99,12 +100,17 @@ const FAULTS: [(RunFault, &str, u8); 12] = [
     ),
 ];
 
+/// The line of a fault, and its status.
+fn line_and_status(alloc: Global, fault: &RunFault) -> Result<(String, u8), AllocError> {
+    Ok((fault.to_string(alloc)?, status_of(fault)))
+}
+
 #[test]
 fn fault_lines_and_statuses(rt: HostRuntime) -> Result<(), Fail> {
-    for (fault, line, status) in FAULTS {
-        let text = fault.to_string(rt.alloc())?;
+    for &(fault, line, status) in FAULTS.as_slice() {
+        let (text, told) = line_and_status(rt.alloc(), &fault)?;
         assert_eq!(rt; text.as_str(), line);
-        assert_eq!(rt; status_of(&fault), status, "at {line}");
+        assert_eq!(rt; told, status, "at {line}");
     }
     Ok(())
 }
@@ -119,43 +125,58 @@ fn stored_run(rt: HostRuntime) -> Result<(), Fail> {
     Ok(())
 }
 
+/// Scripts that are refused, and why.
+static REFUSED_SCRIPTS: [(&str, InputFault); 4] = [
+    ("", InputFault::BadRow { row: 1 }),
+    (
+        "club,1,Alpha,60000\nclub,2,Bravo,95000\nclub,3,Charlie,60000\n",
+        InputFault::BadRow { row: 4 },
+    ),
+    ("club,1,\"Alp", InputFault::BadRow { row: 1 }),
+    (
+        "club,1,Alpha,60000\nclub,2,Bravo Bravo Bravo Bra,95000\nclub,3,Charlie,1000000\nclub,4,Delta,81500\n",
+        InputFault::BadRoster { slot: 2 },
+    ),
+];
+
+/// Rows that are refused after those of the clubs.
+static REFUSED_ROWS: [&str; 5] = [
+    "1,13,0,kickoff\n",
+    "0,1,0,kickoff\n",
+    "1,1,65536,kickoff\n",
+    "1,1,0,kick\n",
+    "club,5,Echo,1\n",
+];
+
 #[test]
 fn script_faults(rt: HostRuntime) -> Result<(), Fail> {
     let alloc = rt.alloc();
-    let whole = [
-        ("", InputFault::BadRow { row: 1 }),
-        (
-            "club,1,Alpha,60000\nclub,2,Bravo,95000\nclub,3,Charlie,60000\n",
-            InputFault::BadRow { row: 4 },
-        ),
-        ("club,1,\"Alp", InputFault::BadRow { row: 1 }),
-        (
-            "club,1,Alpha,60000\nclub,2,Bravo Bravo Bravo Bra,95000\nclub,3,Charlie,1000000\nclub,4,Delta,81500\n",
-            InputFault::BadRoster { slot: 2 },
-        ),
-    ];
-    for (script, fault) in whole {
-        let (answer, out) = fed(alloc, script.as_bytes(), usize::MAX, Full::Fails);
-        assert_eq!(rt; answer, Err(RunFault::Input(fault)), "at {script}");
-        assert!(rt; out.is_empty(), "at {script}");
+    for &(script, fault) in REFUSED_SCRIPTS.as_slice() {
+        let ran = fed(alloc, script.as_bytes(), usize::MAX, Full::Fails);
+        assert!(rt; has_refused(&ran, fault), "at {script}");
     }
-    let fifth = [
-        "1,13,0,kickoff\n",
-        "0,1,0,kickoff\n",
-        "1,1,65536,kickoff\n",
-        "1,1,0,kick\n",
-        "club,5,Echo,1\n",
-    ];
-    for row in fifth {
+    for row in REFUSED_ROWS.as_slice() {
         let script = joined(alloc, CLUBS, row)?;
-        let (answer, out) = fed(alloc, script.as_bytes(), usize::MAX, Full::Fails);
-        let fault = InputFault::BadRow { row: 5 };
-        assert_eq!(rt; answer, Err(RunFault::Input(fault)), "at {row}");
-        assert!(rt; out.is_empty(), "at {row}");
+        let ran = fed(alloc, script.as_bytes(), usize::MAX, Full::Fails);
+        assert!(rt;
+            has_refused(&ran, InputFault::BadRow { row: 5 }),
+            "at {row}"
+        );
     }
-    let (answer, out) = fed(alloc, CLUBS.as_bytes(), usize::MAX, Full::Fails);
-    assert_eq!(rt; answer, Ok(()));
-    assert!(rt; out.as_slice() == NO_EVENT_OUT.as_bytes());
+    let ran = fed(alloc, CLUBS.as_bytes(), usize::MAX, Full::Fails);
+    assert!(rt; has_written(&ran, NO_EVENT_OUT));
+    Ok(())
+}
+
+/// Writes the row of an event.
+fn push_event(
+    script: &mut String,
+    reporter: u8,
+    game: u8,
+    expected: u16,
+    kind: &str,
+) -> Result<(), Fail> {
+    write!(script, "{reporter},{game},{expected},{kind}\n")?;
     Ok(())
 }
 
@@ -167,22 +188,21 @@ fn push_match(
     home: u16,
     away: u16,
 ) -> Result<(), Fail> {
-    write!(script, "{reporter},{game},0,kickoff\n")?;
+    push_event(script, reporter, game, 0, "kickoff")?;
     let mut number = 1u16;
     for _ in 0..home {
-        write!(script, "{reporter},{game},{number},goal-home\n")?;
+        push_event(script, reporter, game, number, "goal-home")?;
         number = number.saturating_add(1);
     }
     for _ in 0..away {
-        write!(script, "{reporter},{game},{number},goal-away\n")?;
+        push_event(script, reporter, game, number, "goal-away")?;
         number = number.saturating_add(1);
     }
-    write!(script, "{reporter},{game},{number},fulltime\n")?;
-    Ok(())
+    push_event(script, reporter, game, number, "fulltime")
 }
 
 /// The matches of the head to head group: the reporter, the match, and the goals of either side.
-const SCORES: [(u8, u8, u16, u16); 12] = [
+static SCORES: [(u8, u8, u16, u16); 12] = [
     (1, 1, 1, 0),
     (2, 2, 1, 0),
     (1, 3, 1, 0),
@@ -200,10 +220,28 @@ const SCORES: [(u8, u8, u16, u16); 12] = [
 /// The script of the head to head group: 40 events.
 fn head_to_head_script(alloc: Global) -> Result<String, Fail> {
     let mut script = String::from_str(alloc, CLUBS)?;
-    for (reporter, game, home, away) in SCORES {
+    for &(reporter, game, home, away) in SCORES.as_slice() {
         push_match(&mut script, reporter, game, home, away)?;
     }
     Ok(script)
+}
+
+/// Lines of what `feed` writes for the head to head group.
+static HEAD_TO_HEAD_LINES: [&str; 3] = [
+    "\n44 ok 12 3 40\nword,1,2001000000006003,\n",
+    "\nword,4,2002000000016007,\n",
+    "\nword,11,2001000000202004,\n",
+];
+
+/// How many events were accepted.
+fn accepted_in(text: &str) -> u32 {
+    let mut accepted = 0u32;
+    for line in text.lines() {
+        if line.contains(" ok ") {
+            accepted = accepted.saturating_add(1);
+        }
+    }
+    accepted
 }
 
 #[test]
@@ -213,20 +251,9 @@ fn head_to_head(rt: HostRuntime) -> Result<(), Fail> {
     let (answer, out) = fed(alloc, script.as_bytes(), usize::MAX, Full::Fails);
     assert_eq!(rt; answer, Ok(()));
     let text = std::str::from_utf8(out.as_slice())?;
-    let mut accepted = 0u32;
-    for line in text.lines() {
-        if line.contains(" ok ") {
-            accepted = accepted.saturating_add(1);
-        }
-    }
-    assert_eq!(rt; accepted, 40);
-    let rows = [
-        "\n44 ok 12 3 40\nword,1,2001000000006003,\n",
-        "\nword,4,2002000000016007,\n",
-        "\nword,11,2001000000202004,\n",
-    ];
-    for row in rows {
-        assert!(rt; text.contains(row), "at {row}");
+    assert_eq!(rt; accepted_in(text), 40);
+    for lines in HEAD_TO_HEAD_LINES.as_slice() {
+        assert!(rt; text.contains(*lines), "at {lines}");
     }
     Ok(())
 }
@@ -245,27 +272,29 @@ fn two_reopenings(rt: HostRuntime) -> Result<(), Fail> {
     Ok(())
 }
 
+/// Asserts that `feed` writes just the front of the stored run that fits wherever its output is full.
+fn assert_feed_stops(rt: &impl Abort, alloc: Global, script: &[u8], full: Full) {
+    for room in 0..TWO_MATCHES_OUT.len() {
+        let ran = fed(alloc, script, room, full);
+        assert!(rt;
+            has_stopped(&ran, TWO_MATCHES_OUT, room),
+            "{full:?} at {room}"
+        );
+    }
+}
+
 /// A source or a sink that fails once is not asked again: the first failure is the answer, and tells exactly what had gone out or in.
 #[test]
 fn failing_devices(rt: HostRuntime) -> Result<(), Fail> {
     let alloc = rt.alloc();
     let script = joined(alloc, CLUBS, TWO_MATCHES)?;
-    for full in [Full::Fails, Full::TakesNone] {
-        for room in 0..TWO_MATCHES_OUT.len() {
-            let (answer, out) = fed(alloc, script.as_bytes(), room, full);
-            assert_eq!(rt; answer, Err(RunFault::WriteFailed { written: room }));
-            assert!(rt;
-                Some(out.as_slice()) == TWO_MATCHES_OUT.as_bytes().get(..room),
-                "{full:?} at {room}"
-            );
-        }
-    }
-    for room in [0, 1, 100, script.len()] {
-        let text = script.as_bytes();
-        let (answer, out) = fed(alloc, Cut { text, room }, usize::MAX, Full::Fails);
+    let text = script.as_bytes();
+    assert_feed_stops(&rt, alloc, text, Full::Fails);
+    assert_feed_stops(&rt, alloc, text, Full::TakesNone);
+    for room in [0, 1, 100, text.len()] {
+        let ran = fed(alloc, Cut { text, room }, usize::MAX, Full::Fails);
         let fault = InputFault::ReadFailed { bytes: room };
-        assert_eq!(rt; answer, Err(RunFault::Input(fault)));
-        assert!(rt; out.is_empty(), "at {room}");
+        assert!(rt; has_refused(&ran, fault), "at {room}");
     }
     Ok(())
 }
@@ -293,8 +322,11 @@ GROUP A v00041 IN PLAY 1
 /// The word lines of what `feed` writes.
 fn word_lines(alloc: Global, text: &str) -> Result<String, Fail> {
     let mut words = String::new(alloc);
-    for line in text.lines().filter(|line| line.starts_with("word,")) {
-        write!(&mut words, "{line}\n")?;
+    for line in text.lines() {
+        if line.starts_with("word,") {
+            words.push_str(line)?;
+            words.push('\n')?;
+        }
     }
     Ok(words)
 }
@@ -309,41 +341,49 @@ GROUP A v00000 IN PLAY 0
 4   Charlie               0  0  0  0   0   0   +0   0
 ";
 
+/// The word lines that `feed` writes for a script.
+fn fed_words(alloc: Global, script: &str) -> Result<String, Fail> {
+    let (answer, out) = fed(alloc, script.as_bytes(), usize::MAX, Full::Fails);
+    answer?;
+    word_lines(alloc, std::str::from_utf8(out.as_slice())?)
+}
+
+/// Asserts that `show` writes just the front of a screen that fits wherever its output is full.
+fn assert_stops(rt: &impl Abort, alloc: Global, sheet: &[u8], screen: &str, full: Full) {
+    for room in 0..screen.len() {
+        let ran = shown(alloc, sheet, room, full);
+        assert!(rt; has_stopped(&ran, screen, room), "{full:?} at {room}");
+    }
+}
+
+/// Asserts that `show` writes this screen for these words, and stops wherever its output is full.
+fn assert_screen(rt: &impl Abort, alloc: Global, words: &str, screen: &str) -> Result<(), Fail> {
+    let sheet = joined(alloc, CLUBS, words)?;
+    let ran = shown(alloc, sheet.as_bytes(), usize::MAX, Full::Fails);
+    assert!(rt; has_written(&ran, screen), "at {words}");
+    assert_stops(rt, alloc, sheet.as_bytes(), screen, Full::Fails);
+    assert_stops(rt, alloc, sheet.as_bytes(), screen, Full::TakesNone);
+    Ok(())
+}
+
+/// Word lines that are written down here, and their screens.
+static SCREENS: [(&str, &str); 3] = [
+    (TWO_MATCHES_WORDS, TWO_MATCHES_SCREEN),
+    (TWO_MATCHES_OLD_WORDS, TWO_MATCHES_SCREEN),
+    (NO_EVENT_OUT, FRESH_SCREEN),
+];
+
 #[test]
 fn screens_of_sheets(rt: HostRuntime) -> Result<(), Fail> {
     let alloc = rt.alloc();
     let mut script = head_to_head_script(alloc)?;
-    let (answer, out) = fed(alloc, script.as_bytes(), usize::MAX, Full::Fails);
-    assert_eq!(rt; answer, Ok(()));
-    let text = std::str::from_utf8(out.as_slice())?;
-    let words = word_lines(alloc, text)?;
-    write!(&mut script, "2,12,3,reopen\n")?;
-    let (answer, out) = fed(alloc, script.as_bytes(), usize::MAX, Full::Fails);
-    assert_eq!(rt; answer, Ok(()));
-    let text = std::str::from_utf8(out.as_slice())?;
-    let reopened = word_lines(alloc, text)?;
-    let sheets = [
-        (words.as_str(), HEAD_TO_HEAD_SCREEN),
-        (reopened.as_str(), REOPENED_SCREEN),
-        (TWO_MATCHES_WORDS, TWO_MATCHES_SCREEN),
-        (TWO_MATCHES_OLD_WORDS, TWO_MATCHES_SCREEN),
-        (NO_EVENT_OUT, FRESH_SCREEN),
-    ];
-    for (words, screen) in sheets {
-        let sheet = joined(alloc, CLUBS, words)?;
-        let (answer, out) = shown(alloc, sheet.as_bytes(), usize::MAX, Full::Fails);
-        assert_eq!(rt; answer, Ok(()));
-        assert!(rt; out.as_slice() == screen.as_bytes());
-        for full in [Full::Fails, Full::TakesNone] {
-            for room in 0..screen.len() {
-                let (answer, out) = shown(alloc, sheet.as_bytes(), room, full);
-                assert_eq!(rt; answer, Err(RunFault::WriteFailed { written: room }));
-                assert!(rt;
-                    Some(out.as_slice()) == screen.as_bytes().get(..room),
-                    "{full:?} at {room}"
-                );
-            }
-        }
+    let words = fed_words(alloc, script.as_str())?;
+    assert_screen(&rt, alloc, words.as_str(), HEAD_TO_HEAD_SCREEN)?;
+    script.push_str("2,12,3,reopen\n")?;
+    let reopened = fed_words(alloc, script.as_str())?;
+    assert_screen(&rt, alloc, reopened.as_str(), REOPENED_SCREEN)?;
+    for (words, screen) in SCREENS.as_slice() {
+        assert_screen(&rt, alloc, words, screen)?;
     }
     Ok(())
 }
@@ -358,63 +398,88 @@ GROUP A v12276 IN PLAY 0
 4 - Charlie               6  0  6  0 378 378   +0   6
 ";
 
-#[test]
-fn largest_words(rt: HostRuntime) -> Result<(), Fail> {
-    let alloc = rt.alloc();
+/// A sheet with the largest words of the first layout.
+fn largest_sheet(alloc: Global) -> Result<String, Fail> {
     let mut sheet = String::from_str(alloc, CLUBS)?;
     for game in 1..=12 {
         write!(&mut sheet, "word,{game},003FFFFFFFFFFBFF,\n")?;
     }
+    Ok(sheet)
+}
+
+#[test]
+fn largest_words(rt: HostRuntime) -> Result<(), Fail> {
+    let alloc = rt.alloc();
+    let sheet = largest_sheet(alloc)?;
     let (answer, out) = shown(alloc, sheet.as_bytes(), usize::MAX, Full::Fails);
     assert_eq!(rt; answer, Ok(()));
     assert!(rt; out.as_slice() == LARGEST_SCREEN.as_bytes());
     Ok(())
 }
 
+/// Word lines that are refused after the rows of the clubs, and why.
+static REFUSED_WORDS: [(&str, InputFault); 3] = [
+    ("word,2,2000000000000000,\n", InputFault::BadRow { row: 5 }),
+    ("word,1,000000000000000,\n", InputFault::BadRow { row: 5 }),
+    ("word,1,2000000000000000,\n", InputFault::BadRow { row: 6 }),
+];
+
 #[test]
 fn sheet_faults(rt: HostRuntime) -> Result<(), Fail> {
     let alloc = rt.alloc();
-    let rows = [
-        ("word,2,2000000000000000,\n", InputFault::BadRow { row: 5 }),
-        ("word,1,000000000000000,\n", InputFault::BadRow { row: 5 }),
-        ("word,1,2000000000000000,\n", InputFault::BadRow { row: 6 }),
-    ];
-    for (words, fault) in rows {
+    for &(words, fault) in REFUSED_WORDS.as_slice() {
         let sheet = joined(alloc, CLUBS, words)?;
-        let (answer, out) = shown(alloc, sheet.as_bytes(), usize::MAX, Full::Fails);
-        assert_eq!(rt; answer, Err(RunFault::Input(fault)), "at {words}");
-        assert!(rt; out.is_empty(), "at {words}");
+        let ran = shown(alloc, sheet.as_bytes(), usize::MAX, Full::Fails);
+        assert!(rt; has_refused(&ran, fault), "at {words}");
     }
     Ok(())
 }
 
-/// A reader whose first collect is torn: two matches kick off after its first load. The steps after the second begin anew.
+/// The item, so many times.
+fn repeat<T: Copy>(items: &mut Vec<T>, item: T, times: u8) -> Result<(), AllocError> {
+    for _ in 0..times {
+        items.push(item)?;
+    }
+    Ok(())
+}
+
+/// The four steps in which the reporter with this number begins the match with that number.
+fn kick_off(number: u8) -> Option<[Step; 4]> {
+    let reporter = Caller::Reporter(ReporterNo::new(number)?);
+    let kick_off = EventCall {
+        game: MatchNo::new(number)?,
+        expected: 0,
+        kind: Kind::KickOff,
+    };
+    Some([
+        Step::Begin(reporter, Call::Event(kick_off)),
+        Step::Look(reporter),
+        Step::Swap(reporter),
+        Step::End(reporter),
+    ])
+}
+
+const READER: Caller = Caller::Reader(1);
+
+/// The steps of a reader after its first load is torn, and how often it takes each. Those after the second begin anew.
+const STEPS_OF_TORN_READER: [(Step, u8); 5] = [
+    (Step::First(READER), 11),
+    (Step::Second(READER), 1),
+    (Step::First(READER), 12),
+    (Step::Second(READER), 12),
+    (Step::End(READER), 1),
+];
+
+/// A reader whose first collect is torn: two matches kick off after its first load.
 fn torn_reading(alloc: Global) -> Result<Vec<Step>, Fail> {
-    let reader = Caller::Reader(1);
-    let mut steps = vec![in alloc; Step::Begin(reader, Call::Reading), Step::First(reader)]?;
-    for number in 1..3u8 {
-        let reporter = Caller::Reporter(ReporterNo::new(number).ok_or("no such reporter")?);
-        let kick_off = EventCall {
-            game: MatchNo::new(number).ok_or("no such match")?,
-            expected: 0,
-            kind: Kind::KickOff,
-        };
-        steps.push(Step::Begin(reporter, Call::Event(kick_off)))?;
-        steps.push(Step::Look(reporter))?;
-        steps.push(Step::Swap(reporter))?;
-        steps.push(Step::End(reporter))?;
+    let mut steps = vec![in alloc; Step::Begin(READER, Call::Reading), Step::First(READER)]?;
+    for number in 1..3 {
+        let kick_off = kick_off(number).ok_or("no such reporter or match")?;
+        steps.extend_from_slice(&kick_off)?;
     }
-    for _ in 0..11 {
-        steps.push(Step::First(reader))?;
+    for (step, times) in STEPS_OF_TORN_READER {
+        repeat(&mut steps, step, times)?;
     }
-    steps.push(Step::Second(reader))?;
-    for _ in 0..12 {
-        steps.push(Step::First(reader))?;
-    }
-    for _ in 0..12 {
-        steps.push(Step::Second(reader))?;
-    }
-    steps.push(Step::End(reader))?;
     Ok(steps)
 }
 

@@ -53,7 +53,7 @@ fn reply(
 }
 
 /// Two reporters in one match: the reporter, the expected number, the kind and the reply.
-const EXCHANGES: [(u8, u16, Kind, Result<Accepted, Refusal>); 6] = [
+static EXCHANGES: [(u8, u16, Kind, Result<Accepted, Refusal>); 6] = [
     (1, 0, Kind::KickOff, Ok(Accepted { number: 1 })),
     (1, 1, Kind::Goal(Side::Home), Ok(Accepted { number: 2 })),
     (1, 2, Kind::Goal(Side::Away), Ok(Accepted { number: 3 })),
@@ -70,7 +70,7 @@ const EXCHANGES: [(u8, u16, Kind, Result<Accepted, Refusal>); 6] = [
 #[test]
 fn two_exchanges(rt: HostRuntime) {
     let mut board = Board::fresh();
-    for (reporter, expected, kind, answer) in EXCHANGES {
+    for &(reporter, expected, kind, answer) in EXCHANGES.as_slice() {
         let said = reply(&mut board, reporter, expected, kind);
         assert_eq!(rt; said, Some(answer), "at {expected}");
     }
@@ -88,7 +88,7 @@ fn two_exchanges(rt: HostRuntime) {
 }
 
 /// Each match, its home club and its away club.
-const FIXTURES: [(u8, u8, u8); 12] = [
+static FIXTURES: [(u8, u8, u8); 12] = [
     (1, 2, 3),
     (2, 4, 1),
     (3, 1, 2),
@@ -105,7 +105,7 @@ const FIXTURES: [(u8, u8, u8); 12] = [
 
 #[test]
 fn fixtures(rt: HostRuntime) {
-    for (number, home, away) in FIXTURES {
+    for &(number, home, away) in FIXTURES.as_slice() {
         let clubs = MatchNo::new(number).map(|game| (home_of(game), away_of(game)));
         assert_eq!(rt; clubs, Some((home, away)), "at {number}");
     }

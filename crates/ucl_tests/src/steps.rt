@@ -19,16 +19,229 @@ const ONE_REPORTER: Cast = Cast {
     readers: 1,
 };
 
-fn reporter(number: u8) -> Option<Caller> {
-    ReporterNo::new(number).map(Caller::Reporter)
+/// A match that has not begun.
+const FRESH: u64 = 0x2000000000000000;
+
+/// The match, the expected number and the kind of an event.
+type Event = (u8, u16, Kind);
+
+/// What a caller does next. The reader is 0, and a reporter is its number.
+#[derive(Clone, Copy)]
+enum Turn {
+    /// Begins a reading.
+    Opens(u8),
+    /// Loads so many words for the first collect.
+    First(u8, u8),
+    /// Loads so many words for the second collect.
+    Second(u8, u8),
+    /// A whole reading that nothing disturbs: 26 steps.
+    Reads(u8),
+    /// Begins to enter an event, and looks.
+    Looks(u8, Event),
+    /// Exchanges the word.
+    Swaps(u8),
+    /// Enters an event: four steps.
+    Enters(u8, Event),
+    /// Ends its call.
+    Ends(u8),
 }
 
-fn event(game: u8, expected: u16, kind: Kind) -> Option<EventCall> {
-    Some(EventCall {
-        game: MatchNo::new(game)?,
-        expected,
-        kind,
-    })
+/// What a call answers. A copy is of the words that the steps leave.
+#[derive(Clone, Copy)]
+enum Answer {
+    Nothing,
+    Accepted(u16),
+    Stale(u16),
+    Copied(u16),
+}
+
+/// What became of a call: the length of the history at its beginning, its point, its reply, and the length at its end.
+type Outcome = (u16, Option<u16>, Answer, Option<u16>);
+
+/// A worked list of steps: what is done in turn, how many steps that is, the words of matches 1 to 3 that it leaves, the
+/// length of the history, and what becomes of each call. The other matches have not begun.
+#[derive(Clone, Copy)]
+struct Worked {
+    name: &'static str,
+    turns: &'static [Turn],
+    steps: usize,
+    words: [u64; 3],
+    entries: usize,
+    outcomes: &'static [Outcome],
+}
+
+const KICK_OFF: Event = (1, 0, Kind::KickOff);
+
+const OTHER_KICK_OFF: Event = (2, 0, Kind::KickOff);
+
+const GOAL: Event = (1, 1, Kind::Goal(Side::Home));
+
+const GOAL_DISALLOWED: Event = (1, 2, Kind::Disallow(Side::Home));
+
+static WORKED: [Worked; 8] = [
+    Worked {
+        name: "torn reading",
+        turns: &[
+            Turn::Opens(0),
+            Turn::First(0, 1),
+            Turn::Enters(1, KICK_OFF),
+            Turn::Enters(2, OTHER_KICK_OFF),
+            Turn::First(0, 11),
+            Turn::Second(0, 1),
+            Turn::First(0, 12),
+            Turn::Second(0, 12),
+            Turn::Ends(0),
+        ],
+        steps: 47,
+        words: [0x2001000000001001, 0x2002000000001001, FRESH],
+        entries: 2,
+        outcomes: &[
+            (0, Some(2), Answer::Copied(2), Some(2)),
+            (0, Some(0), Answer::Accepted(1), Some(1)),
+            (1, Some(1), Answer::Accepted(1), Some(2)),
+        ],
+    },
+    Worked {
+        name: "a first collect",
+        turns: &[
+            Turn::Enters(1, KICK_OFF),
+            Turn::Opens(0),
+            Turn::First(0, 12),
+        ],
+        steps: 17,
+        words: [0x2001000000001001, FRESH, FRESH],
+        entries: 1,
+        outcomes: &[
+            (0, Some(0), Answer::Accepted(1), Some(1)),
+            (1, None, Answer::Nothing, None),
+        ],
+    },
+    Worked {
+        name: "changed and changed back: the scores are those of the first collect, and the number is another",
+        turns: &[
+            Turn::Enters(1, KICK_OFF),
+            Turn::Opens(0),
+            Turn::First(0, 12),
+            Turn::Enters(1, GOAL),
+            Turn::Enters(1, GOAL_DISALLOWED),
+            Turn::Second(0, 1),
+            Turn::First(0, 12),
+            Turn::Second(0, 12),
+        ],
+        steps: 50,
+        words: [0x2001000000001003, FRESH, FRESH],
+        entries: 3,
+        outcomes: &[
+            (0, Some(0), Answer::Accepted(1), Some(1)),
+            (1, Some(3), Answer::Copied(3), None),
+            (1, Some(1), Answer::Accepted(2), Some(2)),
+            (2, Some(2), Answer::Accepted(3), Some(3)),
+        ],
+    },
+    Worked {
+        name: "changed back before the reading has come to it, and another match changed between",
+        turns: &[
+            Turn::Enters(1, KICK_OFF),
+            Turn::Opens(0),
+            Turn::First(0, 1),
+            Turn::Enters(1, GOAL),
+            Turn::Enters(2, OTHER_KICK_OFF),
+            Turn::Enters(1, GOAL_DISALLOWED),
+            Turn::First(0, 11),
+            Turn::Second(0, 1),
+            Turn::First(0, 12),
+            Turn::Second(0, 12),
+            Turn::Ends(0),
+        ],
+        steps: 55,
+        words: [0x2001000000001003, 0x2002000000001001, FRESH],
+        entries: 4,
+        outcomes: &[
+            (0, Some(0), Answer::Accepted(1), Some(1)),
+            (1, Some(4), Answer::Copied(4), Some(4)),
+            (1, Some(1), Answer::Accepted(2), Some(2)),
+            (2, Some(2), Answer::Accepted(1), Some(3)),
+            (3, Some(3), Answer::Accepted(3), Some(4)),
+        ],
+    },
+    Worked {
+        name: "four events",
+        turns: &[
+            Turn::Enters(1, (3, 0, Kind::KickOff)),
+            Turn::Enters(1, (3, 1, Kind::Goal(Side::Home))),
+            Turn::Enters(1, (3, 2, Kind::Goal(Side::Away))),
+            Turn::Enters(1, (3, 3, Kind::Yellow(Side::Home))),
+        ],
+        steps: 16,
+        words: [FRESH, FRESH, 0x2001000004105004],
+        entries: 4,
+        outcomes: &[
+            (0, Some(0), Answer::Accepted(1), Some(1)),
+            (1, Some(1), Answer::Accepted(2), Some(2)),
+            (2, Some(2), Answer::Accepted(3), Some(3)),
+            (3, Some(3), Answer::Accepted(4), Some(4)),
+        ],
+    },
+    Worked {
+        name: "two exchanges",
+        turns: &[
+            Turn::Enters(1, (3, 0, Kind::KickOff)),
+            Turn::Enters(1, (3, 1, Kind::Goal(Side::Home))),
+            Turn::Enters(1, (3, 2, Kind::Goal(Side::Away))),
+            Turn::Enters(1, (3, 3, Kind::Yellow(Side::Home))),
+            Turn::Looks(1, (3, 4, Kind::Goal(Side::Home))),
+            Turn::Looks(2, (3, 4, Kind::Goal(Side::Away))),
+            Turn::Swaps(1),
+            Turn::Swaps(2),
+        ],
+        steps: 22,
+        words: [FRESH, FRESH, 0x2001000004109005],
+        entries: 5,
+        outcomes: &[
+            (0, Some(0), Answer::Accepted(1), Some(1)),
+            (1, Some(1), Answer::Accepted(2), Some(2)),
+            (2, Some(2), Answer::Accepted(3), Some(3)),
+            (3, Some(3), Answer::Accepted(4), Some(4)),
+            (4, Some(4), Answer::Accepted(5), None),
+            (4, Some(5), Answer::Stale(5), None),
+        ],
+    },
+    Worked {
+        name: "an unfinished report",
+        turns: &[Turn::Looks(1, KICK_OFF), Turn::Reads(0)],
+        steps: 28,
+        words: [FRESH, FRESH, FRESH],
+        entries: 0,
+        outcomes: &[
+            (0, None, Answer::Nothing, None),
+            (0, Some(0), Answer::Copied(0), Some(0)),
+        ],
+    },
+    Worked {
+        name: "a late exchange: another was faster, and a whole reading comes between",
+        turns: &[
+            Turn::Looks(1, KICK_OFF),
+            Turn::Enters(2, KICK_OFF),
+            Turn::Reads(0),
+            Turn::Swaps(1),
+            Turn::Ends(1),
+        ],
+        steps: 34,
+        words: [0x2002000000001001, FRESH, FRESH],
+        entries: 1,
+        outcomes: &[
+            (0, Some(1), Answer::Stale(1), Some(1)),
+            (0, Some(0), Answer::Accepted(1), Some(1)),
+            (1, Some(1), Answer::Copied(1), Some(1)),
+        ],
+    },
+];
+
+fn caller(number: u8) -> Caller {
+    match ReporterNo::new(number) {
+        Some(reporter) => Caller::Reporter(reporter),
+        None => READER,
+    }
 }
 
 /// The item, so many times.
@@ -37,6 +250,16 @@ fn repeat<T: Copy>(items: &mut Vec<T>, item: T, times: u8) -> Result<(), AllocEr
         items.push(item)?;
     }
     Ok(())
+}
+
+fn event_of(event: Event) -> Result<EventCall, Fail> {
+    let (game, expected, kind) = event;
+    let game = MatchNo::new(game).ok_or("no such match")?;
+    Ok(EventCall {
+        game,
+        expected,
+        kind,
+    })
 }
 
 /// The beginning and the look of an event.
@@ -64,23 +287,26 @@ fn read(steps: &mut Vec<Step>, caller: &Caller) -> Result<(), AllocError> {
     Ok(())
 }
 
-/// What became of a call: the length of the history at its beginning, its point, its reply, and the length at its end.
-type Outcome = (u16, Option<u16>, Option<Reply>, Option<u16>);
-
-fn assert_calls(rt: &impl Abort, trace: &Trace, outcomes: &[Outcome]) {
-    assert_eq!(rt; trace.calls.len(), outcomes.len());
-    for (place, call) in trace.calls.iter().enumerate() {
-        let outcome = (call.begun, call.point, call.reply, call.ended);
-        assert_eq!(rt; Some(&outcome), outcomes.get(place), "call {place}");
+/// The steps of a turn.
+fn play(steps: &mut Vec<Step>, turn: Turn) -> Result<(), Fail> {
+    match turn {
+        Turn::Opens(number) => repeat(steps, Step::Begin(caller(number), Call::Reading), 1)?,
+        Turn::First(number, times) => repeat(steps, Step::First(caller(number)), times)?,
+        Turn::Second(number, times) => repeat(steps, Step::Second(caller(number)), times)?,
+        Turn::Reads(number) => read(steps, &caller(number))?,
+        Turn::Looks(number, event) => look(steps, &caller(number), &event_of(event)?)?,
+        Turn::Swaps(number) => repeat(steps, Step::Swap(caller(number)), 1)?,
+        Turn::Enters(number, event) => enter(steps, &caller(number), &event_of(event)?)?,
+        Turn::Ends(number) => repeat(steps, Step::End(caller(number)), 1)?,
     }
+    Ok(())
 }
 
-fn accepted(number: u16) -> Option<Reply> {
-    Some(Reply::Accepted(Accepted { number }))
-}
-
-fn stale(found: u16) -> Option<Reply> {
-    Some(Reply::Refused(Refusal::Stale { found }))
+/// The words of a board of which only matches 1 to 3 have begun.
+fn words_after(begun: [u64; 3]) -> [u64; 12] {
+    [
+        begun[0], begun[1], begun[2], FRESH, FRESH, FRESH, FRESH, FRESH, FRESH, FRESH, FRESH, FRESH,
+    ]
 }
 
 fn reading(words: &[u64; 12], version: u16) -> Option<Reply> {
@@ -88,236 +314,76 @@ fn reading(words: &[u64; 12], version: u16) -> Option<Reply> {
     Some(Reply::Copied(Reading { board, version }))
 }
 
-#[test]
-fn torn_reading(rt: HostRuntime) -> Result<(), Fail> {
-    let one = reporter(1).ok_or("reporter")?;
-    let two = reporter(2).ok_or("reporter")?;
-    let mut steps = Vec::new(rt.alloc());
-    steps.push(Step::Begin(READER, Call::Reading))?;
-    steps.push(Step::First(READER))?;
-    enter(
-        &mut steps,
-        &one,
-        &event(1, 0, Kind::KickOff).ok_or("event")?,
-    )?;
-    enter(
-        &mut steps,
-        &two,
-        &event(2, 0, Kind::KickOff).ok_or("event")?,
-    )?;
-    repeat(&mut steps, Step::First(READER), 11)?;
-    steps.push(Step::Second(READER))?;
-    repeat(&mut steps, Step::First(READER), 12)?;
-    repeat(&mut steps, Step::Second(READER), 12)?;
-    steps.push(Step::End(READER))?;
-    assert_eq!(rt; steps.len(), 47);
-    let trace = run_steps(rt.alloc(), &TWO_REPORTERS, &steps)?;
-    let mut words = [0x2000000000000000; 12];
-    words[0] = 0x2001000000001001;
-    words[1] = 0x2002000000001001;
-    assert_eq!(rt; trace.words, words);
-    let outcomes = [
-        (0, Some(2), reading(&words, 2), Some(2)),
-        (0, Some(0), accepted(1), Some(1)),
-        (1, Some(1), accepted(1), Some(2)),
-    ];
-    assert_calls(&rt, &trace, &outcomes);
-    Ok(())
-}
-
-/// The second collect finds a word with the scores of the first, and another number.
-#[test]
-fn changed_and_changed_back(rt: HostRuntime) -> Result<(), Fail> {
-    let one = reporter(1).ok_or("reporter")?;
-    let goal = event(1, 1, Kind::Goal(Side::Home)).ok_or("event")?;
-    let disallow = event(1, 2, Kind::Disallow(Side::Home)).ok_or("event")?;
-    let mut steps = Vec::new(rt.alloc());
-    enter(
-        &mut steps,
-        &one,
-        &event(1, 0, Kind::KickOff).ok_or("event")?,
-    )?;
-    steps.push(Step::Begin(READER, Call::Reading))?;
-    repeat(&mut steps, Step::First(READER), 12)?;
-    let before = run_steps(rt.alloc(), &ONE_REPORTER, &steps)?;
-    assert_eq!(rt; before.words[0], 0x2001000000001001);
-    enter(&mut steps, &one, &goal)?;
-    enter(&mut steps, &one, &disallow)?;
-    steps.push(Step::Second(READER))?;
-    repeat(&mut steps, Step::First(READER), 12)?;
-    repeat(&mut steps, Step::Second(READER), 12)?;
-    let trace = run_steps(rt.alloc(), &ONE_REPORTER, &steps)?;
-    let mut words = [0x2000000000000000; 12];
-    words[0] = 0x2001000000001003;
-    assert_eq!(rt; trace.words, words);
-    let outcomes = [
-        (0, Some(0), accepted(1), Some(1)),
-        (1, Some(3), reading(&words, 3), None),
-        (1, Some(1), accepted(2), Some(2)),
-        (2, Some(2), accepted(3), Some(3)),
-    ];
-    assert_calls(&rt, &trace, &outcomes);
-    Ok(())
-}
-
-/// A match changes and changes back before a reading has come to it, and another changes between.
-#[test]
-fn changed_back_within_a_collect(rt: HostRuntime) -> Result<(), Fail> {
-    let one = reporter(1).ok_or("reporter")?;
-    let two = reporter(2).ok_or("reporter")?;
-    let goal = event(1, 1, Kind::Goal(Side::Home)).ok_or("event")?;
-    let disallow = event(1, 2, Kind::Disallow(Side::Home)).ok_or("event")?;
-    let mut steps = Vec::new(rt.alloc());
-    enter(
-        &mut steps,
-        &one,
-        &event(1, 0, Kind::KickOff).ok_or("event")?,
-    )?;
-    steps.push(Step::Begin(READER, Call::Reading))?;
-    steps.push(Step::First(READER))?;
-    enter(&mut steps, &one, &goal)?;
-    enter(
-        &mut steps,
-        &two,
-        &event(2, 0, Kind::KickOff).ok_or("event")?,
-    )?;
-    enter(&mut steps, &one, &disallow)?;
-    repeat(&mut steps, Step::First(READER), 11)?;
-    steps.push(Step::Second(READER))?;
-    repeat(&mut steps, Step::First(READER), 12)?;
-    repeat(&mut steps, Step::Second(READER), 12)?;
-    steps.push(Step::End(READER))?;
-    let trace = run_steps(rt.alloc(), &TWO_REPORTERS, &steps)?;
-    let mut words = [0x2000000000000000; 12];
-    words[0] = 0x2001000000001003;
-    words[1] = 0x2002000000001001;
-    let outcomes = [
-        (0, Some(0), accepted(1), Some(1)),
-        (1, Some(4), reading(&words, 4), Some(4)),
-        (1, Some(1), accepted(2), Some(2)),
-        (2, Some(2), accepted(1), Some(3)),
-        (3, Some(3), accepted(3), Some(4)),
-    ];
-    assert_calls(&rt, &trace, &outcomes);
-    Ok(())
-}
-
-#[test]
-fn two_exchanges(rt: HostRuntime) -> Result<(), Fail> {
-    let one = reporter(1).ok_or("reporter")?;
-    let two = reporter(2).ok_or("reporter")?;
-    let kinds = [
-        Kind::KickOff,
-        Kind::Goal(Side::Home),
-        Kind::Goal(Side::Away),
-        Kind::Yellow(Side::Home),
-    ];
-    let mut steps = Vec::new(rt.alloc());
-    for (expected, kind) in (0..4).zip(kinds) {
-        enter(&mut steps, &one, &event(3, expected, kind).ok_or("event")?)?;
+fn reply(answer: Answer, words: &[u64; 12]) -> Option<Reply> {
+    match answer {
+        Answer::Nothing => None,
+        Answer::Accepted(number) => Some(Reply::Accepted(Accepted { number })),
+        Answer::Stale(found) => Some(Reply::Refused(Refusal::Stale { found })),
+        Answer::Copied(version) => reading(words, version),
     }
-    let before = run_steps(rt.alloc(), &TWO_REPORTERS, &steps)?;
-    assert_eq!(rt; before.words[2], 0x2001000004105004);
-    let home = event(3, 4, Kind::Goal(Side::Home)).ok_or("event")?;
-    let away = event(3, 4, Kind::Goal(Side::Away)).ok_or("event")?;
-    look(&mut steps, &one, &home)?;
-    look(&mut steps, &two, &away)?;
-    steps.push(Step::Swap(one))?;
-    steps.push(Step::Swap(two))?;
-    let trace = run_steps(rt.alloc(), &TWO_REPORTERS, &steps)?;
-    let outcomes = [
-        (0, Some(0), accepted(1), Some(1)),
-        (1, Some(1), accepted(2), Some(2)),
-        (2, Some(2), accepted(3), Some(3)),
-        (3, Some(3), accepted(4), Some(4)),
-        (4, Some(4), accepted(5), None),
-        (4, Some(5), stale(5), None),
-    ];
-    assert_calls(&rt, &trace, &outcomes);
-    assert_eq!(rt; trace.words[2], 0x2001000004109005);
-    assert_eq!(rt; trace.history.len(), 5);
-    Ok(())
+}
+
+fn assert_calls(rt: &impl Abort, name: &str, trace: &Trace, outcomes: &[Outcome]) {
+    assert_eq!(rt; trace.calls.len(), outcomes.len(), "{name}");
+    for (place, (call, outcome)) in trace.calls.iter().zip(outcomes).enumerate() {
+        let (begun, point, answer, ended) = *outcome;
+        let expected = (begun, point, reply(answer, &trace.words), ended);
+        assert_eq!(rt;
+            (call.begun, call.point, call.reply, call.ended),
+            expected,
+            "{name}, call {place}"
+        );
+    }
 }
 
 #[test]
-fn unfinished_report(rt: HostRuntime) -> Result<(), Fail> {
-    let one = reporter(1).ok_or("reporter")?;
-    let mut steps = Vec::new(rt.alloc());
-    look(
-        &mut steps,
-        &one,
-        &event(1, 0, Kind::KickOff).ok_or("event")?,
-    )?;
-    read(&mut steps, &READER)?;
-    let trace = run_steps(rt.alloc(), &ONE_REPORTER, &steps)?;
-    let outcomes = [
-        (0, None, None, None),
-        (0, Some(0), reading(&[0x2000000000000000; 12], 0), Some(0)),
-    ];
-    assert_calls(&rt, &trace, &outcomes);
-    assert_eq!(rt; trace.history.len(), 0);
-    Ok(())
-}
-
-/// A reporter looks, another is faster, and a whole reading comes before the lost exchange.
-#[test]
-fn late_exchange(rt: HostRuntime) -> Result<(), Fail> {
-    let one = reporter(1).ok_or("reporter")?;
-    let two = reporter(2).ok_or("reporter")?;
-    let kick_off = event(1, 0, Kind::KickOff).ok_or("event")?;
-    let mut steps = Vec::new(rt.alloc());
-    look(&mut steps, &one, &kick_off)?;
-    enter(&mut steps, &two, &kick_off)?;
-    read(&mut steps, &READER)?;
-    steps.push(Step::Swap(one))?;
-    steps.push(Step::End(one))?;
-    assert_eq!(rt; steps.len(), 34);
-    let trace = run_steps(rt.alloc(), &TWO_REPORTERS, &steps)?;
-    let mut words = [0x2000000000000000; 12];
-    words[0] = 0x2002000000001001;
-    let outcomes = [
-        (0, Some(1), stale(1), Some(1)),
-        (0, Some(0), accepted(1), Some(1)),
-        (1, Some(1), reading(&words, 1), Some(1)),
-    ];
-    assert_calls(&rt, &trace, &outcomes);
-    assert_eq!(rt; trace.history.len(), 1);
+fn worked_lists(rt: HostRuntime) -> Result<(), Fail> {
+    for row in WORKED.as_slice() {
+        let mut steps = Vec::new(rt.alloc());
+        for turn in row.turns {
+            play(&mut steps, *turn)?;
+        }
+        let trace = run_steps(rt.alloc(), &TWO_REPORTERS, &steps)?;
+        let left = (steps.len(), trace.history.len(), trace.words);
+        assert_eq!(rt;
+            left,
+            (row.steps, row.entries, words_after(row.words)),
+            "{}",
+            row.name
+        );
+        assert_calls(&rt, row.name, &trace, row.outcomes);
+    }
     Ok(())
 }
 
 /// A reporter that has looked and never goes on stops nobody.
 #[test]
 fn stopped_reporter(rt: HostRuntime) -> Result<(), Fail> {
-    let one = reporter(1).ok_or("reporter")?;
-    let two = reporter(2).ok_or("reporter")?;
-    let kick_off = event(1, 0, Kind::KickOff).ok_or("event")?;
     let mut steps = Vec::new(rt.alloc());
-    look(&mut steps, &one, &kick_off)?;
-    enter(&mut steps, &two, &kick_off)?;
-    read(&mut steps, &READER)?;
+    play(&mut steps, Turn::Looks(1, KICK_OFF))?;
+    play(&mut steps, Turn::Enters(2, KICK_OFF))?;
+    play(&mut steps, Turn::Reads(0))?;
     for _ in 0..100 {
-        read(&mut steps, &two)?;
-        read(&mut steps, &READER)?;
+        play(&mut steps, Turn::Reads(2))?;
+        play(&mut steps, Turn::Reads(0))?;
     }
     let trace = run_steps(rt.alloc(), &TWO_REPORTERS, &steps)?;
-    let mut words = [0x2000000000000000; 12];
-    words[0] = 0x2002000000001001;
     let mut outcomes = Vec::new(rt.alloc());
-    outcomes.push((0, None, None, None))?;
-    outcomes.push((0, Some(0), accepted(1), Some(1)))?;
-    repeat(
-        &mut outcomes,
-        (1, Some(1), reading(&words, 1), Some(1)),
-        201,
-    )?;
-    assert_calls(&rt, &trace, &outcomes);
+    outcomes.push((0, None, Answer::Nothing, None))?;
+    outcomes.push((0, Some(0), Answer::Accepted(1), Some(1)))?;
+    repeat(&mut outcomes, (1, Some(1), Answer::Copied(1), Some(1)), 201)?;
+    assert_eq!(rt;
+        trace.words,
+        words_after([0x2002000000001001, FRESH, FRESH])
+    );
+    assert_calls(&rt, "a stopped reporter", &trace, &outcomes);
     Ok(())
 }
 
 /// Each event of every match spoils one try of a reading.
 #[test]
 fn bound_of_tries(rt: HostRuntime) -> Result<(), Fail> {
-    let one = reporter(1).ok_or("reporter")?;
+    let one = caller(1);
     let mut steps = Vec::new(rt.alloc());
     steps.push(Step::Begin(READER, Call::Reading))?;
     for game in 1..=12 {
@@ -329,11 +395,7 @@ fn bound_of_tries(rt: HostRuntime) -> Result<(), Fail> {
                 _ => Kind::Disallow(Side::Home),
             };
             repeat(&mut steps, Step::First(READER), 12)?;
-            enter(
-                &mut steps,
-                &one,
-                &event(game, expected, kind).ok_or("event")?,
-            )?;
+            enter(&mut steps, &one, &event_of((game, expected, kind))?)?;
             repeat(&mut steps, Step::Second(READER), game)?;
         }
     }
@@ -343,8 +405,7 @@ fn bound_of_tries(rt: HostRuntime) -> Result<(), Fail> {
     assert_eq!(rt; steps.len(), 1_105_676);
     let trace = run_steps(rt.alloc(), &ONE_REPORTER, &steps)?;
     let words = [0x2001000000006fff; 12];
-    assert_eq!(rt; trace.words, words);
-    assert_eq!(rt; trace.history.len(), 49_140);
+    assert_eq!(rt; (trace.words, trace.history.len()), (words, 49_140));
     let reply = trace.calls.first().ok_or("call")?.reply;
     assert_eq!(rt; reply, reading(&words, 49_140));
     Ok(())
@@ -352,9 +413,9 @@ fn bound_of_tries(rt: HostRuntime) -> Result<(), Fail> {
 
 #[test]
 fn steps_not_enabled(rt: HostRuntime) -> Result<(), Fail> {
-    let kick_off = Call::Event(event(1, 0, Kind::KickOff).ok_or("event")?);
+    let mut event = Vec::new(rt.alloc());
+    look(&mut event, &READER, &event_of(KICK_OFF)?)?;
     let swap = [Step::Begin(READER, Call::Reading), Step::Swap(READER)];
-    let event = [Step::Begin(READER, kick_off)];
     let stranger = [Step::Begin(Caller::Reader(2), Call::Reading)];
     let rows = [
         (swap.as_slice(), 1),
@@ -366,9 +427,8 @@ fn steps_not_enabled(rt: HostRuntime) -> Result<(), Fail> {
         assert_eq!(rt; fault, Some(StepFault::NotEnabled { at }));
     }
     let trace = run_steps(rt.alloc(), &ONE_REPORTER, &[])?;
-    assert_eq!(rt; trace.history.len(), 0);
-    assert_eq!(rt; trace.calls.len(), 0);
-    assert_eq!(rt; trace.words, [0x2000000000000000; 12]);
+    let left = (trace.history.len(), trace.calls.len(), trace.words);
+    assert_eq!(rt; left, (0, 0, [FRESH; 12]));
     Ok(())
 }
 

@@ -4,7 +4,7 @@ use std::alloc::Global;
 use std::io;
 use ucl_order::Profile;
 use ucl_runs::{RunFault, feed_run, show_run};
-use ucl_screen::{FromRead, ToWrite};
+use ucl_screen::{FromRead, InputFault, ToWrite};
 
 /// A reader of a text, which fails after `room` bytes, and then reads on.
 #[derive(Drop)]
@@ -68,13 +68,30 @@ impl io::Write for Out<'_> {
     }
 }
 
+/// The answer of a run, and what it wrote.
+pub type Ran = (Result<(), RunFault>, Vec<u8>);
+
+/// Whether a run ended well, and wrote just this text.
+pub fn has_written(ran: &Ran, text: &str) -> bool {
+    let (answer, out) = ran;
+    answer.is_ok() && out.as_slice() == text.as_bytes()
+}
+
+/// Whether a run wrote just the first `room` bytes of a text, and told then that its output had failed.
+pub fn has_stopped(ran: &Ran, text: &str, room: usize) -> bool {
+    let (answer, out) = ran;
+    *answer == Err(RunFault::WriteFailed { written: room })
+        && Some(out.as_slice()) == text.as_bytes().get(..room)
+}
+
+/// Whether a run ended by this fault of its input, and wrote nothing.
+pub fn has_refused(ran: &Ran, fault: InputFault) -> bool {
+    let (answer, out) = ran;
+    *answer == Err(RunFault::Input(fault)) && out.is_empty()
+}
+
 /// The answer of `feed` to an input, and what it wrote to an output with so much room.
-pub fn fed<R: io::Read + Drop>(
-    alloc: Global,
-    input: R,
-    room: usize,
-    full: Full,
-) -> (Result<(), RunFault>, Vec<u8>) {
+pub fn fed<R: io::Read + Drop>(alloc: Global, input: R, room: usize, full: Full) -> Ran {
     let mut out = Vec::new(alloc);
     let answer = {
         let mut source = FromRead::new(input);
@@ -90,12 +107,7 @@ pub fn fed<R: io::Read + Drop>(
 }
 
 /// The answer of `show` to a sheet, for group A, and what it wrote to an output with so much room.
-pub fn shown<R: io::Read + Drop>(
-    alloc: Global,
-    input: R,
-    room: usize,
-    full: Full,
-) -> (Result<(), RunFault>, Vec<u8>) {
+pub fn shown<R: io::Read + Drop>(alloc: Global, input: R, room: usize, full: Full) -> Ran {
     let mut out = Vec::new(alloc);
     let answer = {
         let mut source = FromRead::new(input);

@@ -1,6 +1,6 @@
 //! Nights: merges that are settled, gates that only threads get through, and what goes out.
 
-use super::devices::{Full, Out};
+use super::devices::{Full, Out, Ran, has_stopped, has_written};
 use super::{CLUBS, HEAD_TO_HEAD_SCREEN, head_to_head_script, joined};
 use std::alloc::Global;
 use std::sync::Wait;
@@ -180,6 +180,41 @@ struct InStep {
 }
 
 impl InStep {
+    fn new(alloc: Global, roster: Roster) -> InStep {
+        InStep {
+            alloc,
+            roster,
+            calls: [
+                AtomicU32::new(0),
+                AtomicU32::new(0),
+                AtomicU32::new(0),
+                AtomicU32::new(0),
+            ],
+            screens: [AtomicU32::new(0), AtomicU32::new(0)],
+            late: AtomicBool::new(false),
+            out_of_turn: AtomicBool::new(false),
+        }
+    }
+
+    /// How often each worker came, how many screens each reader showed, whether one came late, and whether a call or a screen was out
+    /// of turn.
+    fn notes(&self) -> ([u32; 6], bool, bool) {
+        let [first, second, third, fourth] = &self.calls;
+        let counts = [
+            first.load(Ordering::SeqCst),
+            second.load(Ordering::SeqCst),
+            third.load(Ordering::SeqCst),
+            fourth.load(Ordering::SeqCst),
+            self.screens[0].load(Ordering::SeqCst),
+            self.screens[1].load(Ordering::SeqCst),
+        ];
+        (
+            counts,
+            self.late.load(Ordering::SeqCst),
+            self.out_of_turn.load(Ordering::SeqCst),
+        )
+    }
+
     /// Whether both have come to a turn, counted from 0.
     fn have_come(&self, first: &AtomicU32, second: &AtomicU32, turn: u32) -> bool {
         let wanted = turn.saturating_add(1);
@@ -239,8 +274,7 @@ impl Gate for InStep {
     }
 }
 
-/// A night whose workers are led step by step: how often each came, how many screens each reader showed, whether one came late, and whether
-/// a call or a screen was out of turn.
+/// What a gate notes that leads the workers of a night step by step.
 fn night_in_step<B: LiveBoard, R: Threads + Wait + Sync>(
     rt: &R,
     alloc: Global,
@@ -251,19 +285,7 @@ fn night_in_step<B: LiveBoard, R: Threads + Wait + Sync>(
 ) -> Result<([u32; 6], bool, bool), RunFault>
     requires { B.is_reader board.now pass }
 {
-    let gate = InStep {
-        alloc,
-        roster,
-        calls: [
-            AtomicU32::new(0),
-            AtomicU32::new(0),
-            AtomicU32::new(0),
-            AtomicU32::new(0),
-        ],
-        screens: [AtomicU32::new(0), AtomicU32::new(0)],
-        late: AtomicBool::new(false),
-        out_of_turn: AtomicBool::new(false),
-    };
+    let gate = InStep::new(alloc, roster);
     night_run(
         rt,
         alloc,
@@ -275,20 +297,7 @@ fn night_in_step<B: LiveBoard, R: Threads + Wait + Sync>(
         &gate,
         Profile::AwayInTie,
     )?;
-    let [first, second, third, fourth] = &gate.calls;
-    let counts = [
-        first.load(Ordering::SeqCst),
-        second.load(Ordering::SeqCst),
-        third.load(Ordering::SeqCst),
-        fourth.load(Ordering::SeqCst),
-        gate.screens[0].load(Ordering::SeqCst),
-        gate.screens[1].load(Ordering::SeqCst),
-    ];
-    Ok((
-        counts,
-        gate.late.load(Ordering::SeqCst),
-        gate.out_of_turn.load(Ordering::SeqCst),
-    ))
+    Ok(gate.notes())
 }
 
 /// A gate is told before each call, of the call's worker and number, and after each reading of its screen.
@@ -313,6 +322,25 @@ fn gate_leads_the_workers(rt: HostRuntime) -> Result<(), Fail> {
     Ok(())
 }
 
+/// The closing screen of a night of 20 readings. There is none where a reader showed nothing.
+fn closing_of_twenty<B: LiveBoard, R: Threads + Wait + Sync>(
+    rt: &R,
+    alloc: Global,
+    board: &B,
+    pass: B::ReaderPass,
+    night: &Night,
+) -> Result<Option<String>, RunFault>
+    requires { B.is_reader board.now pass }
+{
+    let profile = Profile::Uefa;
+    let end = night_run(rt, alloc, board, pass, night, b'A', 20, &OpenGate, profile)?;
+    let [first, second] = &end.last;
+    if first.is_none() || second.is_none() {
+        return Ok(None);
+    }
+    Ok(Some(end.closing))
+}
+
 /// The closing screen of a night of 20 readings, and the version that a pass which was split off before reads then. There is no
 /// answer where a reader showed nothing.
 fn night_of_twenty<B: LiveBoard, R: Threads + Wait + Sync>(
@@ -325,21 +353,10 @@ fn night_of_twenty<B: LiveBoard, R: Threads + Wait + Sync>(
     requires { B.is_reader board.now pass }
 {
     let mut watcher = board.split(rt, &mut pass);
-    let end = night_run(
-        rt,
-        alloc,
-        board,
-        pass,
-        night,
-        b'A',
-        20,
-        &OpenGate,
-        Profile::Uefa,
-    )?;
-    if end.last.iter().any(Option::is_none) {
+    let Some(closing) = closing_of_twenty(rt, alloc, board, pass, night)? else {
         return Ok(None);
-    }
-    Ok(Some((end.closing, board.read(rt, &mut watcher).version)))
+    };
+    Ok(Some((closing, board.read(rt, &mut watcher).version)))
 }
 
 #[test]
@@ -374,6 +391,39 @@ fn fifty_nights_on_word_boards(rt: HostRuntime) -> Result<(), Fail> {
     Ok(())
 }
 
+/// The version that a night under an open gate settles on.
+fn settled_version<B: LiveBoard, R: Threads + Wait + Sync>(
+    rt: &R,
+    alloc: Global,
+    board: &B,
+    pass: B::ReaderPass,
+    night: &Night,
+    readings: u32,
+) -> Result<u16, RunFault>
+    requires { B.is_reader board.now pass }
+{
+    let profile = Profile::Uefa;
+    let end = night_run(
+        rt, alloc, board, pass, night, b'A', readings, &OpenGate, profile,
+    )?;
+    Ok(end.settled.version)
+}
+
+/// The version that a reader reads, and the number that it reports under from then on.
+fn version_and_number<B: LiveBoard, R: Wait>(
+    rt: &R,
+    board: &B,
+    mut reader: B::ReaderPass,
+) -> Option<(u16, u8)>
+    requires { B.is_reader board.now reader }
+{
+    let version = board.read(rt, &mut reader).version;
+    match board.enlist(rt, reader) {
+        Ok(reporter) => Some((version, B::number_of(&reporter).get())),
+        Err(_) => None,
+    }
+}
+
 #[test]
 fn row_of_a_third_reporter(rt: HostRuntime) -> Result<(), Fail> {
     let alloc = rt.alloc();
@@ -381,25 +431,10 @@ fn row_of_a_third_reporter(rt: HostRuntime) -> Result<(), Fail> {
     script.push_str("3,1,0,kickoff\n")?;
     let night = night_of(alloc, script.as_str())?;
     let (board, mut pass) = CellBoard::open(&rt, alloc)?;
-    let mut watcher = board.split(&rt, &mut pass);
-    let fault = night_run(
-        &rt,
-        alloc,
-        &board,
-        pass,
-        &night,
-        b'A',
-        1,
-        &OpenGate,
-        Profile::Uefa,
-    )
-    .err();
-    assert_eq!(rt; fault, Some(RunFault::NotOnDuty { row: 45 }));
-    assert_eq!(rt; board.read(&rt, &mut watcher).version, 0);
-    let Ok(reporter) = board.enlist(&rt, watcher) else {
-        return Err("no number is left".into());
-    };
-    assert_eq!(rt; CellBoard::number_of(&reporter).get(), 1);
+    let watcher = board.split(&rt, &mut pass);
+    let answer = settled_version(&rt, alloc, &board, pass, &night, 1);
+    assert_eq!(rt; answer, Err(RunFault::NotOnDuty { row: 45 }));
+    assert_eq!(rt; version_and_number(&rt, &board, watcher), Some((0, 1)));
     Ok(())
 }
 
@@ -414,6 +449,22 @@ fn enlist_others<B: LiveBoard, R: Wait>(rt: &R, board: &B, pass: &mut B::ReaderP
     }
 }
 
+/// The numbers of a night's reporters.
+fn numbers_of<B: LiveBoard, R: Threads + Wait + Sync>(
+    rt: &R,
+    alloc: Global,
+    board: &B,
+    pass: B::ReaderPass,
+    night: &Night,
+) -> Result<(u8, u8), RunFault>
+    requires { B.is_reader board.now pass }
+{
+    let profile = Profile::Uefa;
+    let end = night_run(rt, alloc, board, pass, night, b'A', 0, &OpenGate, profile)?;
+    let first = B::number_of(&end.reporter_1).get();
+    Ok((first, B::number_of(&end.reporter_2).get()))
+}
+
 /// The numbers of a night's reporters on a board with so many others.
 fn numbers_after<B: LiveBoard, R: Threads + Wait + Sync>(
     rt: &R,
@@ -426,12 +477,7 @@ fn numbers_after<B: LiveBoard, R: Threads + Wait + Sync>(
 {
     let night = night_of(alloc, CLUBS)?;
     enlist_others(rt, board, &mut pass, others);
-    let profile = Profile::Uefa;
-    let Ok(end) = night_run(rt, alloc, board, pass, &night, b'A', 0, &OpenGate, profile) else {
-        return Err("no night".into());
-    };
-    let first = B::number_of(&end.reporter_1).get();
-    Ok((first, B::number_of(&end.reporter_2).get()))
+    Ok(numbers_of(rt, alloc, board, pass, &night)?)
 }
 
 #[test]
@@ -450,19 +496,8 @@ fn board_without_two_numbers_left(rt: HostRuntime) -> Result<(), Fail> {
     let night = night_of(alloc, CLUBS)?;
     let (board, mut pass) = CellBoard::open(&rt, alloc)?;
     enlist_others(&rt, &board, &mut pass, 254);
-    let fault = night_run(
-        &rt,
-        alloc,
-        &board,
-        pass,
-        &night,
-        b'A',
-        0,
-        &OpenGate,
-        Profile::Uefa,
-    )
-    .err();
-    assert_eq!(rt; fault, Some(RunFault::TooManyReporters));
+    let answer = settled_version(&rt, alloc, &board, pass, &night, 0);
+    assert_eq!(rt; answer, Err(RunFault::TooManyReporters));
     Ok(())
 }
 
@@ -481,20 +516,26 @@ fn board_with_an_event_of_a_third_reporter(rt: HostRuntime) -> Result<(), Fail> 
         kind: Kind::KickOff,
     };
     assert!(rt; board.report(&rt, &mut third, &kick_off).is_ok());
-    let fault = night_run(
-        &rt,
-        alloc,
-        &board,
-        pass,
-        &night,
-        b'A',
-        0,
-        &OpenGate,
-        Profile::Uefa,
-    )
-    .err();
-    assert_eq!(rt; fault, Some(RunFault::Strangers { version: 1 }));
+    let answer = settled_version(&rt, alloc, &board, pass, &night, 0);
+    assert_eq!(rt; answer, Err(RunFault::Strangers { version: 1 }));
     Ok(())
+}
+
+/// The number of the last match of a board.
+fn last_number(board: &Board) -> Option<u16> {
+    Some(board.game(MatchNo::new(12)?).number)
+}
+
+/// The version that a reader reads, and the number of the last match then.
+fn version_and_last_number<B: LiveBoard, R: Wait>(
+    rt: &R,
+    board: &B,
+    mut reader: B::ReaderPass,
+) -> (u16, Option<u16>)
+    requires { B.is_reader board.now reader }
+{
+    let reading = board.read(rt, &mut reader);
+    (reading.version, last_number(&reading.board))
 }
 
 /// Nothing is entered once the reporters have settled, also where a match has not begun.
@@ -508,31 +549,17 @@ fn night_with_a_match_not_begun(rt: HostRuntime) -> Result<(), Fail> {
     )?;
     let night = night_of(alloc, script.as_str())?;
     let (board, mut pass) = WordBoard::open(&rt, alloc)?;
-    let mut watcher = board.split(&rt, &mut pass);
-    let end = night_run(
-        &rt,
-        alloc,
-        &board,
-        pass,
-        &night,
-        b'A',
-        0,
-        &OpenGate,
-        Profile::Uefa,
-    )?;
-    assert_eq!(rt; end.settled.version, 3);
-    let later = board.read(&rt, &mut watcher);
-    assert_eq!(rt; later.version, 3);
-    let game = MatchNo::new(12).ok_or("no such match")?;
-    assert_eq!(rt; later.board.game(game).number, 0);
+    let watcher = board.split(&rt, &mut pass);
+    let answer = settled_version(&rt, alloc, &board, pass, &night, 0);
+    assert_eq!(rt; answer, Ok(3));
+    assert_eq!(rt; version_and_last_number(&rt, &board, watcher), (3, Some(0)));
     Ok(())
 }
 
-#[test]
-fn output_with_both_last_screens(rt: HostRuntime) -> Result<(), Fail> {
-    let alloc = rt.alloc();
+/// The end of a night in which both readers showed a screen.
+fn end_with_both_screens(alloc: Global) -> Result<NightEnd<(), ()>, Fail> {
     let board = Board::fresh();
-    let end = NightEnd {
+    Ok(NightEnd {
         last: [
             Some(String::from_str(alloc, "one\n")?),
             Some(String::from_str(alloc, "another\n")?),
@@ -543,38 +570,37 @@ fn output_with_both_last_screens(rt: HostRuntime) -> Result<(), Fail> {
         reader_2: (),
         reporter_1: (),
         reporter_2: (),
-    };
-    let whole = "READER 1\none\nREADER 2\nanother\nFINAL\nthe end\n";
-    for full in [Full::Fails, Full::TakesNone] {
-        for room in 0..whole.len() {
-            let mut out = Vec::new(alloc);
-            let answer = {
-                let mut sink = ToWrite::new(Out {
-                    taken: &mut out,
-                    piece: 4,
-                    room,
-                    full,
-                });
-                put_night(&end, &mut sink)
-            };
-            assert_eq!(rt; answer, Err(RunFault::WriteFailed { written: room }));
-            assert!(rt;
-                Some(out.as_slice()) == whole.as_bytes().get(..room),
-                "{full:?} at {room}"
-            );
-        }
-    }
+    })
+}
+
+const BOTH_SCREENS: &str = "READER 1\none\nREADER 2\nanother\nFINAL\nthe end\n";
+
+/// The answer of `put_night` to the end of a night, and what it wrote to an output with so much room.
+fn put(alloc: Global, end: &NightEnd<(), ()>, room: usize, full: Full) -> Ran {
     let mut out = Vec::new(alloc);
     let answer = {
         let mut sink = ToWrite::new(Out {
             taken: &mut out,
             piece: 4,
-            room: usize::MAX,
-            full: Full::Fails,
+            room,
+            full,
         });
-        put_night(&end, &mut sink)
+        put_night(end, &mut sink)
     };
-    assert_eq!(rt; answer, Ok(()));
-    assert!(rt; out.as_slice() == whole.as_bytes());
+    (answer, out)
+}
+
+#[test]
+fn output_with_both_last_screens(rt: HostRuntime) -> Result<(), Fail> {
+    let alloc = rt.alloc();
+    let end = end_with_both_screens(alloc)?;
+    for full in [Full::Fails, Full::TakesNone] {
+        for room in 0..BOTH_SCREENS.len() {
+            let ran = put(alloc, &end, room, full);
+            assert!(rt; has_stopped(&ran, BOTH_SCREENS, room), "{full:?} at {room}");
+        }
+    }
+    let ran = put(alloc, &end, usize::MAX, Full::Fails);
+    assert!(rt; has_written(&ran, BOTH_SCREENS));
     Ok(())
 }

@@ -152,7 +152,7 @@ fn writer_that_fails(rt: HostRuntime) -> Result<(), Fail> {
 }
 
 /// Each fault of an input, and its line.
-const FAULT_LINES: [(InputFault, &str); 6] = [
+static FAULT_LINES: [(InputFault, &str); 6] = [
     (
         InputFault::BadWordAt { index: 3 },
         "input refused 10: word 3",
@@ -172,7 +172,7 @@ const FAULT_LINES: [(InputFault, &str); 6] = [
 
 #[test]
 fn fault_lines(rt: HostRuntime) -> Result<(), Fail> {
-    for (fault, line) in FAULT_LINES {
+    for &(fault, line) in FAULT_LINES.as_slice() {
         let text = format!(in rt.alloc(); "{fault}")?;
         assert_eq!(rt; text.as_str(), line);
     }

@@ -1,66 +1,54 @@
 //! Scripts taken in and refused.
 
-use super::{CLUB_ROWS, after_club_rows, night_of};
+use super::{CLUB_ROWS, after_club_rows, joined, night_of};
 use std::alloc::{AllocError, Global};
 use std::test::Fail;
-use ucl_screen::{InputFault, NightEvent};
+use ucl_screen::{InputFault, Night, NightEvent};
 use ucl_word::{EventCall, Kind, MatchNo, ReporterNo, Side};
 
-/// The scores of matches 1 to 12 of the head to head group, home goals first.
-const SCORES: [(u8, u8); 12] = [
-    (1, 0),
-    (1, 0),
-    (1, 0),
-    (5, 0),
-    (1, 0),
-    (1, 0),
-    (2, 0),
-    (0, 1),
-    (0, 0),
-    (0, 0),
-    (0, 2),
-    (0, 1),
-];
-
-/// The script of the head to head group: reporter 1 has the odd matches and reporter 2 the even ones.
-fn head_to_head_script(alloc: Global) -> Result<Vec<u8>, AllocError> {
-    let mut text = Vec::from_slice(alloc, CLUB_ROWS)?;
-    for game in 1..13u8 {
-        let (home, away) = SCORES[usize::from(game - 1)];
-        let reporter = 2 - game % 2;
-        push(&mut text, alloc, reporter, game, 0, "kickoff")?;
-        for goal in 0..home {
-            push(
-                &mut text,
-                alloc,
-                reporter,
-                game,
-                1 + u16::from(goal),
-                "goal-home",
-            )?;
-        }
-        for goal in 0..away {
-            let number = 1 + u16::from(home) + u16::from(goal);
-            push(&mut text, alloc, reporter, game, number, "goal-away")?;
-        }
-        let number = 1 + u16::from(home) + u16::from(away);
-        push(&mut text, alloc, reporter, game, number, "fulltime")?;
-    }
-    Ok(text)
-}
-
-/// One row more.
-fn push(
-    text: &mut Vec<u8>,
-    alloc: Global,
-    reporter: u8,
-    game: u8,
-    expected: u16,
-    word: &str,
-) -> Result<(), AllocError> {
-    let row = format!(in alloc; "{reporter},{game},{expected},{word}\n")?;
-    text.extend_from_slice(row.as_bytes())
-}
+/// The rows of the head to head group: reporter 1 has the odd matches and reporter 2 the even ones.
+const HEAD_TO_HEAD: &[u8] = b"\
+1,1,0,kickoff\n\
+1,1,1,goal-home\n\
+1,1,2,fulltime\n\
+2,2,0,kickoff\n\
+2,2,1,goal-home\n\
+2,2,2,fulltime\n\
+1,3,0,kickoff\n\
+1,3,1,goal-home\n\
+1,3,2,fulltime\n\
+2,4,0,kickoff\n\
+2,4,1,goal-home\n\
+2,4,2,goal-home\n\
+2,4,3,goal-home\n\
+2,4,4,goal-home\n\
+2,4,5,goal-home\n\
+2,4,6,fulltime\n\
+1,5,0,kickoff\n\
+1,5,1,goal-home\n\
+1,5,2,fulltime\n\
+2,6,0,kickoff\n\
+2,6,1,goal-home\n\
+2,6,2,fulltime\n\
+1,7,0,kickoff\n\
+1,7,1,goal-home\n\
+1,7,2,goal-home\n\
+1,7,3,fulltime\n\
+2,8,0,kickoff\n\
+2,8,1,goal-away\n\
+2,8,2,fulltime\n\
+1,9,0,kickoff\n\
+1,9,1,fulltime\n\
+2,10,0,kickoff\n\
+2,10,1,fulltime\n\
+1,11,0,kickoff\n\
+1,11,1,goal-away\n\
+1,11,2,goal-away\n\
+1,11,3,fulltime\n\
+2,12,0,kickoff\n\
+2,12,1,goal-away\n\
+2,12,2,fulltime\n\
+";
 
 /// The event of a row of the script.
 fn event(reporter: u8, game: u8, expected: u16, kind: Kind) -> Option<NightEvent> {
@@ -75,7 +63,7 @@ fn event(reporter: u8, game: u8, expected: u16, kind: Kind) -> Option<NightEvent
 }
 
 /// Some events of the script by their place: the reporter, the match, the expected number and the kind.
-const SOME_EVENTS: [(usize, u8, u8, u16, Kind); 6] = [
+static SOME_EVENTS: [(usize, u8, u8, u16, Kind); 6] = [
     (0, 1, 1, 0, Kind::KickOff),
     (1, 1, 1, 1, Kind::Goal(Side::Home)),
     (2, 1, 1, 2, Kind::FullTime),
@@ -84,85 +72,118 @@ const SOME_EVENTS: [(usize, u8, u8, u16, Kind); 6] = [
     (39, 2, 12, 2, Kind::FullTime),
 ];
 
+/// The name of the first club is Alpha, that of the third is Charlie, and then the coefficient of the fourth and how many events there are.
+fn told_of(night: &Night) -> (bool, bool, u32, usize) {
+    let roster = &night.roster;
+    (
+        roster.name(1) == b"Alpha".as_slice(),
+        roster.name(3) == b"Charlie".as_slice(),
+        roster.coefficient(4),
+        night.events.len(),
+    )
+}
+
 #[test]
 fn head_to_head_events(rt: HostRuntime) -> Result<(), Fail> {
-    let night = night_of(rt.alloc(), &head_to_head_script(rt.alloc())?)?;
-    assert!(rt; night.roster.name(1) == b"Alpha".as_slice());
-    assert!(rt; night.roster.name(3) == b"Charlie".as_slice());
-    assert_eq!(rt; night.roster.coefficient(4), 81500);
-    assert_eq!(rt; night.events.len(), 40);
-    for (at, reporter, game, expected, kind) in SOME_EVENTS {
+    let text = after_club_rows(rt.alloc(), HEAD_TO_HEAD)?;
+    let night = night_of(rt.alloc(), &text)?;
+    assert_eq!(rt; told_of(&night), (true, true, 81500, 40));
+    for &(at, reporter, game, expected, kind) in SOME_EVENTS.as_slice() {
         let said = night.events.get(at).copied();
         assert_eq!(rt; said, event(reporter, game, expected, kind), "event {at}");
     }
     Ok(())
 }
 
-/// Each event word.
-const EVENT_WORDS: [(&str, Kind); 13] = [
-    ("kickoff", Kind::KickOff),
-    ("goal-home", Kind::Goal(Side::Home)),
-    ("goal-away", Kind::Goal(Side::Away)),
-    ("disallow-home", Kind::Disallow(Side::Home)),
-    ("disallow-away", Kind::Disallow(Side::Away)),
-    ("yellow-home", Kind::Yellow(Side::Home)),
-    ("yellow-away", Kind::Yellow(Side::Away)),
-    ("second-yellow-home", Kind::SecondYellow(Side::Home)),
-    ("second-yellow-away", Kind::SecondYellow(Side::Away)),
-    ("red-home", Kind::Red(Side::Home)),
-    ("red-away", Kind::Red(Side::Away)),
-    ("fulltime", Kind::FullTime),
-    ("reopen", Kind::Reopen),
+/// A row of each event word.
+static EVENT_WORDS: [(&[u8], Kind); 13] = [
+    (b"255,12,65535,kickoff\n", Kind::KickOff),
+    (b"255,12,65535,goal-home\n", Kind::Goal(Side::Home)),
+    (b"255,12,65535,goal-away\n", Kind::Goal(Side::Away)),
+    (b"255,12,65535,disallow-home\n", Kind::Disallow(Side::Home)),
+    (b"255,12,65535,disallow-away\n", Kind::Disallow(Side::Away)),
+    (b"255,12,65535,yellow-home\n", Kind::Yellow(Side::Home)),
+    (b"255,12,65535,yellow-away\n", Kind::Yellow(Side::Away)),
+    (
+        b"255,12,65535,second-yellow-home\n",
+        Kind::SecondYellow(Side::Home),
+    ),
+    (
+        b"255,12,65535,second-yellow-away\n",
+        Kind::SecondYellow(Side::Away),
+    ),
+    (b"255,12,65535,red-home\n", Kind::Red(Side::Home)),
+    (b"255,12,65535,red-away\n", Kind::Red(Side::Away)),
+    (b"255,12,65535,fulltime\n", Kind::FullTime),
+    (b"255,12,65535,reopen\n", Kind::Reopen),
 ];
 
 #[test]
 fn event_words(rt: HostRuntime) -> Result<(), Fail> {
-    for (word, kind) in EVENT_WORDS {
-        let mut text = after_club_rows(rt.alloc(), b"")?;
-        push(&mut text, rt.alloc(), 255, 12, 65535, word)?;
+    for &(row, kind) in EVENT_WORDS.as_slice() {
+        let text = after_club_rows(rt.alloc(), row)?;
         let night = night_of(rt.alloc(), &text)?;
         let said = night.events.first().copied();
-        assert_eq!(rt; said, event(255, 12, 65535, kind), "{word}");
+        assert_eq!(rt; said, event(255, 12, 65535, kind), "{kind:?}");
     }
     Ok(())
 }
 
+/// How many events a text says, or why it is refused.
+fn events_of(alloc: Global, text: &[u8]) -> Result<usize, InputFault> {
+    let night = night_of(alloc, text)?;
+    Ok(night.events.len())
+}
+
+/// Whole texts, and how many events they say.
+static TEXTS: [(&[u8], Result<usize, InputFault>); 5] = [
+    (b"", Err(InputFault::BadRow { row: 1 })),
+    (b"club,1,\"Alp", Err(InputFault::BadRow { row: 1 })),
+    (
+        b"club,1,Alpha,60000\nclub,2,Bravo,95000\nclub,3,Charlie,60000\n",
+        Err(InputFault::BadRow { row: 4 }),
+    ),
+    (
+        b"club,1,Alpha,60000\nclub,2,Bravobravobravobravob,95000\nclub,3,Charlie,1000000\nclub,4,Delta,81500\n",
+        Err(InputFault::BadRoster { slot: 2 }),
+    ),
+    (CLUB_ROWS, Ok(0)),
+];
+
 #[test]
-fn script_faults(rt: HostRuntime) -> Result<(), Fail> {
-    for (text, row) in [
-        (b"".as_slice(), 1),
-        (
-            b"club,1,Alpha,60000\nclub,2,Bravo,95000\nclub,3,Charlie,60000\n".as_slice(),
-            4,
-        ),
-        (b"club,1,\"Alp".as_slice(), 1),
-    ] {
-        let fault = night_of(rt.alloc(), text).err();
-        assert_eq!(rt; fault, Some(InputFault::BadRow { row }));
+fn whole_texts(rt: HostRuntime) {
+    for &(text, events) in TEXTS.as_slice() {
+        assert_eq!(rt; events_of(rt.alloc(), text), events);
     }
-    for row in [
-        b"1,13,0,kickoff".as_slice(),
-        b"0,1,0,kickoff".as_slice(),
-        b"1,1,65536,kickoff".as_slice(),
-        b"1,1,0,kick".as_slice(),
-        b"club,5,Echo,1".as_slice(),
-    ] {
-        let text = after_club_rows(rt.alloc(), row)?;
-        let fault = night_of(rt.alloc(), &text).err();
-        assert_eq!(rt; fault, Some(InputFault::BadRow { row: 5 }));
+}
+
+/// Fifth rows, and how many events the script then has. Numbers may have zeros in front, but no sign and not too many digits.
+static FIFTH_ROWS: [(&str, Result<usize, InputFault>); 11] = [
+    ("1,1,00000,kickoff", Ok(1)),
+    ("001,01,0,kickoff", Ok(1)),
+    ("1,1,000000,kickoff", Err(InputFault::BadRow { row: 5 })),
+    ("1,1,+0,kickoff", Err(InputFault::BadRow { row: 5 })),
+    ("256,1,0,kickoff", Err(InputFault::BadRow { row: 5 })),
+    ("1,1,0,kickoff,", Err(InputFault::BadRow { row: 5 })),
+    ("1,13,0,kickoff", Err(InputFault::BadRow { row: 5 })),
+    ("0,1,0,kickoff", Err(InputFault::BadRow { row: 5 })),
+    ("1,1,65536,kickoff", Err(InputFault::BadRow { row: 5 })),
+    ("1,1,0,kick", Err(InputFault::BadRow { row: 5 })),
+    ("club,5,Echo,1", Err(InputFault::BadRow { row: 5 })),
+];
+
+#[test]
+fn fifth_rows(rt: HostRuntime) -> Result<(), Fail> {
+    for &(row, events) in FIFTH_ROWS.as_slice() {
+        let text = after_club_rows(rt.alloc(), row.as_bytes())?;
+        assert_eq!(rt; events_of(rt.alloc(), &text), events, "{row}");
     }
-    let two_bad =
-        b"club,1,Alpha,60000\nclub,2,Bravobravobravobravob,95000\nclub,3,Charlie,1000000\nclub,4,Delta,81500\n";
-    let fault = night_of(rt.alloc(), two_bad).err();
-    assert_eq!(rt; fault, Some(InputFault::BadRoster { slot: 2 }));
-    let night = night_of(rt.alloc(), CLUB_ROWS)?;
-    assert!(rt; night.events.is_empty());
     Ok(())
 }
 
 #[test]
 fn every_beginning_of_a_script(rt: HostRuntime) -> Result<(), Fail> {
-    let text = head_to_head_script(rt.alloc())?;
+    let text = after_club_rows(rt.alloc(), HEAD_TO_HEAD)?;
     for end in 0..text.len() {
         let fault = night_of(rt.alloc(), &text[..end]).err();
         let is_of_a_row = match fault {
@@ -179,12 +200,8 @@ fn every_beginning_of_a_script(rt: HostRuntime) -> Result<(), Fail> {
 
 /// Rows 1 to 4, with this as the name of the first club and this as row 4, and a bad row 5.
 fn with_name(alloc: Global, name: &[u8], row: &[u8]) -> Result<Vec<u8>, AllocError> {
-    let mut text = Vec::from_slice(alloc, b"club,1,")?;
-    text.extend_from_slice(name)?;
-    text.extend_from_slice(b",60000\nclub,2,Bravo,95000\nclub,3,Charlie,60000\n")?;
-    text.extend_from_slice(row)?;
-    text.extend_from_slice(b"\n1,1,0,kick\n")?;
-    Ok(text)
+    let others = b",60000\nclub,2,Bravo,95000\nclub,3,Charlie,60000\n";
+    joined(alloc, &[b"club,1,", name, others, row, b"\n1,1,0,kick\n"])
 }
 
 #[test]
@@ -211,24 +228,5 @@ fn comma_in_a_name(rt: HostRuntime) -> Result<(), Fail> {
         b"club,1,\"Al,pha\",60000\nclub,2,Bravo,95000\nclub,3,Charlie,60000\nclub,4,Delta,81500\n";
     let night = night_of(rt.alloc(), text)?;
     assert!(rt; night.roster.name(1) == b"Al,pha".as_slice());
-    Ok(())
-}
-
-/// Rows whose numbers have zeros in front, too many digits or a sign.
-const NUMBERS: [(&[u8], Option<InputFault>); 6] = [
-    (b"1,1,00000,kickoff", None),
-    (b"001,01,0,kickoff", None),
-    (b"1,1,000000,kickoff", Some(InputFault::BadRow { row: 5 })),
-    (b"1,1,+0,kickoff", Some(InputFault::BadRow { row: 5 })),
-    (b"256,1,0,kickoff", Some(InputFault::BadRow { row: 5 })),
-    (b"1,1,0,kickoff,", Some(InputFault::BadRow { row: 5 })),
-];
-
-#[test]
-fn digits_and_signs(rt: HostRuntime) -> Result<(), Fail> {
-    for (row, fault) in NUMBERS {
-        let text = after_club_rows(rt.alloc(), row)?;
-        assert_eq!(rt; night_of(rt.alloc(), &text).err(), fault);
-    }
     Ok(())
 }

@@ -1,8 +1,4 @@
-use Rattle.std.proofs.Common.{◌≤◌}
 use Rattle.ucl_live_tests.proofs.words.boards.enter_goals.Given as goal
 
 abbrev pub invariant-loop-expected : goal.invariant-loop-expected
-invariant-loop-expected g l = record {
-  own : g.B.LiveBoard.is_reporter l.fn.board l.pass;
-  few : l.accepted ≤ l.expected;
-}
+invariant-loop-expected g l = g.B.LiveBoard.is_reporter l.fn.board l.pass
