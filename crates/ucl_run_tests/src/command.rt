@@ -1,5 +1,6 @@
 //! What words mean, and what the program does for them over memory in place of the standard streams.
 
+use crate::joined;
 use std::alloc::Global;
 use std::io;
 use std::process::Abort;
@@ -57,16 +58,6 @@ word,12,2000000000000000,
 ";
 
 const SCREEN: &str = "\
-GROUP A v00001 IN PLAY 1
-    Club                  P  W  D  L  GF  GA   GD Pts
-1   Bravo                 1  0  1  0   0   0   +0   1
-2   Charlie               1  0  1  0   0   0   +0   1
-3   Delta                 0  0  0  0   0   0   +0   0
-4   Alpha                 0  0  0  0   0   0   +0   0
-";
-
-const CLOSING: &str = "\
-FINAL
 GROUP A v00001 IN PLAY 1
     Club                  P  W  D  L  GF  GA   GD Pts
 1   Bravo                 1  0  1  0   0   0   +0   1
@@ -316,11 +307,11 @@ fn ran<R: Threads + Wait + Sync>(
     Ok((status, out, errors))
 }
 
-/// A line of words, its input, and the text that it writes.
-static DONE: [(&str, &str, &str); 3] = [
-    ("ucl_night feed", SCRIPT, REPLIES),
-    ("ucl_night show", SHEET, SCREEN),
-    ("ucl_night night", SCRIPT, CLOSING),
+/// A line of words, its input, and the two parts of the text that it writes.
+static DONE: [(&str, &str, &str, &str); 3] = [
+    ("ucl_night feed", SCRIPT, "", REPLIES),
+    ("ucl_night show", SHEET, "", SCREEN),
+    ("ucl_night night", SCRIPT, "FINAL\n", SCREEN),
 ];
 
 /// What is told of an output that is full after so many bytes.
@@ -371,8 +362,9 @@ fn assert_stops<R: Threads + Wait + Sync + Abort>(
 
 #[test]
 fn lines_are_done(rt: HostRuntime) -> Result<(), Fail> {
-    for &row in DONE.as_slice() {
-        let (line, _, _) = row;
+    for &(line, input, heading, text) in DONE.as_slice() {
+        let output = joined(rt.alloc(), heading, text)?;
+        let row = (line, input, output.as_str());
         let end = end_of(&rt, rt.alloc(), row, "")?;
         assert_eq!(rt; end, (0, true, true), "at {line}");
         assert_stops(&rt, rt.alloc(), row)?;
@@ -398,32 +390,23 @@ fn night_of_the_program_with_readings(rt: HostRuntime) -> Result<(), Fail> {
     Ok(())
 }
 
-/// The match of the script, and then a row of a third reporter.
-const SCRIPT_OF_THREE: &str = "\
-club,1,Alpha,60000
-club,2,Bravo,95000
-club,3,Charlie,60000
-club,4,Delta,81500
-1,1,0,kickoff
-1,1,0,kickoff
-3,1,0,kickoff
-";
-
-/// A line of words, an input that is refused, and what is told of it.
-static TOLD: [(&str, &str, &str); 3] = [
-    ("ucl_night feed", "", "input refused 20: row 1\n"),
-    ("ucl_night show", SCRIPT, "input refused 20: row 5\n"),
+/// A line of words, the two parts of an input that is refused, and what is told of it.
+static TOLD: [(&str, &str, &str, &str); 3] = [
+    ("ucl_night feed", "", "", "input refused 20: row 1\n"),
+    ("ucl_night show", SCRIPT, "", "input refused 20: row 5\n"),
     (
         "ucl_night night",
-        SCRIPT_OF_THREE,
+        SCRIPT,
+        "3,1,0,kickoff\n",
         "input refused 25: row 7\n",
     ),
 ];
 
 #[test]
 fn faults_are_told(rt: HostRuntime) -> Result<(), Fail> {
-    for &(line, input, told) in TOLD.as_slice() {
-        let end = end_of(&rt, rt.alloc(), (line, input, ""), told)?;
+    for &(line, script, more, told) in TOLD.as_slice() {
+        let input = joined(rt.alloc(), script, more)?;
+        let end = end_of(&rt, rt.alloc(), (line, input.as_str(), ""), told)?;
         assert_eq!(rt; end, (3, true, true), "at {line}");
     }
     Ok(())

@@ -3,6 +3,7 @@
 mod devices;
 mod nights;
 
+use crate::joined;
 use devices::{Cut, Full, fed, has_refused, has_stopped, has_written, shown};
 use std::alloc::{AllocError, Global};
 use std::process::Abort;
@@ -41,12 +42,6 @@ GROUP A v00007 IN PLAY 1
 3   Alpha                 1  0  1  0   0   0   +0   1
 4   Charlie               1  0  1  0   0   0   +0   1
 ";
-
-fn joined(alloc: Global, first: &str, second: &str) -> Result<String, Fail> {
-    let mut text = String::from_str(alloc, first)?;
-    text.push_str(second)?;
-    Ok(text)
-}
 
 /// Each fault of a run, its line and its status.
 static FAULTS: [(RunFault, &str, u8); 12] = [

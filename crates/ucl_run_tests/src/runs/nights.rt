@@ -1,7 +1,8 @@
 //! Nights: merges that are settled, gates that only threads get through, and what goes out.
 
 use super::devices::{Full, Out, Ran, has_stopped, has_written};
-use super::{CLUBS, HEAD_TO_HEAD_SCREEN, head_to_head_script, joined};
+use super::{CLUBS, HEAD_TO_HEAD_SCREEN, head_to_head_script};
+use crate::joined;
 use std::alloc::Global;
 use std::sync::Wait;
 use std::sync::atomic::{AtomicBool, AtomicU32, Ordering};
