@@ -1,5 +1,5 @@
 -- What the program's words ask for: the program's command as `clap` reads it, and the line that its matches name.
-use Rattle.std.specs.Prelude.{◌≡◌, ◌≤◌, ◌&&◌, ◌⊎◌, ⊤, ℕ, true, false, List, [], ◌∷◌, map, Option, Some, None, codes, pos, if◌then◌else◌, nat_le, option_and_then}
+use Rattle.std.specs.Prelude.{◌≡◌, ◌<◌, ◌≤◌, ◌&&◌, ◌⊎◌, ⊤, ℕ, true, false, List, [], ◌∷◌, length, map, string_bytes, Option, Some, None, codes, pos, if◌then◌else◌, nat_le, option_and_then}
 use Rattle.std.specs.Borrow.{Bor}
 use Rattle.std.specs.Str.{bytes_eq}
 use Rattle.std.specs.Str.Parse.{digits_value, without_leading_plus}
@@ -159,10 +159,10 @@ IsHelp kind = (kind ≡ DisplayHelp) ⊎ (kind ≡ DisplayVersion)
 abbrev pub MayFailBy : List Text → ErrorKind → Type 0
 MayFailBy words kind = (t : Tables) × IsAmong kind (fault_of (program t) words)
 
--- help is told where help or the version was asked for, and a refusal where neither was
+-- help is told where help or the version was asked for, and a refusal where neither was; both with a text that is not empty
 abbrev pub Tells : LineFault → ErrorKind → Type 0
-Tells (Help text) kind = IsHelp kind
-Tells (Refused text) kind = IsHelp kind → ⊥
+Tells (Help text) kind = IsHelp kind × (0 < length (string_bytes text))
+Tells (Refused text) kind = (IsHelp kind → ⊥) × (0 < length (string_bytes text))
 Tells OutOfMemory kind = ⊤
 
 -- the fault tells of an error that the words give

@@ -1,8 +1,8 @@
 -- What the program does with what its words ask for.
-use Rattle.std.specs.Prelude.{◌≡◌, ◌≢◌, ℕ, ◌≤◌, ⊤, Bool, true, List, All, length, map, Option, None, IfSome, Result, Ok, Err, IfErr, IsErrOf, OnOk, string_bytes}
+use Rattle.std.specs.Prelude.{◌≡◌, ◌≢◌, ℕ, ◌≤◌, ⊤, Bool, true, List, All, length, map, take, Option, Some, None, IfSome, Result, Ok, Err, IfErr, IsErrOf, OnOk, string_bytes}
 use Rattle.std.specs.Io.KnownBytes.{Appends}
 use Rattle.ucl_board.specs.declared.entry.Entry.{Entry}
-use Rattle.ucl_board.specs.History.{IsLegal, accepted_of, board_of}
+use Rattle.ucl_board.specs.History.{accepted_of, board_of}
 use Rattle.ucl_order.specs.declared.profile.Profile.{Profile}
 use Rattle.ucl_order.specs.Roster.{NamedClub}
 use Rattle.ucl_screen.specs.declared.fault.InputFault.{InputFault}
@@ -18,35 +18,38 @@ use Rattle.ucl_command.specs.declared.command_line.Line.TheVariants.{Feed, Show,
 use Rattle.ucl_command.specs.declared.command_line.LineFault.{LineFault}
 use Rattle.ucl_command.specs.declared.command_line.LineFault.TheVariants as words
 use Rattle.ucl_runs.specs.declared.fault.RunFault.{RunFault}
-use Rattle.ucl_runs.specs.declared.fault.RunFault.TheVariants.{Input, OutOfMemory, NotOnDuty}
+use Rattle.ucl_runs.specs.declared.fault.RunFault.TheVariants.{Input, OutOfMemory, WriteFailed, NotOnDuty, NoThread, TooManyReporters, Strangers}
 use Rattle.ucl_runs.specs.Faults.{IsOfOneThread, status}
 use Rattle.ucl_runs.specs.Feed.{IsFed, attempt_of}
 use Rattle.ucl_runs.specs.Show.{IsShown}
 use Rattle.ucl_runs.specs.Telling.{Tells, fault_line}
-use Rattle.ucl_runs.specs.Nights.{EachMatchHasOneReporter, IsFirstOffDuty, IsLastScreen, IsMerge, night_text, number_of_two}
+use Rattle.ucl_runs.specs.Nights.{EachMatchHasOneReporter, IsFirstOffDuty, IsMerge, IsOnDuty, night_text, number_of_two}
 use Rattle.ucl_runs.specs.Run.{IfInput, IfWriteFailed, IsCutShort, StoppedShort, TextHas, UnlessWriteFailed, WroteFirst, is_read_failed}
 
 -- The text that a line calls for. --
 
--- a reader took so many readings along a legal history, and this is its last screen
-pub record HasLooked (profile : Profile) (readings : ℕ) (roster : List NamedClub) (group : ℕ) (last : Option (List ℕ)) : Type 0 where
-  pub seen : List Entry
-  pub versions : List ℕ
-  pub legal : IsLegal seen
-  pub many : length versions ≡ readings
-  pub high : All (λ version. version ≤ length seen) versions
-  pub last_is : IsLastScreen profile seen versions roster group last
+-- the screen of the board of the first entries of a history, as many as a version says
+pub record IsScreenAlong (profile : Profile) (history : List Entry) (roster : List NamedClub) (group : ℕ) (text : List ℕ) : Type 0 where
+  pub version : ℕ
+  pub within : version ≤ length history
+  pub text_is : text ≡ screen_text profile (board_of (take version history)) roster group
+
+-- the last screen of a reader who was asked for so many readings along a history: none exactly where there were none
+abbrev pub HasLooked : Profile → List Entry → ℕ → List NamedClub → ℕ → Option (List ℕ) → Type 0
+HasLooked profile history readings roster group None = readings ≡ 0
+HasLooked profile history readings roster group (Some text) = (1 ≤ readings) × IsScreenAlong profile history roster group text
 
 -- the screen of the rows of a script, entered in script order by reporters 1 and 2
 abbrev pub script_screen : Profile → ℕ → Script → List ℕ
 script_screen profile group night = screen_text profile (board_of (accepted_of (map attempt_of night.events))) night.clubs group
 
--- the input is a script, and this is the output of a night of it: the last screens of both readers, and the screen of a merge of the rows.
--- Where each match has one reporter, that is the screen of the script, whoever was faster; where besides no reading is asked for, the
--- text is worked out from the input alone
+-- the input is a script of reporters 1 and 2, and this is the output of a night of it: the last screens of both readers along a merge of the
+-- rows, and the screen of that merge. Where each match has one reporter, that is the screen of the script, whoever was faster; where besides
+-- no reading is asked for, the text is worked out from the input alone
 pub record IsPlayed (profile : Profile) (group readings : ℕ) (bytes text : List ℕ) : Type 0 where
   pub night : Script
   pub means : MeansNight bytes (Ok night)
+  pub duty : All IsOnDuty night.events
   pub first : ℕ
   pub second : ℕ
   pub apart : first ≢ second
@@ -54,8 +57,8 @@ pub record IsPlayed (profile : Profile) (group readings : ℕ) (bytes text : Lis
   pub merge : IsMerge (number_of_two first second) night.events history
   pub left : Option (List ℕ)
   pub right : Option (List ℕ)
-  pub left_is : HasLooked profile readings night.clubs group left
-  pub right_is : HasLooked profile readings night.clubs group right
+  pub left_is : HasLooked profile history readings night.clubs group left
+  pub right_is : HasLooked profile history readings night.clubs group right
   pub text_is : text ≡ night_text left right (screen_text profile (board_of history) night.clubs group)
   pub closing : EachMatchHasOneReporter night.events → screen_text profile (board_of history) night.clubs group ≡ script_screen profile group night
   pub unwatched : EachMatchHasOneReporter night.events → readings ≡ 0 → text ≡ night_text None None (script_screen profile group night)
@@ -68,20 +71,31 @@ CallsFor (Night group readings profile) bytes text = IsPlayed profile group read
 
 -- The faults of a line. --
 
--- a night can meet each fault, the others those of one thread
-abbrev pub IsFaultOf : Line → RunFault → Type 0
-IsFaultOf (Night group readings profile) fault = ⊤
-IsFaultOf _ fault = IsOfOneThread fault
+-- the input is a script of reporters 1 and 2
+abbrev pub IsScriptOnDuty : Option (List ℕ) → Type 0
+IsScriptOnDuty known = IfSome known (λ bytes. (night : Script) × MeansNight bytes (Ok night) × All IsOnDuty night.events)
+
+-- the faults of a night, by its input: the input comes first, then a row of neither reporter 1 nor 2, of which the first is told; all others are
+-- of a script of reporters 1 and 2, but want of memory, which may come at any place. That the board refuses its reporters has never been
+-- seen, since it is the night's own, but no clause excludes it
+abbrev pub IsFaultOfNight : Option (List ℕ) → RunFault → Type 0
+IsFaultOfNight known (Input e) = ⊤
+IsFaultOfNight known OutOfMemory = ⊤
+IsFaultOfNight known (NotOnDuty row) = IfSome known (λ bytes. (night : Script) × MeansNight bytes (Ok night) × IsFirstOffDuty night.events row)
+IsFaultOfNight known TooManyReporters = IsScriptOnDuty known
+IsFaultOfNight known NoThread = IsScriptOnDuty known
+IsFaultOfNight known (Strangers version) = IsScriptOnDuty known
+IsFaultOfNight known (WriteFailed written) = IsScriptOnDuty known
+
+-- the faults of a line: for `feed` and `show` those of one thread
+abbrev pub IsFaultOf : Line → Option (List ℕ) → RunFault → Type 0
+IsFaultOf (Night group readings profile) known fault = IsFaultOfNight known fault
+IsFaultOf _ known fault = IsOfOneThread fault
 
 -- an input, its bytes before and after, is refused or cannot be read: a sheet for `show`, else a script
 abbrev pub RefusesInput : Line → Option (List ℕ) → Option (List ℕ) → Bool → InputFault → Type 0
 RefusesInput (Show group profile) old new failed e = Reads MeansSheet sheet_seen old new failed (Err e)
 RefusesInput _ old new failed e = Reads MeansNight night_seen old new failed (Err e)
-
--- a row that is told is the first of a script that is of no reporter on duty
-abbrev pub TellsDuty : Option (List ℕ) → RunFault → Type 0
-TellsDuty known (NotOnDuty row) = IfSome known (λ bytes. (night : Script) × MeansNight bytes (Ok night) × IsFirstOffDuty night.events row)
-TellsDuty known _ = ⊤
 
 -- the output stopped within the text: it took the first so many bytes, and their number is told
 abbrev pub StopsWithin : Line → Bool → Option (List ℕ) → Option (List ℕ) → ℕ → List ℕ → Type 0
@@ -107,10 +121,9 @@ streams_at source sink s w = streams (source.left s) (source.failed s) (sink.tak
 -- a line was done, or has the fault r, over these streams
 pub record Obeys (line : Line) (before after : Streams) (r : Result ⊤ RunFault) : Type 0 where
   pub text : OnOk r (TextHas (CallsFor line) before.left (Appends before.taken after.taken))
-  pub kinds : IfErr r (IsFaultOf line)
+  pub kinds : IfErr r (IsFaultOf line before.left)
   pub memory : IsErrOf r (Input input.OutOfMemory) → ⊥
   pub input : IfErr r (λ f. IfInput f (RefusesInput line before.left after.left after.read_failed))
-  pub duty : IfErr r (TellsDuty before.left)
   pub unwritten : IfErr r (λ f. UnlessWriteFailed f (after.taken ≡ before.taken))
   pub read_failed : after.read_failed ≡ is_read_failed r
   pub write_failed : IfErr r (λ f. IfWriteFailed f (λ written. after.write_failed ≡ true))

@@ -1,6 +1,6 @@
 //! The program's words, read by `clap`.
 
-ghost use Rattle.std.specs.Prelude.{◌≡◌, IfErr, IfOk, false, map, option_and_then, string_bytes};
+ghost use Rattle.std.specs.Prelude.{◌≡◌, ◌<◌, IfErr, IfOk, false, length, map, option_and_then, string_bytes};
 ghost use Rattle.clap.specs.Words.{app_of, found_of, kind_of, rows_of, rule_of, subcommand_rows_of};
 ghost use Rattle.ucl_command.specs.CommandLine.{AreTaken, AskFor, IsFaultOf, IsInRange, Tables, Tells, program, top_command};
 ghost use Rattle.ucl_command.specs.CommandLine.{group_in, group_option, line_in, order_in, order_option, readings_in, readings_option};
@@ -187,6 +187,18 @@ fn line_in(matches: &ArgMatches<'_>) -> Option<Line>
     }
 }
 
+/// The text of an error, which is what `clap` says of it. `clap` does not promise that it says anything: an empty text gives way to the
+/// program's own.
+fn text_of(alloc: Global, error: &Error) -> Result<String, AllocError>
+    ensures { IfOk result (λ text. 0 < length (string_bytes text)) }
+{
+    let text = error.to_string(alloc)?;
+    if text.is_empty() {
+        return String::from_str(alloc, texts::NO_TEXT);
+    }
+    Ok(text)
+}
+
 /// What to tell of words that were not taken.
 fn fault_of(alloc: Global, error: &Error) -> LineFault
     ensures memory { kind_of error.now ≡ ErrorKind.OutOfMemory → result ≡ LineFault.OutOfMemory }
@@ -195,7 +207,7 @@ fn fault_of(alloc: Global, error: &Error) -> LineFault
     if error.kind() == ErrorKind::OutOfMemory {
         return LineFault::OutOfMemory;
     }
-    match error.to_string(alloc) {
+    match text_of(alloc, error) {
         Err(_) => LineFault::OutOfMemory,
         Ok(text) if error.use_stderr() => LineFault::Refused(text),
         Ok(text) => LineFault::Help(text),
@@ -208,7 +220,7 @@ fn fault_of(alloc: Global, error: &Error) -> LineFault
 /// `--group` with a letter from `A` to `H`, which is `A` where it is left out, and `--order` with `uefa` or `away-in-tie`, which
 /// is `uefa` where it is left out, and `night` also `--readings` with a number from 0 to 1,000, which is 0 where it is left out.
 /// `Help` comes where help is asked for, or the version, by `--version` or `-V` before any subcommand; and `Refused` where the words have
-/// no subcommand, an unknown one, or what it does not take.
+/// no subcommand, an unknown one, or what it does not take. Neither text is empty.
 pub fn line_of(alloc: Global, words: &[String]) -> Result<Line, LineFault>
     ensures in_range { IfOk result IsInRange }
     ensures meant { IfOk result (AskFor (map string_bytes words.now)) }

@@ -5,13 +5,14 @@ ghost use Rattle.ucl_screen.specs.Screen.{IsGroup};
 ghost use Rattle.ucl_command.specs.CommandLine.{IsInRange};
 ghost use Rattle.ucl_command.specs.Program.{Ends, Obeys, Runs, streams_at};
 
+use crate::night::night_on;
 use crate::refusal::tell_refusal;
 use crate::{Line, LineFault};
 use std::alloc::Global;
 use std::sync::Wait;
 use std::thread::Threads;
 use ucl_order::Profile;
-use ucl_runs::{OpenGate, RunFault, feed_run, night_run, put_night, put_text, show_run, tell};
+use ucl_runs::{OpenGate, RunFault, feed_run, put_text, show_run, tell};
 use ucl_screen::{Sink, Source, read_night};
 use ucl_words::WordBoard;
 
@@ -30,10 +31,39 @@ fn play<S: Source, W: Sink, R: Threads + Wait + Sync>(
 {
     let night = read_night(alloc, source)?;
     let (board, pass) = WordBoard::open(rt, alloc)?;
-    let end = night_run(
-        rt, alloc, &board, pass, &night, group, readings, &OpenGate, profile,
+    let played = night_on(
+        rt, alloc, &board, pass, &night, sink, group, readings, &OpenGate, profile,
     )?;
-    put_night(&end, sink)
+    played.written
+}
+
+/// Does what a line `feed` asks for, over a source and a sink. It returns, since it has no leave to wait.
+///
+/// # Errors
+///
+/// Those of `feed_run`.
+pub fn feed<S: Source, W: Sink>(alloc: Global, source: &mut S, sink: &mut W) -> Result<(), RunFault>
+    ensures { Obeys Line.Feed (streams_at S.Source W.Sink source.old sink.old) (streams_at S.Source W.Sink source.new sink.new) result }
+{
+    feed_run(alloc, source, sink)
+}
+
+/// Does what a line `show` of this group in this order asks for, over a source and a sink. It returns, since it has no leave to wait.
+///
+/// # Errors
+///
+/// Those of `show_run`.
+pub fn show<S: Source, W: Sink>(
+    alloc: Global,
+    source: &mut S,
+    sink: &mut W,
+    group: u8,
+    profile: Profile,
+) -> Result<(), RunFault>
+    requires { IsGroup group }
+    ensures { Obeys (Line.Show group profile) (streams_at S.Source W.Sink source.old sink.old) (streams_at S.Source W.Sink source.new sink.new) result }
+{
+    show_run(alloc, source, sink, group, profile)
 }
 
 /// Does what a line asks for, over a source and a sink: the text that goes out is that of `feed` or of `show`, or that of a night of
@@ -54,8 +84,8 @@ pub fn obey<S: Source, W: Sink, R: Threads + Wait + Sync>(
     ensures { Obeys line (streams_at S.Source W.Sink source.old sink.old) (streams_at S.Source W.Sink source.new sink.new) result }
 {
     match line {
-        Line::Feed => feed_run(alloc, source, sink),
-        Line::Show { group, profile } => show_run(alloc, source, sink, group, profile),
+        Line::Feed => feed(alloc, source, sink),
+        Line::Show { group, profile } => show(alloc, source, sink, group, profile),
         Line::Night {
             group,
             readings,

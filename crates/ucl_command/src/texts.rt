@@ -1,7 +1,10 @@
 //! What the program tells of itself: its version, and the texts of its help.
 
 /// The version, and what it is proved with.
-pub const VERSION: &str = "1.0.0 (proved with rattle-kit-13b logic dac8208d650f15bf)";
+pub const VERSION: &str = "1.0.0 (proved with rattle-kit-13f logic dac8208d650f15bf)";
+
+/// What the program says in place of a text that would be empty.
+pub const NO_TEXT: &str = "ucl_night: the words name nothing to do; see --help\n";
 
 /// What the program is.
 pub const PROGRAM: &str = "\

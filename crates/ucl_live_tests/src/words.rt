@@ -37,7 +37,7 @@ fn kicked_off(
     board.report_now(pass, &call)
 }
 
-/// What two reporters of one kick-off are answered, and what the second and a reader read afterwards: all six calls of the board, and
+/// What two reporters of one kick-off are answered, and what the second and a reader read afterwards: all seven calls of the board, and
 /// nothing that could wait.
 fn one_kick_off_by_two(
     board: &WordBoard,
@@ -53,6 +53,7 @@ fn one_kick_off_by_two(
         kicked_off(board, &mut second, game),
     ];
     board.meet_now(&mut first, &mut second);
+    board.meet_reader_now(reader, &mut second);
     let own = board.read_own_now(&mut second);
     Some((answers, own, board.read_now(reader)))
 }

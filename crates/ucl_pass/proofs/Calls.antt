@@ -1,11 +1,13 @@
 -- From what steps on the cell tell to what a call says of its pass.
-use Rattle.std.proofs.Common.{◌≡◌, ℕ, ◌+◌, ◌<◌, ◌≤◌, List, [], ◌∷◌, ◌++◌, length, take, refl, sym, ap, ◌∙◌, subst, arith, le_refl, true≢false, true, false, length-append, append-nil, append_assoc}
-use Rattle.std.specs.Prelude.{slice_index, Result, Ok, Err, IsOk, MatchResult, is_ok, Option, Some, None, IfSome, IfOk}
+use Rattle.std.proofs.Common.{◌≡◌, ◌≢◌, ℕ, suc, ◌+◌, ◌==◌, ◌<◌, ◌≤◌, Bool, cond, List, [], ◌∷◌, ◌++◌, length, take, refl, sym, ap, ◌∙◌, subst, arith, le_refl, true≢false, true, false, length-append, append-nil, append_assoc, ne_eqb}
+use Rattle.std.specs.Prelude.{filter, slice_index, Result, Ok, Err, IsOk, MatchResult, is_ok, Option, Some, None, IfSome, IfOk}
 use Rattle.std.specs.List.{AllByRecursion, flat_map}
 use Rattle.std.proofs.lemmas.Grind.{flat_map-append}
-use Rattle.std.proofs.lemmas.List.{take_all}
-use Rattle.std.proofs.lemmas.List.Elements.{All-head, All-tail}
+use Rattle.std.proofs.lemmas.List.{take_all, nil_from_length}
+use Rattle.std.proofs.lemmas.List.Elements.{All-head, All-tail, filter-append}
 use mathlib.Core.List.{IsPrefix}
+use mathlib.Core.Logic.{dite}
+use native.Mathlib.Decide.{ℕ_discrete}
 use Rattle.ucl_word.specs.declared.event.EventCall.{EventCall}
 use Rattle.ucl_word.specs.declared.event.Accepted.{Accepted}
 use Rattle.ucl_word.specs.declared.refusal.Refusal.{Refusal}
@@ -22,11 +24,13 @@ use Rattle.ucl_board.proofs.HistoryLaws.{versions}
 use Rattle.ucl_board.proofs.Beginnings.{begins_length, begins_same, begins_through}
 use Rattle.ucl_pass.specs.declared.view.View.{View}
 use Rattle.ucl_pass.specs.Passes.{PassView, IsSound, SeesOn, Continues, AcceptedReport, RefusedReport, SharedReading, Enlistment, FullBoard, Meeting}
-use Rattle.ucl_pass.specs.Views.{pass_view_of, count_of, Takes, second_of, note_of, told_by}
+use Rattle.ucl_pass.specs.Views.{pass_view_of, count_of, Takes, kept_of, second_of, note_of, told_by}
 use Rattle.ucl_pass.specs.Steps.{Goes}
+use Rattle.ucl_pass.specs.CellRule.{words_after}
 use Rattle.ucl_pass.specs.CellSteps.{IsNextBoard, with_one_more, word_looked_at, HasSeenAll, StoresEntry, StoresReporter, LooksOnly, LooksAtMatch, LooksAtEnlisted, LooksAndShows}
-use Rattle.ucl_pass.specs.CallSteps.{IsOnEnlisted, EnlistSteps, MeetingSteps, CellMissed, CellReport, CellReading}
+use Rattle.ucl_pass.specs.CallSteps.{IsOnEnlisted, EnlistSteps, MeetingSteps, CellMissed, no_event_between, WereLost, CellReport, CellEnlistMissed, CellEnlistment, CellReading}
 use Rattle.ucl_pass.proofs.Lists.{none_by_zero, few_mine}
+use Rattle.ucl_pass.proofs.Halves.{half_acts, half_not_whole}
 use Rattle.ucl_pass.proofs.CellMoves.{match_words, match_word, last_word, one_more_last}
 
 -- an exchange that was won
@@ -41,7 +45,7 @@ lost (Err x) P Q m is = (x, m)
 -- just after a load or an exchange
 module _ (words : List ℕ) (v w : View) (seen_all : HasSeenAll words v w) (goes : Goes v w) where
   pub sound : IsSound (pass_view_of w)
-  sound = record { legal = goes.legal; own = goes.own; few = goes.few }
+  sound = record { legal = goes.legal; own = goes.own; few = goes.few; acts = goes.acts; alone = goes.alone }
 
   pub board_seen : take 12 words ≡ board_of w.seen
   board_seen = ap (take 12) seen_all.words_are ∙ match_words w.seen w.listed
@@ -84,18 +88,18 @@ pub record Stays (v w : View) : Type 0 where
   pub shown : w.shown ≡ v.shown
 
 pub stays_none : (v : View) → Stays v v
-stays_none v = record { on = record { seen = begins_same v.seen; listed = le_refl v.listed }; mine = refl; number = refl; shown = refl }
+stays_none v = record { on = record { seen = begins_same v.seen; listed = le_refl v.listed; share = refl }; mine = refl; number = refl; shown = refl }
 
 pub stays_more : (v w u : View) → Stays v w → Goes w u → w.listed ≤ u.listed → u.mine ≡ w.mine → u.number ≡ w.number → u.shown ≡ w.shown → Stays v u
 stays_more v w u t goes le mine number shown = record {
-  on = record { seen = begins_through v.seen w.seen u.seen t.on.seen goes.seen; listed = (let a = t.on.listed in omega arith) };
+  on = record { seen = begins_through v.seen w.seen u.seen t.on.seen goes.seen; listed = (let a = t.on.listed in omega arith); share = goes.share ∙ t.on.share };
   mine = mine ∙ t.mine;
   number = number ∙ t.number;
   shown = shown ∙ t.shown;
 }
 
 pub stays_continues : (v u : View) → Stays v u → Goes v u → Continues (pass_view_of v) (pass_view_of u)
-stays_continues v u t goes = record { sound = record { legal = goes.legal; own = goes.own; few = goes.few }; on = t.on; number = t.number }
+stays_continues v u t goes = record { sound = record { legal = goes.legal; own = goes.own; few = goes.few; acts = goes.acts; alone = goes.alone }; on = t.on; number = t.number }
 
 pub looked_stays : (v w u : View) (target : Rattle.ucl_board.specs.Log.Target) (x : List ℕ) → Stays v w → LooksOnly target w x x u → Stays v u
 looked_stays v w u target x t l = stays_more v w u t l.sees.goes l.seen_all.listed l.sees.mine l.sees.number l.shown_is
@@ -106,9 +110,42 @@ pub record TriedReport (call : EventCall) (v w : View) : Type 0 where
   pub tries : List (List Taken)
   pub takes : Takes v (flat_map (λ t. t) tries) w
   pub missed : AllByRecursion (CellMissed call) tries
+  pub lost : WereLost v.listed tries w.listed
 
 pub tried_none : (call : EventCall) (v : View) → TriedReport call v v
-tried_none call v = record { stays = stays_none v; tries = []; takes = takes_none v; missed = tt }
+tried_none call v = record { stays = stays_none v; tries = []; takes = takes_none v; missed = tt; lost = omega arith }
+
+-- where an exchange found other words than were looked at, and no event came between, a reporter was enlisted
+
+same_length : (a b : List Entry) → IsPrefix a b → length a ≡ length b → a ≡ b
+same_length a b p same =
+    let none : p.0 ≡ [] = nil_from_length p.0 (omega (arith, ap length p.1, length-append a p.0)) in
+    sym (append-nil a) ∙ (ap (λ (l : List Entry). a ++ l) (sym none) ∙ p.1)
+
+enlisted_between : (u z : View) (x y : List ℕ) → x ≡ words_after u.seen u.listed → y ≡ words_after z.seen z.listed → y ≢ x → IsPrefix u.seen z.seen → u.listed ≤ z.listed → length u.seen ≡ length z.seen → u.listed < z.listed
+enlisted_between u z x y looked found other more le same = dite (native.Mathlib.Decide.dec_le (suc u.listed) z.listed)
+    (λ less. less)
+    (λ not.
+    let seen = same_length u.seen z.seen more same in
+    let listed : u.listed ≡ z.listed = omega (arith, not) in
+    absurd (other (found ∙ ((λ i. words_after (sym seen i) (sym listed i)) ∙ sym looked))))
+
+lost_more : (listed : ℕ) (tries : List (List Taken)) (one : List Taken) (before after : ℕ) → WereLost listed tries before → before ≤ after → (no_event_between one ≡ true → before < after) → WereLost listed (tries ++ one ∷ []) after
+lost_more listed tries one before after lost le more = by (no_event_between one) refl
+  where
+    by : (b : Bool) → no_event_between one ≡ b → WereLost listed (tries ++ one ∷ []) after
+    by true is =
+        let last : filter no_event_between (one ∷ []) ≡ one ∷ [] = ap (λ (b : Bool). cond b (one ∷ []) []) is in
+        let all = ap length (filter-append no_event_between tries (one ∷ []) ∙ ap (λ (l : List (List Taken)). filter no_event_between tries ++ l) last) in
+        let less = more is in
+        omega (arith, all, length-append (filter no_event_between tries) (one ∷ []))
+    by false is =
+        let last : filter no_event_between (one ∷ []) ≡ [] = ap (λ (b : Bool). cond b (one ∷ []) []) is in
+        let all = ap length (filter-append no_event_between tries (one ∷ []) ∙ ap (λ (l : List (List Taken)). filter no_event_between tries ++ l) last) in
+        omega (arith, all, length-append (filter no_event_between tries) [])
+
+same_places : (m n : ℕ) → (m == n) ≡ true → m ≡ n
+same_places m n is = dite (ℕ_discrete m n) (λ same. same) (λ not. absurd (true≢false (sym is ∙ ne_eqb m n not)))
 
 all_more : {X : Type 0} (P : X → Type 0) (xs : List X) (x : X) → AllByRecursion P xs → P x → AllByRecursion P (xs ++ x ∷ [])
 all_more P [] x all one = (one, tt)
@@ -138,11 +175,11 @@ module _ (call : EventCall) (v w u : View) (x : List ℕ) (tried : TriedReport c
     }
 
     pub refused_steps : CellReport v call (Err refusal) u
-    refused_steps = record { tries = tried.tries; last = look_step ∷ []; takes = look_takes; missed = tried.missed; answered = record { looked = word_at x call.game; steps_are = refl; answer = answer } }
+    refused_steps = record { tries = tried.tries; last = look_step ∷ []; takes = look_takes; missed = tried.missed; answered = record { looked = word_at x call.game; steps_are = refl; answer = answer }; lost = (let a = tried.lost in let b = looked.seen_all.listed in omega arith) }
 
   -- they accept, and an exchange was missed
-  pub missed_again : (z : View) (y : List ℕ) → IsOk (reply_of (record_at (word_at x call.game)) call) → LooksOnly (word_looked_at Swap call.game y) u y y z → TriedReport call v z
-  missed_again z y may lost =
+  pub missed_again : (z : View) (y : List ℕ) → y ≢ x → IsOk (reply_of (record_at (word_at x call.game)) call) → LooksOnly (word_looked_at Swap call.game y) u y y z → TriedReport call v z
+  missed_again z y other may lost =
       let swap_step = step_taken (word_looked_at Swap call.game y) (length z.seen) None in
       let one : List Taken = look_step ∷ swap_step ∷ [] in
       let all : flat_map (λ t. t) (tried.tries ++ one ∷ []) ≡ flat_map (λ t. t) tried.tries ++ one = flat_map-append (λ (t : List Taken). t) tried.tries (one ∷ []) in
@@ -152,6 +189,11 @@ module _ (call : EventCall) (v w u : View) (x : List ℕ) (tried : TriedReport c
         takes = subst (λ (l : List Taken). Takes v l z) (sym all) (subst (λ (l : List Taken). Takes v l z) (append_assoc (flat_map (λ t. t) tried.tries) (look_step ∷ []) (swap_step ∷ []))
             (takes_on v u z (flat_map (λ t. t) tried.tries ++ look_step ∷ []) (swap_step ∷ []) look_takes lost.sees.takes));
         missed = all_more (CellMissed call) tried.tries one tried.missed (record { looked = word_at x call.game; found = word_at y call.game; at = length u.seen; later = length z.seen; steps_are = refl; may = may });
+        lost = lost_more v.listed tried.tries one w.listed z.listed tried.lost (let a = looked.seen_all.listed in let b = lost.seen_all.listed in omega arith)
+            (λ is.
+            let less = enlisted_between u z x y looked.seen_all.words_are lost.seen_all.words_are other lost.sees.goes.seen lost.seen_all.listed (same_places (length u.seen) (length z.seen) is) in
+            let a = looked.seen_all.listed in
+            omega arith);
       }
 
   -- they accept, and an exchange was won
@@ -176,6 +218,7 @@ module _ (call : EventCall) (v w u : View) (x : List ℕ) (tried : TriedReport c
       on = record {
         seen = begins_through v.seen u.seen z.seen look_stays.on.seen stored.adds.goes.seen;
         listed = (let a = look_stays.on.listed in let b = stored.seen_all.listed in omega arith);
+        share = stored.adds.goes.share ∙ look_stays.on.share;
       };
       number = stored.adds.number ∙ look_stays.number;
     }
@@ -189,6 +232,7 @@ module _ (call : EventCall) (v w u : View) (x : List ℕ) (tried : TriedReport c
           takes = subst (λ (l : List Taken). Takes v l z) (append_assoc (flat_map (λ t. t) tried.tries) (look_step ∷ []) (swap_step ∷ []))
               (takes_on v u z (flat_map (λ t. t) tried.tries ++ look_step ∷ []) (swap_step ∷ []) look_takes stored.adds.takes);
           missed = tried.missed;
+          lost = (let a = tried.lost in let b = looked.seen_all.listed in let d = stored.seen_all.listed in omega arith);
           answered = record {
             looked = word_at x call.game;
             at = length u.seen;
@@ -240,40 +284,67 @@ module _ (v w : View) (x : List ℕ) (reading : Reading) (shows : LooksAndShows 
   read_steps = subst (λ (k : ℕ). Takes v (step_taken Rattle.ucl_board.specs.Log.Whole k None ∷ []) w) (sym version_seen) shows.sees.takes
 
   pub read_continues : Continues (pass_view_of v) (pass_view_of w)
-  read_continues = record { sound = sound x v w shows.seen_all shows.sees.goes; on = record { seen = shows.sees.goes.seen; listed = shows.seen_all.listed }; number = shows.sees.number }
+  read_continues = record { sound = sound x v w shows.seen_all shows.sees.goes; on = record { seen = shows.sees.goes.seen; listed = shows.seen_all.listed; share = shows.sees.goes.share }; number = shows.sees.number }
+
+-- one step more on the number of the enlisted
+pub one_more : (v w u : View) (at : ℕ) → EnlistSteps v w → Takes w (step_taken Enlisted at None ∷ []) u → EnlistSteps v u
+one_more v w u at s t = record { steps = s.steps ++ step_taken Enlisted at None ∷ []; takes = takes_on v w u s.steps (step_taken Enlisted at None ∷ []) s.takes t; on_enlisted = all_more IsOnEnlisted s.steps (step_taken Enlisted at None) s.on_enlisted (refl, refl) }
 
 -- an enlistment, after tries in vain
 pub record TriedEnlist (v w : View) : Type 0 where
   pub stays : Stays v w
-  pub steps : EnlistSteps v w
+  pub tries : List (List Taken)
+  pub takes : Takes v (flat_map (λ t. t) tries) w
+  pub missed : AllByRecursion CellEnlistMissed tries
+  pub lost : WereLost v.listed tries w.listed
 
 pub untried : (v : View) → TriedEnlist v v
-untried v = record { stays = stays_none v; steps = record { steps = []; takes = takes_none v; on_enlisted = tt } }
+untried v = record { stays = stays_none v; tries = []; takes = takes_none v; missed = tt; lost = omega arith }
 
-pub one_more : (v w u : View) (at : ℕ) → EnlistSteps v w → Takes w (step_taken Enlisted at None ∷ []) u → EnlistSteps v u
-one_more v w u at s t = record { steps = s.steps ++ step_taken Enlisted at None ∷ []; takes = takes_on v w u s.steps (step_taken Enlisted at None ∷ []) s.takes t; on_enlisted = all_more IsOnEnlisted s.steps (step_taken Enlisted at None) s.on_enlisted (refl, refl) }
-
-pub tried_enlist : (v w u : View) (x : List ℕ) → TriedEnlist v w → LooksAtEnlisted w x x u → TriedEnlist v u
-tried_enlist v w u x t l = record { stays = looked_stays v w u Enlisted x t.stays l; steps = one_more v w u (length u.seen) t.steps l.sees.takes }
-
+-- one load for an enlistment, and what came of it
 module _ (v w u : View) (x : List ℕ) (tried : TriedEnlist v w) (looked : LooksAtEnlisted w x x u) where
-  after_look : TriedEnlist v u
-  after_look = tried_enlist v w u x tried looked
+  abbrev count_step : Taken
+  count_step = step_taken Enlisted (length u.seen) None
+
+  count_stays : Stays v u
+  count_stays = looked_stays v w u Enlisted x tried.stays looked
+
+  count_takes : Takes v (flat_map (λ t. t) tried.tries ++ count_step ∷ []) u
+  count_takes = takes_on v w u (flat_map (λ t. t) tried.tries) (count_step ∷ []) tried.takes looked.sees.takes
 
   pub look_counts : count_of v < count_of u
-  look_counts = omega (arith, takes_count v w tried.steps.steps tried.steps.takes, takes_count w u (step_taken Enlisted (length u.seen) None ∷ []) looked.sees.takes)
+  look_counts = omega (arith, takes_count v u (flat_map (λ t. t) tried.tries ++ count_step ∷ []) count_takes, length-append (flat_map (λ t. t) tried.tries) (count_step ∷ []))
+
+  -- an exchange was missed
+  pub tried_again : (z : View) (y : List ℕ) → y ≢ x → LooksAtEnlisted u y y z → TriedEnlist v z
+  tried_again z y other missed =
+      let swap_step = step_taken Enlisted (length z.seen) None in
+      let one : List Taken = count_step ∷ swap_step ∷ [] in
+      let all : flat_map (λ t. t) (tried.tries ++ one ∷ []) ≡ flat_map (λ t. t) tried.tries ++ one = flat_map-append (λ (t : List Taken). t) tried.tries (one ∷ []) in
+      record {
+        stays = looked_stays v u z Enlisted y count_stays missed;
+        tries = tried.tries ++ one ∷ [];
+        takes = subst (λ (l : List Taken). Takes v l z) (sym all) (subst (λ (l : List Taken). Takes v l z) (append_assoc (flat_map (λ t. t) tried.tries) (count_step ∷ []) (swap_step ∷ []))
+            (takes_on v u z (flat_map (λ t. t) tried.tries ++ count_step ∷ []) (swap_step ∷ []) count_takes missed.sees.takes));
+        missed = all_more CellEnlistMissed tried.tries one tried.missed (record { at = length u.seen; later = length z.seen; steps_are = refl });
+        lost = lost_more v.listed tried.tries one w.listed z.listed tried.lost (let a = looked.seen_all.listed in let b = missed.seen_all.listed in omega arith)
+            (λ is.
+            let less = enlisted_between u z x y looked.seen_all.words_are missed.seen_all.words_are other missed.sees.goes.seen missed.seen_all.listed (same_places (length u.seen) (length z.seen) is) in
+            let a = looked.seen_all.listed in
+            omega arith);
+      }
 
   pub full_continues : Continues (pass_view_of v) (pass_view_of u)
-  full_continues = record { sound = sound x w u looked.seen_all looked.sees.goes; on = after_look.stays.on; number = after_look.stays.number }
+  full_continues = record { sound = sound x w u looked.seen_all looked.sees.goes; on = count_stays.on; number = count_stays.number }
 
   pub full_says : 255 ≤ slice_index x 12 → FullBoard (pass_view_of v) (pass_view_of u)
   full_says high =
       let last = last_seen x w u looked.seen_all looked.sees.goes in
       let few = looked.sees.goes.few in
-      record { listed = omega arith; mine = after_look.stays.mine; shown = after_look.stays.shown }
+      record { listed = omega arith; mine = count_stays.mine; shown = count_stays.shown }
 
-  pub full_steps : EnlistSteps v u
-  full_steps = after_look.steps
+  pub full_steps : CellEnlistment v false u
+  full_steps = record { tries = tried.tries; last = count_step ∷ []; takes = count_takes; missed = tried.missed; lost = (let a = tried.lost in let b = looked.seen_all.listed in omega arith); answered = refl }
 
   module _ (z : View) (next : List ℕ) (stored : StoresReporter u next z) where
     pub enlisted_says : Enlistment (pass_view_of v) (pass_view_of z)
@@ -281,16 +352,26 @@ module _ (v w u : View) (x : List ℕ) (tried : TriedEnlist v w) (looked : Looks
         let e = stored.enlists in
         record {
           sound = sound next u z stored.seen_all e.goes;
-          on = record { seen = begins_through v.seen u.seen z.seen after_look.stays.on.seen e.goes.seen; listed = (let a = after_look.stays.on.listed in let b = e.above in omega arith) };
+          on = record { seen = begins_through v.seen u.seen z.seen count_stays.on.seen e.goes.seen; listed = (let a = count_stays.on.listed in let b = e.above in omega arith); share = e.goes.share ∙ count_stays.on.share };
           number = e.number;
-          above = (let a = after_look.stays.on.listed in let b = e.above in omega arith);
+          above = (let a = count_stays.on.listed in let b = e.above in omega arith);
           fresh = sym e.goes.own ∙ e.mine;
           mine = e.mine;
           shown = e.shown;
         }
 
-    pub enlisted_steps : EnlistSteps v z
-    enlisted_steps = one_more v u z (length z.seen) after_look.steps stored.enlists.takes
+    pub enlisted_steps : CellEnlistment v true z
+    enlisted_steps =
+        let swap_step = step_taken Enlisted (length z.seen) None in
+        record {
+          tries = tried.tries;
+          last = count_step ∷ swap_step ∷ [];
+          takes = subst (λ (l : List Taken). Takes v l z) (append_assoc (flat_map (λ t. t) tried.tries) (count_step ∷ []) (swap_step ∷ []))
+              (takes_on v u z (flat_map (λ t. t) tried.tries ++ count_step ∷ []) (swap_step ∷ []) count_takes stored.enlists.takes);
+          missed = tried.missed;
+          lost = (let a = tried.lost in let b = looked.seen_all.listed in let d = stored.enlists.above in omega arith);
+          answered = (length u.seen, refl);
+        }
 
     pub enlisted_counts : count_of v < count_of z
     enlisted_counts = let before = look_counts in omega (arith, before, takes_count u z (step_taken Enlisted (length z.seen) None ∷ []) stored.enlists.takes)
@@ -318,13 +399,16 @@ module _ (a v w : View) (x : List ℕ) (looked : LooksAtEnlisted (told_by v (not
   }
 
   pub met_continues : Continues (pass_view_of v) (pass_view_of w)
-  met_continues = record { sound = sound x (told_by v (note_of a)) w looked.seen_all looked.sees.goes; on = record { seen = own_first; listed = looked.seen_all.listed }; number = looked.sees.number }
+  met_continues = record { sound = sound x (told_by v (note_of a)) w looked.seen_all looked.sees.goes; on = record { seen = own_first; listed = looked.seen_all.listed; share = looked.sees.goes.share }; number = looked.sees.number }
 
   pub met_steps : MeetingSteps v w
   met_steps = record { own = looked.sees.takes.own; copied = looked.sees.takes.copied }
 
 pub sound_second : (v : View) → IsSound (pass_view_of v) → IsSound (pass_view_of (second_of v))
-sound_second v s = record { legal = s.legal; own = sym (none_by_zero v.seen s.legal); few = s.few }
+sound_second v s = record { legal = s.legal; own = sym (none_by_zero v.seen s.legal); few = s.few; acts = half_acts true v.share s.acts; alone = λ is. absurd (half_not_whole true v.share is) }
+
+pub sound_kept : (v : View) → IsSound (pass_view_of v) → IsSound (pass_view_of (kept_of v))
+sound_kept v s = record { legal = s.legal; own = s.own; few = s.few; acts = half_acts false v.share s.acts; alone = λ is. absurd (half_not_whole false v.share is) }
 
 -- the count of accepted events has room for one more
 pub room : (k m : PassView) (call : EventCall) (r : Result Accepted Refusal) (n : ℕ) → IfOk r (λ reply. AcceptedReport k call reply m) → is_ok r ≡ true → IsSound m → length k.mine ≡ n → n + 1 ≤ greatest_version

@@ -1,4 +1,6 @@
 pub mod Lists
+pub mod Halves
+pub mod Alone
 pub mod SettledPasses
 pub mod Moves
 pub mod CellMoves

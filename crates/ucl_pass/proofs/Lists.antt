@@ -37,4 +37,4 @@ few_mine k s =
 
 -- a pass that no call changed
 pub unchanged : (k m : PassView) → IsSound k → m ≡ k → Continues k m
-unchanged k m sound same = subst (Continues k) (sym same) (record { sound = sound; on = record { seen = begins_same k.seen; listed = le_refl k.listed }; number = refl })
+unchanged k m sound same = subst (Continues k) (sym same) (record { sound = sound; on = record { seen = begins_same k.seen; listed = le_refl k.listed; share = refl }; number = refl })

@@ -1,8 +1,8 @@
 -- What the rule says of a log: a board opens with none, each step is its end, and the last one has seen the whole history.
-use Rattle.std.proofs.Common.{◌≡◌, ◌≢◌, ◌⊎◌, inl, inr, ⊎_elim, ℕ, zero, suc, ◌<◌, ◌≤◌, ◌==◌, Bool, cond, List, [], ◌∷◌, ◌++◌, length, map, set, refl, sym, ap, ◌∙◌, subst, arith, append-nil, length-append, eq-eqb, ne_eqb}
-use Rattle.std.specs.Prelude.{All, drop, filter}
+use Rattle.std.proofs.Common.{◌≡◌, ◌≢◌, ◌⊎◌, inl, inr, ⊎_elim, ℕ, zero, suc, ◌<◌, ◌≤◌, Bool, true, false, List, [], ◌∷◌, ◌++◌, length, map, set, refl, sym, ap, ◌∙◌, subst, arith, append-nil, length-append}
+use Rattle.std.specs.Prelude.{All, drop, filter, Some, None, IsTrue, IsSome}
 use Rattle.std.proofs.lemmas.List.{length-set, nil_from_length}
-use Rattle.std.proofs.lemmas.List.Elements.{All-head}
+use Rattle.std.proofs.lemmas.List.Elements.{All-head, All-cons, All-nil}
 use mathlib.Core.List.{IsPrefix}
 use mathlib.Core.Logic.{dite}
 use mathlib.Core.Option.{some, some-ne-none, some-injective}
@@ -11,24 +11,15 @@ use native.Mathlib.Decide.{ℕ_discrete}
 use Rattle.atomic_table.proofs.Lists.{set_here, set_else}
 use Rattle.ucl_board.specs.declared.entry.Entry.{Entry}
 use Rattle.ucl_board.specs.Log.{Taken, Log, taken_by, history_of}
-use Rattle.ucl_board.proofs.Logs.{taken_append, taken_none, taken_own}
+use Rattle.ucl_board.proofs.Logs.{taken_append, taken_own}
 use Rattle.ucl_board.proofs.Beginnings.{begins_length, begins_none}
 use Rattle.ucl_pass.specs.declared.view.View.{View}
-use Rattle.ucl_pass.specs.Views.{newcomer}
-use Rattle.ucl_pass.specs.OneHistory.{BoardsOpenFresh, StepsComeLast, LastStepsSeeAll}
+use Rattle.ucl_pass.specs.Shares.{Share, Overlap}
+use Rattle.ucl_pass.specs.Views.{opener}
+use Rattle.ucl_pass.specs.OneHistory.{KeepsOneHistory, BoardsOpenFresh, StepsComeLast, LastStepsSeeAll, IsHeld, MakeUp, HoldersDidAll}
+use Rattle.ucl_pass.proofs.Halves.{in_whole, on_a_side}
+use Rattle.ucl_pass.proofs.Alone.{taken_here, taken_else, some_here, only_own, view_at, none_beyond}
 use Rattle.ucl_pass.proofs.Moves.{place_below}
-
--- the first step of a log
-
-taken_here : (seat : ℕ) (t : Taken) (log : Log) → taken_by seat ((seat, t) ∷ log) ≡ t ∷ taken_by seat log
-taken_here seat t log = ap (λ (b : Bool). map (λ (x : ℕ × Taken). x.1) (cond b ((seat, t) ∷ filter (λ (x : ℕ × Taken). x.0 == seat) log) (filter (λ (x : ℕ × Taken). x.0 == seat) log))) (eq-eqb seat seat refl)
-
-taken_else : (seat other : ℕ) (t : Taken) (log : Log) → other ≢ seat → taken_by seat ((other, t) ∷ log) ≡ taken_by seat log
-taken_else seat other t log not = ap (λ (b : Bool). map (λ (x : ℕ × Taken). x.1) (cond b ((other, t) ∷ filter (λ (x : ℕ × Taken). x.0 == seat) log) (filter (λ (x : ℕ × Taken). x.0 == seat) log))) (ne_eqb other seat not)
-
--- a step of its own is among a seat's steps
-some_here : (seat : ℕ) (t : Taken) (log : Log) → taken_by seat ((seat, t) ∷ log) ≢ []
-some_here seat t log none = let l = ap length (sym (taken_here seat t log) ∙ none) in omega arith
 
 -- lists
 
@@ -44,15 +35,6 @@ head_same x y xs ys same = ap (head_or x) same
 
 nil_end : {X : Type 0} (xs ys : List X) → length (xs ++ ys) ≡ 0 → ys ≡ []
 nil_end xs ys none = nil_from_length ys (omega (arith, length-append xs ys))
-
--- only this seat took steps
-only_own : (seat : ℕ) (log : Log) → ((j : ℕ) → j ≢ seat → taken_by j log ≡ []) → log ≡ map (λ (x : Taken). (seat, x)) (taken_by seat log)
-only_own seat [] none = refl
-only_own seat ((j, t) ∷ log) none = dite (ℕ_discrete j seat)
-    (λ is.
-    let rest = only_own seat log (λ k not. sym (taken_else k j t log (λ e. not (sym e ∙ is))) ∙ none k not) in
-    (λ i. (is i, t) ∷ rest i) ∙ ap (map (λ (x : Taken). (seat, x))) (sym (ap (λ (k : ℕ). taken_by seat ((k, t) ∷ log)) is ∙ taken_here seat t log)))
-    (λ not. absurd (some_here j t log (none j not)))
 
 -- what the other seats know of two logs
 abbrev Knows : ℕ → Log → Log → Type 0
@@ -140,16 +122,6 @@ comes_last seat steps [] new knows more =
     only_own seat new (λ j not. let k = knows j not in sym k.4 ∙ ap (taken_by j) (nil_from_length k.0 (let l = begins_length k.0 [] k.1 in omega arith))) ∙ ap (map (λ (x : Taken). (seat, x))) more
 comes_last seat steps ((j, t) ∷ old) new knows more = both_begin seat j t steps old new (comes_last seat steps old) knows more
 
--- each place below the number of views has one
-pub view_at : (views : List View) (j : ℕ) → j < length views → (u : View) × (get_elem? views j ≡ some u)
-view_at [] j below = absurd (omega arith)
-view_at (v ∷ views) zero below = (v, refl)
-view_at (v ∷ views) (suc j) below = view_at views j (omega arith)
-
--- a seat that is not there took no step
-none_beyond : (n j : ℕ) (log : Log) → n ≤ j → All (λ (x : ℕ × Taken). x.0 < n) log → taken_by j log ≡ []
-none_beyond n j log le all = taken_none j log (λ k d lt. let b = all k d lt in omega arith)
-
 pub steps_last : StepsComeLast
 steps_last words_after before after views r seat v w steps here s more =
     let below = place_below views seat v here in
@@ -203,13 +175,13 @@ no_steps ((j, t) ∷ log) all none =
     let zero_is : j ≡ 0 = omega arith in
     absurd (some_here 0 t log (ap (λ (k : ℕ). taken_by 0 ((k, t) ∷ log)) (sym zero_is) ∙ none))
 
-numberless : (seat : ℕ) (v : View) (n : ℕ) → get_elem? (newcomer ∷ []) seat ≡ some v → v.number ≡ n → 1 ≤ n → ⊥
-numberless zero v n here is low = let z : 0 ≡ v.number = ap (λ (q : View). q.number) (some-injective newcomer v here) in omega arith
+numberless : (seat : ℕ) (v : View) (n : ℕ) → get_elem? (opener ∷ []) seat ≡ some v → v.number ≡ n → 1 ≤ n → ⊥
+numberless zero v n here is low = let z : 0 ≡ v.number = ap (λ (q : View). q.number) (some-injective opener v here) in omega arith
 numberless (suc seat) v n here is low = some-ne-none v (sym here)
 
 pub opens_fresh : (words_after : List Entry → ℕ → List ℕ) → BoardsOpenFresh words_after
 opens_fresh words_after words r =
-    let f = r.fits 0 newcomer refl in
+    let f = r.fits 0 opener refl in
     let none : r.log ≡ [] = no_steps r.log r.seated (sym f.own) in
     let nobody : r.enlisted ≡ 0 = dite (ℕ_discrete r.enlisted 0) (λ is. is) (λ not. let g = r.given 1 (omega arith) (omega arith) in absurd (numberless g.0 g.1 1 g.2 g.3 (omega arith))) in
     record {
@@ -217,3 +189,49 @@ opens_fresh words_after words r =
       no_step = none;
       no_reporter = nobody;
     }
+
+-- who holds the whole did all
+
+-- each step is of a seat that took one
+all_of : (P : ℕ → Type 0) (log : Log) → ((j : ℕ) → taken_by j log ≢ [] → P j) → All (λ (x : ℕ × Taken). P x.0) log
+all_of P [] each = All-nil (λ (x : ℕ × Taken). P x.0)
+all_of P ((i, t) ∷ log) each = All-cons (λ (x : ℕ × Taken). P x.0) (i, t) log (each i (some_here i t log))
+    (all_of P log (λ j any. each j (λ none. dite (ℕ_discrete i j)
+    (λ is. some_here j t log (ap (λ (k : ℕ). taken_by j ((k, t) ∷ log)) (sym is) ∙ none))
+    (λ not. any (sym (taken_else j i t log not) ∙ none)))))
+
+module _ (words_after : List Entry → ℕ → List ℕ) (words : List ℕ) (views : List View) (r : KeepsOneHistory words_after words views) (held : ℕ → Bool) where
+  one_holds : (way : List Bool) → IsHeld views held way → (seat : ℕ) (u : View) → get_elem? views seat ≡ some u → Overlap u.share (Some way) → IsTrue (held seat)
+  one_holds way h seat u here over = subst (λ (k : ℕ). IsTrue (held k)) (sym (r.shared seat h.seat u h.view here h.there (subst (Overlap u.share) (sym h.share) over))) h.held_is
+
+  holds : (n : ℕ) (way : List Bool) → MakeUp views held n way → (seat : ℕ) (u : View) → get_elem? views seat ≡ some u → Overlap u.share (Some way) → IsTrue (held seat)
+  holds zero way make seat u here over = one_holds way make seat u here over
+  holds (suc n) way make seat u here over = ⊎_elim
+      (λ (h : IsHeld views held way). one_holds way h seat u here over)
+      (λ (both : MakeUp views held n (way ++ false ∷ []) × MakeUp views held n (way ++ true ∷ [])). ⊎_elim
+      (λ first. holds n (way ++ false ∷ []) both.0 seat u here first)
+      (λ second. holds n (way ++ true ∷ []) both.1 seat u here second)
+      (on_a_side u.share way over))
+      make
+
+  -- a pass with a share
+  acting : (n : ℕ) → MakeUp views held n [] → (seat : ℕ) (u : View) → get_elem? views seat ≡ some u → (u.share ≡ None → ⊥) → IsTrue (held seat)
+  acting n make seat u here acts = by_share u.share refl
+    where
+      by_share : (s : Share) → u.share ≡ s → IsTrue (held seat)
+      by_share None is = absurd (acts is)
+      by_share (Some way) is = holds n [] make seat u here (in_whole u.share (ap Rattle.std.specs.Prelude.is_some is))
+
+pub did_all : HoldersDidAll
+did_all words_after words views r held n make = record {
+  steps = all_of (λ j. IsTrue (held j)) r.log (λ j any. dite (native.Mathlib.Decide.dec_le (suc j) (length views))
+      (λ less.
+      let u = view_at views j less in
+      let f = r.fits j u.0 u.1 in
+      acting words_after words views r held n make j u.0 u.1 (λ none. any (sym f.own ∙ (f.idle none).1)))
+      (λ over. absurd (any (none_beyond (length views) j r.log (omega (arith, over)) r.seated))));
+  numbers = λ k low high.
+      let g = r.given k low high in
+      let f = r.fits g.0 g.1 g.2 in
+      (g.0, g.1, acting words_after words views r held n make g.0 g.1 g.2 (λ none. let zero_is = (f.idle none).0 in let is = g.3 in omega arith), g.2, g.3);
+}

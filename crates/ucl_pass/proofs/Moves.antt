@@ -1,6 +1,6 @@
 -- Each kind of step on a shared board keeps the rule, whatever its words are.
 use Rattle.std.proofs.Common.{◌≡◌, ◌≢◌, ◌⊎◌, inl, inr, ⊎_elim, ℕ, zero, suc, ◌+◌, ◌<◌, ◌≤◌, Bool, true, false, cond, List, [], ◌∷◌, ◌++◌, length, take, set, nat_lt, if◌then◌else◌, Some, None, refl, sym, ap, ◌∙◌, subst, arith, le_refl, append-nil, length-append, length-set, ne_eqb}
-use Rattle.std.specs.Prelude.{All}
+use Rattle.std.specs.Prelude.{All, IsSome}
 use Rattle.std.proofs.Math.Seq.{take-append_seam}
 use Rattle.std.proofs.lemmas.Bool.{ltb-true}
 use Rattle.std.proofs.lemmas.List.Elements.{All-append, All-head, All-tail, All-cons, All-nil}
@@ -17,11 +17,14 @@ use Rattle.ucl_board.specs.Log.{Target, Match, Enlisted, Swap, Taken, step_taken
 use Rattle.ucl_board.proofs.Logs.{log_none, log_more, history_more, history_same, taken_own, taken_other, taken_none, added_more}
 use Rattle.ucl_board.proofs.Beginnings.{begins_more, begins_none, begins_same, begins_take, begins_through}
 use Rattle.ucl_pass.specs.declared.view.View.{View}
-use Rattle.ucl_pass.specs.Passes.{entries_by}
-use Rattle.ucl_pass.specs.Views.{newcomer, second_of, note_of, told_by}
+use Rattle.ucl_pass.specs.Passes.{IsAlone, entries_by}
+use Rattle.ucl_pass.specs.Shares.{Share, whole, Overlap, second_half}
+use Rattle.ucl_pass.specs.Views.{pass_view_of, newcomer, opener, kept_of, second_of, note_of, told_by}
 use Rattle.ucl_pass.specs.OneHistory.{Fits, KeepsOneHistory}
 use Rattle.ucl_pass.specs.Steps.{Sees, Adds, Enlists}
 use Rattle.ucl_pass.proofs.Lists.{by_own, by_other, none_by_zero}
+use Rattle.ucl_pass.proofs.Alone.{whole_is_alone}
+use Rattle.ucl_pass.proofs.Halves.{overlap_swap, half_overlaps, halves_apart, half_none, acts_some}
 
 -- the reporters of a history
 
@@ -61,6 +64,7 @@ after_step v log seat t mine number listed shown = record {
   number = number;
   listed = listed;
   shown = shown;
+  share = v.share;
   copied = v.copied;
   own = v.own ++ t ∷ [];
   log = log ++ (seat, t) ∷ [];
@@ -84,13 +88,14 @@ other_fits log enlisted more seat t j u not le same f =
       knows = begins_more u.log log (seat, t) f.knows;
       all_own = f.all_own;
       sees = f.sees;
+      idle = f.idle;
     }
 
 -- the pass that took the step fits it
-own_fits : (log : Log) (enlisted more seat : ℕ) (v : View) (t : Taken) (mine : List Entry) (number listed : ℕ) (shown : List ℕ) → Fits log enlisted seat v
+own_fits : (log : Log) (enlisted more seat : ℕ) (v : View) (t : Taken) (mine : List Entry) (number listed : ℕ) (shown : List ℕ) → IsSome v.share → Fits log enlisted seat v
     → mine ≡ entries_by number (history_of (logged log seat t)) → mine ≡ added_by (v.own ++ t ∷ []) → number ≤ more → listed ≤ more
     → Fits (logged log seat t) more seat (after_step v log seat t mine number listed shown)
-own_fits log enlisted more seat v t mine number listed shown f is made low few =
+own_fits log enlisted more seat v t mine number listed shown acts f is made low few =
     let own : v.own ++ t ∷ [] ≡ taken_by seat (logged log seat t) = ap (λ (l : List Taken). l ++ t ∷ []) f.own ∙ sym (taken_own seat log t) in
     record {
       seen = begins_same (history_of (logged log seat t));
@@ -103,6 +108,7 @@ own_fits log enlisted more seat v t mine number listed shown f is made low few =
       knows = begins_same (logged log seat t);
       all_own = sym own;
       sees = begins_same (history_of (logged log seat t));
+      idle = λ none. absurd (acts_some v.share acts none);
     }
 
 -- what a meeting leaves as seen
@@ -127,9 +133,10 @@ module _ (words_after : List Entry → ℕ → List ℕ) where
       → after ≡ words_after (history_of log) enlisted → IsLog log → IsLegal (history_of log) → enlisted ≤ 255 → All (InRank enlisted) (history_of log) → All (λ (x : ℕ × Taken). x.0 < length views) log
       → ((j : ℕ) (u : View) → j ≢ seat → get_elem? views j ≡ some u → Fits log enlisted j u) → Fits log enlisted seat w
       → ((j : ℕ) (u : View) → j ≢ seat → get_elem? views j ≡ some u → 0 < w.number → w.number ≢ u.number)
+      → ((j : ℕ) (u : View) → j ≢ seat → get_elem? views j ≡ some u → Overlap w.share u.share → ⊥)
       → ((n : ℕ) → 1 ≤ n → n ≤ enlisted → (j : ℕ) × (u : View) × (get_elem? (set views seat w) j ≡ some u) × (u.number ≡ n))
       → Rule after (set views seat w)
-  stepped words after views r seat w log enlisted are is_log legal few ranked seated others mine alone given = record {
+  stepped words after views r seat w log enlisted are is_log legal few ranked seated others mine alone lone given = record {
     log = log;
     enlisted = enlisted;
     words_are = are;
@@ -152,8 +159,28 @@ module _ (words_after : List Entry → ℕ → List ℕ) where
         (λ (t : (j ≢ seat) × (get_elem? views j ≡ some z)). r.apart i j u z a.1 t.1 pos same)
         (at_set views seat j w z f))
         (at_set views seat i w u e);
+    shared = λ i j u z e f over. ⊎_elim
+        (λ (a : (i ≡ seat) × (w ≡ u)). ⊎_elim
+        (λ (t : (j ≡ seat) × (w ≡ z)). a.0 ∙ sym t.0)
+        (λ (t : (j ≢ seat) × (get_elem? views j ≡ some z)). absurd (lone j z t.0 t.1 (subst (λ (q : View). Overlap q.share z.share) (sym a.1) over)))
+        (at_set views seat j w z f))
+        (λ (a : (i ≢ seat) × (get_elem? views i ≡ some u)). ⊎_elim
+        (λ (t : (j ≡ seat) × (w ≡ z)). absurd (lone i u a.0 a.1 (overlap_swap u.share w.share (subst (λ (q : View). Overlap u.share q.share) (sym t.1) over))))
+        (λ (t : (j ≢ seat) × (get_elem? views j ≡ some z)). r.shared i j u z a.1 t.1 over)
+        (at_set views seat j w z f))
+        (at_set views seat i w u e);
     given = given;
   }
+
+  -- a pass that has the whole board, and has seen the whole history
+  alone_by : (after : List ℕ) (views : List View) (seat : ℕ) (w : View) (s : Rule after (set views seat w)) → seat < length views → w.seen ≡ history_of s.log → w.share ≡ whole → IsAlone (pass_view_of w)
+  alone_by after views seat w s below is share =
+      let there = set_here views seat w below in
+      let did = whole_is_alone words_after after (set views seat w) s seat w there share in
+      let listed = (s.fits seat w there).listed in
+      let number = did.number in
+      let one = did.one in
+      record { seen = is ∙ sym did.mine; listed = omega arith; one = omega arith }
 
   module _ (words : List ℕ) (views : List View) (r : Rule words views) (seat : ℕ) (v : View) (here : get_elem? views seat ≡ some v) where
     below : seat < length views
@@ -170,6 +197,9 @@ module _ (words_after : List Entry → ℕ → List ℕ) where
     still_alone : (w : View) → w.number ≡ v.number → (j : ℕ) (u : View) → j ≢ seat → get_elem? views j ≡ some u → 0 < w.number → w.number ≢ u.number
     still_alone w is j u ne e pos same = ne (sym (r.apart seat j v u here e (subst (λ (n : ℕ). 0 < n) is pos) (sym is ∙ same)))
 
+    still_lone : (w : View) → w.share ≡ v.share → (j : ℕ) (u : View) → j ≢ seat → get_elem? views j ≡ some u → Overlap w.share u.share → ⊥
+    still_lone w is j u ne e over = ne (sym (r.shared seat j v u here e (subst (λ (s : Share). Overlap s u.share) is over)))
+
     module _ (t : Taken) where
       all_seated : All (λ (x : ℕ × Taken). x.0 < length views) (logged r.log seat t)
       all_seated = All-append (λ (x : ℕ × Taken). x.0 < length views) r.log ((seat, t) ∷ []) r.seated (All-cons (λ (x : ℕ × Taken). x.0 < length views) (seat, t) [] below (All-nil (λ (x : ℕ × Taken). x.0 < length views)))
@@ -178,7 +208,7 @@ module _ (words_after : List Entry → ℕ → List ℕ) where
       now = history_same r.log seat t
 
     -- a step that stored nothing
-    module _ (target : Target) (there : IsThere (history_of r.log) target) (listed : ℕ) (shown : List ℕ) (le : listed ≤ r.enlisted) where
+    module _ (acts : IsSome v.share) (target : Target) (there : IsThere (history_of r.log) target) (listed : ℕ) (shown : List ℕ) (le : listed ≤ r.enlisted) where
       abbrev pub look : Taken
       look = step_taken target (length (history_of r.log)) None
 
@@ -200,9 +230,14 @@ module _ (words_after : List Entry → ℕ → List ℕ) where
           (subst (All (InRank r.enlisted)) (sym h) r.ranked)
           (all_seated look)
           (λ j u ne e. other_fits r.log r.enlisted r.enlisted seat look j u ne (le_refl r.enlisted) (ap (entries_by u.number) h) (r.fits j u e))
-          (own_fits r.log r.enlisted r.enlisted seat v look v.mine v.number listed shown f (f.mine ∙ ap (entries_by v.number) (sym h)) (f.made ∙ sym (added_more v.own look ∙ append-nil (added_by v.own))) f.number le)
+          (own_fits r.log r.enlisted r.enlisted seat v look v.mine v.number listed shown acts f (f.mine ∙ ap (entries_by v.number) (sym h)) (f.made ∙ sym (added_more v.own look ∙ append-nil (added_by v.own))) f.number le)
           (still_alone looked refl)
+          (still_lone looked refl)
           (still_given looked r.enlisted refl (le_refl r.enlisted))
+
+      look_log : history_of (logged r.log seat look) ≡ history_of look_keeps.log
+      unfolding look_keeps stepped
+      look_log = refl
 
       pub look_tells : Sees target v looked
       look_tells =
@@ -217,6 +252,9 @@ module _ (words_after : List Entry → ℕ → List ℕ) where
               told = refl;
               own = f.mine ∙ ap (entries_by v.number) (sym h);
               few = omega arith;
+              share = refl;
+              acts = acts;
+              alone = alone_by words views seat looked look_keeps below look_log;
             };
             there = subst (λ (l : List Entry). IsThere l target) (sym h) there;
             takes = record { own = ap (λ (l : List Entry). v.own ++ step_taken target (length l) None ∷ []) (sym h); copied = refl };
@@ -225,7 +263,7 @@ module _ (words_after : List Entry → ℕ → List ℕ) where
           }
 
     -- an exchange that adds an entry
-    module _ (e : Entry) (found : ℕ) (there : IsThere (history_of r.log) (Match Swap e.game found)) (pos : 0 < v.number) (me : e.reporter ≡ v.number) (legal : IsLegal (followed_by (history_of r.log) e)) (listed : ℕ) (le : listed ≤ r.enlisted) where
+    module _ (acts : IsSome v.share) (e : Entry) (found : ℕ) (there : IsThere (history_of r.log) (Match Swap e.game found)) (pos : 0 < v.number) (me : e.reporter ≡ v.number) (legal : IsLegal (followed_by (history_of r.log) e)) (listed : ℕ) (le : listed ≤ r.enlisted) where
       abbrev pub add : Taken
       add = step_taken (Match Swap e.game found) (length (history_of r.log)) (Some e)
 
@@ -253,9 +291,15 @@ module _ (words_after : List Entry → ℕ → List ℕ) where
           (λ j u ne q. other_fits r.log r.enlisted r.enlisted seat add j u ne (le_refl r.enlisted)
           (ap (entries_by u.number) h ∙ by_other u.number (history_of r.log) e (λ same. still_alone v refl j u ne q pos (sym me ∙ same)))
           (r.fits j u q))
-          (own_fits r.log r.enlisted r.enlisted seat v add (followed_by v.mine e) v.number listed v.shown f own_more (ap (λ (l : List Entry). l ++ e ∷ []) f.made ∙ sym (added_more v.own add)) f.number le)
+          (own_fits r.log r.enlisted r.enlisted seat v add (followed_by v.mine e) v.number listed v.shown acts f own_more (ap (λ (l : List Entry). l ++ e ∷ []) f.made ∙ sym (added_more v.own add)) f.number le)
           (still_alone entered refl)
+          (still_lone entered refl)
           (still_given entered r.enlisted refl (le_refl r.enlisted))
+
+      module _ (after : List ℕ) (are : after ≡ words_after (followed_by (history_of r.log) e) r.enlisted) where
+        add_log : history_of (logged r.log seat add) ≡ history_of (add_keeps after are).log
+        unfolding add_keeps stepped
+        add_log = refl
 
       pub add_tells : Adds e (history_of r.log) found v entered
       add_tells =
@@ -273,6 +317,9 @@ module _ (words_after : List Entry → ℕ → List ℕ) where
               told = refl;
               own = own_more;
               few = omega arith;
+              share = refl;
+              acts = acts;
+              alone = alone_by _ views seat entered (add_keeps _ refl) below (add_log _ refl);
             };
             there = there;
             takes = record { own = refl; copied = refl };
@@ -282,7 +329,7 @@ module _ (words_after : List Entry → ℕ → List ℕ) where
           }
 
     -- an exchange that adds a reporter
-    module _ (reader : v.number ≡ 0) (room : r.enlisted < 255) where
+    module _ (acts : IsSome v.share) (reader : v.number ≡ 0) (room : r.enlisted < 255) where
       abbrev pub count : Taken
       count = step_taken Enlisted (length (history_of r.log)) None
 
@@ -319,9 +366,15 @@ module _ (words_after : List Entry → ℕ → List ℕ) where
           (subst (All (InRank (r.enlisted + 1))) (sym h) (λ k d lt. let q = r.ranked k d lt in omega arith))
           (all_seated count)
           (λ j u ne q. other_fits r.log r.enlisted (r.enlisted + 1) seat count j u ne (omega arith) (ap (entries_by u.number) h) (r.fits j u q))
-          (own_fits r.log r.enlisted (r.enlisted + 1) seat v count [] (r.enlisted + 1) (r.enlisted + 1) [] f no_entry_yet none_made (le_refl (r.enlisted + 1)) (le_refl (r.enlisted + 1)))
+          (own_fits r.log r.enlisted (r.enlisted + 1) seat v count [] (r.enlisted + 1) (r.enlisted + 1) [] acts f no_entry_yet none_made (le_refl (r.enlisted + 1)) (le_refl (r.enlisted + 1)))
           (λ j u ne q pos same. let g = r.fits j u q in let a = g.number in omega arith)
+          (still_lone enlisted_as refl)
           all_given
+
+      module _ (after : List ℕ) (are : after ≡ words_after (history_of r.log) (r.enlisted + 1)) where
+        enlist_log : history_of (logged r.log seat count) ≡ history_of (enlist_keeps after are).log
+        unfolding enlist_keeps stepped
+        enlist_log = refl
 
       pub enlist_tells : Enlists v enlisted_as
       enlist_tells =
@@ -335,6 +388,9 @@ module _ (words_after : List Entry → ℕ → List ℕ) where
               told = refl;
               own = no_entry_yet;
               few = omega arith;
+              share = refl;
+              acts = acts;
+              alone = alone_by _ views seat enlisted_as (enlist_keeps _ refl) below (enlist_log _ refl);
             };
             takes = record { own = ap (λ (l : List Entry). v.own ++ step_taken Enlisted (length l) None ∷ []) (sym h); copied = refl };
             above = (let l = f.listed in omega arith);
@@ -343,46 +399,77 @@ module _ (words_after : List Entry → ℕ → List ℕ) where
             shown = refl;
           }
 
-    -- one pass more, without a number and without a step
-    added : (w : View) → w.number ≡ 0 → w.own ≡ [] → w.log ≡ [] → w.mine ≡ [] → IsPrefix w.seen (history_of r.log) → w.told ≡ [] → w.listed ≤ r.enlisted → Rule words (set views seat v ++ w ∷ [])
-    added w number own log mine seen told listed =
-        let same : set views seat v ≡ views = set_again views seat v here in
-        let back : (j : ℕ) (u : View) → get_elem? (set views seat v ++ w ∷ []) j ≡ some u → (get_elem? views j ≡ some u) ⊎ ((j ≡ length views) × (w ≡ u)) =
-        (λ j u e. at_last views w u j (subst (λ (l : List View). get_elem? (l ++ w ∷ []) j ≡ some u) same e)) in
-        let fit : Fits r.log r.enlisted (length views) w = record {
-          seen = seen;
-          told = subst (All (λ (l : List Entry). IsPrefix l (history_of r.log))) (sym told) (All-nil (λ (l : List Entry). IsPrefix l (history_of r.log)));
-          mine = mine ∙ sym (ap (λ (n : ℕ). entries_by n (history_of r.log)) number ∙ none_by_zero (history_of r.log) r.legal);
-          made = mine ∙ sym (ap added_by own);
-          number = omega arith;
-          listed = listed;
-          own = own ∙ sym (taken_none (length views) r.log r.seated);
-          knows = subst (λ (l : Log). IsPrefix l r.log) (sym log) (begins_none r.log);
-          all_own = ap (taken_by (length views)) log ∙ sym own;
-          sees = subst (λ (l : Log). IsPrefix (history_of l) w.seen) (sym log) (begins_none w.seen);
-        } in
-        record {
-          log = r.log;
-          enlisted = r.enlisted;
-          words_are = r.words_are;
-          is_log = r.is_log;
-          legal = r.legal;
-          few = r.few;
-          ranked = r.ranked;
-          seated = λ k d lt. let b = r.seated k d lt in omega (arith, ap length same, length-append (set views seat v) (w ∷ []));
-          fits = λ j u e. ⊎_elim (λ was. r.fits j u was) (λ (new : (j ≡ length views) × (w ≡ u)). subst (λ (k : ℕ). Fits r.log r.enlisted k u) (sym new.0) (subst (Fits r.log r.enlisted (length views)) new.1 fit)) (back j u e);
-          apart = λ i j u z e g pos eq. ⊎_elim
-              (λ was. ⊎_elim (λ was'. r.apart i j u z was was' pos eq) (λ (new : (j ≡ length views) × (w ≡ z)). let n : w.number ≡ z.number = ap (λ (q : View). q.number) new.1 in absurd (omega arith)) (back j z g))
-              (λ (new : (i ≡ length views) × (w ≡ u)). let n : w.number ≡ u.number = ap (λ (q : View). q.number) new.1 in absurd (omega arith))
-              (back i u e);
-          given = λ n low high. let g = r.given n low high in (g.0, g.1, subst (λ (l : List View). get_elem? (l ++ w ∷ []) g.0 ≡ some g.1) (sym same) (at_longer views (w ∷ []) g.0 g.1 g.2), g.3);
-        }
+    -- its share is halved
+    halved : Rule words (set views seat (kept_of v))
+    halved =
+        let f = r.fits seat v here in
+        stepped words words views r seat (kept_of v) r.log r.enlisted r.words_are r.is_log r.legal r.few r.ranked r.seated
+        (λ j u ne e. r.fits j u e)
+        (record { seen = f.seen; told = f.told; mine = f.mine; made = f.made; number = f.number; listed = f.listed; own = f.own; knows = f.knows; all_own = f.all_own; sees = f.sees; idle = λ none. f.idle (half_none false v.share none) })
+        (still_alone (kept_of v) refl)
+        (λ j u ne e over. still_lone v refl j u ne e (half_overlaps false v.share u.share over))
+        (still_given (kept_of v) r.enlisted refl (le_refl r.enlisted))
 
-    pub second_added : Rule words (set views seat v ++ second_of v ∷ [])
-    second_added = let f = r.fits seat v here in added (second_of v) refl refl refl refl f.seen refl f.listed
+  -- one pass more, without a number, without a step, and with a share that is no other's
+  added : (words : List ℕ) (views : List View) (r : Rule words views) (w : View) → w.number ≡ 0 → w.own ≡ [] → w.log ≡ [] → w.mine ≡ [] → IsPrefix w.seen (history_of r.log) → w.told ≡ [] → w.listed ≤ r.enlisted
+      → ((j : ℕ) (u : View) → get_elem? views j ≡ some u → Overlap w.share u.share → ⊥) → Rule words (views ++ w ∷ [])
+  added words views r w number own log mine seen told listed lone =
+      let back : (j : ℕ) (u : View) → get_elem? (views ++ w ∷ []) j ≡ some u → (get_elem? views j ≡ some u) ⊎ ((j ≡ length views) × (w ≡ u)) = (λ j u e. at_last views w u j e) in
+      let fit : Fits r.log r.enlisted (length views) w = record {
+        seen = seen;
+        told = subst (All (λ (l : List Entry). IsPrefix l (history_of r.log))) (sym told) (All-nil (λ (l : List Entry). IsPrefix l (history_of r.log)));
+        mine = mine ∙ sym (ap (λ (n : ℕ). entries_by n (history_of r.log)) number ∙ none_by_zero (history_of r.log) r.legal);
+        made = mine ∙ sym (ap added_by own);
+        number = omega arith;
+        listed = listed;
+        own = own ∙ sym (taken_none (length views) r.log r.seated);
+        knows = subst (λ (l : Log). IsPrefix l r.log) (sym log) (begins_none r.log);
+        all_own = ap (taken_by (length views)) log ∙ sym own;
+        sees = subst (λ (l : Log). IsPrefix (history_of l) w.seen) (sym log) (begins_none w.seen);
+        idle = λ _. (number, own);
+      } in
+      record {
+        log = r.log;
+        enlisted = r.enlisted;
+        words_are = r.words_are;
+        is_log = r.is_log;
+        legal = r.legal;
+        few = r.few;
+        ranked = r.ranked;
+        seated = λ k d lt. let b = r.seated k d lt in omega (arith, length-append views (w ∷ []));
+        fits = λ j u e. ⊎_elim (λ was. r.fits j u was) (λ (new : (j ≡ length views) × (w ≡ u)). subst (λ (k : ℕ). Fits r.log r.enlisted k u) (sym new.0) (subst (Fits r.log r.enlisted (length views)) new.1 fit)) (back j u e);
+        apart = λ i j u z e g pos eq. ⊎_elim
+            (λ was. ⊎_elim (λ was'. r.apart i j u z was was' pos eq) (λ (new : (j ≡ length views) × (w ≡ z)). let n : w.number ≡ z.number = ap (λ (q : View). q.number) new.1 in absurd (omega arith)) (back j z g))
+            (λ (new : (i ≡ length views) × (w ≡ u)). let n : w.number ≡ u.number = ap (λ (q : View). q.number) new.1 in absurd (omega arith))
+            (back i u e);
+        shared = λ i j u z e g over. ⊎_elim
+            (λ was. ⊎_elim
+            (λ was'. r.shared i j u z was was' over)
+            (λ (new : (j ≡ length views) × (w ≡ z)). absurd (lone i u was (overlap_swap u.share w.share (subst (λ (q : View). Overlap u.share q.share) (sym new.1) over))))
+            (back j z g))
+            (λ (new : (i ≡ length views) × (w ≡ u)). ⊎_elim
+            (λ was'. absurd (lone j z was' (subst (λ (q : View). Overlap q.share z.share) (sym new.1) over)))
+            (λ (new' : (j ≡ length views) × (w ≡ z)). new.0 ∙ sym new'.0)
+            (back j z g))
+            (back i u e);
+        given = λ n low high. let g = r.given n low high in (g.0, g.1, at_longer views (w ∷ []) g.0 g.1 g.2, g.3);
+      }
+
+  module _ (words : List ℕ) (views : List View) (r : Rule words views) (seat : ℕ) (v : View) (here : get_elem? views seat ≡ some v) where
+    pub second_added : Rule words (set views seat (kept_of v) ++ second_of v ∷ [])
+    second_added =
+        let r2 = halved words views r seat v here in
+        let f = r2.fits seat (kept_of v) (set_here views seat (kept_of v) (below words views r seat v here)) in
+        added words (set views seat (kept_of v)) r2 (second_of v) refl refl refl refl f.seen refl f.listed
+        (λ j u e over. ⊎_elim
+        (λ (t : (j ≡ seat) × (kept_of v ≡ u)). halves_apart v.share (subst (λ (q : View). Overlap (second_half v.share) q.share) (sym t.1) over))
+        (λ (t : (j ≢ seat) × (get_elem? views j ≡ some u)). still_lone words views r seat v here v refl j u t.0 t.1 (half_overlaps true v.share u.share over))
+        (at_set views seat j (kept_of v) u e))
 
     pub note_added : Rule words (set views seat v ++ note_of v ∷ [])
-    note_added = let f = r.fits seat v here in added (note_of v) refl refl refl refl f.seen refl (omega arith)
+    note_added =
+        let f = r.fits seat v here in
+        subst (λ (l : List View). Rule words (l ++ note_of v ∷ [])) (sym (set_again views seat v here)) (added words views r (note_of v) refl refl refl refl f.seen refl (omega arith) (λ j u e over. over))
 
   -- a note was taken in: it has no number, and took no step
 
@@ -400,6 +487,7 @@ module _ (words_after : List Entry → ℕ → List ℕ) where
         knows = f.knows;
         all_own = f.all_own;
         sees = begins_longer_of (history_of v.log) v.seen u.seen (history_of log) f.sees f.seen g.seen (nat_lt (length v.seen) (length u.seen)) refl;
+        idle = f.idle;
       }
 
   module _ (words : List ℕ) (views : List View) (r : Rule words views) (seat : ℕ) (v : View) (here : get_elem? views seat ≡ some v) where
@@ -412,6 +500,7 @@ module _ (words_after : List Entry → ℕ → List ℕ) where
           (λ j z ne e. r.fits j z e)
           (told_fits r.log r.enlisted seat other v u (r.fits seat v here) (r.fits other u theirs))
           (still_alone words views r seat v here (told_by v u) refl)
+          (still_lone words views r seat v here (told_by v u) refl)
           (still_given words views r seat v here (told_by v u) r.enlisted refl (le_refl r.enlisted))
 
       pub note_joined : Rule words (set (set views seat (told_by v u)) other newcomer)
@@ -431,12 +520,14 @@ module _ (words_after : List Entry → ℕ → List ℕ) where
             knows = begins_none told.log;
             all_own = refl;
             sees = begins_none [];
+            idle = λ _. (refl, refl);
           })
           (λ j z ne e pos same. omega arith)
+          (λ j z ne e over. over)
           (still_given words (set views seat (told_by v u)) told other u there newcomer told.enlisted (sym number) (le_refl told.enlisted))
 
   -- a board opens with no event, no reporter and no step
-  pub opens : (words : List ℕ) → words ≡ words_after [] 0 → Rule words (newcomer ∷ [])
+  pub opens : (words : List ℕ) → words ≡ words_after [] 0 → Rule words (opener ∷ [])
   opens words are = record {
     log = [];
     enlisted = 0;
@@ -448,10 +539,15 @@ module _ (words_after : List Entry → ℕ → List ℕ) where
     seated = All-nil (λ (x : ℕ × Taken). x.0 < 1);
     fits = one;
     apart = λ i j v w e f pos same. absurd (numberless i v e pos);
+    shared = λ i j v w e f over. only i v e ∙ sym (only j w f);
     given = λ n low high. absurd (omega arith);
   }
     where
-      fit : Fits [] 0 0 newcomer
+      only : (seat : ℕ) (v : View) → get_elem? (opener ∷ []) seat ≡ some v → seat ≡ 0
+      only zero v e = refl
+      only (suc seat) v e = absurd (some-ne-none v (sym e))
+
+      fit : Fits [] 0 0 opener
       fit = record {
         seen = begins_none [];
         told = All-nil (λ (l : List Entry). IsPrefix l []);
@@ -463,12 +559,13 @@ module _ (words_after : List Entry → ℕ → List ℕ) where
         knows = begins_none [];
         all_own = refl;
         sees = begins_none [];
+        idle = λ _. (refl, refl);
       }
 
-      one : (seat : ℕ) (v : View) → get_elem? (newcomer ∷ []) seat ≡ some v → Fits [] 0 seat v
+      one : (seat : ℕ) (v : View) → get_elem? (opener ∷ []) seat ≡ some v → Fits [] 0 seat v
       one zero v e = subst (Fits [] 0 0) (some-injective _ _ e) fit
       one (suc seat) v e = absurd (some-ne-none v (sym e))
 
-      numberless : (seat : ℕ) (v : View) → get_elem? (newcomer ∷ []) seat ≡ some v → ¬ (0 < v.number)
-      numberless zero v e pos = let z : 0 ≡ v.number = ap (λ (q : View). q.number) (some-injective newcomer v e) in omega arith
+      numberless : (seat : ℕ) (v : View) → get_elem? (opener ∷ []) seat ≡ some v → ¬ (0 < v.number)
+      numberless zero v e pos = let z : 0 ≡ v.number = ap (λ (q : View). q.number) (some-injective opener v e) in omega arith
       numberless (suc seat) v e pos = absurd (some-ne-none v (sym e))

@@ -66,7 +66,7 @@ module _ (a b a1 b1 d : PassView) (reading : Reading) (same : a1 ≡ a) (met : M
   pub through : Continues b d
   through = record {
     sound = later.sound;
-    on = record { seen = begins_through b.seen b1.seen d.seen on.on.seen later.on.seen; listed = (let x = on.on.listed in let y = later.on.listed in omega arith) };
+    on = record { seen = begins_through b.seen b1.seen d.seen on.on.seen later.on.seen; listed = (let x = on.on.listed in let y = later.on.listed in omega arith); share = later.on.share ∙ on.on.share };
     number = later.number ∙ on.number;
   }
 

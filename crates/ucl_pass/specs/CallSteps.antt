@@ -1,5 +1,5 @@
 -- Which steps a call takes: the pass was v and is w.
-use Rattle.std.specs.Prelude.{◌≡◌, ℕ, ◌+◌, List, [], ◌∷◌, ◌++◌, length, Some, None, Result, Ok, Err, IsOk}
+use Rattle.std.specs.Prelude.{◌≡◌, ℕ, ◌+◌, ◌==◌, ◌≤◌, Bool, true, false, List, [], ◌∷◌, ◌++◌, length, filter, if◌then◌else◌, Some, None, Result, Ok, Err, IsOk}
 use Rattle.std.specs.List.{AllByRecursion, flat_map}
 use Rattle.ucl_word.specs.declared.event.EventCall.{EventCall}
 use Rattle.ucl_word.specs.declared.event.Accepted.{Accepted}
@@ -58,13 +58,44 @@ abbrev pub CellAnswered : ℕ → EventCall → Result Accepted Refusal → ℕ 
 CellAnswered number call (Ok reply) now steps = CellAccepted number call reply now steps
 CellAnswered number call (Err refusal) now steps = CellRefused call refusal now steps
 
+-- a load and an exchange at one place of the history: no event came between
+abbrev pub no_event_between : List Taken → Bool
+no_event_between (x ∷ y ∷ steps) = x.at == y.at
+no_event_between steps = false
+
+-- no try was in vain but by another pass: between its load and its exchange an event came, or a reporter was enlisted
+abbrev pub WereLost : ℕ → List (List Taken) → ℕ → Type 0
+WereLost listed tries listed' = length (filter no_event_between tries) + listed ≤ listed'
+
 -- tries in vain, and then the one that has the answer
 pub record CellReport (v : View) (call : EventCall) (reply : Result Accepted Refusal) (w : View) : Type 0 where
   pub tries : List (List Taken)
   pub last : List Taken
   pub takes : Takes v (flat_map (λ x. x) tries ++ last) w
   pub missed : AllByRecursion (CellMissed call) tries
+  pub lost : WereLost v.listed tries w.listed
   pub answered : CellAnswered v.number call reply (length w.seen) last
+
+-- a try in vain of an enlistment: a load, and an exchange that was missed
+pub record CellEnlistMissed (steps : List Taken) : Type 0 where
+  pub at : ℕ
+  pub later : ℕ
+  pub steps_are : steps ≡ step_taken Enlisted at None ∷ step_taken Enlisted later None ∷ []
+
+-- the try that has the answer: a load and an exchange that gave the number, or a load that found as many enlisted as there are numbers
+abbrev pub CellEnlistAnswered : Bool → ℕ → List Taken → Type 0
+CellEnlistAnswered true now steps = (at : ℕ) × (steps ≡ step_taken Enlisted at None ∷ step_taken Enlisted now None ∷ [])
+CellEnlistAnswered false now steps = steps ≡ step_taken Enlisted now None ∷ []
+
+-- an enlistment on the cell, which gave a number or found none: tries in vain, and then the one that has the answer. The number that it
+-- gave is one more than were enlisted
+pub record CellEnlistment (v : View) (given : Bool) (w : View) : Type 0 where
+  pub tries : List (List Taken)
+  pub last : List Taken
+  pub takes : Takes v (flat_map (λ x. x) tries ++ last) w
+  pub missed : AllByRecursion CellEnlistMissed tries
+  pub lost : WereLost (v.listed + (if given then 1 else 0)) tries w.listed
+  pub answered : CellEnlistAnswered given (length w.seen) last
 
 -- a reading of the cell is one load, at its version
 abbrev pub CellReading : View → Reading → View → Type 0

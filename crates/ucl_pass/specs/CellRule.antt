@@ -17,3 +17,7 @@ CellKeepsOneHistory = KeepsOneHistory words_after
 -- what the pass has seen is the whole history, up to its last own step
 abbrev pub IsUpToDate : View → Type 0
 IsUpToDate v = v.seen ≡ history_of v.log
+
+-- whatever keeps this rule keeps that of the cell
+abbrev pub IsTheRule : (List ℕ → List View → Type 0) → Type 0
+IsTheRule holds = (words : List ℕ) (views : List View) → holds words views → CellKeepsOneHistory words views

@@ -4,8 +4,9 @@ use Rattle.ucl_word.specs.declared.event.Kind.TheVariants.{KickOff}
 use Rattle.ucl_board.specs.declared.entry.Entry.{Entry}
 use Rattle.ucl_board.specs.Words.{word_at}
 use Rattle.ucl_board.specs.History.{IsLegal, followed_by}
-use Rattle.ucl_board.specs.Log.{AccessKind, Look, Swap, Target, Match, Enlisted, Whole}
+use Rattle.ucl_board.specs.Log.{AccessKind, Look, Swap, Target, Match, Enlisted, Whole, Taken}
 use Rattle.ucl_pass.specs.declared.view.View.{View}
+use Rattle.ucl_pass.specs.Views.{Takes}
 use Rattle.ucl_pass.specs.Steps.{Sees, Adds, Enlists}
 use Rattle.ucl_pass.specs.CellRule.{words_after, IsUpToDate}
 
@@ -67,17 +68,17 @@ LooksAndShows v x y w = Looks Whole v (v.shown ++ length w.seen ∷ []) y w
 abbrev pub AddsOrLooks : Entry → View → List ℕ → List ℕ → View → Type 0
 AddsOrLooks e v x y w = ((x ≡ y) × LooksOnly (word_looked_at Swap e.game x) v x y w) ⊎ ((x ≢ y) × StoresEntry e v x y w)
 
--- what an exchange for an event answers: the words that were given, and it stored the next ones; or others, and it stored nothing
+-- what an exchange for an event answers: the words that were given, and it stored the next ones; or other words, and it stored nothing
 abbrev pub ExchangesEntry : Entry → View → List ℕ → List ℕ → Result (List ℕ) (List ℕ) → View → Type 0
 ExchangesEntry e v current next answer w = MatchResult answer
     (λ found. (found ≡ current) × StoresEntry e v current next w)
-    (λ found. LooksOnly (word_looked_at Swap e.game found) v found found w)
+    (λ found. (found ≢ current) × LooksOnly (word_looked_at Swap e.game found) v found found w)
 
 -- the same of an exchange for an enlistment
 abbrev pub ExchangesReporter : View → List ℕ → List ℕ → Result (List ℕ) (List ℕ) → View → Type 0
 ExchangesReporter v current next answer w = MatchResult answer
     (λ found. (found ≡ current) × StoresReporter v next w)
-    (λ found. LooksAtEnlisted v found found w)
+    (λ found. (found ≢ current) × LooksAtEnlisted v found found w)
 
 -- an exchange for an enlistment: the words stay, or they gain a reporter
 abbrev pub EnlistsOrLooks : View → List ℕ → List ℕ → View → Type 0
@@ -86,3 +87,7 @@ EnlistsOrLooks v x y w = ((x ≡ y) × LooksAtEnlisted v x y w) ⊎ ((x ≢ y) �
 -- an entry for exchanges that add none
 abbrev pub no_entry : Entry
 no_entry = record { game = 0; reporter = 0; kind = KickOff }
+
+-- whatever it finds and leaves, a step of this kind is one step in the log, of the pass that took it
+abbrev pub LogsOneStep : (View → List ℕ → List ℕ → View → Type 0) → Type 0
+LogsOneStep tells = (v : View) (x y : List ℕ) (w : View) → tells v x y w → (t : Taken) × Takes v (t ∷ []) w

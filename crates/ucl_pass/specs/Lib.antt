@@ -1,3 +1,4 @@
+pub mod Shares
 pub mod Passes
 pub mod Settling
 pub mod Views

@@ -1,5 +1,5 @@
 -- What contracts know of a pass, and what each call on a shared board says of it. Every shared board, settling and the night cite these.
-use Rattle.std.specs.Prelude.{◌≡◌, ℕ, ◌==◌, ◌<◌, ◌≤◌, List, [], ◌∷◌, ◌++◌, length, filter, Ok, Err}
+use Rattle.std.specs.Prelude.{◌≡◌, ℕ, ◌==◌, ◌<◌, ◌≤◌, List, [], ◌∷◌, ◌++◌, length, filter, IsSome, Ok, Err}
 use mathlib.Core.List.{IsPrefix}
 use Rattle.ucl_word.specs.declared.event.EventCall.{EventCall}
 use Rattle.ucl_word.specs.declared.event.Accepted.{Accepted}
@@ -7,30 +7,41 @@ use Rattle.ucl_word.specs.declared.refusal.Refusal.{Refusal}
 use Rattle.ucl_board.specs.declared.entry.Entry.{Entry}
 use Rattle.ucl_board.specs.declared.reading.Reading.{Reading}
 use Rattle.ucl_board.specs.History.{IsLegal, followed_by, entry_of, sequential_reply, snapshot_at}
+use Rattle.ucl_pass.specs.Shares.{Share, whole, first_half, second_half}
 
 -- what is known of a pass: the history that it has seen, its own entries in it, its number (0 for a reader), how many reporters it
--- has seen enlisted, and the versions that its readings answered
+-- has seen enlisted, the versions that its readings answered, and its share of the board
 pub record PassView : Type 0 where
   pub seen : List Entry
   pub mine : List Entry
   pub number : ℕ
   pub listed : ℕ
   pub shown : List ℕ
+  pub share : Share
 
 -- the entries of one reporter
 abbrev pub entries_by : ℕ → List Entry → List Entry
 entries_by number history = filter (λ e. e.reporter == number) history
 
--- what holds of a pass between calls
+-- a pass is alone on its board: all that was entered is its own, and none but it was enlisted
+pub record IsAlone (k : PassView) : Type 0 where
+  pub seen : k.seen ≡ k.mine
+  pub listed : k.listed ≤ k.number
+  pub one : k.number ≤ 1
+
+-- what holds of a pass between calls: it acts by a share, and with the whole board it is alone on it
 pub record IsSound (k : PassView) : Type 0 where
   pub legal : IsLegal k.seen
   pub own : k.mine ≡ entries_by k.number k.seen
   pub few : k.listed ≤ 255
+  pub acts : IsSome k.share
+  pub alone : k.share ≡ whole → IsAlone k
 
--- no call takes back what a pass has seen
+-- no call takes back what a pass has seen, nor takes a part of its share
 pub record SeesOn (k m : PassView) : Type 0 where
   pub seen : IsPrefix k.seen m.seen
   pub listed : k.listed ≤ m.listed
+  pub share : m.share ≡ k.share
 
 -- what always holds of a pass before and after a call
 pub record Continues (k m : PassView) : Type 0 where
@@ -38,9 +49,9 @@ pub record Continues (k m : PassView) : Type 0 where
   pub on : SeesOn k m
   pub number : m.number ≡ k.number
 
--- the pass of a board that was just opened
+-- the pass of a board that was just opened has the whole board
 abbrev pub opening_pass : PassView
-opening_pass = record { seen = []; mine = []; number = 0; listed = 0; shown = [] }
+opening_pass = record { seen = []; mine = []; number = 0; listed = 0; shown = []; share = whole }
 
 -- an accepted event: its entry is the last that was seen, and it was accepted after the entries before, those that had been seen among them
 pub record AcceptedReport (k : PassView) (call : EventCall) (reply : Accepted) (m : PassView) : Type 0 where
@@ -65,9 +76,13 @@ pub record SharedReading (k : PassView) (reading : Reading) (m : PassView) : Typ
   pub mine : m.mine ≡ k.mine
   pub shown : m.shown ≡ k.shown ++ reading.version ∷ []
 
--- a pass that was split off another: it has seen as much, and has shown nothing
+-- a pass that another was split off: it has the first half of its share, and is else as it was
+abbrev pub kept_pass : PassView → PassView
+kept_pass k = record k { share = first_half k.share }
+
+-- the pass that was split off: it has seen as much, has shown nothing, and has the second half
 abbrev pub split_pass : PassView → PassView
-split_pass k = record { seen = k.seen; mine = []; number = 0; listed = k.listed; shown = [] }
+split_pass k = record { seen = k.seen; mine = []; number = 0; listed = k.listed; shown = []; share = second_half k.share }
 
 -- a reader's pass became a reporter's, under a new number that no entry has
 pub record Enlistment (k m : PassView) : Type 0 where

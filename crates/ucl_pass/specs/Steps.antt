@@ -1,14 +1,16 @@
 -- What each kind of step on a shared board tells its pass: v before and w after.
-use Rattle.std.specs.Prelude.{◌≡◌, ℕ, ◌<◌, ◌≤◌, List, [], ◌∷◌, All, length, Some, None}
+use Rattle.std.specs.Prelude.{◌≡◌, ℕ, ◌<◌, ◌≤◌, List, [], ◌∷◌, All, length, Some, None, IsSome}
 use mathlib.Core.List.{IsPrefix}
 use Rattle.ucl_board.specs.declared.entry.Entry.{Entry}
 use Rattle.ucl_board.specs.History.{IsLegal, followed_by}
 use Rattle.ucl_board.specs.Log.{Target, Match, Enlisted, Swap, step_taken, IsThere}
 use Rattle.ucl_pass.specs.declared.view.View.{View}
-use Rattle.ucl_pass.specs.Passes.{entries_by}
-use Rattle.ucl_pass.specs.Views.{Takes}
+use Rattle.ucl_pass.specs.Shares.{whole}
+use Rattle.ucl_pass.specs.Passes.{IsAlone, entries_by}
+use Rattle.ucl_pass.specs.Views.{Takes, pass_view_of}
 
--- what each step leaves: a legal history in which all stands first that the pass had seen or been told
+-- what each step leaves: a legal history in which all stands first that the pass had seen or been told, and the share by which it acts;
+-- with the whole board it is alone
 pub record Goes (v w : View) : Type 0 where
   pub legal : IsLegal w.seen
   pub seen : IsPrefix v.seen w.seen
@@ -16,6 +18,9 @@ pub record Goes (v w : View) : Type 0 where
   pub told : w.told ≡ []
   pub own : w.mine ≡ entries_by w.number w.seen
   pub few : w.listed ≤ 255
+  pub share : w.share ≡ v.share
+  pub acts : IsSome w.share
+  pub alone : w.share ≡ whole → IsAlone (pass_view_of w)
 
 -- a step that stored nothing: what it looked at is as after what the pass has then seen
 pub record Sees (target : Target) (v w : View) : Type 0 where

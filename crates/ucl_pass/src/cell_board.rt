@@ -1,19 +1,24 @@
 //! The board in one cell, and its calls by a seat.
 
-ghost use Rattle.std.specs.Prelude.{◌≡◌, ◌+◌, ◌<◌, ◌++◌, ◌∷◌, [], take, length, slice_index, IfOk, IfErr, IfSome, IfNone};
+ghost use Rattle.std.specs.Prelude.{◌≡◌, ◌+◌, ◌<◌, ◌++◌, ◌∷◌, [], take, length, slice_index, IfOk, IfErr, IfSome, IfNone, IsSome, true, false};
 ghost use Rattle.atomic_table.specs.Seated.{TableId};
 ghost use Rattle.crossbeam_utils.specs.Seq.{cell_view};
 ghost use Rattle.ucl_board.specs.Fixtures.{IsMatch};
 ghost use Rattle.ucl_board.specs.Words.{AreWords};
 ghost use Rattle.ucl_pass.specs.Passes.{Continues, AcceptedReport, RefusedReport, SharedReading, Enlistment, FullBoard, Meeting, opening_pass};
-ghost use Rattle.ucl_pass.specs.Views.{pass_view_of, count_of, second_of};
+ghost use Rattle.ucl_pass.specs.Views.{pass_view_of, count_of, kept_of, second_of};
 ghost use Rattle.ucl_pass.specs.OneHistory.{BoardsOpenFresh};
-ghost use Rattle.ucl_pass.specs.CellRule.{words_after, IsUpToDate};
+ghost use Rattle.ucl_pass.specs.CellRule.{words_after, IsTheRule, IsUpToDate};
 ghost use Rattle.ucl_pass.specs.CellSteps.{ExchangesEntry, ExchangesReporter, IsNextBoard, with_one_more, LooksAtMatch, LooksAtEnlisted, LooksAndShows};
-ghost use Rattle.ucl_pass.specs.CallSteps.{EnlistSteps, MeetingSteps, CellReport, CellReading};
+ghost use Rattle.ucl_pass.specs.CallSteps.{MeetingSteps, CellReport, CellEnlistment, CellReading};
 
 use crate::passes::CellReaderPass;
-use crate::rule::{Adding, Adds, Cell, Counts, Enlists, LooksAt, Note, Reads, Seat, SecondPass};
+use crate::rule::{
+    Adding, Adds, Cell, Counts, Enlists, LooksAt, Note, OneHistory, Reads, Seat, SecondPass,
+};
+use crate::view::View;
+use crossbeam_utils::atomic::seq_cell::RuledSeqCell;
+use crossbeam_utils::rule::Protocol;
 use std::alloc::Global;
 use std::marker::{Brand, Model};
 use std::sync::Wait;
@@ -79,14 +84,25 @@ impl CellBoard {
         ensures fresh { IfOk result (λ opened. pass_view_of opened.1.view ≡ opening_pass) }
         ensures acts { IfOk result (λ opened. (opened.1.view.copied ≡ []) × (opened.1.view.own ≡ [])) }
         ensures rule { BoardsOpenFresh words_after }
+        ensures tied { IsTheRule ⟦<OneHistory as Protocol<[u64; 13], View>>⟧.holds }
     {
         let (cell, seat) = Cell::ruled(alloc, words_with(&Board::fresh(), 0))?;
         Ok((CellBoard { cell }, CellReaderPass { seat }))
     }
 
+    /// The cell of the board. Its type names its rule, `OneHistory`, which is the rule that the laws on boards speak of. It is there for
+    /// that: nobody needs it to call the board.
+    pub fn cell(&self) -> &RuledSeqCell<[u64; 13], View, OneHistory, 13>
+        ensures own { result.now.table.shared.table_id ≡ self.now }
+        ensures tied { IsTheRule ⟦<OneHistory as Protocol<[u64; 13], View>>⟧.holds }
+    {
+        &self.cell
+    }
+
     /// Loads the words, for a report that would add this entry.
     fn look<K: Adding, R: Wait>(&self, rt: &R, seat: &mut Seat, game: MatchNo) -> [u64; 13]
         requires cell { seat.old.table_id ≡ self.now }
+        requires acts { IsSome (cell_view seat.old).share }
         requires game { K.entry.game ≡ game }
         ensures own { seat.new.table_id ≡ seat.old.table_id }
         ensures game { IsMatch game }
@@ -98,7 +114,8 @@ impl CellBoard {
 
     /// Loads the words, for an enlistment or a meeting.
     fn count<R: Wait>(&self, rt: &R, seat: &mut Seat) -> [u64; 13]
-        requires { seat.old.table_id ≡ self.now }
+        requires cell { seat.old.table_id ≡ self.now }
+        requires acts { IsSome (cell_view seat.old).share }
         ensures own { seat.new.table_id ≡ seat.old.table_id }
         ensures looks { LooksAtEnlisted (cell_view seat.old) result result (cell_view seat.new) }
     {
@@ -107,7 +124,8 @@ impl CellBoard {
 
     /// Loads the words, whose version is shown.
     fn look_to_show<R: Wait>(&self, rt: &R, seat: &mut Seat) -> [u64; 13]
-        requires { seat.old.table_id ≡ self.now }
+        requires cell { seat.old.table_id ≡ self.now }
+        requires acts { IsSome (cell_view seat.old).share }
         ensures own { seat.new.table_id ≡ seat.old.table_id }
         ensures looks { LooksAndShows (cell_view seat.old) result result (cell_view seat.new) }
     {
@@ -124,6 +142,7 @@ impl CellBoard {
         entry: Entry,
     ) -> Result<[u64; 13], [u64; 13]>
         requires cell { seat.old.table_id ≡ self.now }
+        requires acts { IsSome (cell_view seat.old).share }
         requires entry { K.entry ≡ entry }
         requires me { (0 < (cell_view seat.old).number) × (K.entry.reporter ≡ (cell_view seat.old).number) }
         requires game { IsMatch K.entry.game }
@@ -144,6 +163,7 @@ impl CellBoard {
         next: [u64; 13],
     ) -> Result<[u64; 13], [u64; 13]>
         requires cell { seat.old.table_id ≡ self.now }
+        requires acts { IsSome (cell_view seat.old).share }
         requires next { next ≡ with_one_more current }
         requires room { slice_index current 12 < 255 }
         requires reader { (cell_view seat.old).number ≡ 0 }
@@ -163,6 +183,7 @@ impl CellBoard {
         call: &EventCall,
     ) -> Result<Accepted, Refusal>
         requires cell { seat.old.table_id ≡ self.now }
+        requires acts { IsSome (cell_view seat.old).share }
         requires me { (0 < reporter) × ((cell_view seat.old).number ≡ reporter) }
         ensures own { seat.new.table_id ≡ seat.old.table_id }
         ensures always { Continues (pass_view_of (cell_view seat.old)) (pass_view_of (cell_view seat.new)) }
@@ -194,7 +215,8 @@ impl CellBoard {
 
     /// The board of one load, and its version.
     pub(crate) fn read_by<R: Wait>(&self, rt: &R, seat: &mut Seat) -> Reading
-        requires { seat.old.table_id ≡ self.now }
+        requires cell { seat.old.table_id ≡ self.now }
+        requires acts { IsSome (cell_view seat.old).share }
         ensures own { seat.new.table_id ≡ seat.old.table_id }
         ensures always { Continues (pass_view_of (cell_view seat.old)) (pass_view_of (cell_view seat.new)) }
         ensures reading { SharedReading (pass_view_of (cell_view seat.old)) result (pass_view_of (cell_view seat.new)) }
@@ -211,13 +233,15 @@ impl CellBoard {
     /// Makes a seat a reporter's, and answers its number. `None` where 255 are enlisted.
     pub(crate) fn enlist_by<R: Wait>(&self, rt: &R, seat: &mut Seat) -> Option<ReporterNo>
         requires cell { seat.old.table_id ≡ self.now }
+        requires acts { IsSome (cell_view seat.old).share }
         requires reader { (cell_view seat.old).number ≡ 0 }
         ensures own { seat.new.table_id ≡ seat.old.table_id }
         ensures enlisted { IfSome result (λ number. Enlistment (pass_view_of (cell_view seat.old)) (pass_view_of (cell_view seat.new)) × ((cell_view seat.new).number ≡ number)) }
         ensures always { IfNone result (Continues (pass_view_of (cell_view seat.old)) (pass_view_of (cell_view seat.new))) }
         ensures full { IfNone result (FullBoard (pass_view_of (cell_view seat.old)) (pass_view_of (cell_view seat.new))) }
         ensures acts { count_of (cell_view seat.old) < count_of (cell_view seat.new) }
-        ensures steps { EnlistSteps (cell_view seat.old) (cell_view seat.new) }
+        ensures given { IfSome result (λ _. CellEnlistment (cell_view seat.old) true (cell_view seat.new)) }
+        ensures none { IfNone result (CellEnlistment (cell_view seat.old) false (cell_view seat.new)) }
         ensures up_to_date { IsUpToDate (cell_view seat.new) }
     {
         'retry: for _ in rt.forever() {
@@ -238,7 +262,7 @@ impl CellBoard {
     pub(crate) fn split_seat(&self, seat: &mut Seat) -> Seat
         requires { seat.old.table_id ≡ self.now }
         ensures own { seat.new.table_id ≡ seat.old.table_id }
-        ensures unchanged { cell_view seat.new ≡ cell_view seat.old }
+        ensures kept { cell_view seat.new ≡ kept_of (cell_view seat.old) }
         ensures given { (result.table_id ≡ seat.old.table_id) × (cell_view result ≡ second_of (cell_view seat.old)) × (result.me.1 ≡ []) }
     {
         self.cell.split_pass::<SecondPass>(seat)
@@ -246,7 +270,8 @@ impl CellBoard {
 
     /// A note of the first is split off and joined to the second, which then loads the words.
     pub(crate) fn meet_by<R: Wait>(&self, rt: &R, first: &mut Seat, second: &mut Seat)
-        requires { (first.old.table_id ≡ self.now) × (second.old.table_id ≡ self.now) }
+        requires cell { (first.old.table_id ≡ self.now) × (second.old.table_id ≡ self.now) }
+        requires acts { IsSome (cell_view second.old).share }
         ensures own { (first.new.table_id ≡ first.old.table_id) × (second.new.table_id ≡ second.old.table_id) }
         ensures unchanged { cell_view first.new ≡ cell_view first.old }
         ensures always { Continues (pass_view_of (cell_view second.old)) (pass_view_of (cell_view second.new)) }

@@ -1,7 +1,7 @@
 //! What every shared board is.
 
 ghost use Rattle.std.specs.Prelude.{◌≡◌, IfOk, IfErr, MatchResult};
-ghost use Rattle.ucl_pass.specs.Passes.{PassView, IsSound, Continues, AcceptedReport, RefusedReport, SharedReading, split_pass, Enlistment, FullBoard, Meeting, reporter_figures};
+ghost use Rattle.ucl_pass.specs.Passes.{PassView, IsSound, Continues, AcceptedReport, RefusedReport, SharedReading, kept_pass, split_pass, Enlistment, FullBoard, Meeting, reporter_figures};
 
 use crate::errors::TooManyReporters;
 use std::sync::Wait;
@@ -102,7 +102,7 @@ pub trait LiveBoard: Sync {
         requires { is_reader self.now pass.old }
         ensures own { is_reader self.now pass.new × is_reader self.now result }
         ensures sound { IsSound (reader pass.old) }
-        ensures unchanged { reader pass.new ≡ reader pass.old }
+        ensures kept { reader pass.new ≡ kept_pass (reader pass.old) }
         ensures given { reader result ≡ split_pass (reader pass.old) };
 
     /// Makes a reader a reporter, under a number of its own. Where 255 are enlisted the answer is 30 with the pass, which may have
@@ -144,6 +144,28 @@ pub trait LiveBoard: Sync {
         ensures always { Continues (reporter second.old) (reporter second.new) }
         ensures unchanged { reporter first.new ≡ reporter first.old }
         ensures meeting { Meeting (reporter first.old) (reporter second.old) (reporter second.new) };
+
+    /// The same where the first is a reader: afterwards the reporter's pass has seen all that either had seen.
+    ///
+    /// ```rust
+    /// let (board, mut pass) = CellBoard::open(&rt, rt.alloc())?;
+    /// let mut reader = board.split(&rt, &mut pass);
+    /// let mut reporter = board.enlist(&rt, pass).ok().ok_or("no number")?;
+    /// board.meet_reader(&rt, &mut reader, &mut reporter);
+    /// assert_eq!(rt; board.read_own(&rt, &mut reporter).version, 0);
+    /// ```
+    fn meet_reader<R: Wait>(
+        &self,
+        rt: &R,
+        first: &mut Self::ReaderPass,
+        second: &mut Self::ReporterPass,
+    )
+        requires { is_reader self.now first.old × is_reporter self.now second.old }
+        ensures own { is_reader self.now first.new × is_reporter self.now second.new }
+        ensures sound { IsSound (reader first.old) }
+        ensures always { Continues (reporter second.old) (reporter second.new) }
+        ensures unchanged { reader first.new ≡ reader first.old }
+        ensures meeting { Meeting (reader first.old) (reporter second.old) (reporter second.new) };
 
     /// The number of a reporter's pass.
     ///

@@ -1,10 +1,10 @@
 //! The board in one cell is a live board.
 
-ghost use Rattle.std.specs.Prelude.{◌≡◌, ◌+◌, ◌<◌, length, IfOk, IfErr, MatchResult};
+ghost use Rattle.std.specs.Prelude.{◌≡◌, ◌+◌, ◌<◌, length, IfOk, IfErr, MatchResult, true, false};
 ghost use Rattle.ucl_pass.specs.Passes.{IsSound, Continues, AcceptedReport, RefusedReport, SharedReading, split_pass, Enlistment, FullBoard, Meeting, reporter_figures};
-ghost use Rattle.ucl_pass.specs.Views.{pass_view_of, count_of};
+ghost use Rattle.ucl_pass.specs.Views.{pass_view_of, count_of, kept_of};
 ghost use Rattle.ucl_pass.specs.CellRule.{IsUpToDate};
-ghost use Rattle.ucl_pass.specs.CallSteps.{EnlistSteps, MeetingSteps, HasCopyOf, CellReport, CellReading};
+ghost use Rattle.ucl_pass.specs.CallSteps.{MeetingSteps, HasCopyOf, CellReport, CellEnlistment, CellReading};
 
 use crate::cell_board::CellBoard;
 use crate::errors::TooManyReporters;
@@ -16,8 +16,8 @@ use ucl_word::{Accepted, EventCall, Refusal, ReporterNo};
 
 /// Beside what every live board says, the clause `steps` says which steps a call takes, each of them in the log of the board; `acts` counts
 /// them; and by `up_to_date` the pass has then seen the whole history, up to its last step. The version that is read is the length of what the
-/// pass has then seen. The calls may wait inside the cell; an event or an enlistment is tried again, without a bound, where another call
-/// changed a word of the cell.
+/// pass has then seen. The calls may wait inside the cell; an event or an enlistment is tried again, without a bound, but only where another
+/// pass changed a word of the cell between the load and the exchange.
 impl LiveBoard for CellBoard {
     type ReaderPass = CellReaderPass;
 
@@ -85,7 +85,7 @@ impl LiveBoard for CellBoard {
         requires { pass.old.board ≡ self.now }
         ensures own { (pass.new.board ≡ self.now) × (result.board ≡ self.now) }
         ensures sound { IsSound (pass_view_of pass.old.view) }
-        ensures unchanged { pass.new.view ≡ pass.old.view }
+        ensures kept { pass.new.view ≡ kept_of pass.old.view }
         ensures given { pass_view_of result.view ≡ split_pass (pass_view_of pass.old.view) }
         ensures acts { count_of result.view ≡ count_of pass.old.view }
         ensures steps { HasCopyOf result.view pass.old.view }
@@ -105,7 +105,7 @@ impl LiveBoard for CellBoard {
         ensures always { IfErr result (λ full. Continues (pass_view_of pass.view) (pass_view_of full.0.view)) }
         ensures full { IfErr result (λ full. FullBoard (pass_view_of pass.view) (pass_view_of full.0.view)) }
         ensures acts { MatchResult result (λ enlisted. count_of pass.view < count_of enlisted.view) (λ full. count_of pass.view < count_of full.0.view) }
-        ensures steps { MatchResult result (λ enlisted. EnlistSteps pass.view enlisted.view) (λ full. EnlistSteps pass.view full.0.view) }
+        ensures steps { MatchResult result (λ enlisted. CellEnlistment pass.view true enlisted.view) (λ full. CellEnlistment pass.view false full.0.view) }
         ensures up_to_date { MatchResult result (λ enlisted. IsUpToDate enlisted.view) (λ full. IsUpToDate full.0.view) }
     {
         let CellReaderPass { mut seat } = pass;
@@ -131,6 +131,26 @@ impl LiveBoard for CellBoard {
         ensures up_to_date { IsUpToDate second.new.view }
     {
         self.meet_by(rt, &mut first.seat, &mut second.seat);
+    }
+
+    fn meet_reader<R: Wait>(
+        &self,
+        rt: &R,
+        first: &mut CellReaderPass,
+        second: &mut CellReporterPass,
+    )
+        requires { (first.old.board ≡ self.now) × (second.old.board ≡ self.now) }
+        ensures own { (first.new.board ≡ self.now) × (second.new.board ≡ self.now) }
+        ensures sound { IsSound (pass_view_of first.old.view) }
+        ensures always { Continues (pass_view_of second.old.view) (pass_view_of second.new.view) }
+        ensures unchanged { first.new.view ≡ first.old.view }
+        ensures meeting { Meeting (pass_view_of first.old.view) (pass_view_of second.old.view) (pass_view_of second.new.view) }
+        ensures acts { count_of second.new.view ≡ count_of second.old.view + 1 }
+        ensures steps { MeetingSteps second.old.view second.new.view }
+        ensures up_to_date { IsUpToDate second.new.view }
+    {
+        let reader = &mut first.seat;
+        self.meet_by(rt, reader, &mut second.seat);
     }
 
     fn number_of(pass: &CellReporterPass) -> ReporterNo

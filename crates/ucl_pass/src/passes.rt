@@ -18,9 +18,18 @@ pub struct CellReaderPass {
 impl Model for CellReaderPass {
     ghost Value = { Pass };
 
-    ghost view = { λ p. record { board = p.seat.table_id; view = cell_view p.seat } };
+    ghost view = { λ reader. record { board = reader.seat.table_id; view = cell_view reader.seat } };
 
-    ghost invariant = { λ p. IsSound (pass_view_of (cell_view p.seat)) × ((cell_view p.seat).number ≡ 0) };
+    ghost invariant = { λ reader. IsSound (pass_view_of (cell_view reader.seat)) × ((cell_view reader.seat).number ≡ 0) };
+}
+
+impl CellReaderPass {
+    /// The seat at the cell of its board, by which the pass acts: what contracts see of the pass is the view of this seat, as it is.
+    pub fn seat(&self) -> &Seat
+        ensures { self.now ≡ record { board = result.now.table_id; view = cell_view result.now } }
+    {
+        &self.seat
+    }
 }
 
 /// A reporter's pass. Contracts see which cell it is of, and what it knows.
@@ -34,7 +43,16 @@ pub struct CellReporterPass {
 impl Model for CellReporterPass {
     ghost Value = { Pass };
 
-    ghost view = { λ p. record { board = p.seat.table_id; view = cell_view p.seat } };
+    ghost view = { λ reporter. record { board = reporter.seat.table_id; view = cell_view reporter.seat } };
 
-    ghost invariant = { λ p. IsSound (pass_view_of (cell_view p.seat)) × ((cell_view p.seat).number ≡ p.number) × (length (cell_view p.seat).mine ≡ p.accepted) };
+    ghost invariant = { λ reporter. IsSound (pass_view_of (cell_view reporter.seat)) × ((cell_view reporter.seat).number ≡ reporter.number) × (length (cell_view reporter.seat).mine ≡ reporter.accepted) };
+}
+
+impl CellReporterPass {
+    /// The seat at the cell of its board, by which the pass acts: what contracts see of the pass is the view of this seat, as it is.
+    pub fn seat(&self) -> &Seat
+        ensures { self.now ≡ record { board = result.now.table_id; view = cell_view result.now } }
+    {
+        &self.seat
+    }
 }

@@ -10,12 +10,12 @@ use std::marker::{Brand, PhantomData};
 pub struct OneHistory;
 
 impl Protocol<[u64; 13], View> for OneHistory {
-    ghost use Rattle.ucl_pass.specs.Views.{newcomer};
+    ghost use Rattle.ucl_pass.specs.Views.{opener};
     ghost use Rattle.ucl_pass.specs.CellRule.{CellKeepsOneHistory};
 
     ghost holds = { CellKeepsOneHistory };
 
-    ghost first = { newcomer };
+    ghost first = { opener };
 }
 
 /// The entry that a report would add. Each call picks it.
@@ -80,9 +80,9 @@ impl Outcome<[u64; 13], View> for Enlists {
 pub struct SecondPass;
 
 impl Split<View> for SecondPass {
-    ghost use Rattle.ucl_pass.specs.Views.{second_of};
+    ghost use Rattle.ucl_pass.specs.Views.{kept_of, second_of};
 
-    ghost left = { λ v. v };
+    ghost left = { kept_of };
 
     ghost right = { second_of };
 }

@@ -1,6 +1,6 @@
 //! Two reporters who make sure that they are alone.
 
-ghost use Rattle.std.specs.Prelude.{◌≡◌, ◌≢◌, ◌<◌, ◌↔◌, take, IsOk, IfOk, IfErr};
+ghost use Rattle.std.specs.Prelude.{◌≡◌, ◌≢◌, ◌<◌, ◌↔◌, [], ◌∷◌, ◌++◌, take, IsOk, IfOk, IfErr};
 ghost use Rattle.ucl_board.specs.History.{snapshot_at};
 ghost use Rattle.ucl_pass.specs.Passes.{Continues};
 ghost use Rattle.ucl_pass.specs.Settling.{version_answered, both_accepted, Settled, AreAlone, IsOfBoth};
@@ -12,7 +12,8 @@ use ucl_board::Reading;
 
 /// The two meet, and the second reads. The reading is answered where the two numbers differ and its version is the sum of both
 /// accepted counts: then each of its entries is one of theirs. Else the answer is 31 with the version that was read. Nothing is
-/// entered, and both passes stay usable; the second may have seen more.
+/// entered, and both passes stay usable: the first is as it was, and the second may have seen more and has shown this one version
+/// more.
 ///
 /// ```rust
 /// let (board, mut pass) = CellBoard::open(&rt, rt.alloc())?;
@@ -31,6 +32,8 @@ pub fn settle<B: LiveBoard, R: Wait>(
     requires { B.is_reporter board.now first.old × B.is_reporter board.now second.old }
     ensures own { B.is_reporter board.now first.new × B.is_reporter board.now second.new }
     ensures always { Continues (B.reporter first.old) (B.reporter first.new) × Continues (B.reporter second.old) (B.reporter second.new) }
+    ensures unchanged { B.reporter first.new ≡ B.reporter first.old }
+    ensures shown { (B.reporter second.new).shown ≡ (B.reporter second.old).shown ++ version_answered result ∷ [] }
     ensures settled { Settled (B.reporter first.old) (B.reporter second.old) (B.reporter first.new) (B.reporter second.new) (version_answered result) }
     ensures exactly { IsOk result ↔ AreAlone (B.reporter first.old) (B.reporter second.old) (version_answered result) }
     ensures strangers { IfErr result (λ strangers. (B.reporter first.old).number ≢ (B.reporter second.old).number → both_accepted (B.reporter first.old) (B.reporter second.old) < strangers.version) }

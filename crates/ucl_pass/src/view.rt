@@ -4,6 +4,7 @@ ghost use Rattle.std.specs.Prelude.{ℕ, List};
 ghost use Rattle.std.specs.Borrow.{ftrue};
 ghost use Rattle.ucl_board.specs.declared.entry.Entry.{Entry};
 ghost use Rattle.ucl_board.specs.Log.{Taken, Log};
+ghost use Rattle.ucl_pass.specs.Shares.{Share};
 
 use std::marker::Model;
 
@@ -21,6 +22,8 @@ pub struct View {
     pub ghost listed: { ℕ },
     // The versions that its readings answered.
     pub ghost shown: { List ℕ },
+    // Its share of the board, without which it takes no step.
+    pub ghost share: { Share },
     // The steps of the passes that it comes from, before it was split off.
     pub ghost copied: { List Taken },
     // Its own steps.

@@ -7,9 +7,12 @@ use std::process::Abort;
 use std::sync::Wait;
 use std::test::Fail;
 use std::thread::Threads;
-use ucl_command::{Line, LineFault, line_of, run};
+use ucl_command::{Line, LineFault, feed, line_of, night_on, run, show};
 use ucl_order::Profile;
-use ucl_screen::{FromRead, ToWrite};
+use ucl_pass::{CellBoard, LiveBoard};
+use ucl_runs::{OpenGate, RunFault};
+use ucl_screen::{FromRead, ToWrite, read_night};
+use ucl_words::WordBoard;
 
 /// A match that kicks off, entered twice.
 const SCRIPT: &str = "\
@@ -409,5 +412,79 @@ fn faults_are_told(rt: HostRuntime) -> Result<(), Fail> {
         let end = end_of(&rt, rt.alloc(), (line, input.as_str(), ""), told)?;
         assert_eq!(rt; end, (3, true, true), "at {line}");
     }
+    Ok(())
+}
+
+/// The settled version of a night of the script on a board, whether its output went out, and how many bytes did.
+fn played_on<B: LiveBoard, R: Threads + Wait + Sync>(
+    rt: &R,
+    alloc: Global,
+    board: &B,
+    pass: B::ReaderPass,
+    room: usize,
+) -> Result<(u16, Result<(), RunFault>, usize), Fail>
+    requires { B.is_reader board.now pass }
+{
+    let night = read_night(alloc, &mut FromRead::new(SCRIPT.as_bytes()))?;
+    let mut out = Vec::new(alloc);
+    let played = {
+        let mut sink = ToWrite::new(Full {
+            taken: &mut out,
+            piece: 64,
+            room,
+        });
+        night_on(
+            rt,
+            alloc,
+            board,
+            pass,
+            &night,
+            &mut sink,
+            b'A',
+            0,
+            &OpenGate,
+            Profile::Uefa,
+        )
+    };
+    let played = played.ok().ok_or("no night")?;
+    Ok((played.end.settled.version, played.written, out.len()))
+}
+
+#[test]
+fn nights_on_boards_that_are_handed_in(rt: HostRuntime) -> Result<(), Fail> {
+    let alloc = rt.alloc();
+    let whole = SCREEN.len() + 6;
+    let (board, pass) = CellBoard::open(&rt, alloc)?;
+    let played = played_on(&rt, alloc, &board, pass, usize::MAX)?;
+    assert_eq!(rt; played, (1, Ok(()), whole));
+    let (board, pass) = WordBoard::open(&rt, alloc)?;
+    let played = played_on(&rt, alloc, &board, pass, usize::MAX)?;
+    assert_eq!(rt; played, (1, Ok(()), whole));
+    let (board, pass) = WordBoard::open(&rt, alloc)?;
+    let played = played_on(&rt, alloc, &board, pass, 9)?;
+    let cut = Err(RunFault::WriteFailed { written: 9 });
+    assert_eq!(rt; played, (1, cut, 9));
+    Ok(())
+}
+
+#[test]
+fn lines_that_never_wait(rt: HostRuntime) -> Result<(), Fail> {
+    let alloc = rt.alloc();
+    let mut out = Vec::new(alloc);
+    let fed = feed(
+        alloc,
+        &mut FromRead::new(SCRIPT.as_bytes()),
+        &mut ToWrite::new(&mut out),
+    );
+    assert!(rt; fed.is_ok() && out.as_slice() == REPLIES.as_bytes());
+    let mut out = Vec::new(alloc);
+    let shown = show(
+        alloc,
+        &mut FromRead::new(SHEET.as_bytes()),
+        &mut ToWrite::new(&mut out),
+        b'A',
+        Profile::Uefa,
+    );
+    assert!(rt; shown.is_ok() && out.as_slice() == SCREEN.as_bytes());
     Ok(())
 }

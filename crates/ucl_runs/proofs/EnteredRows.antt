@@ -126,7 +126,7 @@ module _ (k m z : PassView) (reporter : ℕ) (rows : List NightEvent) (row : Nig
 pub goes_on : (k m z : PassView) → Continues k m → Continues m z → Continues k z
 goes_on k m z a b = record {
   sound = b.sound;
-  on = record { seen = begins_through k.seen m.seen z.seen a.on.seen b.on.seen; listed = (let x = a.on.listed in let y = b.on.listed in omega arith) };
+  on = record { seen = begins_through k.seen m.seen z.seen a.on.seen b.on.seen; listed = (let x = a.on.listed in let y = b.on.listed in omega arith); share = b.on.share ∙ a.on.share };
   number = b.number ∙ a.number;
 }
 

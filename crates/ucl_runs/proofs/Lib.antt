@@ -1,10 +1,12 @@
 pub mod Texts
 pub mod RunFacts
 pub mod Screens
+pub mod ShownVersions
 pub mod Points
 pub mod Parts
 pub mod Duty
 pub mod WorkSteps
+pub mod GateFacts
 pub mod EnteredRows
 pub mod MergedRows
 pub mod Merges

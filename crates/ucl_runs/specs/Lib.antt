@@ -2,6 +2,7 @@ pub mod Faults
 pub mod Lines
 pub mod Feed
 pub mod Nights
+pub mod Gates
 pub mod Workers
 pub mod Show
 pub mod Run

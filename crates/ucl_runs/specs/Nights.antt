@@ -1,13 +1,16 @@
 -- A night: the rows of a script, entered by two reporters in threads of their own while readers look on.
 use Rattle.std.specs.Prelude.{◌≡◌, ◌⊎◌, ℕ, ◌+◌, ◌<◌, ◌≤◌, ◌==◌, true, false, List, [], ◌∷◌, ◌++◌, All, length, map, take, slice_get, slice_index_or, Option, Some, None, option_map, if◌then◌else◌, codes, String, string_bytes}
+use Rattle.std.specs.List.Sorted.{IsNonDecreasing}
 use Rattle.std.specs.Result.{is_ok}
+use mathlib.Core.List.{IsPrefix}
 use Rattle.ucl_board.specs.declared.entry.Entry.{Entry}
 use Rattle.ucl_board.specs.History.{IsLegal, Attempt, entry_of, sequential_reply, accepted_of, board_of}
 use Rattle.ucl_order.specs.declared.profile.Profile.{Profile}
 use Rattle.ucl_order.specs.Roster.{NamedClub}
 use Rattle.ucl_screen.specs.declared.night.NightEvent.{NightEvent}
 use Rattle.ucl_screen.specs.Screen.{screen_text}
-use Rattle.ucl_pass.specs.Passes.{PassView, IsSound, SeesOn, Continues}
+use Rattle.ucl_pass.specs.Passes.{PassView, IsSound, SeesOn, Continues, kept_pass, split_pass}
+use Rattle.ucl_pass.specs.Shares.{first_half, second_half}
 use Rattle.ucl_runs.specs.declared.fault.RunFault.{RunFault}
 use Rattle.ucl_runs.specs.Run.{MatchDuty}
 
@@ -65,13 +68,21 @@ pub record IsMerge (number : ℕ → ℕ) (rows : List NightEvent) (history : Li
       → ComesFirst history (attempt_by number row) (point i) (point j)
   pub one_row : (p : ℕ) → p < length history → IsOfOneRow number rows point history p
 
--- the history at a version, as the second of two reporters' passes has seen it, is a merge of the rows under the numbers of both
+-- the history of a night is that of the settled version, as the second of two reporters' passes has seen it
+abbrev pub night_history : PassView → ℕ → List Entry
+night_history second version = take version second.seen
+
+-- it is a merge of the rows under the numbers of both
 abbrev pub HaveMerged : PassView → PassView → List NightEvent → ℕ → Type 0
-HaveMerged first second rows version = IsMerge (number_of_two first.number second.number) rows (take version second.seen)
+HaveMerged first second rows version = IsMerge (number_of_two first.number second.number) rows (night_history second version)
 
 -- the second of two reporters' passes has seen this version, and both have entered just so many events
 abbrev pub HaveEnteredAll : PassView → PassView → ℕ → Type 0
 HaveEnteredAll first second version = (version ≤ length second.seen) × (length first.mine + length second.mine ≡ version)
+
+-- of two reporters' passes the first has shown nothing, and the second this version alone
+abbrev pub HaveRead : PassView → PassView → ℕ → Type 0
+HaveRead first second version = (first.shown ≡ []) × (second.shown ≡ version ∷ [])
 
 -- rows of one match are all of one reporter
 abbrev pub EachMatchHasOneReporter : List NightEvent → Type 0
@@ -98,13 +109,27 @@ pub record IsOwnRow (number reporter : ℕ) (rows : List NightEvent) (point : �
   pub point_is : point index ≡ p
   pub entered : IsEnteredAt history (number, row.call) p
 
+-- the readers' passes as they were split off the lent one, which had given a pass to reporter 2 before
+abbrev pub pass_of_reader_1 : PassView → PassView
+pass_of_reader_1 lent = split_pass (kept_pass lent)
+
+abbrev pub pass_of_reader_2 : PassView → PassView
+pass_of_reader_2 lent = split_pass (kept_pass (kept_pass lent))
+
+-- the passes of two reporters and two readers have the whole share of the lent one, which was halved three times
+pub record HaveShares (lent one two left right : PassView) : Type 0 where
+  pub reporter_2 : two.share ≡ second_half lent.share
+  pub reader_1 : left.share ≡ second_half (first_half lent.share)
+  pub reader_2 : right.share ≡ second_half (first_half (first_half lent.share))
+  pub reporter_1 : one.share ≡ first_half (first_half (first_half lent.share))
+
 -- a reporter's pass that has entered nothing yet
 abbrev pub IsFresh : PassView → Type 0
 IsFresh k = IsSound k × (k.mine ≡ [])
 
--- a reader's pass that has seen a legal history and has shown nothing yet
+-- a reader's pass that has shown nothing yet
 abbrev pub IsNew : PassView → Type 0
-IsNew k = IsLegal k.seen × (k.shown ≡ [])
+IsNew k = k.shown ≡ []
 
 -- a reporter's pass, k before and m after, has entered its rows of a script in their order: each has its point, and each entry under the
 -- number of the pass is one of them
@@ -119,25 +144,26 @@ pub record HasEntered (k m : PassView) (reporter : ℕ) (rows : List NightEvent)
 
 -- the last screen of a reader: none where no version was shown, else the screen of the board of the last version, in the order of the
 -- profile
-pub record IsScreenOfLast (profile : Profile) (seen : List Entry) (versions : List ℕ) (roster : List NamedClub) (group : ℕ) (text : List ℕ) : Type 0 where
+pub record IsScreenOfLast (profile : Profile) (history : List Entry) (versions : List ℕ) (roster : List NamedClub) (group : ℕ) (text : List ℕ) : Type 0 where
   pub before : List ℕ
   pub version : ℕ
   pub last : versions ≡ before ++ version ∷ []
-  pub text_is : text ≡ screen_text profile (board_of (take version seen)) roster group
+  pub text_is : text ≡ screen_text profile (board_of (take version history)) roster group
 
 abbrev pub IsLastScreen : Profile → List Entry → List ℕ → List NamedClub → ℕ → Option (List ℕ) → Type 0
-IsLastScreen profile seen versions roster group None = versions ≡ []
-IsLastScreen profile seen versions roster group (Some text) = IsScreenOfLast profile seen versions roster group text
+IsLastScreen profile history versions roster group None = versions ≡ []
+IsLastScreen profile history versions roster group (Some text) = IsScreenOfLast profile history versions roster group text
 
--- a reader's pass m, which came from k, has seen a legal history and has shown so many versions, none below what k had seen and none above
--- what m has, and this is its last screen
-pub record HasShown (profile : Profile) (k m : PassView) (readings : ℕ) (roster : List NamedClub) (group : ℕ) (last : Option (List ℕ)) : Type 0 where
-  pub legal : IsLegal m.seen
+-- a reader's pass m, which came from k, has seen a beginning of a history and has shown so many of its versions, which never fall, none
+-- below what k had seen and none above what m has, and this is its last screen
+pub record HasShown (profile : Profile) (history : List Entry) (k m : PassView) (readings : ℕ) (roster : List NamedClub) (group : ℕ) (last : Option (List ℕ)) : Type 0 where
   pub on : SeesOn k m
+  pub seen : IsPrefix m.seen history
   pub many : length m.shown ≡ readings
+  pub rises : IsNonDecreasing m.shown
   pub low : All (λ version. length k.seen ≤ version) m.shown
   pub high : All (λ version. version ≤ length m.seen) m.shown
-  pub last_is : IsLastScreen profile m.seen m.shown roster group last
+  pub last_is : IsLastScreen profile history m.shown roster group last
 
 -- a row is the first whose reporter is not on duty: event i, counted from 1, is row i + 4
 pub record IsFirstOffDuty (rows : List NightEvent) (row : ℕ) : Type 0 where

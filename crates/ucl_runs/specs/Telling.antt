@@ -1,5 +1,5 @@
 -- What is told on an error sink.
-use Rattle.std.specs.Prelude.{◌≡◌, ◌⊎◌, ℕ, ◌<◌, Bool, true, List, [], ◌++◌, length, take, Option, Some, None, codes, decimal}
+use Rattle.std.specs.Prelude.{◌≡◌, ◌⊎◌, ℕ, ◌+◌, ◌<◌, ◌≤◌, Bool, true, false, List, [], ◌++◌, length, take, Option, Some, None, codes, decimal}
 use Rattle.std.specs.Io.KnownBytes.{Appends}
 use Rattle.ucl_runs.specs.declared.fault.RunFault.{RunFault}
 use Rattle.ucl_runs.specs.declared.telling.FaultLine.{FaultLine}
@@ -15,6 +15,11 @@ pub record BrokeOff (failed : Bool) (old new : Option (List ℕ)) (text : List �
 -- a text was told on the error sink, as far as it took any
 abbrev pub Tells : Bool → Option (List ℕ) → Option (List ℕ) → List ℕ → Type 0
 Tells failed old new text = Appends old new text ⊎ BrokeOff failed old new text
+
+-- of the calls that were made to tell a text none was in vain, but the last one where the error sink has failed
+abbrev pub VainlyTells : Bool → ℕ → ℕ → Type 0
+VainlyTells false old new = new ≡ old
+VainlyTells true old new = new ≤ old + 1
 
 -- the line of a fault
 abbrev pub fault_line : RunFault → List ℕ

@@ -1,16 +1,31 @@
 //! Who looks on while a night goes on.
 
+ghost use Rattle.ucl_runs.specs.Gates.{IsScreenOf};
+
 use ucl_board::Reading;
 
 /// What the workers of a night tell of their calls, in threads of their own. Workers 1 and 2 are the reporters, 3 and 4 the
 /// readers. What a night promises holds whatever a gate does: it may wait, count or write down what it is told. But it can hold workers up, and
-/// so decide which merge of the rows comes out, and whether the night ends.
+/// so decide which merge of the rows comes out, and whether the night ends. It may rely on what it is shown: no text is told to it but
+/// the screen of the reading beside it, which is the board after a beginning of a legal history.
 pub trait Gate: Sync {
+    ghost use Rattle.std.specs.Prelude.{ℕ, List};
+    ghost use Rattle.ucl_board.specs.declared.reading.Reading.{Reading};
+
+    /// What holds once a worker has come to a call.
+    ghost came: { Self → ℕ → ℕ → Type 0 };
+
+    /// What holds once a worker has shown the screen of a reading.
+    ghost showed: { Self → ℕ → Reading → List ℕ → Type 0 };
+
     /// Comes before each of a worker's calls on the board, which are counted from 0 (and, past `u32::MAX`, from 0 again).
-    fn come(&self, worker: u8, call: u32);
+    fn come(&self, worker: u8, call: u32)
+        ensures { came self.now worker call };
 
     /// Comes after each screen of a reader, with the reading that it is of.
-    fn shown(&self, worker: u8, reading: &Reading, text: &str);
+    fn shown(&self, worker: u8, reading: &Reading, text: &str)
+        requires { IsScreenOf reading.now text.now }
+        ensures { showed self.now worker reading.now text.now };
 }
 
 /// The gate that holds nobody up.
@@ -18,6 +33,12 @@ pub trait Gate: Sync {
 pub struct OpenGate;
 
 impl Gate for OpenGate {
+    ghost use Rattle.std.specs.Prelude.{⊤};
+
+    ghost came = { λ _ _ _. ⊤ };
+
+    ghost showed = { λ _ _ _ _. ⊤ };
+
     fn come(&self, _worker: u8, _call: u32) {}
 
     fn shown(&self, _worker: u8, _reading: &Reading, _text: &str) {}

@@ -2,10 +2,13 @@
 
 ghost use Rattle.std.specs.Prelude.{◌≡◌, ◌≢◌, All, IfOk, IfErr, MatchResult, OnOk, string_bytes};
 ghost use Rattle.std.specs.Io.KnownBytes.{Appends};
+ghost use mathlib.Core.List.{IsPrefix};
 ghost use Rattle.ucl_board.specs.History.{snapshot_at};
 ghost use Rattle.ucl_screen.specs.Screen.{IsGroup, screen_text};
+ghost use Rattle.ucl_screen.specs.Stream.{VainlyGives};
 ghost use Rattle.ucl_runs.specs.Faults.{IsOfNight};
-ghost use Rattle.ucl_runs.specs.Nights.{HasShown, HaveEnteredAll, HaveMerged, HaveNightBoard, IsDutyTold, IsFirstOffDuty, IsOnDuty, last_shown, night_output};
+ghost use Rattle.ucl_runs.specs.Gates.{HaveCalled, Showed};
+ghost use Rattle.ucl_runs.specs.Nights.{HasShown, HaveEnteredAll, HaveMerged, HaveNightBoard, HaveRead, HaveShares, IsDutyTold, IsFirstOffDuty, IsOnDuty, last_shown, night_history, night_output, pass_of_reader_1, pass_of_reader_2};
 ghost use Rattle.ucl_runs.specs.Run.{IsStopped, MatchDuty};
 
 use crate::RunFault;
@@ -60,7 +63,8 @@ fn check_duty(rows: &[NightEvent]) -> Result<(), RunFault>
 }
 
 /// Runs a night on a live board: two reporters enter the rows of the script in threads of their own, each its rows in script
-/// order, while two readers take so many readings and render the screen of each; then the reporters settle.
+/// order, while two readers take so many readings and render the screen of each; then reporter 2 meets both readers, and the
+/// reporters settle: so what was shown is of the history that is settled.
 ///
 /// `pass` is a reader's pass of the board. It is split three times, and it and one of the others are enlisted, before any
 /// thread starts. `group` has to be the letter of a group. All screens are in the order of
@@ -71,9 +75,9 @@ fn check_duty(rows: &[NightEvent]) -> Result<(), RunFault>
 ///
 /// In this order: `NotOnDuty` with the first row of a reporter other than 1 and 2, and then nothing was entered;
 /// `TooManyReporters` where the board has no two numbers left; `NoThread` where a worker had no thread; `OutOfMemory` where a
-/// reader had no memory for a screen; `Strangers` where the board has events of a third reporter; `OutOfMemory` where there was
-/// none for the closing screen. Workers that run go on to their end before the answer. The board keeps the events that it
-/// accepted, and no pass is handed back.
+/// reader had no memory for a screen; `Strangers` where the board has events of a third reporter, which a reader alone may have
+/// seen; `OutOfMemory` where there was none for the closing screen. Workers that run go on to their end before the answer. The
+/// board keeps the events that it accepted, and no pass is handed back.
 pub fn night_run<B: LiveBoard, G: Gate, R: Threads + Wait + Sync>(
     rt: &R,
     alloc: Global,
@@ -107,12 +111,26 @@ pub fn night_run<B: LiveBoard, G: Gate, R: Threads + Wait + Sync>(
     // Reporter 2's pass has seen the settled history, and both reporters have entered just its events: none after it.
     ensures count { IfOk result (λ end. HaveEnteredAll (B.reporter end.reporter_1) (B.reporter end.reporter_2) end.settled.version) }
 
+    // Reporter 1's pass has seen a beginning of the settled history.
+    ensures beginning { IfOk result (λ end. IsPrefix (B.reporter end.reporter_1).seen (night_history (B.reporter end.reporter_2) end.settled.version)) }
+
+    // Of the reporters' passes, that of reporter 1 has shown nothing, and that of reporter 2 the settled version alone.
+    ensures readings { IfOk result (λ end. HaveRead (B.reporter end.reporter_1) (B.reporter end.reporter_2) end.settled.version) }
+
     // Where each match has one reporter, the schedule does not matter.
     ensures board { IfOk result (λ end. HaveNightBoard (B.reporter end.reporter_1) (B.reporter end.reporter_2) night.entry.now.events.items end.settled.board) }
 
-    // What the readers showed.
-    ensures shown_1 { IfOk result (λ end. HasShown profile (B.reader pass) (B.reader end.reader_1) readings night.entry.now.roster group (last_shown end.last 0)) }
-    ensures shown_2 { IfOk result (λ end. HasShown profile (B.reader pass) (B.reader end.reader_2) readings night.entry.now.roster group (last_shown end.last 1)) }
+    // The four passes have the whole share of the pass that was lent: it was halved three times.
+    ensures shares { IfOk result (λ end. HaveShares (B.reader pass) (B.reporter end.reporter_1) (B.reporter end.reporter_2) (B.reader end.reader_1) (B.reader end.reader_2)) }
+
+    // What the readers showed are versions of the history that was settled, which has all that they and the lent pass have seen.
+    ensures shown_1 { IfOk result (λ end. HasShown profile (night_history (B.reporter end.reporter_2) end.settled.version) (pass_of_reader_1 (B.reader pass)) (B.reader end.reader_1) readings night.entry.now.roster group (last_shown end.last 0)) }
+    ensures shown_2 { IfOk result (λ end. HasShown profile (night_history (B.reporter end.reporter_2) end.settled.version) (pass_of_reader_2 (B.reader pass)) (B.reader end.reader_2) readings night.entry.now.roster group (last_shown end.last 1)) }
+
+    // The gate was told of each call of each worker, and of the screen of each reading, which is of a version of the settled history.
+    ensures called { IfOk result (λ _. HaveCalled (G.came gate.entry.now) night.entry.now.events.items readings) }
+    ensures showed_1 { IfOk result (λ end. Showed (G.showed gate.entry.now) 3 profile (night_history (B.reporter end.reporter_2) end.settled.version) (B.reader end.reader_1).shown night.entry.now.roster group) }
+    ensures showed_2 { IfOk result (λ end. Showed (G.showed gate.entry.now) 4 profile (night_history (B.reporter end.reporter_2) end.settled.version) (B.reader end.reader_2).shown night.entry.now.roster group) }
 {
     check_duty(&night.events)?;
     let second = board.split(rt, &mut pass);
@@ -136,8 +154,10 @@ pub fn night_run<B: LiveBoard, G: Gate, R: Threads + Wait + Sync>(
         gate,
         profile,
     )?;
-    let left = left?;
-    let right = right?;
+    let mut left = left?;
+    let mut right = right?;
+    board.meet_reader(rt, &mut left.pass, &mut reporter_2);
+    board.meet_reader(rt, &mut right.pass, &mut reporter_2);
     let settled = settle(board, rt, &mut reporter_1, &mut reporter_2)?;
     let closing = screen(alloc, &settled.board, &night.roster, group, profile)?;
     Ok(NightEnd {
@@ -157,10 +177,12 @@ pub fn night_run<B: LiveBoard, G: Gate, R: Threads + Wait + Sync>(
 /// # Errors
 ///
 /// `WriteFailed`, only where the sink has failed: exactly the first `written` bytes of the output went out. (Were they more
-/// than `usize::MAX`, that would be told.)
+/// than `usize::MAX`, that would be told.) A sink that has failed is not called again, and none is called with nothing.
 pub fn put_night<R, P, W: Sink>(end: &NightEnd<R, P>, sink: &mut W) -> Result<(), RunFault>
     ensures all { OnOk result (Appends (W.taken sink.old) (W.taken sink.new) (night_output end.now.last end.now.closing)) }
     ensures part { IfErr result (IsStopped 0 (W.failed sink.new) (W.taken sink.old) (W.taken sink.new) (night_output end.now.last end.now.closing)) }
+    ensures sound { OnOk result (W.failed sink.new ≡ W.failed sink.old) }
+    ensures vain { VainlyGives (W.in_vain sink.old) (W.in_vain sink.new) result }
 {
     let written = put_lasts(sink, &end.last)?;
     match put_under(sink, written, "FINAL\n", end.closing.as_str()) {

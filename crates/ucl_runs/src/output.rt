@@ -2,16 +2,19 @@
 
 ghost use Rattle.std.specs.Prelude.{◌≡◌, ◌+◌, ◌-◌, ◌^◌, ◌++◌, codes, min, length, OnOk, IfOk, IfErr, option_map, string_bytes};
 ghost use Rattle.std.specs.Io.KnownBytes.{Appends};
+ghost use Rattle.ucl_screen.specs.Stream.{VainlyGives};
 ghost use Rattle.ucl_runs.specs.Nights.{last_shown, last_text, lasts_text};
 ghost use Rattle.ucl_runs.specs.Run.{IsCutShort, IsStopped};
 
 use crate::RunFault;
 use ucl_screen::{Sink, give_all};
 
-/// Writes a whole text.
+/// Writes a whole text. A sink that has failed is not called again, and none is called with nothing.
 pub fn put_text<W: Sink>(sink: &mut W, text: &str) -> Result<(), RunFault>
     ensures all { OnOk result (Appends (W.taken sink.old) (W.taken sink.new) text.now) }
     ensures part { IfErr result (IsCutShort (W.failed sink.new) (W.taken sink.old) (W.taken sink.new) text.now) }
+    ensures sound { OnOk result (W.failed sink.new ≡ W.failed sink.old) }
+    ensures vain { VainlyGives (W.in_vain sink.old) (W.in_vain sink.new) result }
 {
     match give_all(sink, text.as_bytes()) {
         Ok(()) => Ok(()),
@@ -25,6 +28,8 @@ pub fn put_part<W: Sink>(sink: &mut W, before: usize, part: &str) -> Result<usiz
     ensures all { OnOk result (Appends (W.taken sink.old) (W.taken sink.new) part.now) }
     ensures count { IfOk result (λ after. after ≡ min (before + length part.now) (2 ^ 64 - 1)) }
     ensures part { IfErr result (IsStopped before (W.failed sink.new) (W.taken sink.old) (W.taken sink.new) part.now) }
+    ensures sound { OnOk result (W.failed sink.new ≡ W.failed sink.old) }
+    ensures vain { VainlyGives (W.in_vain sink.old) (W.in_vain sink.new) result }
 {
     match give_all(sink, part.as_bytes()) {
         Ok(()) => Ok(before.saturating_add(part.len())),
@@ -45,6 +50,8 @@ pub fn put_under<W: Sink>(
     ensures all { OnOk result (Appends (W.taken sink.old) (W.taken sink.new) (heading.now ++ text.now)) }
     ensures count { IfOk result (λ after. after ≡ min (before + length (heading.now ++ text.now)) (2 ^ 64 - 1)) }
     ensures part { IfErr result (IsStopped before (W.failed sink.new) (W.taken sink.old) (W.taken sink.new) (heading.now ++ text.now)) }
+    ensures sound { OnOk result (W.failed sink.new ≡ W.failed sink.old) }
+    ensures vain { VainlyGives (W.in_vain sink.old) (W.in_vain sink.new) result }
 {
     let before = put_part(sink, before, heading)?;
     put_part(sink, before, text)
@@ -60,6 +67,8 @@ pub fn put_line<W: Sink>(
 ) -> Result<usize, RunFault>
     ensures all { OnOk result (Appends (W.taken sink.old) (W.taken sink.new) ((before.now ++ number.now) ++ (after.now ++ codes "\n"))) }
     ensures part { IfErr result (IsStopped 0 (W.failed sink.new) (W.taken sink.old) (W.taken sink.new) ((before.now ++ number.now) ++ (after.now ++ codes "\n"))) }
+    ensures sound { OnOk result (W.failed sink.new ≡ W.failed sink.old) }
+    ensures vain { VainlyGives (W.in_vain sink.old) (W.in_vain sink.new) result }
 {
     let written = put_under(sink, 0, before, number)?;
     put_under(sink, written, after, "\n")
@@ -75,6 +84,8 @@ pub fn put_last<W: Sink>(
     ensures all { OnOk result (Appends (W.taken sink.old) (W.taken sink.new) (last_text heading.now (option_map string_bytes last.now))) }
     ensures count { IfOk result (λ after. after ≡ min (before + length (last_text heading.now (option_map string_bytes last.now))) (2 ^ 64 - 1)) }
     ensures part { IfErr result (IsStopped before (W.failed sink.new) (W.taken sink.old) (W.taken sink.new) (last_text heading.now (option_map string_bytes last.now))) }
+    ensures sound { OnOk result (W.failed sink.new ≡ W.failed sink.old) }
+    ensures vain { VainlyGives (W.in_vain sink.old) (W.in_vain sink.new) result }
 {
     match last {
         Some(text) => put_under(sink, before, heading, text.as_str()),
@@ -88,6 +99,8 @@ pub fn put_lasts<W: Sink>(sink: &mut W, last: &[Option<String>; 2]) -> Result<us
     ensures all { OnOk result (Appends (W.taken sink.old) (W.taken sink.new) (lasts_text (last_shown last.now 0) (last_shown last.now 1))) }
     ensures count { IfOk result (λ after. after ≡ min (length (lasts_text (last_shown last.now 0) (last_shown last.now 1))) (2 ^ 64 - 1)) }
     ensures part { IfErr result (IsStopped 0 (W.failed sink.new) (W.taken sink.old) (W.taken sink.new) (lasts_text (last_shown last.now 0) (last_shown last.now 1))) }
+    ensures sound { OnOk result (W.failed sink.new ≡ W.failed sink.old) }
+    ensures vain { VainlyGives (W.in_vain sink.old) (W.in_vain sink.new) result }
 {
     let written = put_last(sink, 0, "READER 1\n", &last[0])?;
     put_last(sink, written, "READER 2\n", &last[1])

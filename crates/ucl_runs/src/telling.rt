@@ -3,7 +3,7 @@
 ghost use Rattle.std.specs.Prelude.{◌≡◌, ◌++◌, codes, decimal};
 ghost use Rattle.ucl_screen.specs.Texts.{input_fault_text};
 ghost use Rattle.ucl_runs.specs.Faults.{fault_text, status};
-ghost use Rattle.ucl_runs.specs.Telling.{Tells, fault_line, parts_text};
+ghost use Rattle.ucl_runs.specs.Telling.{Tells, VainlyTells, fault_line, parts_text};
 
 use crate::output::put_line;
 use crate::{RunFault, status_of};
@@ -94,10 +94,12 @@ impl FaultLine {
     }
 }
 
-/// Tells of a fault by its line, as far as the error sink takes it, and gives the exit status. No memory is taken.
+/// Tells of a fault by its line, as far as the error sink takes it, and gives the exit status. No memory is taken. A sink
+/// that has failed is not called again, and none is called with nothing.
 pub fn tell<E: Sink>(errors: &mut E, fault: RunFault) -> u8
     ensures status { result ≡ status fault }
     ensures told { Tells (E.failed errors.new) (E.taken errors.old) (E.taken errors.new) (fault_line fault) }
+    ensures vain { VainlyTells (E.failed errors.new) (E.in_vain errors.old) (E.in_vain errors.new) }
 {
     let line = FaultLine::of(&fault);
     let mut buffer = Buffer::new();

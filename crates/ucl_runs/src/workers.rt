@@ -2,6 +2,7 @@
 
 ghost use Rattle.std.specs.Prelude.{IfOk, option_map, string_bytes};
 ghost use Rattle.ucl_screen.specs.Screen.{IsGroup};
+ghost use Rattle.ucl_runs.specs.Gates.{CameTo, Showed, rows_by};
 ghost use Rattle.ucl_runs.specs.Nights.{IsFresh, IsNew, HasEntered, HasShown};
 
 use crate::gate::Gate;
@@ -26,6 +27,7 @@ pub fn enter_rows<B: LiveBoard, G: Gate, R: Wait>(
     requires fresh { IsFresh (B.reporter pass) }
     ensures own { B.is_reporter board.entry.now result }
     ensures entered { HasEntered (B.reporter pass) (B.reporter result) reporter rows.entry.now }
+    ensures came { CameTo (G.came gate.entry.now) reporter (rows_by reporter rows.entry.now) }
 {
     let mut call: u32 = 0;
     for row in rows {
@@ -63,7 +65,9 @@ pub fn show_screens<B: LiveBoard, G: Gate, R: Wait>(
     requires new { IsNew (B.reader pass) }
     requires group { IsGroup group }
     ensures own { IfOk result (λ end. B.is_reader board.entry.now end.pass) }
-    ensures shown { IfOk result (λ end. HasShown profile (B.reader pass) (B.reader end.pass) readings roster.entry.now group (option_map string_bytes end.last)) }
+    ensures shown { IfOk result (λ end. HasShown profile (B.reader end.pass).seen (B.reader pass) (B.reader end.pass) readings roster.entry.now group (option_map string_bytes end.last)) }
+    ensures came { IfOk result (λ _. CameTo (G.came gate.entry.now) worker readings) }
+    ensures showed { IfOk result (λ end. Showed (G.showed gate.entry.now) worker profile (B.reader end.pass).seen (B.reader end.pass).shown roster.entry.now group) }
 {
     let mut last = None;
     for call in 0..readings {

@@ -1,5 +1,5 @@
 -- What the rows of an input are refused for.
-use Rattle.std.proofs.Common.{◌≡◌, ℕ, zero, suc, ◌+◌, ◌≤◌, Bool, false, List, [], ◌∷◌, length, Option, Some, None, refl, sym, subst}
+use Rattle.std.proofs.Common.{◌≡◌, ℕ, zero, suc, ◌+◌, ◌≤◌, Bool, false, List, [], ◌∷◌, length, Option, Some, None, refl, sym, ◌∙◌, subst, true≢false}
 use Rattle.std.proofs.lemmas.Bool.{le-leb}
 use Rattle.std.specs.Prelude.{Result, Ok, Err, IfSome, ⊤}
 use Rattle.ucl_order.specs.Roster.{NamedClub, bad_slot}
@@ -8,7 +8,7 @@ use Rattle.ucl_screen.specs.declared.fault.InputFault.TheVariants as fault
 use Rattle.ucl_board.specs.Words.{AreReadAs, IsFirstBad}
 use Rattle.ucl_screen.specs.declared.night.Night.{Night}
 use Rattle.ucl_screen.specs.declared.sheet.Sheet.{Sheet}
-use Rattle.ucl_screen.specs.Input.{Reads, whole_input}
+use Rattle.ucl_screen.specs.Input.{Reads, CallsRead, whole_input}
 use Rattle.ucl_screen.specs.Rows.{Fields, rows_of}
 use Rattle.ucl_screen.specs.Events.{event_of}
 use Rattle.ucl_screen.specs.Script.{◌>>=◌, said_by, or_bad, club_of, club_at, if_good, roster_at, events_from, word_of_row, words_from, WrittenSheet, night_of_rows, sheet_of_rows, sheet_of}
@@ -131,3 +131,14 @@ pub sheet-tested : (sheet : WrittenSheet) (index : ℕ) (old new : Option (List 
     → IfSome old (λ xs. whole_input xs ≡ Ok bytes) → rows_say bytes (Ok sheet) → IsFirstBad sheet.words index → Reads MeansSheet sheet_seen old new failed (Err (fault.BadWordAt index))
 sheet-tested sheet index old new failed bytes f h g bad =
     (f, both-known old (λ xs. sheet_of xs ≡ Ok sheet) (λ xs. MeansSheet xs (Err (fault.BadWordAt index))) (sheet-known old bytes (Ok sheet) h g) (λ xs e. (sheet, e, bad)))
+
+-- a read that did not fail made its calls for the bytes that were left, whatever these mean
+pub calls-read : {V E : Type 0} (Means : List ℕ → Result E InputFault → Type 0) (view : V → E) (left after : Option (List ℕ)) (failed : Bool) (old new : ℕ) (r : Result V InputFault)
+    → failed ≡ false → Reads Means view left after failed r → IfSome left (λ bytes. new ≤ old + length bytes + 1) → CallsRead left old new r
+calls-read Means view left after failed old new (Ok v) f reads h = h
+calls-read Means view left after failed old new (Err (fault.BadWordAt index)) f reads h = h
+calls-read Means view left after failed old new (Err (fault.BadRow row)) f reads h = h
+calls-read Means view left after failed old new (Err (fault.BadRoster slot)) f reads h = h
+calls-read Means view left after failed old new (Err (fault.ReadFailed n)) f reads h = absurd (true≢false (sym reads.0 ∙ f))
+calls-read Means view left after failed old new (Err fault.OutOfMemory) f reads h = h
+calls-read Means view left after failed old new (Err fault.TooLong) f reads h = h

@@ -1,5 +1,5 @@
 -- What reading an input to its end gives.
-use Rattle.std.specs.Prelude.{◌≡◌, ℕ, nat_le, Bool, true, false, if◌then◌else◌, List, length, Option, IfSome, Result, Ok, Err}
+use Rattle.std.specs.Prelude.{◌≡◌, ℕ, ◌+◌, ◌≤◌, nat_le, Bool, true, false, if◌then◌else◌, List, length, Option, IfSome, Result, Ok, Err}
 use Rattle.ucl_screen.specs.declared.fault.InputFault.{InputFault}
 use Rattle.ucl_screen.specs.declared.fault.InputFault.TheVariants.{ReadFailed, OutOfMemory, TooLong}
 use Rattle.ucl_screen.specs.Stream.{MovesCount}
@@ -15,3 +15,9 @@ Reads Means view old new failed (Ok v) = (failed ≡ false) × IfSome old (λ by
 Reads Means view old new failed (Err (ReadFailed n)) = (failed ≡ true) × MovesCount old new n
 Reads Means view old new failed (Err OutOfMemory) = failed ≡ false
 Reads Means view old new failed (Err fault) = (failed ≡ false) × IfSome old (λ bytes. Means bytes (Err fault))
+
+-- at most one call was made for each byte that was left, where those are known, or that came before a failure, and one more that told
+-- the end or failed
+abbrev pub CallsRead : {V : Type 0} → Option (List ℕ) → ℕ → ℕ → Result V InputFault → Type 0
+CallsRead left old new (Err (ReadFailed n)) = new ≤ old + n + 1
+CallsRead left old new _ = IfSome left (λ bytes. new ≤ old + length bytes + 1)

@@ -1,5 +1,5 @@
 -- What calls do to the bytes that a source has left and that a sink has taken, where those are known.
-use Rattle.std.specs.Prelude.{◌≡◌, ℕ, List, length, take, Option, Some, None}
+use Rattle.std.specs.Prelude.{◌≡◌, ℕ, zero, suc, ◌+◌, ◌≤◌, List, length, take, Option, Some, None, Result, Ok, Err}
 use Rattle.std.specs.Io.KnownBytes.{Keeps, Appends, Consumes}
 
 -- `Some(n)` moves the first n bytes into the buffer, and `None` moves nothing
@@ -15,3 +15,19 @@ Gives old new (Some n) text = Appends old new (take n text)
 -- n bytes were moved, the first of those that were left
 abbrev pub MovesCount : Option (List ℕ) → Option (List ℕ) → ℕ → Type 0
 MovesCount old new n = (bytes : List ℕ) × (length bytes ≡ n) × Consumes old new bytes
+
+-- how many calls were in vain, one call later: one more where it moved no byte
+abbrev pub vain_after : ℕ → Option ℕ → ℕ
+vain_after before None = before + 1
+vain_after before (Some zero) = before + 1
+vain_after before (Some (suc n)) = before
+
+-- at most one call was made for each byte of a text that went out, and one more where it failed
+abbrev pub CallsGive : {V : Type 0} → ℕ → ℕ → ℕ → Result V ℕ → Type 0
+CallsGive old new all (Ok v) = new ≤ old + all
+CallsGive old new all (Err out) = new ≤ old + out + 1
+
+-- of the calls that were made to give a text none was in vain, but the last one where it failed
+abbrev pub VainlyGives : {V E : Type 0} → ℕ → ℕ → Result V E → Type 0
+VainlyGives old new (Ok v) = new ≡ old
+VainlyGives old new (Err e) = new ≡ old + 1

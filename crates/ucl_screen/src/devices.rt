@@ -29,12 +29,14 @@ fn given_by(answer: &io::Result<usize>) -> Option<usize>
 }
 
 /// A reader as a source. Any error of the reader is a failure, and after it the reader is not called again. A buffer
-/// without room does not reach the reader.
+/// without room does not reach the reader. That the reader is called, once for each other call, and that no call fails but for
+/// it, is held by tests: std's readers have nothing by which a clause could say it.
 #[derive(Drop)]
 pub struct FromRead<R> {
     reader: R,
     has_failed: bool,
     calls: Tally,
+    in_vain: Tally,
 }
 
 impl<R: Read> FromRead<R> {
@@ -47,6 +49,7 @@ impl<R: Read> FromRead<R> {
             reader,
             has_failed: false,
             calls: Tally::start(),
+            in_vain: Tally::start(),
         }
     }
 }
@@ -56,29 +59,38 @@ impl<R: Read> Source for FromRead<R> {
 
     ghost calls = { λ s. s.calls.value };
 
+    ghost in_vain = { λ s. s.in_vain.value };
+
     ghost failed = { λ s. s.has_failed };
 
     fn take(&mut self, buf: &mut [u8]) -> Option<usize> {
         self.calls = self.calls.next();
         if self.has_failed {
+            self.in_vain = self.in_vain.next();
             return None;
         }
         if buf.is_empty() {
+            self.in_vain = self.in_vain.next();
             return Some(0);
         }
         let taken = taken_by(&self.reader.read(buf));
         self.has_failed = taken.is_none();
+        if taken.unwrap_or(0) == 0 {
+            self.in_vain = self.in_vain.next();
+        }
         taken
     }
 }
 
 /// A writer as a sink. Any error of the writer is a failure, and so is a write of no byte; after it the writer is not
-/// called again. An empty text does not reach the writer. Nothing is flushed: the writer should not keep bytes back.
+/// called again. An empty text does not reach the writer. Nothing is flushed: the writer should not keep bytes back. That the
+/// writer is called, once for each other call, and that no call fails but for it, is held by tests, as of readers.
 #[derive(Drop)]
 pub struct ToWrite<W> {
     writer: W,
     has_failed: bool,
     calls: Tally,
+    in_vain: Tally,
 }
 
 impl<W: Write> ToWrite<W> {
@@ -91,6 +103,7 @@ impl<W: Write> ToWrite<W> {
             writer,
             has_failed: false,
             calls: Tally::start(),
+            in_vain: Tally::start(),
         }
     }
 }
@@ -100,18 +113,25 @@ impl<W: Write> Sink for ToWrite<W> {
 
     ghost calls = { λ s. s.calls.value };
 
+    ghost in_vain = { λ s. s.in_vain.value };
+
     ghost failed = { λ s. s.has_failed };
 
     fn give(&mut self, text: &[u8]) -> Option<usize> {
         self.calls = self.calls.next();
         if self.has_failed {
+            self.in_vain = self.in_vain.next();
             return None;
         }
         if text.is_empty() {
+            self.in_vain = self.in_vain.next();
             return Some(0);
         }
         let given = given_by(&self.writer.write(text));
         self.has_failed = given.is_none();
+        if given.is_none() {
+            self.in_vain = self.in_vain.next();
+        }
         given
     }
 }

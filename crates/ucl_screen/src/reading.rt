@@ -3,7 +3,7 @@
 ghost use Rattle.std.specs.Prelude.{◌≡◌, ◌+◌, ◌≤◌, length, Some, option_map, IfOk, OnOk};
 ghost use Rattle.csv.specs.Records.{fields_of};
 ghost use Rattle.ucl_order.specs.Roster.{club_seen};
-ghost use Rattle.ucl_screen.specs.Input.{Reads};
+ghost use Rattle.ucl_screen.specs.Input.{Reads, CallsRead};
 ghost use Rattle.ucl_screen.specs.Rows.{IsReading, four_seen, rows_left, rows_of};
 ghost use Rattle.ucl_screen.specs.Events.{event_of};
 ghost use Rattle.ucl_screen.specs.Script.{said_by, club_of, club_at, roster_at, events_from, word_of_row, words_from, night_of_rows, sheet_of_rows};
@@ -137,7 +137,8 @@ fn night_of(alloc: Global, text: &[u8]) -> Result<Night, InputFault>
 /// Reads a script from a source to its end.
 ///
 /// The input is read whole before it is looked at: a source that fails is `ReadFailed`, with the number of bytes that
-/// it had given, and more than 4,194,304 bytes are `TooLong`. The source is called at most 4,194,306 times.
+/// it had given, and more than 4,194,304 bytes are `TooLong`. The source is called at most 4,194,306 times, at most once
+/// for each byte and once more, and not again after a call that failed or told the end.
 ///
 /// Rows are the records that the crate `csv` reads in its default dialect, with no heading and with records of any
 /// length; each has to have four fields. Rows 1 to 4 are `club`, the row's number as one digit, the name, and the
@@ -149,6 +150,8 @@ fn night_of(alloc: Global, text: &[u8]) -> Result<Night, InputFault>
 pub fn read_night<S: Source>(alloc: Global, source: &mut S) -> Result<Night, InputFault>
     ensures reads { Reads MeansNight night_seen (S.left source.old) (S.left source.new) (S.failed source.new) result }
     ensures calls { S.calls source.new ≤ S.calls source.old + 4194306 }
+    ensures each { CallsRead (S.left source.old) (S.calls source.old) (S.calls source.new) result }
+    ensures vain { S.in_vain source.new ≤ S.in_vain source.old + 1 }
     ensures few { IfOk result (λ night. length night.events.items ≤ 4194304) }
 {
     let bytes = read_all(alloc, source)?;
@@ -216,6 +219,8 @@ fn roster_and_words(alloc: Global, text: &[u8]) -> Result<(Roster, [u64; 12]), I
 pub fn read_words<S: Source>(alloc: Global, source: &mut S) -> Result<Sheet, InputFault>
     ensures reads { Reads MeansSheet sheet_seen (S.left source.old) (S.left source.new) (S.failed source.new) result }
     ensures calls { S.calls source.new ≤ S.calls source.old + 4194306 }
+    ensures each { CallsRead (S.left source.old) (S.calls source.old) (S.calls source.new) result }
+    ensures vain { S.in_vain source.new ≤ S.in_vain source.old + 1 }
 {
     let bytes = read_all(alloc, source)?;
     let (roster, words) = roster_and_words(alloc, &bytes)?;

@@ -2,7 +2,8 @@
 
 ghost use Rattle.std.specs.Prelude.{◌≡◌, ◌+◌, ◌<◌, ◌≤◌, length, true, take, IfErr, IfOk, OnOk};
 ghost use Rattle.std.specs.Io.KnownBytes.{Appends};
-ghost use Rattle.ucl_screen.specs.Input.{Reads, whole_input};
+ghost use Rattle.ucl_screen.specs.Input.{Reads, CallsRead, whole_input};
+ghost use Rattle.ucl_screen.specs.Stream.{CallsGive, VainlyGives};
 
 use crate::fault::InputFault;
 use crate::stream::{Sink, Source};
@@ -15,10 +16,16 @@ const MOST_BYTES: usize = 4_194_304;
 const PIECE: usize = 65_536;
 
 /// Gives the whole text to the sink. At `Err(n)` the sink has failed, and has taken just the first n bytes.
+///
+/// A sink that has failed is not called again, and none is called with nothing: of the calls that are made none is in
+/// vain, but the last one at `Err`. `Ok` comes only where the sink did not fail on the way.
 pub fn give_all<W: Sink>(sink: &mut W, text: &[u8]) -> Result<(), usize>
     ensures all { OnOk result (Appends (W.taken sink.old) (W.taken sink.new) text.now) }
     ensures part { IfErr result (λ n. (n < length text.now) × Appends (W.taken sink.old) (W.taken sink.new) (take n text.now)) }
     ensures failed { IfErr result (λ _. W.failed sink.new ≡ true) }
+    ensures sound { OnOk result (W.failed sink.new ≡ W.failed sink.old) }
+    ensures calls { CallsGive (W.calls sink.old) (W.calls sink.new) (length text.now) result }
+    ensures vain { VainlyGives (W.in_vain sink.old) (W.in_vain sink.new) result }
 {
     let mut at = 0;
     while at < text.len() {
@@ -35,6 +42,8 @@ pub(crate) fn read_all<S: Source>(alloc: Global, source: &mut S) -> Result<Vec<u
     ensures reads { Reads (λ bytes r. whole_input bytes ≡ r) (λ v. v.items) (S.left source.old) (S.left source.new) (S.failed source.new) result }
     ensures few { IfOk result (λ v. length v.items ≤ 4194304) }
     ensures calls { S.calls source.new ≤ S.calls source.old + 4194306 }
+    ensures each { CallsRead (S.left source.old) (S.calls source.old) (S.calls source.new) result }
+    ensures vain { S.in_vain source.new ≤ S.in_vain source.old + 1 }
 {
     let mut bytes = Vec::new(alloc);
     let mut piece = [0; PIECE];

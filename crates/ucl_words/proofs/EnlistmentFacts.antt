@@ -1,5 +1,5 @@
 -- What an enlistment and a meeting leave a pass with.
-use Rattle.std.proofs.Common.{◌≡◌, ◌≢◌, ℕ, ◌+◌, ◌<◌, ◌≤◌, ◌∷◌, [], length, List, None, refl, sym, ap, ◌∙◌, subst, arith, le_refl, append-nil}
+use Rattle.std.proofs.Common.{◌≡◌, ◌≢◌, ℕ, ◌+◌, ◌<◌, ◌≤◌, true, ◌∷◌, [], length, List, None, refl, sym, ap, ◌∙◌, subst, arith, le_refl, append-nil}
 use Rattle.std.proofs.lemmas.List.Elements.{All-head, All-tail}
 use mathlib.Core.List.{IsPrefix}
 use Rattle.ucl_board.specs.Log.{Access, Enlisted, step_taken, accesses_in}
@@ -7,10 +7,11 @@ use Rattle.ucl_board.proofs.Beginnings.{begins_same, begins_through}
 use Rattle.ucl_steps.specs.Trails.{Follows}
 use Rattle.ucl_pass.specs.declared.view.View.{View}
 use Rattle.ucl_pass.specs.Passes.{SeesOn, Continues, Enlistment, FullBoard, Meeting}
-use Rattle.ucl_pass.specs.Views.{pass_view_of, steps_of, count_of, trail_of, Takes, second_of, note_of, told_by}
+use Rattle.ucl_pass.specs.Views.{pass_view_of, steps_of, count_of, trail_of, Takes, kept_of, second_of, note_of, told_by}
 use Rattle.ucl_pass.specs.CallSteps.{EnlistSteps, MeetingSteps}
 use Rattle.ucl_pass.proofs.Lists.{none_by_zero}
-use Rattle.ucl_pass.proofs.Calls.{takes_none, takes_count, one_more}
+use Rattle.ucl_pass.proofs.Halves.{half_acts, half_not_whole}
+use Rattle.ucl_pass.proofs.Calls.{takes_none, takes_count, one_more, sound_kept}
 use Rattle.ucl_words.specs.WordSteps.{LoadsEnlisted, EnlistMissed, EnlistWon}
 use Rattle.ucl_words.specs.WordCalls.{HasTrail, IsSteady, KeepsTrail}
 use Rattle.ucl_words.proofs.StepRuns.{trail_longer, takes_trail}
@@ -37,7 +38,7 @@ pub record Missed (v x : View) (n : ℕ) : Type 0 where
 pub missed_none : (v : View) → IsSteady v → Missed v v 0
 missed_none v steady = record {
   steady = steady;
-  on = record { seen = begins_same v.seen; listed = le_refl v.listed };
+  on = record { seen = begins_same v.seen; listed = le_refl v.listed; share = refl };
   mine = refl;
   number = refl;
   shown = refl;
@@ -68,11 +69,11 @@ module _ (v x w : View) (n found : ℕ) (was : Missed v x n) where
         let goes = missed.sees.goes in
         record {
           steady = record {
-            sound = record { legal = goes.legal; own = goes.own; few = goes.few };
+            sound = record { legal = goes.legal; own = goes.own; few = goes.few; acts = goes.acts; alone = goes.alone };
             told = goes.told;
             trail = trail_kept x w was.steady.trail goes.seen (no_access x w missed.sees.takes);
           };
-          on = record { seen = begins_through v.seen x.seen w.seen was.on.seen goes.seen; listed = omega arith };
+          on = record { seen = begins_through v.seen x.seen w.seen was.on.seen goes.seen; listed = omega arith; share = goes.share ∙ was.on.share };
           mine = missed.sees.mine ∙ was.mine;
           number = missed.sees.number ∙ was.number;
           shown = missed.shown ∙ was.shown;
@@ -87,7 +88,7 @@ module _ (v x w : View) (n found : ℕ) (was : Missed v x n) where
     pub won_steady : IsSteady w
     won_steady =
         let goes = won.enlists.goes in
-        record { sound = record { legal = goes.legal; own = goes.own; few = goes.few }; told = goes.told; trail = trail_kept x w was.steady.trail goes.seen (no_access x w won.enlists.takes) }
+        record { sound = record { legal = goes.legal; own = goes.own; few = goes.few; acts = goes.acts; alone = goes.alone }; told = goes.told; trail = trail_kept x w was.steady.trail goes.seen (no_access x w won.enlists.takes) }
 
     pub won_enlists : Enlistment (pass_view_of v) (pass_view_of w)
     won_enlists =
@@ -97,7 +98,7 @@ module _ (v x w : View) (n found : ℕ) (was : Missed v x n) where
         let e = won.enlists in
         record {
           sound = won_steady.sound;
-          on = record { seen = begins_through v.seen x.seen w.seen was.on.seen e.goes.seen; listed = omega arith };
+          on = record { seen = begins_through v.seen x.seen w.seen was.on.seen e.goes.seen; listed = omega arith; share = e.goes.share ∙ was.on.share };
           number = e.number;
           above = omega arith;
           fresh = sym e.goes.own ∙ e.mine;
@@ -133,10 +134,14 @@ second_trail v = ap accesses_in (append-nil (steps_of v))
 
 pub second_steady : (v : View) → IsSteady v → IsSteady (second_of v)
 second_steady v steady = record {
-  sound = record { legal = steady.sound.legal; own = sym (none_by_zero v.seen steady.sound.legal); few = steady.sound.few };
+  sound = record { legal = steady.sound.legal; own = sym (none_by_zero v.seen steady.sound.legal); few = steady.sound.few; acts = half_acts true v.share steady.sound.acts; alone = λ is. absurd (half_not_whole true v.share is) };
   told = refl;
   trail = subst (λ (t : List Access). Follows v.seen 0 t (length v.seen)) (sym (second_trail v)) steady.trail;
 }
+
+-- and the pass that it was split off
+pub kept_steady : (v : View) → IsSteady v → IsSteady (kept_of v)
+kept_steady v steady = record { sound = sound_kept v steady.sound; told = steady.told; trail = steady.trail }
 
 pub second_steps : (v : View) → (count_of (second_of v) ≡ count_of v) × (trail_of (second_of v) ≡ trail_of v)
 second_steps v = (ap length (append-nil (steps_of v)), second_trail v)
@@ -145,7 +150,7 @@ second_steps v = (ap length (append-nil (steps_of v)), second_trail v)
 pub counted_steady : (v w : View) → LoadsEnlisted v w → IsSteady v → IsSteady w
 counted_steady v w loads steady =
     let goes = loads.sees.goes in
-    record { sound = record { legal = goes.legal; own = goes.own; few = goes.few }; told = goes.told; trail = trail_kept v w steady.trail goes.seen (no_access v w loads.sees.takes) }
+    record { sound = record { legal = goes.legal; own = goes.own; few = goes.few; acts = goes.acts; alone = goes.alone }; told = goes.told; trail = trail_kept v w steady.trail goes.seen (no_access v w loads.sees.takes) }
 
 -- a meeting: a note of the first was joined to the second, which then loaded the enlist word
 module _ (a v w : View) (steady : IsSteady v) (loads : LoadsEnlisted (told_by v (note_of a)) w) where
@@ -158,10 +163,10 @@ module _ (a v w : View) (steady : IsSteady v) (loads : LoadsEnlisted (told_by v 
   pub met_steady : IsSteady w
   met_steady =
       let goes = loads.sees.goes in
-      record { sound = record { legal = goes.legal; own = goes.own; few = goes.few }; told = goes.told; trail = trail_kept v w steady.trail own_first (no_access v w met_steps) }
+      record { sound = record { legal = goes.legal; own = goes.own; few = goes.few; acts = goes.acts; alone = goes.alone }; told = goes.told; trail = trail_kept v w steady.trail own_first (no_access v w met_steps) }
 
   pub met_continues : Continues (pass_view_of v) (pass_view_of w)
-  met_continues = let listed = loads.listed in record { sound = met_steady.sound; on = record { seen = own_first; listed = omega arith }; number = loads.sees.number }
+  met_continues = let listed = loads.listed in record { sound = met_steady.sound; on = record { seen = own_first; listed = omega arith; share = loads.sees.goes.share }; number = loads.sees.number }
 
   pub met_says : Meeting (pass_view_of a) (pass_view_of v) (pass_view_of w)
   met_says = record {

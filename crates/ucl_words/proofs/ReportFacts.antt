@@ -138,7 +138,7 @@ module _ (v u : View) (call : EventCall) (loaded : ℕ) (is : IsMatch call.game)
 
       pub won_steady : IsSteady z
       won_steady = record {
-        sound = record { legal = won.adds.goes.legal; own = won.adds.goes.own; few = won.adds.goes.few };
+        sound = record { legal = won.adds.goes.legal; own = won.adds.goes.own; few = won.adds.goes.few; acts = won.adds.goes.acts; alone = won.adds.goes.alone };
         told = won.adds.goes.told;
         trail = won_whole;
       }
@@ -146,7 +146,7 @@ module _ (v u : View) (call : EventCall) (loaded : ℕ) (is : IsMatch call.game)
       pub won_continues : Continues (pass_view_of v) (pass_view_of z)
       won_continues = record {
         sound = won_steady.sound;
-        on = record { seen = begins_through v.seen won.before z.seen since begun; listed = (let b = looked.loads.listed in let d = won.listed in omega arith) };
+        on = record { seen = begins_through v.seen won.before z.seen since begun; listed = (let b = looked.loads.listed in let d = won.listed in omega arith); share = won.adds.goes.share ∙ look_walks.on.share };
         number = won.adds.number ∙ look_walks.number;
       }
 

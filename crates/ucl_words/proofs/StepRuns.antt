@@ -48,7 +48,7 @@ plain_append ms ns = all_plain (ms ++ ns) ∙ (map-append plain ms ns ∙ sym (�
 pub walks_none : (v : View) → IsSteady v → Walks v [] v
 walks_none v steady = record {
   steady = steady;
-  on = record { seen = begins_same v.seen; listed = le_refl v.listed };
+  on = record { seen = begins_same v.seen; listed = le_refl v.listed; share = refl };
   mine = refl;
   number = refl;
   leaves = record { takes = takes_none v; trail = sym (append-nil (trail_of v)); taken = omega arith; follows = le_refl (length v.seen); whole_trail = steady.trail };
@@ -57,7 +57,7 @@ walks_none v steady = record {
 pub walks_on : (u v w : View) (ms ns : List Access) → Walks u ms v → Walks v ns w → Walks u (ms ++ ns) w
 walks_on u v w ms ns a b = record {
   steady = b.steady;
-  on = record { seen = begins_through u.seen v.seen w.seen a.on.seen b.on.seen; listed = (let s = a.on.listed in let t = b.on.listed in omega arith) };
+  on = record { seen = begins_through u.seen v.seen w.seen a.on.seen b.on.seen; listed = (let s = a.on.listed in let t = b.on.listed in omega arith); share = b.on.share ∙ a.on.share };
   mine = b.mine ∙ a.mine;
   number = b.number ∙ a.number;
   leaves = record {
@@ -90,8 +90,8 @@ walks_load kind game n v w steady l =
     let few = steady.sound.few in
     let listed = l.listed in
     record {
-      steady = record { sound = record { legal = goes.legal; own = goes.own; few = goes.few }; told = goes.told; trail = whole };
-      on = record { seen = goes.seen; listed = omega arith };
+      steady = record { sound = record { legal = goes.legal; own = goes.own; few = goes.few; acts = goes.acts; alone = goes.alone }; told = goes.told; trail = whole };
+      on = record { seen = goes.seen; listed = omega arith; share = goes.share };
       mine = l.sees.mine;
       number = l.sees.number;
       leaves = record { takes = l.sees.takes; trail = load_trail kind game n v w l; taken = load_taken kind game n v w l; follows = one; whole_trail = whole };

@@ -21,7 +21,7 @@ use Rattle.ucl_steps.specs.LogRuns.{Finished, Begun, Work, Done, done_list, on_m
 use Rattle.ucl_steps.proofs.LogRuns.{logs_run}
 use Rattle.ucl_pass.specs.declared.view.View.{View}
 use Rattle.ucl_pass.specs.CallSteps.{IsOnEnlisted}
-use Rattle.ucl_pass.proofs.LogFacts.{view_at}
+use Rattle.ucl_pass.proofs.Alone.{view_at}
 use Rattle.ucl_words.specs.WordMachine.{report_reply}
 use Rattle.ucl_words.specs.WordCalls.{steps_with, ReportSteps, ReadingSteps, KeepsTrail}
 use Rattle.ucl_words.specs.Laws.{BoardsAreRuns, AddsCall, CallsAddWork}

@@ -13,3 +13,7 @@ words_after history enlisted = enlisted ∷ board_of history
 -- the rule of the table
 abbrev pub TableKeepsOneHistory : State Entry View → Type 0
 TableKeepsOneHistory s = KeepsOneHistory words_after s.words s.views
+
+-- whatever keeps this rule keeps that of the table
+abbrev pub IsTheRule : (State Entry View → Type 0) → Type 0
+IsTheRule holds = (s : State Entry View) → holds s → TableKeepsOneHistory s

@@ -1,13 +1,13 @@
 -- What each kind of atomic step on the table tells its pass: v before and w after, and n the word that was found.
 use Rattle.std.specs.Prelude.{◌≡◌, ◌≢◌, ℕ, ◌+◌, ◌-◌, ◌==◌, ◌≤◌, List, [], ◌∷◌, ◌++◌, length, slice_set, slice_index_or, if◌then◌else◌}
-use mathlib.Core.Option.{some}
+use mathlib.Core.Option.{Option, none, some}
 use Rattle.atomic_table.specs.Table.{Step, Me}
 use Rattle.ucl_board.specs.declared.entry.Entry.{Entry}
 use Rattle.ucl_board.specs.Words.{word_at}
 use Rattle.ucl_board.specs.History.{board_of, IsLegal, followed_by}
-use Rattle.ucl_board.specs.Log.{AccessKind, Access, access, Look, Second, Swap, Match, Enlisted}
+use Rattle.ucl_board.specs.Log.{AccessKind, Access, access, Look, Second, Swap, Match, Enlisted, Taken}
 use Rattle.ucl_pass.specs.declared.view.View.{View}
-use Rattle.ucl_pass.specs.Views.{trail_of}
+use Rattle.ucl_pass.specs.Views.{Takes, trail_of}
 use Rattle.ucl_pass.specs.Steps.{Sees, Adds, Enlists}
 
 -- a load of the word of a match, or an exchange of it that was missed
@@ -78,14 +78,26 @@ LoadStep kind st m n m' = Loads kind st.word m.0 n m'.0
 abbrev pub LastLoadStep : Step Entry → Me Entry View → ℕ → Me Entry View → Type 0
 LastLoadStep st m n m' = LoadsLast st.word m.0 n m'.0
 
-abbrev pub EnlistedStep : Step Entry → Me Entry View → ℕ → Me Entry View → Type 0
-EnlistedStep st m n m' = LoadsEnlisted m.0 m'.0
+-- one of the enlist word, and of no other
+pub record EnlistedStep (st : Step Entry) (m : Me Entry View) (n : ℕ) (m' : Me Entry View) : Type 0 where
+  pub word : st.word ≡ 0
+  pub loads : LoadsEnlisted m.0 m'.0
 
--- an exchange for the entry that was said
+-- an exchange is won for the entry that was said; none is made where none was said
+abbrev pub WonFor : Option Entry → View → ℕ → View → Type 0
+WonFor (some e) v n w = ExchangeWon e v n w
+WonFor none v n w = ⊥
+
 pub record ExchangeStep (st : Step Entry) (m : Me Entry View) (n : ℕ) (m' : Me Entry View) : Type 0 where
-  pub won : n ≡ st.first → (e : Entry) → st.said ≡ some e → ExchangeWon e m.0 n m'.0
+  pub won : n ≡ st.first → WonFor st.said m.0 n m'.0
   pub missed : n ≢ st.first → ExchangeMissed st.word m.0 n m'.0
 
+-- an exchange of the enlist word, and of no other
 pub record EnlistStep (st : Step Entry) (m : Me Entry View) (n : ℕ) (m' : Me Entry View) : Type 0 where
+  pub word : st.word ≡ 0
   pub won : n ≡ st.first → EnlistWon m.0 n m'.0
   pub missed : n ≢ st.first → EnlistMissed m.0 n m'.0
+
+-- whatever it finds, a step of this kind is one step in the log, of the pass that took it
+abbrev pub LogsOneStep : (Step Entry → Me Entry View → ℕ → Me Entry View → Type 0) → Type 0
+LogsOneStep tells = (st : Step Entry) (m : Me Entry View) (n : ℕ) (m' : Me Entry View) → tells st m n m' → (x : Taken) × Takes m.0 (x ∷ []) m'.0

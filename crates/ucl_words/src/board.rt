@@ -1,28 +1,30 @@
 //! The board over thirteen atomic words, and its calls.
 
-ghost use Rattle.std.specs.Prelude.{◌≡◌, ◌≢◌, ◌+◌, ◌<◌, ◌≤◌, [], length, IfOk, IfErr, IfSome, IfNone, MatchResult, MatchBool};
+ghost use Rattle.std.specs.Prelude.{◌≡◌, ◌≢◌, ◌+◌, ◌<◌, ◌≤◌, [], length, IfOk, IfErr, IfSome, IfNone, IsSome, MatchResult, MatchBool};
 ghost use Rattle.atomic_table.specs.Seated.{TableId};
 ghost use Rattle.ucl_board.specs.Fixtures.{IsMatch};
 ghost use Rattle.ucl_board.specs.Words.{AreWords, version_of};
 ghost use Rattle.ucl_board.specs.Log as trails;
 ghost use Rattle.ucl_steps.specs.Trails.{most_loads};
 ghost use Rattle.ucl_pass.specs.Passes.{IsSound, Continues, AcceptedReport, RefusedReport, SharedReading, Enlistment, FullBoard, Meeting, opening_pass, split_pass};
-ghost use Rattle.ucl_pass.specs.Views.{pass_view_of, count_of, trail_of};
+ghost use Rattle.ucl_pass.specs.Views.{pass_view_of, count_of, trail_of, kept_of, second_of};
 ghost use Rattle.ucl_pass.specs.CallSteps.{MeetingSteps, HasCopyOf};
 ghost use Rattle.ucl_pass.specs.OneHistory.{BoardsOpenFresh};
-ghost use Rattle.ucl_words.specs.WordRule.{words_after};
+ghost use Rattle.ucl_words.specs.WordRule.{words_after, IsTheRule};
 ghost use Rattle.ucl_words.specs.WordSteps.{Loads, LoadsEnlisted, ExchangeWon, ExchangeMissed, IsNextWord};
 ghost use Rattle.ucl_words.specs.Collects.{Collects, HasCollected, FindsAgain, FindsAnother};
 ghost use Rattle.ucl_words.specs.WordCalls.{IsSteady, ReportSteps, ReadingSteps, KeepsTrail};
 
 use crate::passes::{WordReaderPass, WordReporterPass};
 use crate::rule::{
-    CountEnlisted, Enlist, First, LastSecond, Look, Note, Seat, Second, SecondPass, Swap, Table,
+    CountEnlisted, Enlist, First, LastSecond, Look, Note, OneHistory, Seat, Second, SecondPass,
+    Swap, Table,
 };
+use atomic_table::TableRule;
 use std::alloc::Global;
 use std::marker::Model;
 use ucl_board::{Board, Entry, Reading};
-use ucl_pass::TooManyReporters;
+use ucl_pass::{TooManyReporters, View};
 use ucl_word::{
     Accepted, EventCall, MatchNo, OutOfMemory, Refusal, ReporterNo, next_word, number_of,
 };
@@ -38,7 +40,7 @@ const MOST_REPORTERS: u64 = 255;
 ///
 /// Each load and exchange of a match word leaves an access on the trail of its pass: what it did, of which match, the word that it found,
 /// and how many events had been accepted. A report or a reading is a call of the protocol's machine (`ucl_steps`), which is made by
-/// the steps of these accesses and ends with the answer that was given. None of the six calls whose names end in `_now` can wait.
+/// the steps of these accesses and ends with the answer that was given. None of the seven calls whose names end in `_now` can wait.
 #[derive(Drop)]
 pub struct WordBoard {
     table: Table,
@@ -87,14 +89,26 @@ impl WordBoard {
         ensures fresh { IfOk result (λ opened. pass_view_of opened.1.view ≡ opening_pass) }
         ensures untaken { IfOk result (λ opened. (opened.1.view.copied ≡ []) × (opened.1.view.own ≡ [])) }
         ensures rule { BoardsOpenFresh words_after }
+        ensures tied { IsTheRule (⟦<OneHistory as TableRule<Entry, View, ()>>⟧.holds tt) }
     {
         let (table, seat) = Table::of_words(alloc, &fresh_words(), &())?;
         Ok((WordBoard { table }, WordReaderPass { seat }))
     }
 
+    /// The table of the board. Its type names its rule, `OneHistory`, which is the rule that the laws on boards speak of. It is there for
+    /// that: nobody needs it to call the board.
+    ///
+    pub fn table(&self) -> &atomic_table::Table<Entry, View, (), OneHistory, Global>
+        ensures own { result.now.shared.table_id ≡ self.now }
+        ensures tied { IsTheRule (⟦<OneHistory as TableRule<Entry, View, ()>>⟧.holds tt) }
+    {
+        &self.table
+    }
+
     /// Loads the word of a match, for a report.
     fn look(&self, seat: &mut Seat, game: MatchNo) -> u64
-        requires { seat.old.table_id ≡ self.now }
+        requires table { seat.old.table_id ≡ self.now }
+        requires acts { IsSome seat.old.me.0.share }
         ensures own { seat.new.table_id ≡ seat.old.table_id }
         ensures game { IsMatch game }
         ensures looks { Loads trails.Look game seat.old.me.0 result seat.new.me.0 }
@@ -106,6 +120,7 @@ impl WordBoard {
     /// Puts the next word of a match in the place of the one that was loaded, where it is still there, and answers the word that was found.
     fn swap(&self, seat: &mut Seat, loaded: u64, next: u64, entry: Entry) -> u64
         requires table { seat.old.table_id ≡ self.now }
+        requires acts { IsSome seat.old.me.0.share }
         requires me { (0 < seat.old.me.0.number) × (entry.reporter ≡ seat.old.me.0.number) }
         requires next { IsNextWord entry loaded next }
         ensures own { seat.new.table_id ≡ seat.old.table_id }
@@ -236,9 +251,20 @@ impl WordBoard {
         None
     }
 
+    /// A second seat, which has seen as much.
+    fn split_by(&self, seat: &mut Seat) -> Seat
+        requires table { seat.old.table_id ≡ self.now }
+        ensures own { (seat.new.table_id ≡ seat.old.table_id) × (result.table_id ≡ seat.old.table_id) }
+        ensures kept { seat.new.me.0 ≡ kept_of seat.old.me.0 }
+        ensures given { result.me.0 ≡ second_of seat.old.me.0 }
+    {
+        self.table.shared.split_seat::<SecondPass>(seat)
+    }
+
     /// Loads the number of enlisted reporters.
     fn count(&self, seat: &mut Seat) -> u64
-        requires { seat.old.table_id ≡ self.now }
+        requires table { seat.old.table_id ≡ self.now }
+        requires acts { IsSome seat.old.me.0.share }
         ensures own { seat.new.table_id ≡ seat.old.table_id }
         ensures loads { LoadsEnlisted seat.old.me.0 seat.new.me.0 }
         ensures steady { IsSteady seat.old.me.0 → IsSteady seat.new.me.0 }
@@ -360,12 +386,12 @@ impl WordBoard {
         requires { pass.old.board ≡ self.now }
         ensures own { (pass.new.board ≡ self.now) × (result.board ≡ self.now) }
         ensures sound { IsSound (pass_view_of pass.old.view) }
-        ensures unchanged { pass.new.view ≡ pass.old.view }
+        ensures kept { pass.new.view ≡ kept_of pass.old.view }
         ensures given { pass_view_of result.view ≡ split_pass (pass_view_of pass.old.view) }
         ensures steps { (count_of result.view ≡ count_of pass.old.view) × (trail_of result.view ≡ trail_of pass.old.view) }
         ensures copy { HasCopyOf result.view pass.old.view }
     {
-        let seat = self.table.shared.split_seat::<SecondPass>(&mut pass.seat);
+        let seat = self.split_by(&mut pass.seat);
         WordReaderPass { seat }
     }
 
@@ -425,5 +451,29 @@ impl WordBoard {
         ensures taken { count_of second.new.view ≡ count_of second.old.view + 1 }
     {
         self.meet_by(&mut first.seat, &mut second.seat);
+    }
+
+    /// The same where the first is a reader: afterwards the reporter's pass has seen all that either had seen.
+    ///
+    /// ```rust
+    /// let (board, mut pass) = WordBoard::open(&rt, rt.alloc())?;
+    /// let mut reader = board.split_now(&mut pass);
+    /// let mut reporter = board.enlist_now(pass).ok().ok_or("no number")?;
+    /// board.meet_reader_now(&mut reader, &mut reporter);
+    /// assert_eq!(rt; board.read_own_now(&mut reporter).version, 0);
+    /// ```
+    pub fn meet_reader_now(&self, first: &mut WordReaderPass, second: &mut WordReporterPass)
+        requires { (first.old.board ≡ self.now) × (second.old.board ≡ self.now) }
+        ensures own { (first.new.board ≡ self.now) × (second.new.board ≡ self.now) }
+        ensures sound { IsSound (pass_view_of first.old.view) }
+        ensures always { Continues (pass_view_of second.old.view) (pass_view_of second.new.view) }
+        ensures unchanged { first.new.view ≡ first.old.view }
+        ensures meeting { Meeting (pass_view_of first.old.view) (pass_view_of second.old.view) (pass_view_of second.new.view) }
+        ensures trail { KeepsTrail second.old.view second.new.view }
+        ensures steps { MeetingSteps second.old.view second.new.view }
+        ensures taken { count_of second.new.view ≡ count_of second.old.view + 1 }
+    {
+        let reader = &mut first.seat;
+        self.meet_by(reader, &mut second.seat);
     }
 }

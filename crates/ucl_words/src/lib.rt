@@ -6,8 +6,8 @@ mod board;
 mod laws;
 mod live_words;
 mod passes;
-mod rule;
+pub mod rule;
 
 pub use board::WordBoard;
-pub use laws::{boards_are_runs, calls_add_work, words_tell_the_entry};
+pub use laws::{boards_are_runs, calls_add_work, each_step_is_logged, words_tell_the_entry};
 pub use passes::{WordReaderPass, WordReporterPass};

@@ -3,7 +3,7 @@
 ghost use Rattle.std.specs.Prelude.{◌≡◌, ◌+◌, ◌≤◌, IfOk, IfErr, MatchResult};
 ghost use Rattle.ucl_steps.specs.Trails.{most_loads};
 ghost use Rattle.ucl_pass.specs.Passes.{IsSound, Continues, AcceptedReport, RefusedReport, SharedReading, split_pass, Enlistment, FullBoard, Meeting, reporter_figures};
-ghost use Rattle.ucl_pass.specs.Views.{pass_view_of, count_of, trail_of};
+ghost use Rattle.ucl_pass.specs.Views.{pass_view_of, count_of, trail_of, kept_of};
 ghost use Rattle.ucl_pass.specs.CallSteps.{MeetingSteps, HasCopyOf};
 ghost use Rattle.ucl_words.specs.WordCalls.{ReportSteps, ReadingSteps, KeepsTrail};
 
@@ -73,7 +73,7 @@ impl LiveBoard for WordBoard {
         requires { pass.old.board ≡ self.now }
         ensures own { (pass.new.board ≡ self.now) × (result.board ≡ self.now) }
         ensures sound { IsSound (pass_view_of pass.old.view) }
-        ensures unchanged { pass.new.view ≡ pass.old.view }
+        ensures kept { pass.new.view ≡ kept_of pass.old.view }
         ensures given { pass_view_of result.view ≡ split_pass (pass_view_of pass.old.view) }
         ensures steps { (count_of result.view ≡ count_of pass.old.view) × (trail_of result.view ≡ trail_of pass.old.view) }
         ensures copy { HasCopyOf result.view pass.old.view }
@@ -109,6 +109,25 @@ impl LiveBoard for WordBoard {
         ensures taken { count_of second.new.view ≡ count_of second.old.view + 1 }
     {
         self.meet_now(first, second);
+    }
+
+    fn meet_reader<R: Wait>(
+        &self,
+        _rt: &R,
+        first: &mut WordReaderPass,
+        second: &mut WordReporterPass,
+    )
+        requires { (first.old.board ≡ self.now) × (second.old.board ≡ self.now) }
+        ensures own { (first.new.board ≡ self.now) × (second.new.board ≡ self.now) }
+        ensures sound { IsSound (pass_view_of first.old.view) }
+        ensures always { Continues (pass_view_of second.old.view) (pass_view_of second.new.view) }
+        ensures unchanged { first.new.view ≡ first.old.view }
+        ensures meeting { Meeting (pass_view_of first.old.view) (pass_view_of second.old.view) (pass_view_of second.new.view) }
+        ensures trail { KeepsTrail second.old.view second.new.view }
+        ensures steps { MeetingSteps second.old.view second.new.view }
+        ensures taken { count_of second.new.view ≡ count_of second.old.view + 1 }
+    {
+        self.meet_reader_now(first, second);
     }
 
     fn number_of(pass: &WordReporterPass) -> ReporterNo

@@ -17,9 +17,18 @@ pub struct WordReaderPass {
 impl Model for WordReaderPass {
     ghost Value = { Pass };
 
-    ghost view = { λ p. record { board = p.seat.table_id; view = p.seat.me.0 } };
+    ghost view = { λ reader. record { board = reader.seat.table_id; view = reader.seat.me.0 } };
 
-    ghost invariant = { λ p. IsSteady p.seat.me.0 × (p.seat.me.0.number ≡ 0) };
+    ghost invariant = { λ reader. IsSteady reader.seat.me.0 × (reader.seat.me.0.number ≡ 0) };
+}
+
+impl WordReaderPass {
+    /// The seat at the table of its board, by which the pass acts: what contracts see of the pass is the view of this seat, as it is.
+    pub fn seat(&self) -> &Seat
+        ensures { self.now ≡ record { board = result.now.table_id; view = result.now.me.0 } }
+    {
+        &self.seat
+    }
 }
 
 /// A reporter's pass. Contracts see which table it is of, and what it knows.
@@ -33,7 +42,16 @@ pub struct WordReporterPass {
 impl Model for WordReporterPass {
     ghost Value = { Pass };
 
-    ghost view = { λ p. record { board = p.seat.table_id; view = p.seat.me.0 } };
+    ghost view = { λ reporter. record { board = reporter.seat.table_id; view = reporter.seat.me.0 } };
 
-    ghost invariant = { λ p. IsSteady p.seat.me.0 × (p.seat.me.0.number ≡ p.number) × (length p.seat.me.0.mine ≡ p.accepted) };
+    ghost invariant = { λ reporter. IsSteady reporter.seat.me.0 × (reporter.seat.me.0.number ≡ reporter.number) × (length reporter.seat.me.0.mine ≡ reporter.accepted) };
+}
+
+impl WordReporterPass {
+    /// The seat at the table of its board, by which the pass acts: what contracts see of the pass is the view of this seat, as it is.
+    pub fn seat(&self) -> &Seat
+        ensures { self.now ≡ record { board = result.now.table_id; view = result.now.me.0 } }
+    {
+        &self.seat
+    }
 }

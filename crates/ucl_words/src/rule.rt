@@ -1,7 +1,7 @@
 //! The rule of the table, and the kinds of its atomic steps. The values named here exist in proofs alone.
 
 ghost use Rattle.ucl_board.specs.Log as trails;
-ghost use Rattle.ucl_pass.specs.Views.{newcomer, second_of, note_of, told_by};
+ghost use Rattle.ucl_pass.specs.Views.{newcomer, opener, kept_of, second_of, note_of, told_by};
 ghost use Rattle.ucl_words.specs.WordRule.{TableKeepsOneHistory};
 ghost use Rattle.ucl_words.specs.WordSteps.{LoadStep, LastLoadStep, EnlistedStep, ExchangeStep, EnlistStep};
 
@@ -17,7 +17,7 @@ pub struct OneHistory;
 impl TableRule<Entry, View, ()> for OneHistory {
     ghost holds = { λ _. TableKeepsOneHistory };
 
-    ghost first = { λ _. newcomer };
+    ghost first = { λ _. opener };
 }
 
 /// A reporter's load of a match word.
@@ -73,7 +73,7 @@ impl Play<Entry, View> for Enlist {
 pub struct SecondPass;
 
 impl Split<View> for SecondPass {
-    ghost left = { λ v. v };
+    ghost left = { kept_of };
 
     ghost right = { second_of };
 }

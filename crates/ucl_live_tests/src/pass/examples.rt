@@ -82,6 +82,16 @@ fn meet(rt: HostRuntime) -> Result<(), Fail> {
 }
 
 #[test]
+fn meet_reader(rt: HostRuntime) -> Result<(), Fail> {
+    let (board, mut pass) = CellBoard::open(&rt, rt.alloc())?;
+    let mut reader = board.split(&rt, &mut pass);
+    let mut reporter = board.enlist(&rt, pass).ok().ok_or("no number")?;
+    board.meet_reader(&rt, &mut reader, &mut reporter);
+    assert_eq!(rt; board.read_own(&rt, &mut reporter).version, 0);
+    Ok(())
+}
+
+#[test]
 fn number_of(rt: HostRuntime) -> Result<(), Fail> {
     let (board, mut pass) = CellBoard::open(&rt, rt.alloc())?;
     let other = board.split(&rt, &mut pass);

@@ -142,6 +142,41 @@ fn read_back(rt: HostRuntime) -> Result<(), Fail> {
     Ok(())
 }
 
+/// Passes that are let go do nothing: the version that is read after a reporter who entered nothing, a reader who read and one who did not
+/// are let go, the version after a reporter whose event was accepted is, and the number of the next reporter.
+fn let_go_on<B: LiveBoard, R: Wait>(
+    rt: &R,
+    board: &B,
+    mut reader: B::ReaderPass,
+) -> Option<([u16; 2], u8)>
+    requires { B.is_reader board.now reader }
+{
+    let idle = enlisted(rt, board, &mut reader)?;
+    let mut looker = board.split(rt, &mut reader);
+    let _version = version_read(rt, board, &mut looker);
+    let unread = board.split(rt, &mut reader);
+    drop(idle);
+    drop(looker);
+    drop(unread);
+    let before = version_read(rt, board, &mut reader);
+    let mut reporter = enlisted(rt, board, &mut reader)?;
+    let _reply = reply_to(rt, board, &mut reporter, MatchNo::new(2)?, 0, Kind::KickOff);
+    drop(reporter);
+    let after = version_read(rt, board, &mut reader);
+    let next = enlisted(rt, board, &mut reader)?;
+    Some(([before, after], B::number_of(&next).get()))
+}
+
+#[test]
+fn passes_that_are_let_go(rt: HostRuntime) -> Result<(), Fail> {
+    let (board, reader) = CellBoard::open(&rt, rt.alloc())?;
+    let in_cell = let_go_on(&rt, &board, reader);
+    let (board, reader) = WordBoard::open(&rt, rt.alloc())?;
+    let in_words = let_go_on(&rt, &board, reader);
+    assert_eq!(rt; [in_cell, in_words], [Some(([0, 1], 3)); 2]);
+    Ok(())
+}
+
 /// Enters a kick-off and home goals in a match.
 fn enter_goals<B: LiveBoard, R: Wait>(
     rt: &R,

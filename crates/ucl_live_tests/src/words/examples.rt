@@ -81,3 +81,13 @@ fn meet_now(rt: HostRuntime) -> Result<(), Fail> {
     assert_eq!(rt; board.read_own_now(&mut second).version, 0);
     Ok(())
 }
+
+#[test]
+fn meet_reader_now(rt: HostRuntime) -> Result<(), Fail> {
+    let (board, mut pass) = WordBoard::open(&rt, rt.alloc())?;
+    let mut reader = board.split_now(&mut pass);
+    let mut reporter = board.enlist_now(pass).ok().ok_or("no number")?;
+    board.meet_reader_now(&mut reader, &mut reporter);
+    assert_eq!(rt; board.read_own_now(&mut reporter).version, 0);
+    Ok(())
+}

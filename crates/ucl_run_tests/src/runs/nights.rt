@@ -41,6 +41,12 @@ struct FourAtOnce {
 }
 
 impl Gate for FourAtOnce {
+    ghost use Rattle.std.specs.Prelude.{⊤};
+
+    ghost came = { λ _ _ _. ⊤ };
+
+    ghost showed = { λ _ _ _ _. ⊤ };
+
     fn come(&self, _worker: u8, call: u32) {
         if call > 0 {
             return;
@@ -98,6 +104,12 @@ struct ReportersFirst {
 }
 
 impl Gate for ReportersFirst {
+    ghost use Rattle.std.specs.Prelude.{⊤};
+
+    ghost came = { λ _ _ _. ⊤ };
+
+    ghost showed = { λ _ _ _ _. ⊤ };
+
     fn come(&self, worker: u8, call: u32) {
         let is_in_time = match (worker, call) {
             (1 | 2, 0) => has_come_to(&self.readers, 2),
@@ -238,6 +250,12 @@ impl InStep {
 }
 
 impl Gate for InStep {
+    ghost use Rattle.std.specs.Prelude.{⊤};
+
+    ghost came = { λ _ _ _. ⊤ };
+
+    ghost showed = { λ _ _ _ _. ⊤ };
+
     fn come(&self, worker: u8, call: u32) {
         let [first, second, third, fourth] = &self.calls;
         let own = match worker {
@@ -425,17 +443,34 @@ fn version_and_number<B: LiveBoard, R: Wait>(
     }
 }
 
+/// A night is refused, and what a reader whose pass was split off before then reads, and the number that it gets.
+fn refused_on<B: LiveBoard, R: Threads + Wait + Sync>(
+    rt: &R,
+    alloc: Global,
+    board: &B,
+    mut pass: B::ReaderPass,
+    night: &Night,
+) -> (Result<u16, RunFault>, Option<(u16, u8)>)
+    requires { B.is_reader board.now pass }
+{
+    let watcher = board.split(rt, &mut pass);
+    let answer = settled_version(rt, alloc, board, pass, night, 1);
+    (answer, version_and_number(rt, board, watcher))
+}
+
 #[test]
 fn row_of_a_third_reporter(rt: HostRuntime) -> Result<(), Fail> {
     let alloc = rt.alloc();
     let mut script = head_to_head_script(alloc)?;
     script.push_str("3,1,0,kickoff\n")?;
     let night = night_of(alloc, script.as_str())?;
-    let (board, mut pass) = CellBoard::open(&rt, alloc)?;
-    let watcher = board.split(&rt, &mut pass);
-    let answer = settled_version(&rt, alloc, &board, pass, &night, 1);
-    assert_eq!(rt; answer, Err(RunFault::NotOnDuty { row: 45 }));
-    assert_eq!(rt; version_and_number(&rt, &board, watcher), Some((0, 1)));
+    let (board, pass) = CellBoard::open(&rt, alloc)?;
+    let in_cell = refused_on(&rt, alloc, &board, pass, &night);
+    let (board, pass) = WordBoard::open(&rt, alloc)?;
+    let in_words = refused_on(&rt, alloc, &board, pass, &night);
+    let refused = (Err(RunFault::NotOnDuty { row: 45 }), Some((0, 1)));
+    assert_eq!(rt; in_cell, refused);
+    assert_eq!(rt; in_words, refused);
     Ok(())
 }
 

@@ -1,5 +1,7 @@
 //! Devices that fail, and inputs that are too long.
 
+ghost use Rattle.std.specs.Prelude.{◌≤◌, IfOk};
+
 use super::CLUB_ROWS;
 use std::io;
 use std::io::{Read, Write};
@@ -177,4 +179,110 @@ fn fault_lines(rt: HostRuntime) -> Result<(), Fail> {
         assert_eq!(rt; text.as_str(), line);
     }
     Ok(())
+}
+
+/// A device of std that counts its calls. The call with this number fails; each other call moves one byte, if it can.
+#[derive(Drop)]
+struct Counted<'a> {
+    calls: &'a mut usize,
+    failing: usize,
+}
+
+impl Counted<'_> {
+    fn moves(&mut self, most: usize) -> io::Result<usize>
+        ensures { IfOk result (λ n. (n ≤ most) × (n ≤ 1)) }
+    {
+        *self.calls = self.calls.saturating_add(1);
+        if *self.calls == self.failing {
+            return Err(io::Error::from(io::ErrorKind::Interrupted));
+        }
+        Ok(most.min(1))
+    }
+}
+
+impl Read for Counted<'_> {
+    fn read(&mut self, buf: &mut [u8]) -> io::Result<usize> {
+        let n = self.moves(buf.len())?;
+        buf[..n].copy_from_slice(&b"a"[..n]);
+        Ok(n)
+    }
+}
+
+impl Write for Counted<'_> {
+    fn write(&mut self, buf: &[u8]) -> io::Result<usize> {
+        self.moves(buf.len())
+    }
+
+    fn flush(&mut self) -> io::Result<()> {
+        Ok(())
+    }
+}
+
+#[test]
+fn reader_is_called_once_for_each_call_until_it_fails(rt: HostRuntime) {
+    for failing in 1..4 {
+        let mut calls = 0;
+        let mut source = FromRead::new(Counted {
+            calls: &mut calls,
+            failing,
+        });
+        let mut buf = [0; 4];
+        for _ in 1..failing {
+            assert_eq!(rt; source.take(&mut []), Some(0));
+            assert_eq!(rt; source.take(&mut buf), Some(1));
+            assert_eq!(rt; buf[0], b'a');
+        }
+        for _ in 0..3 {
+            assert_eq!(rt; source.take(&mut buf), None);
+            assert_eq!(rt; source.take(&mut []), None);
+        }
+        drop(source);
+        assert_eq!(rt; calls, failing);
+    }
+}
+
+#[test]
+fn writer_is_called_once_for_each_call_until_it_fails(rt: HostRuntime) {
+    for failing in 1..4 {
+        let mut calls = 0;
+        let mut sink = ToWrite::new(Counted {
+            calls: &mut calls,
+            failing,
+        });
+        for _ in 1..failing {
+            assert_eq!(rt; sink.give(b""), Some(0));
+            assert_eq!(rt; sink.give(b"text"), Some(1));
+        }
+        for _ in 0..3 {
+            assert_eq!(rt; sink.give(b"text"), None);
+            assert_eq!(rt; sink.give(b""), None);
+        }
+        drop(sink);
+        assert_eq!(rt; calls, failing);
+    }
+}
+
+#[test]
+fn whole_inputs_and_texts_call_a_failed_device_once(rt: HostRuntime) {
+    for failing in 1..4 {
+        let mut calls = 0;
+        let bytes = failing - 1;
+        let mut source = FromRead::new(Counted {
+            calls: &mut calls,
+            failing,
+        });
+        let fault = read_night(rt.alloc(), &mut source).err();
+        assert_eq!(rt; fault, Some(InputFault::ReadFailed { bytes }));
+        drop(source);
+        assert_eq!(rt; calls, failing);
+
+        let mut calls = 0;
+        let mut sink = ToWrite::new(Counted {
+            calls: &mut calls,
+            failing,
+        });
+        assert_eq!(rt; give_all(&mut sink, b"text"), Err(bytes));
+        drop(sink);
+        assert_eq!(rt; calls, failing);
+    }
 }

@@ -1,4 +1,4 @@
-use Rattle.std.proofs.Common.{◌≡◌, ◌≢◌, length, arith, sym, ap, ◌∙◌}
+use Rattle.std.proofs.Common.{◌≡◌, ◌≢◌, ℕ, List, [], ◌∷◌, ◌++◌, length, arith, sym, ap, ◌∙◌}
 use Rattle.ucl_pass.specs.Passes.{PassView}
 use Rattle.ucl_pass.specs.Settling.{both_accepted}
 use Rattle.ucl_pass.proofs.Lists.{unchanged}
@@ -69,3 +69,13 @@ returns-else-ne-clause-strangers g c ne =
       | else-ne-via-else-ne w ↦ ne (sym first ∙ (one_number c.number_of.result c.number_of-2.result c.ne.result c.ne.ensures w.if-ne.false ∙ second))
     ]) in
     above a b (k c.meet.new.first) b1 d c.read_own-reading.result m.unchanged m.meeting m.always r.always r.reading m.sound ne other
+
+pub returns-then-from-accepted-clause-shown : goal.returns-then-from-accepted-clause-shown
+returns-then-from-accepted-clause-shown g c =
+    let r = c.read_own-reading.ensures in
+    r.reading.shown ∙ ap (λ (shown : List ℕ). shown ++ c.read_own-reading.result.version ∷ []) c.meet.ensures.meeting.shown
+
+pub returns-else-ne-clause-shown : goal.returns-else-ne-clause-shown
+returns-else-ne-clause-shown g c =
+    let r = c.read_own-reading.ensures in
+    r.reading.shown ∙ ap (λ (shown : List ℕ). shown ++ c.read_own-reading.result.version ∷ []) c.meet.ensures.meeting.shown

@@ -1,16 +1,25 @@
-use Rattle.std.proofs.Common.{◌+◌, sym, ◌∙◌, subst, take}
+use Rattle.std.proofs.Common.{◌≢◌, ℕ, ◌+◌, ◌%◌, ◌^◌, refl, sym, ap, ◌∙◌, subst, take}
+use Rattle.std.proofs.Math.Nat.{mod-add-mod}
+use Rattle.ucl_runs.specs.Gates.{CameTo, rows_by}
 use Rattle.ucl_runs.specs.Nights.{HasEntered}
 use Rattle.ucl_runs.proofs.EnteredRows.{entered_none, next_skipped, next_entered}
+use Rattle.ucl_runs.proofs.GateFacts.{came_more, came_none, rows_other_next, rows_own_next}
 use Rattle.ucl_runs.proofs.WorkSteps.{rows_next}
 use Rattle.ucl_runs.proofs.workers.enter_rows.Goals.{then-get-reporter, else-get-reporter}
 use Rattle.ucl_runs.proofs.workers.enter_rows.Goals as goal
 
 pub loop-row-init : goal.loop-row-init
-loop-row-init g c = record { own = c.requires.own; entered = entered_none (g.B.LiveBoard.reporter c.args.pass) c.args.reporter c.requires.fresh.0 c.requires.fresh.1 }
+loop-row-init g c = record {
+  own = c.requires.own;
+  entered = entered_none (g.B.LiveBoard.reporter c.args.pass) c.args.reporter c.requires.fresh.0 c.requires.fresh.1;
+  call = refl;
+  came = came_none (g.G.Gate.came c.args.gate.now) c.args.reporter;
+}
 
 pub loop-row-preserved : goal.loop-row-preserved
 loop-row-preserved g c =
     let known = g.B.LiveBoard.reporter in
+    let came = g.G.Gate.came c.args.gate.now in
     let k = known c.args.pass in
     let m = known c.loop-row.pass in
     let rows = c.args.rows.now in
@@ -20,15 +29,23 @@ loop-row-preserved g c =
     elim c.if-get-reporter.branch [
       | then-get-reporter w ↦
           let z = known w.report.new.pass in
-          let e = next_entered k m z c.args.reporter (take i rows) row w.report.result so_far.entered (sym c.get.ensures.value ∙ w.if-get-reporter.true) w.report.ensures.always w.report.ensures.accepted w.report.ensures.refused in
+          let own = sym c.get.ensures.value ∙ w.if-get-reporter.true in
+          let e = next_entered k m z c.args.reporter (take i rows) row w.report.result so_far.entered own w.report.ensures.always w.report.ensures.accepted w.report.ensures.refused in
+          let more = rows_own_next c.args.reporter i rows row c.loop-row-test.true c.row-item.is own in
           record {
             own = subst (λ p. g.B.LiveBoard.is_reporter c.args.board.now p) (sym w.pass-is) w.report.ensures.own;
             entered = subst (λ p. HasEntered k (known p) c.args.reporter (take (i + 1) rows)) (sym w.pass-is) (rows_next k z c.args.reporter i rows row c.loop-row-test.true c.row-item.is e);
+            call = w.call-is ∙ (ap (λ (n : ℕ). (n + 1) % 2 ^ 32) so_far.call ∙ (mod-add-mod (rows_by c.args.reporter (take i rows)) (2 ^ 32) 1 ∙ ap (λ (n : ℕ). n % 2 ^ 32) (sym more)));
+            came = subst (CameTo came c.args.reporter) (sym more) (came_more came c.args.reporter (rows_by c.args.reporter (take i rows)) so_far.came (subst (came c.args.reporter) so_far.call w.come.ensures));
           }
       | else-get-reporter w ↦
-          let e = next_skipped k m c.args.reporter (take i rows) row so_far.entered (λ same. w.if-get-reporter.false (c.get.ensures.value ∙ same)) in
+          let other : row.reporter ≢ c.args.reporter = λ same. w.if-get-reporter.false (c.get.ensures.value ∙ same) in
+          let e = next_skipped k m c.args.reporter (take i rows) row so_far.entered other in
+          let same = rows_other_next c.args.reporter i rows row c.loop-row-test.true c.row-item.is other in
           record {
             own = subst (λ p. g.B.LiveBoard.is_reporter c.args.board.now p) (sym w.pass-is) so_far.own;
             entered = subst (λ p. HasEntered k (known p) c.args.reporter (take (i + 1) rows)) (sym w.pass-is) (rows_next k m c.args.reporter i rows row c.loop-row-test.true c.row-item.is e);
+            call = w.call-is ∙ (so_far.call ∙ ap (λ (n : ℕ). n % 2 ^ 32) (sym same));
+            came = subst (CameTo came c.args.reporter) (sym same) so_far.came;
           }
     ]

@@ -1,5 +1,6 @@
 use Rattle.std.proofs.lemmas.Result.{err_from_is_err_and}
-use Rattle.ucl_screen.proofs.Sound.{sheet-refused, sheet-taken, sheet-tested}
+use Rattle.ucl_screen.specs.Parsing.{MeansSheet, sheet_seen}
+use Rattle.ucl_screen.proofs.Sound.{calls-read, sheet-refused, sheet-taken, sheet-tested}
 use Rattle.ucl_screen.proofs.reading.read_words.Goals as goal
 
 pub returns-in_err-roster-clause-reads : goal.returns-in_err-roster-clause-reads
@@ -7,6 +8,11 @@ returns-in_err-roster-clause-reads g c =
     let p = err_from_is_err_and c.from_residual-in_err-roster.result c.from_residual-in_err-roster.ensures.1 in
     let r = c.in_ok-bytes.ensures.reads in
     rw (p.1, p.2) (sheet-refused c.in_err-roster.field-0.0 _ _ _ c.in_ok-bytes.bytes.items r.0 r.1 (rw c.deref.ensures.value at c.in_err-roster.ensures))
+
+pub returns-in_err-roster-clause-each : goal.returns-in_err-roster-clause-each
+returns-in_err-roster-clause-each g c =
+    calls-read MeansSheet sheet_seen _ (g.S.Source.left c.read_all.new.source) (g.S.Source.failed c.read_all.new.source) _ _ _
+    c.in_ok-bytes.ensures.reads.0 (returns-in_err-roster-clause-reads g c) c.in_ok-bytes.ensures.each
 
 pub returns-clause-reads : goal.returns-clause-reads
 returns-clause-reads g c =

@@ -1,4 +1,4 @@
-use Rattle.std.proofs.Common.{◌+◌, ◌-◌, ◌≤◌, length}
+use Rattle.std.proofs.Common.{◌≡◌, ◌+◌, ◌-◌, ◌≤◌, length}
 use Rattle.std.specs.Io.KnownBytes.{Consumes}
 use Rattle.ucl_screen.proofs.transfer.read_all.Given as goal
 
@@ -6,6 +6,7 @@ abbrev pub invariant-pieces : goal.invariant-pieces
 invariant-pieces g l = record {
   within : length l.bytes.items ≤ 4194304;
   moved : Consumes (g.S.Source.left l.initial.source) (g.S.Source.left l.source) l.bytes.items;
+  none_vain : g.S.Source.in_vain l.source ≡ g.S.Source.in_vain l.initial.source;
   each_call : g.S.Source.calls l.source ≤ g.S.Source.calls l.initial.source + length l.bytes.items;
 }
 

@@ -3,4 +3,4 @@ use Rattle.ucl_pass.proofs.CellMoves.{counts}
 use Rattle.ucl_pass.proofs.cell_board.CellBoard.count.Goals as goal
 
 pub load_as-requires : goal.load_as-requires
-load_as-requires g c = (search rules, (search rules, (search rules, counts _ _)))
+load_as-requires g c = (search rules, (search rules, (search rules, counts _ _ c.requires.acts)))

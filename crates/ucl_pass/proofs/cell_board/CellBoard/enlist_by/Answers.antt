@@ -1,7 +1,7 @@
-use Rattle.std.proofs.Common.{◌≡◌, sym, ◌∙◌}
+use Rattle.std.proofs.Common.{◌≡◌, ◌≢◌, sym, ◌∙◌}
 use Rattle.crossbeam_utils.specs.Seq.{cell_view}
 use Rattle.ucl_pass.specs.CellSteps.{LooksAtEnlisted, StoresReporter}
-use Rattle.ucl_pass.proofs.Calls.{won, lost, tried_enlist, enlisted_says, new_number, number_told}
+use Rattle.ucl_pass.proofs.Calls.{won, lost, tried_again, enlisted_says, new_number, number_told}
 use Rattle.ucl_pass.proofs.cell_board.CellBoard.enlist_by.Goals as goal
 
 pub returns-then-is_ok-clause-enlisted : goal.returns-then-is_ok-clause-enlisted
@@ -13,7 +13,7 @@ returns-then-is_ok-clause-enlisted g c =
     let x = c.count-words.result in
     let next = c.one_more_reporter-next.result in
     let looked = c.count-words.ensures.looks in
-    let stored = won c.store_reporter.result (λ found. (found ≡ x) × StoresReporter u next z) (λ found. LooksAtEnlisted u found found z) c.store_reporter.ensures.stored (sym c.is_ok.ensures.value ∙ c.if-is_ok.true) in
+    let stored = won c.store_reporter.result (λ found. (found ≡ x) × StoresReporter u next z) (λ found. (found ≢ x) × LooksAtEnlisted u found found z) c.store_reporter.ensures.stored (sym c.is_ok.ensures.value ∙ c.if-is_ok.true) in
     number_told v z c.new.result _ (enlisted_says v w u x c.retry.invariant.tried looked z next stored.1.1) (new_number v w u x c.retry.invariant.tried looked z next stored.1.1 c.one_more_reporter-next.ensures) c.new.ensures.value
 
 pub retry-preserved : goal.retry-preserved
@@ -24,10 +24,11 @@ retry-preserved g c =
     let z = cell_view c.store_reporter.new.seat in
     let x = c.count-words.result in
     let next = c.one_more_reporter-next.result in
-    let missed = lost c.store_reporter.result (λ found. (found ≡ x) × StoresReporter u next z) (λ found. LooksAtEnlisted u found found z) c.store_reporter.ensures.stored (sym c.is_ok.ensures.value ∙ c.if-is_ok.false) in
+    let missed = lost c.store_reporter.result (λ found. (found ≡ x) × StoresReporter u next z) (λ found. (found ≢ x) × LooksAtEnlisted u found found z) c.store_reporter.ensures.stored (sym c.is_ok.ensures.value ∙ c.if-is_ok.false) in
     record {
       can = tt;
       ends = tt;
       own = c.store_reporter.ensures.own ∙ (c.count-words.ensures.own ∙ c.retry.invariant.own);
-      tried = tried_enlist v u z missed.0 (tried_enlist v w u x c.retry.invariant.tried c.count-words.ensures.looks) missed.1;
+      acts = missed.1.1.sees.goes.acts;
+      tried = tried_again v w u x c.retry.invariant.tried c.count-words.ensures.looks z missed.0 missed.1.0 missed.1.1;
     }

@@ -6,7 +6,7 @@ use Rattle.ucl_pass.proofs.CellMoves.{looks}
 use Rattle.ucl_pass.proofs.cell_board.CellBoard.look.Goals as goal
 
 pub load_as-requires : goal.load_as-requires
-load_as-requires g c = (search rules, (search rules, (search rules, looks _ _ _ (subst IsMatch (c.get-number.ensures.value ∙ sym c.requires.game) c.get-number.ensures.within))))
+load_as-requires g c = (search rules, (search rules, (search rules, looks _ _ _ c.requires.acts (subst IsMatch (c.get-number.ensures.value ∙ sym c.requires.game) c.get-number.ensures.within))))
 
 pub returns-clause-game : goal.returns-clause-game
 returns-clause-game g c = subst IsMatch c.get-number.ensures.value c.get-number.ensures.within

@@ -3,4 +3,4 @@ use Rattle.ucl_pass.proofs.CellMoves.{reads}
 use Rattle.ucl_pass.proofs.cell_board.CellBoard.look_to_show.Goals as goal
 
 pub load_as-requires : goal.load_as-requires
-load_as-requires g c = (search rules, (search rules, (search rules, reads _ _)))
+load_as-requires g c = (search rules, (search rules, (search rules, reads _ _ c.requires.acts)))

@@ -1,4 +1,5 @@
 use Rattle.std.proofs.Common.{◌≡◌, rules, sym, ap, ◌∙◌, subst}
+use Rattle.std.specs.Prelude.{IsSome}
 use Rattle.crossbeam_utils.specs.Seq.{cell_view}
 use Rattle.crossbeam_utils.specs.Register.{Merges}
 use Rattle.ucl_pass.specs.declared.view.View.{View}
@@ -32,3 +33,6 @@ returns-clause-meeting g c =
     let w = cell_view c.count.new.seat in
     let told : cell_view c.join_pass.new.pass ≡ told_by v (note_of a) = c.join_pass.ensures.1 ∙ ap (told_by v) c.split_pass-note.ensures.given.1 in
     met_says a v w c.count.result (subst (λ (u : View). LooksAtEnlisted u c.count.result c.count.result w) told c.count.ensures.looks)
+
+pub count-requires-clause-acts : goal.count-requires-clause-acts
+count-requires-clause-acts g c = subst (λ (u : View). IsSome u.share) (sym c.join_pass.ensures.1) c.requires.acts

@@ -1,4 +1,4 @@
-use Rattle.std.proofs.Common.{◌≡◌, ℕ, List, refl, sym, ap, ◌∙◌, subst}
+use Rattle.std.proofs.Common.{◌≡◌, ◌≢◌, ℕ, List, refl, sym, ap, ◌∙◌, subst}
 use Rattle.std.specs.Prelude.{Result, IsOk}
 use Rattle.crossbeam_utils.specs.Seq.{cell_view}
 use Rattle.ucl_word.specs.declared.event.Accepted.{Accepted}
@@ -51,12 +51,13 @@ retry-preserved g c =
     let twelve = ap (λ (ws : List ℕ). reply_of (game_at ws call.game) call) c.board_at-board.ensures in
     let one = ap (λ (n : ℕ). reply_of (record_at n) call) (same_word x (cell_view c.retry.seat) u looks.seen_all looks.sees.goes call.game c.look-words.ensures.game) in
     let may : IsOk (reply_of (record_at (word_at x call.game)) call) = subst (λ (r : Result Accepted Refusal). IsOk r) (c.in-Ok.ensures.reply ∙ (twelve ∙ one)) refl in
-    let missed = lost c.store_event-stored.result (λ found. (found ≡ x) × StoresEntry e u x next z) (λ found. LooksOnly (word_looked_at Swap call.game found) u found found z) c.store_event-stored.ensures.stored (sym c.is_ok.ensures.value ∙ c.if-is_ok.false) in
+    let missed = lost c.store_event-stored.result (λ found. (found ≡ x) × StoresEntry e u x next z) (λ found. (found ≢ x) × LooksOnly (word_looked_at Swap call.game found) u found found z) c.store_event-stored.ensures.stored (sym c.is_ok.ensures.value ∙ c.if-is_ok.false) in
     record {
       can = tt;
       ends = tt;
       own = c.store_event-stored.ensures.own ∙ (c.look-words.ensures.own ∙ c.retry.invariant.own);
-      tried = missed_again call (cell_view c.args.seat.now) (cell_view c.retry.seat) u x c.retry.invariant.tried looks z missed.0 may missed.1;
+      acts = missed.1.1.sees.goes.acts;
+      tried = missed_again call (cell_view c.args.seat.now) (cell_view c.retry.seat) u x c.retry.invariant.tried looks z missed.0 missed.1.0 may missed.1.1;
     }
 
 pub returns-then-is_ok-clause-always : goal.returns-then-is_ok-clause-always
@@ -69,7 +70,7 @@ returns-then-is_ok-clause-always g c =
     let next = c.words_with-next.result in
     let e : Entry = record { game = call.game; reporter = c.args.reporter; kind = call.kind } in
     let same : e ≡ entry_of (v.number, call) = (λ i. record { game = call.game; reporter = sym c.requires.me.1 i; kind = call.kind }) in
-    let stored = won c.store_event-stored.result (λ found. (found ≡ x) × StoresEntry e u x next z) (λ found. LooksOnly (word_looked_at Swap call.game found) u found found z) c.store_event-stored.ensures.stored (sym c.is_ok.ensures.value ∙ c.if-is_ok.true) in
+    let stored = won c.store_event-stored.result (λ found. (found ≡ x) × StoresEntry e u x next z) (λ found. (found ≢ x) × LooksOnly (word_looked_at Swap call.game found) u found found z) c.store_event-stored.ensures.stored (sym c.is_ok.ensures.value ∙ c.if-is_ok.true) in
     accepted_continues call v (cell_view c.retry.seat) u x c.retry.invariant.tried c.look-words.ensures.looks z next (subst (λ (e : Entry). StoresEntry e u x next z) same stored.1.1)
 
 pub returns-then-is_ok-clause-accepted : goal.returns-then-is_ok-clause-accepted
@@ -82,7 +83,7 @@ returns-then-is_ok-clause-accepted g c =
     let next = c.words_with-next.result in
     let e : Entry = record { game = call.game; reporter = c.args.reporter; kind = call.kind } in
     let same : e ≡ entry_of (v.number, call) = (λ i. record { game = call.game; reporter = sym c.requires.me.1 i; kind = call.kind }) in
-    let stored = won c.store_event-stored.result (λ found. (found ≡ x) × StoresEntry e u x next z) (λ found. LooksOnly (word_looked_at Swap call.game found) u found found z) c.store_event-stored.ensures.stored (sym c.is_ok.ensures.value ∙ c.if-is_ok.true) in
+    let stored = won c.store_event-stored.result (λ found. (found ≡ x) × StoresEntry e u x next z) (λ found. (found ≢ x) × LooksOnly (word_looked_at Swap call.game found) u found found z) c.store_event-stored.ensures.stored (sym c.is_ok.ensures.value ∙ c.if-is_ok.true) in
     accepts call v (cell_view c.retry.seat) u x c.retry.invariant.tried c.look-words.ensures.looks z next (subst (λ (e : Entry). StoresEntry e u x next z) same stored.1.1)
     c.in-Ok.accepted (λ h legal is. c.in-Ok.ensures.sequential h legal (is ∙ sym c.board_at-board.ensures))
 
@@ -97,7 +98,7 @@ returns-then-is_ok-clause-steps g c =
     let looks = c.look-words.ensures.looks in
     let e : Entry = record { game = call.game; reporter = c.args.reporter; kind = call.kind } in
     let same : e ≡ entry_of (v.number, call) = (λ i. record { game = call.game; reporter = sym c.requires.me.1 i; kind = call.kind }) in
-    let stored = won c.store_event-stored.result (λ found. (found ≡ x) × StoresEntry e u x next z) (λ found. LooksOnly (word_looked_at Swap call.game found) u found found z) c.store_event-stored.ensures.stored (sym c.is_ok.ensures.value ∙ c.if-is_ok.true) in
+    let stored = won c.store_event-stored.result (λ found. (found ≡ x) × StoresEntry e u x next z) (λ found. (found ≢ x) × LooksOnly (word_looked_at Swap call.game found) u found found z) c.store_event-stored.ensures.stored (sym c.is_ok.ensures.value ∙ c.if-is_ok.true) in
     let twelve = ap (λ (ws : List ℕ). reply_of (game_at ws call.game) call) c.board_at-board.ensures in
     let one = ap (λ (n : ℕ). reply_of (record_at n) call) (same_word x (cell_view c.retry.seat) u looks.seen_all looks.sees.goes call.game c.look-words.ensures.game) in
     accepted_steps call v (cell_view c.retry.seat) u x c.retry.invariant.tried looks z next (subst (λ (e : Entry). StoresEntry e u x next z) same stored.1.1)

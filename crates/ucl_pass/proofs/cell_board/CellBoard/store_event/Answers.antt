@@ -4,7 +4,7 @@ use Rattle.ucl_pass.proofs.CellMoves.{adds, add_says}
 use Rattle.ucl_pass.proofs.cell_board.CellBoard.store_event.Goals as goal
 
 pub compare_exchange_as-requires : goal.compare_exchange_as-requires
-compare_exchange_as-requires g c = (search rules, (search rules, (search rules, adds _ _ _ c.args.current c.args.next c.requires.me.0 c.requires.me.1 c.requires.game c.requires.next)))
+compare_exchange_as-requires g c = (search rules, (search rules, (search rules, adds _ _ _ c.args.current c.args.next c.requires.acts c.requires.me.0 c.requires.me.1 c.requires.game c.requires.next)))
 
 pub returns-clause-stored : goal.returns-clause-stored
 returns-clause-stored g c = add_says _ (cell_view c.args.seat.now) (cell_view c.compare_exchange_as.new.pass) c.args.current c.args.next c.compare_exchange_as.result c.requires.next c.compare_exchange_as.ensures.rule

@@ -8,7 +8,7 @@ pub loop-i-init : goal.loop-i-init
 loop-i-init c = record { same = refl; long = refl; collected = collected_none First c.args.seat.now.me.0 _ c.requires.steady }
 
 pub load-requires : goal.load-requires
-load-requires c = (c.loop-i.invariant.same ∙ (c.requires.table ∙ sym c.self.view_is), omega (arith, c.self.invariant.0), loads First _ _ _ _ (omega arith, omega arith))
+load-requires c = (c.loop-i.invariant.same ∙ (c.requires.table ∙ sym c.self.view_is), omega (arith, c.self.invariant.0), loads First _ _ _ _ c.loop-i.invariant.collected.walks.steady.sound.acts (omega arith, omega arith))
 
 pub loop-i-preserved : goal.loop-i-preserved
 loop-i-preserved c =

@@ -4,7 +4,7 @@ use Rattle.ucl_words.proofs.EnlistmentFacts.{counted_steady}
 use Rattle.ucl_words.proofs.board.WordBoard.count.Goals as goal
 
 pub load-requires : goal.load-requires
-load-requires c = (c.requires ∙ sym c.self.view_is, omega (arith, c.self.invariant.0), counts _ _ _)
+load-requires c = (c.requires.table ∙ sym c.self.view_is, omega (arith, c.self.invariant.0), counts _ _ _ c.requires.acts)
 
 pub returns-clause-steady : goal.returns-clause-steady
-returns-clause-steady c = counted_steady c.args.seat.now.me.0 c.load.new.seat.me.0 c.load.ensures.2
+returns-clause-steady c = counted_steady c.args.seat.now.me.0 c.load.new.seat.me.0 c.load.ensures.2.loads

@@ -11,7 +11,7 @@ pub compare_exchange-found-requires : goal.compare_exchange-found-requires
 compare_exchange-found-requires c = (
   c.tries.invariant.same ∙ (c.requires.table ∙ sym c.self.view_is),
   omega (arith, c.self.invariant.0),
-  enlists _ _ _ _ (c.tries.invariant.missed.number ∙ c.requires.reader) (let test = c.tries-test.true in omega arith),
+  enlists _ _ _ _ c.tries.invariant.missed.steady.sound.acts (c.tries.invariant.missed.number ∙ c.requires.reader) (let test = c.tries-test.true in omega arith),
 )
 
 pub returns-then-found-known-clause-steady : goal.returns-then-found-known-clause-steady

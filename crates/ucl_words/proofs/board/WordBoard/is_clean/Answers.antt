@@ -8,7 +8,7 @@ pub loop-i-init : goal.loop-i-init
 loop-i-init c = record { same = refl; collected = collected_none Second c.args.seat.now.me.0 c.args.words.now c.requires.steady }
 
 pub load-requires : goal.load-requires
-load-requires c = (c.loop-i.invariant.same ∙ (c.requires.table ∙ sym c.self.view_is), omega (arith, c.self.invariant.0), loads Second _ _ _ _ (omega arith, omega arith))
+load-requires c = (c.loop-i.invariant.same ∙ (c.requires.table ∙ sym c.self.view_is), omega (arith, c.self.invariant.0), loads Second _ _ _ _ c.loop-i.invariant.collected.walks.steady.sound.acts (omega arith, omega arith))
 
 pub loop-i-preserved : goal.loop-i-preserved
 loop-i-preserved c = record {
@@ -24,7 +24,7 @@ load-requires-2 c =
     let low : (1 ≤ 12) × (12 ≤ 12) = (omega arith, omega arith) in (
       c.loop-i.invariant.same ∙ (c.requires.table ∙ sym c.self.view_is),
       omega (arith, c.self.invariant.0),
-      loads_last c.self.inside.table.shared.table_id.slots c.loop-i.seat.id 12 c.loop-i.seat.me low,
+      loads_last c.self.inside.table.shared.table_id.slots c.loop-i.seat.id 12 c.loop-i.seat.me c.loop-i.invariant.collected.walks.steady.sound.acts low,
     )
 
 pub returns-then-load-words-2-clause-compared : goal.returns-then-load-words-2-clause-compared

@@ -1,4 +1,5 @@
 use Rattle.std.proofs.Common.{rules, ap, sym, subst, arith}
+use Rattle.std.specs.Prelude.{IsSome}
 use Rattle.atomic_table.specs.Table.{Joins}
 use Rattle.ucl_pass.specs.declared.view.View.{View}
 use Rattle.ucl_pass.specs.Views.{newcomer, told_by}
@@ -54,3 +55,6 @@ returns-clause-steps c =
     let v = c.args.second.now.me.0 in
     let w = c.count.new.seat.me.0 in
     met_steps a v w c.requires.steady (after_told a v c.split_seat-note.result.me.0 c.join_seat.new.seat.me.0 w (ap (λ m. m.0) c.split_seat-note.ensures.4) (ap (λ m. m.0) c.join_seat.ensures.2) c.count.ensures.loads)
+
+pub count-requires-clause-acts : goal.count-requires-clause-acts
+count-requires-clause-acts c = subst (λ (u : View). IsSome u.share) (sym (ap (λ m. m.0) c.join_seat.ensures.2)) c.requires.steady.sound.acts

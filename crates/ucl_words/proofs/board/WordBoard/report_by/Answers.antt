@@ -126,3 +126,9 @@ returns-else-found-loaded-clause-steps c =
     let accepts = accepts_by c.look-loaded.result c.in_ok-next.next (record_at c.in_ok-next.next).number c.args.reporter call c.in_ok-next.ensures.accepted.0 c.in_ok-next.ensures.record refl in
     miss_steps v u call c.look-loaded.result said.game (me_in c.args.seat.now.me.0 c.args.reporter c.requires.me) c.requires.steady said.looks (record { number = (record_at c.in_ok-next.next).number }) accepts z c.swap-found.result other (c.swap-found.ensures.missed other) _
     (ap (λ (n : ℕ). Stale n) c.number_of-else-found-loaded.ensures.value)
+
+pub look-loaded-requires-clause-acts : goal.look-loaded-requires-clause-acts
+look-loaded-requires-clause-acts c = c.requires.steady.sound.acts
+
+pub swap-found-requires-clause-acts : goal.swap-found-requires-clause-acts
+swap-found-requires-clause-acts c = c.look-loaded.ensures.looks.loads.sees.goes.acts

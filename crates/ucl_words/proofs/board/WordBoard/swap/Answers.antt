@@ -1,4 +1,4 @@
-use Rattle.std.proofs.Common.{ℕ, ◌==◌, ◌≤◌, refl, sym, ◌∙◌, subst, arith}
+use Rattle.std.proofs.Common.{ℕ, ◌==◌, ◌≤◌, sym, ◌∙◌, subst, arith}
 use mathlib.Core.Option.{some}
 use prog.Atomic.{either}
 use Rattle.atomic_table.specs.Table.{step, Allows}
@@ -20,11 +20,11 @@ compare_exchange_with-requires c =
       c.requires.table ∙ sym c.self.view_is,
       omega (arith, c.self.invariant.0),
       subst (λ (w : ℕ). Allows TableKeepsOneHistory slots seat.id seat.me w (λ n. either (n == c.args.loaded) c.args.next n) (ExchangeStep (step slots w c.args.loaded c.args.next (some e)) seat.me)) (sym (is ∙ value))
-          (swaps slots seat.id seat.me e c.args.loaded c.args.next low c.requires.me.0 c.requires.me.1 c.requires.next),
+          (swaps slots seat.id seat.me e c.args.loaded c.args.next c.requires.acts low c.requires.me.0 c.requires.me.1 c.requires.next),
     )
 
 pub returns-clause-won : goal.returns-clause-won
-returns-clause-won c hit = c.compare_exchange_with.ensures.2.won hit c.args.entry refl
+returns-clause-won c hit = c.compare_exchange_with.ensures.2.won hit
 
 pub returns-clause-missed : goal.returns-clause-missed
 returns-clause-missed c miss = subst (λ (w : ℕ). ExchangeMissed w c.args.seat.now.me.0 c.compare_exchange_with.result c.compare_exchange_with.new.seat.me.0) (c.from-word.ensures ∙ c.get.ensures.value) (c.compare_exchange_with.ensures.2.missed miss)
