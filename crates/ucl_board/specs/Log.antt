@@ -24,10 +24,10 @@ pub record Access : Type 0 where
 abbrev pub access : AccessKind → ℕ → ℕ → ℕ → Access
 access kind game found at = record { kind = kind; game = game; found = found; at = at }
 
--- what a step looked at: the word of one match, by an access that found this word; the number of enlisted reporters; or the whole board at once
+-- what a step looked at: the word of one match, by an access that found this word; the number of enlisted reporters, which it found to be so many; or the whole board at once
 pub data Target : Type 0 where
   Match : (kind : AccessKind) (game found : ℕ) → Target
-  Enlisted : Target
+  Enlisted : (found : ℕ) → Target
   Whole : Target
 
 -- a step: what it looked at, the length of the history just before it, and the entry that it added
@@ -63,7 +63,7 @@ history_of log = flat_map (λ x. entry_list x.1.entry) log
 -- the access of a step on a match word
 abbrev pub access_list : Target → ℕ → List Access
 access_list (Match kind game found) at = access kind game found at ∷ []
-access_list Enlisted at = []
+access_list (Enlisted found) at = []
 access_list Whole at = []
 
 -- the accesses of steps on match words
@@ -73,7 +73,7 @@ accesses_in steps = flat_map (λ x. access_list x.target x.at) steps
 -- the word that was found is that of its match after the history
 abbrev pub IsThere : List Entry → Target → Type 0
 IsThere history (Match kind game found) = IsMatch game × (found ≡ word_of (match_after history game))
-IsThere history Enlisted = Unit {0}
+IsThere history (Enlisted found) = Unit {0}
 IsThere history Whole = Unit {0}
 
 -- an entry is added by an exchange of its match's word, and by nothing else

@@ -6,7 +6,7 @@ ghost use mathlib.Core.List.{IsPrefix};
 ghost use Rattle.ucl_board.specs.History.{snapshot_at};
 ghost use Rattle.ucl_screen.specs.Screen.{IsGroup, screen_text};
 ghost use Rattle.ucl_runs.specs.Faults.{IsOfNight};
-ghost use Rattle.ucl_runs.specs.Gates.{HaveCalled, Showed};
+ghost use Rattle.ucl_runs.specs.Gates.{HaveCalled, Showed, rows_by};
 ghost use Rattle.ucl_runs.specs.Nights.{HasShown, HaveEnteredAll, HaveMerged, HaveNightBoard, HaveRead, HaveShares, IsDutyTold, IsOnDuty, last_shown, night_history, night_output, pass_of_reader_1, pass_of_reader_2};
 ghost use Rattle.ucl_runs.specs.Run.{IsStopped};
 
@@ -71,6 +71,9 @@ pub fn night_on<B: LiveBoard, G: Gate, W: Sink, R: Threads + Wait + Sync>(
 
     // Reporter 2's pass has seen the settled history, and both reporters have entered just its events: none after it.
     ensures count { IfOk result (λ played. HaveEnteredAll (B.reporter played.end.reporter_1) (B.reporter played.end.reporter_2) played.end.settled.version) }
+
+    // Each row was entered once: the reporters' passes have reported as many events as they have rows.
+    ensures reports { IfOk result (λ played. B.has_reported played.end.reporter_1 (rows_by 1 night.entry.now.events.items) × B.has_reported played.end.reporter_2 (rows_by 2 night.entry.now.events.items)) }
 
     // Reporter 1's pass has seen a beginning of the settled history.
     ensures beginning { IfOk result (λ played. IsPrefix (B.reporter played.end.reporter_1).seen (night_history (B.reporter played.end.reporter_2) played.end.settled.version)) }

@@ -147,7 +147,7 @@ lost_more listed tries one before after lost le more = by (no_event_between one)
 same_places : (m n : ℕ) → (m == n) ≡ true → m ≡ n
 same_places m n is = dite (ℕ_discrete m n) (λ same. same) (λ not. absurd (true≢false (sym is ∙ ne_eqb m n not)))
 
-all_more : {X : Type 0} (P : X → Type 0) (xs : List X) (x : X) → AllByRecursion P xs → P x → AllByRecursion P (xs ++ x ∷ [])
+pub all_more : {X : Type 0} (P : X → Type 0) (xs : List X) (x : X) → AllByRecursion P xs → P x → AllByRecursion P (xs ++ x ∷ [])
 all_more P [] x all one = (one, tt)
 all_more P (y ∷ xs) x all one = (all.0, all_more P xs x all.1 one)
 
@@ -287,8 +287,12 @@ module _ (v w : View) (x : List ℕ) (reading : Reading) (shows : LooksAndShows 
   read_continues = record { sound = sound x v w shows.seen_all shows.sees.goes; on = record { seen = shows.sees.goes.seen; listed = shows.seen_all.listed; share = shows.sees.goes.share }; number = shows.sees.number }
 
 -- one step more on the number of the enlisted
-pub one_more : (v w u : View) (at : ℕ) → EnlistSteps v w → Takes w (step_taken Enlisted at None ∷ []) u → EnlistSteps v u
-one_more v w u at s t = record { steps = s.steps ++ step_taken Enlisted at None ∷ []; takes = takes_on v w u s.steps (step_taken Enlisted at None ∷ []) s.takes t; on_enlisted = all_more IsOnEnlisted s.steps (step_taken Enlisted at None) s.on_enlisted (refl, refl) }
+pub one_more : (v w u : View) (found at : ℕ) → EnlistSteps v w → Takes w (step_taken (Enlisted found) at None ∷ []) u → EnlistSteps v u
+one_more v w u found at s t = record {
+  steps = s.steps ++ step_taken (Enlisted found) at None ∷ [];
+  takes = takes_on v w u s.steps (step_taken (Enlisted found) at None ∷ []) s.takes t;
+  on_enlisted = all_more IsOnEnlisted s.steps (step_taken (Enlisted found) at None) s.on_enlisted (found, (refl, refl));
+}
 
 -- an enlistment, after tries in vain
 pub record TriedEnlist (v w : View) : Type 0 where
@@ -304,10 +308,10 @@ untried v = record { stays = stays_none v; tries = []; takes = takes_none v; mis
 -- one load for an enlistment, and what came of it
 module _ (v w u : View) (x : List ℕ) (tried : TriedEnlist v w) (looked : LooksAtEnlisted w x x u) where
   abbrev count_step : Taken
-  count_step = step_taken Enlisted (length u.seen) None
+  count_step = step_taken (Enlisted (slice_index x 12)) (length u.seen) None
 
   count_stays : Stays v u
-  count_stays = looked_stays v w u Enlisted x tried.stays looked
+  count_stays = looked_stays v w u (Enlisted (slice_index x 12)) x tried.stays looked
 
   count_takes : Takes v (flat_map (λ t. t) tried.tries ++ count_step ∷ []) u
   count_takes = takes_on v w u (flat_map (λ t. t) tried.tries) (count_step ∷ []) tried.takes looked.sees.takes
@@ -318,15 +322,15 @@ module _ (v w u : View) (x : List ℕ) (tried : TriedEnlist v w) (looked : Looks
   -- an exchange was missed
   pub tried_again : (z : View) (y : List ℕ) → y ≢ x → LooksAtEnlisted u y y z → TriedEnlist v z
   tried_again z y other missed =
-      let swap_step = step_taken Enlisted (length z.seen) None in
+      let swap_step = step_taken (Enlisted (slice_index y 12)) (length z.seen) None in
       let one : List Taken = count_step ∷ swap_step ∷ [] in
       let all : flat_map (λ t. t) (tried.tries ++ one ∷ []) ≡ flat_map (λ t. t) tried.tries ++ one = flat_map-append (λ (t : List Taken). t) tried.tries (one ∷ []) in
       record {
-        stays = looked_stays v u z Enlisted y count_stays missed;
+        stays = looked_stays v u z (Enlisted (slice_index y 12)) y count_stays missed;
         tries = tried.tries ++ one ∷ [];
         takes = subst (λ (l : List Taken). Takes v l z) (sym all) (subst (λ (l : List Taken). Takes v l z) (append_assoc (flat_map (λ t. t) tried.tries) (count_step ∷ []) (swap_step ∷ []))
             (takes_on v u z (flat_map (λ t. t) tried.tries ++ count_step ∷ []) (swap_step ∷ []) count_takes missed.sees.takes));
-        missed = all_more CellEnlistMissed tried.tries one tried.missed (record { at = length u.seen; later = length z.seen; steps_are = refl });
+        missed = all_more CellEnlistMissed tried.tries one tried.missed (record { loaded = slice_index x 12; found = slice_index y 12; at = length u.seen; later = length z.seen; steps_are = refl });
         lost = lost_more v.listed tried.tries one w.listed z.listed tried.lost (let a = looked.seen_all.listed in let b = missed.seen_all.listed in omega arith)
             (λ is.
             let less = enlisted_between u z x y looked.seen_all.words_are missed.seen_all.words_are other missed.sees.goes.seen missed.seen_all.listed (same_places (length u.seen) (length z.seen) is) in
@@ -344,7 +348,7 @@ module _ (v w u : View) (x : List ℕ) (tried : TriedEnlist v w) (looked : Looks
       record { listed = omega arith; mine = count_stays.mine; shown = count_stays.shown }
 
   pub full_steps : CellEnlistment v false u
-  full_steps = record { tries = tried.tries; last = count_step ∷ []; takes = count_takes; missed = tried.missed; lost = (let a = tried.lost in let b = looked.seen_all.listed in omega arith); answered = refl }
+  full_steps = record { tries = tried.tries; last = count_step ∷ []; takes = count_takes; missed = tried.missed; lost = (let a = tried.lost in let b = looked.seen_all.listed in omega arith); answered = (slice_index x 12, refl) }
 
   module _ (z : View) (next : List ℕ) (stored : StoresReporter u next z) where
     pub enlisted_says : Enlistment (pass_view_of v) (pass_view_of z)
@@ -362,7 +366,7 @@ module _ (v w u : View) (x : List ℕ) (tried : TriedEnlist v w) (looked : Looks
 
     pub enlisted_steps : CellEnlistment v true z
     enlisted_steps =
-        let swap_step = step_taken Enlisted (length z.seen) None in
+        let swap_step = step_taken (Enlisted stored.found) (length z.seen) None in
         record {
           tries = tried.tries;
           last = count_step ∷ swap_step ∷ [];
@@ -370,11 +374,11 @@ module _ (v w u : View) (x : List ℕ) (tried : TriedEnlist v w) (looked : Looks
               (takes_on v u z (flat_map (λ t. t) tried.tries ++ count_step ∷ []) (swap_step ∷ []) count_takes stored.enlists.takes);
           missed = tried.missed;
           lost = (let a = tried.lost in let b = looked.seen_all.listed in let d = stored.enlists.above in omega arith);
-          answered = (length u.seen, refl);
+          answered = (slice_index x 12, stored.found, length u.seen, refl);
         }
 
     pub enlisted_counts : count_of v < count_of z
-    enlisted_counts = let before = look_counts in omega (arith, before, takes_count u z (step_taken Enlisted (length z.seen) None ∷ []) stored.enlists.takes)
+    enlisted_counts = let before = look_counts in omega (arith, before, takes_count u z (step_taken (Enlisted stored.found) (length z.seen) None ∷ []) stored.enlists.takes)
 
     -- the new number is one more than the last word that was found
     pub new_number : next ≡ with_one_more x → z.number ≡ slice_index x 12 + 1
@@ -402,7 +406,7 @@ module _ (a v w : View) (x : List ℕ) (looked : LooksAtEnlisted (told_by v (not
   met_continues = record { sound = sound x (told_by v (note_of a)) w looked.seen_all looked.sees.goes; on = record { seen = own_first; listed = looked.seen_all.listed; share = looked.sees.goes.share }; number = looked.sees.number }
 
   pub met_steps : MeetingSteps v w
-  met_steps = record { own = looked.sees.takes.own; copied = looked.sees.takes.copied }
+  met_steps = (slice_index x 12, record { own = looked.sees.takes.own; copied = looked.sees.takes.copied })
 
 pub sound_second : (v : View) → IsSound (pass_view_of v) → IsSound (pass_view_of (second_of v))
 sound_second v s = record { legal = s.legal; own = sym (none_by_zero v.seen s.legal); few = s.few; acts = half_acts true v.share s.acts; alone = λ is. absurd (half_not_whole true v.share is) }

@@ -84,7 +84,7 @@ looks seat v game acts is x views r here =
     (seen_by_load x views r seat v here acts (word_looked_at Look game x) there v.shown, load_keeps x views r seat v here acts (word_looked_at Look game x) there v.shown, load_tells x views r seat v here acts (word_looked_at Look game x) there v.shown)
 
 pub counts : (seat : ℕ) (v : View) → IsSome v.share → Turns CellKeepsOneHistory seat v (λ x. x) LooksAtEnlisted
-counts seat v acts x views r here = (seen_by_load x views r seat v here acts Enlisted tt v.shown, load_keeps x views r seat v here acts Enlisted tt v.shown, load_tells x views r seat v here acts Enlisted tt v.shown)
+counts seat v acts x views r here = (seen_by_load x views r seat v here acts (Enlisted (slice_index x 12)) tt v.shown, load_keeps x views r seat v here acts (Enlisted (slice_index x 12)) tt v.shown, load_tells x views r seat v here acts (Enlisted (slice_index x 12)) tt v.shown)
 
 pub reads : (seat : ℕ) (v : View) → IsSome v.share → Turns CellKeepsOneHistory seat v (λ x. x) LooksAndShows
 reads seat v acts x views r here =
@@ -169,6 +169,7 @@ module _ (x : List ℕ) (views : List View) (r : CellKeepsOneHistory x views) (s
       let l = f.listed in
       record {
         seen_all = record { words_are = more ∙ ap (λ (h : List Entry). words_after h (r.enlisted + 1)) (sym (unchanged_history words_after x views r seat v here acts reader left)); listed = omega arith; up_to_date = refl };
+        found = r.enlisted;
         enlists = enlist_tells words_after x views r seat v here acts reader left;
       }
 
@@ -184,7 +185,7 @@ enlists seat v current next acts reader room is x views r here =
     let room' : slice_index x 12 < 255 = subst (λ (ws : List ℕ). slice_index ws 12 < 255) (sym same) room in
     subst (λ (y : List ℕ). (w : View) × CellKeepsOneHistory y (set views seat w) × EnlistsOrLooks v x y w) (sym next')
     (seen_by_enlisting x views r seat v here acts reader room', enlisting_keeps x views r seat v here acts reader room', inr (enlisting_differs x views r seat v here acts reader room', enlisting_tells x views r seat v here acts reader room')))
-    (λ _. (seen_by_load x views r seat v here acts Enlisted tt v.shown, load_keeps x views r seat v here acts Enlisted tt v.shown, inl (refl, load_tells x views r seat v here acts Enlisted tt v.shown)))
+    (λ _. (seen_by_load x views r seat v here acts (Enlisted (slice_index x 12)) tt v.shown, load_keeps x views r seat v here acts (Enlisted (slice_index x 12)) tt v.shown, inl (refl, load_tells x views r seat v here acts (Enlisted (slice_index x 12)) tt v.shown)))
 
 pub seconds : (seat : ℕ) (v : View) → Forks CellKeepsOneHistory seat v (kept_of v) (second_of v)
 seconds seat v x views r here = second_added words_after x views r seat v here

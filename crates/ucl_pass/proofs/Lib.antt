@@ -6,3 +6,4 @@ pub mod Moves
 pub mod CellMoves
 pub mod Calls
 pub mod LogFacts
+pub mod Reports

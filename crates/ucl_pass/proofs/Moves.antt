@@ -52,7 +52,7 @@ at_last (x ∷ views) w u zero e = inl e
 at_last (x ∷ views) w u (suc j) e = ⊎_elim (λ was. inl was) (λ (t : (j ≡ length views) × (w ≡ u)). inr (ap suc t.0, t.1)) (at_last views w u j e)
 
 -- the log with one step more
-abbrev logged : Log → ℕ → Taken → Log
+abbrev pub logged : Log → ℕ → Taken → Log
 logged log seat t = log ++ (seat, t) ∷ []
 
 -- the view of a pass after a step of its own
@@ -235,9 +235,12 @@ module _ (words_after : List Entry → ℕ → List ℕ) where
           (still_lone looked refl)
           (still_given looked r.enlisted refl (le_refl r.enlisted))
 
-      look_log : history_of (logged r.log seat look) ≡ history_of look_keeps.log
+      pub look_same : (look_keeps.enlisted ≡ r.enlisted) × (look_keeps.log ≡ logged r.log seat look)
       unfolding look_keeps stepped
-      look_log = refl
+      look_same = (refl, refl)
+
+      look_log : history_of (logged r.log seat look) ≡ history_of look_keeps.log
+      look_log = ap history_of (sym look_same.1)
 
       pub look_tells : Sees target v looked
       look_tells =
@@ -296,10 +299,12 @@ module _ (words_after : List Entry → ℕ → List ℕ) where
           (still_lone entered refl)
           (still_given entered r.enlisted refl (le_refl r.enlisted))
 
-      module _ (after : List ℕ) (are : after ≡ words_after (followed_by (history_of r.log) e) r.enlisted) where
-        add_log : history_of (logged r.log seat add) ≡ history_of (add_keeps after are).log
-        unfolding add_keeps stepped
-        add_log = refl
+      pub add_same : (after : List ℕ) (are : after ≡ words_after (followed_by (history_of r.log) e) r.enlisted) → ((add_keeps after are).enlisted ≡ r.enlisted) × ((add_keeps after are).log ≡ logged r.log seat add)
+      unfolding add_keeps stepped
+      add_same after are = (refl, refl)
+
+      add_log : (after : List ℕ) (are : after ≡ words_after (followed_by (history_of r.log) e) r.enlisted) → history_of (logged r.log seat add) ≡ history_of (add_keeps after are).log
+      add_log after are = ap history_of (sym (add_same after are).1)
 
       pub add_tells : Adds e (history_of r.log) found v entered
       add_tells =
@@ -331,7 +336,7 @@ module _ (words_after : List Entry → ℕ → List ℕ) where
     -- an exchange that adds a reporter
     module _ (acts : IsSome v.share) (reader : v.number ≡ 0) (room : r.enlisted < 255) where
       abbrev pub count : Taken
-      count = step_taken Enlisted (length (history_of r.log)) None
+      count = step_taken (Enlisted r.enlisted) (length (history_of r.log)) None
 
       abbrev pub enlisted_as : View
       enlisted_as = after_step v r.log seat count [] (r.enlisted + 1) (r.enlisted + 1) []
@@ -371,12 +376,14 @@ module _ (words_after : List Entry → ℕ → List ℕ) where
           (still_lone enlisted_as refl)
           all_given
 
-      module _ (after : List ℕ) (are : after ≡ words_after (history_of r.log) (r.enlisted + 1)) where
-        enlist_log : history_of (logged r.log seat count) ≡ history_of (enlist_keeps after are).log
-        unfolding enlist_keeps stepped
-        enlist_log = refl
+      pub enlist_same : (after : List ℕ) (are : after ≡ words_after (history_of r.log) (r.enlisted + 1)) → ((enlist_keeps after are).enlisted ≡ r.enlisted + 1) × ((enlist_keeps after are).log ≡ logged r.log seat count)
+      unfolding enlist_keeps stepped
+      enlist_same after are = (refl, refl)
 
-      pub enlist_tells : Enlists v enlisted_as
+      enlist_log : (after : List ℕ) (are : after ≡ words_after (history_of r.log) (r.enlisted + 1)) → history_of (logged r.log seat count) ≡ history_of (enlist_keeps after are).log
+      enlist_log after are = ap history_of (sym (enlist_same after are).1)
+
+      pub enlist_tells : Enlists r.enlisted v enlisted_as
       enlist_tells =
           let f = r.fits seat v here in
           let h = unchanged_history in
@@ -392,9 +399,10 @@ module _ (words_after : List Entry → ℕ → List ℕ) where
               acts = acts;
               alone = alone_by _ views seat enlisted_as (enlist_keeps _ refl) below (enlist_log _ refl);
             };
-            takes = record { own = ap (λ (l : List Entry). v.own ++ step_taken Enlisted (length l) None ∷ []) (sym h); copied = refl };
+            takes = record { own = ap (λ (l : List Entry). v.own ++ step_taken (Enlisted r.enlisted) (length l) None ∷ []) (sym h); copied = refl };
             above = (let l = f.listed in omega arith);
             number = refl;
+            next = refl;
             mine = refl;
             shown = refl;
           }
@@ -409,6 +417,16 @@ module _ (words_after : List Entry → ℕ → List ℕ) where
         (still_alone (kept_of v) refl)
         (λ j u ne e over. still_lone v refl j u ne e (half_overlaps false v.share u.share over))
         (still_given (kept_of v) r.enlisted refl (le_refl r.enlisted))
+
+    -- nothing changes
+    again : Rule words (set views seat v)
+    again =
+        stepped words words views r seat v r.log r.enlisted r.words_are r.is_log r.legal r.few r.ranked r.seated
+        (λ j u ne e. r.fits j u e)
+        (r.fits seat v here)
+        (still_alone v refl)
+        (still_lone v refl)
+        (still_given v r.enlisted refl (le_refl r.enlisted))
 
   -- one pass more, without a number, without a step, and with a share that is no other's
   added : (words : List ℕ) (views : List View) (r : Rule words views) (w : View) → w.number ≡ 0 → w.own ≡ [] → w.log ≡ [] → w.mine ≡ [] → IsPrefix w.seen (history_of r.log) → w.told ≡ [] → w.listed ≤ r.enlisted
@@ -468,8 +486,17 @@ module _ (words_after : List Entry → ℕ → List ℕ) where
 
     pub note_added : Rule words (set views seat v ++ note_of v ∷ [])
     note_added =
-        let f = r.fits seat v here in
-        subst (λ (l : List View). Rule words (l ++ note_of v ∷ [])) (sym (set_again views seat v here)) (added words views r (note_of v) refl refl refl refl f.seen refl (omega arith) (λ j u e over. over))
+        let r2 = again words views r seat v here in
+        let f = r2.fits seat v (set_here views seat v (below words views r seat v here)) in
+        added words (set views seat v) r2 (note_of v) refl refl refl refl f.seen refl (omega arith) (λ j u e over. over)
+
+    pub second_same : (second_added.enlisted ≡ r.enlisted) × (second_added.log ≡ r.log)
+    unfolding second_added added halved stepped
+    second_same = (refl, refl)
+
+    pub note_same : (note_added.enlisted ≡ r.enlisted) × (note_added.log ≡ r.log)
+    unfolding note_added added again stepped
+    note_same = (refl, refl)
 
   -- a note was taken in: it has no number, and took no step
 
@@ -526,6 +553,10 @@ module _ (words_after : List Entry → ℕ → List ℕ) where
           (λ j z ne e over. over)
           (still_given words (set views seat (told_by v u)) told other u there newcomer told.enlisted (sym number) (le_refl told.enlisted))
 
+      pub joined_same : (note_joined.enlisted ≡ r.enlisted) × (note_joined.log ≡ r.log)
+      unfolding note_joined told stepped
+      joined_same = (refl, refl)
+
   -- a board opens with no event, no reporter and no step
   pub opens : (words : List ℕ) → words ≡ words_after [] 0 → Rule words (opener ∷ [])
   opens words are = record {
@@ -569,3 +600,7 @@ module _ (words_after : List Entry → ℕ → List ℕ) where
       numberless : (seat : ℕ) (v : View) → get_elem? (opener ∷ []) seat ≡ some v → ¬ (0 < v.number)
       numberless zero v e pos = let z : 0 ≡ v.number = ap (λ (q : View). q.number) (some-injective opener v e) in omega arith
       numberless (suc seat) v e pos = absurd (some-ne-none v (sym e))
+
+  pub opens_same : (words : List ℕ) (are : words ≡ words_after [] 0) → ((opens words are).enlisted ≡ 0) × ((opens words are).log ≡ [])
+  unfolding opens
+  opens_same words are = (refl, refl)

@@ -1,5 +1,5 @@
 -- Which steps a call takes: the pass was v and is w.
-use Rattle.std.specs.Prelude.{◌≡◌, ℕ, ◌+◌, ◌==◌, ◌≤◌, Bool, true, false, List, [], ◌∷◌, ◌++◌, length, filter, if◌then◌else◌, Some, None, Result, Ok, Err, IsOk}
+use Rattle.std.specs.Prelude.{◌≡◌, ℕ, ◌+◌, ◌==◌, ◌≤◌, Bool, true, false, List, [], ◌∷◌, ◌++◌, length, filter, if◌then◌else◌, Option, Some, None, Result, Ok, Err, IsOk}
 use Rattle.std.specs.List.{AllByRecursion, flat_map}
 use Rattle.ucl_word.specs.declared.event.EventCall.{EventCall}
 use Rattle.ucl_word.specs.declared.event.Accepted.{Accepted}
@@ -8,13 +8,17 @@ use Rattle.ucl_word.specs.Rules.{reply_of}
 use Rattle.ucl_word.specs.Layout.{record_at}
 use Rattle.ucl_board.specs.declared.reading.Reading.{Reading}
 use Rattle.ucl_board.specs.History.{entry_of}
-use Rattle.ucl_board.specs.Log.{Look, Swap, Match, Enlisted, Whole, Taken, step_taken}
+use Rattle.ucl_board.specs.declared.entry.Entry.{Entry}
+use Rattle.ucl_board.specs.Log.{Look, Swap, Target, Match, Enlisted, Whole, Taken, step_taken}
 use Rattle.ucl_pass.specs.declared.view.View.{View}
 use Rattle.ucl_pass.specs.Views.{Takes}
 
--- a step on the number of enlisted reporters
+-- a step on the number of enlisted reporters, which found so many
+abbrev pub FoundEnlisted : ℕ → Taken → Type 0
+FoundEnlisted found x = (x.target ≡ Enlisted found) × (x.entry ≡ None)
+
 abbrev pub IsOnEnlisted : Taken → Type 0
-IsOnEnlisted x = (x.target ≡ Enlisted) × (x.entry ≡ None)
+IsOnEnlisted x = (found : ℕ) × FoundEnlisted found x
 
 -- an enlistment or a meeting takes steps on the number of enlisted reporters alone
 pub record EnlistSteps (v w : View) : Type 0 where
@@ -24,7 +28,7 @@ pub record EnlistSteps (v w : View) : Type 0 where
 
 -- a meeting takes one
 abbrev pub MeetingSteps : View → View → Type 0
-MeetingSteps v w = Takes v (step_taken Enlisted (length w.seen) None ∷ []) w
+MeetingSteps v w = (found : ℕ) × Takes v (step_taken (Enlisted found) (length w.seen) None ∷ []) w
 
 -- a second pass has a copy of the steps, and has taken none
 abbrev pub HasCopyOf : View → View → Type 0
@@ -78,14 +82,16 @@ pub record CellReport (v : View) (call : EventCall) (reply : Result Accepted Ref
 
 -- a try in vain of an enlistment: a load, and an exchange that was missed
 pub record CellEnlistMissed (steps : List Taken) : Type 0 where
+  pub loaded : ℕ
+  pub found : ℕ
   pub at : ℕ
   pub later : ℕ
-  pub steps_are : steps ≡ step_taken Enlisted at None ∷ step_taken Enlisted later None ∷ []
+  pub steps_are : steps ≡ step_taken (Enlisted loaded) at None ∷ step_taken (Enlisted found) later None ∷ []
 
 -- the try that has the answer: a load and an exchange that gave the number, or a load that found as many enlisted as there are numbers
 abbrev pub CellEnlistAnswered : Bool → ℕ → List Taken → Type 0
-CellEnlistAnswered true now steps = (at : ℕ) × (steps ≡ step_taken Enlisted at None ∷ step_taken Enlisted now None ∷ [])
-CellEnlistAnswered false now steps = steps ≡ step_taken Enlisted now None ∷ []
+CellEnlistAnswered true now steps = (loaded found at : ℕ) × (steps ≡ step_taken (Enlisted loaded) at None ∷ step_taken (Enlisted found) now None ∷ [])
+CellEnlistAnswered false now steps = (loaded : ℕ) × (steps ≡ step_taken (Enlisted loaded) now None ∷ [])
 
 -- an enlistment on the cell, which gave a number or found none: tries in vain, and then the one that has the answer. The number that it
 -- gave is one more than were enlisted
@@ -96,6 +102,20 @@ pub record CellEnlistment (v : View) (given : Bool) (w : View) : Type 0 where
   pub missed : AllByRecursion CellEnlistMissed tries
   pub lost : WereLost (v.listed + (if given then 1 else 0)) tries w.listed
   pub answered : CellEnlistAnswered given (length w.seen) last
+
+-- a load for a report
+abbrev pub looks_for_report : Target → Bool
+looks_for_report (Match Look game found) = true
+looks_for_report _ = false
+
+-- an exchange for a report that stored nothing
+abbrev pub was_missed : Target → Option Entry → Bool
+was_missed (Match Swap game found) None = true
+was_missed _ _ = false
+
+-- so many events were reported by these steps: a load for each, and one more for each exchange that was missed
+abbrev pub CellHasReported : List Taken → ℕ → Type 0
+CellHasReported steps n = length (filter (λ x. looks_for_report x.target) steps) ≡ length (filter (λ x. was_missed x.target x.entry) steps) + n
 
 -- a reading of the cell is one load, at its version
 abbrev pub CellReading : View → Reading → View → Type 0

@@ -46,7 +46,8 @@ pub record StoresEntry (e : Entry) (v : View) (x y : List ℕ) (w : View) : Type
 -- a step that stored one enlistment
 pub record StoresReporter (v : View) (y : List ℕ) (w : View) : Type 0 where
   pub seen_all : HasSeenAll y v w
-  pub enlists : Enlists v w
+  pub found : ℕ
+  pub enlists : Enlists found v w
 
 -- a load that shows nothing
 abbrev pub LooksOnly : Target → View → List ℕ → List ℕ → View → Type 0
@@ -58,7 +59,7 @@ LooksAtMatch game v x y w = LooksOnly (word_looked_at Look game x) v x y w
 
 -- a load for an enlistment or a meeting
 abbrev pub LooksAtEnlisted : View → List ℕ → List ℕ → View → Type 0
-LooksAtEnlisted v x y w = LooksOnly Enlisted v x y w
+LooksAtEnlisted v x y w = LooksOnly (Enlisted (slice_index x 12)) v x y w
 
 -- a load whose version is shown
 abbrev pub LooksAndShows : View → List ℕ → List ℕ → View → Type 0

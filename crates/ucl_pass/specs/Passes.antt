@@ -1,5 +1,5 @@
 -- What contracts know of a pass, and what each call on a shared board says of it. Every shared board, settling and the night cite these.
-use Rattle.std.specs.Prelude.{◌≡◌, ℕ, ◌==◌, ◌<◌, ◌≤◌, List, [], ◌∷◌, ◌++◌, length, filter, IsSome, Ok, Err}
+use Rattle.std.specs.Prelude.{◌≡◌, ℕ, ◌+◌, ◌==◌, ◌<◌, ◌≤◌, List, [], ◌∷◌, ◌++◌, length, filter, IsSome, Ok, Err}
 use mathlib.Core.List.{IsPrefix}
 use Rattle.ucl_word.specs.declared.event.EventCall.{EventCall}
 use Rattle.ucl_word.specs.declared.event.Accepted.{Accepted}
@@ -105,6 +105,10 @@ pub record Meeting (first k m : PassView) : Type 0 where
   pub met : IsPrefix first.seen m.seen
   pub mine : m.mine ≡ k.mine
   pub shown : m.shown ≡ k.shown
+
+-- from one moment to another so many events more were reported, whatever their replies
+abbrev pub ReportsMore : (ℕ → Type 0) → ℕ → (ℕ → Type 0) → Type 0
+ReportsMore before more after = (n : ℕ) → before n → after (n + more)
 
 -- a reporter's figures: its number, and how many of its events were accepted
 pub record Figures : Type 0 where

@@ -1,5 +1,5 @@
 -- What each kind of step on a shared board tells its pass: v before and w after.
-use Rattle.std.specs.Prelude.{◌≡◌, ℕ, ◌<◌, ◌≤◌, List, [], ◌∷◌, All, length, Some, None, IsSome}
+use Rattle.std.specs.Prelude.{◌≡◌, ℕ, ◌+◌, ◌<◌, ◌≤◌, List, [], ◌∷◌, All, length, Some, None, IsSome}
 use mathlib.Core.List.{IsPrefix}
 use Rattle.ucl_board.specs.declared.entry.Entry.{Entry}
 use Rattle.ucl_board.specs.History.{IsLegal, followed_by}
@@ -41,11 +41,12 @@ pub record Adds (e : Entry) (before : List Entry) (found : ℕ) (v w : View) : T
   pub number : w.number ≡ v.number
   pub shown : w.shown ≡ v.shown
 
--- an exchange that stored an enlistment: the pass is a reporter's
-pub record Enlists (v w : View) : Type 0 where
+-- an exchange that stored an enlistment, where so many were enlisted: the pass is a reporter's, with the number after it
+pub record Enlists (found : ℕ) (v w : View) : Type 0 where
   pub goes : Goes v w
-  pub takes : Takes v (step_taken Enlisted (length w.seen) None ∷ []) w
+  pub takes : Takes v (step_taken (Enlisted found) (length w.seen) None ∷ []) w
   pub above : v.listed < w.listed
   pub number : w.number ≡ w.listed
+  pub next : w.listed ≡ found + 1
   pub mine : w.mine ≡ []
   pub shown : w.shown ≡ []

@@ -1,7 +1,7 @@
 //! What every shared board is.
 
-ghost use Rattle.std.specs.Prelude.{◌≡◌, IfOk, IfErr, MatchResult};
-ghost use Rattle.ucl_pass.specs.Passes.{PassView, IsSound, Continues, AcceptedReport, RefusedReport, SharedReading, kept_pass, split_pass, Enlistment, FullBoard, Meeting, reporter_figures};
+ghost use Rattle.std.specs.Prelude.{◌≡◌, ℕ, IfOk, IfErr, MatchResult};
+ghost use Rattle.ucl_pass.specs.Passes.{PassView, IsSound, Continues, ReportsMore, AcceptedReport, RefusedReport, SharedReading, kept_pass, split_pass, Enlistment, FullBoard, Meeting, reporter_figures};
 
 use crate::errors::TooManyReporters;
 use std::sync::Wait;
@@ -30,6 +30,9 @@ pub trait LiveBoard: Sync {
 
     ghost reporter: { Self.ReporterPass → PassView };
 
+    // How many events a reporter's pass has reported, whatever the replies: one more by each report, and by nothing else.
+    ghost has_reported: { Self.ReporterPass → ℕ → Type 0 };
+
     /// Enters an event under the number of the pass. An accepted event is the last that the pass has seen; a refusal is the reply
     /// of a board of one thread after all that the pass has then seen, enters nothing, and may leave the pass having seen more.
     ///
@@ -54,7 +57,8 @@ pub trait LiveBoard: Sync {
         ensures own { is_reporter self.now pass.new }
         ensures always { Continues (reporter pass.old) (reporter pass.new) }
         ensures accepted { IfOk result (λ reply. AcceptedReport (reporter pass.old) call.now reply (reporter pass.new)) }
-        ensures refused { IfErr result (λ refusal. RefusedReport (reporter pass.old) call.now refusal (reporter pass.new)) };
+        ensures refused { IfErr result (λ refusal. RefusedReport (reporter pass.old) call.now refusal (reporter pass.new)) }
+        ensures reported { ReportsMore (has_reported pass.old) 1 (has_reported pass.new) };
 
     /// The board after a beginning of the history that has all that the pass had seen, and its version.
     ///
@@ -88,7 +92,8 @@ pub trait LiveBoard: Sync {
         requires { is_reporter self.now pass.old }
         ensures own { is_reporter self.now pass.new }
         ensures always { Continues (reporter pass.old) (reporter pass.new) }
-        ensures reading { SharedReading (reporter pass.old) result (reporter pass.new) };
+        ensures reading { SharedReading (reporter pass.old) result (reporter pass.new) }
+        ensures reported { ReportsMore (has_reported pass.old) 0 (has_reported pass.new) };
 
     /// A second pass, which has seen as much as the lent one, for another thread.
     ///
@@ -125,7 +130,8 @@ pub trait LiveBoard: Sync {
         ensures own { MatchResult result (λ enlisted. is_reporter self.now enlisted) (λ full. is_reader self.now full.0) }
         ensures enlisted { IfOk result (λ enlisted. Enlistment (reader pass) (reporter enlisted)) }
         ensures always { IfErr result (λ full. Continues (reader pass) (reader full.0)) }
-        ensures full { IfErr result (λ full. FullBoard (reader pass) (reader full.0)) };
+        ensures full { IfErr result (λ full. FullBoard (reader pass) (reader full.0)) }
+        ensures reported { IfOk result (λ enlisted. has_reported enlisted 0) };
 
     /// Afterwards the second pass has seen all that either had seen. The first is as it was.
     ///
@@ -143,7 +149,8 @@ pub trait LiveBoard: Sync {
         ensures sound { IsSound (reporter first.old) }
         ensures always { Continues (reporter second.old) (reporter second.new) }
         ensures unchanged { reporter first.new ≡ reporter first.old }
-        ensures meeting { Meeting (reporter first.old) (reporter second.old) (reporter second.new) };
+        ensures meeting { Meeting (reporter first.old) (reporter second.old) (reporter second.new) }
+        ensures reported { ReportsMore (has_reported first.old) 0 (has_reported first.new) × ReportsMore (has_reported second.old) 0 (has_reported second.new) };
 
     /// The same where the first is a reader: afterwards the reporter's pass has seen all that either had seen.
     ///
@@ -165,7 +172,8 @@ pub trait LiveBoard: Sync {
         ensures sound { IsSound (reader first.old) }
         ensures always { Continues (reporter second.old) (reporter second.new) }
         ensures unchanged { reader first.new ≡ reader first.old }
-        ensures meeting { Meeting (reader first.old) (reporter second.old) (reporter second.new) };
+        ensures meeting { Meeting (reader first.old) (reporter second.old) (reporter second.new) }
+        ensures reported { ReportsMore (has_reported second.old) 0 (has_reported second.new) };
 
     /// The number of a reporter's pass.
     ///

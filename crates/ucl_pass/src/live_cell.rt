@@ -1,10 +1,10 @@
 //! The board in one cell is a live board.
 
 ghost use Rattle.std.specs.Prelude.{◌≡◌, ◌+◌, ◌<◌, length, IfOk, IfErr, MatchResult, true, false};
-ghost use Rattle.ucl_pass.specs.Passes.{IsSound, Continues, AcceptedReport, RefusedReport, SharedReading, split_pass, Enlistment, FullBoard, Meeting, reporter_figures};
+ghost use Rattle.ucl_pass.specs.Passes.{IsSound, Continues, ReportsMore, AcceptedReport, RefusedReport, SharedReading, split_pass, Enlistment, FullBoard, Meeting, reporter_figures};
 ghost use Rattle.ucl_pass.specs.Views.{pass_view_of, count_of, kept_of};
 ghost use Rattle.ucl_pass.specs.CellRule.{IsUpToDate};
-ghost use Rattle.ucl_pass.specs.CallSteps.{MeetingSteps, HasCopyOf, CellReport, CellEnlistment, CellReading};
+ghost use Rattle.ucl_pass.specs.CallSteps.{MeetingSteps, HasCopyOf, CellHasReported, CellReport, CellEnlistment, CellReading};
 
 use crate::cell_board::CellBoard;
 use crate::errors::TooManyReporters;
@@ -31,6 +31,8 @@ impl LiveBoard for CellBoard {
 
     ghost reporter = { λ pass. pass_view_of pass.view };
 
+    ghost has_reported = { λ pass. CellHasReported pass.view.own };
+
     fn report<R: Wait>(
         &self,
         rt: &R,
@@ -42,6 +44,7 @@ impl LiveBoard for CellBoard {
         ensures always { Continues (pass_view_of pass.old.view) (pass_view_of pass.new.view) }
         ensures accepted { IfOk result (λ reply. AcceptedReport (pass_view_of pass.old.view) call.now reply (pass_view_of pass.new.view)) }
         ensures refused { IfErr result (λ refusal. RefusedReport (pass_view_of pass.old.view) call.now refusal (pass_view_of pass.new.view)) }
+        ensures reported { ReportsMore (CellHasReported pass.old.view.own) 1 (CellHasReported pass.new.view.own) }
         ensures acts { count_of pass.old.view < count_of pass.new.view }
         ensures steps { CellReport pass.old.view call.now result pass.new.view }
         ensures up_to_date { IsUpToDate pass.new.view }
@@ -72,6 +75,7 @@ impl LiveBoard for CellBoard {
         ensures own { pass.new.board ≡ self.now }
         ensures always { Continues (pass_view_of pass.old.view) (pass_view_of pass.new.view) }
         ensures reading { SharedReading (pass_view_of pass.old.view) result (pass_view_of pass.new.view) }
+        ensures reported { ReportsMore (CellHasReported pass.old.view.own) 0 (CellHasReported pass.new.view.own) }
         ensures version { result.version ≡ length pass.new.view.seen }
         ensures acts { count_of pass.new.view ≡ count_of pass.old.view + 1 }
         ensures steps { CellReading pass.old.view result pass.new.view }
@@ -104,6 +108,7 @@ impl LiveBoard for CellBoard {
         ensures enlisted { IfOk result (λ enlisted. Enlistment (pass_view_of pass.view) (pass_view_of enlisted.view)) }
         ensures always { IfErr result (λ full. Continues (pass_view_of pass.view) (pass_view_of full.0.view)) }
         ensures full { IfErr result (λ full. FullBoard (pass_view_of pass.view) (pass_view_of full.0.view)) }
+        ensures reported { IfOk result (λ enlisted. CellHasReported enlisted.view.own 0) }
         ensures acts { MatchResult result (λ enlisted. count_of pass.view < count_of enlisted.view) (λ full. count_of pass.view < count_of full.0.view) }
         ensures steps { MatchResult result (λ enlisted. CellEnlistment pass.view true enlisted.view) (λ full. CellEnlistment pass.view false full.0.view) }
         ensures up_to_date { MatchResult result (λ enlisted. IsUpToDate enlisted.view) (λ full. IsUpToDate full.0.view) }
@@ -126,6 +131,7 @@ impl LiveBoard for CellBoard {
         ensures always { Continues (pass_view_of second.old.view) (pass_view_of second.new.view) }
         ensures unchanged { first.new.view ≡ first.old.view }
         ensures meeting { Meeting (pass_view_of first.old.view) (pass_view_of second.old.view) (pass_view_of second.new.view) }
+        ensures reported { ReportsMore (CellHasReported first.old.view.own) 0 (CellHasReported first.new.view.own) × ReportsMore (CellHasReported second.old.view.own) 0 (CellHasReported second.new.view.own) }
         ensures acts { count_of second.new.view ≡ count_of second.old.view + 1 }
         ensures steps { MeetingSteps second.old.view second.new.view }
         ensures up_to_date { IsUpToDate second.new.view }
@@ -145,6 +151,7 @@ impl LiveBoard for CellBoard {
         ensures always { Continues (pass_view_of second.old.view) (pass_view_of second.new.view) }
         ensures unchanged { first.new.view ≡ first.old.view }
         ensures meeting { Meeting (pass_view_of first.old.view) (pass_view_of second.old.view) (pass_view_of second.new.view) }
+        ensures reported { ReportsMore (CellHasReported second.old.view.own) 0 (CellHasReported second.new.view.own) }
         ensures acts { count_of second.new.view ≡ count_of second.old.view + 1 }
         ensures steps { MeetingSteps second.old.view second.new.view }
         ensures up_to_date { IsUpToDate second.new.view }

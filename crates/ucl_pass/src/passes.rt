@@ -2,6 +2,7 @@
 
 ghost use Rattle.std.specs.Prelude.{◌≡◌, length};
 ghost use Rattle.crossbeam_utils.specs.Seq.{cell_view};
+ghost use Rattle.ucl_pass.specs.CallSteps.{CellHasReported};
 ghost use Rattle.ucl_pass.specs.Passes.{IsSound};
 ghost use Rattle.ucl_pass.specs.Views.{Pass, pass_view_of};
 
@@ -20,7 +21,7 @@ impl Model for CellReaderPass {
 
     ghost view = { λ reader. record { board = reader.seat.table_id; view = cell_view reader.seat } };
 
-    ghost invariant = { λ reader. IsSound (pass_view_of (cell_view reader.seat)) × ((cell_view reader.seat).number ≡ 0) };
+    ghost invariant = { λ reader. IsSound (pass_view_of (cell_view reader.seat)) × ((cell_view reader.seat).number ≡ 0) × CellHasReported (cell_view reader.seat).own 0 };
 }
 
 impl CellReaderPass {

@@ -2,7 +2,7 @@
 
 ghost use Rattle.std.specs.Prelude.{◌≡◌, ◌≢◌, ◌<◌, ◌↔◌, [], ◌∷◌, ◌++◌, take, IsOk, IfOk, IfErr};
 ghost use Rattle.ucl_board.specs.History.{snapshot_at};
-ghost use Rattle.ucl_pass.specs.Passes.{Continues};
+ghost use Rattle.ucl_pass.specs.Passes.{Continues, ReportsMore};
 ghost use Rattle.ucl_pass.specs.Settling.{version_answered, both_accepted, Settled, AreAlone, IsOfBoth};
 
 use crate::errors::Strangers;
@@ -33,6 +33,7 @@ pub fn settle<B: LiveBoard, R: Wait>(
     ensures own { B.is_reporter board.now first.new × B.is_reporter board.now second.new }
     ensures always { Continues (B.reporter first.old) (B.reporter first.new) × Continues (B.reporter second.old) (B.reporter second.new) }
     ensures unchanged { B.reporter first.new ≡ B.reporter first.old }
+    ensures reported { ReportsMore (B.has_reported first.old) 0 (B.has_reported first.new) × ReportsMore (B.has_reported second.old) 0 (B.has_reported second.new) }
     ensures shown { (B.reporter second.new).shown ≡ (B.reporter second.old).shown ++ version_answered result ∷ [] }
     ensures settled { Settled (B.reporter first.old) (B.reporter second.old) (B.reporter first.new) (B.reporter second.new) (version_answered result) }
     ensures exactly { IsOk result ↔ AreAlone (B.reporter first.old) (B.reporter second.old) (version_answered result) }

@@ -12,7 +12,7 @@ use Rattle.ucl_order.specs.declared.profile.Profile.{Profile}
 use Rattle.ucl_order.specs.Roster.{NamedClub}
 use Rattle.ucl_screen.specs.declared.night.NightEvent.{NightEvent}
 use Rattle.ucl_screen.specs.Screen.{screen_text}
-use Rattle.ucl_pass.specs.Passes.{PassView, Continues, SharedReading}
+use Rattle.ucl_pass.specs.Passes.{PassView, Continues, SharedReading, ReportsMore}
 use Rattle.ucl_runs.specs.Gates.{CameTo, IsScreenOf, Showed, rows_by}
 
 -- a row of the reporter is one row more
@@ -51,6 +51,32 @@ came_more came worker calls before now call below = elim (eq-or-lt_of_le within)
 -- the same where the calls are fewer than numbers of 32 bits
 pub came_next : (came : ℕ → ℕ → Type 0) (worker call calls : ℕ) → call < calls → calls < 2 ^ 32 → CameTo came worker call → came worker call → CameTo came worker (call + 1)
 came_next came worker call calls below fit before now = came_more came worker call before (subst (came worker) (sym (mod-eq_of_lt (lt_trans below fit))) now)
+
+-- nothing was reported yet, and one event more
+pub none_more : (A : ℕ → Type 0) → ReportsMore A 0 A
+none_more A n before = subst A (nothing n) before
+  where
+    nothing : (n : ℕ) → n ≡ n + 0
+    nothing n = omega arith
+
+pub one_more : (A B C : ℕ → Type 0) (more : ℕ) → ReportsMore A more B → ReportsMore B 1 C → ReportsMore A (more + 1) C
+one_more A B C more first second n before = subst C (together n more) (second (n + more) (first n before))
+  where
+    together : (n more : ℕ) → n + more + 1 ≡ n + (more + 1)
+    together n more = omega arith
+
+-- from no report, so many, and none after them
+pub reported_in_all : (A B C : ℕ → Type 0) (more : ℕ) → A 0 → ReportsMore A more B → ReportsMore B 0 C → C more
+reported_in_all A B C more none first second = subst C (all more) (second (0 + more) (first 0 none))
+  where
+    all : (more : ℕ) → 0 + more + 0 ≡ more
+    all more = omega arith
+
+pub none_twice : (A B C : ℕ → Type 0) → ReportsMore A 0 B → ReportsMore B 0 C → ReportsMore A 0 C
+none_twice A B C first second n before = subst C (nothing n) (second (n + 0) (first n before))
+  where
+    nothing : (n : ℕ) → n + 0 + 0 ≡ n + 0
+    nothing n = omega arith
 
 -- a screen is of each longer history, as a version within the first
 pub showed_on : (showed : ℕ → Reading → List ℕ → Type 0) (worker : ℕ) (profile : Profile) (seen history : List Entry) (versions : List ℕ) (roster : List NamedClub) (group : ℕ)

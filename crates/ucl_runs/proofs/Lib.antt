@@ -12,3 +12,4 @@ pub mod MergedRows
 pub mod Merges
 pub mod ToldLines
 pub mod Unsigned
+pub mod BoardScreens

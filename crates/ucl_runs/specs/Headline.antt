@@ -1,8 +1,10 @@
 -- One history for all callers, and the screens of what its readers read.
 use Rattle.std.specs.Prelude.{◌≡◌, ℕ, ◌++◌, List, All, take, flat_map, Some}
+use Rattle.atomic_table.specs.Table.{State}
 use Rattle.ucl_board.specs.declared.entry.Entry.{Entry}
 use Rattle.ucl_board.specs.declared.reading.Reading.{Reading}
 use Rattle.ucl_board.specs.History.{board_of}
+use Rattle.ucl_board.specs.Log.{history_of}
 use Rattle.ucl_order.specs.declared.profile.Profile.{Profile}
 use Rattle.ucl_order.specs.Roster.{NamedClub}
 use Rattle.ucl_order.specs.Rows.{rows_of}
@@ -14,6 +16,9 @@ use Rattle.ucl_steps.specs.declared.trace.CallRecord.{CallRecord}
 use Rattle.ucl_steps.specs.declared.trace.Reply.TheVariants.{Copied}
 use Rattle.ucl_steps.specs.Machine.{MachineState, initial_state, after_steps}
 use Rattle.ucl_steps.specs.Linearizable.{IsDecided, IsLinearizable}
+use Rattle.ucl_words.specs.declared.view.WordView.{WordView}
+use Rattle.ucl_words.specs.WordRule.{TableKeepsOneHistory}
+use Rattle.ucl_words.specs.Laws.{IsRunOfBoard}
 
 -- the board after the first k entries of a history, as a screen shows it: version k, and the clubs in the order of the
 -- profile, each with its numbers and its mark
@@ -37,3 +42,12 @@ pub record HasOneHistory (steps : List Step) (history : List Entry) (calls : Lis
 -- for every list of steps of any reporters and readers, with calls cut anywhere and left unfinished
 abbrev pub EveryRunHasOneHistory : Type 0
 EveryRunHasOneHistory = (cast : Cast) (steps : List Step) (state : MachineState) → after_steps steps (initial_state cast) ≡ Some state → HasOneHistory steps state.history state.calls
+
+-- between any two steps of any threads on a word board: its log is one run of the machine, one history explains all its calls, those under way among them, and the screen of each reading is the text of
+-- the chosen order of the board that the reading copied
+pub record BoardHasOneHistory (s : State Entry WordView) (r : TableKeepsOneHistory s) : Type 0 where
+  pub run : IsRunOfBoard s r
+  pub screens : All (ScreenIsOfItsPlace (history_of r.shared.log)) run.last.calls
+
+abbrev pub BoardsHaveOneHistory : Type 0
+BoardsHaveOneHistory = (s : State Entry WordView) (r : TableKeepsOneHistory s) → BoardHasOneHistory s r

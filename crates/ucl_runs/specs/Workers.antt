@@ -4,6 +4,7 @@ use Rattle.ucl_order.specs.declared.profile.Profile.{Profile}
 use Rattle.ucl_order.specs.Roster.{NamedClub}
 use Rattle.ucl_screen.specs.declared.night.NightEvent.{NightEvent}
 use Rattle.ucl_pass.specs.declared.live_board.LiveBoard as boards
+use Rattle.ucl_pass.specs.Passes.{ReportsMore}
 use Rattle.ucl_runs.specs.declared.gate.Gate as gates
 use Rattle.ucl_runs.specs.declared.workers.Shown.{Shown}
 use Rattle.ucl_runs.specs.Gates.{CameTo, Showed, rows_by}
@@ -18,9 +19,10 @@ module _ {B R P : Type 0} (live : boards.Ghosts B R P) (board : B) where
   abbrev pub IsNewOn : R → Type 0
   IsNewOn pass = live.is_reader board pass × IsNew (live.reader pass)
 
-  -- a reporter's pass of the board has entered its rows of a script
+  -- a reporter's pass of the board has entered its rows of a script, and has reported each of them once
   abbrev pub HasEnteredOn : P → ℕ → List NightEvent → P → Type 0
   HasEnteredOn before reporter rows after = live.is_reporter board after × HasEntered (live.reporter before) (live.reporter after) reporter rows
+      × ReportsMore (live.has_reported before) (rows_by reporter rows) (live.has_reported after)
 
   -- a reader's pass of the board has shown its readings, of the history that it has then seen
   abbrev pub HasShownOn : Profile → R → ℕ → List NamedClub → ℕ → Shown R → Type 0

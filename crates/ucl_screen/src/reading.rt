@@ -22,8 +22,8 @@ use ucl_board::Board;
 use ucl_order::{Club, Roster};
 use ucl_word::{EventCall, MatchNo, ReporterNo};
 
-/// The club that a row with this number says.
-fn club_of(alloc: Global, row: u8, fields: &Four<'_>) -> Result<Option<Club>, AllocError>
+/// The club that four fields say, in a row with this number.
+pub fn club_of_fields(alloc: Global, row: u8, fields: &Four<'_>) -> Result<Option<Club>, AllocError>
     requires { row ≤ 9 }
     ensures { IfOk result (λ club. option_map club_seen club ≡ club_of row (four_seen fields.now)) }
 {
@@ -58,7 +58,7 @@ fn club_at(alloc: Global, number: u8, rows: &mut Reader<&[u8]>) -> Result<Club, 
     let Some(fields) = four_fields(&row) else {
         return Err(bad);
     };
-    match club_of(alloc, number, &fields)? {
+    match club_of_fields(alloc, number, &fields)? {
         Some(club) => Ok(club),
         None => Err(bad),
     }
@@ -82,11 +82,10 @@ fn roster_at(alloc: Global, rows: &mut Reader<&[u8]>) -> Result<Roster, InputFau
     }
 }
 
-/// The event that a row says.
-fn event_of(row: &ByteRecord) -> Option<NightEvent>
-    ensures { result ≡ said_by event_of (fields_of row.now) }
+/// The event that four fields say.
+pub fn event_of_fields(fields: &Four<'_>) -> Option<NightEvent>
+    ensures { result ≡ event_of (four_seen fields.now) }
 {
-    let fields = four_fields(row)?;
     let reporter = ReporterNo::new(number_within(fields.first, 3, 1, 255)? as u8)?;
     let game = MatchNo::new(number_within(fields.second, 2, 1, 12)? as u8)?;
     let expected = number_within(fields.third, 5, 0, u16::MAX)?;
@@ -99,6 +98,13 @@ fn event_of(row: &ByteRecord) -> Option<NightEvent>
             kind,
         },
     })
+}
+
+/// The event that a row says.
+fn event_of(row: &ByteRecord) -> Option<NightEvent>
+    ensures { result ≡ said_by event_of (fields_of row.now) }
+{
+    event_of_fields(&four_fields(row)?)
 }
 
 /// The events of the rows that are left, of which the first is row 5.
@@ -158,11 +164,10 @@ pub fn read_night<S: Source>(alloc: Global, source: &mut S) -> Result<Night, Inp
     night_of(alloc, &bytes)
 }
 
-/// The word that the row of this match says.
-fn word_of_row(game: u8, row: &ByteRecord) -> Option<u64>
-    ensures { result ≡ said_by (word_of_row game) (fields_of row.now) }
+/// The word that four fields say, in the row of this match.
+pub fn word_of_fields(game: u8, fields: &Four<'_>) -> Option<u64>
+    ensures { result ≡ word_of_row game (four_seen fields.now) }
 {
-    let fields = four_fields(row)?;
     if fields.first != b"word".as_slice() || !fields.fourth.is_empty() {
         return None;
     }
@@ -170,6 +175,13 @@ fn word_of_row(game: u8, row: &ByteRecord) -> Option<u64>
         return None;
     }
     hex_word(fields.third)
+}
+
+/// The word that the row of this match says.
+fn word_of_row(game: u8, row: &ByteRecord) -> Option<u64>
+    ensures { result ≡ said_by (word_of_row game) (fields_of row.now) }
+{
+    word_of_fields(game, &four_fields(row)?)
 }
 
 /// The words of the rows that are left, which are rows 5 to 16.

@@ -9,11 +9,15 @@ use std::alloc::{AllocError, Global};
 
 /// The four fields of a row.
 #[derive(Clone, Copy)]
-pub(crate) struct Four<'a> {
-    pub(crate) first: &'a [u8],
-    pub(crate) second: &'a [u8],
-    pub(crate) third: &'a [u8],
-    pub(crate) fourth: &'a [u8],
+pub struct Four<'a> {
+    /// The first field.
+    pub first: &'a [u8],
+    /// The second field.
+    pub second: &'a [u8],
+    /// The third field.
+    pub third: &'a [u8],
+    /// The fourth field.
+    pub fourth: &'a [u8],
 }
 
 /// A reader of the rows of a text, none of which is a heading.

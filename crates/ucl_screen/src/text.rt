@@ -23,7 +23,7 @@ pub fn is_group(letter: u8) -> bool
 }
 
 /// How many matches are in play.
-fn matches_in_play(board: &Board) -> u8
+pub fn matches_in_play(board: &Board) -> u8
     ensures { result ≡ in_play board.now }
 {
     let words = board.words();
@@ -37,7 +37,7 @@ fn matches_in_play(board: &Board) -> u8
 }
 
 /// A club's name as text.
-fn text_of(name: &[u8]) -> &str
+pub fn text_of(name: &[u8]) -> &str
     requires { is_name name.now ≡ true }
     ensures { result.now ≡ name.now }
 {

@@ -1,5 +1,5 @@
 -- A call's accesses are steps of the machine, from its beginning to its end.
-use Rattle.std.proofs.Common.{◌≡◌, ◌≢◌, ℕ, ◌+◌, ◌-◌, ◌<◌, ◌≤◌, ◌==◌, Bool, cond, List, [], ◌∷◌, ◌++◌, take, length, map, Option, Some, None, ◌⊎◌, inl, inr, refl, sym, ap, ◌∙◌, subst, arith, le_refl, eq-eqb, ne_eqb}
+use Rattle.std.proofs.Common.{◌≡◌, ◌≢◌, ℕ, ◌+◌, ◌-◌, ◌<◌, ◌≤◌, ◌==◌, Bool, cond, List, map, [], ◌∷◌, ◌++◌, take, length, Option, Some, None, ◌⊎◌, inl, inr, refl, sym, ap, ◌∙◌, subst, arith, le_refl, eq-eqb, ne_eqb}
 use Rattle.std.specs.Prelude.{slice_get, slice_index}
 use Rattle.std.proofs.lemmas.List.{length-take-le}
 use Rattle.ucl_word.specs.declared.event.EventCall.{EventCall}
@@ -9,7 +9,7 @@ use Rattle.ucl_word.specs.Layout.{word_of, record_at}
 use Rattle.ucl_board.specs.declared.entry.Entry.{Entry}
 use Rattle.ucl_board.specs.Fixtures.{IsMatch}
 use Rattle.ucl_board.specs.Words.{word_at, version_of}
-use Rattle.ucl_board.specs.History.{board_of, IsLegal}
+use Rattle.ucl_board.specs.History.{board_of}
 use Rattle.ucl_board.proofs.Histories.{word_after}
 use Rattle.ucl_steps.specs.declared.step.Cast.{Cast}
 use Rattle.ucl_steps.specs.declared.step.Caller.{Caller}
@@ -22,15 +22,14 @@ use Rattle.ucl_steps.specs.declared.trace.Reply.TheVariants.{Copied}
 use Rattle.ucl_steps.specs.Machine.{Holds, Idle, Wanting, Holding, Collecting, Checking, Answered, MachineState, held_by, with_held, with_reply, after_rules, after_reply, after_step_holding, caller_of, after_step}
 use Rattle.ucl_board.specs.Log as trail
 use Rattle.ucl_board.specs.Log.{AccessKind, Access, access}
-use Rattle.ucl_steps.specs.Trails.{Does, IsFoundIn, Follows}
-use Rattle.ucl_steps.specs.CallRuns.{step_of, accesses_holding, accesses_of_step, NoneOwn}
-use Rattle.ucl_steps.proofs.ChangedLists.{change_at_here, change_at_else, length-change_at}
+use Rattle.ucl_steps.specs.Trails.{Does, IsFoundIn}
+use Rattle.ucl_steps.specs.CallRuns.{step_of, accesses_holding, accesses_of_step}
+use Rattle.ucl_steps.specs.PassRuns.{callers_of}
+use Rattle.ucl_steps.proofs.ChangedLists.{change_at_here, change_at_else, length-change_at, map_unseen}
 use Rattle.ucl_steps.proofs.Callers.{held_here, held_else}
-use Rattle.ucl_steps.proofs.Accesses.{follows_ends}
-use Rattle.ucl_steps.proofs.JoinedRuns.{Reaches, reaches_none, reaches_on, reaches_own, Amid, until}
+use Rattle.ucl_steps.proofs.JoinedRuns.{Amid}
 
 -- what a caller holds after an access, where the access is not the call's last
-
 -- a first collect with one word more
 abbrev collected : ℕ → List ℕ → ℕ → Holds
 collected k words at = cond (length words == 12) (Checking k words 0 at) (Collecting k words)
@@ -48,27 +47,6 @@ Leads c (Checking k words checked point) m y = (checked < 12) × Does trail.Seco
     × (((m.found ≡ slice_index words checked) × (checked < 11) × (y ≡ Checking k words (checked + 1) point)) ⊎ ((m.found ≢ slice_index words checked) × (y ≡ Collecting k [])))
 Leads c (Answered k) m y = ⊥
 
-abbrev pub Through : Caller → Holds → List Access → Holds → Type 0
-Through c x [] y = x ≡ y
-Through c x (m ∷ ms) y = (z : Holds) × Leads c x m z × Through c z ms y
-
-pub through_append : (c : Caller) (x y z : Holds) (ms ns : List Access) → Through c x ms y → Through c y ns z → Through c x (ms ++ ns) z
-through_append c x y z [] ns f g = subst (λ (v : Holds). Through c v ns z) (sym f) g
-through_append c x y z (m ∷ ms) ns f g = (f.0, f.1, through_append c f.0 y z ms ns f.2 g)
-
--- the place of the last access
-abbrev pub end_of : ℕ → List Access → ℕ
-end_of n [] = n
-end_of n (m ∷ ms) = end_of m.at ms
-
-pub end_append : (n : ℕ) (ms ns : List Access) → end_of n (ms ++ ns) ≡ end_of (end_of n ms) ns
-end_append n [] ns = refl
-end_append n (m ∷ ms) ns = end_append m.at ms ns
-
-pub follows_rest : (h : List Entry) (n high : ℕ) (ms ns : List Access) → Follows h n (ms ++ ns) high → (n ≤ end_of n ms) × Follows h (end_of n ms) ns high
-follows_rest h n high [] ns f = (le_refl n, f)
-follows_rest h n high (m ∷ ms) ns f = let t = follows_rest h m.at high ms ns f.2 in let a = f.0 in let b = t.0 in (omega arith, t.1)
-
 access_same : (m : Access) (kind : AccessKind) (game found at : ℕ) → m.kind ≡ kind → m.game ≡ game → found ≡ m.found → at ≡ m.at → access kind game found at ≡ m
 access_same m kind game found at a g f p = ap (λ (z : AccessKind). access z game found at) (sym a) ∙ (ap (λ (z : ℕ). access m.kind z found at) (sym g) ∙ (ap (λ (z : ℕ). access m.kind m.game z at) f ∙ ap (λ (z : ℕ). access m.kind m.game m.found z) p))
 
@@ -77,15 +55,17 @@ pub record Frame (c : Caller) (k : ℕ) (w w' : MachineState) : Type 0 where
   pub holds : (d : Caller) → d ≢ c → held_by w'.callers d ≡ held_by w.callers d
   pub calls : (i : ℕ) (a : CallRecord) → i ≢ k → slice_get w.calls i ≡ Some a → slice_get w'.calls i ≡ Some a
   pub count : length w.calls ≤ length w'.calls
+  pub callers : callers_of w' ≡ callers_of w
 
 frame_held : (c : Caller) (k : ℕ) (x y : Holds) (w : MachineState) → held_by w.callers c ≡ Some x → Frame c k w (with_held y c w)
-frame_held c k x y w held = record { holds = λ d not. held_else w.callers c d y x held not; calls = λ i a not at. at; count = le_refl (length w.calls) }
+frame_held c k x y w held = record { holds = λ d not. held_else w.callers c d y x held not; calls = λ i a not at. at; count = le_refl (length w.calls); callers = refl }
 
 pub frame_replied : (c : Caller) (k : ℕ) (x : Holds) (w v : MachineState) (p : ℕ) (r : Reply) → held_by w.callers c ≡ Some x → v.callers ≡ w.callers → v.calls ≡ w.calls → Frame c k w (after_reply c k p r v)
 frame_replied c k x w v p r held callers calls = record {
   holds = λ d not. held_else v.callers c d (Answered k) x (ap (λ z. held_by z c) callers ∙ held) not ∙ ap (λ z. held_by z d) callers;
   calls = λ i a not at. change_at_else k (with_reply p r) v.calls i a not (ap (λ z. slice_get z i) calls ∙ at);
   count = omega (arith, length-change_at k (with_reply p r) v.calls, ap length calls);
+  callers = map_unseen (λ (z : CallRecord). z.caller) k (with_reply p r) (λ z. refl) v.calls ∙ ap (map (λ (z : CallRecord). z.caller)) calls;
 }
 
 -- the step of an access was taken
@@ -99,9 +79,6 @@ caller_of_kind c trail.Look = refl
 caller_of_kind c trail.Swap = refl
 caller_of_kind c trail.First = refl
 caller_of_kind c trail.Second = refl
-
-pub reaches_made : (c : Caller) (k : ℕ) (w : MachineState) (m : Access) (w' : MachineState) → Made c k w m w' → Reaches c w (step_of c m.kind ∷ []) (m ∷ []) w'
-reaches_made c k w m w' t = reaches_own c w w' (step_of c m.kind) (m ∷ []) (caller_of_kind c m.kind) t.done t.left
 
 module _ (cast : Cast) (c : Caller) (k : ℕ) (a : CallRecord) where
   -- the caller holds something else
@@ -192,19 +169,3 @@ inner cast c k a h m within found (Checking j words i point) w amid y l =
           ∙ (ap (λ (b : Bool). Some (cond b done on)) (ne_eqb i 11 apart) ∙ ap (λ (z : Holds). Some (with_held z c w)) (sym t.2))
       | inr t ↦ ap (λ (b : Bool). Some (cond b (cond (i == 11) done on) again)) (ne_eqb (slice_index w.words i) (slice_index words i) (λ z. t.0 (sym is ∙ z))) ∙ ap (λ (z : Holds). Some (with_held z c w)) (sym t.1)
     ])
-
-abbrev pub steps_of : Caller → List Access → List Step
-steps_of c ms = map (λ m. step_of c m.kind) ms
-
-module _ (cast : Cast) (full : cast.reporters ≡ 255) (c : Caller) (k : ℕ) (a : CallRecord) (h : List Entry) (legal : IsLegal h) (low : ℕ) (none : NoneOwn c low h) where
-  -- the steps of accesses of which none is the call's last
-  pub walk : (ms : List Access) (x y : Holds) (n : ℕ) (w : MachineState) → low ≤ n → Follows h n ms (length h) → Through c x ms y → Amid cast c k a x (take n h) w
-      → (w' : MachineState) × Reaches c w (map (λ m. step_of c m.kind) ms) ms w' × Amid cast c k a y (take (end_of n ms) h) w'
-  walk [] x y n w le f t m = (w, reaches_none c w, subst (λ (z : Holds). Amid cast c k a z (take n h) w) t m)
-  walk (m ∷ ms) x y n w le f t amid =
-      let up = f.0 in
-      let within = follows_ends h m.at (length h) ms f.2 in
-      let u = until cast full c k a x h legal low none n m.at w le up within amid in
-      let one = inner cast c k a h m within f.1 x u.0 u.2 t.0 t.1 in
-      let rest = walk ms t.0 y m.at (with_held t.0 c u.0) (omega arith) f.2 t.2 (amid_held cast c k a x t.0 (take m.at h) u.0 u.2) in
-      (rest.0, reaches_on c w u.0 rest.0 [] (steps_of c (m ∷ ms)) [] (m ∷ ms) u.1 (reaches_on c u.0 (with_held t.0 c u.0) rest.0 (step_of c m.kind ∷ []) (steps_of c ms) (m ∷ []) ms (reaches_made c k u.0 m (with_held t.0 c u.0) one) rest.1), rest.2)

@@ -16,8 +16,8 @@ pub mod JoinedRuns
 pub mod CallsAsSteps
 pub mod Calls
 pub mod Schedules
-pub mod Interleaving
 pub mod Reachable
 pub mod LogRunsCalls
 pub mod LogRunsSeats
-pub mod LogRuns
+pub mod PassSteps
+pub mod Bursts

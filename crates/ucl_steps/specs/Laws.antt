@@ -1,5 +1,5 @@
 -- What holds of every run of the machine.
-use Rattle.std.specs.Prelude.{◌≡◌, ℕ, ◌+◌, ◌*◌, ◌<◌, ◌≤◌, true, List, length, take, Some, Result, slice_get}
+use Rattle.std.specs.Prelude.{◌≡◌, ℕ, ◌+◌, ◌*◌, ◌<◌, ◌≤◌, List, length, take, Some, Result, slice_get}
 use Rattle.std.specs.List.{AllByRecursion}
 use Rattle.ucl_word.specs.declared.event.EventCall.{EventCall}
 use Rattle.ucl_word.specs.declared.event.Accepted.{Accepted}
@@ -8,14 +8,8 @@ use Rattle.ucl_board.specs.declared.entry.Entry.{Entry}
 use Rattle.ucl_board.specs.declared.reading.Reading.{Reading}
 use Rattle.ucl_board.specs.History.{board_of, IsLegal, sequential_reply, snapshot_at}
 use Rattle.ucl_steps.specs.declared.step.Cast.{Cast}
-use Rattle.ucl_steps.specs.declared.step.Caller.{Caller}
-use Rattle.ucl_steps.specs.declared.step.Caller.TheVariants.{Reporter}
-use Rattle.ucl_steps.specs.declared.step.Call.{Call}
 use Rattle.ucl_steps.specs.declared.step.Step.{Step}
-use Rattle.ucl_steps.specs.declared.trace.Reply.{Reply}
-use Rattle.ucl_steps.specs.Machine.{MachineState, initial_state, may_begin, after_steps}
-use Rattle.ucl_steps.specs.CallRuns.{IsAtRest, IsInCast, NoneOwn, Leaves, IsMadeBySteps}
-use Rattle.ucl_steps.specs.Interleaving.{CallMade, AreCallsAlong, IsOneRun}
+use Rattle.ucl_steps.specs.Machine.{MachineState, initial_state, after_steps}
 use Rattle.ucl_steps.specs.Linearizable.{IsLinearizable}
 use Rattle.ucl_board.specs.Log.{Access}
 use Rattle.ucl_steps.specs.Trails.{Follows, ReportAccesses, decided_at, most_tries, most_loads, IsUnclean, accesses_of, ReadingAccesses}
@@ -52,17 +46,3 @@ ReadingsAreSnapshots = (history : List Entry) (low high : ℕ) (reading : Readin
 abbrev pub ReportsAreSequential : Type 0
 ReportsAreSequential = (history : List Entry) (low high now : ℕ) (call : EventCall) (reply : Result Accepted Refusal) (ms : List Access) → IsLegal history → Follows history low ms high → ReportAccesses call reply ms now
     → sequential_reply (take (decided_at reply now) history) call ≡ reply
-
--- from rest on, a caller's call is made by steps of the machine that leave its accesses, one after the other, while other callers enter what else came
-abbrev pub CallsAreSteps : Type 0
-CallsAreSteps = (cast : Cast) (c : Caller) (call : Call) (reply : Reply) (ms : List Access) (before : List Entry) (low : ℕ) (state : MachineState) → cast.reporters ≡ 255 → IsInCast cast c → may_begin c call ≡ true
-    → IsLegal before → NoneOwn c low before → Leaves c call reply ms before low → IsAtRest cast (take low before) state → IsMadeBySteps cast state c call reply ms before
-
--- steps of the machine lead to rest after any legal history
-abbrev pub HistoriesAreReached : Type 0
-HistoriesAreReached = (cast : Cast) (history : List Entry) → cast.reporters ≡ 255 → IsLegal history → (steps : List Step) × (state : MachineState) × (after_steps steps (initial_state cast) ≡ Some state) × IsAtRest cast history state
-
--- the calls that all callers of a board made along one legal history are one run of the machine
-abbrev pub CallsAreOneRun : Type 0
-CallsAreOneRun = (cast : Cast) (history : List Entry) (calls_of : Caller → List CallMade) → IsLegal history → ((k : ℕ) (e : Entry) → slice_get history k ≡ Some e → IsInCast cast (Reporter e.reporter))
-    → ((c : Caller) → IsInCast cast c → AreCallsAlong history c 0 (calls_of c)) → IsOneRun cast history calls_of

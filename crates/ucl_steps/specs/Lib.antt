@@ -1,9 +1,9 @@
 pub mod Trails
 pub mod Machine
 pub mod CallRuns
-pub mod Interleaving
 pub mod Linearizable
 pub mod Traces
 pub mod Laws
 pub mod Running
-pub mod LogRuns
+pub mod Protocol
+pub mod PassRuns

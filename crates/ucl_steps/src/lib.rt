@@ -10,7 +10,6 @@ mod step;
 mod trace;
 
 pub use laws::{
-    calls_are_one_run, calls_are_steps, histories_are_reached, logs_are_runs,
     readings_are_snapshots, reports_are_sequential, runs_are_linearizable, unclean_tries_are_few,
     unclean_tries_see_more, words_are_of_the_history,
 };

@@ -22,7 +22,6 @@ use Rattle.ucl_words.specs.WordSteps.{Loads, LoadsLast, no_access, twelfth_first
 use Rattle.ucl_words.specs.Collects.{Walks, Collects, HasCollected, FindsAgain, FindsAnother}
 use Rattle.ucl_words.specs.WordCalls.{IsSteady, ReadingSteps}
 use Rattle.ucl_words.proofs.StepRuns.{walks_none, walks_on, walks_load, walks_continue}
-use Rattle.ucl_words.proofs.CallsAsSteps.{reading_joined}
 
 -- after some loads of a collect
 pub record Collected (kind : AccessKind) (v : View) (words : List ℕ) (count : ℕ) (w : View) : Type 0 where
@@ -243,6 +242,9 @@ module _ (x u w : View) (words : List ℕ) (long : length words ≡ 12) (collect
   version_seen : version_of words ≡ length u.seen
   version_seen = ap version_of words_seen ∙ (versions u.seen collects.walks.steady.sound.legal).0
 
+  pub same_reading : (reading : Reading) → reading.board ≡ words → reading.version ≡ version_of words → record { board = words; version = length u.seen } ≡ reading
+  same_reading reading board version = λ i. record { board = sym board i; version = sym (version ∙ version_seen) i }
+
   module _ (v : View) (steady : IsSteady v) (tried : Tried v x) where
     abbrev all_accesses : List Access
     all_accesses = accesses_of tried.tries ++ (collects.accesses ++ again.accesses)
@@ -259,7 +261,6 @@ module _ (x u w : View) (words : List ℕ) (long : length words ≡ 12) (collect
 
     reads_clean : Reads v clean_reading w
     reads_clean =
-        let both = reading_joined v w clean_reading all_accesses steady all_walks reading_accesses in
         let taken = all_walks.leaves.taken in
         let steps = whole.steps.0 in
         let bound = whole.bound.1 in
@@ -274,7 +275,7 @@ module _ (x u w : View) (words : List ℕ) (long : length words ≡ 12) (collect
             mine = all_walks.mine;
             shown = again.shown ∙ ap (λ (l : List ℕ). l ++ length u.seen ∷ []) (collects.shown ∙ tried.shown);
           };
-          steps = record { accesses = all_accesses; leaves = all_walks.leaves; collects = reading_accesses; few = omega arith; machine = both.machine; along = both.along };
+          steps = record { accesses = all_accesses; leaves = all_walks.leaves; collects = reading_accesses; few = omega arith };
           least = omega arith;
           most = omega arith;
         }

@@ -1,27 +1,46 @@
 -- What an enlistment and a meeting leave a pass with.
-use Rattle.std.proofs.Common.{◌≡◌, ◌≢◌, ℕ, ◌+◌, ◌<◌, ◌≤◌, true, ◌∷◌, [], length, List, None, refl, sym, ap, ◌∙◌, subst, arith, le_refl, append-nil}
+use Rattle.std.proofs.Common.{◌≡◌, ◌≢◌, ℕ, ◌+◌, ◌<◌, ◌≤◌, true, ◌∷◌, ◌++◌, [], length, List, Some, None, inl, inr, refl, sym, ap, ◌∙◌, subst, arith, le_refl, append-nil}
 use Rattle.std.proofs.lemmas.List.Elements.{All-head, All-tail}
+use Rattle.std.specs.Prelude.{Option, IfSome, IsSome}
+use Rattle.std.proofs.lemmas.Bool.{false≢true}
 use mathlib.Core.List.{IsPrefix}
-use Rattle.ucl_board.specs.Log.{Access, Enlisted, step_taken, accesses_in}
+use Rattle.ucl_board.specs.Log.{Access, Enlisted, Taken, step_taken, accesses_in}
 use Rattle.ucl_board.proofs.Beginnings.{begins_same, begins_through}
 use Rattle.ucl_steps.specs.Trails.{Follows}
 use Rattle.ucl_pass.specs.declared.view.View.{View}
 use Rattle.ucl_pass.specs.Passes.{SeesOn, Continues, Enlistment, FullBoard, Meeting}
 use Rattle.ucl_pass.specs.Views.{pass_view_of, steps_of, count_of, trail_of, Takes, kept_of, second_of, note_of, told_by}
-use Rattle.ucl_pass.specs.CallSteps.{EnlistSteps, MeetingSteps}
+use Rattle.ucl_pass.specs.CallSteps.{FoundEnlisted, IsOnEnlisted, EnlistSteps, MeetingSteps}
 use Rattle.ucl_pass.proofs.Lists.{none_by_zero}
 use Rattle.ucl_pass.proofs.Halves.{half_acts, half_not_whole}
-use Rattle.ucl_pass.proofs.Calls.{takes_none, takes_count, one_more, sound_kept}
+use Rattle.ucl_pass.proofs.Calls.{all_more, takes_none, takes_on, takes_count, one_more, sound_kept}
 use Rattle.ucl_words.specs.WordSteps.{LoadsEnlisted, EnlistMissed, EnlistWon}
-use Rattle.ucl_words.specs.WordCalls.{HasTrail, IsSteady, KeepsTrail}
+use Rattle.ucl_words.specs.WordCalls.{HasTrail, IsSteady, Enlisting, EnlistTries, KeepsTrail}
 use Rattle.ucl_words.proofs.StepRuns.{trail_longer, takes_trail}
 
 -- a step on the enlist word leaves no access
-no_access : (v w : View) → Takes v (step_taken Enlisted (length w.seen) None ∷ []) w → trail_of w ≡ trail_of v
-no_access v w t = takes_trail v w (step_taken Enlisted (length w.seen) None ∷ []) t ∙ append-nil (trail_of v)
+no_access : (v w : View) (n : ℕ) → Takes v (step_taken (Enlisted n) (length w.seen) None ∷ []) w → trail_of w ≡ trail_of v
+no_access v w n t = takes_trail v w (step_taken (Enlisted n) (length w.seen) None ∷ []) t ∙ append-nil (trail_of v)
 
-one_step : (v w : View) → Takes v (step_taken Enlisted (length w.seen) None ∷ []) w → count_of w ≡ count_of v + 1
-one_step v w t = takes_count v w (step_taken Enlisted (length w.seen) None ∷ []) t
+one_step : (v w : View) (n : ℕ) → Takes v (step_taken (Enlisted n) (length w.seen) None ∷ []) w → count_of w ≡ count_of v + 1
+one_step v w n t = takes_count v w (step_taken (Enlisted n) (length w.seen) None ∷ []) t
+
+-- exchanges that were all missed, from one number to another
+abbrev pub MissedTries : ℕ → List Taken → ℕ → Type 0
+MissedTries known [] n = known ≡ n
+MissedTries known (x ∷ steps) n = (found : ℕ) × FoundEnlisted found x × (known < 255) × (found ≢ known) × MissedTries found steps n
+
+tries_more : (known n found at : ℕ) (steps : List Taken) → MissedTries known steps n → n < 255 → found ≢ n → MissedTries known (steps ++ step_taken (Enlisted found) at None ∷ []) found
+tries_more known n found at [] same less other = (found, (refl, refl), (let e = same in omega arith), (λ z. other (z ∙ same)), refl)
+tries_more known n found at (x ∷ steps) t less other = (t.0, t.1, t.2, t.3, tries_more t.0 n found at steps t.4 less other)
+
+tries_won : (known n found at : ℕ) (steps : List Taken) → MissedTries known steps n → n < 255 → found ≡ n → Enlisting known (steps ++ step_taken (Enlisted found) at None ∷ []) (Some (n + 1))
+tries_won known n found at [] same less won = (found, (refl, refl), (let e = same in omega arith), inl (won ∙ sym same, refl, ap (λ (k : ℕ). Some (k + 1)) (sym same)))
+tries_won known n found at (x ∷ steps) t less won = (t.0, t.1, t.2, inr (t.3, tries_won t.0 n found at steps t.4 less won))
+
+tries_full : (known n : ℕ) (steps : List Taken) → MissedTries known steps n → 255 ≤ n → Enlisting known steps None
+tries_full known n [] same high = ((let e = same in omega arith), refl)
+tries_full known n (x ∷ steps) t high = (t.0, t.1, t.2, inr (t.3, tries_full t.0 n steps t.4 high))
 
 -- exchanges of the enlist word that were all missed: it was last found to be n
 pub record Missed (v x : View) (n : ℕ) : Type 0 where
@@ -32,6 +51,7 @@ pub record Missed (v x : View) (n : ℕ) : Type 0 where
   pub shown : x.shown ≡ v.shown
   pub known : n ≤ x.listed
   pub steps : EnlistSteps v x
+  pub tries : MissedTries 0 steps.steps n
   pub trail : trail_of x ≡ trail_of v
   pub taken : count_of x ≤ count_of v + n
 
@@ -44,6 +64,7 @@ missed_none v steady = record {
   shown = refl;
   known = omega arith;
   steps = record { steps = []; takes = takes_none v; on_enlisted = tt };
+  tries = refl;
   trail = refl;
   taken = omega arith;
 }
@@ -58,28 +79,30 @@ module _ (v x w : View) (n found : ℕ) (was : Missed v x n) where
     pub missed_higher : (n < found) × (found ≤ 255)
     missed_higher = (let a = was.known in let b = missed.above in omega arith, let a = missed.sees.goes.few in let b = missed.listed in omega arith)
 
-    pub missed_more : Missed v w found
-    missed_more =
+    pub missed_more : n < 255 → Missed v w found
+    missed_more below =
         let a = was.known in
         let b = missed.above in
         let listed = missed.listed in
         let on = was.on.listed in
         let taken = was.taken in
-        let one = one_step x w missed.sees.takes in
+        let one = one_step x w found missed.sees.takes in
+        let next : Taken = step_taken (Enlisted found) (length w.seen) None in
         let goes = missed.sees.goes in
         record {
           steady = record {
             sound = record { legal = goes.legal; own = goes.own; few = goes.few; acts = goes.acts; alone = goes.alone };
             told = goes.told;
-            trail = trail_kept x w was.steady.trail goes.seen (no_access x w missed.sees.takes);
+            trail = trail_kept x w was.steady.trail goes.seen (no_access x w found missed.sees.takes);
           };
           on = record { seen = begins_through v.seen x.seen w.seen was.on.seen goes.seen; listed = omega arith; share = goes.share ∙ was.on.share };
           mine = missed.sees.mine ∙ was.mine;
           number = missed.sees.number ∙ was.number;
           shown = missed.shown ∙ was.shown;
           known = omega arith;
-          steps = one_more v x w (length w.seen) was.steps missed.sees.takes;
-          trail = no_access x w missed.sees.takes ∙ was.trail;
+          steps = record { steps = was.steps.steps ++ next ∷ []; takes = takes_on v x w was.steps.steps (next ∷ []) was.steps.takes missed.sees.takes; on_enlisted = all_more IsOnEnlisted was.steps.steps next was.steps.on_enlisted (found, (refl, refl)) };
+          tries = tries_more 0 n found (length w.seen) was.steps.steps was.tries below other;
+          trail = no_access x w found missed.sees.takes ∙ was.trail;
           taken = omega arith;
         }
 
@@ -88,7 +111,7 @@ module _ (v x w : View) (n found : ℕ) (was : Missed v x n) where
     pub won_steady : IsSteady w
     won_steady =
         let goes = won.enlists.goes in
-        record { sound = record { legal = goes.legal; own = goes.own; few = goes.few; acts = goes.acts; alone = goes.alone }; told = goes.told; trail = trail_kept x w was.steady.trail goes.seen (no_access x w won.enlists.takes) }
+        record { sound = record { legal = goes.legal; own = goes.own; few = goes.few; acts = goes.acts; alone = goes.alone }; told = goes.told; trail = trail_kept x w was.steady.trail goes.seen (no_access x w found won.enlists.takes) }
 
     pub won_enlists : Enlistment (pass_view_of v) (pass_view_of w)
     won_enlists =
@@ -108,22 +131,38 @@ module _ (v x w : View) (n found : ℕ) (was : Missed v x n) where
 
     pub won_trail : KeepsTrail v w
     won_trail = record {
-      steps = one_more v x w (length w.seen) was.steps won.enlists.takes;
-      trail = no_access x w won.enlists.takes ∙ was.trail;
+      steps = one_more v x w found (length w.seen) was.steps won.enlists.takes;
+      trail = no_access x w found won.enlists.takes ∙ was.trail;
       whole_trail = won_steady.trail;
     }
 
     pub won_taken : count_of w ≤ count_of v + 255
-    won_taken = let one = one_step x w won.enlists.takes in let taken = was.taken in omega arith
+    won_taken = let one = one_step x w found won.enlists.takes in let taken = was.taken in omega arith
 
     pub won_number : w.number ≡ n + 1
     won_number = won.enlists.number ∙ (won.listed ∙ ap (λ (k : ℕ). k + 1) same)
+
+    pub won_tries : EnlistTries v (Some w.number) w
+    won_tries =
+        let last : Taken = step_taken (Enlisted found) (length w.seen) None in
+        record {
+          steps = was.steps.steps ++ last ∷ [];
+          takes = takes_on v x w was.steps.steps (last ∷ []) was.steps.takes won.enlists.takes;
+          tries = subst (λ (k : ℕ). Enlisting 0 (was.steps.steps ++ last ∷ []) (Some k)) (sym won_number) (tries_won 0 n found (length w.seen) was.steps.steps was.tries below same);
+        }
+
+pub tries_told : (v w : View) (r : Option ℕ) (n : ℕ) → w.number ≡ n → EnlistTries v (Some w.number) w → IfSome r (λ k. k ≡ n) → IsSome r → EnlistTries v r w
+tries_told v w (Some k) n is tries told some = subst (λ (z : ℕ). EnlistTries v (Some z) w) (is ∙ sym told) tries
+tries_told v w None n is tries told some = absurd (false≢true some)
 
 pub missed_continues : (v x : View) (n : ℕ) → Missed v x n → Continues (pass_view_of v) (pass_view_of x)
 missed_continues v x n was = record { sound = was.steady.sound; on = was.on; number = was.number }
 
 pub missed_full : (v x : View) (n : ℕ) → Missed v x n → 255 ≤ n → FullBoard (pass_view_of v) (pass_view_of x)
 missed_full v x n was high = let few = was.steady.sound.few in let known = was.known in record { listed = omega arith; mine = was.mine; shown = was.shown }
+
+pub missed_tries : (v x : View) (n : ℕ) → Missed v x n → 255 ≤ n → EnlistTries v None x
+missed_tries v x n was high = record { steps = was.steps.steps; takes = was.steps.takes; tries = tries_full 0 n was.steps.steps was.tries high }
 
 pub missed_trail : (v x : View) (n : ℕ) → Missed v x n → KeepsTrail v x
 missed_trail v x n was = record { steps = was.steps; trail = was.trail; whole_trail = was.steady.trail }
@@ -150,20 +189,23 @@ second_steps v = (ap length (append-nil (steps_of v)), second_trail v)
 pub counted_steady : (v w : View) → LoadsEnlisted v w → IsSteady v → IsSteady w
 counted_steady v w loads steady =
     let goes = loads.sees.goes in
-    record { sound = record { legal = goes.legal; own = goes.own; few = goes.few; acts = goes.acts; alone = goes.alone }; told = goes.told; trail = trail_kept v w steady.trail goes.seen (no_access v w loads.sees.takes) }
+    record { sound = record { legal = goes.legal; own = goes.own; few = goes.few; acts = goes.acts; alone = goes.alone }; told = goes.told; trail = trail_kept v w steady.trail goes.seen (no_access v w loads.found loads.sees.takes) }
 
 -- a meeting: a note of the first was joined to the second, which then loaded the enlist word
 module _ (a v w : View) (steady : IsSteady v) (loads : LoadsEnlisted (told_by v (note_of a)) w) where
   own_first : IsPrefix v.seen w.seen
   own_first = All-head (λ l. IsPrefix l w.seen) v.seen (a.seen ∷ v.told) loads.sees.goes.heard
 
+  met_takes : Takes v (step_taken (Enlisted loads.found) (length w.seen) None ∷ []) w
+  met_takes = record { own = loads.sees.takes.own; copied = loads.sees.takes.copied }
+
   pub met_steps : MeetingSteps v w
-  met_steps = record { own = loads.sees.takes.own; copied = loads.sees.takes.copied }
+  met_steps = (loads.found, met_takes)
 
   pub met_steady : IsSteady w
   met_steady =
       let goes = loads.sees.goes in
-      record { sound = record { legal = goes.legal; own = goes.own; few = goes.few; acts = goes.acts; alone = goes.alone }; told = goes.told; trail = trail_kept v w steady.trail own_first (no_access v w met_steps) }
+      record { sound = record { legal = goes.legal; own = goes.own; few = goes.few; acts = goes.acts; alone = goes.alone }; told = goes.told; trail = trail_kept v w steady.trail own_first (no_access v w loads.found met_takes) }
 
   pub met_continues : Continues (pass_view_of v) (pass_view_of w)
   met_continues = let listed = loads.listed in record { sound = met_steady.sound; on = record { seen = own_first; listed = omega arith; share = loads.sees.goes.share }; number = loads.sees.number }
@@ -176,7 +218,7 @@ module _ (a v w : View) (steady : IsSteady v) (loads : LoadsEnlisted (told_by v 
   }
 
   pub met_trail : KeepsTrail v w
-  met_trail = record { steps = record { steps = step_taken Enlisted (length w.seen) None ∷ []; takes = met_steps; on_enlisted = ((refl, refl), tt) }; trail = no_access v w met_steps; whole_trail = met_steady.trail }
+  met_trail = record { steps = record { steps = step_taken (Enlisted loads.found) (length w.seen) None ∷ []; takes = met_takes; on_enlisted = ((loads.found, (refl, refl)), tt) }; trail = no_access v w loads.found met_takes; whole_trail = met_steady.trail }
 
 pub after_told : (a v n x w : View) → n ≡ note_of a → x ≡ told_by v n → LoadsEnlisted x w → LoadsEnlisted (told_by v (note_of a)) w
 after_told a v n x w note told loads = subst (λ (u : View). LoadsEnlisted u w) (told ∙ ap (told_by v) note) loads

@@ -1,28 +1,46 @@
 -- Each kind of atomic step on the table keeps the rule, and tells its pass what it says.
-use Rattle.std.proofs.Common.{◌≡◌, ℕ, zero, suc, ◌+◌, ◌-◌, ◌==◌, ◌<◌, ◌≤◌, List, [], ◌∷◌, ◌++◌, set, get_or, refl, sym, ap, ◌∙◌, subst, arith}
+use Rattle.std.proofs.Common.{◌≡◌, inl, inr, Some, ℕ, zero, suc, ◌+◌, ◌-◌, ◌==◌, ◌<◌, ◌≤◌, List, [], ◌∷◌, ◌++◌, length, set, get_or, refl, sym, ap, ◌∙◌, subst, arith, append-nil, length-append, length-set, le_refl}
 use Rattle.std.specs.Prelude.{IsSome}
 use Rattle.std.proofs.lemmas.List.{set-get_or}
-use mathlib.Core.Option.{none, some}
+use Rattle.std.proofs.lemmas.List.Elements.{All-nil}
+use mathlib.Core.Option.{none, some, some-ne-none, some-injective}
 use lib.ListN.{get_elem?}
 use prog.Atomic.{either}
+use Rattle.atomic_table.proofs.Lists.{at_longer, set_here}
 use Rattle.atomic_table.specs.Table.{State, Me, Step, step, keeps, stepped, carried_after, Valid, opening, Allows, Splits, Joins}
 use Rattle.atomic_table.proofs.Lists.{exchanged}
+use Rattle.ucl_word.specs.declared.event.EventCall.{EventCall}
+use Rattle.ucl_word.specs.Record.{IsReporter}
+use Rattle.ucl_word.specs.Layout.{word_of}
 use Rattle.ucl_board.specs.declared.entry.Entry.{Entry}
 use Rattle.ucl_board.specs.Fixtures.{IsMatch}
 use Rattle.ucl_board.specs.Words.{word_at}
-use Rattle.ucl_board.specs.History.{board_of, IsLegal, followed_by}
-use Rattle.ucl_board.specs.Log.{AccessKind, Second, Swap, Target, Match, Enlisted, history_of, IsThere}
+use Rattle.ucl_board.specs.History.{match_after, board_of, IsLegal, followed_by, entry_of}
+use Rattle.ucl_board.specs.Log.{AccessKind, Look, First, Second, Swap, Target, Match, Enlisted, history_of, Access, access, Taken, Log, IsThere}
 use Rattle.ucl_board.proofs.Histories.{word_after}
 use Rattle.ucl_pass.specs.declared.view.View.{View}
 use Rattle.ucl_pass.specs.Views.{newcomer, opener, kept_of, second_of, note_of, told_by, trail_of}
 use Rattle.ucl_pass.specs.OneHistory.{KeepsOneHistory}
-use Rattle.ucl_pass.proofs.Moves.{looked, look_keeps, look_tells, entered, add_keeps, add_tells, enlisted_as, enlist_keeps, enlist_tells, second_added, note_added, note_joined}
+use Rattle.ucl_pass.specs.Steps.{Enlists}
+use Rattle.ucl_pass.proofs.Moves.{logged, look, looked, same_history, look_keeps, look_same, look_tells, add, entered, longer_history, add_keeps, add_same, add_tells, count, enlisted_as, unchanged_history, enlist_keeps, enlist_same, enlist_tells, second_added, second_same, note_added, note_same, note_joined, joined_same}
 use Rattle.ucl_pass.proofs.Moves as moves
-use Rattle.ucl_words.specs.WordRule.{words_after, TableKeepsOneHistory}
-use Rattle.ucl_words.specs.WordSteps.{version_shown, ExchangeWon, IsNextWord, LoadStep, LastLoadStep, EnlistedStep, ExchangeStep, EnlistStep}
+use Rattle.ucl_steps.specs.declared.step.Caller.{Caller}
+use Rattle.ucl_steps.specs.declared.step.Caller.TheVariants.{Reporter, Reader}
+use Rattle.ucl_steps.specs.Machine.{Idle, MachineState, initial_state, held_by}
+use Rattle.ucl_steps.specs.Protocol.{Nothing, Holding, Doing, nothing_done, IsNext, after_look, after_swap, after_first, after_second}
+use Rattle.ucl_steps.specs.PassRuns.{cast_for, IsOf, FitsRun}
+use Rattle.ucl_steps.proofs.Calls.{rest_at_start}
+use Rattle.ucl_steps.proofs.LogRunsCalls.{IsNow}
+use Rattle.ucl_steps.proofs.PassSteps.{Turn, turn_look, turn_firsts, turn_seconds, turn_swapped, turn_kept_out}
+use Rattle.ucl_words.specs.declared.view.WordView.{WordView}
+use Rattle.ucl_words.specs.WordViews.{new_pass, first_pass, left_pass, second_pass, note_pass, told_pass}
+use Rattle.ucl_words.specs.WordDoings.{IsHoldingFor}
+use Rattle.ucl_words.specs.WordRule.{words_after, known, accesses_of_log, IsOfSome, IsOneRun, TableKeepsOneHistory, Stands}
+use Rattle.ucl_words.specs.WordSteps.{version_shown, ExchangeWon, IsNextWord, LookStep, FirstStep, SecondStep, LastLoadStep, EnlistedStep, ExchangeStep, EnlistStep}
+use Rattle.ucl_words.proofs.OneRun.{known_at, known_set, known_more, place_below, Apart, run_stepped, run_kept, run_enlisted, run_more, logged_accesses}
 
 abbrev Position : Type 0
-Position = State Entry View
+Position = State Entry WordView
 
 -- the thirteen words
 
@@ -34,164 +52,415 @@ get_match : (n : ℕ) (b : List ℕ) (game : ℕ) → 1 ≤ game → get_or (n �
 get_match n b zero low = absurd (omega arith)
 get_match n b (suc game) low = let e : game ≡ suc game - 1 = omega arith in ap (λ (k : ℕ). get_or b k 0) e
 
-match_word : (s : Position) (r : TableKeepsOneHistory s) (game : ℕ) → 1 ≤ game → get_or s.words game 0 ≡ word_at (board_of (history_of r.log)) game
-match_word s r game low = ap (λ (ws : List ℕ). get_or ws game 0) r.words_are ∙ get_match r.enlisted (board_of (history_of r.log)) game low
+match_word : (s : Position) (r : TableKeepsOneHistory s) (game : ℕ) → 1 ≤ game → get_or s.words game 0 ≡ word_at (board_of (history_of r.shared.log)) game
+match_word s r game low = ap (λ (ws : List ℕ). get_or ws game 0) r.shared.words_are ∙ get_match r.shared.enlisted (board_of (history_of r.shared.log)) game low
 
-enlist_word : (s : Position) (r : TableKeepsOneHistory s) → get_or s.words 0 0 ≡ r.enlisted
-enlist_word s r = ap (λ (ws : List ℕ). get_or ws 0 0) r.words_are
+enlist_word : (s : Position) (r : TableKeepsOneHistory s) → get_or s.words 0 0 ≡ r.shared.enlisted
+enlist_word s r = ap (λ (ws : List ℕ). get_or ws 0 0) r.shared.words_are
 
 -- what a step on a match word finds
-there_now : (s : Position) (r : TableKeepsOneHistory s) (kind : AccessKind) (game : ℕ) → IsMatch game → IsThere (history_of r.log) (Match kind game (get_or s.words game 0))
-there_now s r kind game is = (is, match_word s r game is.0 ∙ word_after (history_of r.log) game is)
+there_now : (s : Position) (r : TableKeepsOneHistory s) (kind : AccessKind) (game : ℕ) → IsMatch game → IsThere (history_of r.shared.log) (Match kind game (get_or s.words game 0))
+there_now s r kind game is = (is, match_word s r game is.0 ∙ word_after (history_of r.shared.log) game is)
 
-module _ (s : Position) (r : TableKeepsOneHistory s) (seat : ℕ) (v : View) (here : get_elem? s.views seat ≡ some v) (acts : IsSome v.share) where
-  abbrev looked_at : (target : Target) → IsThere (history_of r.log) target → (listed : ℕ) → List ℕ → listed ≤ r.enlisted → View
-  looked_at target there listed shown le = looked words_after s.words s.views r seat v here acts target there listed shown le
+-- the same rule of the same words and views
+moved : (words words' : List ℕ) (views views' : List View) (r : KeepsOneHistory words_after words views) → words ≡ words' → views ≡ views' → (q : KeepsOneHistory words_after words' views') × (q.enlisted ≡ r.enlisted) × (q.log ≡ r.log)
+moved words words' views views' r a b =
+    subst (λ (vs : List View). (q : KeepsOneHistory words_after words' vs) × (q.enlisted ≡ r.enlisted) × (q.log ≡ r.log)) b
+    (subst (λ (ws : List ℕ). (q : KeepsOneHistory words_after ws views) × (q.enlisted ≡ r.enlisted) × (q.log ≡ r.log)) a (r, refl, refl))
+
+-- the rule of the table from its two parts
+both : (s : Position) (words : List ℕ) (views : List View) (q : KeepsOneHistory words_after words views) (n : ℕ) (l : Log) → words ≡ s.words → views ≡ known s.views → q.enlisted ≡ n → q.log ≡ l
+    → ((readers : ℕ) → length s.views ≤ readers → IsOneRun readers n l s.views) → TableKeepsOneHistory s
+both s words views q n l a b c d run =
+    let t = moved words s.words views (known s.views) q a b in
+    record {
+      shared = t.0;
+      one_run = λ readers all. subst (λ (z : Log). IsOneRun readers t.0.enlisted z s.views) (sym (t.2 ∙ d)) (subst (λ (k : ℕ). IsOneRun readers k l s.views) (sym (t.1 ∙ c)) (run readers all));
+    }
+
+module _ (s : Position) (r : TableKeepsOneHistory s) (seat : ℕ) (v : WordView) (here : get_elem? s.views seat ≡ some v) (acts : IsSome v.pass.share) where
+  abbrev base : KeepsOneHistory words_after s.words (known s.views)
+  base = r.shared
+
+  abbrev there_is : get_elem? (known s.views) seat ≡ some v.pass
+  there_is = known_at s.views seat v here
+
+  abbrev history : List Entry
+  history = history_of r.shared.log
+
+  apart : Apart s.views
+  apart i j u z a b pos same = r.shared.apart i j u.pass z.pass (known_at s.views i u a) (known_at s.views j z b) pos same
+
+  abbrev looked_at : (target : Target) → IsThere history target → (listed : ℕ) → List ℕ → listed ≤ r.shared.enlisted → View
+  looked_at target there listed shown le = looked words_after s.words (known s.views) r.shared seat v.pass there_is acts target there listed shown le
+
+  seen_same : (target : Target) (there : IsThere history target) (listed : ℕ) (shown : List ℕ) (le : listed ≤ r.shared.enlisted) → (looked_at target there listed shown le).seen ≡ history
+  seen_same target there listed shown le = same_history words_after s.words (known s.views) r.shared seat v.pass there_is acts target there listed shown le
+
+  abbrev taken_at : (target : Target) → IsThere history target → (listed : ℕ) → List ℕ → listed ≤ r.shared.enlisted → Taken
+  taken_at target there listed shown le = look words_after s.words (known s.views) r.shared seat v.pass there_is acts target there listed shown le
 
   -- a word that is loaded stays
-  load_keeps : (i : ℕ) (cs : List (ℕ × Entry)) (target : Target) (there : IsThere (history_of r.log) target) (listed : ℕ) (shown : List ℕ) (le : listed ≤ r.enlisted)
-      → TableKeepsOneHistory (stepped s i (get_or s.words i 0) seat cs (looked_at target there listed shown le) keeps)
-  load_keeps i cs target there listed shown le =
-      subst (λ (ws : List ℕ). KeepsOneHistory words_after ws (set s.views seat (looked_at target there listed shown le))) (sym (set-get_or s.words i 0))
-      (look_keeps words_after s.words s.views r seat v here acts target there listed shown le)
+  load_keeps : (i : ℕ) (cs : List (ℕ × Entry)) (target : Target) (there : IsThere history target) (listed : ℕ) (shown : List ℕ) (le : listed ≤ r.shared.enlisted) (doing : Doing)
+      → ((readers : ℕ) → length s.views ≤ readers → IsOneRun readers r.shared.enlisted (logged r.shared.log seat (taken_at target there listed shown le)) (set s.views seat (record { pass = looked_at target there listed shown le; doing = doing })))
+      → TableKeepsOneHistory (stepped s i (get_or s.words i 0) seat cs (record { pass = looked_at target there listed shown le; doing = doing }) keeps)
+  load_keeps i cs target there listed shown le doing run =
+      let w : WordView = record { pass = looked_at target there listed shown le; doing = doing } in
+      let same = look_same words_after s.words (known s.views) r.shared seat v.pass there_is acts target there listed shown le in
+      both (stepped s i (get_or s.words i 0) seat cs w keeps) s.words (set (known s.views) seat w.pass) (look_keeps words_after s.words (known s.views) r.shared seat v.pass there_is acts target there listed shown le) r.shared.enlisted (logged r.shared.log seat (taken_at target there listed shown le))
+      (sym (set-get_or s.words i 0)) (sym (known_set s.views seat w)) same.0 same.1
+      (λ readers all. let long = length-set s.views seat w in run readers (omega arith))
 
-pub loads : (kind : AccessKind) (slots seat game : ℕ) (m : Me Entry View) → IsSome m.0.share → IsMatch game → Allows TableKeepsOneHistory slots seat m game (λ n. n) (LoadStep kind (step slots game 0 0 none) m)
-loads kind slots seat game m acts is s r _ here _ =
-    let v = m.0 in
-    let f = r.fits seat v here in
-    let there = there_now s r kind game is in
-    let target : Target = Match kind game (get_or s.words game 0) in (
-      looked_at s r seat v here acts target there v.listed v.shown f.listed,
-      keeps,
-      tt,
-      load_keeps s r seat v here acts game m.1 target there v.listed v.shown f.listed,
-      record { loads = record { sees = look_tells words_after s.words s.views r seat v here acts target there v.listed v.shown f.listed; listed = refl }; shown = refl },
-    )
+  -- the access of a step on a match word is at the machine's history, whose word it found
+  is_now : (kind : AccessKind) (game at readers : ℕ) → IsMatch game → at ≡ length history → (one : IsOneRun readers r.shared.enlisted r.shared.log s.views) → IsNow one.state (access kind game (get_or s.words game 0) at)
+  is_now kind game at readers is place one = record {
+    place = place ∙ ap length (sym one.history_is);
+    found = (there_now s r kind game is).1 ∙ ap (λ (h : List Entry). word_of (match_after h game)) (sym one.history_is);
+  }
 
-pub loads_last : (slots seat game : ℕ) (m : Me Entry View) → IsSome m.0.share → IsMatch game → Allows TableKeepsOneHistory slots seat m game (λ n. n) (LastLoadStep (step slots game 0 0 none) m)
-loads_last slots seat game m acts is s r _ here _ =
+  -- a step on a match word that stored nothing, by the turn that the machine takes
+  module _ (kind : AccessKind) (game : ℕ) (is : IsMatch game) (shown : List ℕ) where
+    abbrev found : ℕ
+    found = get_or s.words game 0
+
+    abbrev after_load : View
+    after_load = looked_at (Match kind game (get_or s.words game 0)) (there_now s r kind game is) v.pass.listed shown (r.shared.fits seat v.pass there_is).listed
+
+    abbrev here_access : Access
+    here_access = access kind game (get_or s.words game 0) (length after_load.seen)
+
+    place_is : length after_load.seen ≡ length history
+    place_is = ap length (seen_same (Match kind game (get_or s.words game 0)) (there_now s r kind game is) v.pass.listed shown (r.shared.fits seat v.pass there_is).listed)
+
+    load_runs : (doing : Doing) → ((readers : ℕ) (one : IsOneRun readers r.shared.enlisted r.shared.log s.views) → IsNow one.state here_access → (c : Caller) × Turn seat v.pass.number one.state c here_access doing [])
+        → (cs : List (ℕ × Entry)) → TableKeepsOneHistory (stepped s game (get_or s.words game 0) seat cs (record { pass = after_load; doing = doing }) keeps)
+    load_runs doing turn cs =
+        let w : WordView = record { pass = after_load; doing = doing } in
+        load_keeps game cs (Match kind game (get_or s.words game 0)) (there_now s r kind game is) v.pass.listed shown (r.shared.fits seat v.pass there_is).listed doing
+        (λ readers all.
+        let one = r.one_run readers all in
+        let t = turn readers one (is_now kind game (length after_load.seen) readers is place_is one) in
+        run_stepped readers r.shared.enlisted r.shared.log s.views all one seat v here w (taken_at (Match kind game (get_or s.words game 0)) (there_now s r kind game is) v.pass.listed shown (r.shared.fits seat v.pass there_is).listed) [] t.0 here_access refl
+        (r.shared.fits seat v.pass there_is).number apart (ap (λ (k : ℕ). access kind game (get_or s.words game 0) k ∷ []) (sym place_is))
+        (seen_same (Match kind game (get_or s.words game 0)) (there_now s r kind game is) v.pass.listed shown (r.shared.fits seat v.pass there_is).listed ∙ sym (append-nil history)) t.1)
+
+  -- a step on the number of the enlisted that stored nothing
+  count_runs : (found listed : ℕ) (shown : List ℕ) (le : listed ≤ r.shared.enlisted) (cs : List (ℕ × Entry)) → TableKeepsOneHistory (stepped s 0 (get_or s.words 0 0) seat cs (record { pass = looked_at (Enlisted found) tt listed shown le; doing = v.doing }) keeps)
+  count_runs found listed shown le cs =
+      load_keeps 0 cs (Enlisted found) tt listed shown le v.doing (λ readers all. run_kept readers r.shared.enlisted r.shared.log s.views all (r.one_run readers all) seat v here (record { pass = looked_at (Enlisted found) tt listed shown le; doing = v.doing })
+      (logged r.shared.log seat (taken_at (Enlisted found) tt listed shown le)) refl refl (seen_same (Enlisted found) tt listed shown le) (logged_accesses r.shared.log seat (taken_at (Enlisted found) tt listed shown le) ∙ append-nil (accesses_of_log r.shared.log)))
+
+-- after a step that keeps the rule its pass stands at its seat
+stands_after : (s : Position) (i n seat : ℕ) (cs : List (ℕ × Entry)) (v w : WordView) → get_elem? s.views seat ≡ some v → TableKeepsOneHistory (stepped s i n seat cs w keeps) → (place : ℕ) → place ≡ seat → Stands place w
+stands_after s i n seat cs v w here rule place is = record { state = stepped s i n seat cs w keeps; rule = rule; here = ap (get_elem? (set s.views seat w)) is ∙ set_here s.views seat w (place_below s.views seat v here) }
+
+pub looks : (slots seat game place : ℕ) (m : Me Entry WordView) (e : EventCall) → place ≡ seat → IsSome m.0.pass.share → IsMatch game → e.game ≡ game → IsReporter m.0.pass.number → m.0.doing.held ≡ Nothing → Allows TableKeepsOneHistory slots seat m game (λ n. n) (LookStep place e (step slots game 0 0 none) m)
+looks slots seat game place m e is_seat acts is of reporter nothing s r _ here _ =
     let v = m.0 in
-    let f = r.fits seat v here in
+    let f = r.shared.fits seat v.pass (known_at s.views seat v here) in
     let n : ℕ = get_or s.words game 0 in
-    let there = there_now s r Second game is in
-    let target : Target = Match Second game n in
-    let shown : List ℕ = v.shown ++ version_shown (trail_of v) n in (
-      looked_at s r seat v here acts target there v.listed shown f.listed,
+    let w = after_load s r seat v here acts Look game is v.pass.shown in
+    let doing = after_look v.pass.number e n (length w.seen) v.doing in
+    let kept = load_runs s r seat v here acts Look game is v.pass.shown doing
+    (λ readers one now. (Reporter v.pass.number, turn_look (cast_for readers) seat v.pass.number one.steps one.state one.run v.doing (one.each seat v here) (here_access s r seat v here acts Look game is v.pass.shown) now e (reporter, subst IsMatch (sym of) is) nothing (refl, sym of)))
+    m.1 in (
+      record { pass = w; doing = doing },
       keeps,
       tt,
-      load_keeps s r seat v here acts game m.1 target there v.listed shown f.listed,
-      record { loads = record { sees = look_tells words_after s.words s.views r seat v here acts target there v.listed shown f.listed; listed = refl }; shown = refl },
+      kept,
+      record {
+        loads = record { loads = record { sees = look_tells words_after s.words (known s.views) r.shared seat v.pass (known_at s.views seat v here) acts (Match Look game n) (there_now s r Look game is) v.pass.listed v.pass.shown f.listed; listed = refl }; shown = refl };
+        doing = refl;
+        stands = stands_after s game n seat m.1 v (record { pass = w; doing = doing }) here kept place is_seat;
+      },
     )
 
-pub counts : (slots seat : ℕ) (m : Me Entry View) → IsSome m.0.share → Allows TableKeepsOneHistory slots seat m 0 (λ n. n) (EnlistedStep (step slots 0 0 0 none) m)
-counts slots seat m acts s r _ here _ =
+pub firsts : (slots seat game : ℕ) (m : Me Entry WordView) → IsSome m.0.pass.share → IsMatch game → IsNext First game m.0.doing.held → Allows TableKeepsOneHistory slots seat m game (λ n. n) (FirstStep (step slots game 0 0 none) m)
+firsts slots seat game m acts is next s r _ here _ =
     let v = m.0 in
-    let f = r.fits seat v here in (
-      looked_at s r seat v here acts Enlisted tt v.listed v.shown f.listed,
+    let f = r.shared.fits seat v.pass (known_at s.views seat v here) in
+    let n : ℕ = get_or s.words game 0 in
+    let w = after_load s r seat v here acts First game is v.pass.shown in
+    let doing = after_first n (length w.seen) v.doing in (
+      record { pass = w; doing = doing },
       keeps,
       tt,
-      load_keeps s r seat v here acts 0 m.1 Enlisted tt v.listed v.shown f.listed,
-      record { word = refl; loads = record { sees = look_tells words_after s.words s.views r seat v here acts Enlisted tt v.listed v.shown f.listed; listed = refl; shown = refl } },
+      load_runs s r seat v here acts First game is v.pass.shown doing
+          (λ readers one now. (Reader (seat + 1), turn_firsts (cast_for readers) seat v.pass.number one.steps one.state one.run v.doing (one.each seat v here) (here_access s r seat v here acts First game is v.pass.shown) now refl next))
+          m.1,
+      record {
+        loads = record { loads = record { sees = look_tells words_after s.words (known s.views) r.shared seat v.pass (known_at s.views seat v here) acts (Match First game n) (there_now s r First game is) v.pass.listed v.pass.shown f.listed; listed = refl }; shown = refl };
+        doing = refl;
+      },
+    )
+
+pub again : (slots seat game : ℕ) (m : Me Entry WordView) → IsSome m.0.pass.share → IsMatch game → IsNext Second game m.0.doing.held → Allows TableKeepsOneHistory slots seat m game (λ n. n) (SecondStep (step slots game 0 0 none) m)
+again slots seat game m acts is next s r _ here _ =
+    let v = m.0 in
+    let f = r.shared.fits seat v.pass (known_at s.views seat v here) in
+    let n : ℕ = get_or s.words game 0 in
+    let w = after_load s r seat v here acts Second game is v.pass.shown in
+    let doing = after_second n (length w.seen) v.doing in (
+      record { pass = w; doing = doing },
+      keeps,
+      tt,
+      load_runs s r seat v here acts Second game is v.pass.shown doing
+          (λ readers one now. (Reader (seat + 1), turn_seconds (cast_for readers) seat v.pass.number one.steps one.state one.run v.doing (one.each seat v here) (here_access s r seat v here acts Second game is v.pass.shown) now refl next))
+          m.1,
+      record {
+        loads = record { loads = record { sees = look_tells words_after s.words (known s.views) r.shared seat v.pass (known_at s.views seat v here) acts (Match Second game n) (there_now s r Second game is) v.pass.listed v.pass.shown f.listed; listed = refl }; shown = refl };
+        doing = refl;
+      },
+    )
+
+pub loads_last : (slots seat game place : ℕ) (m : Me Entry WordView) → place ≡ seat → IsSome m.0.pass.share → IsMatch game → IsNext Second game m.0.doing.held → Allows TableKeepsOneHistory slots seat m game (λ n. n) (LastLoadStep place (step slots game 0 0 none) m)
+loads_last slots seat game place m is_seat acts is next s r _ here _ =
+    let v = m.0 in
+    let f = r.shared.fits seat v.pass (known_at s.views seat v here) in
+    let n : ℕ = get_or s.words game 0 in
+    let shown : List ℕ = v.pass.shown ++ version_shown (trail_of v.pass) n in
+    let w = after_load s r seat v here acts Second game is shown in
+    let doing = after_second n (length w.seen) v.doing in
+    let kept = load_runs s r seat v here acts Second game is shown doing
+    (λ readers one now. (Reader (seat + 1), turn_seconds (cast_for readers) seat v.pass.number one.steps one.state one.run v.doing (one.each seat v here) (here_access s r seat v here acts Second game is shown) now refl next))
+    m.1 in (
+      record { pass = w; doing = doing },
+      keeps,
+      tt,
+      kept,
+      record {
+        loads = record { loads = record { sees = look_tells words_after s.words (known s.views) r.shared seat v.pass (known_at s.views seat v here) acts (Match Second game n) (there_now s r Second game is) v.pass.listed shown f.listed; listed = refl }; shown = refl };
+        doing = refl;
+        stands = stands_after s game n seat m.1 v (record { pass = w; doing = doing }) here kept place is_seat;
+      },
+    )
+
+pub counts : (slots seat place : ℕ) (m : Me Entry WordView) → place ≡ seat → IsSome m.0.pass.share → Allows TableKeepsOneHistory slots seat m 0 (λ n. n) (EnlistedStep place (step slots 0 0 0 none) m)
+counts slots seat place m is_seat acts s r _ here _ =
+    let v = m.0 in
+    let at = known_at s.views seat v here in
+    let f = r.shared.fits seat v.pass at in (
+      record { pass = looked_at s r seat v here acts (Enlisted (get_or s.words 0 0)) tt v.pass.listed v.pass.shown f.listed; doing = v.doing },
+      keeps,
+      tt,
+      count_runs s r seat v here acts (get_or s.words 0 0) v.pass.listed v.pass.shown f.listed m.1,
+      record { word = refl; loads = record { found = get_or s.words 0 0; sees = look_tells words_after s.words (known s.views) r.shared seat v.pass at acts (Enlisted (get_or s.words 0 0)) tt v.pass.listed v.pass.shown f.listed; listed = refl; shown = refl }; found = refl; doing = refl; stands = stands_after s 0 (get_or s.words 0 0) seat m.1 v (record { pass = looked_at s r seat v here acts (Enlisted (get_or s.words 0 0)) tt v.pass.listed v.pass.shown f.listed; doing = v.doing }) here (count_runs s r seat v here acts (get_or s.words 0 0) v.pass.listed v.pass.shown f.listed m.1) place is_seat },
     )
 
 -- an exchange that adds an entry
-module _ (s : Position) (r : TableKeepsOneHistory s) (seat : ℕ) (v : View) (e : Entry) (old new : ℕ) (here : get_elem? s.views seat ≡ some v) (acts : IsSome v.share) (is : IsMatch e.game) (pos : 0 < v.number) (me : e.reporter ≡ v.number) (next : IsNextWord e old new) (hit : get_or s.words e.game 0 ≡ old) where
-  abbrev history : List Entry
-  history = history_of r.log
+module _ (s : Position) (r : TableKeepsOneHistory s) (seat : ℕ) (v : WordView) (e : Entry) (old new : ℕ) (here : get_elem? s.views seat ≡ some v) (acts : IsSome v.pass.share) (is : IsMatch e.game) (pos : 0 < v.pass.number) (me : e.reporter ≡ v.pass.number) (next : IsNextWord e old new) (hit : get_or s.words e.game 0 ≡ old)
+    (holds : IsHoldingFor v.doing.held e old new) where
+  abbrev at_pass : get_elem? (known s.views) seat ≡ some v.pass
+  at_pass = known_at s.views seat v here
 
-  next_is : (set (board_of history) (e.game - 1) new ≡ board_of (followed_by history e)) × IsLegal (followed_by history e)
-  next_is = next history r.legal (sym (match_word s r e.game is.0) ∙ hit)
+  next_is : (set (board_of (history_of r.shared.log)) (e.game - 1) new ≡ board_of (followed_by (history_of r.shared.log) e)) × IsLegal (followed_by (history_of r.shared.log) e)
+  next_is = next (history_of r.shared.log) r.shared.legal (sym (match_word s r e.game is.0) ∙ hit)
 
   abbrev added : View
-  added = entered words_after s.words s.views r seat v here acts e (get_or s.words e.game 0) (there_now s r Swap e.game is) pos me next_is.1 v.listed (r.fits seat v here).listed
+  added = entered words_after s.words (known s.views) r.shared seat v.pass at_pass acts e (get_or s.words e.game 0) (there_now s r Swap e.game is) pos me next_is.1 v.pass.listed (r.shared.fits seat v.pass at_pass).listed
 
-  swap_keeps : (cs : List (ℕ × Entry)) → TableKeepsOneHistory (stepped s e.game new seat cs added keeps)
+  abbrev after_won : WordView
+  after_won = record { pass = added; doing = after_swap (get_or s.words e.game 0) (length added.seen) v.doing }
+
+  longer : added.seen ≡ followed_by (history_of r.shared.log) e
+  longer = longer_history words_after s.words (known s.views) r.shared seat v.pass at_pass acts e (get_or s.words e.game 0) (there_now s r Swap e.game is) pos me next_is.1 v.pass.listed (r.shared.fits seat v.pass at_pass).listed
+
+  entry_is : entry_of (v.pass.number, holds.e) ≡ e
+  entry_is = λ i. record { game = holds.game i; reporter = sym me i; kind = holds.kind i }
+
+  swap_keeps : (cs : List (ℕ × Entry)) → TableKeepsOneHistory (stepped s e.game new seat cs after_won keeps)
   swap_keeps cs =
-      add_keeps words_after s.words s.views r seat v here acts e (get_or s.words e.game 0) (there_now s r Swap e.game is) pos me next_is.1 v.listed (r.fits seat v here).listed (set s.words e.game new)
-      (ap (λ (ws : List ℕ). set ws e.game new) r.words_are ∙ (set_match r.enlisted (board_of history) e.game new is.0 ∙ ap (λ (b : List ℕ). r.enlisted ∷ b) next_is.0))
+      let history = history_of r.shared.log in
+      let f = r.shared.fits seat v.pass at_pass in
+      let are : set s.words e.game new ≡ words_after (followed_by history e) r.shared.enlisted =
+      ap (λ (ws : List ℕ). set ws e.game new) r.shared.words_are ∙ (set_match r.shared.enlisted (board_of history) e.game new is.0 ∙ ap (λ (b : List ℕ). r.shared.enlisted ∷ b) next_is.0) in
+      let there = there_now s r Swap e.game is in
+      let same = add_same words_after s.words (known s.views) r.shared seat v.pass at_pass acts e (get_or s.words e.game 0) there pos me next_is.1 v.pass.listed f.listed (set s.words e.game new) are in
+      let n : ℕ = get_or s.words e.game 0 in
+      let taken : Taken = add words_after s.words (known s.views) r.shared seat v.pass at_pass acts e n there pos me next_is.1 v.pass.listed f.listed in
+      let long : length added.seen ≡ length history + 1 = ap length longer ∙ length-append history (e ∷ []) in
+      both (stepped s e.game new seat cs after_won keeps) (set s.words e.game new) (set (known s.views) seat added)
+      (add_keeps words_after s.words (known s.views) r.shared seat v.pass at_pass acts e n there pos me next_is.1 v.pass.listed f.listed (set s.words e.game new) are)
+      r.shared.enlisted (logged r.shared.log seat taken) refl (sym (known_set s.views seat after_won)) same.0 same.1
+      (λ readers all.
+      let wide = length-set s.views seat after_won in
+      let one = r.one_run readers (omega arith) in
+      let now = is_now s r seat v here acts Swap e.game (length history) readers is refl one in
+      let turn = turn_swapped (cast_for readers) seat v.pass.number one.steps one.state one.run v.doing (one.each seat v here) (access Swap e.game n (length history)) now holds.e old new holds.holds (refl, sym holds.game) hit in
+      run_stepped readers r.shared.enlisted r.shared.log s.views (omega arith) one seat v here after_won taken (e ∷ []) (Reporter v.pass.number) (access Swap e.game n (length history)) refl f.number (apart s r seat v here acts) refl longer
+      (subst (λ (k : ℕ). Turn seat v.pass.number one.state (Reporter v.pass.number) (access Swap e.game n (length history)) (after_swap n k v.doing) (e ∷ [])) (sym long)
+      (subst (λ (x : Entry). Turn seat v.pass.number one.state (Reporter v.pass.number) (access Swap e.game n (length history)) (after_swap n (length history + 1) v.doing) (x ∷ [])) entry_is turn)))
 
-  swap_tells : ExchangeWon e v (get_or s.words e.game 0) added
+  swap_tells : ExchangeWon e v.pass (get_or s.words e.game 0) added
   swap_tells = record {
-    before = history;
-    adds = add_tells words_after s.words s.views r seat v here acts e (get_or s.words e.game 0) (there_now s r Swap e.game is) pos me next_is.1 v.listed (r.fits seat v here).listed;
+    before = history_of r.shared.log;
+    adds = add_tells words_after s.words (known s.views) r.shared seat v.pass at_pass acts e (get_or s.words e.game 0) (there_now s r Swap e.game is) pos me next_is.1 v.pass.listed (r.shared.fits seat v.pass at_pass).listed;
     listed = refl;
   }
 
 -- an exchange for an entry
-pub swaps : (slots seat : ℕ) (m : Me Entry View) (e : Entry) (old new : ℕ) → IsSome m.0.share → IsMatch e.game → 0 < m.0.number → e.reporter ≡ m.0.number → IsNextWord e old new
-    → Allows TableKeepsOneHistory slots seat m e.game (λ n. either (n == old) new n) (ExchangeStep (step slots e.game old new (some e)) m)
-swaps slots seat m e old new acts is pos me next s r _ here _ =
+pub swaps : (slots seat place : ℕ) (m : Me Entry WordView) (e : Entry) (old new : ℕ) → place ≡ seat → IsSome m.0.pass.share → IsMatch e.game → 0 < m.0.pass.number → e.reporter ≡ m.0.pass.number → IsNextWord e old new → IsHoldingFor m.0.doing.held e old new
+    → Allows TableKeepsOneHistory slots seat m e.game (λ n. either (n == old) new n) (ExchangeStep place (step slots e.game old new (some e)) m)
+swaps slots seat place m e old new is_seat acts is pos me next holds s r _ here _ =
     let v = m.0 in
-    let f = r.fits seat v here in
+    let at = known_at s.views seat v here in
+    let f = r.shared.fits seat v.pass at in
     let n : ℕ = get_or s.words e.game 0 in
     let there = there_now s r Swap e.game is in
     let target : Target = Match Swap e.game n in
     exchanged n old new
-    (λ x. (w : View) × (a : Rattle.atomic_table.specs.Table.Act Entry) × Valid s.homes m.1 a × TableKeepsOneHistory (stepped s e.game x seat m.1 w a) × ExchangeStep (step slots e.game old new (some e)) m n (w, carried_after m.1 a))
+    (λ x. (w : WordView) × (a : Rattle.atomic_table.specs.Table.Act Entry) × Valid s.homes m.1 a × TableKeepsOneHistory (stepped s e.game x seat m.1 w a) × ExchangeStep place (step slots e.game old new (some e)) m n (w, carried_after m.1 a))
     (λ hit. (
-      added s r seat v e old new here acts is pos me next hit,
+      after_won s r seat v e old new here acts is pos me next hit holds,
       keeps,
       tt,
-      swap_keeps s r seat v e old new here acts is pos me next hit m.1,
+      swap_keeps s r seat v e old new here acts is pos me next hit holds m.1,
       record {
-        won = λ _. swap_tells s r seat v e old new here acts is pos me next hit;
+        won = λ _. swap_tells s r seat v e old new here acts is pos me next hit holds;
         missed = λ miss. absurd (miss hit);
+        doing = refl;
+        stands = stands_after s e.game new seat m.1 v (after_won s r seat v e old new here acts is pos me next hit holds) here (swap_keeps s r seat v e old new here acts is pos me next hit holds m.1) place is_seat;
       },
     ))
-    (λ miss. (
-      looked_at s r seat v here acts target there v.listed v.shown f.listed,
+    (λ miss. let w = after_load s r seat v here acts Swap e.game is v.pass.shown in let kept = load_runs s r seat v here acts Swap e.game is v.pass.shown (after_swap n (length w.seen) v.doing)
+    (λ readers one now. (Reporter v.pass.number, turn_kept_out (cast_for readers) seat v.pass.number one.steps one.state one.run v.doing (one.each seat v here) (here_access s r seat v here acts Swap e.game is v.pass.shown) now holds.e old new holds.holds (refl, sym holds.game) miss))
+    m.1 in (
+      record { pass = w; doing = after_swap n (length w.seen) v.doing },
       keeps,
       tt,
-      load_keeps s r seat v here acts e.game m.1 target there v.listed v.shown f.listed,
+      kept,
       record {
         won = λ hit. absurd (miss hit);
-        missed = λ _. record { loads = record { sees = look_tells words_after s.words s.views r seat v here acts target there v.listed v.shown f.listed; listed = refl }; shown = refl };
+        missed = λ _. record { loads = record { sees = look_tells words_after s.words (known s.views) r.shared seat v.pass at acts target there v.pass.listed v.pass.shown f.listed; listed = refl }; shown = refl };
+        doing = refl;
+        stands = stands_after s e.game n seat m.1 v (record { pass = w; doing = after_swap n (length w.seen) v.doing }) here kept place is_seat;
       },
     ))
 
 -- an exchange for an enlistment
-pub enlists : (slots seat : ℕ) (m : Me Entry View) (old : ℕ) → IsSome m.0.share → m.0.number ≡ 0 → old < 255 → Allows TableKeepsOneHistory slots seat m 0 (λ n. either (n == old) (old + 1) n) (EnlistStep (step slots 0 old (old + 1) none) m)
-enlists slots seat m old acts reader room s r _ here _ =
+pub enlists : (slots seat place : ℕ) (m : Me Entry WordView) (old : ℕ) → place ≡ seat → IsSome m.0.pass.share → m.0.pass.number ≡ 0 → m.0.doing.held ≡ Nothing → old < 255 → Allows TableKeepsOneHistory slots seat m 0 (λ n. either (n == old) (old + 1) n) (EnlistStep place (step slots 0 old (old + 1) none) m)
+enlists slots seat place m old is_seat acts reader nothing room s r _ here _ =
     let v = m.0 in
-    let f = r.fits seat v here in
+    let at = known_at s.views seat v here in
+    let f = r.shared.fits seat v.pass at in
     let n : ℕ = get_or s.words 0 0 in
-    let is : n ≡ r.enlisted = enlist_word s r in
+    let is : n ≡ r.shared.enlisted = enlist_word s r in
     let below = f.listed in
     exchanged n old (old + 1)
-    (λ x. (w : View) × (a : Rattle.atomic_table.specs.Table.Act Entry) × Valid s.homes m.1 a × TableKeepsOneHistory (stepped s 0 x seat m.1 w a) × EnlistStep (step slots 0 old (old + 1) none) m n (w, carried_after m.1 a))
-    (λ hit. let left : r.enlisted < 255 = omega arith in
-    let same : old + 1 ≡ r.enlisted + 1 = omega arith in (
-      enlisted_as words_after s.words s.views r seat v here acts reader left,
+    (λ x. (w : WordView) × (a : Rattle.atomic_table.specs.Table.Act Entry) × Valid s.homes m.1 a × TableKeepsOneHistory (stepped s 0 x seat m.1 w a) × EnlistStep place (step slots 0 old (old + 1) none) m n (w, carried_after m.1 a))
+    (λ hit. let left : r.shared.enlisted < 255 = omega arith in
+    let same : old + 1 ≡ r.shared.enlisted + 1 = omega arith in
+    let w : WordView = record { pass = enlisted_as words_after s.words (known s.views) r.shared seat v.pass at acts reader left; doing = v.doing } in
+    let taken : Taken = count words_after s.words (known s.views) r.shared seat v.pass at acts reader left in
+    let are : set s.words 0 (old + 1) ≡ words_after (history_of r.shared.log) (r.shared.enlisted + 1) = ap (λ (ws : List ℕ). set ws 0 (old + 1)) r.shared.words_are ∙ ap (λ (k : ℕ). k ∷ board_of (history_of r.shared.log)) same in
+    let kept = enlist_same words_after s.words (known s.views) r.shared seat v.pass at acts reader left (set s.words 0 (old + 1)) are in
+    let rule = both (stepped s 0 (old + 1) seat m.1 w keeps) (set s.words 0 (old + 1)) (set (known s.views) seat w.pass) (enlist_keeps words_after s.words (known s.views) r.shared seat v.pass at acts reader left (set s.words 0 (old + 1)) are)
+    (r.shared.enlisted + 1) (logged r.shared.log seat taken) refl (sym (known_set s.views seat w)) kept.0 kept.1
+    (λ readers all.
+    let wide = length-set s.views seat w in
+    run_enlisted readers r.shared.enlisted r.shared.log s.views (omega arith) (r.one_run readers (omega arith)) seat v here w (logged r.shared.log seat taken) reader refl left refl nothing (λ j u there. (r.shared.fits j u.pass (known_at s.views j u there)).number)
+    (unchanged_history words_after s.words (known s.views) r.shared seat v.pass at acts reader left) (logged_accesses r.shared.log seat taken ∙ append-nil (accesses_of_log r.shared.log))) in (
+      w,
       keeps,
       tt,
-      enlist_keeps words_after s.words s.views r seat v here acts reader left (set s.words 0 (old + 1)) (ap (λ (ws : List ℕ). set ws 0 (old + 1)) r.words_are ∙ ap (λ (k : ℕ). k ∷ board_of (history_of r.log)) same),
+      rule,
       record {
         word = refl;
-        won = λ _. record { enlists = enlist_tells words_after s.words s.views r seat v here acts reader left; above = omega arith; listed = ap (λ (k : ℕ). k + 1) (sym is) };
+        won = λ _. record { enlists = subst (λ (k : ℕ). Enlists k v.pass w.pass) (sym is) (enlist_tells words_after s.words (known s.views) r.shared seat v.pass at acts reader left); above = omega arith; listed = ap (λ (k : ℕ). k + 1) (sym is) };
         missed = λ miss. absurd (miss hit);
+        doing = refl;
+        stands = stands_after s 0 (old + 1) seat m.1 v w here rule place is_seat;
       },
     ))
-    (λ miss. let le : n ≤ r.enlisted = omega arith in (
-      looked_at s r seat v here acts Enlisted tt n v.shown le,
+    (λ miss. let le : n ≤ r.shared.enlisted = omega arith in (
+      record { pass = looked_at s r seat v here acts (Enlisted n) tt n v.pass.shown le; doing = v.doing },
       keeps,
       tt,
-      load_keeps s r seat v here acts 0 m.1 Enlisted tt n v.shown le,
+      count_runs s r seat v here acts n n v.pass.shown le m.1,
       record {
         word = refl;
         won = λ hit. absurd (miss hit);
-        missed = λ _. record { sees = look_tells words_after s.words s.views r seat v here acts Enlisted tt n v.shown le; above = omega arith; listed = refl; shown = refl };
+        missed = λ _. record { sees = look_tells words_after s.words (known s.views) r.shared seat v.pass at acts (Enlisted n) tt n v.pass.shown le; above = omega arith; listed = refl; shown = refl };
+        doing = refl;
+        stands = stands_after s 0 n seat m.1 v (record { pass = looked_at s r seat v here acts (Enlisted n) tt n v.pass.shown le; doing = v.doing }) here (count_runs s r seat v here acts n n v.pass.shown le m.1) place is_seat;
       },
     ))
 
-pub seconds : (seat : ℕ) (v : View) → Splits TableKeepsOneHistory seat v (kept_of v) (second_of v)
-seconds seat v s r here = second_added words_after s.words s.views r seat v here
+-- one pass more, that has done nothing, beside one that has done what it had done
+module _ (seat : ℕ) (v : WordView) (s : Position) (r : TableKeepsOneHistory s) (here : get_elem? s.views seat ≡ some v) (u w : WordView) (same : u.pass.number ≡ v.pass.number) (done : u.doing ≡ v.doing) (none : w.doing ≡ nothing_done) (number : w.pass.number ≡ 0) where
+  split_keeps : (q : KeepsOneHistory words_after s.words (set (known s.views) seat u.pass ++ w.pass ∷ [])) → q.enlisted ≡ r.shared.enlisted → q.log ≡ r.shared.log → TableKeepsOneHistory record { words = s.words; homes = s.homes; views = set s.views seat u ++ w ∷ [] }
+  split_keeps q enlisted log =
+      both record { words = s.words; homes = s.homes; views = set s.views seat u ++ w ∷ [] } s.words (set (known s.views) seat u.pass ++ w.pass ∷ []) q r.shared.enlisted r.shared.log refl
+      (sym (known_more (set s.views seat u) w ∙ ap (λ (l : List View). l ++ w.pass ∷ []) (known_set s.views seat u))) enlisted log
+      (λ readers all.
+      let long = length-append (set s.views seat u) (w ∷ []) in
+      let wide = length-set s.views seat u in
+      run_more readers r.shared.enlisted r.shared.log (set s.views seat u)
+      (run_kept readers r.shared.enlisted r.shared.log s.views (omega arith) (r.one_run readers (omega arith)) seat v here u r.shared.log same done refl refl) w (omega arith) number none)
 
-pub notes : (seat : ℕ) (v : View) → Splits TableKeepsOneHistory seat v v (note_of v)
-notes seat v s r here = note_added words_after s.words s.views r seat v here
+pub seconds : (seat : ℕ) (v : WordView) → Splits TableKeepsOneHistory seat v (left_pass v) (second_pass v)
+seconds seat v s r here =
+    let at = known_at s.views seat v here in
+    let same = second_same words_after s.words (known s.views) r.shared seat v.pass at in
+    split_keeps seat v s r here (left_pass v) (second_pass v) refl refl refl refl (second_added words_after s.words (known s.views) r.shared seat v.pass at) same.0 same.1
 
-pub joins : (seat : ℕ) (v : View) (other : ℕ) (a : View) → Joins TableKeepsOneHistory seat v other (note_of a) (told_by v (note_of a)) newcomer
-joins seat v other a s r here apart there = note_joined words_after s.words s.views r seat v here other (note_of a) apart there refl refl
+-- a pass that another was split off still stands
+pub split_stands : (seat : ℕ) (v : WordView) → Stands seat v → Stands seat (left_pass v)
+split_stands seat v was = record {
+  state = record { words = was.state.words; homes = was.state.homes; views = set was.state.views seat (left_pass v) ++ second_pass v ∷ [] };
+  rule = seconds seat v was.state was.rule was.here;
+  here = at_longer (set was.state.views seat (left_pass v)) (second_pass v ∷ []) seat (left_pass v) (set_here was.state.views seat (left_pass v) (place_below was.state.views seat v was.here));
+}
+
+pub notes : (seat : ℕ) (v : WordView) → Splits TableKeepsOneHistory seat v v (note_pass v)
+notes seat v s r here =
+    let at = known_at s.views seat v here in
+    let same = note_same words_after s.words (known s.views) r.shared seat v.pass at in
+    split_keeps seat v s r here v (note_pass v) refl refl refl refl (note_added words_after s.words (known s.views) r.shared seat v.pass at) same.0 same.1
+
+pub joins : (seat : ℕ) (v : WordView) (other : ℕ) (a : WordView) → Joins TableKeepsOneHistory seat v other (note_pass a) (told_pass v (note_pass a)) new_pass
+joins seat v other a s r here apart there =
+    let at = known_at s.views seat v here in
+    let told = told_pass v (note_pass a) in
+    let note = note_pass a in
+    let views = set s.views seat told in
+    let is : known views ≡ set (known s.views) seat told.pass = known_set s.views seat told in
+    let theirs : get_elem? (set (known s.views) seat told.pass) other ≡ some note.pass = subst (λ (l : List View). get_elem? l other ≡ some note.pass) is (known_at views other note there) in
+    let same = joined_same words_after s.words (known s.views) r.shared seat v.pass at other note.pass apart theirs refl refl in
+    both record { words = s.words; homes = s.homes; views = set views other new_pass } s.words (set (set (known s.views) seat told.pass) other newcomer)
+    (note_joined words_after s.words (known s.views) r.shared seat v.pass at other note.pass apart theirs refl refl) r.shared.enlisted r.shared.log refl
+    (sym (known_set views other new_pass ∙ ap (λ (l : List View). set l other newcomer) is)) same.0 same.1
+    (λ readers all.
+    let wide = length-set s.views seat told in
+    let wider = length-set views other new_pass in
+    let one = run_kept readers r.shared.enlisted r.shared.log s.views (omega arith) (r.one_run readers (omega arith)) seat v here told r.shared.log refl refl refl refl in
+    run_kept readers r.shared.enlisted r.shared.log views (omega arith) one other note there new_pass r.shared.log refl refl refl refl)
 
 -- a board may open with the words of no event and no reporter
-pub opens : (words : List ℕ) → words ≡ words_after [] 0 → TableKeepsOneHistory (opening words [] opener)
-opens = moves.opens words_after
+pub opens : (words : List ℕ) → words ≡ words_after [] 0 → TableKeepsOneHistory (opening words [] first_pass)
+opens words are = let same = moves.opens_same words_after words are in both (opening words [] first_pass) words (opener ∷ []) (moves.opens words_after words are) 0 [] refl refl same.0 same.1 (λ readers all. first readers all)
+  where
+    first : (readers : ℕ) → 1 ≤ readers → IsOneRun readers 0 [] (first_pass ∷ [])
+    first readers all = record {
+      steps = [];
+      state = initial_state (cast_for readers);
+      run = refl;
+      history_is = refl;
+      accesses = tt;
+      tight = record { moves = []; are = refl };
+      each = each;
+      only = All-nil (IsOfSome (first_pass ∷ []));
+      unseated = λ seat over below. (rest_at_start (cast_for readers)).idle (Reader (seat + 1)) (omega arith, omega arith);
+      unnumbered = λ n above few. (rest_at_start (cast_for readers)).idle (Reporter n) (omega arith, omega arith);
+    }
+      where
+        callers : (d : Caller) → IsOf 0 0 d → held_by (initial_state (cast_for readers)).callers d ≡ Some Idle
+        callers d (inl a) = subst (λ (c : Caller). held_by (initial_state (cast_for readers)).callers c ≡ Some Idle) (sym a) ((rest_at_start (cast_for readers)).idle (Reader 1) (omega arith, omega arith))
+        callers d (inr b) = let low = b.1.0 in absurd (omega arith)
+
+        each : (seat : ℕ) (v : WordView) → get_elem? (first_pass ∷ []) seat ≡ some v → FitsRun (initial_state (cast_for readers)) seat v.pass.number v.doing
+        each zero v e = subst (λ (x : WordView). FitsRun (initial_state (cast_for readers)) 0 x.pass.number x.doing) (some-injective first_pass v e) (record { high = 0; recorded = le_refl 0; held = (omega arith, callers); whole = refl })
+        each (suc seat) v e = absurd (some-ne-none v (sym e))
+
+pub opened_stands : (words : List ℕ) → words ≡ words_after [] 0 → Stands 0 first_pass
+opened_stands words are = record { state = opening words [] first_pass; rule = opens words are; here = refl }

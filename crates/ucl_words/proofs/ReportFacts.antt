@@ -32,7 +32,6 @@ use Rattle.ucl_words.specs.WordSteps.{Loads, ExchangeMissed, ExchangeWon, IsNext
 use Rattle.ucl_words.specs.Collects.{Walks}
 use Rattle.ucl_words.specs.WordCalls.{HasTrail, IsSteady, steps_with, ReportSteps}
 use Rattle.ucl_words.proofs.StepRuns.{trail_on, takes_trail, walks_on, walks_load}
-use Rattle.ucl_words.proofs.CallsAsSteps.{refused_joined, accepted_joined}
 
 -- the word with one event more, whatever the history is
 pub next_after : (game reporter : ℕ) (kind : Kind) (loaded next : ℕ) → IsMatch game → IsWord next
@@ -57,9 +56,7 @@ module _ (v u : View) (call : EventCall) (loaded : ℕ) (is : IsMatch call.game)
     look_report = inl (record { looked = look_access; accesses = refl; kind = (refl, refl); answer = sym (refused_reply (record_at loaded) (record_at loaded) call refusal refl refused); last = refl })
 
     pub look_steps : ReportSteps v call (Err refusal) u
-    look_steps =
-        let both = refused_joined v u call refusal (look_access ∷ []) me.0 me.1 is steady look_walks look_report in
-        record { may = (me, is); accesses = look_access ∷ []; leaves = look_walks.leaves; report = look_report; machine = both.machine; along = both.along }
+    look_steps = record { may = (me, is); accesses = look_access ∷ []; leaves = look_walks.leaves; report = look_report }
 
     pub look_refuses : RefusedReport (pass_view_of v) call refusal (pass_view_of u)
     look_refuses = record {
@@ -86,9 +83,7 @@ module _ (v u : View) (call : EventCall) (loaded : ℕ) (is : IsMatch call.game)
       miss_report refusal stale = inr (record { looked = look_access; swapped = swap_access; accesses = refl; acts = ((refl, refl), (refl, refl)); may = may; other = other; answer = stale; last = refl })
 
       pub miss_steps : (refusal : Refusal) → refusal ≡ Stale (record_at found).number → ReportSteps v call (Err refusal) z
-      miss_steps refusal stale =
-          let both = refused_joined v z call refusal (look_access ∷ swap_access ∷ []) me.0 me.1 is steady miss_walks (miss_report refusal stale) in
-          record { may = (me, is); accesses = look_access ∷ swap_access ∷ []; leaves = miss_walks.leaves; report = miss_report refusal stale; machine = both.machine; along = both.along }
+      miss_steps refusal stale = record { may = (me, is); accesses = look_access ∷ swap_access ∷ []; leaves = miss_walks.leaves; report = miss_report refusal stale }
 
       pub miss_refuses : (refusal : Refusal) → refusal ≡ Stale (record_at found).number → RefusedReport (pass_view_of v) call refusal (pass_view_of z)
       miss_refuses refusal stale = record {
@@ -161,14 +156,11 @@ module _ (v u : View) (call : EventCall) (loaded : ℕ) (is : IsMatch call.game)
 
       pub won_steps : ReportSteps v call (Ok reply) z
       won_steps =
-          let both = accepted_joined v z call reply (look_access ∷ won_access ∷ []) won.before me.0 me.1 is steady won_steady won.adds.last since before_legal won_mine (won.adds.number ∙ look_walks.number) won_follows won_report in
           record {
             may = (me, is);
             accesses = look_access ∷ won_access ∷ [];
             leaves = record { takes = won_takes; trail = won_trail; taken = takes_count v z (steps_with (Some (entry_of (v.number, call))) (look_access ∷ won_access ∷ [])) won_takes; follows = won_follows; whole_trail = won_whole };
             report = won_report;
-            machine = both.machine;
-            along = both.along;
           }
 
       pub won_accepts : AcceptedReport (pass_view_of v) call reply (pass_view_of z)

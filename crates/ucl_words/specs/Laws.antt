@@ -1,55 +1,39 @@
 -- What holds of all exchanges of match words, and of every running board.
-use Rattle.std.specs.Prelude.{◌≡◌, ℕ, List, [], ◌∷◌, ◌++◌, length, None, Result}
+use Rattle.std.specs.Prelude.{◌≡◌, ℕ, List, ◌∷◌, All, length, Some}
 use mathlib.Core.Option.{some}
 use lib.ListN.{get_elem?}
 use Rattle.atomic_table.specs.Table.{State}
-use Rattle.ucl_word.specs.declared.event.EventCall.{EventCall}
-use Rattle.ucl_word.specs.declared.event.Accepted.{Accepted}
-use Rattle.ucl_word.specs.declared.refusal.Refusal.{Refusal}
 use Rattle.ucl_board.specs.declared.entry.Entry.{Entry}
-use Rattle.ucl_board.specs.declared.reading.Reading.{Reading}
 use Rattle.ucl_board.specs.Words.{word_at}
 use Rattle.ucl_board.specs.History.{board_of, IsLegal}
-use Rattle.ucl_steps.specs.declared.step.Call.{Call}
-use Rattle.ucl_steps.specs.declared.step.Call.TheVariants as calls
-use Rattle.ucl_steps.specs.declared.trace.Reply.{Reply}
-use Rattle.ucl_steps.specs.declared.trace.Reply.TheVariants as replies
-use Rattle.ucl_steps.specs.LogRuns.{Finished, Work, IsWork, IsRunOfLog}
-use Rattle.ucl_pass.specs.declared.view.View.{View}
-use Rattle.ucl_words.specs.WordRule.{TableKeepsOneHistory}
+use Rattle.ucl_board.specs.Log.{history_of}
+use Rattle.ucl_steps.specs.declared.step.Step.{Step}
+use Rattle.ucl_steps.specs.Machine.{MachineState, initial_state, after_steps}
+use Rattle.ucl_steps.specs.Linearizable.{IsLinearizable}
+use Rattle.ucl_steps.specs.PassRuns.{cast_for, left_by, callers_of, FitsRun, IsTight}
+use Rattle.ucl_words.specs.declared.view.WordView.{WordView}
+use Rattle.ucl_words.specs.WordRule.{accesses_of_log, AreStepsOf, IsOfSome, TableKeepsOneHistory}
 use Rattle.ucl_words.specs.WordSteps.{IsNextWord}
-use Rattle.ucl_words.specs.WordMachine.{report_reply}
-use Rattle.ucl_words.specs.WordCalls.{ReportSteps, ReadingSteps, KeepsTrail}
 
 -- two entries of one match with one word before and one word after are one entry
 abbrev pub WordsTellTheEntry : Type 0
 WordsTellTheEntry = (history : List Entry) (e f : Entry) (old new : ℕ) → IsLegal history → e.game ≡ f.game → word_at (board_of history) e.game ≡ old → IsNextWord e old new → IsNextWord f old new → e ≡ f
 
--- each pass has done this work: its own steps are those of its calls, one after the other, the last perhaps unfinished
-abbrev pub HaveDone : List View → (ℕ → Work) → Type 0
-HaveDone views works = (seat : ℕ) (v : View) → get_elem? views seat ≡ some v → IsWork v.own (works seat) × ((works seat).number ≡ v.number)
-
--- the log of a board is one run of the machine from the fresh board, with the words of the table, and with all calls of all passes
-pub record IsRunOfBoard (s : State Entry View) (r : TableKeepsOneHistory s) (works : ℕ → Work) : Type 0 where
-  pub run : IsRunOfLog r.log (length s.views) works
-  pub words : s.words ≡ r.enlisted ∷ run.last.words
+-- the log is one run of the machine, from the fresh board to the history of the log and the words of the table: each of its steps on match words is the machine's step of a caller of its pass;
+-- each call begins with its first access and ends with its last; what each pass has done and holds is what its callers have done and hold, and there are no other calls;
+-- and all calls of all passes, those under way among them, are linearizable
+pub record IsRunOfBoard (s : State Entry WordView) (r : TableKeepsOneHistory s) : Type 0 where
+  pub steps : List Step
+  pub last : MachineState
+  pub run : after_steps steps (initial_state (cast_for (length s.views))) ≡ Some last
+  pub history : last.history ≡ history_of r.shared.log
+  pub words : s.words ≡ r.shared.enlisted ∷ last.words
+  pub accesses : AreStepsOf s.views (left_by steps (Some (initial_state (cast_for (length s.views))))) (accesses_of_log r.shared.log)
+  pub tight : IsTight steps
+  pub calls : (seat : ℕ) (v : WordView) → get_elem? s.views seat ≡ some v → FitsRun last seat v.pass.number v.doing
+  pub only : All (IsOfSome s.views) (callers_of last)
+  pub linearizable : IsLinearizable steps (history_of r.shared.log) last.calls
 
 -- whatever the steps of a board are, and between any two of them
 abbrev pub BoardsAreRuns : Type 0
-BoardsAreRuns = (s : State Entry View) (r : TableKeepsOneHistory s) (works : ℕ → Work) → HaveDone s.views works → IsRunOfBoard s r works
-
--- the work of a pass with one call more, with this answer
-pub record AddsCall (work : Work) (call : Call) (reply : Reply) (w : View) : Type 0 where
-  pub added : Finished
-  pub call_is : added.call ≡ call
-  pub reply_is : added.reply ≡ reply
-  pub work_is : IsWork w.own (record { number = work.number; calls = work.calls ++ added ∷ []; begun = None })
-
--- what each call says of its steps, as work: the pass was v, and is w; none of its calls is unfinished
-pub record CallsAddWork : Type 0 where
-  pub none : (number : ℕ) → IsWork [] (record { number = number; calls = []; begun = None })
-  pub reports : (v w : View) (work : Work) (call : EventCall) (reply : Result Accepted Refusal) → IsWork v.own work → work.number ≡ v.number → work.begun ≡ None → ReportSteps v call reply w
-      → AddsCall work (calls.Event call) (report_reply reply) w
-  pub readings : (v w : View) (work : Work) (reading : Reading) → IsWork v.own work → work.begun ≡ None → ReadingSteps v reading w → AddsCall work calls.Reading (replies.Copied reading) w
-  pub meetings : (v w : View) (work : Work) → IsWork v.own work → KeepsTrail v w → IsWork w.own work
-  pub enlistments : (v w : View) (work : Work) (number : ℕ) → IsWork v.own work → work.number ≡ 0 → work.begun ≡ None → KeepsTrail v w → IsWork w.own (record { number = number; calls = work.calls; begun = None })
+BoardsAreRuns = (s : State Entry WordView) (r : TableKeepsOneHistory s) → IsRunOfBoard s r

@@ -4,3 +4,5 @@ pub mod Laws
 pub mod WordMachine
 pub mod WordCalls
 pub mod Collects
+pub mod WordViews
+pub mod WordDoings

@@ -1,5 +1,5 @@
 -- What a call of the word board says of the steps that it takes, one by one: the pass was v and is w.
-use Rattle.std.specs.Prelude.{◌≡◌, ◌+◌, ◌≤◌, List, [], ◌++◌, map, length, take, Option, None, Result}
+use Rattle.std.specs.Prelude.{◌≡◌, ◌≢◌, ◌⊎◌, ℕ, ◌+◌, ◌<◌, ◌≤◌, List, [], ◌∷◌, ◌++◌, length, Option, Some, None, Result, Ok, Err}
 use Rattle.ucl_word.specs.declared.event.EventCall.{EventCall}
 use Rattle.ucl_word.specs.declared.event.Accepted.{Accepted}
 use Rattle.ucl_word.specs.declared.refusal.Refusal.{Refusal}
@@ -7,14 +7,13 @@ use Rattle.ucl_board.specs.declared.entry.Entry.{Entry}
 use Rattle.ucl_board.specs.declared.reading.Reading.{Reading}
 use Rattle.ucl_board.specs.Log.{Access, Match, Taken, step_taken}
 use Rattle.ucl_steps.specs.declared.step.Call.TheVariants as calls
-use Rattle.ucl_steps.specs.declared.trace.Reply.TheVariants as replies
-use Rattle.ucl_steps.specs.LogRuns.{Done, MayAsk, entry_made, with_entry}
-use Rattle.ucl_steps.specs.Trails.{Follows, ReportAccesses, decided_at, most_tries, ReadingAccesses}
+use Rattle.ucl_steps.specs.Protocol.{MayAsk}
+use Rattle.ucl_board.specs.History.{entry_of}
+use Rattle.ucl_steps.specs.Trails.{Follows, ReportAccesses, most_tries, ReadingAccesses}
 use Rattle.ucl_pass.specs.declared.view.View.{View}
 use Rattle.ucl_pass.specs.Passes.{IsSound}
 use Rattle.ucl_pass.specs.Views.{pass_view_of, count_of, trail_of, Takes}
-use Rattle.ucl_pass.specs.CallSteps.{EnlistSteps}
-use Rattle.ucl_words.specs.WordMachine.{report_reply, IsMadeByMachine, IsAlong}
+use Rattle.ucl_pass.specs.CallSteps.{FoundEnlisted, EnlistSteps}
 
 -- along the whole trail the places never fall, and each word that was found is that of its match at its place
 abbrev pub HasTrail : View → Type 0
@@ -26,13 +25,16 @@ pub record IsSteady (v : View) : Type 0 where
   pub told : v.told ≡ []
   pub trail : HasTrail v
 
--- a step on a match word, with the entry that it added
-abbrev pub step_done : Done → Taken
-step_done d = step_taken (Match d.0.kind d.0.game d.0.found) d.0.at d.1
-
 -- the steps of accesses, of which the last may have added an entry
 abbrev pub steps_with : Option Entry → List Access → List Taken
-steps_with entry accesses = map step_done (with_entry entry accesses)
+steps_with entry [] = []
+steps_with entry (m ∷ []) = step_taken (Match m.kind m.game m.found) m.at entry ∷ []
+steps_with entry (m ∷ n ∷ ms) = step_taken (Match m.kind m.game m.found) m.at None ∷ steps_with entry (n ∷ ms)
+
+-- the entry of an accepted event
+abbrev pub entry_made : ℕ → EventCall → Result Accepted Refusal → Option Entry
+entry_made number call (Ok reply) = Some (entry_of (number, call))
+entry_made number call (Err refusal) = None
 
 -- the steps of a call are on match words alone: each leaves one access, these are between what was seen before and what is seen after, and
 -- the last may have added an entry
@@ -43,23 +45,31 @@ pub record LeavesAccesses (v : View) (accesses : List Access) (entry : Option En
   pub follows : Follows w.seen (length v.seen) accesses (length w.seen)
   pub whole_trail : HasTrail w
 
--- the steps of a report, each of them a step of the machine
+-- the steps of a report
 pub record ReportSteps (v : View) (call : EventCall) (reply : Result Accepted Refusal) (w : View) : Type 0 where
   pub may : MayAsk v.number (calls.Event call)
   pub accesses : List Access
-  pub leaves : LeavesAccesses v accesses (entry_made v.number (calls.Event call) (report_reply reply)) w
+  pub leaves : LeavesAccesses v accesses (entry_made v.number call reply) w
   pub report : ReportAccesses call reply accesses (length w.seen)
-  pub machine : IsMadeByMachine v (calls.Event call) (report_reply reply) accesses (take (decided_at reply (length w.seen)) w.seen)
-  pub along : IsAlong v (calls.Event call) (report_reply reply) accesses (take (decided_at reply (length w.seen)) w.seen) w
 
--- the steps of a reading, each of them a step of the machine, in no more than the most tries
+-- the steps of a reading, in no more than the most tries
 pub record ReadingSteps (v : View) (reading : Reading) (w : View) : Type 0 where
   pub accesses : List Access
   pub leaves : LeavesAccesses v accesses None w
   pub collects : ReadingAccesses reading accesses
   pub few : length collects.tries + 1 ≤ most_tries
-  pub machine : IsMadeByMachine v calls.Reading (replies.Copied reading) accesses w.seen
-  pub along : IsAlong v calls.Reading (replies.Copied reading) accesses w.seen w
+
+-- exchanges of the number of enlisted reporters, the first of them tried from this number: one that finds another is followed by one that is tried from what it found; one that finds it
+-- is won, is the last, and gives the number after it; and none is tried where as many are enlisted as there are numbers
+abbrev pub Enlisting : ℕ → List Taken → Option ℕ → Type 0
+Enlisting known [] given = (255 ≤ known) × (given ≡ None)
+Enlisting known (x ∷ steps) given = (found : ℕ) × FoundEnlisted found x × (known < 255) × (((found ≡ known) × (steps ≡ []) × (given ≡ Some (known + 1))) ⊎ ((found ≢ known) × Enlisting found steps given))
+
+-- the steps of an enlistment, which gave a number or found none left
+pub record EnlistTries (v : View) (given : Option ℕ) (w : View) : Type 0 where
+  pub steps : List Taken
+  pub takes : Takes v steps w
+  pub tries : Enlisting 0 steps given
 
 -- a call that leaves no access: its steps are on the number of enlisted reporters alone
 pub record KeepsTrail (v w : View) : Type 0 where

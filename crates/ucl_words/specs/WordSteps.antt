@@ -5,10 +5,15 @@ use Rattle.atomic_table.specs.Table.{Step, Me}
 use Rattle.ucl_board.specs.declared.entry.Entry.{Entry}
 use Rattle.ucl_board.specs.Words.{word_at}
 use Rattle.ucl_board.specs.History.{board_of, IsLegal, followed_by}
-use Rattle.ucl_board.specs.Log.{AccessKind, Access, access, Look, Second, Swap, Match, Enlisted, Taken}
+use Rattle.ucl_board.specs.Log.{AccessKind, Access, access, Look, First, Second, Swap, Match, Enlisted, Taken}
 use Rattle.ucl_pass.specs.declared.view.View.{View}
 use Rattle.ucl_pass.specs.Views.{Takes, trail_of}
 use Rattle.ucl_pass.specs.Steps.{Sees, Adds, Enlists}
+use Rattle.ucl_steps.specs.Protocol.{after_look, after_swap, after_first, after_second}
+use Rattle.ucl_words.specs.declared.view.WordView.{WordView}
+use Rattle.ucl_words.specs.WordRule.{Stands}
+use Rattle.ucl_word.specs.declared.event.EventCall.{EventCall}
+use Rattle.ucl_word.specs.declared.event.Kind.TheVariants.{KickOff}
 
 -- a load of the word of a match, or an exchange of it that was missed
 pub record LoadsMatch (kind : AccessKind) (game : ℕ) (v : View) (n : ℕ) (w : View) : Type 0 where
@@ -53,51 +58,78 @@ IsNextWord e old new = (history : List Entry) → IsLegal history → word_at (b
 
 -- a load of the enlist word
 pub record LoadsEnlisted (v w : View) : Type 0 where
-  pub sees : Sees Enlisted v w
+  pub found : ℕ
+  pub sees : Sees (Enlisted found) v w
   pub listed : w.listed ≡ v.listed
   pub shown : w.shown ≡ v.shown
 
 -- an exchange of the enlist word that was missed
 pub record EnlistMissed (v : View) (n : ℕ) (w : View) : Type 0 where
-  pub sees : Sees Enlisted v w
+  pub sees : Sees (Enlisted n) v w
   pub above : v.listed ≤ n
   pub listed : w.listed ≡ n
   pub shown : w.shown ≡ v.shown
 
 -- an exchange of the enlist word that was won: the pass is a reporter's
 pub record EnlistWon (v : View) (n : ℕ) (w : View) : Type 0 where
-  pub enlists : Enlists v w
+  pub enlists : Enlists n v w
   pub above : v.listed ≤ n
   pub listed : w.listed ≡ n + 1
 
--- the steps of the table, by what they found
+-- a call for reports that ask nothing
+abbrev pub no_call : EventCall
+no_call = record { game = 0; expected = 0; kind = KickOff }
 
-abbrev pub LoadStep : AccessKind → Step Entry → Me Entry View → ℕ → Me Entry View → Type 0
-LoadStep kind st m n m' = Loads kind st.word m.0 n m'.0
+-- the steps of the table, by what they found: each says what the pass knows after it, and what it then holds of its call; those that can end a call say that the pass then stands at its seat
 
-abbrev pub LastLoadStep : Step Entry → Me Entry View → ℕ → Me Entry View → Type 0
-LastLoadStep st m n m' = LoadsLast st.word m.0 n m'.0
+-- a report's load, which begins the call for this event
+pub record LookStep (seat : ℕ) (e : EventCall) (st : Step Entry) (m : Me Entry WordView) (n : ℕ) (m' : Me Entry WordView) : Type 0 where
+  pub loads : Loads Look st.word m.0.pass n m'.0.pass
+  pub doing : m'.0.doing ≡ after_look m.0.pass.number e n (length m'.0.pass.seen) m.0.doing
+  pub stands : Stands seat m'.0
+
+-- a load of a first collect
+pub record FirstStep (st : Step Entry) (m : Me Entry WordView) (n : ℕ) (m' : Me Entry WordView) : Type 0 where
+  pub loads : Loads First st.word m.0.pass n m'.0.pass
+  pub doing : m'.0.doing ≡ after_first n (length m'.0.pass.seen) m.0.doing
+
+-- a load of a second collect, before its twelfth
+pub record SecondStep (st : Step Entry) (m : Me Entry WordView) (n : ℕ) (m' : Me Entry WordView) : Type 0 where
+  pub loads : Loads Second st.word m.0.pass n m'.0.pass
+  pub doing : m'.0.doing ≡ after_second n (length m'.0.pass.seen) m.0.doing
+
+pub record LastLoadStep (seat : ℕ) (st : Step Entry) (m : Me Entry WordView) (n : ℕ) (m' : Me Entry WordView) : Type 0 where
+  pub loads : LoadsLast st.word m.0.pass n m'.0.pass
+  pub doing : m'.0.doing ≡ after_second n (length m'.0.pass.seen) m.0.doing
+  pub stands : Stands seat m'.0
 
 -- one of the enlist word, and of no other
-pub record EnlistedStep (st : Step Entry) (m : Me Entry View) (n : ℕ) (m' : Me Entry View) : Type 0 where
+pub record EnlistedStep (seat : ℕ) (st : Step Entry) (m : Me Entry WordView) (n : ℕ) (m' : Me Entry WordView) : Type 0 where
   pub word : st.word ≡ 0
-  pub loads : LoadsEnlisted m.0 m'.0
+  pub loads : LoadsEnlisted m.0.pass m'.0.pass
+  pub found : loads.found ≡ n
+  pub doing : m'.0.doing ≡ m.0.doing
+  pub stands : Stands seat m'.0
 
 -- an exchange is won for the entry that was said; none is made where none was said
 abbrev pub WonFor : Option Entry → View → ℕ → View → Type 0
 WonFor (some e) v n w = ExchangeWon e v n w
 WonFor none v n w = ⊥
 
-pub record ExchangeStep (st : Step Entry) (m : Me Entry View) (n : ℕ) (m' : Me Entry View) : Type 0 where
-  pub won : n ≡ st.first → WonFor st.said m.0 n m'.0
-  pub missed : n ≢ st.first → ExchangeMissed st.word m.0 n m'.0
+pub record ExchangeStep (seat : ℕ) (st : Step Entry) (m : Me Entry WordView) (n : ℕ) (m' : Me Entry WordView) : Type 0 where
+  pub won : n ≡ st.first → WonFor st.said m.0.pass n m'.0.pass
+  pub missed : n ≢ st.first → ExchangeMissed st.word m.0.pass n m'.0.pass
+  pub doing : m'.0.doing ≡ after_swap n (length m'.0.pass.seen) m.0.doing
+  pub stands : Stands seat m'.0
 
 -- an exchange of the enlist word, and of no other
-pub record EnlistStep (st : Step Entry) (m : Me Entry View) (n : ℕ) (m' : Me Entry View) : Type 0 where
+pub record EnlistStep (seat : ℕ) (st : Step Entry) (m : Me Entry WordView) (n : ℕ) (m' : Me Entry WordView) : Type 0 where
   pub word : st.word ≡ 0
-  pub won : n ≡ st.first → EnlistWon m.0 n m'.0
-  pub missed : n ≢ st.first → EnlistMissed m.0 n m'.0
+  pub won : n ≡ st.first → EnlistWon m.0.pass n m'.0.pass
+  pub missed : n ≢ st.first → EnlistMissed m.0.pass n m'.0.pass
+  pub doing : m'.0.doing ≡ m.0.doing
+  pub stands : Stands seat m'.0
 
 -- whatever it finds, a step of this kind is one step in the log, of the pass that took it
-abbrev pub LogsOneStep : (Step Entry → Me Entry View → ℕ → Me Entry View → Type 0) → Type 0
-LogsOneStep tells = (st : Step Entry) (m : Me Entry View) (n : ℕ) (m' : Me Entry View) → tells st m n m' → (x : Taken) × Takes m.0 (x ∷ []) m'.0
+abbrev pub LogsOneStep : (Step Entry → Me Entry WordView → ℕ → Me Entry WordView → Type 0) → Type 0
+LogsOneStep tells = (st : Step Entry) (m : Me Entry WordView) (n : ℕ) (m' : Me Entry WordView) → tells st m n m' → (x : Taken) × Takes m.0.pass (x ∷ []) m'.0.pass

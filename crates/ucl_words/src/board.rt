@@ -1,33 +1,39 @@
 //! The board over thirteen atomic words, and its calls.
 
-ghost use Rattle.std.specs.Prelude.{◌≡◌, ◌≢◌, ◌+◌, ◌<◌, ◌≤◌, [], length, IfOk, IfErr, IfSome, IfNone, IsSome, MatchResult, MatchBool};
+ghost use Rattle.std.specs.Prelude.{◌≡◌, ◌≢◌, ◌+◌, ◌<◌, ◌≤◌, [], length, IfOk, IfErr, IfSome, IfNone, IsSome, MatchResult, MatchBool, Some, None};
 ghost use Rattle.atomic_table.specs.Seated.{TableId};
 ghost use Rattle.ucl_board.specs.Fixtures.{IsMatch};
 ghost use Rattle.ucl_board.specs.Words.{AreWords, version_of};
 ghost use Rattle.ucl_board.specs.Log as trails;
 ghost use Rattle.ucl_steps.specs.Trails.{most_loads};
 ghost use Rattle.ucl_pass.specs.Passes.{IsSound, Continues, AcceptedReport, RefusedReport, SharedReading, Enlistment, FullBoard, Meeting, opening_pass, split_pass};
-ghost use Rattle.ucl_pass.specs.Views.{pass_view_of, count_of, trail_of, kept_of, second_of};
+ghost use Rattle.ucl_pass.specs.Views.{pass_view_of, count_of, trail_of, kept_of};
 ghost use Rattle.ucl_pass.specs.CallSteps.{MeetingSteps, HasCopyOf};
 ghost use Rattle.ucl_pass.specs.OneHistory.{BoardsOpenFresh};
-ghost use Rattle.ucl_words.specs.WordRule.{words_after, IsTheRule};
-ghost use Rattle.ucl_words.specs.WordSteps.{Loads, LoadsEnlisted, ExchangeWon, ExchangeMissed, IsNextWord};
+ghost use Rattle.ucl_words.specs.WordRule.{words_after, IsTheRule, Stands};
+ghost use Rattle.ucl_words.specs.WordSteps.{Loads, LoadsLast, LoadsEnlisted, ExchangeWon, ExchangeMissed, IsNextWord, EnlistWon, EnlistMissed};
 ghost use Rattle.ucl_words.specs.Collects.{Collects, HasCollected, FindsAgain, FindsAnother};
-ghost use Rattle.ucl_words.specs.WordCalls.{IsSteady, ReportSteps, ReadingSteps, KeepsTrail};
+ghost use Rattle.ucl_words.specs.WordCalls.{IsSteady, ReportSteps, ReadingSteps, EnlistTries, KeepsTrail};
+ghost use Rattle.ucl_words.specs.WordViews.{left_pass, second_pass, view_of};
+ghost use Rattle.ucl_words.specs.WordMachine.{report_reply};
+ghost use Rattle.ucl_words.specs.WordDoings.{HasAnswered, AnswersCall, IsHoldingFor, MayCollect, HasFirsts, has_copied, begins_anew, WordHasReported};
+ghost use Rattle.ucl_word.specs.Record.{IsReporter};
+ghost use Rattle.ucl_steps.specs.Protocol.{Nothing, Checking, IsNext, nothing_done, after_look, after_swap, after_second};
+ghost use Rattle.ucl_steps.specs.declared.step.Call.TheVariants as calls;
+ghost use Rattle.ucl_steps.specs.declared.trace.Reply.TheVariants as replies;
 
 use crate::passes::{WordReaderPass, WordReporterPass};
 use crate::rule::{
-    CountEnlisted, Enlist, First, LastSecond, Look, Note, OneHistory, Seat, Second, SecondPass,
-    Swap, Table,
+    Asking, CountEnlisted, Enlist, First, LastSecond, Look, Note, OneHistory, Seat, Second,
+    SecondPass, Swap, Table,
 };
+use crate::view::WordView;
 use atomic_table::TableRule;
 use std::alloc::Global;
-use std::marker::Model;
+use std::marker::{Brand, Model};
 use ucl_board::{Board, Entry, Reading};
-use ucl_pass::{TooManyReporters, View};
-use ucl_word::{
-    Accepted, EventCall, MatchNo, OutOfMemory, Refusal, ReporterNo, next_word, number_of,
-};
+use ucl_pass::TooManyReporters;
+use ucl_word::{Accepted, EventCall, OutOfMemory, Refusal, ReporterNo, next_word, number_of};
 
 /// Which word of the table is the number of enlisted reporters; words 1 to 12 are the matches.
 const ENLISTED: usize = 0;
@@ -39,8 +45,9 @@ const MOST_REPORTERS: u64 = 255;
 /// Contracts see which table it is.
 ///
 /// Each load and exchange of a match word leaves an access on the trail of its pass: what it did, of which match, the word that it found,
-/// and how many events had been accepted. A report or a reading is a call of the protocol's machine (`ucl_steps`), which is made by
-/// the steps of these accesses and ends with the answer that was given. None of the seven calls whose names end in `_now` can wait.
+/// and how many events had been accepted. By the rule of the table the accesses of all passes are those of one run of the protocol's machine
+/// (`ucl_steps`), of which each report and each reading is a call, with the answer that was given. None of the seven calls whose names end
+/// in `_now` can wait.
 #[derive(Drop)]
 pub struct WordBoard {
     table: Table,
@@ -87,9 +94,10 @@ impl WordBoard {
     pub fn open<R>(_rt: &R, alloc: Global) -> Result<(WordBoard, WordReaderPass), OutOfMemory>
         ensures own { IfOk result (λ opened. opened.1.board ≡ opened.0) }
         ensures fresh { IfOk result (λ opened. pass_view_of opened.1.view ≡ opening_pass) }
-        ensures untaken { IfOk result (λ opened. (opened.1.view.copied ≡ []) × (opened.1.view.own ≡ [])) }
+        ensures untaken { IfOk result (λ opened. (opened.1.view.copied ≡ []) × (opened.1.view.own ≡ []) × (opened.1.doing ≡ nothing_done)) }
         ensures rule { BoardsOpenFresh words_after }
-        ensures tied { IsTheRule (⟦<OneHistory as TableRule<Entry, View, ()>>⟧.holds tt) }
+        ensures tied { IsTheRule (⟦<OneHistory as TableRule<Entry, WordView, ()>>⟧.holds tt) }
+        ensures stands { IfOk result (λ opened. Stands opened.1.seat (view_of opened.1)) }
     {
         let (table, seat) = Table::of_words(alloc, &fresh_words(), &())?;
         Ok((WordBoard { table }, WordReaderPass { seat }))
@@ -98,39 +106,51 @@ impl WordBoard {
     /// The table of the board. Its type names its rule, `OneHistory`, which is the rule that the laws on boards speak of. It is there for
     /// that: nobody needs it to call the board.
     ///
-    pub fn table(&self) -> &atomic_table::Table<Entry, View, (), OneHistory, Global>
+    pub fn table(&self) -> &atomic_table::Table<Entry, WordView, (), OneHistory, Global>
         ensures own { result.now.shared.table_id ≡ self.now }
-        ensures tied { IsTheRule (⟦<OneHistory as TableRule<Entry, View, ()>>⟧.holds tt) }
+        ensures tied { IsTheRule (⟦<OneHistory as TableRule<Entry, WordView, ()>>⟧.holds tt) }
     {
         &self.table
     }
 
-    /// Loads the word of a match, for a report.
-    fn look(&self, seat: &mut Seat, game: MatchNo) -> u64
+    /// Loads the word of an event's match, for a report.
+    fn look<K: Asking>(&self, seat: &mut Seat, call: &EventCall) -> u64
         requires table { seat.old.table_id ≡ self.now }
-        requires acts { IsSome seat.old.me.0.share }
+        requires acts { IsSome seat.old.me.0.pass.share }
+        requires place { K.seat ≡ seat.old.id }
+        requires call { K.call ≡ call.now }
+        requires me { IsReporter seat.old.me.0.pass.number }
+        requires next { seat.old.me.0.doing.held ≡ Nothing }
         ensures own { seat.new.table_id ≡ seat.old.table_id }
-        ensures game { IsMatch game }
-        ensures looks { Loads trails.Look game seat.old.me.0 result seat.new.me.0 }
+        ensures seat { seat.new.id ≡ seat.old.id }
+        ensures game { IsMatch call.now.game }
+        ensures looks { Loads trails.Look call.now.game seat.old.me.0.pass result seat.new.me.0.pass }
+        ensures does { seat.new.me.0.doing ≡ after_look seat.old.me.0.pass.number call.now result (length seat.new.me.0.pass.seen) seat.old.me.0.doing }
+        ensures stands { Stands seat.new.id seat.new.me.0 }
     {
-        let word = usize::from(game.get());
-        self.table.shared.load::<Look>(seat, word)
+        let word = usize::from(call.game.get());
+        self.table.shared.load::<Look<K>>(seat, word)
     }
 
     /// Puts the next word of a match in the place of the one that was loaded, where it is still there, and answers the word that was found.
-    fn swap(&self, seat: &mut Seat, loaded: u64, next: u64, entry: Entry) -> u64
+    fn swap<K: Asking>(&self, seat: &mut Seat, loaded: u64, next: u64, entry: Entry) -> u64
         requires table { seat.old.table_id ≡ self.now }
-        requires acts { IsSome seat.old.me.0.share }
-        requires me { (0 < seat.old.me.0.number) × (entry.reporter ≡ seat.old.me.0.number) }
-        requires next { IsNextWord entry loaded next }
+        requires acts { IsSome seat.old.me.0.pass.share }
+        requires me { (0 < seat.old.me.0.pass.number) × (entry.reporter ≡ seat.old.me.0.pass.number) }
+        requires place { K.seat ≡ seat.old.id }
+        requires word { IsNextWord entry loaded next }
+        requires next { IsHoldingFor seat.old.me.0.doing.held entry loaded next }
         ensures own { seat.new.table_id ≡ seat.old.table_id }
-        ensures won { result ≡ loaded → ExchangeWon entry seat.old.me.0 result seat.new.me.0 }
-        ensures missed { result ≢ loaded → ExchangeMissed entry.game seat.old.me.0 result seat.new.me.0 }
+        ensures seat { seat.new.id ≡ seat.old.id }
+        ensures won { result ≡ loaded → ExchangeWon entry seat.old.me.0.pass result seat.new.me.0.pass }
+        ensures missed { result ≢ loaded → ExchangeMissed entry.game seat.old.me.0.pass result seat.new.me.0.pass }
+        ensures does { seat.new.me.0.doing ≡ after_swap result (length seat.new.me.0.pass.seen) seat.old.me.0.doing }
+        ensures stands { Stands seat.new.id seat.new.me.0 }
     {
         let word = usize::from(entry.game.get());
         self.table
             .shared
-            .compare_exchange_with::<Swap>(seat, word, loaded, next, &entry)
+            .compare_exchange_with::<Swap<K>>(seat, word, loaded, next, &entry)
     }
 
     /// Enters an event under the seat's number: one load, and where the rules accept the event, one exchange.
@@ -141,23 +161,27 @@ impl WordBoard {
         call: &EventCall,
     ) -> Result<Accepted, Refusal>
         requires table { seat.old.table_id ≡ self.now }
-        requires steady { IsSteady seat.old.me.0 }
-        requires me { (0 < reporter) × (reporter ≤ 255) × (seat.old.me.0.number ≡ reporter) }
+        requires steady { IsSteady seat.old.me.0.pass }
+        requires me { (0 < reporter) × (reporter ≤ 255) × (seat.old.me.0.pass.number ≡ reporter) }
+        requires next { seat.old.me.0.doing.held ≡ Nothing }
         ensures own { seat.new.table_id ≡ seat.old.table_id }
-        ensures steady { IsSteady seat.new.me.0 }
-        ensures always { Continues (pass_view_of seat.old.me.0) (pass_view_of seat.new.me.0) }
-        ensures accepted { IfOk result (λ reply. AcceptedReport (pass_view_of seat.old.me.0) call.now reply (pass_view_of seat.new.me.0)) }
-        ensures refused { IfErr result (λ refusal. RefusedReport (pass_view_of seat.old.me.0) call.now refusal (pass_view_of seat.new.me.0)) }
-        ensures steps { ReportSteps seat.old.me.0 call.now result seat.new.me.0 }
+        ensures seat { seat.new.id ≡ seat.old.id }
+        ensures steady { IsSteady seat.new.me.0.pass }
+        ensures always { Continues (pass_view_of seat.old.me.0.pass) (pass_view_of seat.new.me.0.pass) }
+        ensures accepted { IfOk result (λ reply. AcceptedReport (pass_view_of seat.old.me.0.pass) call.now reply (pass_view_of seat.new.me.0.pass)) }
+        ensures refused { IfErr result (λ refusal. RefusedReport (pass_view_of seat.old.me.0.pass) call.now refusal (pass_view_of seat.new.me.0.pass)) }
+        ensures steps { ReportSteps seat.old.me.0.pass call.now result seat.new.me.0.pass }
+        ensures answers { AnswersCall seat.old.me.0 (calls.Event call.now) (report_reply result) seat.new.me.0 }
+        ensures stands { Stands seat.new.id seat.new.me.0 }
     {
-        let loaded = self.look(seat, call.game);
+        let loaded = self.look::<Brand>(seat, call);
         let next = next_word(loaded, reporter, call.expected, call.kind)?;
         let entry = Entry {
             game: call.game,
             reporter,
             kind: call.kind,
         };
-        let found = self.swap(seat, loaded, next, entry);
+        let found = self.swap::<Brand>(seat, loaded, next, entry);
         if found == loaded {
             Ok(Accepted {
                 number: number_of(next),
@@ -172,10 +196,13 @@ impl WordBoard {
     /// The first collect: loads words 1 to 12.
     fn collect(&self, seat: &mut Seat) -> [u64; 12]
         requires table { seat.old.table_id ≡ self.now }
-        requires steady { IsSteady seat.old.me.0 }
+        requires steady { IsSteady seat.old.me.0.pass }
+        requires next { MayCollect seat.old.me.0.doing.held }
         ensures own { seat.new.table_id ≡ seat.old.table_id }
+        ensures seat { seat.new.id ≡ seat.old.id }
         ensures long { length result ≡ 12 }
-        ensures collects { Collects seat.old.me.0 result seat.new.me.0 }
+        ensures collects { Collects seat.old.me.0.pass result seat.new.me.0.pass }
+        ensures does { HasFirsts (length seat.old.me.0.pass.seen) seat.old.me.0.doing result (length seat.new.me.0.pass.seen) seat.new.me.0.doing }
     {
         let mut words = [0; 12];
         for i in 0..12 {
@@ -184,20 +211,39 @@ impl WordBoard {
         words
     }
 
+    /// The twelfth load of the second collect.
+    fn twelfth<K: Asking>(&self, seat: &mut Seat) -> u64
+        requires table { seat.old.table_id ≡ self.now }
+        requires acts { IsSome seat.old.me.0.pass.share }
+        requires place { K.seat ≡ seat.old.id }
+        requires next { IsNext trails.Second 12 seat.old.me.0.doing.held }
+        ensures own { seat.new.table_id ≡ seat.old.table_id }
+        ensures seat { seat.new.id ≡ seat.old.id }
+        ensures loads { LoadsLast 12 seat.old.me.0.pass result seat.new.me.0.pass }
+        ensures does { seat.new.me.0.doing ≡ after_second result (length seat.new.me.0.pass.seen) seat.old.me.0.doing }
+        ensures stands { Stands seat.new.id seat.new.me.0 }
+    {
+        self.table.shared.load::<LastSecond<K>>(seat, 12)
+    }
+
     /// The second collect: loads words 1 to 12 again, up to the first that is another.
     fn is_clean(&self, seat: &mut Seat, words: &[u64; 12]) -> bool
         requires table { seat.old.table_id ≡ self.now }
-        requires steady { IsSteady seat.old.me.0 }
-        requires collected { HasCollected words.now seat.old.me.0 }
+        requires steady { IsSteady seat.old.me.0.pass }
+        requires collected { HasCollected words.now seat.old.me.0.pass }
+        requires next { seat.old.me.0.doing.held ≡ Checking words.now 0 (length seat.old.me.0.pass.seen) }
         ensures own { seat.new.table_id ≡ seat.old.table_id }
-        ensures compared { MatchBool result (FindsAgain seat.old.me.0 words.now seat.new.me.0) (FindsAnother seat.old.me.0 words.now seat.new.me.0) }
+        ensures seat { seat.new.id ≡ seat.old.id }
+        ensures compared { MatchBool result (FindsAgain seat.old.me.0.pass words.now seat.new.me.0.pass) (FindsAnother seat.old.me.0.pass words.now seat.new.me.0.pass) }
+        ensures does { MatchBool result (seat.new.me.0.doing ≡ has_copied words.now (length seat.old.me.0.pass.seen) (length seat.new.me.0.pass.seen) seat.old.me.0.doing) (seat.new.me.0.doing ≡ begins_anew seat.old.me.0.doing) }
+        ensures stands { MatchBool result (Stands seat.new.id seat.new.me.0) (Unit {0}) }
     {
         for i in 0..11 {
             if self.table.shared.load::<Second>(seat, i + 1) != words[i] {
                 return false;
             }
         }
-        if self.table.shared.load::<LastSecond>(seat, 12) != words[11] {
+        if self.twelfth::<Brand>(seat) != words[11] {
             return false;
         }
         true
@@ -206,14 +252,18 @@ impl WordBoard {
     /// The clean double collect. Each try that is not clean has seen a longer history, so there are few.
     fn read_by(&self, seat: &mut Seat) -> Reading
         requires table { seat.old.table_id ≡ self.now }
-        requires steady { IsSteady seat.old.me.0 }
+        requires steady { IsSteady seat.old.me.0.pass }
+        requires next { seat.old.me.0.doing.held ≡ Nothing }
         ensures own { seat.new.table_id ≡ seat.old.table_id }
-        ensures steady { IsSteady seat.new.me.0 }
-        ensures always { Continues (pass_view_of seat.old.me.0) (pass_view_of seat.new.me.0) }
-        ensures reading { SharedReading (pass_view_of seat.old.me.0) result (pass_view_of seat.new.me.0) }
-        ensures steps { ReadingSteps seat.old.me.0 result seat.new.me.0 }
-        ensures least { count_of seat.old.me.0 + 24 ≤ count_of seat.new.me.0 }
-        ensures most { count_of seat.new.me.0 ≤ count_of seat.old.me.0 + most_loads }
+        ensures seat { seat.new.id ≡ seat.old.id }
+        ensures steady { IsSteady seat.new.me.0.pass }
+        ensures always { Continues (pass_view_of seat.old.me.0.pass) (pass_view_of seat.new.me.0.pass) }
+        ensures reading { SharedReading (pass_view_of seat.old.me.0.pass) result (pass_view_of seat.new.me.0.pass) }
+        ensures steps { ReadingSteps seat.old.me.0.pass result seat.new.me.0.pass }
+        ensures answers { AnswersCall seat.old.me.0 calls.Reading (replies.Copied result) seat.new.me.0 }
+        ensures stands { Stands seat.new.id seat.new.me.0 }
+        ensures least { count_of seat.old.me.0.pass + 24 ≤ count_of seat.new.me.0.pass }
+        ensures most { count_of seat.new.me.0.pass ≤ count_of seat.old.me.0.pass + most_loads }
     {
         'tries: loop {
             let words = self.collect(seat);
@@ -223,26 +273,48 @@ impl WordBoard {
         }
     }
 
+    /// Puts one more in the place of the number of enlisted reporters, where it is still as many as are known, and answers how many were found.
+    fn add_reporter<K: Asking>(&self, seat: &mut Seat, known: u64) -> u64
+        requires table { seat.old.table_id ≡ self.now }
+        requires acts { IsSome seat.old.me.0.pass.share }
+        requires reader { seat.old.me.0.pass.number ≡ 0 }
+        requires place { K.seat ≡ seat.old.id }
+        requires next { seat.old.me.0.doing.held ≡ Nothing }
+        requires room { known < 255 }
+        ensures own { seat.new.table_id ≡ seat.old.table_id }
+        ensures seat { seat.new.id ≡ seat.old.id }
+        ensures won { result ≡ known → EnlistWon seat.old.me.0.pass result seat.new.me.0.pass }
+        ensures missed { result ≢ known → EnlistMissed seat.old.me.0.pass result seat.new.me.0.pass }
+        ensures does { seat.new.me.0.doing ≡ seat.old.me.0.doing }
+        ensures stands { Stands seat.new.id seat.new.me.0 }
+    {
+        self.table
+            .shared
+            .compare_exchange::<Enlist<K>>(seat, ENLISTED, known, known + 1)
+    }
+
     /// Makes a seat a reporter's, and answers its number. `None` where 255 are enlisted. The first exchange is tried from no reporter,
     /// and each later one from as many as were found.
     fn enlist_by(&self, seat: &mut Seat) -> Option<ReporterNo>
         requires table { seat.old.table_id ≡ self.now }
-        requires reader { seat.old.me.0.number ≡ 0 }
-        requires steady { IsSteady seat.old.me.0 }
+        requires reader { seat.old.me.0.pass.number ≡ 0 }
+        requires steady { IsSteady seat.old.me.0.pass }
+        requires next { seat.old.me.0.doing.held ≡ Nothing }
         ensures own { seat.new.table_id ≡ seat.old.table_id }
-        ensures steady { IsSteady seat.new.me.0 }
-        ensures enlisted { IfSome result (λ number. Enlistment (pass_view_of seat.old.me.0) (pass_view_of seat.new.me.0) × (seat.new.me.0.number ≡ number)) }
-        ensures always { IfNone result (Continues (pass_view_of seat.old.me.0) (pass_view_of seat.new.me.0)) }
-        ensures full { IfNone result (FullBoard (pass_view_of seat.old.me.0) (pass_view_of seat.new.me.0)) }
-        ensures trail { KeepsTrail seat.old.me.0 seat.new.me.0 }
-        ensures most { count_of seat.new.me.0 ≤ count_of seat.old.me.0 + 255 }
+        ensures seat { seat.new.id ≡ seat.old.id }
+        ensures steady { IsSteady seat.new.me.0.pass }
+        ensures enlisted { IfSome result (λ number. Enlistment (pass_view_of seat.old.me.0.pass) (pass_view_of seat.new.me.0.pass) × (seat.new.me.0.pass.number ≡ number)) }
+        ensures always { IfNone result (Continues (pass_view_of seat.old.me.0.pass) (pass_view_of seat.new.me.0.pass)) }
+        ensures full { IfNone result (FullBoard (pass_view_of seat.old.me.0.pass) (pass_view_of seat.new.me.0.pass)) }
+        ensures trail { KeepsTrail seat.old.me.0.pass seat.new.me.0.pass }
+        ensures tries { EnlistTries seat.old.me.0.pass result seat.new.me.0.pass }
+        ensures does { seat.new.me.0.doing ≡ seat.old.me.0.doing }
+        ensures stands { Stands seat.new.id seat.new.me.0 }
+        ensures most { count_of seat.new.me.0.pass ≤ count_of seat.old.me.0.pass + 255 }
     {
         let mut known = 0;
         'tries: while known < MOST_REPORTERS {
-            let found = self
-                .table
-                .shared
-                .compare_exchange::<Enlist>(seat, ENLISTED, known, known + 1);
+            let found = self.add_reporter::<Brand>(seat, known);
             if found == known {
                 return ReporterNo::new((known + 1) as u8);
             }
@@ -255,39 +327,48 @@ impl WordBoard {
     fn split_by(&self, seat: &mut Seat) -> Seat
         requires table { seat.old.table_id ≡ self.now }
         ensures own { (seat.new.table_id ≡ seat.old.table_id) × (result.table_id ≡ seat.old.table_id) }
-        ensures kept { seat.new.me.0 ≡ kept_of seat.old.me.0 }
-        ensures given { result.me.0 ≡ second_of seat.old.me.0 }
+        ensures seat { seat.new.id ≡ seat.old.id }
+        ensures kept { seat.new.me.0 ≡ left_pass seat.old.me.0 }
+        ensures given { result.me.0 ≡ second_pass seat.old.me.0 }
+        ensures stands { Stands seat.old.id seat.old.me.0 → Stands seat.new.id seat.new.me.0 }
     {
         self.table.shared.split_seat::<SecondPass>(seat)
     }
 
     /// Loads the number of enlisted reporters.
-    fn count(&self, seat: &mut Seat) -> u64
+    fn count<K: Asking>(&self, seat: &mut Seat) -> u64
         requires table { seat.old.table_id ≡ self.now }
-        requires acts { IsSome seat.old.me.0.share }
+        requires acts { IsSome seat.old.me.0.pass.share }
+        requires place { K.seat ≡ seat.old.id }
         ensures own { seat.new.table_id ≡ seat.old.table_id }
-        ensures loads { LoadsEnlisted seat.old.me.0 seat.new.me.0 }
-        ensures steady { IsSteady seat.old.me.0 → IsSteady seat.new.me.0 }
+        ensures seat { seat.new.id ≡ seat.old.id }
+        ensures loads { LoadsEnlisted seat.old.me.0.pass seat.new.me.0.pass }
+        ensures steady { IsSteady seat.old.me.0.pass → IsSteady seat.new.me.0.pass }
+        ensures does { seat.new.me.0.doing ≡ seat.old.me.0.doing }
+        ensures stands { Stands seat.new.id seat.new.me.0 }
     {
-        self.table.shared.load::<CountEnlisted>(seat, ENLISTED)
+        self.table.shared.load::<CountEnlisted<K>>(seat, ENLISTED)
     }
 
     /// A note of the first is split off and joined to the second, which then loads the enlist word.
     fn meet_by(&self, first: &mut Seat, second: &mut Seat)
         requires table { (first.old.table_id ≡ self.now) × (second.old.table_id ≡ self.now) }
-        requires steady { IsSteady second.old.me.0 }
+        requires steady { IsSteady second.old.me.0.pass }
         ensures own { (first.new.table_id ≡ first.old.table_id) × (second.new.table_id ≡ second.old.table_id) }
+        ensures seat { (first.new.id ≡ first.old.id) × (second.new.id ≡ second.old.id) }
         ensures unchanged { first.new.me.0 ≡ first.old.me.0 }
-        ensures steady { IsSteady second.new.me.0 }
-        ensures always { Continues (pass_view_of second.old.me.0) (pass_view_of second.new.me.0) }
-        ensures meeting { Meeting (pass_view_of first.old.me.0) (pass_view_of second.old.me.0) (pass_view_of second.new.me.0) }
-        ensures trail { KeepsTrail second.old.me.0 second.new.me.0 }
-        ensures steps { MeetingSteps second.old.me.0 second.new.me.0 }
-        ensures taken { count_of second.new.me.0 ≡ count_of second.old.me.0 + 1 }
+        ensures steady { IsSteady second.new.me.0.pass }
+        ensures always { Continues (pass_view_of second.old.me.0.pass) (pass_view_of second.new.me.0.pass) }
+        ensures meeting { Meeting (pass_view_of first.old.me.0.pass) (pass_view_of second.old.me.0.pass) (pass_view_of second.new.me.0.pass) }
+        ensures trail { KeepsTrail second.old.me.0.pass second.new.me.0.pass }
+        ensures does { second.new.me.0.doing ≡ second.old.me.0.doing }
+        ensures steps { MeetingSteps second.old.me.0.pass second.new.me.0.pass }
+        ensures taken { count_of second.new.me.0.pass ≡ count_of second.old.me.0.pass + 1 }
+        ensures stands { Stands second.new.id second.new.me.0 }
     {
         let note = self.table.shared.split_seat::<Note>(first);
         self.table.shared.join_seat::<Note>(second, note);
-        self.count(second);
+        self.count::<Brand>(second);
     }
 
     /// Enters an event under the number of the pass, by one load and at most one compare and exchange of its match word. An accepted
@@ -312,11 +393,14 @@ impl WordBoard {
     ) -> Result<Accepted, Refusal>
         requires { pass.old.board ≡ self.now }
         ensures own { pass.new.board ≡ self.now }
+        ensures seat { pass.new.seat ≡ pass.old.seat }
         ensures always { Continues (pass_view_of pass.old.view) (pass_view_of pass.new.view) }
         ensures accepted { IfOk result (λ reply. AcceptedReport (pass_view_of pass.old.view) call.now reply (pass_view_of pass.new.view)) }
         ensures refused { IfErr result (λ refusal. RefusedReport (pass_view_of pass.old.view) call.now refusal (pass_view_of pass.new.view)) }
         ensures steps { ReportSteps pass.old.view call.now result pass.new.view }
+        ensures answers { HasAnswered (length pass.old.view.seen) pass.old.doing (calls.Event call.now) (report_reply result) (length pass.new.view.seen) pass.new.doing }
         ensures most { count_of pass.new.view ≤ count_of pass.old.view + 2 }
+        ensures stands { Stands pass.new.seat (view_of pass.new) }
     {
         let reporter = pass.number;
         let result = self.report_by(&mut pass.seat, reporter, call);
@@ -338,11 +422,14 @@ impl WordBoard {
     pub fn read_now(&self, pass: &mut WordReaderPass) -> Reading
         requires { pass.old.board ≡ self.now }
         ensures own { pass.new.board ≡ self.now }
+        ensures seat { pass.new.seat ≡ pass.old.seat }
         ensures always { Continues (pass_view_of pass.old.view) (pass_view_of pass.new.view) }
         ensures reading { SharedReading (pass_view_of pass.old.view) result (pass_view_of pass.new.view) }
         ensures steps { ReadingSteps pass.old.view result pass.new.view }
+        ensures answers { HasAnswered (length pass.old.view.seen) pass.old.doing calls.Reading (replies.Copied result) (length pass.new.view.seen) pass.new.doing }
         ensures least { count_of pass.old.view + 24 ≤ count_of pass.new.view }
         ensures most { count_of pass.new.view ≤ count_of pass.old.view + most_loads }
+        ensures stands { Stands pass.new.seat (view_of pass.new) }
     {
         self.read_by(&mut pass.seat)
     }
@@ -364,11 +451,14 @@ impl WordBoard {
     pub fn read_own_now(&self, pass: &mut WordReporterPass) -> Reading
         requires { pass.old.board ≡ self.now }
         ensures own { pass.new.board ≡ self.now }
+        ensures seat { pass.new.seat ≡ pass.old.seat }
         ensures always { Continues (pass_view_of pass.old.view) (pass_view_of pass.new.view) }
         ensures reading { SharedReading (pass_view_of pass.old.view) result (pass_view_of pass.new.view) }
         ensures steps { ReadingSteps pass.old.view result pass.new.view }
+        ensures answers { HasAnswered (length pass.old.view.seen) pass.old.doing calls.Reading (replies.Copied result) (length pass.new.view.seen) pass.new.doing }
         ensures least { count_of pass.old.view + 24 ≤ count_of pass.new.view }
         ensures most { count_of pass.new.view ≤ count_of pass.old.view + most_loads }
+        ensures stands { Stands pass.new.seat (view_of pass.new) }
     {
         let seat = &mut pass.seat;
         self.read_by(seat)
@@ -385,11 +475,15 @@ impl WordBoard {
     pub fn split_now(&self, pass: &mut WordReaderPass) -> WordReaderPass
         requires { pass.old.board ≡ self.now }
         ensures own { (pass.new.board ≡ self.now) × (result.board ≡ self.now) }
+        ensures seat { pass.new.seat ≡ pass.old.seat }
         ensures sound { IsSound (pass_view_of pass.old.view) }
         ensures kept { pass.new.view ≡ kept_of pass.old.view }
+        ensures does { pass.new.doing ≡ pass.old.doing }
         ensures given { pass_view_of result.view ≡ split_pass (pass_view_of pass.old.view) }
         ensures steps { (count_of result.view ≡ count_of pass.old.view) × (trail_of result.view ≡ trail_of pass.old.view) }
         ensures copy { HasCopyOf result.view pass.old.view }
+        ensures nothing { result.doing ≡ nothing_done }
+        ensures stands { Stands pass.old.seat (view_of pass.old) → Stands pass.new.seat (view_of pass.new) }
     {
         let seat = self.split_by(&mut pass.seat);
         WordReaderPass { seat }
@@ -412,11 +506,16 @@ impl WordBoard {
     ) -> Result<WordReporterPass, TooManyReporters<WordReaderPass>>
         requires { pass.board ≡ self.now }
         ensures own { MatchResult result (λ enlisted. enlisted.board ≡ self.now) (λ full. full.0.board ≡ self.now) }
+        ensures seat { MatchResult result (λ enlisted. enlisted.seat ≡ pass.seat) (λ full. full.0.seat ≡ pass.seat) }
         ensures enlisted { IfOk result (λ enlisted. Enlistment (pass_view_of pass.view) (pass_view_of enlisted.view)) }
         ensures always { IfErr result (λ full. Continues (pass_view_of pass.view) (pass_view_of full.0.view)) }
         ensures full { IfErr result (λ full. FullBoard (pass_view_of pass.view) (pass_view_of full.0.view)) }
         ensures trail { MatchResult result (λ enlisted. KeepsTrail pass.view enlisted.view) (λ full. KeepsTrail pass.view full.0.view) }
+        ensures tries { MatchResult result (λ enlisted. EnlistTries pass.view (Some enlisted.view.number) enlisted.view) (λ full. EnlistTries pass.view None full.0.view) }
+        ensures does { MatchResult result (λ enlisted. enlisted.doing ≡ pass.doing) (λ full. full.0.doing ≡ pass.doing) }
+        ensures reported { IfOk result (λ enlisted. WordHasReported enlisted.doing 0) }
         ensures most { MatchResult result (λ enlisted. count_of enlisted.view ≤ count_of pass.view + 255) (λ full. count_of full.0.view ≤ count_of pass.view + 255) }
+        ensures stands { MatchResult result (λ enlisted. Stands enlisted.seat (view_of enlisted)) (λ full. Stands full.0.seat (view_of full.0)) }
     {
         let WordReaderPass { mut seat } = pass;
         match self.enlist_by(&mut seat) {
@@ -442,13 +541,16 @@ impl WordBoard {
     pub fn meet_now(&self, first: &mut WordReporterPass, second: &mut WordReporterPass)
         requires { (first.old.board ≡ self.now) × (second.old.board ≡ self.now) }
         ensures own { (first.new.board ≡ self.now) × (second.new.board ≡ self.now) }
+        ensures seat { second.new.seat ≡ second.old.seat }
         ensures sound { IsSound (pass_view_of first.old.view) }
         ensures always { Continues (pass_view_of second.old.view) (pass_view_of second.new.view) }
-        ensures unchanged { first.new.view ≡ first.old.view }
+        ensures unchanged { first.new ≡ first.old }
         ensures meeting { Meeting (pass_view_of first.old.view) (pass_view_of second.old.view) (pass_view_of second.new.view) }
         ensures trail { KeepsTrail second.old.view second.new.view }
+        ensures does { second.new.doing ≡ second.old.doing }
         ensures steps { MeetingSteps second.old.view second.new.view }
         ensures taken { count_of second.new.view ≡ count_of second.old.view + 1 }
+        ensures stands { Stands second.new.seat (view_of second.new) }
     {
         self.meet_by(&mut first.seat, &mut second.seat);
     }
@@ -465,13 +567,16 @@ impl WordBoard {
     pub fn meet_reader_now(&self, first: &mut WordReaderPass, second: &mut WordReporterPass)
         requires { (first.old.board ≡ self.now) × (second.old.board ≡ self.now) }
         ensures own { (first.new.board ≡ self.now) × (second.new.board ≡ self.now) }
+        ensures seat { second.new.seat ≡ second.old.seat }
         ensures sound { IsSound (pass_view_of first.old.view) }
         ensures always { Continues (pass_view_of second.old.view) (pass_view_of second.new.view) }
-        ensures unchanged { first.new.view ≡ first.old.view }
+        ensures unchanged { first.new ≡ first.old }
         ensures meeting { Meeting (pass_view_of first.old.view) (pass_view_of second.old.view) (pass_view_of second.new.view) }
         ensures trail { KeepsTrail second.old.view second.new.view }
+        ensures does { second.new.doing ≡ second.old.doing }
         ensures steps { MeetingSteps second.old.view second.new.view }
         ensures taken { count_of second.new.view ≡ count_of second.old.view + 1 }
+        ensures stands { Stands second.new.seat (view_of second.new) }
     {
         let reader = &mut first.seat;
         self.meet_by(reader, &mut second.seat);

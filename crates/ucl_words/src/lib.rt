@@ -7,7 +7,9 @@ mod laws;
 mod live_words;
 mod passes;
 pub mod rule;
+mod view;
 
 pub use board::WordBoard;
-pub use laws::{boards_are_runs, calls_add_work, each_step_is_logged, words_tell_the_entry};
+pub use laws::{boards_are_runs, each_step_is_logged, words_tell_the_entry};
 pub use passes::{WordReaderPass, WordReporterPass};
+pub use view::WordView;

@@ -1,11 +1,18 @@
 //! The word board is a live board.
 
-ghost use Rattle.std.specs.Prelude.{◌≡◌, ◌+◌, ◌≤◌, IfOk, IfErr, MatchResult};
+ghost use Rattle.std.specs.Prelude.{◌≡◌, ◌+◌, ◌≤◌, length, IfOk, IfErr, MatchResult, Some, None};
 ghost use Rattle.ucl_steps.specs.Trails.{most_loads};
-ghost use Rattle.ucl_pass.specs.Passes.{IsSound, Continues, AcceptedReport, RefusedReport, SharedReading, split_pass, Enlistment, FullBoard, Meeting, reporter_figures};
+ghost use Rattle.ucl_pass.specs.Passes.{IsSound, Continues, ReportsMore, AcceptedReport, RefusedReport, SharedReading, split_pass, Enlistment, FullBoard, Meeting, reporter_figures};
 ghost use Rattle.ucl_pass.specs.Views.{pass_view_of, count_of, trail_of, kept_of};
 ghost use Rattle.ucl_pass.specs.CallSteps.{MeetingSteps, HasCopyOf};
-ghost use Rattle.ucl_words.specs.WordCalls.{ReportSteps, ReadingSteps, KeepsTrail};
+ghost use Rattle.ucl_words.specs.WordCalls.{ReportSteps, ReadingSteps, EnlistTries, KeepsTrail};
+ghost use Rattle.ucl_words.specs.WordMachine.{report_reply};
+ghost use Rattle.ucl_words.specs.WordDoings.{HasAnswered, WordHasReported};
+ghost use Rattle.ucl_words.specs.WordRule.{Stands};
+ghost use Rattle.ucl_words.specs.WordViews.{view_of};
+ghost use Rattle.ucl_steps.specs.Protocol.{nothing_done};
+ghost use Rattle.ucl_steps.specs.declared.step.Call.TheVariants as calls;
+ghost use Rattle.ucl_steps.specs.declared.trace.Reply.TheVariants as replies;
 
 use crate::board::WordBoard;
 use crate::passes::{WordReaderPass, WordReporterPass};
@@ -28,6 +35,8 @@ impl LiveBoard for WordBoard {
 
     ghost reporter = { λ pass. pass_view_of pass.view };
 
+    ghost has_reported = { λ pass. WordHasReported pass.doing };
+
     fn report<R: Wait>(
         &self,
         _rt: &R,
@@ -36,11 +45,15 @@ impl LiveBoard for WordBoard {
     ) -> Result<Accepted, Refusal>
         requires { pass.old.board ≡ self.now }
         ensures own { pass.new.board ≡ self.now }
+        ensures seat { pass.new.seat ≡ pass.old.seat }
         ensures always { Continues (pass_view_of pass.old.view) (pass_view_of pass.new.view) }
         ensures accepted { IfOk result (λ reply. AcceptedReport (pass_view_of pass.old.view) call.now reply (pass_view_of pass.new.view)) }
         ensures refused { IfErr result (λ refusal. RefusedReport (pass_view_of pass.old.view) call.now refusal (pass_view_of pass.new.view)) }
+        ensures reported { ReportsMore (WordHasReported pass.old.doing) 1 (WordHasReported pass.new.doing) }
         ensures steps { ReportSteps pass.old.view call.now result pass.new.view }
+        ensures answers { HasAnswered (length pass.old.view.seen) pass.old.doing (calls.Event call.now) (report_reply result) (length pass.new.view.seen) pass.new.doing }
         ensures most { count_of pass.new.view ≤ count_of pass.old.view + 2 }
+        ensures stands { Stands pass.new.seat (view_of pass.new) }
     {
         self.report_now(pass, call)
     }
@@ -48,11 +61,14 @@ impl LiveBoard for WordBoard {
     fn read<R: Wait>(&self, _rt: &R, pass: &mut WordReaderPass) -> Reading
         requires { pass.old.board ≡ self.now }
         ensures own { pass.new.board ≡ self.now }
+        ensures seat { pass.new.seat ≡ pass.old.seat }
         ensures always { Continues (pass_view_of pass.old.view) (pass_view_of pass.new.view) }
         ensures reading { SharedReading (pass_view_of pass.old.view) result (pass_view_of pass.new.view) }
         ensures steps { ReadingSteps pass.old.view result pass.new.view }
+        ensures answers { HasAnswered (length pass.old.view.seen) pass.old.doing calls.Reading (replies.Copied result) (length pass.new.view.seen) pass.new.doing }
         ensures least { count_of pass.old.view + 24 ≤ count_of pass.new.view }
         ensures most { count_of pass.new.view ≤ count_of pass.old.view + most_loads }
+        ensures stands { Stands pass.new.seat (view_of pass.new) }
     {
         self.read_now(pass)
     }
@@ -60,11 +76,15 @@ impl LiveBoard for WordBoard {
     fn read_own<R: Wait>(&self, _rt: &R, pass: &mut WordReporterPass) -> Reading
         requires { pass.old.board ≡ self.now }
         ensures own { pass.new.board ≡ self.now }
+        ensures seat { pass.new.seat ≡ pass.old.seat }
         ensures always { Continues (pass_view_of pass.old.view) (pass_view_of pass.new.view) }
         ensures reading { SharedReading (pass_view_of pass.old.view) result (pass_view_of pass.new.view) }
+        ensures reported { ReportsMore (WordHasReported pass.old.doing) 0 (WordHasReported pass.new.doing) }
         ensures steps { ReadingSteps pass.old.view result pass.new.view }
+        ensures answers { HasAnswered (length pass.old.view.seen) pass.old.doing calls.Reading (replies.Copied result) (length pass.new.view.seen) pass.new.doing }
         ensures least { count_of pass.old.view + 24 ≤ count_of pass.new.view }
         ensures most { count_of pass.new.view ≤ count_of pass.old.view + most_loads }
+        ensures stands { Stands pass.new.seat (view_of pass.new) }
     {
         self.read_own_now(pass)
     }
@@ -72,11 +92,15 @@ impl LiveBoard for WordBoard {
     fn split<R: Wait>(&self, _rt: &R, pass: &mut WordReaderPass) -> WordReaderPass
         requires { pass.old.board ≡ self.now }
         ensures own { (pass.new.board ≡ self.now) × (result.board ≡ self.now) }
+        ensures seat { pass.new.seat ≡ pass.old.seat }
         ensures sound { IsSound (pass_view_of pass.old.view) }
         ensures kept { pass.new.view ≡ kept_of pass.old.view }
+        ensures does { pass.new.doing ≡ pass.old.doing }
         ensures given { pass_view_of result.view ≡ split_pass (pass_view_of pass.old.view) }
         ensures steps { (count_of result.view ≡ count_of pass.old.view) × (trail_of result.view ≡ trail_of pass.old.view) }
         ensures copy { HasCopyOf result.view pass.old.view }
+        ensures nothing { result.doing ≡ nothing_done }
+        ensures stands { Stands pass.old.seat (view_of pass.old) → Stands pass.new.seat (view_of pass.new) }
     {
         self.split_now(pass)
     }
@@ -88,11 +112,16 @@ impl LiveBoard for WordBoard {
     ) -> Result<WordReporterPass, TooManyReporters<WordReaderPass>>
         requires { pass.board ≡ self.now }
         ensures own { MatchResult result (λ enlisted. enlisted.board ≡ self.now) (λ full. full.0.board ≡ self.now) }
+        ensures seat { MatchResult result (λ enlisted. enlisted.seat ≡ pass.seat) (λ full. full.0.seat ≡ pass.seat) }
         ensures enlisted { IfOk result (λ enlisted. Enlistment (pass_view_of pass.view) (pass_view_of enlisted.view)) }
         ensures always { IfErr result (λ full. Continues (pass_view_of pass.view) (pass_view_of full.0.view)) }
         ensures full { IfErr result (λ full. FullBoard (pass_view_of pass.view) (pass_view_of full.0.view)) }
         ensures trail { MatchResult result (λ enlisted. KeepsTrail pass.view enlisted.view) (λ full. KeepsTrail pass.view full.0.view) }
+        ensures tries { MatchResult result (λ enlisted. EnlistTries pass.view (Some enlisted.view.number) enlisted.view) (λ full. EnlistTries pass.view None full.0.view) }
+        ensures does { MatchResult result (λ enlisted. enlisted.doing ≡ pass.doing) (λ full. full.0.doing ≡ pass.doing) }
+        ensures reported { IfOk result (λ enlisted. WordHasReported enlisted.doing 0) }
         ensures most { MatchResult result (λ enlisted. count_of enlisted.view ≤ count_of pass.view + 255) (λ full. count_of full.0.view ≤ count_of pass.view + 255) }
+        ensures stands { MatchResult result (λ enlisted. Stands enlisted.seat (view_of enlisted)) (λ full. Stands full.0.seat (view_of full.0)) }
     {
         self.enlist_now(pass)
     }
@@ -100,13 +129,17 @@ impl LiveBoard for WordBoard {
     fn meet<R: Wait>(&self, _rt: &R, first: &mut WordReporterPass, second: &mut WordReporterPass)
         requires { (first.old.board ≡ self.now) × (second.old.board ≡ self.now) }
         ensures own { (first.new.board ≡ self.now) × (second.new.board ≡ self.now) }
+        ensures seat { second.new.seat ≡ second.old.seat }
         ensures sound { IsSound (pass_view_of first.old.view) }
         ensures always { Continues (pass_view_of second.old.view) (pass_view_of second.new.view) }
-        ensures unchanged { first.new.view ≡ first.old.view }
+        ensures unchanged { first.new ≡ first.old }
         ensures meeting { Meeting (pass_view_of first.old.view) (pass_view_of second.old.view) (pass_view_of second.new.view) }
+        ensures reported { ReportsMore (WordHasReported first.old.doing) 0 (WordHasReported first.new.doing) × ReportsMore (WordHasReported second.old.doing) 0 (WordHasReported second.new.doing) }
         ensures trail { KeepsTrail second.old.view second.new.view }
+        ensures does { second.new.doing ≡ second.old.doing }
         ensures steps { MeetingSteps second.old.view second.new.view }
         ensures taken { count_of second.new.view ≡ count_of second.old.view + 1 }
+        ensures stands { Stands second.new.seat (view_of second.new) }
     {
         self.meet_now(first, second);
     }
@@ -119,13 +152,17 @@ impl LiveBoard for WordBoard {
     )
         requires { (first.old.board ≡ self.now) × (second.old.board ≡ self.now) }
         ensures own { (first.new.board ≡ self.now) × (second.new.board ≡ self.now) }
+        ensures seat { second.new.seat ≡ second.old.seat }
         ensures sound { IsSound (pass_view_of first.old.view) }
         ensures always { Continues (pass_view_of second.old.view) (pass_view_of second.new.view) }
-        ensures unchanged { first.new.view ≡ first.old.view }
+        ensures unchanged { first.new ≡ first.old }
         ensures meeting { Meeting (pass_view_of first.old.view) (pass_view_of second.old.view) (pass_view_of second.new.view) }
+        ensures reported { ReportsMore (WordHasReported second.old.doing) 0 (WordHasReported second.new.doing) }
         ensures trail { KeepsTrail second.old.view second.new.view }
+        ensures does { second.new.doing ≡ second.old.doing }
         ensures steps { MeetingSteps second.old.view second.new.view }
         ensures taken { count_of second.new.view ≡ count_of second.old.view + 1 }
+        ensures stands { Stands second.new.seat (view_of second.new) }
     {
         self.meet_reader_now(first, second);
     }

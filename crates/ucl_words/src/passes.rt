@@ -1,8 +1,10 @@
 //! The passes of the word board.
 
 ghost use Rattle.std.specs.Prelude.{◌≡◌, length};
-ghost use Rattle.ucl_pass.specs.Views.{Pass};
+ghost use Rattle.ucl_steps.specs.Protocol.{Nothing};
 ghost use Rattle.ucl_words.specs.WordCalls.{IsSteady};
+ghost use Rattle.ucl_words.specs.WordDoings.{WordHasReported};
+ghost use Rattle.ucl_words.specs.WordViews.{WordPass, pass_of};
 
 use crate::rule::Seat;
 use std::marker::Model;
@@ -15,17 +17,17 @@ pub struct WordReaderPass {
 }
 
 impl Model for WordReaderPass {
-    ghost Value = { Pass };
+    ghost Value = { WordPass };
 
-    ghost view = { λ reader. record { board = reader.seat.table_id; view = reader.seat.me.0 } };
+    ghost view = { λ reader. pass_of reader.seat.table_id reader.seat.id reader.seat.me.0 };
 
-    ghost invariant = { λ reader. IsSteady reader.seat.me.0 × (reader.seat.me.0.number ≡ 0) };
+    ghost invariant = { λ reader. IsSteady reader.seat.me.0.pass × (reader.seat.me.0.pass.number ≡ 0) × (reader.seat.me.0.doing.held ≡ Nothing) × WordHasReported reader.seat.me.0.doing 0 };
 }
 
 impl WordReaderPass {
     /// The seat at the table of its board, by which the pass acts: what contracts see of the pass is the view of this seat, as it is.
     pub fn seat(&self) -> &Seat
-        ensures { self.now ≡ record { board = result.now.table_id; view = result.now.me.0 } }
+        ensures { self.now ≡ pass_of result.now.table_id result.now.id result.now.me.0 }
     {
         &self.seat
     }
@@ -40,17 +42,17 @@ pub struct WordReporterPass {
 }
 
 impl Model for WordReporterPass {
-    ghost Value = { Pass };
+    ghost Value = { WordPass };
 
-    ghost view = { λ reporter. record { board = reporter.seat.table_id; view = reporter.seat.me.0 } };
+    ghost view = { λ reporter. pass_of reporter.seat.table_id reporter.seat.id reporter.seat.me.0 };
 
-    ghost invariant = { λ reporter. IsSteady reporter.seat.me.0 × (reporter.seat.me.0.number ≡ reporter.number) × (length reporter.seat.me.0.mine ≡ reporter.accepted) };
+    ghost invariant = { λ reporter. IsSteady reporter.seat.me.0.pass × (reporter.seat.me.0.pass.number ≡ reporter.number) × (length reporter.seat.me.0.pass.mine ≡ reporter.accepted) × (reporter.seat.me.0.doing.held ≡ Nothing) };
 }
 
 impl WordReporterPass {
     /// The seat at the table of its board, by which the pass acts: what contracts see of the pass is the view of this seat, as it is.
     pub fn seat(&self) -> &Seat
-        ensures { self.now ≡ record { board = result.now.table_id; view = result.now.me.0 } }
+        ensures { self.now ≡ pass_of result.now.table_id result.now.id result.now.me.0 }
     {
         &self.seat
     }

@@ -1,100 +1,118 @@
 //! The rule of the table, and the kinds of its atomic steps. The values named here exist in proofs alone.
 
-ghost use Rattle.ucl_board.specs.Log as trails;
-ghost use Rattle.ucl_pass.specs.Views.{newcomer, opener, kept_of, second_of, note_of, told_by};
 ghost use Rattle.ucl_words.specs.WordRule.{TableKeepsOneHistory};
-ghost use Rattle.ucl_words.specs.WordSteps.{LoadStep, LastLoadStep, EnlistedStep, ExchangeStep, EnlistStep};
+ghost use Rattle.ucl_words.specs.WordSteps.{LookStep, FirstStep, SecondStep, LastLoadStep, EnlistedStep, ExchangeStep, EnlistStep};
+ghost use Rattle.ucl_words.specs.WordViews.{new_pass, first_pass, left_pass, second_pass, note_pass, told_pass};
 
+use crate::view::WordView;
 use atomic_table::{Join, Play, Split, TableRule};
 use std::alloc::Global;
+use std::marker::{Brand, PhantomData};
 use ucl_board::Entry;
-use ucl_pass::View;
 
 /// One log of all steps, whose history has the twelve match words and whose reporters are as many as the enlist word says.
 #[derive(Clone, Copy)]
 pub struct OneHistory;
 
-impl TableRule<Entry, View, ()> for OneHistory {
+impl TableRule<Entry, WordView, ()> for OneHistory {
     ghost holds = { λ _. TableKeepsOneHistory };
 
-    ghost first = { λ _. opener };
+    ghost first = { λ _. first_pass };
 }
 
-/// A reporter's load of a match word.
-pub struct Look;
+/// The event that a report enters, and the seat of the pass that takes a step. Each call picks them.
+pub trait Asking {
+    ghost use Rattle.std.specs.Prelude.{ℕ};
+    ghost use Rattle.ucl_word.specs.declared.event.EventCall.{EventCall};
 
-impl Play<Entry, View> for Look {
-    ghost then = { LoadStep trails.Look };
+    ghost call: { EventCall };
+
+    ghost seat: { ℕ };
+}
+
+impl Asking for Brand {
+    ghost use Rattle.ucl_words.specs.WordSteps.{no_call};
+
+    ghost call = { no_call };
+
+    ghost seat = { 0 };
+}
+
+/// A reporter's load of a match word, which begins its call.
+pub struct Look<K>(PhantomData<K>);
+
+impl<K: Asking> Play<Entry, WordView> for Look<K> {
+    ghost then = { LookStep K.seat K.call };
 }
 
 /// A load of the first collect.
 pub struct First;
 
-impl Play<Entry, View> for First {
-    ghost then = { LoadStep trails.First };
+impl Play<Entry, WordView> for First {
+    ghost then = { FirstStep };
 }
 
 /// A load of the second collect, before its twelfth.
 pub struct Second;
 
-impl Play<Entry, View> for Second {
-    ghost then = { LoadStep trails.Second };
+impl Play<Entry, WordView> for Second {
+    ghost then = { SecondStep };
 }
 
 /// The twelfth load of the second collect.
-pub struct LastSecond;
+pub struct LastSecond<K>(PhantomData<K>);
 
-impl Play<Entry, View> for LastSecond {
-    ghost then = { LastLoadStep };
+impl<K: Asking> Play<Entry, WordView> for LastSecond<K> {
+    ghost then = { LastLoadStep K.seat };
 }
 
 /// A load of the enlist word.
-pub struct CountEnlisted;
+pub struct CountEnlisted<K>(PhantomData<K>);
 
-impl Play<Entry, View> for CountEnlisted {
-    ghost then = { EnlistedStep };
+impl<K: Asking> Play<Entry, WordView> for CountEnlisted<K> {
+    ghost then = { EnlistedStep K.seat };
 }
 
 /// An exchange of a match word, won or missed.
-pub struct Swap;
+pub struct Swap<K>(PhantomData<K>);
 
-impl Play<Entry, View> for Swap {
-    ghost then = { ExchangeStep };
+impl<K: Asking> Play<Entry, WordView> for Swap<K> {
+    ghost then = { ExchangeStep K.seat };
 }
 
 /// An exchange of the enlist word, won or missed.
-pub struct Enlist;
+pub struct Enlist<K>(PhantomData<K>);
 
-impl Play<Entry, View> for Enlist {
-    ghost then = { EnlistStep };
+impl<K: Asking> Play<Entry, WordView> for Enlist<K> {
+    ghost then = { EnlistStep K.seat };
 }
 
 /// The split of a second reader's pass.
 pub struct SecondPass;
 
-impl Split<View> for SecondPass {
-    ghost left = { kept_of };
+impl Split<WordView> for SecondPass {
+    ghost left = { left_pass };
 
-    ghost right = { second_of };
+    ghost right = { second_pass };
 }
 
 /// The split and the join of a note.
 pub struct Note;
 
-impl Split<View> for Note {
+impl Split<WordView> for Note {
     ghost left = { λ v. v };
 
-    ghost right = { note_of };
+    ghost right = { note_pass };
 }
 
-impl Join<View> for Note {
-    ghost both = { told_by };
+impl Join<WordView> for Note {
+    ghost both = { told_pass };
 
-    ghost spent = { newcomer };
+    ghost spent = { new_pass };
 }
 
 /// The table: the number of enlisted reporters, then the words of matches 1 to 12. It has no slot, and is never closed.
-pub type Table = atomic_table::Table<Entry, View, (), OneHistory, Global>;
+pub type Table = atomic_table::Table<Entry, WordView, (), OneHistory, Global>;
 
 /// A seat at the table, which takes its atomic steps.
-pub type Seat = atomic_table::Seat<Entry, View>;
+pub type Seat = atomic_table::Seat<Entry, WordView>;

@@ -18,3 +18,6 @@ returns-clause-showed_1 g c = c.in_ok-end.ensures.showed_1
 
 pub returns-clause-showed_2 : goal.returns-clause-showed_2
 returns-clause-showed_2 g c = c.in_ok-end.ensures.showed_2
+
+pub returns-clause-reports : goal.returns-clause-reports
+returns-clause-reports g c = c.in_ok-end.ensures.reports

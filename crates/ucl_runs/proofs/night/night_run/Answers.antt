@@ -6,7 +6,7 @@ use Rattle.ucl_pass.specs.Passes.{PassView, kept_pass, split_pass}
 use Rattle.ucl_runs.specs.Gates.{Showed}
 use Rattle.ucl_runs.specs.Nights.{IsOnDuty, night_history, number_of_two, pass_of_reader_1, pass_of_reader_2}
 use Rattle.ucl_runs.proofs.EnteredRows.{goes_on}
-use Rattle.ucl_runs.proofs.GateFacts.{showed_on}
+use Rattle.ucl_runs.proofs.GateFacts.{none_twice, reported_in_all, showed_on}
 use Rattle.ucl_runs.proofs.MergedRows.{each_on_duty, merged_after_meetings}
 use Rattle.ucl_runs.proofs.Merges.{night_board_read}
 use Rattle.ucl_runs.proofs.ShownVersions.{met_before, shown_on}
@@ -74,6 +74,19 @@ returns-clause-shown_2 g c =
     c.in_ok-settled.ensures.settled in
     shown_on c.args.profile _ (pass_of_reader_2 (reader c.args.pass)) (reader c.split-right.result) (reader c.in_ok-right.right.pass) (reader c.meet_reader-2.new.first) c.args.readings c.args.night.now.roster c.args.group
     (option_map string_bytes c.in_ok-right.right.last) off c.meet_reader-2.ensures.unchanged on (rw c.in_ok-right.was at c.in_ok-reporter_1.ensures.right).1
+
+pub returns-clause-reports : goal.returns-clause-reports
+returns-clause-reports g c =
+    let reports = g.B.LiveBoard.has_reported in
+    let worked = c.in_ok-reporter_1 in
+    let both = worked.field-0.reporters in
+    let met = c.meet_reader.new.second in
+    let met_both = c.meet_reader-2.new.second in
+    let settled = c.in_ok-settled.ensures.reported in
+    let after = none_twice (reports both.1) (reports met_both) (reports c.settle.new.second) (none_twice (reports both.1) (reports met) (reports met_both) c.meet_reader.ensures.reported c.meet_reader-2.ensures.reported) settled.1 in (
+      reported_in_all (reports c.in_ok-first.first) (reports both.0) (reports c.settle.new.first) _ c.in_ok-first.ensures.reported worked.ensures.first.2 settled.0,
+      reported_in_all (reports c.in_ok-second.second) (reports both.1) (reports c.settle.new.second) _ c.in_ok-second.ensures.reported worked.ensures.second.2 after,
+    )
 
 pub returns-clause-called : goal.returns-clause-called
 returns-clause-called g c = record {

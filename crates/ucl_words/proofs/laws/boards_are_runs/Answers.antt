@@ -1,4 +1,4 @@
-use Rattle.ucl_words.proofs.WorkFacts.{boards_run}
+use Rattle.ucl_words.proofs.BoardRuns.{boards_run}
 use Rattle.ucl_words.proofs.laws.boards_are_runs.Goals as goal
 
 pub returns : goal.returns

@@ -3,11 +3,15 @@ use Rattle.crossbeam_utils.specs.Seq.{cell_view}
 use Rattle.ucl_pass.specs.declared.view.View.{View}
 use Rattle.ucl_pass.specs.Passes.{IsSound}
 use Rattle.ucl_pass.specs.Views.{pass_view_of}
+use Rattle.ucl_pass.specs.CallSteps.{CellHasReported}
 use Rattle.ucl_pass.proofs.Calls.{sound_second, sound_kept}
 use Rattle.ucl_pass.proofs.live_cell.CellBoardLiveBoard.split.Goals as goal
 
+abbrev IsReader : View → Type 0
+IsReader v = IsSound (pass_view_of v) × (v.number ≡ 0) × CellHasReported v.own 0
+
 pub invariant_of-result : goal.invariant_of-result
-invariant_of-result g c = subst (λ (v : View). IsSound (pass_view_of v) × (v.number ≡ 0)) (sym c.split_seat-seat.ensures.given.1) (sound_second (cell_view c.pass.inside.seat) c.pass.invariant.0, refl)
+invariant_of-result g c = subst IsReader (sym c.split_seat-seat.ensures.given.1) (sound_second (cell_view c.pass.inside.seat) c.pass.invariant.0, refl, refl)
 
 pub invariant_of-pass : goal.invariant_of-pass
-invariant_of-pass g c = subst (λ (v : View). IsSound (pass_view_of v) × (v.number ≡ 0)) (sym c.split_seat-seat.ensures.kept) (sound_kept (cell_view c.pass.inside.seat) c.pass.invariant.0, c.pass.invariant.1)
+invariant_of-pass g c = subst IsReader (sym c.split_seat-seat.ensures.kept) (sound_kept (cell_view c.pass.inside.seat) c.pass.invariant.0, c.pass.invariant.1, c.pass.invariant.2)

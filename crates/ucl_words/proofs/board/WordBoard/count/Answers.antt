@@ -1,10 +1,14 @@
-use Rattle.std.proofs.Common.{sym, ◌∙◌, arith}
+use Rattle.std.proofs.Common.{ℕ, sym, ◌∙◌, subst, arith}
+use Rattle.ucl_words.specs.WordRule.{Stands}
 use Rattle.ucl_words.proofs.Moves.{counts}
 use Rattle.ucl_words.proofs.EnlistmentFacts.{counted_steady}
 use Rattle.ucl_words.proofs.board.WordBoard.count.Goals as goal
 
 pub load-requires : goal.load-requires
-load-requires c = (c.requires.table ∙ sym c.self.view_is, omega (arith, c.self.invariant.0), counts _ _ _ c.requires.acts)
+load-requires g c = (c.requires.table ∙ sym c.self.view_is, omega (arith, c.self.invariant.0), counts _ _ _ _ c.requires.place c.requires.acts)
 
 pub returns-clause-steady : goal.returns-clause-steady
-returns-clause-steady c = counted_steady c.args.seat.now.me.0 c.load.new.seat.me.0 c.load.ensures.2.loads
+returns-clause-steady g c = counted_steady c.args.seat.now.me.0.pass c.load.new.seat.me.0.pass c.load.ensures.2.loads
+
+pub returns-clause-stands : goal.returns-clause-stands
+returns-clause-stands g c = subst (λ (k : ℕ). Stands k c.load.new.seat.me.0) (c.requires.place ∙ sym c.load.ensures.1) c.load.ensures.2.stands

@@ -1,13 +1,21 @@
-use Rattle.std.proofs.Common.{◌≡◌, ◌-◌, ◌≤◌}
+use Rattle.std.proofs.Common.{◌≡◌, ◌-◌, ◌≤◌, ◌⊎◌}
+use Rattle.ucl_words.specs.WordRule.{Stands}
+use Rattle.ucl_words.specs.WordSteps.{no_call}
 use Rattle.ucl_words.proofs.EnlistmentFacts.{Missed}
 use Rattle.ucl_words.proofs.board.WordBoard.enlist_by.Given as goal
 
 abbrev pub invariant-tries : goal.invariant-tries
 invariant-tries l = record {
   same : l.seat.table_id ≡ l.fn.seat.table_id;
+  place : l.seat.id ≡ l.fn.seat.id;
   bound : l.known ≤ 255;
-  missed : Missed l.fn.seat.me.0 l.seat.me.0 l.known;
+  missed : Missed l.fn.seat.me.0.pass l.seat.me.0.pass l.known;
+  does : l.seat.me.0.doing ≡ l.fn.seat.me.0.doing;
+  stands : (l.known ≡ 0) ⊎ Stands l.seat.id l.seat.me.0;
 }
 
 abbrev pub decreases-tries : goal.decreases-tries
 decreases-tries l = 255 - l.known
+
+abbrev pub ghosts-add_reporter : goal.ghosts-add_reporter
+ghosts-add_reporter a = record { call = no_call; seat = a.seat.now.id }

@@ -1,6 +1,8 @@
 use Rattle.ucl_pass.proofs.LogFacts.{opens_fresh}
 use Rattle.ucl_words.specs.WordRule.{words_after}
-use Rattle.ucl_words.proofs.Moves.{opens}
+use Rattle.std.proofs.Common.{ℕ, sym, subst}
+use Rattle.ucl_words.specs.WordRule.{Stands}
+use Rattle.ucl_words.proofs.Moves.{opens, opened_stands}
 use Rattle.ucl_words.proofs.board.WordBoard.open.Goals as goal
 
 pub of_words-requires : goal.of_words-requires
@@ -11,3 +13,9 @@ returns-clause-rule g c = opens_fresh words_after
 
 pub returns-in_err-table-clause-rule : goal.returns-in_err-table-clause-rule
 returns-in_err-table-clause-rule g c = opens_fresh words_after
+
+pub returns-clause-stands : goal.returns-clause-stands
+returns-clause-stands g c =
+    let made = c.in_ok-table.ensures in
+    subst (λ (k : ℕ). Stands k (record { pass = c.in_ok-table.seat.me.0.pass; doing = c.in_ok-table.seat.me.0.doing })) (sym made.3)
+    (subst (λ m. Stands 0 (record { pass = m.0.pass; doing = m.0.doing })) (sym made.4) (opened_stands _ c.fresh_words.ensures))

@@ -1,9 +1,11 @@
-use Rattle.std.proofs.Common.{◌∙◌, refl, arith}
-use Rattle.ucl_words.proofs.CollectFacts.{has_collected, tried_none, tried_longer, tried_again, are_words, reads}
+use Rattle.std.proofs.Common.{length, inl, ◌∙◌, refl, arith}
+use Rattle.ucl_board.proofs.Beginnings.{begins_length}
+use Rattle.ucl_words.proofs.CollectFacts.{has_collected, tried_none, tried_longer, tried_again, are_words, same_reading, reads}
+use Rattle.ucl_words.proofs.DoingFacts.{tries_may, tries_held, tries_again, tries_clean}
 use Rattle.ucl_words.proofs.board.WordBoard.read_by.Goals as goal
 
 pub tries-init : goal.tries-init
-tries-init c = record { same = refl; tried = tried_none c.args.seat.now.me.0 c.requires.steady }
+tries-init c = record { same = refl; place = refl; tried = tried_none c.args.seat.now.me.0.pass c.requires.steady; does = inl refl }
 
 pub collect-words-requires-clause-steady : goal.collect-words-requires-clause-steady
 collect-words-requires-clause-steady c = c.tries.invariant.tried.walks.steady
@@ -12,30 +14,43 @@ pub is_clean-requires-clause-steady : goal.is_clean-requires-clause-steady
 is_clean-requires-clause-steady c = c.collect-words.ensures.collects.walks.steady
 
 pub is_clean-requires-clause-collected : goal.is_clean-requires-clause-collected
-is_clean-requires-clause-collected c = has_collected c.tries.seat.me.0 c.collect-words.new.seat.me.0 c.collect-words.result c.collect-words.ensures.collects
+is_clean-requires-clause-collected c = has_collected c.tries.seat.me.0.pass c.collect-words.new.seat.me.0.pass c.collect-words.result c.collect-words.ensures.collects
 
 pub reading_of-requires : goal.reading_of-requires
-reading_of-requires c = are_words c.tries.seat.me.0 c.collect-words.new.seat.me.0 c.is_clean.new.seat.me.0 c.collect-words.result c.collect-words.ensures.long c.collect-words.ensures.collects c.if-is_clean.ensures.compared
+reading_of-requires c = are_words c.tries.seat.me.0.pass c.collect-words.new.seat.me.0.pass c.is_clean.new.seat.me.0.pass c.collect-words.result c.collect-words.ensures.long c.collect-words.ensures.collects c.if-is_clean.ensures.compared
 
 pub tries-smaller : goal.tries-smaller
 tries-smaller c =
-    let t = tried_longer c.tries.seat.me.0 c.collect-words.new.seat.me.0 c.is_clean.new.seat.me.0 c.collect-words.result c.collect-words.ensures.collects c.if-is_clean.ensures.compared in
+    let t = tried_longer c.tries.seat.me.0.pass c.collect-words.new.seat.me.0.pass c.is_clean.new.seat.me.0.pass c.collect-words.result c.collect-words.ensures.collects c.if-is_clean.ensures.compared in
     omega (arith, t.0, t.1)
 
 pub tries-preserved : goal.tries-preserved
 tries-preserved c = record {
   same = c.is_clean.ensures.own ∙ (c.collect-words.ensures.own ∙ c.tries.invariant.same);
-  tried = tried_again c.tries.seat.me.0 c.collect-words.new.seat.me.0 c.is_clean.new.seat.me.0 c.collect-words.result c.collect-words.ensures.collects c.if-is_clean.ensures.compared c.args.seat.now.me.0 c.tries.invariant.tried;
+  place = c.is_clean.ensures.seat ∙ (c.collect-words.ensures.seat ∙ c.tries.invariant.place);
+  tried = tried_again c.tries.seat.me.0.pass c.collect-words.new.seat.me.0.pass c.is_clean.new.seat.me.0.pass c.collect-words.result c.collect-words.ensures.collects c.if-is_clean.ensures.compared c.args.seat.now.me.0.pass c.tries.invariant.tried;
+  does = tries_again (length c.args.seat.now.me.0.pass.seen) c.args.seat.now.me.0.doing c.requires.next c.tries.seat.me.0.doing c.collect-words.new.seat.me.0.doing c.collect-words.result (length c.tries.seat.me.0.pass.seen) _ (begins_length _ _ c.tries.invariant.tried.walks.on.seen) c.tries.invariant.does c.collect-words.ensures.does c.is_clean.new.seat.me.0.doing c.if-is_clean.ensures.does;
 }
 
 pub returns-then-is_clean-clause-steady : goal.returns-then-is_clean-clause-steady
-returns-then-is_clean-clause-steady c = (reads c.tries.seat.me.0 c.collect-words.new.seat.me.0 c.is_clean.new.seat.me.0 c.collect-words.result c.collect-words.ensures.long c.collect-words.ensures.collects c.if-is_clean.ensures.compared c.args.seat.now.me.0 c.requires.steady c.tries.invariant.tried c.reading_of.result c.reading_of.ensures.board c.reading_of.ensures.version).steady
+returns-then-is_clean-clause-steady c = (reads c.tries.seat.me.0.pass c.collect-words.new.seat.me.0.pass c.is_clean.new.seat.me.0.pass c.collect-words.result c.collect-words.ensures.long c.collect-words.ensures.collects c.if-is_clean.ensures.compared c.args.seat.now.me.0.pass c.requires.steady c.tries.invariant.tried c.reading_of.result c.reading_of.ensures.board c.reading_of.ensures.version).steady
 
 pub returns-then-is_clean-clause-reading : goal.returns-then-is_clean-clause-reading
-returns-then-is_clean-clause-reading c = (reads c.tries.seat.me.0 c.collect-words.new.seat.me.0 c.is_clean.new.seat.me.0 c.collect-words.result c.collect-words.ensures.long c.collect-words.ensures.collects c.if-is_clean.ensures.compared c.args.seat.now.me.0 c.requires.steady c.tries.invariant.tried c.reading_of.result c.reading_of.ensures.board c.reading_of.ensures.version).shared
+returns-then-is_clean-clause-reading c = (reads c.tries.seat.me.0.pass c.collect-words.new.seat.me.0.pass c.is_clean.new.seat.me.0.pass c.collect-words.result c.collect-words.ensures.long c.collect-words.ensures.collects c.if-is_clean.ensures.compared c.args.seat.now.me.0.pass c.requires.steady c.tries.invariant.tried c.reading_of.result c.reading_of.ensures.board c.reading_of.ensures.version).shared
 
 pub returns-then-is_clean-clause-steps : goal.returns-then-is_clean-clause-steps
-returns-then-is_clean-clause-steps c = (reads c.tries.seat.me.0 c.collect-words.new.seat.me.0 c.is_clean.new.seat.me.0 c.collect-words.result c.collect-words.ensures.long c.collect-words.ensures.collects c.if-is_clean.ensures.compared c.args.seat.now.me.0 c.requires.steady c.tries.invariant.tried c.reading_of.result c.reading_of.ensures.board c.reading_of.ensures.version).steps
+returns-then-is_clean-clause-steps c = (reads c.tries.seat.me.0.pass c.collect-words.new.seat.me.0.pass c.is_clean.new.seat.me.0.pass c.collect-words.result c.collect-words.ensures.long c.collect-words.ensures.collects c.if-is_clean.ensures.compared c.args.seat.now.me.0.pass c.requires.steady c.tries.invariant.tried c.reading_of.result c.reading_of.ensures.board c.reading_of.ensures.version).steps
 
 pub returns-then-is_clean-clause-most : goal.returns-then-is_clean-clause-most
-returns-then-is_clean-clause-most c = (reads c.tries.seat.me.0 c.collect-words.new.seat.me.0 c.is_clean.new.seat.me.0 c.collect-words.result c.collect-words.ensures.long c.collect-words.ensures.collects c.if-is_clean.ensures.compared c.args.seat.now.me.0 c.requires.steady c.tries.invariant.tried c.reading_of.result c.reading_of.ensures.board c.reading_of.ensures.version).most
+returns-then-is_clean-clause-most c = (reads c.tries.seat.me.0.pass c.collect-words.new.seat.me.0.pass c.is_clean.new.seat.me.0.pass c.collect-words.result c.collect-words.ensures.long c.collect-words.ensures.collects c.if-is_clean.ensures.compared c.args.seat.now.me.0.pass c.requires.steady c.tries.invariant.tried c.reading_of.result c.reading_of.ensures.board c.reading_of.ensures.version).most
+
+pub collect-words-requires-clause-next : goal.collect-words-requires-clause-next
+collect-words-requires-clause-next c = tries_may (length c.args.seat.now.me.0.pass.seen) c.args.seat.now.me.0.doing c.requires.next c.tries.seat.me.0.doing c.tries.invariant.does
+
+pub is_clean-requires-clause-next : goal.is_clean-requires-clause-next
+is_clean-requires-clause-next c = tries_held (length c.args.seat.now.me.0.pass.seen) c.args.seat.now.me.0.doing c.requires.next c.tries.seat.me.0.doing c.collect-words.new.seat.me.0.doing c.collect-words.result (length c.tries.seat.me.0.pass.seen) _ (begins_length _ _ c.tries.invariant.tried.walks.on.seen) c.tries.invariant.does c.collect-words.ensures.does
+
+pub returns-then-is_clean-clause-answers : goal.returns-then-is_clean-clause-answers
+returns-then-is_clean-clause-answers c =
+    tries_clean (length c.args.seat.now.me.0.pass.seen) c.args.seat.now.me.0.doing c.requires.next c.tries.seat.me.0.doing c.collect-words.new.seat.me.0.doing c.collect-words.result (length c.tries.seat.me.0.pass.seen) _ (begins_length _ _ c.tries.invariant.tried.walks.on.seen) c.tries.invariant.does c.collect-words.ensures.does c.is_clean.new.seat.me.0.doing _ c.reading_of.result c.if-is_clean.ensures.does
+    (same_reading c.tries.seat.me.0.pass c.collect-words.new.seat.me.0.pass c.is_clean.new.seat.me.0.pass c.collect-words.result c.collect-words.ensures.long c.collect-words.ensures.collects c.if-is_clean.ensures.compared c.reading_of.result c.reading_of.ensures.board c.reading_of.ensures.version)

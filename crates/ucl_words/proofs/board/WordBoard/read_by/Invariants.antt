@@ -1,14 +1,17 @@
 use Rattle.std.proofs.Common.{◌≡◌, ◌-◌, length}
 use Rattle.ucl_steps.specs.Trails.{most_tries}
 use Rattle.ucl_words.proofs.CollectFacts.{Tried}
+use Rattle.ucl_words.proofs.DoingFacts.{Tries}
 use Rattle.ucl_words.proofs.board.WordBoard.read_by.Given as goal
 
 abbrev pub invariant-tries : goal.invariant-tries
 invariant-tries l = record {
   same : l.seat.table_id ≡ l.fn.seat.table_id;
-  tried : Tried l.fn.seat.me.0 l.seat.me.0;
+  place : l.seat.id ≡ l.fn.seat.id;
+  tried : Tried l.fn.seat.me.0.pass l.seat.me.0.pass;
+  does : Tries (length l.fn.seat.me.0.pass.seen) l.fn.seat.me.0.doing l.seat.me.0.doing;
 }
 
 -- each try that is not clean has seen a longer history, and no history is longer than this
 abbrev pub decreases-tries : goal.decreases-tries
-decreases-tries l = most_tries - length l.seat.me.0.seen
+decreases-tries l = most_tries - length l.seat.me.0.pass.seen

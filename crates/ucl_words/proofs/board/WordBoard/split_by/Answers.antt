@@ -1,5 +1,7 @@
-use Rattle.std.proofs.Common.{ap, sym, ◌∙◌, arith}
-use Rattle.ucl_words.proofs.Moves.{seconds}
+use Rattle.std.proofs.Common.{ℕ, ap, sym, ◌∙◌, subst, arith}
+use Rattle.ucl_words.specs.declared.view.WordView.{WordView}
+use Rattle.ucl_words.specs.WordRule.{Stands}
+use Rattle.ucl_words.proofs.Moves.{seconds, split_stands}
 use Rattle.ucl_words.proofs.board.WordBoard.split_by.Goals as goal
 
 pub split_seat-requires : goal.split_seat-requires
@@ -10,3 +12,8 @@ returns-clause-kept c = ap (λ m. m.0) c.split_seat.ensures.2
 
 pub returns-clause-given : goal.returns-clause-given
 returns-clause-given c = ap (λ m. m.0) c.split_seat.ensures.4
+
+pub returns-clause-stands : goal.returns-clause-stands
+returns-clause-stands c was =
+    subst (λ (k : ℕ). Stands k c.split_seat.new.seat.me.0) (sym c.split_seat.ensures.1)
+    (subst (λ (v : WordView). Stands c.args.seat.now.id v) (sym (ap (λ m. m.0) c.split_seat.ensures.2)) (split_stands c.args.seat.now.id c.args.seat.now.me.0 was))

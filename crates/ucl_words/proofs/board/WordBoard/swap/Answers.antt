@@ -3,13 +3,13 @@ use mathlib.Core.Option.{some}
 use prog.Atomic.{either}
 use Rattle.atomic_table.specs.Table.{step, Allows}
 use Rattle.ucl_board.specs.declared.entry.Entry.{Entry}
-use Rattle.ucl_words.specs.WordRule.{TableKeepsOneHistory}
+use Rattle.ucl_words.specs.WordRule.{TableKeepsOneHistory, Stands}
 use Rattle.ucl_words.specs.WordSteps.{ExchangeStep, ExchangeMissed}
 use Rattle.ucl_words.proofs.Moves.{swaps}
 use Rattle.ucl_words.proofs.board.WordBoard.swap.Goals as goal
 
 pub compare_exchange_with-requires : goal.compare_exchange_with-requires
-compare_exchange_with-requires c =
+compare_exchange_with-requires g c =
     let is = c.from-word.ensures in
     let value = c.get.ensures.value in
     let range = c.get.ensures.within in let a = range.0 in let b = range.1 in
@@ -19,12 +19,18 @@ compare_exchange_with-requires c =
     let seat = c.args.seat.now in (
       c.requires.table ∙ sym c.self.view_is,
       omega (arith, c.self.invariant.0),
-      subst (λ (w : ℕ). Allows TableKeepsOneHistory slots seat.id seat.me w (λ n. either (n == c.args.loaded) c.args.next n) (ExchangeStep (step slots w c.args.loaded c.args.next (some e)) seat.me)) (sym (is ∙ value))
-          (swaps slots seat.id seat.me e c.args.loaded c.args.next c.requires.acts low c.requires.me.0 c.requires.me.1 c.requires.next),
+      subst (λ (w : ℕ). Allows TableKeepsOneHistory slots seat.id seat.me w (λ n. either (n == c.args.loaded) c.args.next n) (ExchangeStep g.K.Asking.seat (step slots w c.args.loaded c.args.next (some e)) seat.me)) (sym (is ∙ value))
+          (swaps slots seat.id _ seat.me e c.args.loaded c.args.next c.requires.place c.requires.acts low c.requires.me.0 c.requires.me.1 c.requires.word c.requires.next),
     )
 
 pub returns-clause-won : goal.returns-clause-won
-returns-clause-won c hit = c.compare_exchange_with.ensures.2.won hit
+returns-clause-won g c hit = c.compare_exchange_with.ensures.2.won hit
 
 pub returns-clause-missed : goal.returns-clause-missed
-returns-clause-missed c miss = subst (λ (w : ℕ). ExchangeMissed w c.args.seat.now.me.0 c.compare_exchange_with.result c.compare_exchange_with.new.seat.me.0) (c.from-word.ensures ∙ c.get.ensures.value) (c.compare_exchange_with.ensures.2.missed miss)
+returns-clause-missed g c miss = subst (λ (w : ℕ). ExchangeMissed w c.args.seat.now.me.0.pass c.compare_exchange_with.result c.compare_exchange_with.new.seat.me.0.pass) (c.from-word.ensures ∙ c.get.ensures.value) (c.compare_exchange_with.ensures.2.missed miss)
+
+pub returns-clause-does : goal.returns-clause-does
+returns-clause-does g c = c.compare_exchange_with.ensures.2.doing
+
+pub returns-clause-stands : goal.returns-clause-stands
+returns-clause-stands g c = subst (λ (k : ℕ). Stands k c.compare_exchange_with.new.seat.me.0) (c.requires.place ∙ sym c.compare_exchange_with.ensures.1) c.compare_exchange_with.ensures.2.stands

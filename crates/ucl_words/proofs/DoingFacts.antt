@@ -1,0 +1,195 @@
+-- What the steps of a call leave as done and as held.
+use Rattle.std.proofs.Common.{◌≡◌, ◌≢◌, ◌⊎◌, inl, inr, ℕ, zero, suc, ◌+◌, ◌<◌, ◌≤◌, ◌==◌, Bool, true, false, cond, List, [], ◌∷◌, ◌++◌, take, length, set, Some, None, Ok, refl, sym, ap, ◌∙◌, subst, arith, eq-eqb, ne_eqb}
+use Rattle.std.specs.Prelude.{slice_index}
+use Rattle.std.proofs.lemmas.List.{length-take-le}
+use Rattle.std.proofs.Math.Seq.{take-length}
+use Rattle.ucl_word.specs.declared.event.EventCall.{EventCall}
+use Rattle.ucl_word.specs.declared.event.Accepted.{Accepted}
+use Rattle.ucl_word.specs.declared.refusal.Refusal.{Refusal}
+use Rattle.ucl_word.specs.declared.refusal.Refusal.TheVariants.{Stale}
+use Rattle.ucl_word.specs.Rules.{refusal_of, after, reply_of}
+use Rattle.ucl_word.specs.Layout.{word_of, record_at, IsWord}
+use Rattle.ucl_word.specs.declared.record.MatchRecord.{MatchRecord}
+use Rattle.ucl_word.specs.declared.event.Kind.{Kind}
+use Rattle.ucl_word.proofs.Words.{word_packed}
+use Rattle.ucl_board.specs.declared.entry.Entry.{Entry}
+use Rattle.ucl_board.specs.declared.reading.Reading.{Reading}
+use Rattle.ucl_board.specs.Log.{AccessKind, First, Second}
+use Rattle.ucl_steps.specs.declared.step.Call.TheVariants as calls
+use Rattle.ucl_steps.specs.declared.trace.Reply.{Reply}
+use Rattle.ucl_steps.specs.declared.trace.Reply.TheVariants as replies
+use Rattle.ucl_steps.specs.Protocol.{Held, Nothing, Holding, Collecting, Checking, Doing, goes, ends, IsNext, by_rules, after_look, swaps_holding, after_swap, collected, firsts_holding, after_first, seconds_holding, after_second}
+use Rattle.ucl_steps.proofs.Calls.{none_of}
+use Rattle.ucl_words.specs.declared.view.WordView.{WordView}
+use Rattle.ucl_words.specs.WordDoings.{HasAnswered, AnswersCall, IsHoldingFor, MayCollect, IsBegun, HasFirsts, has_copied, begins_anew}
+
+-- a report
+
+module _ (v u : WordView) (call : EventCall) (loaded number : ℕ) (is : v.pass.number ≡ number) (looked : u.doing ≡ after_look v.pass.number call loaded (length u.pass.seen) v.doing) (grown : length v.pass.seen ≤ length u.pass.seen) where
+  pub look_answers : (refusal : Refusal) → refusal_of (record_at loaded) call.expected call.kind ≡ Some refusal → AnswersCall v (calls.Event call) (replies.Refused refusal) u
+  look_answers refusal refused = record { begun = length u.pass.seen; after_seen = grown; does = looked ∙ ap (λ o. by_rules v.pass.number call loaded (length u.pass.seen) o v.doing) refused }
+
+  module _ (accepts : refusal_of (record_at loaded) call.expected call.kind ≡ None) (next : ℕ) (valid : IsWord next) (next_is : record_at next ≡ after (record_at loaded) number call.kind) where
+    now_holding : u.doing ≡ goes (length u.pass.seen) (Holding call loaded next) v.doing
+    now_holding =
+        looked
+        ∙ (ap (λ o. by_rules v.pass.number call loaded (length u.pass.seen) o v.doing) accepts
+        ∙ ap (λ (n : ℕ). goes (length u.pass.seen) (Holding call loaded n) v.doing) (ap (λ (n : ℕ). word_of (after (record_at loaded) n call.kind)) is ∙ (ap word_of (sym next_is) ∙ word_packed next valid)))
+
+    pub holding_for : (reporter : ℕ) → IsHoldingFor u.doing.held (record { game = call.game; reporter = reporter; kind = call.kind }) loaded next
+    holding_for reporter = record { e = call; holds = ap (λ (d : Doing). d.held) now_holding; game = refl; kind = refl }
+
+    module _ (z : WordView) (found : ℕ) (swapped : z.doing ≡ after_swap found (length z.pass.seen) u.doing) where
+      abbrev answer_by : Bool → Doing
+      answer_by b = cond b (ends (calls.Event call) (replies.Accepted (record { number = (record_at found).number + 1 })) (length u.pass.seen) (length z.pass.seen) v.doing) (ends (calls.Event call) (replies.Refused (Stale (record_at found).number)) (length u.pass.seen) (length z.pass.seen) v.doing)
+
+      now_answered : z.doing ≡ cond (found == loaded) (ends (calls.Event call) (replies.Accepted (record { number = (record_at found).number + 1 })) (length u.pass.seen) (length z.pass.seen) (goes (length u.pass.seen) (Holding call loaded next) v.doing))
+          (ends (calls.Event call) (replies.Refused (Stale (record_at found).number)) (length u.pass.seen) (length z.pass.seen) (goes (length u.pass.seen) (Holding call loaded next) v.doing))
+      now_answered = swapped ∙ ap (after_swap found (length z.pass.seen)) now_holding
+
+      pub won_answers : found ≡ loaded → (reply : Accepted) → reply_of (record_at loaded) call ≡ Ok reply → AnswersCall v (calls.Event call) (replies.Accepted reply) z
+      won_answers same reply accepted =
+          let told : record { number = (record_at found).number + 1 } ≡ reply = ap (λ (n : ℕ). record { number = (record_at n).number + 1 }) same ∙ sym (none_of (record_at loaded).number (refusal_of (record_at loaded) call.expected call.kind) reply accepted).1 in
+          record {
+            begun = length u.pass.seen;
+            after_seen = grown;
+            does = now_answered
+                ∙ (ap answer_by (eq-eqb found loaded same) ∙ ap (λ (a : Accepted). ends (calls.Event call) (replies.Accepted a) (length u.pass.seen) (length z.pass.seen) v.doing) told);
+          }
+
+      pub miss_answers : found ≢ loaded → (refusal : Refusal) → refusal ≡ Stale (record_at found).number → AnswersCall v (calls.Event call) (replies.Refused refusal) z
+      miss_answers other refusal stale = record {
+        begun = length u.pass.seen;
+        after_seen = grown;
+        does = now_answered ∙ (ap answer_by (ne_eqb found loaded other) ∙ ap (λ (r : Refusal). ends (calls.Event call) (replies.Refused r) (length u.pass.seen) (length z.pass.seen) v.doing) (sym stale));
+      }
+
+-- a first collect
+
+take_set : (ws : List ℕ) (i n : ℕ) → i < length ws → take (i + 1) (set ws i n) ≡ take i ws ++ n ∷ []
+take_set [] i n less = absurd (omega arith)
+take_set (x ∷ ws) zero n less = refl
+take_set (x ∷ ws) (suc i) n less = let e : suc i + 1 ≡ suc (i + 1) = omega arith in ap (λ (k : ℕ). take k (x ∷ set ws i n)) e ∙ ap (λ (l : List ℕ). x ∷ l) (take_set ws i n (omega arith))
+
+pub record FirstsOn (seen : ℕ) (d : Doing) (words : List ℕ) (count now : ℕ) (f : Doing) : Type 0 where
+  pub begun : ℕ
+  pub begins : IsBegun d.held seen d.begun begun
+  pub does : f ≡ goes begun (collected (take count words) now) d
+
+-- after some of its loads
+abbrev pub Firsts : ℕ → Doing → List ℕ → ℕ → ℕ → Doing → Type 0
+Firsts seen d words count now f = ((count ≡ 0) × (f ≡ d)) ⊎ ((0 < count) × FirstsOn seen d words count now f)
+
+begin_by : (h : Held) → MayCollect h → (n now : ℕ) (d : Doing) → IsNext First 1 h × ((begun : ℕ) × (firsts_holding h n now d ≡ goes begun (collected (n ∷ []) now) d) × ((seen : ℕ) → seen ≤ now → IsBegun h seen d.begun begun))
+begin_by Nothing may n now d = (refl, (now, refl, λ seen le. le))
+begin_by (Collecting words) may n now d = (ap (λ (l : List ℕ). length l + 1) (sym may), (d.begun, ap (λ (l : List ℕ). goes d.begun (collected (l ++ n ∷ []) now) d) may, λ seen le. refl))
+begin_by (Holding e old new) may n now d = absurd may
+begin_by (Checking words checked point) may n now d = absurd may
+
+module _ (seen : ℕ) (d : Doing) (words : List ℕ) (i now : ℕ) (f : Doing) (less : i < 12) (long : length words ≡ 12) (may : MayCollect d.held) where
+  some_words : length (take i words) ≡ i
+  some_words = length-take-le i words (omega arith)
+
+  still_collecting : FirstsOn seen d words i now f → (begun : ℕ) × (f ≡ goes begun (Collecting (take i words)) d) × IsBegun d.held seen d.begun begun
+  still_collecting on =
+      let count = some_words in
+      (on.begun, on.does ∙ ap (λ (b : Bool). goes on.begun (cond b (Checking (take i words) 0 now) (Collecting (take i words))) d) (ne_eqb (length (take i words)) 12 (λ z. omega arith)), on.begins)
+
+  pub first_next : Firsts seen d words i now f → IsNext First (i + 1) f.held
+  first_next (inl t) = subst (λ (k : ℕ). IsNext First (k + 1) f.held) (sym t.0) (subst (λ (x : Doing). IsNext First 1 x.held) (sym t.1) (begin_by d.held may 0 0 d).0)
+  first_next (inr t) = let on = still_collecting t.1 in subst (λ (x : Doing). IsNext First (i + 1) x.held) (sym on.1) (ap (λ (k : ℕ). k + 1) (sym some_words))
+
+  pub first_on : (n later : ℕ) (g : Doing) → seen ≤ later → g ≡ after_first n later f → Firsts seen d words i now f → Firsts seen d (set words i n) (i + 1) later g
+  first_on n later g grown is (inl t) =
+      let start = (begin_by d.held may n later d).1 in
+      inr (
+        omega arith,
+        record {
+          begun = start.0;
+          begins = start.2 seen grown;
+          does = is ∙ (ap (after_first n later) t.1 ∙ (start.1
+              ∙ ap (λ (l : List ℕ). goes start.0 (collected l later) d) (sym (take_set words i n (omega arith) ∙ ap (λ (k : ℕ). take k words ++ n ∷ []) t.0))));
+        },
+      )
+  first_on n later g grown is (inr t) =
+      let on = still_collecting t.1 in
+      inr (omega arith, record { begun = on.0; begins = on.2; does = is ∙ (ap (after_first n later) on.1 ∙ ap (λ (l : List ℕ). goes on.0 (collected l later) d) (sym (take_set words i n (omega arith)))) })
+
+pub firsts_all : (seen : ℕ) (d : Doing) (words : List ℕ) (i now : ℕ) (f : Doing) → length words ≡ 12 → i ≡ 12 → Firsts seen d words i now f → HasFirsts seen d words now f
+firsts_all seen d words i now f long all (inl t) = absurd (omega (arith, t.0))
+firsts_all seen d words i now f long all (inr t) =
+    let whole : take i words ≡ words = ap (λ (k : ℕ). take k words) (all ∙ sym long) ∙ take-length words in
+    record { begun = t.1.begun; begins = t.1.begins; does = t.1.does ∙ (ap (λ (l : List ℕ). goes t.1.begun (collected l now) d) whole ∙ ap (λ (b : Bool). goes t.1.begun (cond b (Checking words 0 now) (Collecting words)) d) (eq-eqb (length words) 12 long)) }
+
+-- a second collect
+
+abbrev pub Seconds : Doing → List ℕ → ℕ → ℕ → Doing → Type 0
+Seconds d words point count f = f ≡ goes d.begun (Checking words count point) d
+
+pub seconds_none : (d : Doing) (words : List ℕ) (point : ℕ) → d.held ≡ Checking words 0 point → Seconds d words point 0 d
+seconds_none d words point is = λ i. record { calls = d.calls; held = is i; begun = d.begun }
+
+module _ (d : Doing) (words : List ℕ) (point i : ℕ) (f : Doing) (so_far : Seconds d words point i f) where
+  pub second_next : IsNext Second (i + 1) f.held
+  second_next = subst (λ (x : Doing). IsNext Second (i + 1) x.held) (sym so_far) refl
+
+  module _ (n now : ℕ) (g : Doing) (is : g ≡ after_second n now f) where
+    abbrev clean : Doing
+    clean = has_copied words point now d
+
+    abbrev further : Doing
+    further = goes d.begun (Checking words (i + 1) point) d
+
+    step_is : g ≡ cond (n == slice_index words i) (cond (i == 11) clean further) (begins_anew d)
+    step_is = is ∙ ap (after_second n now) so_far
+
+    pub second_on : n ≡ slice_index words i → i < 11 → Seconds d words point (i + 1) g
+    second_on same less = step_is ∙ (ap (λ (b : Bool). cond b (cond (i == 11) clean further) (begins_anew d)) (eq-eqb n (slice_index words i) same) ∙ ap (λ (b : Bool). cond b clean further) (ne_eqb i 11 (λ z. omega arith)))
+
+    pub second_other : n ≢ slice_index words i → g ≡ begins_anew d
+    second_other other = step_is ∙ ap (λ (b : Bool). cond b (cond (i == 11) clean further) (begins_anew d)) (ne_eqb n (slice_index words i) other)
+
+    pub second_last : n ≡ slice_index words i → i ≡ 11 → g ≡ clean
+    second_last same eleven = step_is ∙ (ap (λ (b : Bool). cond b (cond (i == 11) clean further) (begins_anew d)) (eq-eqb n (slice_index words i) same) ∙ ap (λ (b : Bool). cond b clean further) (eq-eqb i 11 eleven))
+
+-- tries of a reading
+
+abbrev pub Tries : ℕ → Doing → Doing → Type 0
+Tries seen d f = (f ≡ d) ⊎ ((begun : ℕ) × (f ≡ goes begun (Collecting []) d) × (seen ≤ begun))
+
+module _ (seen : ℕ) (d : Doing) (none : d.held ≡ Nothing) where
+  pub tries_may : (f : Doing) → Tries seen d f → MayCollect f.held
+  tries_may f (inl t) = subst MayCollect (sym (ap (λ (x : Doing). x.held) t ∙ none)) tt
+  tries_may f (inr t) = subst (λ (x : Doing). MayCollect x.held) (sym t.1) refl
+
+  module _ (x u : Doing) (words : List ℕ) (later now : ℕ) (grown : seen ≤ later) (tries : Tries seen d x) (collected_all : HasFirsts later x words now u) where
+    collected_now : u ≡ goes collected_all.begun (Checking words 0 now) d
+    collected_now = by tries
+      where
+        by : Tries seen d x → u ≡ goes collected_all.begun (Checking words 0 now) d
+        by (inl t) = collected_all.does ∙ ap (goes collected_all.begun (Checking words 0 now)) t
+        by (inr t) = collected_all.does ∙ ap (goes collected_all.begun (Checking words 0 now)) t.1
+
+    begun_since : seen ≤ collected_all.begun
+    begun_since = by tries
+      where
+        by : Tries seen d x → seen ≤ collected_all.begun
+        by (inl t) = let since : later ≤ collected_all.begun = subst (λ (h : Held). IsBegun h later x.begun collected_all.begun) (ap (λ (y : Doing). y.held) t ∙ none) collected_all.begins in omega arith
+        by (inr t) =
+            let same : collected_all.begun ≡ x.begun = subst (λ (h : Held). IsBegun h later x.begun collected_all.begun) (ap (λ (y : Doing). y.held) t.1) collected_all.begins in
+            let first : x.begun ≡ t.0 = ap (λ (y : Doing). y.begun) t.1 in
+            let since = t.2 in
+            omega arith
+
+    pub tries_held : u.held ≡ Checking words 0 now
+    tries_held = ap (λ (y : Doing). y.held) collected_now
+
+    pub tries_again : (w : Doing) → w ≡ begins_anew u → Tries seen d w
+    tries_again w is = inr (collected_all.begun, is ∙ ap begins_anew collected_now, begun_since)
+
+    pub tries_clean : (w : Doing) (end : ℕ) (reading : Reading) → w ≡ has_copied words now end u → record { board = words; version = now } ≡ reading → HasAnswered seen d calls.Reading (replies.Copied reading) end w
+    tries_clean w end reading is same = record {
+      begun = collected_all.begun;
+      after_seen = begun_since;
+      does = is ∙ (ap (has_copied words now end) collected_now ∙ ap (λ (r : Reading). ends calls.Reading (replies.Copied r) collected_all.begun end d) same);
+    }
