@@ -1,0 +1,46 @@
+"""The edits of the repository: wrong bodies, which the prover has to refuse, and their controls, which it has to prove.
+
+An edit is a text file: a line `file:`, which names a file of the crate, and pairs of lines `old:` and `new:`, each text one line, that stands
+there exactly once. The gate's wrong bodies are crates/CRATE/must-fail/NAME.edit, further ones checks/wrong/CRATE/NAME.edit, and the control
+of either is checks/controls/CRATE/NAME.edit.
+"""
+
+OF_THE_GATE = "crates/*/must-fail/*.edit"
+FURTHER = "checks/wrong/*/*.edit"
+CONTROLS = "checks/controls/*/*.edit"
+
+
+def crate_of(edit):
+    """The name of the crate that an edit is of."""
+    return edit.parent.parent.name if edit.parent.name == "must-fail" else edit.parent.name
+
+
+def edits_of(top, pattern):
+    """The edits of a kind in a repository, each with the name of its crate."""
+    return [(crate_of(edit), edit) for edit in sorted(top.glob(pattern))]
+
+
+def after(line, word):
+    """What stands after the word that the line begins with, and after one blank."""
+    return line[len(word) :][1:] if line[len(word) :].startswith(" ") else line[len(word) :]
+
+
+def edited(folder, edit):
+    """The texts that an edit changes, by their files below the crate's folder. A ValueError says why it does not fit."""
+    texts, was, path, old = {}, {}, None, None
+    for line in edit.read_text().split("\n"):
+        if line.startswith("file:"):
+            path = folder / after(line, "file:").strip()
+            was.setdefault(path, path.read_text())
+            texts.setdefault(path, was[path])
+        elif line.startswith("old:"):
+            old = after(line, "old:")
+        elif line.startswith("new:"):
+            if path is None or not old:
+                raise ValueError("a 'new:' line has no 'file:' or no 'old:' line before it")
+            if texts[path].count(old) != 1:
+                raise ValueError(f"an 'old:' text is there {texts[path].count(old)} times, and not once: {old}")
+            texts[path], old = texts[path].replace(old, after(line, "new:")), None
+    if texts == was:
+        raise ValueError("it changes nothing")
+    return texts

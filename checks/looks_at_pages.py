@@ -1,0 +1,131 @@
+"""Looks at the pages: what they name is there, their tables are those of the sources, and the kit's line is the kit's."""
+
+import functools
+import re
+import shutil
+import subprocess
+import sys
+
+from looks_at_crates import crates_of
+
+BLOCK = re.compile(r"^```.*?^```$", re.M | re.S)
+WORD = r"[A-Za-z_][A-Za-z0-9_]*"
+NAME = re.compile(rf"{WORD}(::{WORD})*")
+KIT = r"rattle-kit-\w+ logic [0-9a-f]+"
+SOURCES = [
+    "crates.txt",
+    "crates/*/src/**/*.rt",
+    "crates/*/specs/*.antt",
+    "crates/*/proofs/**/*.antt",
+    "bench/*",
+    "bench/plain/**/*.rs",
+    "examples/*.expected",
+]
+
+
+def pages(top):
+    """The pages whose names are looked up. CHANGELOG.md tells of what was, so it names what is gone too."""
+    return [path for path in [top / "README.md", top / "CONTRIBUTING.md", *sorted((top / "docs").glob("*.md"))] if path.exists()]
+
+
+def named(page):
+    """What stands in backticks on a page, outside blocks of code, with its line."""
+    text = BLOCK.sub(lambda block: "\n" * block[0].count("\n"), page.read_text())
+    for number, line in enumerate(text.split("\n"), 1):
+        for name in re.findall(r"`([^`]+)`", line):
+            yield number, name
+
+
+def words_of(top):
+    """All words of the sources, and the names of their files."""
+    files = {path for pattern in SOURCES for path in top.glob(pattern) if path.is_file()}
+    words = {word for path in files for word in re.findall(WORD, path.read_text(errors="replace"))}
+    return words | {path.stem for path in files}
+
+
+def file_is_there(top, path):
+    """The path is of a file or folder of the repository, or of a crate; words in capitals stand for any name, and out/ is what is built."""
+    pattern = re.sub(r"\b[A-Z]{2,}\b", "*", re.sub(r"/out(/.*)?$", "", path.rstrip("/")).replace("./", ""))
+    places = pattern, f"crates/*/{pattern}", f"crates/*/{pattern}.antt", f"crates/*/src/{pattern}"
+    return any(True for place in places for _ in top.glob(place))
+
+
+def is_there(top, words, name):
+    """What the name names is there: its file where it begins with a path, else each of its words. Other texts in backticks are no names."""
+    first = name.split(" ")[0]
+    if "/" in first:
+        return file_is_there(top, first)
+    if re.fullmatch(r"\w+\.(md|txt|rt|antt)", name):
+        return any(True for _ in top.glob(f"**/{name}"))
+    return not NAME.fullmatch(name) or all(word in words for word in name.split("::"))
+
+
+def names_exist(top):
+    """Each name in backticks in the README and in docs is there."""
+    words = words_of(top)
+    return [
+        f"{page.relative_to(top)}:{number}: `{name}` is not there"
+        for page in pages(top)
+        for number, name in named(page)
+        if not is_there(top, words, name)
+    ]
+
+
+def rows_under(page, heading):
+    """The cells of each row of the table under a heading."""
+    text = page.read_text().split(f"\n## {heading}\n", 1)[-1].split("\n## ", 1)[0]
+    rows = [line.strip("|").split("|") for line in text.split("\n") if line.startswith("| ") and not line.startswith("|---")]
+    return [[cell.strip() for cell in row] for row in rows][1:]
+
+
+def definitions_are_listed(top):
+    """The table of definitions has each file of specs/; Lib has no definition, and Laws has a row for all crates."""
+    cells = [row[1] for row in rows_under(top / "docs/ARCHITECTURE.md", "Where each definition lives, and who cites it")]
+    groups = [group for cell in cells for group in re.findall(r"`(\w+)`: ((?:`\w+`(?:, )?)+)", cell)]
+    told = {f"{crate}/{name}" for crate, names in groups for name in re.findall(r"`(\w+)`", names)}
+    files = {f"{path.parts[-3]}/{path.stem}" for path in top.glob("crates/*/specs/*.antt") if path.stem not in ("Lib", "Laws")}
+    return [f"{name}: not in the table of definitions" for name in sorted(files - told)] + [
+        f"{name}: in the table of definitions, and there is no such file" for name in sorted(told - files)
+    ]
+
+
+def crates_are_listed(top):
+    """The table of crates has each crate of crates.txt, once."""
+    told = [name for row in rows_under(top / "docs/ARCHITECTURE.md", "The crates") for name in re.findall(r"`(\w+)`", row[0])]
+    crates = list(crates_of(top))
+    return [f"{name}: not in the table of crates" for name in crates if name not in told] + [
+        f"{name}: in the table of crates {told.count(name)} times, and {crates.count(name)} times in crates.txt"
+        for name in sorted(set(told))
+        if told.count(name) != crates.count(name)
+    ]
+
+
+@functools.lru_cache(maxsize=None)
+def kit():
+    """The line of the kit that is installed."""
+    if shutil.which("rt") is None:
+        return "not on the path"
+    ran = subprocess.run(["rt", "version"], stdin=subprocess.DEVNULL, stdout=subprocess.PIPE, universal_newlines=True)
+    return ran.stdout.strip()
+
+
+def kit_is_told(top):
+    """The README and the version of the program tell the kit that is installed."""
+    files = {"README.md": rf"`({KIT})`", "crates/ucl_command/src/texts.rt": rf"proved with ({KIT})"}
+    told = {name: re.findall(pattern, (top / name).read_text()) for name, pattern in files.items()}
+    return [f"{name}: tells {', '.join(lines) or 'no kit'}, and the kit is {kit()}" for name, lines in told.items() if lines != [kit()]]
+
+
+def examples_are_tests(top):
+    """The examples at the calls, and the program of the README, are what is tested."""
+    ran = subprocess.run([sys.executable, str(top / "checks/examples")], stdin=subprocess.DEVNULL, stdout=subprocess.PIPE, universal_newlines=True)
+    return ran.stdout.strip().split("\n") if ran.returncode else []
+
+
+LOOKS = [
+    ("each name in backticks is there", names_exist),
+    ("the table of definitions is that of the files", definitions_are_listed),
+    ("the table of crates is that of crates.txt", crates_are_listed),
+    ("the README and --version tell the kit", kit_is_told),
+    ("the examples at the calls and the program of the README are tested", examples_are_tests),
+]

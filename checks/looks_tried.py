@@ -1,0 +1,128 @@
+"""Tries looks: each has to find something where a fault is put into a copy of the repository, and no more than before once it is taken out."""
+
+import pathlib
+import shutil
+import tempfile
+
+PASS = "\npub fn fault(table: &Table) { let _ = table.%s(); }\n"
+# For each look its faults: a file, a text in it that stands there at least once, and what is put in its place; where there is no text, the
+# file gets more at its end, and where there is no other text, it is removed.
+FAULTS = {
+    "the word board goes through its passes": [
+        ("crates/ucl_words/src/board.rt", None, PASS % "peek"),
+        ("crates/ucl_words/src/rule.rt", None, PASS % "pass"),
+    ],
+    "the cell board goes through its passes": [
+        ("crates/ucl_pass/src/cell_board.rt", None, PASS % "pass"),
+        ("crates/ucl_pass/src/rule.rt", None, PASS % "close"),
+    ],
+    "passes of the word board do nothing when they are let go": [("crates/ucl_words/src/passes.rt", None, "\nimpl Drop for WordReaderPass {\n")],
+    "passes of the cell board do nothing when they are let go": [("crates/ucl_pass/src/passes.rt", None, "\nimpl<T> std::ops::Drop for Pass<T> {\n")],
+    "a night does nothing when it is let go": [("crates/ucl_runs/src/night.rt", None, "\nimpl Drop for NightEnd {\n")],
+    "the kinds of step of the word board": [
+        ("crates/ucl_words/src/rule.rt", "impl Play<Entry, WordView> for First {", "impl Play<Entry, WordView> for Glance {"),
+        ("crates/ucl_words/src/board.rt", None, "\nimpl Play<Entry, WordView> for Third {\n"),
+    ],
+    "the kinds of step of the cell board": [
+        ("crates/ucl_pass/src/rule.rt", None, "\nimpl Split<View> for Other {\n"),
+        ("crates/ucl_pass/src/cell_board.rt", None, "\nimpl Join<View> for Note {\n"),
+    ],
+    "the rule of the word board is that of one history": [
+        ("crates/ucl_words/src/rule.rt", "ghost holds = { λ _. TableKeepsOneHistory };", "ghost holds = { λ _ _. Unit };"),
+        ("crates/ucl_words/specs/WordRule.antt", "shared : KeepsOneHistory words_after", "shared : KeepsOther words_after"),
+    ],
+    "the rule of the cell board is that of one history": [
+        ("crates/ucl_pass/src/rule.rt", "ghost holds = { CellKeepsOneHistory };", "ghost holds = { HoldsNothing };"),
+        ("crates/ucl_pass/specs/CellRule.antt", "History = KeepsOneHistory words_after", "History = KeepsOneHistory other_words"),
+    ],
+    "a night of the program is on the word board": [
+        ("crates/ucl_command/src/program.rt", "WordBoard::open", "OtherBoard::open"),
+        ("crates/ucl_command/src/night.rt", None, "\nuse ucl_pass::CellBoard;\n"),
+    ],
+    "wrong bodies and controls fit the text": [
+        ("crates/ucl_word/must-fail/finished_before_stale.edit", "old: ", "old: not there "),
+        ("checks/wrong/ucl_word/fault.edit", None, "file: src/rules.rt\nold: fn next_word(\nnew: fn next_word(\n"),
+    ],
+    "each wrong body has a control": [
+        ("checks/controls/ucl_word/finished_before_stale.edit", "", None),
+        ("checks/controls/ucl_word/fault.edit", None, "file: src/rules.rt\n"),
+        ("checks/wrong/ucl_word/finished_before_stale.edit", None, "file: src/rules.rt\n"),
+    ],
+    "each definition's name is defined once": [
+        ("crates/ucl_board/specs/Words.antt", None, "\nabbrev pub refusal_of : ℕ\n"),
+        ("checks/lists/defined_twice", None, "refusal_of: not so\n"),
+    ],
+    "each crate uses what it stands on": [
+        ("crates.txt", "ucl_word: thiserror", "ucl_word: thiserror csv"),
+        ("checks/lists/unused_dependencies", None, "ucl_word thiserror: not so\n"),
+    ],
+    "clauses have at most 100 columns": [
+        ("crates/ucl_words/src/board.rt", None, "    ensures wide { " + "wide × " * 20 + "}\n"),
+        ("crates/ucl_tally/src/lib.rt", None, "    ensures wide { " + "wide × " * 20 + "}\n"),
+        ("checks/lists/wide_lines", None, "crates/ucl_tally/src/lib.rt: 1\n"),
+    ],
+    "each name in backticks is there": [
+        ("README.md", "`whole_is_alone`", "`whole_is_lonely`"),
+        ("README.md", "`bench/compare`", "`bench/compared`"),
+        ("docs/DECISIONS.md", "`ucl_tally`", "`ucl_tale`"),
+    ],
+    "the table of definitions is that of the files": [
+        ("docs/ARCHITECTURE.md", "`ucl_word`: `Migration`", "`ucl_word`: `Migrations`"),
+        ("crates/ucl_word/specs/Fault.antt", None, "abbrev pub fault : ℕ\n"),
+    ],
+    "the table of crates is that of crates.txt": [
+        ("docs/ARCHITECTURE.md", "| `ucl_example` | ", "| `ucl_instance` | "),
+        ("crates.txt", None, "ucl_fault: ucl_word\n"),
+    ],
+    "the README and --version tell the kit": [
+        ("README.md", "rattle-kit-", "rattle-kit-0"),
+        ("crates/ucl_command/src/texts.rt", "rattle-kit-", "rattle-kit-0"),
+    ],
+    "the examples at the calls and the program of the README are tested": [
+        ("README.md", "//! A board in a program of one's own", "//! A board in a program"),
+        ("crates/ucl_example/stdout", "IN PLAY 2", "IN PLAY 3"),
+        ("crates/ucl_live_tests/src/words/examples.rt", "WordBoard::open(", "WordBoard::opens("),
+    ],
+}
+
+
+def faulty(was, text, other):
+    """The text of a file with the fault, None where the fault removes the file."""
+    if text is None:
+        return (was or "") + other
+    return None if other is None else was.replace(text, other)
+
+
+def write(path, text):
+    """Writes a file, or removes it where there is no text."""
+    if text is None:
+        path.unlink()
+    else:
+        path.write_text(text)
+
+
+def finds(top, look, fault):
+    """Whether the look finds more with the fault than without."""
+    file, text, other = fault
+    path = top / file
+    was = path.read_text() if path.exists() else None
+    if was is None and text is not None or text and text not in was:
+        return False
+    before = set(look(top))
+    write(path, faulty(was, text, other))
+    found = set(look(top))
+    write(path, was)
+    return bool(found - before)
+
+
+def try_looks(top, looks):
+    """Tries all looks, and returns how many found each of their faults and how many did not."""
+    counts = [0, 0]
+    with tempfile.TemporaryDirectory(prefix="looks-") as room:
+        copy = pathlib.Path(shutil.copytree(str(top), f"{room}/repository", ignore=shutil.ignore_patterns(".git", "out")))
+        for name, look in looks:
+            missed = [number for number, fault in enumerate(FAULTS.get(name, []), 1) if not finds(copy, look, fault)]
+            fails = bool(missed) or not FAULTS.get(name)
+            counts[fails] += 1
+            print(f"{'FAILED ' if fails else 'ok     '} {name}: {len(FAULTS.get(name, []))} faults" + (f", not found: {missed}" if missed else ""))
+    return counts
