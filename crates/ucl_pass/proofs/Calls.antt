@@ -23,8 +23,8 @@ use Rattle.ucl_board.proofs.Histories.{board_words, word_after}
 use Rattle.ucl_board.proofs.HistoryLaws.{versions}
 use Rattle.ucl_board.proofs.Beginnings.{begins_length, begins_same, begins_through}
 use Rattle.ucl_pass.specs.declared.view.View.{View}
-use Rattle.ucl_pass.specs.Passes.{PassView, IsSound, SeesOn, Continues, AcceptedReport, RefusedReport, SharedReading, Enlistment, FullBoard, Meeting}
-use Rattle.ucl_pass.specs.Views.{pass_view_of, count_of, Takes, kept_of, second_of, note_of, told_by}
+use Rattle.ucl_pass.specs.Passes.{PassView, IsSound, SeesOn, Continues, AcceptedReport, RefusedReport, SharedReading, Enlistment, FullBoard, Hearing}
+use Rattle.ucl_pass.specs.Views.{pass_view_of, count_of, Takes, kept_of, second_of, note_of, IsNote, told_by}
 use Rattle.ucl_pass.specs.Steps.{Goes}
 use Rattle.ucl_pass.specs.CellRule.{words_after}
 use Rattle.ucl_pass.specs.CellSteps.{IsNextBoard, with_one_more, word_looked_at, HasSeenAll, StoresEntry, StoresReporter, LooksOnly, LooksAtMatch, LooksAtEnlisted, LooksAndShows}
@@ -390,12 +390,19 @@ pub number_told : (u v : View) (r : Option ℕ) (n : ℕ) → Enlistment (pass_v
 number_told u v (Some k) n e is told = (e, is ∙ sym told)
 number_told u v None n e is told = tt
 
--- a meeting
+-- what was split off as a note is one
+pub note_is : (a n : View) → n ≡ note_of a → IsNote n
+note_is a n is = subst IsNote (sym is) refl
+
+pub note_seen : (a n : View) → n ≡ note_of a → n.seen ≡ a.seen
+note_seen a n is = ap (λ (v : View). v.seen) is
+
+-- a note was heard
 module _ (a v w : View) (x : List ℕ) (looked : LooksAtEnlisted (told_by v (note_of a)) x x w) where
   own_first : IsPrefix v.seen w.seen
   own_first = All-head (λ l. IsPrefix l w.seen) v.seen (a.seen ∷ v.told) looked.sees.goes.heard
 
-  pub met_says : Meeting (pass_view_of a) (pass_view_of v) (pass_view_of w)
+  pub met_says : Hearing a.seen (pass_view_of v) (pass_view_of w)
   met_says = record {
     met = All-head (λ l. IsPrefix l w.seen) a.seen v.told (All-tail (λ l. IsPrefix l w.seen) v.seen (a.seen ∷ v.told) looked.sees.goes.heard);
     mine = looked.sees.mine;

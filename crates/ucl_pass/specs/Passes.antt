@@ -100,11 +100,15 @@ pub record FullBoard (k m : PassView) : Type 0 where
   pub mine : m.mine ≡ k.mine
   pub shown : m.shown ≡ k.shown
 
--- a meeting: the second pass, k before and m after, has seen all that the first had seen
-pub record Meeting (first k m : PassView) : Type 0 where
-  pub met : IsPrefix first.seen m.seen
+-- a note was heard: the pass, k before and m after, has seen all that the note tells
+pub record Hearing (noted : List Entry) (k m : PassView) : Type 0 where
+  pub met : IsPrefix noted m.seen
   pub mine : m.mine ≡ k.mine
   pub shown : m.shown ≡ k.shown
+
+-- a meeting: the second pass, k before and m after, has seen all that the first had seen
+abbrev pub Meeting : PassView → PassView → PassView → Type 0
+Meeting first k m = Hearing first.seen k m
 
 -- from one moment to another so many events more were reported, whatever their replies
 abbrev pub ReportsMore : (ℕ → Type 0) → ℕ → (ℕ → Type 0) → Type 0

@@ -5,8 +5,8 @@ ghost use Rattle.atomic_table.specs.Seated.{TableId};
 ghost use Rattle.crossbeam_utils.specs.Seq.{cell_view};
 ghost use Rattle.ucl_board.specs.Fixtures.{IsMatch};
 ghost use Rattle.ucl_board.specs.Words.{AreWords};
-ghost use Rattle.ucl_pass.specs.Passes.{Continues, AcceptedReport, RefusedReport, SharedReading, Enlistment, FullBoard, Meeting, opening_pass};
-ghost use Rattle.ucl_pass.specs.Views.{pass_view_of, count_of, kept_of, second_of};
+ghost use Rattle.ucl_pass.specs.Passes.{Continues, AcceptedReport, RefusedReport, SharedReading, Enlistment, FullBoard, Hearing, Meeting, opening_pass};
+ghost use Rattle.ucl_pass.specs.Views.{pass_view_of, count_of, kept_of, second_of, note_of, IsNote};
 ghost use Rattle.ucl_pass.specs.OneHistory.{BoardsOpenFresh};
 ghost use Rattle.ucl_pass.specs.CellRule.{words_after, IsTheRule, IsUpToDate};
 ghost use Rattle.ucl_pass.specs.CellSteps.{ExchangesEntry, ExchangesReporter, IsNextBoard, with_one_more, LooksAtMatch, LooksAtEnlisted, LooksAndShows};
@@ -268,7 +268,32 @@ impl CellBoard {
         self.cell.split_pass::<SecondPass>(seat)
     }
 
-    /// A note of the first is split off and joined to the second, which then loads the words.
+    /// A note of what a seat has seen.
+    pub(crate) fn note_by(&self, seat: &mut Seat) -> Seat
+        requires { seat.old.table_id ≡ self.now }
+        ensures own { seat.new.table_id ≡ seat.old.table_id }
+        ensures unchanged { cell_view seat.new ≡ cell_view seat.old }
+        ensures given { (result.table_id ≡ seat.old.table_id) × (cell_view result ≡ note_of (cell_view seat.old)) × (result.me.1 ≡ []) }
+    {
+        self.cell.split_pass::<Note>(seat)
+    }
+
+    /// A note is joined to a seat, which then loads the words.
+    pub(crate) fn hear_by<R: Wait>(&self, rt: &R, seat: &mut Seat, note: Seat)
+        requires cell { (seat.old.table_id ≡ self.now) × (note.table_id ≡ self.now) }
+        requires acts { IsSome (cell_view seat.old).share }
+        requires note { IsNote (cell_view note) × (note.me.1 ≡ []) }
+        ensures own { seat.new.table_id ≡ seat.old.table_id }
+        ensures always { Continues (pass_view_of (cell_view seat.old)) (pass_view_of (cell_view seat.new)) }
+        ensures heard { Hearing (cell_view note).seen (pass_view_of (cell_view seat.old)) (pass_view_of (cell_view seat.new)) }
+        ensures steps { MeetingSteps (cell_view seat.old) (cell_view seat.new) }
+        ensures up_to_date { IsUpToDate (cell_view seat.new) }
+    {
+        self.cell.join_pass::<Note>(seat, note);
+        self.count(rt, seat);
+    }
+
+    /// The second hears a note of the first.
     pub(crate) fn meet_by<R: Wait>(&self, rt: &R, first: &mut Seat, second: &mut Seat)
         requires cell { (first.old.table_id ≡ self.now) × (second.old.table_id ≡ self.now) }
         requires acts { IsSome (cell_view second.old).share }
@@ -279,8 +304,7 @@ impl CellBoard {
         ensures steps { MeetingSteps (cell_view second.old) (cell_view second.new) }
         ensures up_to_date { IsUpToDate (cell_view second.new) }
     {
-        let note = self.cell.split_pass::<Note>(first);
-        self.cell.join_pass::<Note>(second, note);
-        self.count(rt, second);
+        let note = self.note_by(first);
+        self.hear_by(rt, second, note);
     }
 }

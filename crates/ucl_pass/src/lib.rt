@@ -17,6 +17,6 @@ pub use laws::{
     each_cell_step_is_logged, holders_did_all, last_steps_see_all, steps_come_last, whole_is_alone,
 };
 pub use live_board::LiveBoard;
-pub use passes::{CellReaderPass, CellReporterPass};
+pub use passes::{CellNote, CellReaderPass, CellReporterPass};
 pub use settling::settle;
 pub use view::View;

@@ -1,7 +1,7 @@
 //! The board in one cell is a live board.
 
 ghost use Rattle.std.specs.Prelude.{◌≡◌, ◌+◌, ◌<◌, length, IfOk, IfErr, MatchResult, true, false};
-ghost use Rattle.ucl_pass.specs.Passes.{IsSound, Continues, ReportsMore, AcceptedReport, RefusedReport, SharedReading, split_pass, Enlistment, FullBoard, Meeting, reporter_figures};
+ghost use Rattle.ucl_pass.specs.Passes.{IsSound, Continues, ReportsMore, AcceptedReport, RefusedReport, SharedReading, split_pass, Enlistment, FullBoard, Hearing, Meeting, reporter_figures};
 ghost use Rattle.ucl_pass.specs.Views.{pass_view_of, count_of, kept_of};
 ghost use Rattle.ucl_pass.specs.CellRule.{IsUpToDate};
 ghost use Rattle.ucl_pass.specs.CallSteps.{MeetingSteps, HasCopyOf, CellHasReported, CellReport, CellEnlistment, CellReading};
@@ -9,7 +9,7 @@ ghost use Rattle.ucl_pass.specs.CallSteps.{MeetingSteps, HasCopyOf, CellHasRepor
 use crate::cell_board::CellBoard;
 use crate::errors::TooManyReporters;
 use crate::live_board::LiveBoard;
-use crate::passes::{CellReaderPass, CellReporterPass};
+use crate::passes::{CellNote, CellReaderPass, CellReporterPass};
 use std::sync::Wait;
 use ucl_board::Reading;
 use ucl_word::{Accepted, EventCall, Refusal, ReporterNo};
@@ -23,13 +23,19 @@ impl LiveBoard for CellBoard {
 
     type ReporterPass = CellReporterPass;
 
+    type Note = CellNote;
+
     ghost is_reader = { λ board pass. pass.board ≡ board };
 
     ghost is_reporter = { λ board pass. pass.board ≡ board };
 
+    ghost is_note = { λ board note. note.board ≡ board };
+
     ghost reader = { λ pass. pass_view_of pass.view };
 
     ghost reporter = { λ pass. pass_view_of pass.view };
+
+    ghost noted = { λ note. note.seen };
 
     ghost has_reported = { λ pass. CellHasReported pass.view.own };
 
@@ -158,6 +164,55 @@ impl LiveBoard for CellBoard {
     {
         let reader = &mut first.seat;
         self.meet_by(rt, reader, &mut second.seat);
+    }
+
+    fn note<R: Wait>(&self, _rt: &R, pass: &mut CellReaderPass) -> CellNote
+        requires { pass.old.board ≡ self.now }
+        ensures own { (pass.new.board ≡ self.now) × (result.board ≡ self.now) }
+        ensures sound { IsSound (pass_view_of pass.old.view) }
+        ensures unchanged { pass.new.view ≡ pass.old.view }
+        ensures seen { result.seen ≡ pass.old.view.seen }
+    {
+        let seat = self.note_by(&mut pass.seat);
+        CellNote { seat }
+    }
+
+    fn note_own<R: Wait>(&self, _rt: &R, pass: &mut CellReporterPass) -> CellNote
+        requires { pass.old.board ≡ self.now }
+        ensures own { (pass.new.board ≡ self.now) × (result.board ≡ self.now) }
+        ensures sound { IsSound (pass_view_of pass.old.view) }
+        ensures unchanged { pass.new.view ≡ pass.old.view }
+        ensures seen { result.seen ≡ pass.old.view.seen }
+        ensures reported { ReportsMore (CellHasReported pass.old.view.own) 0 (CellHasReported pass.new.view.own) }
+    {
+        let seat = self.note_by(&mut pass.seat);
+        CellNote { seat }
+    }
+
+    fn hear<R: Wait>(&self, rt: &R, pass: &mut CellReaderPass, note: CellNote)
+        requires { (pass.old.board ≡ self.now) × (note.board ≡ self.now) }
+        ensures own { pass.new.board ≡ self.now }
+        ensures always { Continues (pass_view_of pass.old.view) (pass_view_of pass.new.view) }
+        ensures heard { Hearing note.seen (pass_view_of pass.old.view) (pass_view_of pass.new.view) }
+        ensures acts { count_of pass.new.view ≡ count_of pass.old.view + 1 }
+        ensures steps { MeetingSteps pass.old.view pass.new.view }
+        ensures up_to_date { IsUpToDate pass.new.view }
+    {
+        self.hear_by(rt, &mut pass.seat, note.seat);
+    }
+
+    fn hear_own<R: Wait>(&self, rt: &R, pass: &mut CellReporterPass, note: CellNote)
+        requires { (pass.old.board ≡ self.now) × (note.board ≡ self.now) }
+        ensures own { pass.new.board ≡ self.now }
+        ensures always { Continues (pass_view_of pass.old.view) (pass_view_of pass.new.view) }
+        ensures heard { Hearing note.seen (pass_view_of pass.old.view) (pass_view_of pass.new.view) }
+        ensures reported { ReportsMore (CellHasReported pass.old.view.own) 0 (CellHasReported pass.new.view.own) }
+        ensures acts { count_of pass.new.view ≡ count_of pass.old.view + 1 }
+        ensures steps { MeetingSteps pass.old.view pass.new.view }
+        ensures up_to_date { IsUpToDate pass.new.view }
+    {
+        let reporter = &mut pass.seat;
+        self.hear_by(rt, reporter, note.seat);
     }
 
     fn number_of(pass: &CellReporterPass) -> ReporterNo

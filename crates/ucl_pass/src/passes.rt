@@ -1,10 +1,10 @@
-//! The passes of the cell board.
+//! The passes of the cell board, and its notes.
 
-ghost use Rattle.std.specs.Prelude.{◌≡◌, length};
+ghost use Rattle.std.specs.Prelude.{◌≡◌, [], length};
 ghost use Rattle.crossbeam_utils.specs.Seq.{cell_view};
 ghost use Rattle.ucl_pass.specs.CallSteps.{CellHasReported};
 ghost use Rattle.ucl_pass.specs.Passes.{IsSound};
-ghost use Rattle.ucl_pass.specs.Views.{Pass, pass_view_of};
+ghost use Rattle.ucl_pass.specs.Views.{Pass, Noted, IsNote, pass_view_of};
 
 use crate::rule::Seat;
 use std::marker::Model;
@@ -56,4 +56,19 @@ impl CellReporterPass {
     {
         &self.seat
     }
+}
+
+/// A note of what a pass has seen, which another thread can take in. Contracts see which cell it is of, and the history that the pass had
+/// seen.
+#[derive(Drop)]
+pub struct CellNote {
+    pub(crate) seat: Seat,
+}
+
+impl Model for CellNote {
+    ghost Value = { Noted };
+
+    ghost view = { λ note. record { board = note.seat.table_id; seen = (cell_view note.seat).seen } };
+
+    ghost invariant = { λ note. IsNote (cell_view note.seat) × (note.seat.me.1 ≡ []) };
 }

@@ -8,3 +8,4 @@ pub mod Show
 pub mod Run
 pub mod Telling
 pub mod Headline
+pub mod TellingScreens

@@ -10,7 +10,7 @@ use Rattle.ucl_runs.specs.declared.workers.Shown.{Shown}
 use Rattle.ucl_runs.specs.Gates.{CameTo, Showed, rows_by}
 use Rattle.ucl_runs.specs.Nights.{IsFresh, IsNew, HasEntered, HasShown}
 
-module _ {B R P : Type 0} (live : boards.Ghosts B R P) (board : B) where
+module _ {B R P N : Type 0} (live : boards.Ghosts B R P N) (board : B) where
   -- a reporter's pass of the board that has entered nothing yet
   abbrev pub IsFreshOn : P → Type 0
   IsFreshOn pass = live.is_reporter board pass × IsFresh (live.reporter pass)
@@ -29,7 +29,7 @@ module _ {B R P : Type 0} (live : boards.Ghosts B R P) (board : B) where
   HasShownOn profile before readings roster group end =
       live.is_reader board end.pass × HasShown profile (live.reader end.pass).seen (live.reader before) (live.reader end.pass) readings roster group (option_map string_bytes end.last)
 
-module _ {B R P G : Type 0} (live : boards.Ghosts B R P) (told : gates.Ghosts G) (gate : G) where
+module _ {B R P N G : Type 0} (live : boards.Ghosts B R P N) (told : gates.Ghosts G) (gate : G) where
   -- a reporter told the gate of each of its calls
   abbrev pub HasToldCalls : ℕ → List NightEvent → Type 0
   HasToldCalls reporter rows = CameTo (told.came gate) reporter (rows_by reporter rows)

@@ -12,6 +12,7 @@ mod night;
 mod output;
 mod show;
 mod telling;
+mod telling_screens;
 mod threads;
 mod workers;
 
@@ -23,3 +24,4 @@ pub use night::{NightEnd, night_run, put_night};
 pub use output::put_text;
 pub use show::show_run;
 pub use telling::tell;
+pub use telling_screens::{ToldScreen, report_and_show};

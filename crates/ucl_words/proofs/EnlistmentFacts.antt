@@ -8,7 +8,7 @@ use Rattle.ucl_board.specs.Log.{Access, Enlisted, Taken, step_taken, accesses_in
 use Rattle.ucl_board.proofs.Beginnings.{begins_same, begins_through}
 use Rattle.ucl_steps.specs.Trails.{Follows}
 use Rattle.ucl_pass.specs.declared.view.View.{View}
-use Rattle.ucl_pass.specs.Passes.{SeesOn, Continues, Enlistment, FullBoard, Meeting}
+use Rattle.ucl_pass.specs.Passes.{SeesOn, Continues, Enlistment, FullBoard, Hearing}
 use Rattle.ucl_pass.specs.Views.{pass_view_of, steps_of, count_of, trail_of, Takes, kept_of, second_of, note_of, told_by}
 use Rattle.ucl_pass.specs.CallSteps.{FoundEnlisted, IsOnEnlisted, EnlistSteps, MeetingSteps}
 use Rattle.ucl_pass.proofs.Lists.{none_by_zero}
@@ -17,6 +17,8 @@ use Rattle.ucl_pass.proofs.Calls.{all_more, takes_none, takes_on, takes_count, o
 use Rattle.ucl_words.specs.WordSteps.{LoadsEnlisted, EnlistMissed, EnlistWon}
 use Rattle.ucl_words.specs.WordCalls.{HasTrail, IsSteady, Enlisting, EnlistTries, KeepsTrail}
 use Rattle.ucl_words.proofs.StepRuns.{trail_longer, takes_trail}
+use Rattle.ucl_words.specs.declared.view.WordView.{WordView}
+use Rattle.ucl_words.specs.WordViews.{note_pass, IsNotePass}
 
 -- a step on the enlist word leaves no access
 no_access : (v w : View) (n : ℕ) → Takes v (step_taken (Enlisted n) (length w.seen) None ∷ []) w → trail_of w ≡ trail_of v
@@ -191,7 +193,14 @@ counted_steady v w loads steady =
     let goes = loads.sees.goes in
     record { sound = record { legal = goes.legal; own = goes.own; few = goes.few; acts = goes.acts; alone = goes.alone }; told = goes.told; trail = trail_kept v w steady.trail goes.seen (no_access v w loads.found loads.sees.takes) }
 
--- a meeting: a note of the first was joined to the second, which then loaded the enlist word
+-- what was split off as a note is one
+pub note_is : (a n : WordView) → n ≡ note_pass a → IsNotePass n
+note_is a n is = subst IsNotePass (sym is) refl
+
+pub note_seen : (a n : WordView) → n ≡ note_pass a → n.pass.seen ≡ a.pass.seen
+note_seen a n is = ap (λ (v : WordView). v.pass.seen) is
+
+-- a note was joined to a pass, which then loaded the enlist word
 module _ (a v w : View) (steady : IsSteady v) (loads : LoadsEnlisted (told_by v (note_of a)) w) where
   own_first : IsPrefix v.seen w.seen
   own_first = All-head (λ l. IsPrefix l w.seen) v.seen (a.seen ∷ v.told) loads.sees.goes.heard
@@ -210,7 +219,7 @@ module _ (a v w : View) (steady : IsSteady v) (loads : LoadsEnlisted (told_by v 
   pub met_continues : Continues (pass_view_of v) (pass_view_of w)
   met_continues = let listed = loads.listed in record { sound = met_steady.sound; on = record { seen = own_first; listed = omega arith; share = loads.sees.goes.share }; number = loads.sees.number }
 
-  pub met_says : Meeting (pass_view_of a) (pass_view_of v) (pass_view_of w)
+  pub met_says : Hearing a.seen (pass_view_of v) (pass_view_of w)
   met_says = record {
     met = All-head (λ l. IsPrefix l w.seen) a.seen v.told (All-tail (λ l. IsPrefix l w.seen) v.seen (a.seen ∷ v.told) loads.sees.goes.heard);
     mine = loads.sees.mine;
@@ -220,5 +229,5 @@ module _ (a v w : View) (steady : IsSteady v) (loads : LoadsEnlisted (told_by v 
   pub met_trail : KeepsTrail v w
   met_trail = record { steps = record { steps = step_taken (Enlisted loads.found) (length w.seen) None ∷ []; takes = met_takes; on_enlisted = ((loads.found, (refl, refl)), tt) }; trail = no_access v w loads.found met_takes; whole_trail = met_steady.trail }
 
-pub after_told : (a v n x w : View) → n ≡ note_of a → x ≡ told_by v n → LoadsEnlisted x w → LoadsEnlisted (told_by v (note_of a)) w
-after_told a v n x w note told loads = subst (λ (u : View). LoadsEnlisted u w) (told ∙ ap (told_by v) note) loads
+pub after_told : (a v x w : View) → x ≡ told_by v a → LoadsEnlisted x w → LoadsEnlisted (told_by v (note_of a)) w
+after_told a v x w told loads = subst (λ (u : View). LoadsEnlisted u w) told loads

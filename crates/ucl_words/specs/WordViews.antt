@@ -1,5 +1,5 @@
 -- What contracts see of a pass of the word board; and the view of a new pass, of the first pass, of a pass that another was split off, of a second pass, of a note, and of a pass that took in a note.
-use Rattle.std.specs.Prelude.{ℕ}
+use Rattle.std.specs.Prelude.{◌≡◌, ℕ}
 use Rattle.atomic_table.specs.Seated.{TableId}
 use Rattle.ucl_steps.specs.Protocol.{Doing, nothing_done}
 use Rattle.ucl_pass.specs.declared.view.View.{View}
@@ -35,6 +35,10 @@ second_pass v = record { pass = second_of v.pass; doing = nothing_done }
 
 abbrev pub note_pass : WordView → WordView
 note_pass v = record { pass = note_of v.pass; doing = nothing_done }
+
+-- a note knows a history, and nothing else
+abbrev pub IsNotePass : WordView → Type 0
+IsNotePass v = v ≡ note_pass v
 
 abbrev pub told_pass : WordView → WordView → WordView
 told_pass v note = record { pass = told_by v.pass note.pass; doing = v.doing }

@@ -15,8 +15,9 @@ pub fn words_tell_the_entry()
 
 /// Between any two steps of any threads there is one run of the protocol's machine (`ucl_steps`) from the fresh board, with the history of
 /// the log and the words that are there. What each pass has done and holds is what its callers in that run have done and hold: each of its
-/// finished calls has its reply, and a call under way has taken the steps of the protocol so far. All calls of all passes are linearizable
-/// in real time (Herlihy and Wing), also where two passes never met.
+/// finished calls has its reply, and a call under way has taken the steps of the protocol so far. There are no other calls, and each begins
+/// with its first access and ends with its last. All calls of all passes are linearizable in real time (Herlihy and Wing), also where two
+/// passes never met.
 pub fn boards_are_runs()
     ensures { BoardsAreRuns }
 {}

@@ -11,5 +11,5 @@ mod view;
 
 pub use board::WordBoard;
 pub use laws::{boards_are_runs, each_step_is_logged, words_tell_the_entry};
-pub use passes::{WordReaderPass, WordReporterPass};
+pub use passes::{WordNote, WordReaderPass, WordReporterPass};
 pub use view::WordView;

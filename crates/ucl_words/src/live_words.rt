@@ -2,7 +2,7 @@
 
 ghost use Rattle.std.specs.Prelude.{◌≡◌, ◌+◌, ◌≤◌, length, IfOk, IfErr, MatchResult, Some, None};
 ghost use Rattle.ucl_steps.specs.Trails.{most_loads};
-ghost use Rattle.ucl_pass.specs.Passes.{IsSound, Continues, ReportsMore, AcceptedReport, RefusedReport, SharedReading, split_pass, Enlistment, FullBoard, Meeting, reporter_figures};
+ghost use Rattle.ucl_pass.specs.Passes.{IsSound, Continues, ReportsMore, AcceptedReport, RefusedReport, SharedReading, split_pass, Enlistment, FullBoard, Hearing, Meeting, reporter_figures};
 ghost use Rattle.ucl_pass.specs.Views.{pass_view_of, count_of, trail_of, kept_of};
 ghost use Rattle.ucl_pass.specs.CallSteps.{MeetingSteps, HasCopyOf};
 ghost use Rattle.ucl_words.specs.WordCalls.{ReportSteps, ReadingSteps, EnlistTries, KeepsTrail};
@@ -15,7 +15,7 @@ ghost use Rattle.ucl_steps.specs.declared.step.Call.TheVariants as calls;
 ghost use Rattle.ucl_steps.specs.declared.trace.Reply.TheVariants as replies;
 
 use crate::board::WordBoard;
-use crate::passes::{WordReaderPass, WordReporterPass};
+use crate::passes::{WordNote, WordReaderPass, WordReporterPass};
 use std::sync::Wait;
 use ucl_board::Reading;
 use ucl_pass::{LiveBoard, TooManyReporters};
@@ -27,13 +27,19 @@ impl LiveBoard for WordBoard {
 
     type ReporterPass = WordReporterPass;
 
+    type Note = WordNote;
+
     ghost is_reader = { λ board pass. pass.board ≡ board };
 
     ghost is_reporter = { λ board pass. pass.board ≡ board };
 
+    ghost is_note = { λ board note. note.board ≡ board };
+
     ghost reader = { λ pass. pass_view_of pass.view };
 
     ghost reporter = { λ pass. pass_view_of pass.view };
+
+    ghost noted = { λ note. note.seen };
 
     ghost has_reported = { λ pass. WordHasReported pass.doing };
 
@@ -165,6 +171,58 @@ impl LiveBoard for WordBoard {
         ensures stands { Stands second.new.seat (view_of second.new) }
     {
         self.meet_reader_now(first, second);
+    }
+
+    fn note<R: Wait>(&self, _rt: &R, pass: &mut WordReaderPass) -> WordNote
+        requires { pass.old.board ≡ self.now }
+        ensures own { (pass.new.board ≡ self.now) × (result.board ≡ self.now) }
+        ensures sound { IsSound (pass_view_of pass.old.view) }
+        ensures unchanged { pass.new ≡ pass.old }
+        ensures seen { result.seen ≡ pass.old.view.seen }
+    {
+        self.note_now(pass)
+    }
+
+    fn note_own<R: Wait>(&self, _rt: &R, pass: &mut WordReporterPass) -> WordNote
+        requires { pass.old.board ≡ self.now }
+        ensures own { (pass.new.board ≡ self.now) × (result.board ≡ self.now) }
+        ensures sound { IsSound (pass_view_of pass.old.view) }
+        ensures unchanged { pass.new ≡ pass.old }
+        ensures seen { result.seen ≡ pass.old.view.seen }
+        ensures reported { ReportsMore (WordHasReported pass.old.doing) 0 (WordHasReported pass.new.doing) }
+    {
+        self.note_own_now(pass)
+    }
+
+    fn hear<R: Wait>(&self, _rt: &R, pass: &mut WordReaderPass, note: WordNote)
+        requires { (pass.old.board ≡ self.now) × (note.board ≡ self.now) }
+        ensures own { pass.new.board ≡ self.now }
+        ensures seat { pass.new.seat ≡ pass.old.seat }
+        ensures always { Continues (pass_view_of pass.old.view) (pass_view_of pass.new.view) }
+        ensures heard { Hearing note.seen (pass_view_of pass.old.view) (pass_view_of pass.new.view) }
+        ensures trail { KeepsTrail pass.old.view pass.new.view }
+        ensures does { pass.new.doing ≡ pass.old.doing }
+        ensures steps { MeetingSteps pass.old.view pass.new.view }
+        ensures taken { count_of pass.new.view ≡ count_of pass.old.view + 1 }
+        ensures stands { Stands pass.new.seat (view_of pass.new) }
+    {
+        self.hear_now(pass, note);
+    }
+
+    fn hear_own<R: Wait>(&self, _rt: &R, pass: &mut WordReporterPass, note: WordNote)
+        requires { (pass.old.board ≡ self.now) × (note.board ≡ self.now) }
+        ensures own { pass.new.board ≡ self.now }
+        ensures seat { pass.new.seat ≡ pass.old.seat }
+        ensures always { Continues (pass_view_of pass.old.view) (pass_view_of pass.new.view) }
+        ensures heard { Hearing note.seen (pass_view_of pass.old.view) (pass_view_of pass.new.view) }
+        ensures reported { ReportsMore (WordHasReported pass.old.doing) 0 (WordHasReported pass.new.doing) }
+        ensures trail { KeepsTrail pass.old.view pass.new.view }
+        ensures does { pass.new.doing ≡ pass.old.doing }
+        ensures steps { MeetingSteps pass.old.view pass.new.view }
+        ensures taken { count_of pass.new.view ≡ count_of pass.old.view + 1 }
+        ensures stands { Stands pass.new.seat (view_of pass.new) }
+    {
+        self.hear_own_now(pass, note);
     }
 
     fn number_of(pass: &WordReporterPass) -> ReporterNo

@@ -1,10 +1,11 @@
-//! The passes of the word board.
+//! The passes of the word board, and its notes.
 
-ghost use Rattle.std.specs.Prelude.{◌≡◌, length};
+ghost use Rattle.std.specs.Prelude.{◌≡◌, [], length};
 ghost use Rattle.ucl_steps.specs.Protocol.{Nothing};
 ghost use Rattle.ucl_words.specs.WordCalls.{IsSteady};
 ghost use Rattle.ucl_words.specs.WordDoings.{WordHasReported};
-ghost use Rattle.ucl_words.specs.WordViews.{WordPass, pass_of};
+ghost use Rattle.ucl_words.specs.WordViews.{WordPass, IsNotePass, pass_of};
+ghost use Rattle.ucl_pass.specs.Views.{Noted};
 
 use crate::rule::Seat;
 use std::marker::Model;
@@ -56,4 +57,19 @@ impl WordReporterPass {
     {
         &self.seat
     }
+}
+
+/// A note of what a pass has seen, which another thread can take in. Contracts see which table it is of, and the history that the pass had
+/// seen.
+#[derive(Drop)]
+pub struct WordNote {
+    pub(crate) seat: Seat,
+}
+
+impl Model for WordNote {
+    ghost Value = { Noted };
+
+    ghost view = { λ note. record { board = note.seat.table_id; seen = note.seat.me.0.pass.seen } };
+
+    ghost invariant = { λ note. IsNotePass note.seat.me.0 × (note.seat.me.1 ≡ []) };
 }

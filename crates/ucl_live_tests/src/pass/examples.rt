@@ -92,6 +92,50 @@ fn meet_reader(rt: HostRuntime) -> Result<(), Fail> {
 }
 
 #[test]
+fn note(rt: HostRuntime) -> Result<(), Fail> {
+    let (board, mut reader) = CellBoard::open(&rt, rt.alloc())?;
+    let mut screen = board.split(&rt, &mut reader);
+    let note = board.note(&rt, &mut reader);
+    board.hear(&rt, &mut screen, note);
+    assert_eq!(rt; board.read(&rt, &mut screen).version, 0);
+    Ok(())
+}
+
+#[test]
+fn note_own(rt: HostRuntime) -> Result<(), Fail> {
+    let (board, mut pass) = CellBoard::open(&rt, rt.alloc())?;
+    let mut screen = board.split(&rt, &mut pass);
+    let mut reporter = board.enlist(&rt, pass).ok().ok_or("no number")?;
+    let note = board.note_own(&rt, &mut reporter);
+    board.hear(&rt, &mut screen, note);
+    assert_eq!(rt; board.read(&rt, &mut screen).version, 0);
+    Ok(())
+}
+
+#[test]
+fn hear(rt: HostRuntime) -> Result<(), Fail> {
+    let (board, mut pass) = CellBoard::open(&rt, rt.alloc())?;
+    let mut screen = board.split(&rt, &mut pass);
+    let mut reporter = board.enlist(&rt, pass).ok().ok_or("no number")?;
+    let note = board.note_own(&rt, &mut reporter);
+    board.hear(&rt, &mut screen, note);
+    let reading = board.read(&rt, &mut screen);
+    assert_eq!(rt; board.read_own(&rt, &mut reporter), reading);
+    Ok(())
+}
+
+#[test]
+fn hear_own(rt: HostRuntime) -> Result<(), Fail> {
+    let (board, mut pass) = CellBoard::open(&rt, rt.alloc())?;
+    let mut reader = board.split(&rt, &mut pass);
+    let mut reporter = board.enlist(&rt, pass).ok().ok_or("no number")?;
+    let note = board.note(&rt, &mut reader);
+    board.hear_own(&rt, &mut reporter, note);
+    assert_eq!(rt; board.read_own(&rt, &mut reporter).version, 0);
+    Ok(())
+}
+
+#[test]
 fn number_of(rt: HostRuntime) -> Result<(), Fail> {
     let (board, mut pass) = CellBoard::open(&rt, rt.alloc())?;
     let other = board.split(&rt, &mut pass);

@@ -91,3 +91,47 @@ fn meet_reader_now(rt: HostRuntime) -> Result<(), Fail> {
     assert_eq!(rt; board.read_own_now(&mut reporter).version, 0);
     Ok(())
 }
+
+#[test]
+fn note_now(rt: HostRuntime) -> Result<(), Fail> {
+    let (board, mut reader) = WordBoard::open(&rt, rt.alloc())?;
+    let mut screen = board.split_now(&mut reader);
+    let note = board.note_now(&mut reader);
+    board.hear_now(&mut screen, note);
+    assert_eq!(rt; board.read_now(&mut screen).version, 0);
+    Ok(())
+}
+
+#[test]
+fn note_own_now(rt: HostRuntime) -> Result<(), Fail> {
+    let (board, mut pass) = WordBoard::open(&rt, rt.alloc())?;
+    let mut screen = board.split_now(&mut pass);
+    let mut reporter = board.enlist_now(pass).ok().ok_or("no number")?;
+    let note = board.note_own_now(&mut reporter);
+    board.hear_now(&mut screen, note);
+    assert_eq!(rt; board.read_now(&mut screen).version, 0);
+    Ok(())
+}
+
+#[test]
+fn hear_now(rt: HostRuntime) -> Result<(), Fail> {
+    let (board, mut pass) = WordBoard::open(&rt, rt.alloc())?;
+    let mut screen = board.split_now(&mut pass);
+    let mut reporter = board.enlist_now(pass).ok().ok_or("no number")?;
+    let note = board.note_own_now(&mut reporter);
+    board.hear_now(&mut screen, note);
+    let reading = board.read_now(&mut screen);
+    assert_eq!(rt; board.read_own_now(&mut reporter), reading);
+    Ok(())
+}
+
+#[test]
+fn hear_own_now(rt: HostRuntime) -> Result<(), Fail> {
+    let (board, mut pass) = WordBoard::open(&rt, rt.alloc())?;
+    let mut reader = board.split_now(&mut pass);
+    let mut reporter = board.enlist_now(pass).ok().ok_or("no number")?;
+    let note = board.note_now(&mut reader);
+    board.hear_own_now(&mut reporter, note);
+    assert_eq!(rt; board.read_own_now(&mut reporter).version, 0);
+    Ok(())
+}

@@ -1,63 +1,14 @@
-use Rattle.std.proofs.Common.{rules, ap, sym, ◌∙◌, subst, arith}
-use Rattle.std.specs.Prelude.{IsSome}
-use Rattle.atomic_table.specs.Table.{Joins}
-use Rattle.ucl_words.specs.declared.view.WordView.{WordView}
-use Rattle.ucl_words.specs.WordViews.{new_pass, told_pass}
-use Rattle.ucl_words.specs.WordRule.{TableKeepsOneHistory}
-use Rattle.ucl_words.proofs.Moves.{notes, joins}
-use Rattle.ucl_words.proofs.EnlistmentFacts.{met_steady, met_continues, met_says, met_trail, met_steps, after_told}
+use Rattle.std.proofs.Common.{subst}
+use Rattle.std.specs.Prelude.{List}
+use Rattle.ucl_board.specs.declared.entry.Entry.{Entry}
+use Rattle.ucl_pass.specs.Passes.{Hearing}
+use Rattle.ucl_pass.specs.Views.{pass_view_of}
+use Rattle.ucl_words.proofs.EnlistmentFacts.{note_is, note_seen}
 use Rattle.ucl_words.proofs.board.WordBoard.meet_by.Goals as goal
 
-pub split_seat-note-requires : goal.split_seat-note-requires
-split_seat-note-requires c = (search rules, omega (arith, c.self.invariant.0), notes _ _)
-
-pub join_seat-requires : goal.join_seat-requires
-join_seat-requires c = (
-  search rules,
-  search rules,
-  ap (λ m. m.1) c.split_seat-note.ensures.4,
-  omega (arith, c.self.invariant.0),
-  subst (λ (n : WordView). Joins TableKeepsOneHistory c.args.second.now.id c.args.second.now.me.0 c.split_seat-note.result.id n (told_pass c.args.second.now.me.0 n) new_pass) (sym (ap (λ m. m.0) c.split_seat-note.ensures.4))
-      (joins _ _ _ c.args.first.now.me.0),
-)
-
-pub returns-clause-steady : goal.returns-clause-steady
-returns-clause-steady c =
-    let a = c.args.first.now.me.0.pass in
-    let v = c.args.second.now.me.0.pass in
-    let w = c.count.new.seat.me.0.pass in
-    met_steady a v w c.requires.steady (after_told a v c.split_seat-note.result.me.0.pass c.join_seat.new.seat.me.0.pass w (ap (λ m. m.0.pass) c.split_seat-note.ensures.4) (ap (λ m. m.0.pass) c.join_seat.ensures.2) c.count.ensures.loads)
-
-pub returns-clause-always : goal.returns-clause-always
-returns-clause-always c =
-    let a = c.args.first.now.me.0.pass in
-    let v = c.args.second.now.me.0.pass in
-    let w = c.count.new.seat.me.0.pass in
-    met_continues a v w c.requires.steady (after_told a v c.split_seat-note.result.me.0.pass c.join_seat.new.seat.me.0.pass w (ap (λ m. m.0.pass) c.split_seat-note.ensures.4) (ap (λ m. m.0.pass) c.join_seat.ensures.2) c.count.ensures.loads)
+pub hear_by-requires-clause-note : goal.hear_by-requires-clause-note
+hear_by-requires-clause-note c = (note_is c.args.first.now.me.0 _ c.note_by-note.ensures.given.0, c.note_by-note.ensures.given.1)
 
 pub returns-clause-meeting : goal.returns-clause-meeting
 returns-clause-meeting c =
-    let a = c.args.first.now.me.0.pass in
-    let v = c.args.second.now.me.0.pass in
-    let w = c.count.new.seat.me.0.pass in
-    met_says a v w c.requires.steady (after_told a v c.split_seat-note.result.me.0.pass c.join_seat.new.seat.me.0.pass w (ap (λ m. m.0.pass) c.split_seat-note.ensures.4) (ap (λ m. m.0.pass) c.join_seat.ensures.2) c.count.ensures.loads)
-
-pub returns-clause-trail : goal.returns-clause-trail
-returns-clause-trail c =
-    let a = c.args.first.now.me.0.pass in
-    let v = c.args.second.now.me.0.pass in
-    let w = c.count.new.seat.me.0.pass in
-    met_trail a v w c.requires.steady (after_told a v c.split_seat-note.result.me.0.pass c.join_seat.new.seat.me.0.pass w (ap (λ m. m.0.pass) c.split_seat-note.ensures.4) (ap (λ m. m.0.pass) c.join_seat.ensures.2) c.count.ensures.loads)
-
-pub returns-clause-steps : goal.returns-clause-steps
-returns-clause-steps c =
-    let a = c.args.first.now.me.0.pass in
-    let v = c.args.second.now.me.0.pass in
-    let w = c.count.new.seat.me.0.pass in
-    met_steps a v w c.requires.steady (after_told a v c.split_seat-note.result.me.0.pass c.join_seat.new.seat.me.0.pass w (ap (λ m. m.0.pass) c.split_seat-note.ensures.4) (ap (λ m. m.0.pass) c.join_seat.ensures.2) c.count.ensures.loads)
-
-pub returns-clause-does : goal.returns-clause-does
-returns-clause-does c = c.count.ensures.does ∙ ap (λ m. m.0.doing) c.join_seat.ensures.2
-
-pub count-requires-clause-acts : goal.count-requires-clause-acts
-count-requires-clause-acts c = subst (λ (u : WordView). IsSome u.pass.share) (sym (ap (λ m. m.0) c.join_seat.ensures.2)) c.requires.steady.sound.acts
+    subst (λ (l : List Entry). Hearing l (pass_view_of c.args.second.now.me.0.pass) (pass_view_of c.hear_by.new.seat.me.0.pass)) (note_seen c.args.first.now.me.0 _ c.note_by-note.ensures.given.0) c.hear_by.ensures.heard

@@ -1,0 +1,60 @@
+use Rattle.std.proofs.Common.{rules, ap, sym, ◌∙◌, subst, arith}
+use Rattle.std.specs.Prelude.{IsSome}
+use Rattle.atomic_table.specs.Table.{Joins}
+use Rattle.ucl_words.specs.declared.view.WordView.{WordView}
+use Rattle.ucl_words.specs.WordViews.{new_pass, told_pass}
+use Rattle.ucl_words.specs.WordRule.{TableKeepsOneHistory}
+use Rattle.ucl_words.proofs.Moves.{joins}
+use Rattle.ucl_words.proofs.EnlistmentFacts.{met_steady, met_continues, met_says, met_trail, met_steps, after_told}
+use Rattle.ucl_words.proofs.board.WordBoard.hear_by.Goals as goal
+
+pub join_seat-requires : goal.join_seat-requires
+join_seat-requires c = (
+  search rules,
+  search rules,
+  c.requires.note.1,
+  omega (arith, c.self.invariant.0),
+  subst (λ (n : WordView). Joins TableKeepsOneHistory c.args.seat.now.id c.args.seat.now.me.0 c.args.note.id n (told_pass c.args.seat.now.me.0 n) new_pass) (sym c.requires.note.0)
+      (joins _ _ _ c.args.note.me.0),
+)
+
+pub returns-clause-steady : goal.returns-clause-steady
+returns-clause-steady c =
+    let a = c.args.note.me.0.pass in
+    let v = c.args.seat.now.me.0.pass in
+    let w = c.count.new.seat.me.0.pass in
+    met_steady a v w c.requires.steady (after_told a v c.join_seat.new.seat.me.0.pass w (ap (λ m. m.0.pass) c.join_seat.ensures.2) c.count.ensures.loads)
+
+pub returns-clause-always : goal.returns-clause-always
+returns-clause-always c =
+    let a = c.args.note.me.0.pass in
+    let v = c.args.seat.now.me.0.pass in
+    let w = c.count.new.seat.me.0.pass in
+    met_continues a v w c.requires.steady (after_told a v c.join_seat.new.seat.me.0.pass w (ap (λ m. m.0.pass) c.join_seat.ensures.2) c.count.ensures.loads)
+
+pub returns-clause-heard : goal.returns-clause-heard
+returns-clause-heard c =
+    let a = c.args.note.me.0.pass in
+    let v = c.args.seat.now.me.0.pass in
+    let w = c.count.new.seat.me.0.pass in
+    met_says a v w c.requires.steady (after_told a v c.join_seat.new.seat.me.0.pass w (ap (λ m. m.0.pass) c.join_seat.ensures.2) c.count.ensures.loads)
+
+pub returns-clause-trail : goal.returns-clause-trail
+returns-clause-trail c =
+    let a = c.args.note.me.0.pass in
+    let v = c.args.seat.now.me.0.pass in
+    let w = c.count.new.seat.me.0.pass in
+    met_trail a v w c.requires.steady (after_told a v c.join_seat.new.seat.me.0.pass w (ap (λ m. m.0.pass) c.join_seat.ensures.2) c.count.ensures.loads)
+
+pub returns-clause-steps : goal.returns-clause-steps
+returns-clause-steps c =
+    let a = c.args.note.me.0.pass in
+    let v = c.args.seat.now.me.0.pass in
+    let w = c.count.new.seat.me.0.pass in
+    met_steps a v w c.requires.steady (after_told a v c.join_seat.new.seat.me.0.pass w (ap (λ m. m.0.pass) c.join_seat.ensures.2) c.count.ensures.loads)
+
+pub returns-clause-does : goal.returns-clause-does
+returns-clause-does c = c.count.ensures.does ∙ ap (λ m. m.0.doing) c.join_seat.ensures.2
+
+pub count-requires-clause-acts : goal.count-requires-clause-acts
+count-requires-clause-acts c = subst (λ (u : WordView). IsSome u.pass.share) (sym (ap (λ m. m.0) c.join_seat.ensures.2)) c.requires.steady.sound.acts

@@ -1,0 +1,12 @@
+use Rattle.std.proofs.Common.{ap, sym, ◌∙◌, arith}
+use Rattle.ucl_words.proofs.Moves.{notes}
+use Rattle.ucl_words.proofs.board.WordBoard.note_by.Goals as goal
+
+pub split_seat-requires : goal.split_seat-requires
+split_seat-requires c = (c.requires.table ∙ sym c.self.view_is, omega (arith, c.self.invariant.0), notes c.args.seat.now.id c.args.seat.now.me.0)
+
+pub returns-clause-unchanged : goal.returns-clause-unchanged
+returns-clause-unchanged c = ap (λ m. m.0) c.split_seat.ensures.2
+
+pub returns-clause-given : goal.returns-clause-given
+returns-clause-given c = (ap (λ m. m.0) c.split_seat.ensures.4, ap (λ m. m.1) c.split_seat.ensures.4)
