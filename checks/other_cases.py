@@ -13,6 +13,7 @@ from texts import NOTHING, Exactly, Has, differs, lines
 
 TOP = pathlib.Path(__file__).resolve().parent.parent
 NIGHT = TOP / "crates/ucl_night/out/ucl_night"
+LIVE = TOP / "crates/ucl_live/out/ucl_live"
 EXAMPLES = TOP / "examples"
 SEASON = EXAMPLES / "season_2021_22"
 # A user of whom no process is running, for a limit on their number.
@@ -132,6 +133,17 @@ def ordered(ending, *words):
     fed = ran([NIGHT, "feed"], input=script).stdout
     screen = b"".join((EXAMPLES / f"away_goals_night.{ending}").read_bytes().splitlines(True)[-6:])
     return ends(0, Exactly(screen), NOTHING, [NIGHT, "show", *words], input=plain_cases.club_rows(script) + plain_cases.word_rows(fed))
+
+
+def through_a_pipe():
+    """Two writers share an evening by a named pipe, and a reader follows the answers."""
+    return ends(0, Exactly((EXAMPLES / "evening.expected").read_bytes()), NOTHING, [EXAMPLES / "evening"])
+
+
+def little_for_evening():
+    """An evening needs little memory."""
+    script = (EXAMPLES / "one_goal.csv").read_bytes()
+    return ends(0, lines("5 ok 1 1 1", "6 ok 1 2 2"), NOTHING, [LIVE], input=script, preexec_fn=within(12_000 << 10))
 
 
 def matchdays():
@@ -295,6 +307,9 @@ CASES = [
     Other("a build of what has changed", proves_what_changed, []),
     Other("the first look in the README", typed),
     Other("the matchdays of group A", matchdays),
+    Other("an evening through a named pipe", through_a_pipe, ["ucl_live"]),
+    Other("evenings", lambda: well("checks/evenings"), ["ucl_live"]),
+    Other("an evening in little memory", little_for_evening, ["ucl_live"]),
     Other("the examples of the help", examples_of_help),
     Other("the events in the help", events_of_help),
     Other("a screen by away goals in a tie", lambda: ordered("away_in_tie", "--order", "away-in-tie")),

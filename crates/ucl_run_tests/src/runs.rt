@@ -2,7 +2,6 @@
 
 mod devices;
 mod nights;
-mod told;
 
 use crate::joined;
 use devices::{Cut, Full, fed, has_refused, has_stopped, has_written, shown};

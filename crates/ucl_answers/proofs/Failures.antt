@@ -1,0 +1,200 @@
+-- What is left where an evening fails.
+use Rattle.std.proofs.Common.{◌≡◌, ℕ, ◌+◌, ◌-◌, ◌^◌, ◌≤◌, ◌<◌, Bool, List, [], ◌∷◌, ◌++◌, length, take, drop, get_or, Option, Some, refl, sym, ap, ◌∙◌, subst, append_assoc, append-nil}
+use Rattle.std.proofs.lemmas.List.{take-append-drop, take_more}
+use Rattle.std.specs.Prelude.{Result, Ok, Err, IfErr, IfOk, OnOk}
+use Rattle.std.specs.Io.KnownBytes.{Appends}
+use Rattle.ucl_screen.proofs.Moves.{appends-none}
+use Rattle.ucl_screen.specs.declared.fault.InputFault.{InputFault}
+use Rattle.ucl_runs.specs.declared.fault.RunFault.{RunFault}
+use Rattle.ucl_runs.specs.declared.fault.RunFault.TheVariants.{Input, OutOfMemory, WriteFailed, NotOnDuty, NoThread, TooManyReporters, Strangers}
+use Rattle.ucl_runs.specs.Run.{IsStopped}
+use Rattle.ucl_answers.specs.Lines.{ended_lines}
+use Rattle.ucl_answers.specs.Output.{FailsToPut, HasPut, Waiting}
+use Rattle.ucl_answers.specs.Rows.{said_on}
+use Rattle.ucl_answers.specs.Text.{Evening, answer, next}
+use Rattle.ucl_answers.specs.Stepping.{IsRefused, LineAsks, Moment, answers_to, ended_at, last_answers, missing_at, moment_after}
+use Rattle.ucl_answers.specs.Taking.{FailsToEnd, FailsToGive, FailsToTake, GaveBefore, LeavesLine}
+use Rattle.ucl_answers.proofs.Moments.{answers-to-append, answers-to-none, end-answers, end-evening, moment-append, moment-none}
+use Rattle.ucl_answers.proofs.Puts.{all_out, put_nothing, put_stopped, put_then, stopped_more}
+use Rattle.ucl_answers.proofs.Silence.{missing-last, refused-missing, shut-before, stays-refused}
+
+-- ---- a byte
+
+-- a line that ends was not answered
+pub line-fails : (m : Moment) (c : ℕ) (a b : Waiting) (failed : Bool) (x y : Option (List ℕ)) (f : RunFault) → c ≡ 10 → a.out ≤ 2 ^ 64 - 1
+    → FailsToPut a b failed x y (answer m.evening (said_on m.evening.row m.begun)) (LineAsks m) (IsRefused (next m.evening (said_on m.evening.row m.begun))) f
+    → FailsToTake m (c ∷ []) a b failed x y f
+line-fails m c a b failed x y (WriteFailed written) k bound s = rw (end-answers m c k) s
+line-fails m c a b failed x y OutOfMemory k bound s = record {
+  front = [];
+  more = [];
+  parts = rw k refl;
+  put = rw (s.0, s.1, answers-to-none m) (put_nothing a x bound);
+  asks = subst (λ (n : Moment). LineAsks n) (sym (moment-none m)) s.2;
+}
+line-fails m c a b failed x y (Input fault) k bound s = (rw (s.0, s.1) (put_nothing a x bound), ap (λ (e : Evening). e.stage) (end-evening m c k) ∙ s.2)
+line-fails m c a b failed x y (NotOnDuty row) k bound s = absurd s
+line-fails m c a b failed x y NoThread k bound s = absurd s
+line-fails m c a b failed x y TooManyReporters k bound s = absurd s
+line-fails m c a b failed x y (Strangers version) k bound s = absurd s
+
+-- ---- bytes
+
+parts-at : (bytes : List ℕ) (i : ℕ) → i < length bytes → bytes ≡ (take i bytes ++ get_or bytes i 0 ∷ []) ++ drop (i + 1) bytes
+parts-at bytes i h = sym (take-append-drop (i + 1) bytes) ∙ ap (λ (l : List ℕ). l ++ drop (i + 1) bytes) (take_more bytes i 0 h)
+
+-- the answers to one more byte are a part of the answers to all
+within : (m : Moment) (i : ℕ) (bytes : List ℕ) → i < length bytes
+    → (rest : List ℕ) × (answers_to m bytes ≡ (answers_to m (take i bytes) ++ answers_to (moment_after m (take i bytes)) (get_or bytes i 0 ∷ [])) ++ rest)
+within m i bytes h =
+    let front = take i bytes ++ get_or bytes i 0 ∷ [] in (
+      answers_to (moment_after m front) (drop (i + 1) bytes),
+      ap (answers_to m) (parts-at bytes i h) ∙ answers-to-append m front (drop (i + 1) bytes)
+          ∙ ap (λ (l : List ℕ). l ++ answers_to (moment_after m front) (drop (i + 1) bytes)) (answers-to-append m (take i bytes) (get_or bytes i 0 ∷ [])),
+    )
+
+refused-on : (m : Moment) (xs ys : List ℕ) (fault : InputFault) → IsRefused (moment_after m xs).evening fault → IsRefused (moment_after m (xs ++ ys)).evening fault
+refused-on m xs ys fault h =
+    let n = moment_after m xs in
+    ap (λ (k : Moment). k.evening.stage) (moment-append m xs ys) ∙ stays-refused n.evening (ended_lines n.begun ys) fault h
+
+-- a byte was not taken, after those before it
+pub take-fails : (m : Moment) (i : ℕ) (bytes : List ℕ) (a b after : Waiting) (failed : Bool) (x y z : Option (List ℕ)) (f : RunFault) → i < length bytes
+    → HasPut a b x y (answers_to m (take i bytes)) → FailsToTake (moment_after m (take i bytes)) (get_or bytes i 0 ∷ []) b after failed y z f → FailsToTake m bytes a after failed x z f
+take-fails m i bytes a b after failed x y z (WriteFailed written) h put s =
+    let w = within m i bytes h in
+    let parts = put_stopped a b failed x y z (answers_to m (take i bytes)) (answers_to (moment_after m (take i bytes)) (get_or bytes i 0 ∷ [])) (WriteFailed written) put s in
+    stopped_more a.out failed x z a.held (answers_to m (take i bytes) ++ answers_to (moment_after m (take i bytes)) (get_or bytes i 0 ∷ [])) w.0 (answers_to m bytes) (WriteFailed written) (sym w.1) parts
+take-fails m i bytes a b after failed x y z OutOfMemory h put s = record {
+  front = take i bytes ++ s.front;
+  more = s.more ++ drop (i + 1) bytes;
+  parts = parts-at bytes i h ∙ ap (λ (l : List ℕ). (take i bytes ++ l) ++ drop (i + 1) bytes) s.parts ∙ ap (λ (l : List ℕ). l ++ drop (i + 1) bytes) (sym (append_assoc (take i bytes) s.front (10 ∷ s.more))) ∙ append_assoc (take i bytes ++ s.front) (10 ∷ s.more) (drop (i + 1) bytes);
+  put = rw (answers-to-append m (take i bytes) s.front) (put_then a b after x y z (answers_to m (take i bytes)) (answers_to (moment_after m (take i bytes)) s.front) put s.put);
+  asks = subst (λ (n : Moment). LineAsks n) (sym (moment-append m (take i bytes) s.front)) s.asks;
+}
+take-fails m i bytes a b after failed x y z (Input fault) h put s =
+    let byte = get_or bytes i 0 ∷ [] in
+    let none : answers_to m (take i bytes) ≡ [] = shut-before m (take i bytes) byte fault s.1 in
+    let there : IsRefused (moment_after m (take i bytes ++ byte)).evening fault = ap (λ (k : Moment). k.evening.stage) (moment-append m (take i bytes) byte) ∙ s.1 in
+    let whole = refused-on m (take i bytes ++ byte) (drop (i + 1) bytes) fault there in
+    (put_then a b after x y z [] [] (rw none at put) s.0, ap (λ (l : List ℕ). (moment_after m l).evening.stage) (parts-at bytes i h) ∙ whole)
+take-fails m i bytes a b after failed x y z (NotOnDuty row) h put s = absurd s
+take-fails m i bytes a b after failed x y z NoThread h put s = absurd s
+take-fails m i bytes a b after failed x y z TooManyReporters h put s = absurd s
+take-fails m i bytes a b after failed x y z (Strangers version) h put s = absurd s
+
+-- ---- bytes, and what waits given to the sink
+
+nil-first : (xs ys : List ℕ) → xs ++ ys ≡ [] → xs ≡ []
+nil-first [] ys h = refl
+nil-first (x ∷ xs) ys h = cc
+
+-- nothing was put where nothing waited: nothing went out
+pub none-out : (a b : Waiting) (x y : Option (List ℕ)) (t : List ℕ) → HasPut a b x y t → a.held ≡ [] → t ≡ [] → Appends x y []
+none-out a b x y t p none empty =
+    let e : p.given ≡ [] = nil-first p.given b.held (p.rest ∙ rw (none, empty) refl) in subst (Appends x y) e p.went
+
+-- the sink failed when all was to go out
+pub flush-stopped : (a b : Waiting) (failed : Bool) (x y z : Option (List ℕ)) (t : List ℕ) (f : RunFault) → HasPut a b x y t → a.held ≡ [] → IsStopped b.out failed y z b.held f
+    → IsStopped a.out failed x z t f
+flush-stopped a b failed x y z t f p none s =
+    let whole = put_stopped a b failed x y z t [] f p (rw (append-nil b.held) s) in
+    rw (none, append-nil t) at whole
+
+stopped-give : (m : Moment) (bytes : List ℕ) (out : ℕ) (failed : Bool) (x z : Option (List ℕ)) (f : RunFault) → IsStopped out failed x z (answers_to m bytes) f → FailsToGive m bytes out failed x z f
+stopped-give m bytes out failed x z (WriteFailed written) s = s
+stopped-give m bytes out failed x z OutOfMemory s = absurd s
+stopped-give m bytes out failed x z (Input fault) s = absurd s
+stopped-give m bytes out failed x z (NotOnDuty row) s = absurd s
+stopped-give m bytes out failed x z NoThread s = absurd s
+stopped-give m bytes out failed x z TooManyReporters s = absurd s
+stopped-give m bytes out failed x z (Strangers version) s = absurd s
+
+-- it failed in the answers to all bytes
+pub give-stopped : (m : Moment) (bytes : List ℕ) (a b : Waiting) (failed : Bool) (x y z : Option (List ℕ)) (f : RunFault) → HasPut a b x y (answers_to m bytes) → a.held ≡ []
+    → IsStopped b.out failed y z b.held f → FailsToGive m bytes a.out failed x z f
+give-stopped m bytes a b failed x y z f p none s = stopped-give m bytes a.out failed x z f (flush-stopped a b failed x y z (answers_to m bytes) f p none s)
+
+-- it failed in the answers before a line for which there was no memory
+pub before-stopped : (m : Moment) (bytes : List ℕ) (a b : Waiting) (failed : Bool) (x y z : Option (List ℕ)) (f : RunFault) → LeavesLine m bytes a b x y → a.held ≡ []
+    → IsStopped b.out failed y z b.held f → FailsToGive m bytes a.out failed x z f
+before-stopped m bytes a b failed x y z f p none s =
+    let some = flush-stopped a b failed x y z (answers_to m p.front) f p.put none s in
+    let all = sym (answers-to-append m p.front (10 ∷ p.more)) ∙ ap (answers_to m) (sym p.parts) in
+    stopped-give m bytes a.out failed x z f (stopped_more a.out failed x z [] (answers_to m p.front) (answers_to (moment_after m p.front) (10 ∷ p.more)) (answers_to m bytes) f all some)
+
+-- it took the answers before that line
+pub gave-before : (m : Moment) (bytes : List ℕ) (a b c : Waiting) (x y z : Option (List ℕ)) → LeavesLine m bytes a b x y → HasPut b c y z [] → a.held ≡ [] → c.held ≡ [] → GaveBefore m bytes x z
+gave-before m bytes a b c x y z p q none empty = record {
+  front = p.front;
+  more = p.more;
+  parts = p.parts;
+  out = subst (Appends x z) (append-nil (answers_to m p.front)) (all_out a c x z (answers_to m p.front ++ []) (put_then a b c x y z (answers_to m p.front) [] p.put q) none empty);
+  asks = p.asks;
+}
+
+-- it was for want of memory
+pub left-line : (m : Moment) (bytes : List ℕ) (a b : Waiting) (failed : Bool) (x y : Option (List ℕ)) (f : RunFault) → f ≡ OutOfMemory → FailsToTake m bytes a b failed x y f → LeavesLine m bytes a b x y
+left-line m bytes a b failed x y f e s = subst (λ (k : RunFault). FailsToTake m bytes a b failed x y k) e s
+
+-- any other failure
+pub give-fails : (m : Moment) (bytes : List ℕ) (a b : Waiting) (failed : Bool) (x y : Option (List ℕ)) (f : RunFault) → FailsToTake m bytes a b failed x y f → a.held ≡ [] → (f ≡ OutOfMemory → ⊥)
+    → FailsToGive m bytes a.out failed x y f
+give-fails m bytes a b failed x y (WriteFailed written) s none other = rw none at s
+give-fails m bytes a b failed x y OutOfMemory s none other = absurd (other refl)
+give-fails m bytes a b failed x y (Input fault) s none other = (none-out a b x y [] s.0 none refl, s.1)
+give-fails m bytes a b failed x y (NotOnDuty row) s none other = absurd s
+give-fails m bytes a b failed x y NoThread s none other = absurd s
+give-fails m bytes a b failed x y TooManyReporters s none other = absurd s
+give-fails m bytes a b failed x y (Strangers version) s none other = absurd s
+
+-- ---- the end
+
+pub end-fails : (m : Moment) (a b : Waiting) (failed : Bool) (x y : Option (List ℕ)) (f : RunFault) → FailsToPut a b failed x y (last_answers m) (LineAsks m) (IsRefused (ended_at m)) f → a.held ≡ []
+    → FailsToEnd m a.out failed x y f
+end-fails m a b failed x y (WriteFailed written) s none = rw none at s
+end-fails m a b failed x y OutOfMemory s none = (rw s.1 (appends-none x), s.2)
+end-fails m a b failed x y (Input fault) s none = (rw s.1 (appends-none x), refused-missing (ended_at m) fault s.2)
+end-fails m a b failed x y (NotOnDuty row) s none = absurd s
+end-fails m a b failed x y NoThread s none = absurd s
+end-fails m a b failed x y TooManyReporters s none = absurd s
+end-fails m a b failed x y (Strangers version) s none = absurd s
+
+pub end-missing : (m : Moment) (a b : Waiting) (x y : Option (List ℕ)) (fault : InputFault) → HasPut a b x y (last_answers m) → a.held ≡ [] → missing_at m ≡ Some fault → Appends x y []
+end-missing m a b x y fault p none h = none-out a b x y (last_answers m) p none (missing-last m fault h)
+
+pub end-stopped : (m : Moment) (a b : Waiting) (failed : Bool) (x y z : Option (List ℕ)) (f : RunFault) → HasPut a b x y (last_answers m) → a.held ≡ [] → IsStopped b.out failed y z b.held f
+    → FailsToEnd m a.out failed x z f
+end-stopped m a b failed x y z (WriteFailed written) p none s = flush-stopped a b failed x y z (last_answers m) (WriteFailed written) p none s
+end-stopped m a b failed x y z OutOfMemory p none s = absurd s
+end-stopped m a b failed x y z (Input fault) p none s = absurd s
+end-stopped m a b failed x y z (NotOnDuty row) p none s = absurd s
+end-stopped m a b failed x y z NoThread p none s = absurd s
+end-stopped m a b failed x y z TooManyReporters p none s = absurd s
+end-stopped m a b failed x y z (Strangers version) p none s = absurd s
+
+-- ---- texts that were put
+
+pub put-there : (m n : Moment) (a b : Waiting) (x y : Option (List ℕ)) (bytes : List ℕ) → m ≡ n → HasPut a b x y (answers_to m bytes) → HasPut a b x y (answers_to n bytes)
+put-there m n a b x y bytes e p = subst (λ (k : Moment). HasPut a b x y (answers_to k bytes)) e p
+
+pub put-flushed : (a b c : Waiting) (x y z : Option (List ℕ)) (t : List ℕ) → HasPut a b x y t → HasPut b c y z [] → HasPut a c x z t
+put-flushed a b c x y z t p q = subst (HasPut a c x z) (append-nil t) (put_then a b c x y z t [] p q)
+
+-- ---- results
+
+pub if-err : {V : Type 0} (r : Result V RunFault) (P Q : RunFault → Type 0) → ((f : RunFault) → P f → Q f) → IfErr r P → IfErr r Q
+if-err (Ok x) P Q h p = tt
+if-err (Err f) P Q h p = h f p
+
+pub if-both : {V : Type 0} (r : Result V RunFault) (P R : V → Type 0) (Q : Type 0) → ((v : V) → P v → Q → R v) → IfOk r P → OnOk r Q → IfOk r R
+if-both (Ok v) P R Q h p q = h v p q
+if-both (Err f) P R Q h p q = tt
+
+pub if-ok : {V : Type 0} (r : Result V RunFault) (P R : V → Type 0) → ((v : V) → P v → R v) → IfOk r P → IfOk r R
+if-ok (Ok v) P R h p = h v p
+if-ok (Err f) P R h p = tt
+
+pub on-ok : {V : Type 0} (r : Result V RunFault) (P R : Type 0) → (P → R) → OnOk r P → OnOk r R
+on-ok (Ok v) P R h p = h p
+on-ok (Err f) P R h p = tt

@@ -1,0 +1,9 @@
+pub mod RowBytes
+pub mod RowEnds
+pub mod Puts
+pub mod Moments
+pub mod Silence
+pub mod ReadWords
+pub mod Failures
+pub mod Steps
+pub mod Boards

@@ -1,0 +1,108 @@
+-- An evening whose board is not open has answered nothing, and one that is refused stays so.
+use Rattle.std.proofs.Common.{◌≡◌, ℕ, Bool, true, false, List, [], ◌∷◌, Some, refl, ap, ◌∙◌, inl, inr}
+use Rattle.std.proofs.lemmas.Bool.{cases_Bool}
+use Rattle.ucl_screen.specs.declared.fault.InputFault.{InputFault}
+use Rattle.ucl_answers.specs.Lines.{ended_lines, last_lines}
+use Rattle.ucl_answers.specs.Requests.{request_of}
+use Rattle.ucl_answers.specs.Rows.{Said, Nothing, Garbled, Row, said_on}
+use Rattle.ucl_answers.specs.Stages.{Stage, Naming, Restoring, Open, Refused, after_row, missing, next_stage, opened}
+use Rattle.ucl_answers.specs.Text.{Evening, after_lines, answer, answer_at, answers, next}
+use Rattle.ucl_answers.specs.Stepping.{IsRefused, Moment, answers_to, ended_at, last_answers, missing_at, moment_after}
+
+abbrev pub is_open : Stage → Bool
+is_open (Open clubs board) = true
+is_open (Naming clubs) = false
+is_open (Restoring clubs words) = false
+is_open (Refused fault) = false
+
+-- an open board stays open
+
+open-row : (row : ℕ) (s : Stage) (r : Said) → is_open s ≡ true → is_open (after_row row s r) ≡ true
+open-row row (Open clubs board) r h = refl
+open-row row (Naming clubs) r h = cc
+open-row row (Restoring clubs words) r h = cc
+open-row row (Refused fault) r h = cc
+
+open-opened : (s : Stage) (r : Said) → is_open s ≡ true → is_open (opened s r) ≡ true
+open-opened (Open clubs board) r h = refl
+open-opened (Naming clubs) r h = cc
+open-opened (Restoring clubs words) r h = cc
+open-opened (Refused fault) r h = cc
+
+open-next : (row : ℕ) (s : Stage) (r : Said) → is_open s ≡ true → is_open (next_stage row s r) ≡ true
+open-next row s Nothing h = h
+open-next row s Garbled h = open-row row (opened s Garbled) Garbled (open-opened s Garbled h)
+open-next row s (Row f) h = open-row row (opened s (Row f)) (Row f) (open-opened s (Row f) h)
+
+pub stays-open : (e : Evening) (lines : List (List ℕ)) → is_open e.stage ≡ true → is_open (after_lines e lines).stage ≡ true
+unfolding after_lines
+stays-open e [] h = h
+stays-open e (line ∷ lines) h = stays-open (next e (said_on e.row line)) lines (open-next e.row e.stage (said_on e.row line) h)
+
+-- what is not open in the end was not open before
+shut-row : (row : ℕ) (s : Stage) (r : Said) → is_open (after_row row s r) ≡ false → is_open s ≡ false
+shut-row row s r h = elim (cases_Bool (is_open s)) [ inl y ↦ cc (open-row row s r y) | inr n ↦ n ]
+
+silent-at : (e : Evening) (s : Stage) (r : Said) → is_open s ≡ false → answer_at e.options e.row s (request_of r) ≡ []
+silent-at e (Naming clubs) r h = refl
+silent-at e (Restoring clubs words) r h = refl
+silent-at e (Refused fault) r h = refl
+silent-at e (Open clubs board) r h = cc
+
+silent-answer : (e : Evening) (r : Said) → is_open (next e r).stage ≡ false → answer e r ≡ []
+silent-answer e Nothing h = refl
+silent-answer e Garbled h = silent-at e (opened e.stage Garbled) Garbled (shut-row e.row (opened e.stage Garbled) Garbled h)
+silent-answer e (Row f) h = silent-at e (opened e.stage (Row f)) (Row f) (shut-row e.row (opened e.stage (Row f)) (Row f) h)
+
+shut-lines : (e : Evening) (lines : List (List ℕ)) → is_open (after_lines e lines).stage ≡ false → is_open e.stage ≡ false
+shut-lines e lines h = elim (cases_Bool (is_open e.stage)) [ inl y ↦ cc (stays-open e lines y) | inr n ↦ n ]
+
+pub silent : (e : Evening) (lines : List (List ℕ)) → is_open (after_lines e lines).stage ≡ false → answers e lines ≡ []
+unfolding answers after_lines
+silent e [] h = refl
+silent e (line ∷ lines) h =
+    let r = said_on e.row line in
+    let a = silent-answer e r (shut-lines (next e r) lines h) in
+    let b = silent (next e r) lines h in rw (a, b) refl
+
+-- a refused evening stays refused
+
+refused-next : (row : ℕ) (r : Said) (fault : InputFault) → next_stage row (Refused fault) r ≡ Refused fault
+refused-next row Nothing fault = refl
+refused-next row Garbled fault = refl
+refused-next row (Row f) fault = refl
+
+pub stays-refused : (e : Evening) (lines : List (List ℕ)) (fault : InputFault) → IsRefused e fault → IsRefused (after_lines e lines) fault
+unfolding after_lines
+stays-refused e [] fault h = h
+stays-refused e (line ∷ lines) fault h =
+    let r = said_on e.row line in
+    stays-refused (next e r) lines fault (ap (λ (s : Stage). next_stage e.row s r) h ∙ refused-next e.row r fault)
+
+pub refused-shut : (s : Stage) (fault : InputFault) → s ≡ Refused fault → is_open s ≡ false
+refused-shut s fault h = rw h refl
+
+-- nor was anything answered before
+pub shut-before : (m : Moment) (xs ys : List ℕ) (fault : InputFault) → IsRefused (moment_after (moment_after m xs) ys).evening fault → answers_to m xs ≡ []
+shut-before m xs ys fault h =
+    let n = moment_after m xs in silent m.evening (ended_lines m.begun xs) (shut-lines n.evening (ended_lines n.begun ys) (refused-shut _ fault h))
+
+pub refused-missing : (e : Evening) (fault : InputFault) → IsRefused e fault → missing e.row e.stage ≡ Some fault
+refused-missing e fault h = rw h refl
+
+missing-shut : (row : ℕ) (s : Stage) (fault : InputFault) → missing row s ≡ Some fault → is_open s ≡ false
+missing-shut row (Open clubs board) fault h = cc
+missing-shut row (Naming clubs) fault h = refl
+missing-shut row (Restoring clubs words) fault h = refl
+missing-shut row (Refused f) fault h = refl
+
+-- where something is missing at the end, nothing was answered before
+pub missing-before : (m : Moment) (xs ys : List ℕ) (fault : InputFault) → missing_at (moment_after (moment_after m xs) ys) ≡ Some fault → answers_to m xs ≡ []
+missing-before m xs ys fault h =
+    let n = moment_after m xs in
+    let k = moment_after n ys in
+    let shut = shut-lines k.evening (last_lines k.begun) (missing-shut (ended_at k).row (ended_at k).stage fault h) in
+    silent m.evening (ended_lines m.begun xs) (shut-lines n.evening (ended_lines n.begun ys) shut)
+
+pub missing-last : (m : Moment) (fault : InputFault) → missing_at m ≡ Some fault → last_answers m ≡ []
+missing-last m fault h = silent m.evening (last_lines m.begun) (missing-shut (ended_at m).row (ended_at m).stage fault h)

@@ -1,0 +1,5 @@
+use Rattle.ucl_answers.proofs.Moments.{beginnings}
+use Rattle.ucl_answers.proofs.laws.beginnings_are_answered.Goals as goal
+
+pub returns : goal.returns
+returns c = beginnings

@@ -1,0 +1,12 @@
+use Rattle.std.proofs.Common.{arith}
+use Rattle.ucl_runs.proofs.Texts.{words-step, words-end}
+use Rattle.ucl_answers.proofs.words.push_words.Goals as goal
+
+pub loop-word-preserved : goal.loop-word-preserved
+loop-word-preserved c = record {
+  counted = let k = c.loop-word.invariant.counted in omega arith;
+  written = words-step c.loop-word.index c.loop-word.word-index c.args.words.now _ _ _ c.loop-word-test.true c.loop-word.invariant.written c.in_ok-push_word.ensures;
+}
+
+pub returns : goal.returns
+returns c = words-end c.loop-word.index c.loop-word.word-index c.args.words.now _ _ c.loop-word-test.false c.loop-word.invariant.written

@@ -1,0 +1,12 @@
+pub mod Lines
+pub mod Rows
+pub mod WordsRead
+pub mod Requests
+pub mod Stages
+pub mod Text
+pub mod Reading
+pub mod Output
+pub mod Seen
+pub mod Stepping
+pub mod Taking
+pub mod Laws

@@ -1,0 +1,26 @@
+-- What waits to be given to a sink.
+use Rattle.std.specs.Prelude.{◌≡◌, ℕ, ◌+◌, ◌-◌, ◌^◌, min, Bool, List, ◌++◌, length, Option}
+use Rattle.std.specs.Io.KnownBytes.{Appends}
+use Rattle.ucl_screen.specs.declared.fault.InputFault.{InputFault}
+use Rattle.ucl_runs.specs.declared.fault.RunFault.{RunFault}
+use Rattle.ucl_runs.specs.declared.fault.RunFault.TheVariants.{Input, OutOfMemory, WriteFailed}
+use Rattle.ucl_runs.specs.Run.{StoppedShort}
+
+-- what is held back, and how many bytes went out before
+pub record Waiting : Type 0 where
+  pub held : List ℕ
+  pub out : ℕ
+
+-- a text was put after what was held: of what was held and the text a first part went out, and the rest is held
+pub record HasPut (before after : Waiting) (old new : Option (List ℕ)) (text : List ℕ) : Type 0 where
+  pub given : List ℕ
+  pub went : Appends old new given
+  pub rest : given ++ after.held ≡ before.held ++ text
+  pub told : after.out ≡ min (before.out + length given) (2 ^ 64 - 1)
+
+-- a text was not put: the sink failed in it; or there was no memory for it, which it asks for, or it is refused, and nothing was done
+abbrev pub FailsToPut : Waiting → Waiting → Bool → Option (List ℕ) → Option (List ℕ) → List ℕ → Type 0 → (InputFault → Type 0) → RunFault → Type 0
+FailsToPut before after failed old new text Asks IsRefused (WriteFailed written) = StoppedShort before.out failed old new (before.held ++ text) written
+FailsToPut before after failed old new text Asks IsRefused OutOfMemory = (after ≡ before) × (new ≡ old) × Asks
+FailsToPut before after failed old new text Asks IsRefused (Input fault) = (after ≡ before) × (new ≡ old) × IsRefused fault
+FailsToPut before after failed old new text Asks IsRefused _ = ⊥

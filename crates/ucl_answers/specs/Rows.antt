@@ -1,0 +1,37 @@
+-- What a line says. With its line feed it is a text of its own, which is read by the rules of scripts: so a quote that is not closed
+-- takes in the line feed, which stands in no field that is good.
+use Rattle.std.specs.Prelude.{ℕ, ◌-◌, ◌==◌, nat_le, if◌then◌else◌, Bool, List, [], ◌∷◌, ◌++◌, length, get_or, Option, Some, None}
+use Rattle.csv.specs.Reading.{default_config, records}
+use Rattle.ucl_screen.specs.Rows.{Fields, FourFields, four_of, rows_of}
+
+-- nothing; or what is no row of four fields, or too long; or a row
+pub data Said : Type 0 where
+  Nothing : Said
+  Garbled : Said
+  Row : (fields : FourFields) → Said
+
+abbrev pub of_row : Option FourFields → Said
+of_row None = Garbled
+of_row (Some f) = Row f
+
+-- a line has one row at most
+abbrev pub of_rows : List Fields → Said
+of_rows [] = Nothing
+of_rows (row ∷ []) = of_row (four_of row)
+of_rows (row ∷ other ∷ rows) = Garbled
+
+-- a byte order mark is passed over at the start of the first line, which is that of the input
+abbrev pub rows_at : Bool → List ℕ → List Fields
+rows_at first text = if first then rows_of text else records default_config text
+
+-- at most 256 bytes, and the end: a line feed, or a carriage return and a line feed
+abbrev pub fits : List ℕ → Bool
+fits text = nat_le (length text) (if get_or text (length text - 2) 0 == 13 then 258 else 257)
+
+-- what a line with its line feed says, where it has this number
+unfoldable pub said_by_text : ℕ → List ℕ → Said
+said_by_text row text = if fits text then of_rows (rows_at (row == 1) text) else Garbled
+
+-- what a line says
+abbrev pub said_on : ℕ → List ℕ → Said
+said_on row line = said_by_text row (line ++ 10 ∷ [])

@@ -1,0 +1,110 @@
+-- How far an evening is, and what a line makes of it.
+use Rattle.std.specs.Prelude.{ℕ, ◌+◌, ◌-◌, ◌^◌, min, ◌==◌, if◌then◌else◌, Bool, false, List, [], ◌∷◌, ◌++◌, length, codes, Option, Some, None, Result, Ok, Err}
+use Rattle.std.specs.Str.{bytes_eq}
+use Rattle.ucl_board.specs.History.{board_after, board_of}
+use Rattle.ucl_order.specs.Roster.{NamedClub, bad_slot}
+use Rattle.ucl_runs.specs.Feed.{attempt_of}
+use Rattle.ucl_screen.specs.declared.fault.InputFault.{InputFault}
+use Rattle.ucl_screen.specs.declared.fault.InputFault.TheVariants.{BadRow, BadRoster, BadWordAt}
+use Rattle.ucl_screen.specs.Script.{club_of, word_of_row}
+use Rattle.ucl_answers.specs.Rows.{Said, Nothing, Garbled, Row}
+use Rattle.ucl_answers.specs.declared.request.Request.{Request}
+use Rattle.ucl_answers.specs.declared.request.Request.TheVariants.{Bad, Event, Screen, Words}
+use Rattle.ucl_answers.specs.Requests.{request_of}
+use Rattle.ucl_answers.specs.WordsRead.{read_words}
+
+-- the clubs are named, fewer than four so far; then, where a board was written down, its words are given, fewer than twelve so far;
+-- then the board is open. An evening whose clubs or words have a fault is refused
+pub data Stage : Type 0 where
+  Naming : (clubs : List NamedClub) → Stage
+  Restoring : (clubs : List NamedClub) (words : List ℕ) → Stage
+  Open : (clubs : List NamedClub) (board : List ℕ) → Stage
+  Refused : (fault : InputFault) → Stage
+
+-- the number of a row as a fault tells it: a greater one is told as the greatest that can be told
+abbrev pub told_row : ℕ → ℕ
+told_row row = min row (2 ^ 32 - 1)
+
+abbrev pub bad_row : ℕ → Stage
+bad_row row = Refused (BadRow (told_row row))
+
+-- ---- clubs
+
+abbrev pub club_said : ℕ → Said → Option NamedClub
+club_said slot (Row f) = club_of slot f
+club_said slot Garbled = None
+club_said slot Nothing = None
+
+abbrev pub with_roster : List NamedClub → Option ℕ → Stage
+with_roster clubs None = Restoring clubs []
+with_roster clubs (Some slot) = Refused (BadRoster slot)
+
+-- the roster is looked at once there are four clubs
+abbrev pub with_clubs : List NamedClub → Stage
+with_clubs clubs = if length clubs == 4 then with_roster clubs (bad_slot clubs) else Naming clubs
+
+abbrev pub with_club : ℕ → List NamedClub → Option NamedClub → Stage
+with_club row clubs None = bad_row row
+with_club row clubs (Some club) = with_clubs (clubs ++ club ∷ [])
+
+-- ---- words
+
+abbrev pub word_said : ℕ → Said → Option ℕ
+word_said game (Row f) = word_of_row game f
+word_said game Garbled = None
+word_said game Nothing = None
+
+abbrev pub restored : List NamedClub → Result (List ℕ) ℕ → Stage
+restored clubs (Ok board) = Open clubs board
+restored clubs (Err index) = Refused (BadWordAt index)
+
+-- the words are looked at once there are twelve
+abbrev pub with_words : List NamedClub → List ℕ → Stage
+with_words clubs words = if length words == 12 then restored clubs (read_words 1 words) else Restoring clubs words
+
+abbrev pub with_word : ℕ → List NamedClub → List ℕ → Option ℕ → Stage
+with_word row clubs words None = bad_row row
+with_word row clubs words (Some word) = with_words clubs (words ++ word ∷ [])
+
+abbrev pub is_word_row : Said → Bool
+is_word_row (Row f) = bytes_eq f.first (codes "word")
+is_word_row Garbled = false
+is_word_row Nothing = false
+
+-- ---- the stage after a line
+
+-- the board after a request
+abbrev pub next_board : List ℕ → Request → List ℕ
+next_board board (Event event) = board_after board (attempt_of event)
+next_board board Bad = board
+next_board board Screen = board
+next_board board Words = board
+
+-- four clubs are named, and no word came yet: a row that is none opens the fresh board
+abbrev pub opened : Stage → Said → Stage
+opened (Restoring clubs []) said = if is_word_row said then Restoring clubs [] else Open clubs (board_of [])
+opened (Restoring clubs (word ∷ words)) said = Restoring clubs (word ∷ words)
+opened (Naming clubs) said = Naming clubs
+opened (Open clubs board) said = Open clubs board
+opened (Refused fault) said = Refused fault
+
+-- the stage after a row with this number
+abbrev pub after_row : ℕ → Stage → Said → Stage
+after_row row (Naming clubs) said = with_club row clubs (club_said (length clubs + 1) said)
+after_row row (Restoring clubs words) said = with_word row clubs words (word_said (length words + 1) said)
+after_row row (Open clubs board) said = Open clubs (next_board board (request_of said))
+after_row row (Refused fault) said = Refused fault
+
+-- the stage after a line with this number
+abbrev pub next_stage : ℕ → Stage → Said → Stage
+next_stage row stage Nothing = stage
+next_stage row stage Garbled = after_row row (opened stage Garbled) Garbled
+next_stage row stage (Row f) = after_row row (opened stage (Row f)) (Row f)
+
+-- why an evening is refused that ends here, before a line with this number: a club or a word is missing
+abbrev pub missing : ℕ → Stage → Option InputFault
+missing row (Naming clubs) = Some (BadRow (told_row row))
+missing row (Restoring clubs []) = None
+missing row (Restoring clubs (word ∷ words)) = Some (BadRow (told_row row))
+missing row (Open clubs board) = None
+missing row (Refused fault) = Some fault

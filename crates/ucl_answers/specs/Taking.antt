@@ -1,0 +1,77 @@
+-- What taking bytes comes to where it fails.
+use Rattle.std.specs.Prelude.{◌≡◌, ◌⊎◌, ℕ, ◌^◌, ◌<◌, Bool, List, [], ◌∷◌, ◌++◌, length, Option, Some}
+use Rattle.std.specs.Io.KnownBytes.{Appends, Consumes}
+use Rattle.ucl_screen.specs.declared.fault.InputFault.TheVariants.{TooLong}
+use Rattle.ucl_runs.specs.declared.fault.RunFault.{RunFault}
+use Rattle.ucl_runs.specs.declared.fault.RunFault.TheVariants.{Input, OutOfMemory, WriteFailed}
+use Rattle.ucl_runs.specs.Run.{StoppedShort}
+use Rattle.ucl_answers.specs.declared.desk.Desk.{Desk}
+use Rattle.ucl_answers.specs.declared.evening.Evening.{Evening as Held}
+use Rattle.ucl_answers.specs.declared.live.Live.{Live}
+use Rattle.ucl_answers.specs.Output.{HasPut, Waiting}
+use Rattle.ucl_answers.specs.Seen.{evening_seen}
+use Rattle.ucl_answers.specs.Text.{Evening}
+use Rattle.ucl_answers.specs.Stepping.{Fails, IsRefused, LineAsks, Moment, answers_to, begins, last_answers, missing_at, moment_after}
+
+abbrev pub moment_of : Held → Desk → Moment
+moment_of e desk = record { evening = evening_seen e; begun = desk.line.items }
+
+abbrev pub live_moment : Live → Moment
+live_moment live = moment_of live.evening live.desk
+
+abbrev pub held_row : Held → ℕ
+held_row e = e.row
+
+abbrev pub live_row : Live → ℕ
+live_row live = live.evening.row
+
+abbrev pub live_waiting : Live → Waiting
+live_waiting live = live.desk.page
+
+abbrev pub begun_in : Live → List ℕ
+begun_in live = live.desk.line.items
+
+abbrev pub read_by : Live → ℕ
+read_by live = live.read
+
+-- a line that ends in the bytes was not answered: it asks for memory, and the answers before it were put
+pub record LeavesLine (m : Moment) (bytes : List ℕ) (before after : Waiting) (old new : Option (List ℕ)) : Type 0 where
+  pub front : List ℕ
+  pub more : List ℕ
+  pub parts : bytes ≡ front ++ 10 ∷ more
+  pub put : HasPut before after old new (answers_to m front)
+  pub asks : LineAsks (moment_after m front)
+
+-- bytes were not all answered
+abbrev pub FailsToTake : Moment → List ℕ → Waiting → Waiting → Bool → Option (List ℕ) → Option (List ℕ) → RunFault → Type 0
+FailsToTake m bytes before after failed old new (WriteFailed written) = StoppedShort before.out failed old new (before.held ++ answers_to m bytes) written
+FailsToTake m bytes before after failed old new OutOfMemory = LeavesLine m bytes before after old new
+FailsToTake m bytes before after failed old new (Input fault) = HasPut before after old new [] × IsRefused (moment_after m bytes).evening fault
+FailsToTake m bytes before after failed old new _ = ⊥
+
+-- the same, once the answers before were given to the sink
+pub record GaveBefore (m : Moment) (bytes : List ℕ) (old new : Option (List ℕ)) : Type 0 where
+  pub front : List ℕ
+  pub more : List ℕ
+  pub parts : bytes ≡ front ++ 10 ∷ more
+  pub out : Appends old new (answers_to m front)
+  pub asks : LineAsks (moment_after m front)
+
+abbrev pub FailsToGive : Moment → List ℕ → ℕ → Bool → Option (List ℕ) → Option (List ℕ) → RunFault → Type 0
+FailsToGive m bytes out failed old new (WriteFailed written) = StoppedShort out failed old new (answers_to m bytes) written
+FailsToGive m bytes out failed old new OutOfMemory = GaveBefore m bytes old new
+FailsToGive m bytes out failed old new (Input fault) = Appends old new [] × IsRefused (moment_after m bytes).evening fault
+FailsToGive m bytes out failed old new _ = ⊥
+
+-- at the end of the input
+abbrev pub FailsToEnd : Moment → ℕ → Bool → Option (List ℕ) → Option (List ℕ) → RunFault → Type 0
+FailsToEnd m out failed old new (WriteFailed written) = StoppedShort out failed old new (last_answers m) written
+FailsToEnd m out failed old new OutOfMemory = Appends old new [] × LineAsks m
+FailsToEnd m out failed old new (Input fault) = Appends old new [] × (missing_at m ≡ Some fault)
+FailsToEnd m out failed old new _ = ⊥
+
+-- a whole run fails: in a step; or after more bytes than any evening has
+abbrev pub RunFails : Evening → Bool → Bool → Option (List ℕ) → Option (List ℕ) → Option (List ℕ) → Option (List ℕ) → RunFault → Type 0
+RunFails start source_failed sink_failed left left2 taken taken2 fault =
+    Fails (begins start) 0 0 source_failed sink_failed left left2 taken taken2 fault
+    ⊎ ((fault ≡ Input TooLong) × (bytes : List ℕ) × (2 ^ 62 < length bytes) × Consumes left left2 bytes × Appends taken taken2 (answers_to (begins start) bytes))

@@ -1,0 +1,114 @@
+-- The text of an evening.
+use Rattle.std.specs.Prelude.{ℕ, ◌+◌, if◌then◌else◌, List, [], ◌∷◌, ◌++◌, codes, decimal, Option, Result, Ok, Err}
+use Rattle.ucl_word.specs.declared.event.Accepted.{Accepted}
+use Rattle.ucl_word.specs.declared.refusal.Refusal.{Refusal}
+use Rattle.ucl_word.specs.Rules.{reply_of}
+use Rattle.ucl_board.specs.Words.{game_at, version_of}
+use Rattle.ucl_order.specs.Roster.{NamedClub}
+use Rattle.ucl_runs.specs.Feed.{line_of_reply, word_lines}
+use Rattle.ucl_screen.specs.declared.fault.InputFault.{InputFault}
+use Rattle.ucl_screen.specs.declared.night.NightEvent.{NightEvent}
+use Rattle.ucl_screen.specs.Screen.{screen_text}
+use Rattle.ucl_json.specs.Lines.{json_line}
+use Rattle.ucl_json.specs.Values.{bad_row_value, reply_value, screen_value, words_value}
+use Rattle.ucl_answers.specs.declared.options.Format.{Format}
+use Rattle.ucl_answers.specs.declared.options.Format.TheVariants.{Text, Json}
+use Rattle.ucl_answers.specs.declared.options.Options.{Options}
+use Rattle.ucl_answers.specs.declared.request.Request.{Request}
+use Rattle.ucl_answers.specs.declared.request.Request.TheVariants.{Bad, Event, Screen, Words}
+use Rattle.ucl_answers.specs.Lines.{lines_of}
+use Rattle.ucl_answers.specs.Rows.{Said, Nothing, Garbled, Row, said_on}
+use Rattle.ucl_answers.specs.Requests.{request_of}
+use Rattle.ucl_answers.specs.Stages.{Stage, Naming, Restoring, Open, Refused, missing, next_board, next_stage, opened}
+
+-- between two lines: how it answers, which line comes next, counted from 1, and how far it is
+pub record Evening : Type 0 where
+  pub options : Options
+  pub row : ℕ
+  pub stage : Stage
+
+-- before the first line
+abbrev pub start_of : Options → Evening
+start_of options = record { options = options; row = 1; stage = Naming [] }
+
+-- ---- single answers, each in its format
+
+-- the reply to an event of a match, where so many events were accepted before
+abbrev pub reply_answer : Format → ℕ → ℕ → ℕ → Result Accepted Refusal → List ℕ
+reply_answer Text row game before reply = line_of_reply row game before reply
+reply_answer Json row game before reply = json_line (reply_value row game before reply)
+
+abbrev pub bad_line : ℕ → List ℕ
+bad_line row = decimal row ++ codes " refused 20 bad-row\n"
+
+-- the answer to a row that asks for nothing that there is
+abbrev pub bad_answer : Format → ℕ → List ℕ
+bad_answer Text row = bad_line row
+bad_answer Json row = json_line (bad_row_value row)
+
+-- the screen of a board
+abbrev pub screen_in : Format → Options → ℕ → List NamedClub → List ℕ → List ℕ
+screen_in Text options row clubs board = screen_text options.profile board clubs options.group
+screen_in Json options row clubs board = json_line (screen_value row options.profile board clubs options.group)
+
+abbrev pub screen_answer : Options → ℕ → List NamedClub → List ℕ → List ℕ
+screen_answer options row clubs board = screen_in options.format options row clubs board
+
+-- the words of a board
+abbrev pub words_answer : Format → ℕ → List ℕ → List ℕ
+words_answer Text row board = word_lines 1 board
+words_answer Json row board = json_line (words_value row board)
+
+-- ---- the answer to a line
+
+-- the screen after an accepted event, where screens are wanted
+abbrev pub screen_after : Options → ℕ → List NamedClub → Result Accepted Refusal → List ℕ → List ℕ
+screen_after options row clubs (Ok accepted) board = if options.screens then screen_answer options row clubs board else []
+screen_after options row clubs (Err refusal) board = []
+
+-- the answer to an event: its reply, and the screen
+abbrev pub event_answer : Options → ℕ → List NamedClub → List ℕ → NightEvent → List ℕ
+event_answer options row clubs board event =
+    let reply = reply_of (game_at board event.call.game) event.call in
+    reply_answer options.format row event.call.game (version_of board) reply ++ screen_after options row clubs reply (next_board board (Event event))
+
+abbrev pub answer_of : Options → ℕ → List NamedClub → List ℕ → Request → List ℕ
+answer_of options row clubs board (Event event) = event_answer options row clubs board event
+answer_of options row clubs board Bad = bad_answer options.format row
+answer_of options row clubs board Screen = screen_answer options row clubs board
+answer_of options row clubs board Words = words_answer options.format row board
+
+-- nothing is answered before the board is open
+abbrev pub answer_at : Options → ℕ → Stage → Request → List ℕ
+answer_at options row (Open clubs board) request = answer_of options row clubs board request
+answer_at options row (Naming clubs) request = []
+answer_at options row (Restoring clubs words) request = []
+answer_at options row (Refused fault) request = []
+
+-- the answer to what a line says
+abbrev pub answer : Evening → Said → List ℕ
+answer e Nothing = []
+answer e Garbled = answer_at e.options e.row (opened e.stage Garbled) (request_of Garbled)
+answer e (Row f) = answer_at e.options e.row (opened e.stage (Row f)) (request_of (Row f))
+
+abbrev pub next : Evening → Said → Evening
+next e said = record { options = e.options; row = e.row + 1; stage = next_stage e.row e.stage said }
+
+-- ---- the answers to lines, one after the other
+
+unfoldable pub answers : Evening → List (List ℕ) → List ℕ
+answers e [] = []
+answers e (line ∷ lines) = answer e (said_on e.row line) ++ answers (next e (said_on e.row line)) lines
+
+-- the evening after lines
+unfoldable pub after_lines : Evening → List (List ℕ) → Evening
+after_lines e [] = e
+after_lines e (line ∷ lines) = after_lines (next e (said_on e.row line)) lines
+
+-- the text of an evening that begins here and has this whole input
+abbrev pub live_text : Evening → List ℕ → List ℕ
+live_text e bytes = answers e (lines_of bytes)
+
+-- why an evening is refused that begins here and has this whole input
+abbrev pub missing_after : Evening → List ℕ → Option InputFault
+missing_after e bytes = missing (after_lines e (lines_of bytes)).row (after_lines e (lines_of bytes)).stage

@@ -1,0 +1,68 @@
+-- What words are read as: a word of the layout as it is, and a word of the layout before it as the word of the same record.
+use Rattle.std.specs.Prelude.{ℕ, ◌+◌, ◌==◌, ◌&&◌, nat_le, if◌then◌else◌, Bool, List, [], ◌∷◌, Option, Some, None, Result, Ok, Err}
+use Rattle.ucl_word.specs.declared.record.MatchRecord.{MatchRecord}
+use Rattle.ucl_word.specs.declared.record.State.{State}
+use Rattle.ucl_word.specs.declared.record.State.TheVariants.{Scheduled, InPlay, Finished}
+use Rattle.ucl_word.specs.Record.{last_in_play, last_number}
+use Rattle.ucl_word.specs.Layout.{first_layout, held_at, record_at, state_at, word_of}
+use Rattle.ucl_word.specs.Migration.{first_word_of, most_in_first}
+
+abbrev pub is_within_limits : MatchRecord → Bool
+is_within_limits m =
+    nat_le m.home_goals 63 && nat_le m.away_goals 63 && nat_le m.home_yellows 63 && nat_le m.away_yellows 63
+    && nat_le m.home_expulsions 31 && nat_le m.away_expulsions 31
+
+abbrev pub is_reporter : ℕ → Bool
+is_reporter n = nat_le 1 n && nat_le n 255
+
+-- no event yet: every number is 0
+abbrev pub is_untouched : MatchRecord → Bool
+is_untouched m =
+    (m.number == 0) && (m.home_goals == 0) && (m.away_goals == 0) && (m.home_yellows == 0) && (m.away_yellows == 0)
+    && (m.home_expulsions == 0) && (m.away_expulsions == 0) && (m.reporter == 0)
+
+abbrev pub suits : State → MatchRecord → Bool
+suits Scheduled m = is_untouched m
+suits InPlay m = nat_le 1 m.number && nat_le m.number last_in_play && is_reporter m.reporter
+suits Finished m = nat_le 2 m.number && nat_le m.number last_number && is_reporter m.reporter
+
+-- whether a match can have this record
+unfoldable pub is_valid : MatchRecord → Bool
+is_valid m = is_within_limits m && suits m.state m
+
+-- what the fields of a word of the first layout hold
+unfoldable pub first_record_at : ℕ → MatchRecord
+first_record_at word = record {
+  number = held_at word first_layout.number;
+  state = state_at (held_at word first_layout.state);
+  home_goals = held_at word first_layout.home_goals;
+  away_goals = held_at word first_layout.away_goals;
+  home_yellows = held_at word first_layout.home_yellows;
+  away_yellows = held_at word first_layout.away_yellows;
+  home_expulsions = held_at word first_layout.home_expulsions;
+  away_expulsions = held_at word first_layout.away_expulsions;
+  reporter = held_at word first_layout.reporter;
+}
+
+-- whether a word is that of the valid record which its fields hold
+abbrev pub is_word : ℕ → Bool
+is_word word = is_valid (record_at word) && (word_of (record_at word) == word)
+
+-- the same in the first layout, which had room for fewer numbers
+abbrev pub is_first_word : ℕ → Bool
+is_first_word word =
+    let m = first_record_at word in is_valid m && nat_le m.number (most_in_first m.state) && (first_word_of m == word)
+
+-- what a word is read as
+unfoldable pub read_word : ℕ → Option ℕ
+read_word word = if is_word word then Some word else (if is_first_word word then Some (word_of (first_record_at word)) else None)
+
+abbrev pub before_words : Option ℕ → ℕ → Result (List ℕ) ℕ → Result (List ℕ) ℕ
+before_words None index words = Err index
+before_words (Some word) index (Ok words) = Ok (word ∷ words)
+before_words (Some word) index (Err bad) = Err bad
+
+-- what words are read as, the first of which has this index; or the least index of a word that is of neither layout
+unfoldable pub read_words : ℕ → List ℕ → Result (List ℕ) ℕ
+read_words index [] = Ok []
+read_words index (word ∷ words) = before_words (read_word word) index (read_words (index + 1) words)

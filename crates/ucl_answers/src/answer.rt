@@ -1,0 +1,190 @@
+//! Single answers, each in its format.
+
+ghost use Rattle.std.specs.Prelude.{◌≡◌, ◌<◌, ◌≤◌, ◌-◌, ◌^◌, ◌++◌, IfErr, IfOk};
+ghost use Rattle.arrayvec.specs.ArrayString.{array_string_len};
+ghost use Rattle.ucl_word.specs.Texts.{refusal_text};
+ghost use Rattle.ucl_screen.specs.Screen.{IsGroup};
+ghost use Rattle.ucl_runs.specs.Feed.{line_of_reply};
+ghost use Rattle.ucl_runs.specs.Lines.{accepted_line, refused_line};
+ghost use Rattle.ucl_answers.specs.Seen.{bytes_of};
+ghost use Rattle.ucl_answers.specs.Text.{bad_answer, bad_line, reply_answer, screen_answer, words_answer};
+
+use crate::options::{Format, Options};
+use crate::stage::Table;
+use crate::words::words_text;
+use arrayvec::ArrayString;
+use itoa::Buffer;
+use std::alloc::{AllocError, Global};
+use ucl_board::Board;
+use ucl_json::{bad_row_json, reply_json, screen_json, words_json};
+use ucl_runs::RunFault;
+use ucl_screen::screen;
+use ucl_word::{Accepted, Refusal};
+
+/// An answer.
+#[derive(Drop)]
+pub(crate) enum Answer {
+    /// A line that took no memory.
+    Short(ArrayString<256>),
+    /// Any text.
+    Long(String),
+}
+
+impl Answer {
+    /// The bytes of the answer.
+    pub(crate) fn bytes(&self) -> &[u8]
+        ensures { result.now ≡ bytes_of self.now }
+    {
+        match self {
+            Answer::Short(line) => line.as_str().as_bytes(),
+            Answer::Long(text) => text.as_str().as_bytes(),
+        }
+    }
+}
+
+/// The line of an event that was entered.
+fn accepted_line(row: u64, game: u8, number: u16, version: u16) -> ArrayString<256>
+    ensures { result.bytes ≡ accepted_line row game number version }
+{
+    let mut line = ArrayString::new();
+    line.push_str(Buffer::new().format(row));
+    line.push_str(" ok ");
+    line.push_str(Buffer::new().format(game));
+    line.push_str(" ");
+    line.push_str(Buffer::new().format(number));
+    line.push_str(" ");
+    line.push_str(Buffer::new().format(version));
+    line.push_str("\n");
+    line
+}
+
+/// Writes the number of a refusal and its name.
+fn push_refusal(line: &mut ArrayString<256>, refusal: Refusal)
+    requires { array_string_len line.old ≤ 100 }
+    ensures text { line.new.bytes ≡ line.old.bytes ++ refusal_text refusal }
+    ensures short { array_string_len line.new ≤ 200 }
+{
+    match refusal {
+        Refusal::Stale { found } => {
+            line.push_str("1 stale ");
+            line.push_str(Buffer::new().format(found));
+        }
+        Refusal::Finished => line.push_str("2 finished"),
+        Refusal::NotFinished => line.push_str("9 not-finished"),
+        Refusal::NotStarted => line.push_str("3 not-started"),
+        Refusal::AlreadyStarted => line.push_str("4 already-started"),
+        Refusal::NumberFull => line.push_str("5 number-full"),
+        Refusal::NoGoal => line.push_str("6 no-goal"),
+        Refusal::NoCaution => line.push_str("7 no-caution"),
+        Refusal::LimitReached => line.push_str("8 limit-reached"),
+    }
+}
+
+/// The line of an event that was refused.
+fn refused_line(row: u64, refusal: Refusal) -> ArrayString<256>
+    ensures { result.bytes ≡ refused_line row refusal }
+{
+    let mut line = ArrayString::new();
+    line.push_str(Buffer::new().format(row));
+    line.push_str(" refused ");
+    push_refusal(&mut line, refusal);
+    line.push_str("\n");
+    line
+}
+
+/// The line of a row that asks for nothing that there is.
+fn bad_line(row: u64) -> ArrayString<256>
+    ensures { result.bytes ≡ bad_line row }
+{
+    let mut line = ArrayString::new();
+    line.push_str(Buffer::new().format(row));
+    line.push_str(" refused 20 bad-row\n");
+    line
+}
+
+/// The line of a reply, where so many events were accepted before.
+fn reply_line(row: u64, game: u8, before: u16, reply: Result<Accepted, Refusal>) -> ArrayString<256>
+    requires { before < 2 ^ 16 - 1 }
+    ensures { result.bytes ≡ line_of_reply row game before reply }
+{
+    match reply {
+        Ok(accepted) => accepted_line(row, game, accepted.number, before + 1),
+        Err(refusal) => refused_line(row, refusal),
+    }
+}
+
+/// The reply to an event of a match, where so many events were accepted before.
+pub(crate) fn reply_answer(
+    alloc: Global,
+    format: Format,
+    row: u64,
+    game: u8,
+    before: u16,
+    reply: Result<Accepted, Refusal>,
+) -> Result<Answer, AllocError>
+    requires { before < 2 ^ 16 - 1 }
+    ensures text { IfOk result (λ answer. bytes_of answer ≡ reply_answer format row game before reply) }
+    ensures memory { IfErr result (λ _. format ≡ Format.Json) }
+{
+    match format {
+        Format::Text => Ok(Answer::Short(reply_line(row, game, before, reply))),
+        Format::Json => Ok(Answer::Long(reply_json(alloc, row, game, before, reply)?)),
+    }
+}
+
+/// The answer to a row that asks for nothing that there is.
+pub(crate) fn bad_answer(alloc: Global, format: Format, row: u64) -> Result<Answer, AllocError>
+    ensures text { IfOk result (λ answer. bytes_of answer ≡ bad_answer format row) }
+    ensures memory { IfErr result (λ _. format ≡ Format.Json) }
+{
+    match format {
+        Format::Text => Ok(Answer::Short(bad_line(row))),
+        Format::Json => Ok(Answer::Long(bad_row_json(alloc, row)?)),
+    }
+}
+
+/// The screen of a board.
+pub(crate) fn screen_answer(
+    alloc: Global,
+    options: &Options,
+    row: u64,
+    table: &Table,
+) -> Result<Answer, RunFault>
+    ensures text { IfOk result (λ answer. bytes_of answer ≡ screen_answer options.now row table.now.roster table.now.board) }
+    ensures memory { IfErr result (λ f. f ≡ RunFault.OutOfMemory) }
+{
+    let text = match options.format {
+        Format::Text => screen(
+            alloc,
+            &table.board,
+            &table.roster,
+            options.group,
+            options.profile,
+        )?,
+        Format::Json => screen_json(
+            alloc,
+            row,
+            &table.board,
+            &table.roster,
+            options.group,
+            options.profile,
+        )?,
+    };
+    Ok(Answer::Long(text))
+}
+
+/// The words of a board.
+pub(crate) fn words_answer(
+    alloc: Global,
+    format: Format,
+    row: u64,
+    board: &Board,
+) -> Result<Answer, AllocError>
+    ensures { IfOk result (λ answer. bytes_of answer ≡ words_answer format row board.now) }
+{
+    let text = match format {
+        Format::Text => words_text(alloc, board)?,
+        Format::Json => words_json(alloc, row, board)?,
+    };
+    Ok(Answer::Long(text))
+}

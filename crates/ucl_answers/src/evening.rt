@@ -1,0 +1,94 @@
+//! An evening between two lines.
+
+ghost use Rattle.std.specs.Prelude.{◌≡◌, ◌+◌, ◌-◌, ◌^◌, ◌<◌, IfErr, IfOk, OnOk, option_map};
+ghost use Rattle.ucl_screen.specs.Rows.{four_seen};
+ghost use Rattle.ucl_answers.specs.Output.{FailsToPut, HasPut};
+ghost use Rattle.ucl_answers.specs.Rows.{Nothing, of_row};
+ghost use Rattle.ucl_answers.specs.Requests.{request_of};
+ghost use Rattle.ucl_answers.specs.Seen.{evening_seen, stage_seen};
+ghost use Rattle.ucl_answers.specs.Stages.{after_row};
+ghost use Rattle.ucl_answers.specs.Stepping.{AsksAt, AsksForMemory, IsRefused, IsRefusedAt};
+ghost use Rattle.ucl_answers.specs.Text.{answer, answer_at, next};
+
+use crate::options::Options;
+use crate::page::Page;
+use crate::request::request_of;
+use crate::stage::{Stage, with_club};
+use std::alloc::Global;
+use ucl_runs::RunFault;
+use ucl_screen::{Four, Sink};
+
+/// An evening between two lines: how it answers, which line comes next, counted from 1, and how far it is.
+#[derive(Drop)]
+pub(crate) struct Evening {
+    pub(crate) options: Options,
+    pub(crate) row: u64,
+    pub(crate) stage: Stage,
+}
+
+/// Answers a row, which has four fields or is garbled, and gives the stage after it.
+#[tactic(auto, using(crate::proofs::Puts::put_nothing))]
+fn after_row<W: Sink>(
+    alloc: Global,
+    options: &Options,
+    row: u64,
+    stage: Stage,
+    said: &Option<Four<'_>>,
+    page: &mut Page,
+    sink: &mut W,
+) -> Result<Stage, RunFault>
+    ensures next { IfOk result (λ after. stage_seen after ≡ after_row row (stage_seen stage) (of_row (option_map four_seen said.now))) }
+    ensures put { OnOk result (HasPut page.old page.new (W.taken sink.old) (W.taken sink.new) (answer_at options.now row (stage_seen stage) (request_of (of_row (option_map four_seen said.now))))) }
+    ensures fails { IfErr result (FailsToPut page.old page.new (W.failed sink.new) (W.taken sink.old) (W.taken sink.new) (answer_at options.now row (stage_seen stage) (request_of (of_row (option_map four_seen said.now)))) (AsksAt options.now (stage_seen stage) (request_of (of_row (option_map four_seen said.now)))) (IsRefusedAt (after_row row (stage_seen stage) (of_row (option_map four_seen said.now))))) }
+{
+    let _written = page.written();
+    match stage {
+        Stage::Naming(clubs) => with_club(alloc, row, clubs, said),
+        Stage::Restoring(some) => some.with_row(row, said),
+        Stage::Open(table) => {
+            let request = request_of(said);
+            let table = table.answered(alloc, options, row, &request, page, sink)?;
+            Ok(Stage::Open(table))
+        }
+    }
+}
+
+impl Evening {
+    /// The evening after a line with nothing on it.
+    pub(crate) fn passed(self) -> Evening
+        requires { self.row < 2 ^ 64 - 1 }
+        ensures { evening_seen result ≡ next (evening_seen self) Nothing }
+    {
+        Evening {
+            options: self.options,
+            row: self.row + 1,
+            stage: self.stage,
+        }
+    }
+
+    /// Answers a row, which has four fields or is garbled, and gives the evening after it.
+    pub(crate) fn answered<W: Sink>(
+        self,
+        alloc: Global,
+        said: &Option<Four<'_>>,
+        page: &mut Page,
+        sink: &mut W,
+    ) -> Result<Evening, RunFault>
+        requires { self.row < 2 ^ 64 - 1 }
+        ensures next { IfOk result (λ after. evening_seen after ≡ next (evening_seen self) (of_row (option_map four_seen said.now))) }
+        ensures put { OnOk result (HasPut page.old page.new (W.taken sink.old) (W.taken sink.new) (answer (evening_seen self) (of_row (option_map four_seen said.now)))) }
+        ensures fails { IfErr result (FailsToPut page.old page.new (W.failed sink.new) (W.taken sink.old) (W.taken sink.new) (answer (evening_seen self) (of_row (option_map four_seen said.now))) (AsksForMemory (evening_seen self) (of_row (option_map four_seen said.now))) (IsRefused (next (evening_seen self) (of_row (option_map four_seen said.now))))) }
+    {
+        let Evening {
+            options,
+            row,
+            stage,
+        } = self;
+        let stage = after_row(alloc, &options, row, stage.opened(said), said, page, sink)?;
+        Ok(Evening {
+            options,
+            row: row + 1,
+            stage,
+        })
+    }
+}

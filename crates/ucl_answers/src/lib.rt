@@ -1,0 +1,24 @@
+//! The board of one group of the UEFA Champions League through an evening, over any source of bytes and any sink: reporters send rows, and
+//! each row is answered as it comes.
+#![tactic(auto)]
+
+mod answer;
+mod desk;
+mod evening;
+mod laws;
+mod live;
+mod options;
+mod page;
+mod request;
+mod row;
+mod some_words;
+mod stage;
+mod table;
+mod words;
+
+pub use laws::{
+    beginnings_are_answered, boards_take_events, evenings_are_sequential,
+    refused_evenings_are_silent, replies_are_those_of_feed,
+};
+pub use live::{Live, Progress, live_run};
+pub use options::{Format, Options};

@@ -1,0 +1,282 @@
+//! An evening, and its steps.
+
+ghost use Rattle.std.specs.Prelude.{◌≡◌, ◌↔◌, IsTrue, ℕ, ◌+◌, ◌-◌, ◌^◌, ◌<◌, ◌≤◌, ◌++◌, List, [], ◌∷◌, None, Option, false, length, IfErr, IfOk, OnOk, IfSome};
+ghost use Rattle.std.specs.Io.KnownBytes.{Appends};
+ghost use Rattle.ucl_answers.specs.Output.{FailsToPut, HasPut};
+ghost use Rattle.ucl_answers.specs.Text.{Evening as AnEvening, live_text, missing_after, start_of};
+ghost use Rattle.ucl_answers.specs.Stepping.{Fails, IfTook, IsAt, IsPrompt, IsRefused, LineAsks, StaysPrompt, answers_to, begins, ended_at, last_answers, missing_at, moment_after};
+ghost use Rattle.ucl_answers.specs.Seen.{evening_seen};
+ghost use Rattle.ucl_answers.specs.Taking.{FailsToEnd, FailsToGive, FailsToTake, RunFails, begun_in, held_row, live_moment, live_row, live_waiting, moment_of};
+
+use crate::desk::Desk;
+use crate::evening::Evening;
+use crate::options::Options;
+use crate::stage::{Clubs, Stage};
+use std::alloc::Global;
+use ucl_runs::RunFault;
+use ucl_screen::{InputFault, Sink, Source};
+
+/// How many bytes are asked for at a time.
+const PIECE: usize = 16_384;
+
+/// The most bytes of an evening, which none lives to see.
+const MOST_BYTES: usize = 0x4000_0000_0000_0000;
+
+/// An evening between two bytes of its input. It knows how many bytes it has read and written since its start; a number past
+/// `usize::MAX` is told as that.
+#[derive(Drop)]
+pub struct Live {
+    evening: Evening,
+    desk: Desk,
+    read: usize,
+}
+
+/// What a step came to.
+#[derive(Drop)]
+pub enum Progress {
+    /// The evening goes on: it took at least one byte.
+    Took(Live),
+    /// The input has ended, and so has the evening.
+    Ended,
+}
+
+/// Takes a byte. Where it ends a line, this line is answered.
+fn enter_byte<W: Sink>(
+    alloc: Global,
+    evening: Evening,
+    desk: &mut Desk,
+    b: u8,
+    sink: &mut W,
+) -> Result<Evening, RunFault>
+    requires short { length desk.old.line.items ≤ 258 }
+    requires row { evening.row < 2 ^ 64 - 1 }
+    ensures moment { IfOk result (λ after. moment_of after desk.new ≡ moment_after (moment_of evening desk.old) (b ∷ [])) }
+    ensures short { OnOk result (length desk.new.line.items ≤ 258) }
+    ensures row { IfOk result (λ after. held_row after ≤ evening.row + 1) }
+    ensures put { OnOk result (HasPut desk.old.page desk.new.page (W.taken sink.old) (W.taken sink.new) (answers_to (moment_of evening desk.old) (b ∷ []))) }
+    ensures fails { IfErr result (FailsToTake (moment_of evening desk.old) (b ∷ []) desk.old.page desk.new.page (W.failed sink.new) (W.taken sink.old) (W.taken sink.new)) }
+{
+    let _written = desk.page.written();
+    if b == b'\n' {
+        return desk.answer(alloc, evening, sink);
+    }
+    desk.keep(b);
+    Ok(evening)
+}
+
+/// Takes bytes, and answers each line that ends among them.
+fn enter<W: Sink>(
+    alloc: Global,
+    evening: Evening,
+    desk: &mut Desk,
+    bytes: &[u8],
+    sink: &mut W,
+) -> Result<Evening, RunFault>
+    requires short { length desk.old.line.items ≤ 258 }
+    requires few { evening.row + length bytes.now < 2 ^ 64 }
+    ensures moment { IfOk result (λ after. moment_of after desk.new ≡ moment_after (moment_of evening desk.old) bytes.now) }
+    ensures short { OnOk result (length desk.new.line.items ≤ 258) }
+    ensures row { IfOk result (λ after. held_row after ≤ evening.row + length bytes.now) }
+    ensures put { OnOk result (HasPut desk.old.page desk.new.page (W.taken sink.old) (W.taken sink.new) (answers_to (moment_of evening desk.old) bytes.now)) }
+    ensures fails { IfErr result (FailsToTake (moment_of evening desk.old) bytes.now desk.old.page desk.new.page (W.failed sink.new) (W.taken sink.old) (W.taken sink.new)) }
+{
+    let _written = desk.page.written();
+    let mut evening = evening;
+    for b in bytes {
+        evening = enter_byte(alloc, evening, desk, *b, sink)?;
+    }
+    Ok(evening)
+}
+
+/// Whether a run failed for want of memory.
+fn is_out_of_memory(fault: &RunFault) -> bool
+    ensures { IsTrue result ↔ (fault.now ≡ RunFault.OutOfMemory) }
+{
+    matches!(fault, RunFault::OutOfMemory)
+}
+
+/// Takes bytes, answers each line that ends among them, and gives the answers to the sink. Where there is no memory for an answer, the
+/// answers before it are given.
+fn take_in<W: Sink>(
+    alloc: Global,
+    evening: Evening,
+    desk: &mut Desk,
+    bytes: &[u8],
+    sink: &mut W,
+) -> Result<Evening, RunFault>
+    requires short { length desk.old.line.items ≤ 258 }
+    requires few { evening.row + length bytes.now < 2 ^ 64 }
+    requires waiting { desk.old.page.held ≡ [] }
+    ensures moment { IfOk result (λ after. moment_of after desk.new ≡ moment_after (moment_of evening desk.old) bytes.now) }
+    ensures short { OnOk result (length desk.new.line.items ≤ 258) }
+    ensures row { IfOk result (λ after. held_row after ≤ evening.row + length bytes.now) }
+    ensures waiting { OnOk result (desk.new.page.held ≡ []) }
+    ensures put { OnOk result (HasPut desk.old.page desk.new.page (W.taken sink.old) (W.taken sink.new) (answers_to (moment_of evening desk.old) bytes.now)) }
+    ensures fails { IfErr result (FailsToGive (moment_of evening desk.old) bytes.now desk.old.page.out (W.failed sink.new) (W.taken sink.old) (W.taken sink.new)) }
+{
+    match enter(alloc, evening, desk, bytes, sink) {
+        Ok(after) => {
+            desk.page.flush(sink)?;
+            Ok(after)
+        }
+        Err(fault) => {
+            if is_out_of_memory(&fault) {
+                desk.page.flush(sink)?;
+                return Err(fault);
+            }
+            Err(fault)
+        }
+    }
+}
+
+/// Answers a last line that has no end.
+fn answer_last<W: Sink>(
+    alloc: Global,
+    evening: Evening,
+    desk: &mut Desk,
+    sink: &mut W,
+) -> Result<Evening, RunFault>
+    requires short { length desk.old.line.items ≤ 258 }
+    requires row { evening.row < 2 ^ 64 - 1 }
+    ensures ended { IfOk result (λ after. evening_seen after ≡ ended_at (moment_of evening desk.old)) }
+    ensures put { OnOk result (HasPut desk.old.page desk.new.page (W.taken sink.old) (W.taken sink.new) (last_answers (moment_of evening desk.old))) }
+    ensures fails { IfErr result (FailsToPut desk.old.page desk.new.page (W.failed sink.new) (W.taken sink.old) (W.taken sink.new) (last_answers (moment_of evening desk.old)) (LineAsks (moment_of evening desk.old)) (IsRefused (ended_at (moment_of evening desk.old)))) }
+{
+    let _written = desk.page.written();
+    if desk.line.is_empty() {
+        return Ok(evening);
+    }
+    desk.answer(alloc, evening, sink)
+}
+
+/// Answers a last line that has no end, and looks whether a club or a word is missing.
+fn end<W: Sink>(
+    alloc: Global,
+    evening: Evening,
+    desk: &mut Desk,
+    sink: &mut W,
+) -> Result<(), RunFault>
+    requires short { length desk.old.line.items ≤ 258 }
+    requires row { evening.row < 2 ^ 64 - 1 }
+    requires waiting { desk.old.page.held ≡ [] }
+    ensures complete { OnOk result (missing_at (moment_of evening desk.old) ≡ None) }
+    ensures out { OnOk result (Appends (W.taken sink.old) (W.taken sink.new) (last_answers (moment_of evening desk.old))) }
+    ensures fails { IfErr result (FailsToEnd (moment_of evening desk.old) desk.old.page.out (W.failed sink.new) (W.taken sink.old) (W.taken sink.new)) }
+{
+    let after = answer_last(alloc, evening, desk, sink)?;
+    match after.stage.missing(after.row) {
+        Some(fault) => Err(RunFault::Input(fault)),
+        None => desk.page.flush(sink),
+    }
+}
+
+impl Live {
+    /// An evening before its first byte.
+    pub fn new(options: Options) -> Live
+        ensures moment { live_moment result ≡ begins (start_of options) }
+        ensures figures { IsAt (begins (start_of options)) 0 0 result }
+    {
+        Live {
+            evening: Evening {
+                options,
+                row: 1,
+                stage: Stage::Naming(Clubs::NoClub),
+            },
+            desk: Desk::new(),
+            read: 0,
+        }
+    }
+
+    /// Takes what the source has, by one call, and answers each row that is complete by then.
+    ///
+    /// An evening that was prompt stays so: when the sink had taken the answers to all lines that had an end, and nothing else, it has so
+    /// again after the step. At the end of the input a last line without an end is answered too.
+    ///
+    /// # Errors
+    ///
+    /// Where the source fails, the answers before are out. Where the sink fails, a first part of the answers is out, and how many bytes
+    /// went out since the start is told. Where there is no memory for the answer to a line, those before it are out, whole; only a line
+    /// that names a club, that asks for the screen or the words, an accepted event which the screen follows, and any line in JSON, ask for
+    /// memory. Where the clubs or the words have a fault, nothing is out. The evening is over then.
+    pub fn step<S: Source, W: Sink>(
+        self,
+        alloc: Global,
+        piece: &mut [u8],
+        source: &mut S,
+        sink: &mut W,
+    ) -> Result<Progress, RunFault>
+        requires room { 0 < length piece.old }
+        requires few { live_row self + length piece.old < 2 ^ 64 }
+        requires short { length (begun_in self) ≤ 258 }
+        requires waiting { (live_waiting self).held ≡ [] }
+        ensures one_call { S.calls source.new ≡ S.calls source.old + 1 }
+        ensures vain { S.in_vain source.new ≤ S.in_vain source.old + 1 }
+        ensures moved { IfOk result (IfTook (λ _. S.in_vain source.new ≡ S.in_vain source.old)) }
+        ensures sound { OnOk result (S.failed source.new ≡ false) }
+        ensures prompt { (start : AnEvening) (first : Option (List ℕ)) (before : List ℕ) → IsPrompt start first self (W.taken sink.old) before
+            → IfOk result (StaysPrompt start first before (S.left source.old) (S.left source.new) (W.taken sink.new)) }
+        ensures short { IfOk result (IfTook (λ live. length (begun_in live) ≤ 258)) }
+        ensures waiting { IfOk result (IfTook (λ live. (live_waiting live).held ≡ [])) }
+        ensures row { IfOk result (IfTook (λ live. live_row live ≤ live_row self + length piece.old)) }
+        ensures fails { (start : AnEvening) (first : Option (List ℕ)) (before : List ℕ) → IsPrompt start first self (W.taken sink.old) before
+            → IfErr result (Fails (moment_after (begins start) before) (length before) (length (answers_to (begins start) before)) (S.failed source.new) (W.failed sink.new) (S.left source.old) (S.left source.new) (W.taken sink.old) (W.taken sink.new)) }
+    {
+        let Live {
+            evening,
+            desk,
+            read,
+        } = self;
+        let mut desk = desk;
+        match source.take(piece) {
+            None => Err(RunFault::Input(InputFault::ReadFailed { bytes: read })),
+            Some(0) => {
+                end(alloc, evening, &mut desk, sink)?;
+                Ok(Progress::Ended)
+            }
+            Some(n) => {
+                let evening = take_in(alloc, evening, &mut desk, &piece[..n], sink)?;
+                Ok(Progress::Took(Live {
+                    evening,
+                    desk,
+                    read: read.saturating_add(n),
+                }))
+            }
+        }
+    }
+}
+
+/// Answers the rows of a source until it ends: each at once, before more is asked for.
+///
+/// The first four lines with something on them name the clubs; twelve lines of words may follow, from which the board goes on; then come
+/// events and what is asked for, in any order and without an end.
+///
+/// # Errors
+///
+/// Those of `Live::step`; and `TooLong` after more than 2^62 bytes, which no evening has.
+pub fn live_run<S: Source, W: Sink>(
+    alloc: Global,
+    options: Options,
+    source: &mut S,
+    sink: &mut W,
+) -> Result<(), RunFault>
+    ensures text { OnOk result (IfSome (S.left source.old) (λ bytes. Appends (W.taken sink.old) (W.taken sink.new) (live_text (start_of options) bytes))) }
+    ensures complete { OnOk result (IfSome (S.left source.old) (λ bytes. missing_after (start_of options) bytes ≡ None)) }
+    ensures sound { OnOk result (S.failed source.new ≡ false) }
+
+    // A source that has failed, or told the end, is not called again.
+    ensures vain { S.in_vain source.new ≤ S.in_vain source.old + 1 }
+
+    ensures fails { IfErr result (RunFails (start_of options) (S.failed source.new) (W.failed sink.new) (S.left source.old) (S.left source.new) (W.taken sink.old) (W.taken sink.new)) }
+{
+    let mut live = Live::new(options);
+    let mut piece = [0; PIECE];
+    'steps: loop {
+        if live.read > MOST_BYTES {
+            return Err(RunFault::Input(InputFault::TooLong));
+        }
+        match live.step(alloc, &mut piece, source, sink)? {
+            Progress::Ended => return Ok(()),
+            Progress::Took(next) => live = next,
+        }
+    }
+}

@@ -1,0 +1,105 @@
+//! Text that is gathered before it is given to a sink.
+
+ghost use Rattle.std.specs.Prelude.{◌≡◌, ◌+◌, ◌-◌, ◌^◌, ◌≤◌, [], ◌++◌, min, length, IfErr, IfOk, OnOk};
+ghost use Rattle.std.specs.Io.KnownBytes.{Appends};
+ghost use Rattle.ucl_runs.specs.Run.{IsStopped};
+ghost use Rattle.ucl_answers.specs.Output.{HasPut};
+
+use arrayvec::ArrayVec;
+use std::marker::Model;
+use ucl_runs::RunFault;
+use ucl_screen::{Sink, give_all};
+
+/// How many bytes are gathered.
+const PAGE: usize = 4096;
+
+/// Text that waits to be given to a sink, and how many bytes went out. A number past `usize::MAX` is told as that.
+#[derive(Drop)]
+pub(crate) struct Page {
+    held: ArrayVec<u8, PAGE>,
+    out: usize,
+}
+
+impl Model for Page {
+    ghost use Rattle.ucl_answers.specs.Output.{Waiting};
+
+    ghost Value = { Waiting };
+
+    ghost view = { λ p. record { held = p.held.items; out = p.out } };
+}
+
+/// Gives a text to the sink after so many bytes, and says how many are out then.
+fn give<W: Sink>(before: usize, sink: &mut W, text: &[u8]) -> Result<usize, RunFault>
+    ensures all { OnOk result (Appends (W.taken sink.old) (W.taken sink.new) text.now) }
+    ensures count { IfOk result (λ after. after ≡ min (before + length text.now) (2 ^ 64 - 1)) }
+    ensures stopped { IfErr result (IsStopped before (W.failed sink.new) (W.taken sink.old) (W.taken sink.new) text.now) }
+{
+    match give_all(sink, text) {
+        Ok(()) => Ok(before.saturating_add(text.len())),
+        Err(more) => Err(RunFault::WriteFailed {
+            written: before.saturating_add(more),
+        }),
+    }
+}
+
+impl Page {
+    /// Nothing waits, and nothing went out.
+    pub(crate) fn new() -> Page
+        ensures { result ≡ record { held = []; out = 0 } }
+    {
+        Page {
+            held: ArrayVec::new(),
+            out: 0,
+        }
+    }
+
+    /// How many bytes went out.
+    pub(crate) fn written(&self) -> usize
+        ensures value { result ≡ self.now.out }
+        ensures bound { self.now.out ≤ 2 ^ 64 - 1 }
+    {
+        self.out
+    }
+
+    /// Gives to the sink what waits.
+    pub(crate) fn flush<W: Sink>(&mut self, sink: &mut W) -> Result<(), RunFault>
+        ensures put { OnOk result (HasPut self.old self.new (W.taken sink.old) (W.taken sink.new) []) }
+        ensures empty { OnOk result (self.new.held ≡ []) }
+        ensures stopped { IfErr result (IsStopped self.old.out (W.failed sink.new) (W.taken sink.old) (W.taken sink.new) self.old.held) }
+    {
+        self.out = give(self.out, sink, self.held.as_slice())?;
+        self.held.clear();
+        Ok(())
+    }
+
+    /// Puts a text after what waits. Where there is no room for it, both are given to the sink.
+    #[tactic(auto, using(crate::proofs::Puts::put_held, crate::proofs::Puts::put_given, crate::proofs::Puts::put_then, crate::proofs::Puts::put_stopped))]
+    pub(crate) fn put<W: Sink>(&mut self, sink: &mut W, text: &[u8]) -> Result<(), RunFault>
+        ensures put { OnOk result (HasPut self.old self.new (W.taken sink.old) (W.taken sink.new) text.now) }
+        ensures stopped { IfErr result (IsStopped self.old.out (W.failed sink.new) (W.taken sink.old) (W.taken sink.new) (self.old.held ++ text.now)) }
+    {
+        let _before = self.out;
+        match self.held.try_extend_from_slice(text) {
+            Ok(()) => return Ok(()),
+            Err(_) => {}
+        }
+        self.flush(sink)?;
+        self.out = give(self.out, sink, text)?;
+        Ok(())
+    }
+
+    /// Puts two texts, one after the other.
+    #[tactic(auto, using(crate::proofs::Puts::put_then, crate::proofs::Puts::put_stopped, crate::proofs::Puts::stopped_before))]
+    pub(crate) fn put_both<W: Sink>(
+        &mut self,
+        sink: &mut W,
+        text: &[u8],
+        more: &[u8],
+    ) -> Result<(), RunFault>
+        ensures put { OnOk result (HasPut self.old self.new (W.taken sink.old) (W.taken sink.new) (text.now ++ more.now)) }
+        ensures stopped { IfErr result (IsStopped self.old.out (W.failed sink.new) (W.taken sink.old) (W.taken sink.new) (self.old.held ++ (text.now ++ more.now))) }
+    {
+        self.put(sink, text)?;
+        self.put(sink, more)
+    }
+}

@@ -1,0 +1,81 @@
+//! The answers of an open board.
+
+ghost use Rattle.std.specs.Prelude.{◌≡◌, IfErr, IfOk, OnOk};
+ghost use Rattle.ucl_answers.specs.Output.{FailsToPut, HasPut};
+ghost use Rattle.ucl_answers.specs.Stages.{next_board};
+ghost use Rattle.ucl_answers.specs.Stepping.{AsksOf, NeverRefused};
+ghost use Rattle.ucl_answers.specs.Text.{answer_of, event_answer};
+ghost use Rattle.ucl_answers.specs.declared.request.Request.TheVariants.{Event};
+
+use crate::answer::{bad_answer, reply_answer, screen_answer, words_answer};
+use crate::options::Options;
+use crate::page::Page;
+use crate::request::Request;
+use crate::stage::Table;
+use std::alloc::Global;
+use ucl_runs::RunFault;
+use ucl_screen::{NightEvent, Sink};
+
+impl Table {
+    /// Enters an event, and answers it.
+    #[tactic(auto, using(crate::proofs::Puts::put_fails))]
+    fn entered<W: Sink>(
+        self,
+        alloc: Global,
+        options: &Options,
+        row: u64,
+        event: &NightEvent,
+        page: &mut Page,
+        sink: &mut W,
+    ) -> Result<Table, RunFault>
+        ensures roster { IfOk result (λ after. after.roster ≡ self.roster) }
+        ensures board { IfOk result (λ after. after.board ≡ next_board self.board (Event event.now)) }
+        ensures put { OnOk result (HasPut page.old page.new (W.taken sink.old) (W.taken sink.new) (event_answer options.now row self.roster self.board event.now)) }
+        ensures fails { IfErr result (FailsToPut page.old page.new (W.failed sink.new) (W.taken sink.old) (W.taken sink.new) (event_answer options.now row self.roster self.board event.now) (AsksOf options.now self.board (Event event.now)) NeverRefused) }
+    {
+        let before = self.board.version();
+        let mut board = self.board;
+        let reply = board.report(event.reporter, &event.call);
+        let game = event.call.game.get();
+        let line = reply_answer(alloc, options.format, row, game, before, reply)?;
+        let after = Table {
+            roster: self.roster,
+            board,
+        };
+        if options.screens && reply.is_ok() {
+            let screen = screen_answer(alloc, options, row, &after)?;
+            page.put_both(sink, line.bytes(), screen.bytes())?;
+        } else {
+            page.put(sink, line.bytes())?;
+        }
+        Ok(after)
+    }
+
+    /// Does what a row asks for, answers it, and gives the table after it.
+    #[tactic(auto, using(crate::proofs::Puts::put_fails))]
+    pub(crate) fn answered<W: Sink>(
+        self,
+        alloc: Global,
+        options: &Options,
+        row: u64,
+        request: &Request,
+        page: &mut Page,
+        sink: &mut W,
+    ) -> Result<Table, RunFault>
+        ensures roster { IfOk result (λ after. after.roster ≡ self.roster) }
+        ensures board { IfOk result (λ after. after.board ≡ next_board self.board request.now) }
+        ensures put { OnOk result (HasPut page.old page.new (W.taken sink.old) (W.taken sink.new) (answer_of options.now row self.roster self.board request.now)) }
+        ensures fails { IfErr result (FailsToPut page.old page.new (W.failed sink.new) (W.taken sink.old) (W.taken sink.new) (answer_of options.now row self.roster self.board request.now) (AsksOf options.now self.board request.now) NeverRefused) }
+    {
+        let answer = match request {
+            Request::Event(event) => {
+                return self.entered(alloc, options, row, event, page, sink);
+            }
+            Request::Bad => bad_answer(alloc, options.format, row)?,
+            Request::Screen => screen_answer(alloc, options, row, &self)?,
+            Request::Words => words_answer(alloc, options.format, row, &self.board)?,
+        };
+        page.put(sink, answer.bytes())?;
+        Ok(self)
+    }
+}

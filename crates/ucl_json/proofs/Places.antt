@@ -1,0 +1,97 @@
+-- Items that are added one after the other, and the members of a place.
+use Rattle.std.proofs.Common.{◌≡◌, ℕ, ℤ, pos, negsuc, ◌-ℤ◌, false, arith, ◌+◌, ◌≤◌, ◌<◌, List, [], ◌∷◌, ◌++◌, length, take, get_or, refl, ap, ◌∙◌}
+use Rattle.std.proofs.lemmas.List.{take_all, take_more}
+use Rattle.serde_json.specs.Data.{Data, Items, depth, item, items_depth, no_items, no_members, object, string}
+use Rattle.serde_json.specs.Find.{is_float, of_integer}
+use Rattle.serde_json.specs.Read.{max_depth}
+use Rattle.serde_json.specs.Written.{has_float, items_have_float}
+use Rattle.serde_json.specs.View.{items_view, view}
+use Rattle.serde_json.specs.declared.value.Value.{Value}
+use Rattle.serde_json.proofs.OnLiterals.{serde_json_on_literals}
+use Rattle.ucl_order.specs.declared.profile.Profile.{Profile}
+use Rattle.ucl_order.specs.declared.table.Row.{Row}
+use Rattle.ucl_order.specs.Rows.{rows_of}
+use Rattle.ucl_order.specs.Roster.{NamedClub}
+use Rattle.ucl_runs.specs.Lines.{hex_digits}
+use Rattle.ucl_json.specs.Values.{place_items, place_value, screen_value, with_club, with_goals, with_matches, word_items, words_value}
+
+abbrev add : Items → Data → Items
+add no_items d = item d no_items
+add (item e more) d = item e (add more d)
+
+view-add : (xs : List Value) (v : Value) → items_view (xs ++ v ∷ []) ≡ add (items_view xs) (view v)
+view-add [] v = refl
+view-add (x ∷ xs) v = ap (item (view x)) (view-add xs v)
+
+words-add : (ws : List ℕ) (w : ℕ) → word_items (ws ++ w ∷ []) ≡ add (word_items ws) (string (hex_digits w))
+words-add [] w = refl
+words-add (v ∷ ws) w = ap (item (string (hex_digits v))) (words-add ws w)
+
+rows-add : (roster : List NamedClub) (rows : List Row) (row : Row) → place_items roster (rows ++ row ∷ []) ≡ add (place_items roster rows) (place_value roster row)
+rows-add roster [] row = refl
+rows-add roster (r ∷ rows) row = ap (item (place_value roster r)) (rows-add roster rows row)
+
+-- one word more
+pub next-word : (xs ys : List Value) (v : Value) (ws : List ℕ) (i : ℕ) → i < length ws → items_view xs ≡ word_items (take i ws) → view v ≡ string (hex_digits (get_or ws i 0)) → ys ≡ xs ++ v ∷ []
+    → items_view ys ≡ word_items (take (i + 1) ws)
+next-word xs ys v ws i h so_far now e = rw (e, take_more ws i 0 h, words-add (take i ws) (get_or ws i 0), ← so_far, ← now) (view-add xs v)
+
+pub all-words : (xs : List Value) (ws : List ℕ) (i : ℕ) → length ws ≤ i → items_view xs ≡ word_items (take i ws) → items_view xs ≡ word_items ws
+all-words xs ws i h e = e ∙ ap word_items (take_all i ws h)
+
+-- one row more
+pub next-row : (roster : List NamedClub) (xs ys : List Value) (v : Value) (rows : List Row) (i : ℕ) (d : Row) → i < length rows → items_view xs ≡ place_items roster (take i rows)
+    → view v ≡ place_value roster (get_or rows i d) → ys ≡ xs ++ v ∷ [] → items_view ys ≡ place_items roster (take (i + 1) rows)
+next-row roster xs ys v rows i d h so_far now e = rw (e, take_more rows i d h, rows-add roster (take i rows) (get_or rows i d), ← so_far, ← now) (view-add xs v)
+
+pub all-rows : (roster : List NamedClub) (xs : List Value) (rows : List Row) (i : ℕ) → length rows ≤ i → items_view xs ≡ place_items roster (take i rows) → items_view xs ≡ place_items roster rows
+all-rows roster xs rows i h e = e ∙ ap (place_items roster) (take_all i rows h)
+
+-- the members of a place, in the order of their names
+pub placed : (roster : List NamedClub) (row : Row) → object (with_club roster row (with_goals row (with_matches row no_members))) ≡ place_value roster row
+unfolding place_value serde_json_on_literals
+placed roster row = refl
+
+-- no float, and no deep nesting
+
+int-whole : (z : ℤ) → is_float (of_integer z) ≡ false
+int-whole (pos n) = refl
+int-whole (negsuc n) = refl
+
+words-items : (ws : List ℕ) → items_have_float (word_items ws) ≡ false
+words-items [] = refl
+words-items (w ∷ ws) = words-items ws
+
+pub words-whole : (row : ℕ) (ws : List ℕ) → has_float (words_value row ws) ≡ false
+words-whole row ws = rw (words-items ws) refl
+
+words-flat : (ws : List ℕ) → items_depth (word_items ws) ≡ 0
+words-flat [] = refl
+words-flat (w ∷ ws) = rw (words-flat ws) refl
+
+pub words-shallow : (row : ℕ) (ws : List ℕ) → depth (words_value row ws) ≤ max_depth
+words-shallow row ws = rw (words-flat ws) (omega arith)
+
+place-whole : (roster : List NamedClub) (row : Row) → has_float (place_value roster row) ≡ false
+unfolding place_value
+place-whole roster row = rw (int-whole (pos row.goals_for -ℤ pos row.goals_against)) refl
+
+places-whole : (roster : List NamedClub) (rows : List Row) → items_have_float (place_items roster rows) ≡ false
+places-whole roster [] = refl
+places-whole roster (row ∷ rows) = rw (place-whole roster row, places-whole roster rows) refl
+
+place-flat : (roster : List NamedClub) (row : Row) → depth (place_value roster row) ≡ 1
+unfolding place_value
+place-flat roster row = refl
+
+places-flat : (roster : List NamedClub) (rows : List Row) → items_depth (place_items roster rows) ≤ 1
+places-flat roster [] = omega arith
+places-flat roster (row ∷ rows) = let k = places-flat roster rows in rw (place-flat roster row) (omega (arith, k))
+
+pub screen-whole : (row : ℕ) (profile : Profile) (board : List ℕ) (roster : List NamedClub) (group : ℕ) → has_float (screen_value row profile board roster group) ≡ false
+unfolding screen_value
+screen-whole row profile board roster group = rw (places-whole roster (rows_of profile board roster)) refl
+
+pub screen-shallow : (row : ℕ) (profile : Profile) (board : List ℕ) (roster : List NamedClub) (group : ℕ) → depth (screen_value row profile board roster group) ≤ max_depth
+unfolding screen_value
+screen-shallow row profile board roster group = let k = places-flat roster (rows_of profile board roster) in omega (arith, k)

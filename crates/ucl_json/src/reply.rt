@@ -1,0 +1,103 @@
+//! Replies to events.
+
+ghost use Rattle.std.specs.Prelude.{◌≡◌, ◌<◌, ◌-◌, ◌^◌, IfOk, string_bytes};
+ghost use Rattle.serde_json.specs.View.{view};
+ghost use Rattle.ucl_json.specs.Lines.{IsLineOf};
+ghost use Rattle.ucl_json.specs.Values.{accepted_value, bad_row_value, coded_value, refused_value, reply_value, stale_value};
+
+use crate::line::line_of;
+use serde_json::{Value, json};
+use std::alloc::{AllocError, Global};
+use ucl_word::{Accepted, Refusal};
+
+/// The reply to an event that was entered.
+fn accepted_value(
+    alloc: Global,
+    row: u64,
+    game: u8,
+    number: u16,
+    version: u16,
+) -> Result<Value, AllocError>
+    ensures { IfOk result (λ value. view value ≡ accepted_value row game number version) }
+{
+    json!(in alloc; {"row": row, "reply": "ok", "match": game, "number": number, "version": version})
+}
+
+/// The reply to an event that is stale.
+fn stale_value(alloc: Global, row: u64, found: u16) -> Result<Value, AllocError>
+    ensures { IfOk result (λ value. view value ≡ stale_value row found) }
+{
+    json!(in alloc; {"row": row, "reply": "refused", "code": 1, "name": "stale", "number": found})
+}
+
+/// The reply to any other row that is refused.
+fn coded_value(alloc: Global, row: u64, code: u8, name: &str) -> Result<Value, AllocError>
+    ensures { IfOk result (λ value. view value ≡ coded_value row code name.now) }
+{
+    json!(in alloc; {"row": row, "reply": "refused", "code": code, "name": name})
+}
+
+/// The reply to an event that is refused.
+fn refused_value(alloc: Global, row: u64, refusal: Refusal) -> Result<Value, AllocError>
+    ensures { IfOk result (λ value. view value ≡ refused_value row refusal) }
+{
+    match refusal {
+        Refusal::Stale { found } => stale_value(alloc, row, found),
+        Refusal::Finished => coded_value(alloc, row, 2, "finished"),
+        Refusal::NotStarted => coded_value(alloc, row, 3, "not-started"),
+        Refusal::AlreadyStarted => coded_value(alloc, row, 4, "already-started"),
+        Refusal::NumberFull => coded_value(alloc, row, 5, "number-full"),
+        Refusal::NoGoal => coded_value(alloc, row, 6, "no-goal"),
+        Refusal::NoCaution => coded_value(alloc, row, 7, "no-caution"),
+        Refusal::LimitReached => coded_value(alloc, row, 8, "limit-reached"),
+        Refusal::NotFinished => coded_value(alloc, row, 9, "not-finished"),
+    }
+}
+
+/// The reply to an event of a match, where so many events were accepted before.
+fn reply_value(
+    alloc: Global,
+    row: u64,
+    game: u8,
+    before: u16,
+    reply: Result<Accepted, Refusal>,
+) -> Result<Value, AllocError>
+    requires { before < 2 ^ 16 - 1 }
+    ensures { IfOk result (λ value. view value ≡ reply_value row game before reply) }
+{
+    match reply {
+        Ok(accepted) => accepted_value(alloc, row, game, accepted.number, before + 1),
+        Err(refusal) => refused_value(alloc, row, refusal),
+    }
+}
+
+/// The line of the reply to an event of a match, where so many events were accepted before.
+///
+/// # Errors
+///
+/// Where there is no memory.
+pub fn reply_json(
+    alloc: Global,
+    row: u64,
+    game: u8,
+    before: u16,
+    reply: Result<Accepted, Refusal>,
+) -> Result<String, AllocError>
+    requires { before < 2 ^ 16 - 1 }
+    ensures { IfOk result (λ line. IsLineOf (reply_value row game before reply) (string_bytes line)) }
+{
+    let value = reply_value(alloc, row, game, before, reply)?;
+    line_of(alloc, &value)
+}
+
+/// The line of the reply to a row that asks for nothing that there is.
+///
+/// # Errors
+///
+/// Where there is no memory.
+pub fn bad_row_json(alloc: Global, row: u64) -> Result<String, AllocError>
+    ensures { IfOk result (λ line. IsLineOf (bad_row_value row) (string_bytes line)) }
+{
+    let value = coded_value(alloc, row, 20, "bad-row")?;
+    line_of(alloc, &value)
+}
