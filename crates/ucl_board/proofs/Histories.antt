@@ -13,9 +13,9 @@ use Rattle.ucl_word.specs.declared.refusal.Refusal.{Refusal}
 use Rattle.ucl_word.specs.Rules.{refusal_of, answer, reply_of}
 use Rattle.ucl_word.specs.Record.{scheduled, IsValid}
 use Rattle.ucl_word.specs.Layout.{word_of, record_at}
-use Rattle.ucl_word.specs.Counts.{MatchEntry, counted_match, entered, IsAccepted, IsLegalMatch}
+use Rattle.ucl_word.specs.Counts.{MatchEntry, counted_match, IsAccepted, IsLegalMatch}
 use Rattle.ucl_word.proofs.Sequences.{may_none, may_next, may_last, may_induction}
-use Rattle.ucl_word.proofs.EntryCounts.{legal_valid}
+use Rattle.ucl_word.proofs.EntryCounts.{entered, legal_valid}
 use Rattle.ucl_word.proofs.Words.{record_back}
 use Rattle.ucl_board.specs.declared.entry.Entry.{Entry}
 use Rattle.ucl_board.specs.Fixtures.{match_numbers, IsMatch}

@@ -9,7 +9,7 @@ use Rattle.ucl_word.specs.declared.refusal.Refusal.{Refusal}
 use Rattle.ucl_word.specs.Record.{IsReporter}
 use Rattle.ucl_word.specs.Layout.{word_of}
 use Rattle.ucl_word.specs.Rules.{after, reply_of}
-use Rattle.ucl_word.specs.Sequence.{EachMay}
+use Rattle.ucl_word.specs.Sequence.{EachMay, GainsOne}
 use Rattle.ucl_word.specs.Counts.{MatchEntry, counted_match, IsAccepted}
 use Rattle.ucl_board.specs.declared.entry.Entry.{Entry}
 use Rattle.ucl_board.specs.declared.reading.Reading.{Reading}
@@ -47,8 +47,7 @@ followed_by history e = history ++ e ∷ []
 
 -- where the words are those of a legal history, the next are those of the history with this entry, which is legal
 abbrev pub GainsEntry : List ℕ → Entry → List ℕ → Type 0
-GainsEntry words e next = (history : List Entry) → IsLegal history → board_of history ≡ words
-    → (next ≡ board_of (followed_by history e)) × IsLegal (followed_by history e)
+GainsEntry words e next = GainsOne IsLegal board_of e words next
 
 -- what the board of one thread replies after a history
 abbrev pub sequential_reply : List Entry → EventCall → Result Accepted Refusal

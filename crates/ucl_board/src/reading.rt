@@ -1,5 +1,8 @@
 //! Readings of a board.
 
+ghost use Rattle.std.specs.Prelude.{◌≡◌};
+ghost use Rattle.ucl_board.specs.Words.{version_of};
+
 use crate::board::Board;
 
 /// A copy of a board, and how many events it had taken in.
@@ -9,4 +12,16 @@ pub struct Reading {
     pub board: Board,
     /// In what a board that threads share answers, the version of `board`: the sum of its twelve event numbers.
     pub version: u16,
+}
+
+impl Reading {
+    /// The copy of this board, with its version.
+    pub fn of(board: &Board) -> Reading
+        ensures { result ≡ record { board = board.now; version = version_of board.now } }
+    {
+        Reading {
+            board: *board,
+            version: board.version(),
+        }
+    }
 }

@@ -13,10 +13,14 @@ use Rattle.ucl_word.specs.declared.event.Kind.{Kind}
 use Rattle.ucl_word.specs.declared.event.Kind.TheVariants.{KickOff, Goal, Disallow, Yellow, SecondYellow, Red, FullTime, Reopen}
 use Rattle.ucl_word.specs.Record.{scheduled, IsReporter, IsValid}
 use Rattle.ucl_word.specs.Rules.{is_kick_off, is_full_time, is_reopen, lacks_goal, lacks_caution, refusal_of, after}
-use Rattle.ucl_word.specs.Counts.{MatchEntry, count, is_goal, is_disallow, is_yellow, is_second_yellow, is_red, state_of, last_reporter, counted_match, entered, IsAccepted, IsLegalMatch}
+use Rattle.ucl_word.specs.Counts.{MatchEntry, count, is_goal, is_disallow, is_yellow, is_second_yellow, is_red, state_of, last_reporter, counted_match, IsAccepted, IsLegalMatch}
 use Rattle.ucl_word.specs.Laws.{IsBalanced, CaseOf, IsCase, OneCaseHolds}
 use Rattle.ucl_word.proofs.AcceptedEvents.{Accepts, accepts, begun, unbegun, over, after_valid}
 use Rattle.ucl_word.proofs.Sequences.{may_induction, may_next}
+
+-- one entry more
+abbrev pub entered : List MatchEntry → ℕ → Kind → List MatchEntry
+entered es reporter kind = es ++ record { reporter = reporter; kind = kind } ∷ []
 
 pub count_next : (p : Kind → Bool) (es : List MatchEntry) (e : MatchEntry) → count p (es ++ e ∷ []) ≡ count p es + cond (p e.kind) 1 0
 count_next p es e = sum_by-append (λ e. cond (p e.kind) 1 0) es (e ∷ []) ∙ ap (λ (n : ℕ). count p es + n) (zero-add (cond (p e.kind) 1 0))

@@ -8,7 +8,7 @@ use Rattle.ucl_word.specs.declared.event.Side.TheVariants.{Home, Away}
 use Rattle.ucl_word.specs.declared.event.Kind.{Kind}
 use Rattle.ucl_word.specs.declared.event.Kind.TheVariants.{Goal, Disallow, Yellow, SecondYellow, Red}
 use Rattle.ucl_word.specs.Record.{IsReporter}
-use Rattle.ucl_word.specs.Sequence.{EachMay}
+use Rattle.ucl_word.specs.Sequence.{EachMay, GainsOne}
 use Rattle.ucl_word.specs.Rules.{is_kick_off, is_full_time, is_reopen, refusal_of}
 
 -- an event of one match that was accepted: who entered it, and what it said
@@ -79,11 +79,6 @@ pub record IsAccepted (es : List MatchEntry) (e : MatchEntry) : Type 0 where
 abbrev pub IsLegalMatch : List MatchEntry → Type 0
 IsLegalMatch es = EachMay IsAccepted es
 
--- one entry more
-abbrev pub entered : List MatchEntry → ℕ → Kind → List MatchEntry
-entered es reporter kind = es ++ record { reporter = reporter; kind = kind } ∷ []
-
 -- where a record is the match after a legal list of entries, the next is the match after the list with this entry, which is legal
 abbrev pub CountsOneMore : MatchRecord → ℕ → Kind → MatchRecord → Type 0
-CountsOneMore m reporter kind next = (es : List MatchEntry) → IsLegalMatch es → counted_match es ≡ m
-    → (next ≡ counted_match (entered es reporter kind)) × IsLegalMatch (entered es reporter kind)
+CountsOneMore m reporter kind next = GainsOne IsLegalMatch counted_match (record { reporter = reporter; kind = kind }) m next
