@@ -1,15 +1,16 @@
 -- Words of the first layout: each is read back, no word is of both layouts, and what words are read as.
-use Rattle.std.proofs.Common.{◌≡◌, ℕ, ◌^◌, ◌<◌, ◌≤◌, refl, sym, ap, ◌∙◌, arith, inl, inr, true, true≢false}
+use Rattle.std.proofs.Common.{◌≡◌, ℕ, ◌^◌, ◌<◌, ◌≤◌, sym, ap, ◌∙◌, arith, inl, inr, true, true≢false}
 use Rattle.std.specs.Prelude.{Result, Ok, Err, IfOk, is_ok}
 use Rattle.ucl_word.specs.declared.refusal.BadWord.{BadWord}
 use Rattle.ucl_word.specs.declared.record.MatchRecord.{MatchRecord}
 use Rattle.ucl_word.specs.declared.record.State.{State}
 use Rattle.ucl_word.specs.declared.record.State.TheVariants.{Scheduled, InPlay, Finished}
 use Rattle.ucl_word.specs.Record.{IsValid}
-use Rattle.ucl_word.specs.Layout.{first_layout, IsMarked, word_of, state_code, held_at, IsWord}
+use Rattle.ucl_word.specs.Layout.{first_layout, IsMarked, word_of, IsWord}
+use Rattle.ucl_word.specs.Code.Moving.{moved_up}
 use Rattle.ucl_word.specs.Migration.{most_in_first, first_word_of, IsFirstValid, IsFirstWord, IsReadable, IsMoved, IsReadAs}
 use Rattle.ucl_word.specs.Laws.{LayoutsDiffer, WordsAreReadOneWay}
-use Rattle.ucl_word.proofs.Words.{Tells, tells, record_told, told_back, told_again, step, code_below, word_high}
+use Rattle.ucl_word.proofs.Words.{Tells, tells, record_told, told_back, word_high}
 
 most_numbers : (s : State) (n : ℕ) → n ≤ most_in_first s → n < 2 ^ first_layout.number.width
 most_numbers Scheduled n h = omega arith
@@ -24,18 +25,24 @@ module _ (m : MatchRecord) (is : IsFirstValid m) where
   pub first_back : record_told first_layout.number.width (first_word_of m) ≡ m
   first_back = told_back first_layout.number.width 0 (first_word_of m) m first_told
 
-pub first_again : (word : ℕ) (s : State) → IsMarked first_layout word → held_at word first_layout.state ≡ state_code s → first_word_of (record_told first_layout.number.width word) ≡ word
-unfolding first_word_of
-first_again word s high code = let t = told_again first_layout.number.width 0 word s high code in let a = step word 0 first_layout.number.width first_layout.number.width refl in omega arith
+-- a word of the first layout moves to the word of the same record
+pub first_moves : (m : MatchRecord) → IsFirstValid m → moved_up (first_word_of m) ≡ word_of m
+unfolding first_word_of word_of
+first_moves m is = let below = most_numbers m.state m.number is.number in omega arith
 
-pub first_code : (word : ℕ) → IsFirstWord word → held_at word first_layout.state < 3
-first_code word is = rw (← is.packed, (first_told is.of is.valid).code) (code_below is.of.state)
+-- and what moves to the word of a record that had room is the word of this record
+pub moved_from : (word : ℕ) (m : MatchRecord) → m.number ≤ most_in_first m.state → word_of m ≡ moved_up word → first_word_of m ≡ word
+unfolding first_word_of word_of
+moved_from word m room is = let below = most_numbers m.state m.number room in omega arith
+
+pub word_moves : (word : ℕ) → (first : IsFirstWord word) → word_of first.of ≡ moved_up word
+word_moves word first = sym (first_moves first.of first.valid) ∙ ap (λ (w : ℕ). moved_up w) first.packed
+
+pub moves_to_word : (word : ℕ) → IsFirstWord word → IsWord (moved_up word)
+moves_to_word word first = record { of = first.of; valid = first.valid.valid; packed = word_moves word first }
 
 pub first_high : (word : ℕ) → IsFirstWord word → IsMarked first_layout word
 first_high word is = rw (← is.packed) (first_told is.of is.valid).high_is
-
-pub first_valid : (word : ℕ) → IsFirstWord word → IsFirstValid (record_told first_layout.number.width word)
-first_valid word is = rw (← is.packed, first_back is.of is.valid) is.valid
 
 pub first_apart : (m n : MatchRecord) → IsFirstValid m → IsFirstValid n → first_word_of m ≡ first_word_of n → m ≡ n
 first_apart m n v w e = sym (first_back m v) ∙ (ap (record_told first_layout.number.width) e ∙ first_back n w)

@@ -1,3 +1,4 @@
 -- What the code goes by on its way: contracts of private functions cite these, and no public one does.
 pub mod Changes
+pub mod Moving
 pub mod Reading

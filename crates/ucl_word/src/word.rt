@@ -10,11 +10,11 @@ use crate::record::{MatchRecord, State};
 use crate::refusal::BadWord;
 
 // The lowest bit of each field, and how many bits it has. The event number is the lowest field.
-const NUMBER_WIDTH: u32 = 12;
+pub(crate) const NUMBER_WIDTH: u32 = 12;
 
 pub(crate) const STATE_LOW: u32 = 12;
 
-pub(crate) const STATE_WIDTH: u32 = 2;
+const STATE_WIDTH: u32 = 2;
 
 pub(crate) const HOME_GOALS_LOW: u32 = 14;
 
@@ -41,9 +41,9 @@ pub(crate) const REPORTER_WIDTH: u32 = 8;
 /// The bits from here on hold the mark of the layout and nothing else.
 const FIELDS_END: u32 = 56;
 
-const MARK_LOW: u32 = 60;
+pub(crate) const MARK_LOW: u32 = 60;
 
-const MARK: u64 = 2;
+pub(crate) const MARK: u64 = 2;
 
 fn code_of(state: State) -> u64
     ensures { result ≡ state_code state }
@@ -56,7 +56,7 @@ fn code_of(state: State) -> u64
 }
 
 /// Puts `value` above the lowest `low` bits of a word, which `below` fills.
-fn put_at(value: u64, low: u32, below: u64) -> u64
+pub(crate) fn put_at(value: u64, low: u32, below: u64) -> u64
     requires low { low < 64 }
     requires below { below < 2 ^ low }
     requires room { value * 2 ^ low < 2 ^ 64 }
