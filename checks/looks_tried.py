@@ -58,13 +58,13 @@ FAULTS = {
     ],
     "clauses have at most 100 columns": [
         ("crates/ucl_words/src/board.rt", None, "    ensures wide { " + "wide × " * 20 + "}\n"),
-        ("crates/ucl_tally/src/lib.rt", None, "    ensures wide { " + "wide × " * 20 + "}\n"),
-        ("checks/lists/wide_lines", None, "crates/ucl_tally/src/lib.rt: 1\n"),
+        ("crates/ucl_bench_tally/src/lib.rt", None, "    ensures wide { " + "wide × " * 20 + "}\n"),
+        ("checks/lists/wide_lines", None, "crates/ucl_bench_tally/src/lib.rt: 1\n"),
     ],
     "each name in backticks is there": [
         ("README.md", "`whole_is_alone`", "`whole_is_lonely`"),
         ("README.md", "`bench/compare`", "`bench/compared`"),
-        ("docs/DECISIONS.md", "`ucl_tally`", "`ucl_tale`"),
+        ("docs/DECISIONS.md", "`ucl_bench_tally`", "`ucl_tale`"),
     ],
     "the table of definitions is that of the files": [
         ("docs/ARCHITECTURE.md", "`ucl_word`: `Migration`", "`ucl_word`: `Migrations`"),
@@ -81,7 +81,7 @@ FAULTS = {
     "the examples at the calls and the program of the README are tested": [
         ("README.md", "//! A board in a program of one's own", "//! A board in a program"),
         ("crates/ucl_example/stdout", "IN PLAY 2", "IN PLAY 3"),
-        ("crates/ucl_live_tests/src/words/examples.rt", "WordBoard::open(", "WordBoard::opens("),
+        ("crates/ucl_boards_tests/src/word_board/examples.rt", "WordBoard::open(", "WordBoard::opens("),
     ],
 }
 

@@ -298,7 +298,7 @@ SLOTS_DECIDE = "2000000000000000 " * 12
 # Calls, and runs of the program, of which each request for memory is refused in turn, with the program that makes them.
 CALLS = ["screen", "read_night", "read_words", "run_steps", "CellBoard::open", "WordBoard::open", "feed_run", "show_run", "night_run"]
 CALLS += ["night_run_in_a_cell"]
-SWEEPS = {**dict.fromkeys(CALLS, "ucl_trial"), **dict.fromkeys(["help", "feed", "show", "night"], "ucl_night")}
+SWEEPS = {**dict.fromkeys(CALLS, "ucl_hostile"), **dict.fromkeys(["help", "feed", "show", "night"], "ucl_night")}
 
 CASES = [
     Other("a start of a built program", started),
@@ -328,7 +328,7 @@ CASES = [
     Other("too little memory", little_for_input),
     Other("a thread that is refused", no_thread),
     *[Other(f"refused memory: {name}", lambda name=name: well("checks/refused", name), [maker]) for name, maker in SWEEPS.items()],
-    Other("a second of soak", lambda: well("checks/soak", "1"), ["ucl_night", "ucl_trial"]),
+    Other("a second of soak", lambda: well("checks/soak", "1"), ["ucl_night", "ucl_hostile"]),
     Other("workloads", measures, ["ucl_bench"]),
     Other("words that are no workload", measures_no, ["ucl_bench"]),
     Other("a plain table where wins decide", lambda: placed("4312", WINS_DECIDE.split()), ["ucl_bench"]),

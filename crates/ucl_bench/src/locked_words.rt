@@ -4,7 +4,7 @@ use crate::plain_words::{PlainReading, next_word, version_of};
 use crate::subject::Subject;
 use std::alloc::Global;
 use std::sync::{Arc, Mutex, Wait};
-use ucl_tally::layout::{SCHEDULED, number_of};
+use ucl_bench_tally::layout::{SCHEDULED, number_of};
 use ucl_word::{Accepted, EventCall, OutOfMemory, Refusal};
 
 /// The lock with the words.

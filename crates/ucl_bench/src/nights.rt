@@ -11,8 +11,8 @@ use std::sync::{Arc, Wait};
 use std::thread::{JoinHandle, Threads};
 use std::time::{Clock, Duration};
 use std::{fmt, thread};
-use ucl_tally::events::{ALL_EVENTS, MATCHES, event_at, is_of};
-use ucl_tally::tally::{Cut, Order, Tally, is_whole};
+use ucl_bench_tally::events::{ALL_EVENTS, MATCHES, event_at, is_of};
+use ucl_bench_tally::tally::{Cut, Order, Tally, is_whole};
 use ucl_word::MatchNo;
 
 /// How far apart the events of a paced reporter are.

@@ -7,7 +7,7 @@ use std::alloc::Global;
 use std::fmt;
 use std::sync::Wait;
 use std::time::Clock;
-use ucl_tally::events::{ALL_EVENTS, MATCHES, event_at};
+use ucl_bench_tally::events::{ALL_EVENTS, MATCHES, event_at};
 use ucl_word::{EventCall, MatchNo};
 
 /// How many calls are timed as one.

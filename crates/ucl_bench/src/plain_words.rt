@@ -5,7 +5,7 @@ use std::alloc::Global;
 use std::hint::spin_loop;
 use std::sync::atomic::{AtomicU64, Ordering};
 use std::sync::{Arc, Wait};
-use ucl_tally::layout::{
+use ucl_bench_tally::layout::{
     AWAY_EXPULSIONS_LOW, AWAY_GOALS_LOW, AWAY_YELLOWS_LOW, EXPULSIONS, GOALS, HOME_EXPULSIONS_LOW,
     HOME_GOALS_LOW, HOME_YELLOWS_LOW, LAST_NUMBER_IN_PLAY, NUMBER, REPORTER, REPORTER_LOW,
     SCHEDULED, STATE, STATE_LOW, YELLOWS, number_of,
