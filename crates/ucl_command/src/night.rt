@@ -14,9 +14,9 @@ use std::alloc::Global;
 use std::sync::Wait;
 use std::thread::Threads;
 use ucl_order::Profile;
-use ucl_pass::LiveBoard;
 use ucl_runs::{Gate, NightEnd, RunFault, night_run, put_night};
 use ucl_screen::{Night, Sink};
+use ucl_shared::LiveBoard;
 
 /// A night whose output was given to a sink: `R` is a reader's pass and `P` a reporter's, all of the board that was lent.
 #[derive(Drop)]

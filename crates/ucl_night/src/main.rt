@@ -13,8 +13,8 @@ pub use ucl_command::{
 };
 use ucl_runs::tell;
 pub use ucl_runs::{
-    Gate, NightEnd, OpenGate, RunFault, every_run_has_one_history, feed_run, night_run, put_night,
-    schedule_does_not_matter, show_run, status_of,
+    Gate, NightEnd, OpenGate, RunFault, feed_run, night_run, put_night, schedule_does_not_matter,
+    show_run, status_of,
 };
 use ucl_screen::{FromRead, ToWrite};
 

@@ -1,6 +1,6 @@
 -- From what steps on the cell tell to what a call says of its pass.
-use Rattle.std.proofs.Common.{◌≡◌, ◌≢◌, ℕ, suc, ◌+◌, ◌==◌, ◌<◌, ◌≤◌, Bool, cond, List, [], ◌∷◌, ◌++◌, length, take, refl, sym, ap, ◌∙◌, subst, arith, le_refl, true≢false, true, false, length-append, append-nil, append_assoc, ne_eqb}
-use Rattle.std.specs.Prelude.{filter, slice_index, Result, Ok, Err, IsOk, MatchResult, is_ok, Option, Some, None, IfSome, IfOk}
+use Rattle.std.proofs.Common.{◌≡◌, ◌≢◌, ℕ, suc, ◌+◌, ◌==◌, ◌<◌, ◌≤◌, Bool, cond, List, [], ◌∷◌, ◌++◌, length, take, refl, sym, ap, ◌∙◌, subst, arith, true≢false, true, false, length-append, append-nil, append_assoc, ne_eqb}
+use Rattle.std.specs.Prelude.{filter, slice_index, Result, Ok, Err, IsOk, MatchResult, is_ok, Some, None}
 use Rattle.std.specs.List.{AllByRecursion, flat_map}
 use Rattle.std.proofs.lemmas.Grind.{flat_map-append}
 use Rattle.std.proofs.lemmas.List.{take_all, nil_from_length}
@@ -16,21 +16,21 @@ use Rattle.ucl_word.specs.Layout.{record_at}
 use Rattle.ucl_board.specs.declared.entry.Entry.{Entry}
 use Rattle.ucl_board.specs.declared.reading.Reading.{Reading}
 use Rattle.ucl_board.specs.Fixtures.{IsMatch}
-use Rattle.ucl_board.specs.Words.{AreWords, greatest_version, word_at, version_of}
+use Rattle.ucl_board.specs.Words.{AreWords, word_at, version_of}
 use Rattle.ucl_board.specs.History.{board_of, IsLegal, followed_by, entry_of, sequential_reply}
 use Rattle.ucl_board.specs.Log.{Look, Swap, Match, Enlisted, Taken, step_taken}
 use Rattle.ucl_board.proofs.Histories.{board_words, word_after}
 use Rattle.ucl_board.proofs.HistoryLaws.{versions}
-use Rattle.ucl_board.proofs.Beginnings.{begins_length, begins_same, begins_through}
-use Rattle.ucl_pass.specs.declared.view.View.{View}
-use Rattle.ucl_pass.specs.Passes.{PassView, IsSound, SeesOn, Continues, AcceptedReport, RefusedReport, SharedReading, Enlistment, FullBoard, Hearing}
-use Rattle.ucl_pass.specs.Views.{pass_view_of, count_of, Takes, kept_of, second_of, note_of, IsNote, told_by}
-use Rattle.ucl_pass.specs.Steps.{Goes}
+use Rattle.ucl_board.proofs.Beginnings.{begins_length, begins_through}
+use Rattle.ucl_shared.specs.declared.view.View.{View}
+use Rattle.ucl_shared.specs.Passes.{IsSound, Continues, AcceptedReport, RefusedReport, SharedReading, Enlistment, FullBoard, Hearing}
+use Rattle.ucl_shared.specs.Views.{pass_view_of, count_of, Takes, note_of, told_by}
+use Rattle.ucl_shared.specs.Steps.{Goes}
 use Rattle.ucl_pass.specs.CellRule.{words_after}
 use Rattle.ucl_pass.specs.CellSteps.{IsNextBoard, with_one_more, word_looked_at, HasSeenAll, StoresEntry, StoresReporter, LooksOnly, LooksAtMatch, LooksAtEnlisted, LooksAndShows}
-use Rattle.ucl_pass.specs.CallSteps.{IsOnEnlisted, EnlistSteps, MeetingSteps, CellMissed, no_event_between, WereLost, CellReport, CellEnlistMissed, CellEnlistment, CellReading}
-use Rattle.ucl_pass.proofs.Lists.{none_by_zero, few_mine}
-use Rattle.ucl_pass.proofs.Halves.{half_acts, half_not_whole}
+use Rattle.ucl_shared.specs.CallSteps.{MeetingSteps}
+use Rattle.ucl_pass.specs.CellCalls.{CellMissed, no_event_between, WereLost, CellReport, CellEnlistMissed, CellEnlistment, CellReading}
+use Rattle.ucl_shared.proofs.Calls.{takes_none, takes_on, takes_count, Stays, stays_none, stays_more, all_more}
 use Rattle.ucl_pass.proofs.CellMoves.{match_words, match_word, last_word, one_more_last}
 
 -- an exchange that was won
@@ -61,45 +61,6 @@ module _ (words : List ℕ) (v w : View) (seen_all : HasSeenAll words v w) (goes
 
   pub last_seen : slice_index words 12 ≡ w.listed
   last_seen = ap (λ (ws : List ℕ). slice_index ws 12) seen_all.words_are ∙ last_word w.seen w.listed
-
--- steps, one after another
-
-pub takes_none : (v : View) → Takes v [] v
-takes_none v = record { own = sym (append-nil v.own); copied = refl }
-
-pub takes_on : (u v w : View) (xs ys : List Taken) → Takes u xs v → Takes v ys w → Takes u (xs ++ ys) w
-takes_on u v w xs ys a b = record { own = b.own ∙ (ap (λ (l : List Taken). l ++ ys) a.own ∙ append_assoc u.own xs ys); copied = b.copied ∙ a.copied }
-
-pub takes_count : (v w : View) (xs : List Taken) → Takes v xs w → count_of w ≡ count_of v + length xs
-takes_count v w xs t = omega (
-  arith,
-  ap length t.copied,
-  ap length t.own,
-  length-append v.own xs,
-  length-append v.copied v.own,
-  length-append w.copied w.own,
-)
-
--- a pass after any number of steps that changed nothing else
-pub record Stays (v w : View) : Type 0 where
-  pub on : SeesOn (pass_view_of v) (pass_view_of w)
-  pub mine : w.mine ≡ v.mine
-  pub number : w.number ≡ v.number
-  pub shown : w.shown ≡ v.shown
-
-pub stays_none : (v : View) → Stays v v
-stays_none v = record { on = record { seen = begins_same v.seen; listed = le_refl v.listed; share = refl }; mine = refl; number = refl; shown = refl }
-
-pub stays_more : (v w u : View) → Stays v w → Goes w u → w.listed ≤ u.listed → u.mine ≡ w.mine → u.number ≡ w.number → u.shown ≡ w.shown → Stays v u
-stays_more v w u t goes le mine number shown = record {
-  on = record { seen = begins_through v.seen w.seen u.seen t.on.seen goes.seen; listed = (let a = t.on.listed in omega arith); share = goes.share ∙ t.on.share };
-  mine = mine ∙ t.mine;
-  number = number ∙ t.number;
-  shown = shown ∙ t.shown;
-}
-
-pub stays_continues : (v u : View) → Stays v u → Goes v u → Continues (pass_view_of v) (pass_view_of u)
-stays_continues v u t goes = record { sound = record { legal = goes.legal; own = goes.own; few = goes.few; acts = goes.acts; alone = goes.alone }; on = t.on; number = t.number }
 
 pub looked_stays : (v w u : View) (target : Rattle.ucl_board.specs.Log.Target) (x : List ℕ) → Stays v w → LooksOnly target w x x u → Stays v u
 looked_stays v w u target x t l = stays_more v w u t l.sees.goes l.seen_all.listed l.sees.mine l.sees.number l.shown_is
@@ -146,10 +107,6 @@ lost_more listed tries one before after lost le more = by (no_event_between one)
 
 same_places : (m n : ℕ) → (m == n) ≡ true → m ≡ n
 same_places m n is = dite (ℕ_discrete m n) (λ same. same) (λ not. absurd (true≢false (sym is ∙ ne_eqb m n not)))
-
-pub all_more : {X : Type 0} (P : X → Type 0) (xs : List X) (x : X) → AllByRecursion P xs → P x → AllByRecursion P (xs ++ x ∷ [])
-all_more P [] x all one = (one, tt)
-all_more P (y ∷ xs) x all one = (all.0, all_more P xs x all.1 one)
 
 -- one load for a report, and what came of it
 module _ (call : EventCall) (v w u : View) (x : List ℕ) (tried : TriedReport call v w) (looked : LooksAtMatch call.game w x x u) where
@@ -244,7 +201,7 @@ module _ (call : EventCall) (v w u : View) (x : List ℕ) (tried : TriedReport c
         }
 
 -- a report takes a step at least
-some_steps : (n : ℕ) (call : EventCall) (r : Result Accepted Refusal) (now : ℕ) (steps : List Taken) → Rattle.ucl_pass.specs.CallSteps.CellAnswered n call r now steps → 0 < length steps
+some_steps : (n : ℕ) (call : EventCall) (r : Result Accepted Refusal) (now : ℕ) (steps : List Taken) → Rattle.ucl_pass.specs.CellCalls.CellAnswered n call r now steps → 0 < length steps
 some_steps n call (Ok reply) now steps a = let l = ap length a.steps_are in omega arith
 some_steps n call (Err refusal) now steps a = let l = ap length a.steps_are in omega arith
 
@@ -285,14 +242,6 @@ module _ (v w : View) (x : List ℕ) (reading : Reading) (shows : LooksAndShows 
 
   pub read_continues : Continues (pass_view_of v) (pass_view_of w)
   read_continues = record { sound = sound x v w shows.seen_all shows.sees.goes; on = record { seen = shows.sees.goes.seen; listed = shows.seen_all.listed; share = shows.sees.goes.share }; number = shows.sees.number }
-
--- one step more on the number of the enlisted
-pub one_more : (v w u : View) (found at : ℕ) → EnlistSteps v w → Takes w (step_taken (Enlisted found) at None ∷ []) u → EnlistSteps v u
-one_more v w u found at s t = record {
-  steps = s.steps ++ step_taken (Enlisted found) at None ∷ [];
-  takes = takes_on v w u s.steps (step_taken (Enlisted found) at None ∷ []) s.takes t;
-  on_enlisted = all_more IsOnEnlisted s.steps (step_taken (Enlisted found) at None) s.on_enlisted (found, (refl, refl));
-}
 
 -- an enlistment, after tries in vain
 pub record TriedEnlist (v w : View) : Type 0 where
@@ -386,17 +335,6 @@ module _ (v w u : View) (x : List ℕ) (tried : TriedEnlist v w) (looked : Looks
         let more : slice_index next 12 ≡ slice_index x 12 + 1 = ap (λ (ws : List ℕ). slice_index ws 12) (is ∙ ap with_one_more looked.seen_all.words_are) ∙ (one_more_last u.seen u.listed ∙ ap (λ (n : ℕ). n + 1) (sym (last_seen x w u looked.seen_all looked.sees.goes))) in
         stored.enlists.number ∙ (sym (last_seen next u z stored.seen_all stored.enlists.goes) ∙ more)
 
-pub number_told : (u v : View) (r : Option ℕ) (n : ℕ) → Enlistment (pass_view_of u) (pass_view_of v) → v.number ≡ n → IfSome r (λ k. k ≡ n) → IfSome r (λ k. Enlistment (pass_view_of u) (pass_view_of v) × (v.number ≡ k))
-number_told u v (Some k) n e is told = (e, is ∙ sym told)
-number_told u v None n e is told = tt
-
--- what was split off as a note is one
-pub note_is : (a n : View) → n ≡ note_of a → IsNote n
-note_is a n is = subst IsNote (sym is) refl
-
-pub note_seen : (a n : View) → n ≡ note_of a → n.seen ≡ a.seen
-note_seen a n is = ap (λ (v : View). v.seen) is
-
 -- a note was heard
 module _ (a v w : View) (x : List ℕ) (looked : LooksAtEnlisted (told_by v (note_of a)) x x w) where
   own_first : IsPrefix v.seen w.seen
@@ -414,17 +352,3 @@ module _ (a v w : View) (x : List ℕ) (looked : LooksAtEnlisted (told_by v (not
 
   pub met_steps : MeetingSteps v w
   met_steps = (slice_index x 12, record { own = looked.sees.takes.own; copied = looked.sees.takes.copied })
-
-pub sound_second : (v : View) → IsSound (pass_view_of v) → IsSound (pass_view_of (second_of v))
-sound_second v s = record { legal = s.legal; own = sym (none_by_zero v.seen s.legal); few = s.few; acts = half_acts true v.share s.acts; alone = λ is. absurd (half_not_whole true v.share is) }
-
-pub sound_kept : (v : View) → IsSound (pass_view_of v) → IsSound (pass_view_of (kept_of v))
-sound_kept v s = record { legal = s.legal; own = s.own; few = s.few; acts = half_acts false v.share s.acts; alone = λ is. absurd (half_not_whole false v.share is) }
-
--- the count of accepted events has room for one more
-pub room : (k m : PassView) (call : EventCall) (r : Result Accepted Refusal) (n : ℕ) → IfOk r (λ reply. AcceptedReport k call reply m) → is_ok r ≡ true → IsSound m → length k.mine ≡ n → n + 1 ≤ greatest_version
-room k m call (Ok reply) n a is s len =
-    let l = ap length a.mine ∙ length-append k.mine (entry_of (k.number, call) ∷ []) in
-    let f = few_mine m s in
-    omega arith
-room k m call (Err why) n a is s len = absurd (true≢false (sym is))

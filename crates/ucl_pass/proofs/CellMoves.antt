@@ -13,11 +13,11 @@ use Rattle.ucl_board.specs.History.{match_after, board_of, IsLegal, followed_by}
 use Rattle.ucl_board.specs.Log.{AccessKind, Look, Swap, Target, Enlisted, Whole, history_of, IsThere}
 use Rattle.ucl_board.proofs.Histories.{board_length, word_after}
 use Rattle.ucl_board.proofs.HistoryLaws.{one_word}
-use Rattle.ucl_pass.specs.declared.view.View.{View}
-use Rattle.ucl_pass.specs.Views.{newcomer, opener, kept_of, second_of, note_of, told_by}
+use Rattle.ucl_shared.specs.declared.view.View.{View}
+use Rattle.ucl_shared.specs.Views.{newcomer, opener, kept_of, second_of, note_of, told_by}
 use Rattle.ucl_pass.specs.CellRule.{words_after, CellKeepsOneHistory}
 use Rattle.ucl_pass.specs.CellSteps.{IsNextBoard, with_one_more, word_looked_at, Looks, StoresEntry, StoresReporter, LooksOnly, LooksAtMatch, LooksAtEnlisted, LooksAndShows, AddsOrLooks, EnlistsOrLooks}
-use Rattle.ucl_pass.proofs.Moves.{looked, look_keeps, look_tells, same_history, entered, add_keeps, add_tells, longer_history, enlisted_as, enlist_keeps, enlist_tells, unchanged_history, second_added, note_added, note_joined, opens}
+use Rattle.ucl_shared.proofs.Moves.{looked, look_keeps, look_tells, same_history, entered, add_keeps, add_tells, longer_history, enlisted_as, enlist_keeps, enlist_tells, unchanged_history, second_added, note_added, note_joined, opens}
 
 -- the thirteen words
 

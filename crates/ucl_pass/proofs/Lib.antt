@@ -1,9 +1,3 @@
-pub mod Lists
-pub mod Halves
-pub mod Alone
-pub mod SettledPasses
-pub mod Moves
 pub mod CellMoves
 pub mod Calls
-pub mod LogFacts
 pub mod Reports

@@ -6,10 +6,10 @@ use Rattle.ucl_word.specs.declared.event.EventCall.{EventCall}
 use Rattle.ucl_word.specs.declared.event.Accepted.{Accepted}
 use Rattle.ucl_word.specs.declared.refusal.Refusal.{Refusal}
 use Rattle.ucl_board.specs.Log.{Taken}
-use Rattle.ucl_pass.specs.declared.view.View.{View}
-use Rattle.ucl_pass.specs.Passes.{ReportsMore}
-use Rattle.ucl_pass.specs.Views.{Takes}
-use Rattle.ucl_pass.specs.CallSteps.{CellAnswered, CellEnlistAnswered, CellEnlistMissed, CellEnlistment, CellHasReported, CellMissed, CellReport, looks_for_report, was_missed}
+use Rattle.ucl_shared.specs.declared.view.View.{View}
+use Rattle.ucl_shared.specs.Passes.{ReportsMore}
+use Rattle.ucl_shared.specs.Views.{Takes}
+use Rattle.ucl_pass.specs.CellCalls.{CellAnswered, CellEnlistAnswered, CellEnlistMissed, CellEnlistment, CellHasReported, CellMissed, CellReport, looks_for_report, was_missed}
 
 looks : List Taken → ℕ
 looks steps = length (filter (λ x. looks_for_report x.target) steps)

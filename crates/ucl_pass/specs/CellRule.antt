@@ -3,8 +3,8 @@ use Rattle.std.specs.Prelude.{◌≡◌, ℕ, List, [], ◌∷◌, ◌++◌}
 use Rattle.ucl_board.specs.declared.entry.Entry.{Entry}
 use Rattle.ucl_board.specs.History.{board_of}
 use Rattle.ucl_board.specs.Log.{history_of}
-use Rattle.ucl_pass.specs.declared.view.View.{View}
-use Rattle.ucl_pass.specs.OneHistory.{KeepsOneHistory}
+use Rattle.ucl_shared.specs.declared.view.View.{View}
+use Rattle.ucl_shared.specs.OneHistory.{KeepsOneHistory}
 
 -- the words of the twelve matches, and the number of enlisted reporters
 abbrev pub words_after : List Entry → ℕ → List ℕ

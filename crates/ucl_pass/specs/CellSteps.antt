@@ -5,9 +5,9 @@ use Rattle.ucl_board.specs.declared.entry.Entry.{Entry}
 use Rattle.ucl_board.specs.Words.{word_at}
 use Rattle.ucl_board.specs.History.{IsLegal, followed_by}
 use Rattle.ucl_board.specs.Log.{AccessKind, Look, Swap, Target, Match, Enlisted, Whole, Taken}
-use Rattle.ucl_pass.specs.declared.view.View.{View}
-use Rattle.ucl_pass.specs.Views.{Takes}
-use Rattle.ucl_pass.specs.Steps.{Sees, Adds, Enlists}
+use Rattle.ucl_shared.specs.declared.view.View.{View}
+use Rattle.ucl_shared.specs.Views.{Takes}
+use Rattle.ucl_shared.specs.Steps.{Sees, Adds, Enlists}
 use Rattle.ucl_pass.specs.CellRule.{words_after, IsUpToDate}
 
 -- the words with one event more, whatever the history is that they are the words of

@@ -5,24 +5,25 @@ ghost use Rattle.atomic_table.specs.Seated.{TableId};
 ghost use Rattle.crossbeam_utils.specs.Seq.{cell_view};
 ghost use Rattle.ucl_board.specs.Fixtures.{IsMatch};
 ghost use Rattle.ucl_board.specs.Words.{AreWords};
-ghost use Rattle.ucl_pass.specs.Passes.{Continues, AcceptedReport, RefusedReport, SharedReading, Enlistment, FullBoard, Hearing, Meeting, opening_pass};
-ghost use Rattle.ucl_pass.specs.Views.{pass_view_of, count_of, kept_of, second_of, note_of, IsNote};
-ghost use Rattle.ucl_pass.specs.OneHistory.{BoardsOpenFresh};
+ghost use Rattle.ucl_shared.specs.Passes.{Continues, AcceptedReport, RefusedReport, SharedReading, Enlistment, FullBoard, Hearing, Meeting, opening_pass};
+ghost use Rattle.ucl_shared.specs.Views.{pass_view_of, count_of, kept_of, second_of, note_of, IsNote};
+ghost use Rattle.ucl_shared.specs.OneHistory.{BoardsOpenFresh};
 ghost use Rattle.ucl_pass.specs.CellRule.{words_after, IsTheRule, IsUpToDate};
 ghost use Rattle.ucl_pass.specs.CellSteps.{ExchangesEntry, ExchangesReporter, IsNextBoard, with_one_more, LooksAtMatch, LooksAtEnlisted, LooksAndShows};
-ghost use Rattle.ucl_pass.specs.CallSteps.{MeetingSteps, CellReport, CellEnlistment, CellReading};
+ghost use Rattle.ucl_shared.specs.CallSteps.{MeetingSteps};
+ghost use Rattle.ucl_pass.specs.CellCalls.{CellReport, CellEnlistment, CellReading};
 
 use crate::passes::CellReaderPass;
 use crate::rule::{
     Adding, Adds, Cell, Counts, Enlists, LooksAt, Note, OneHistory, Reads, Seat, SecondPass,
 };
-use crate::view::View;
 use crossbeam_utils::atomic::seq_cell::RuledSeqCell;
 use crossbeam_utils::rule::Protocol;
 use std::alloc::Global;
 use std::marker::{Brand, Model};
 use std::sync::Wait;
 use ucl_board::{Board, Entry, Reading};
+use ucl_shared::View;
 use ucl_word::{Accepted, EventCall, MatchNo, OutOfMemory, Refusal, ReporterNo};
 
 /// How many reporters a board can have.

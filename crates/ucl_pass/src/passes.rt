@@ -2,9 +2,9 @@
 
 ghost use Rattle.std.specs.Prelude.{◌≡◌, [], length};
 ghost use Rattle.crossbeam_utils.specs.Seq.{cell_view};
-ghost use Rattle.ucl_pass.specs.CallSteps.{CellHasReported};
-ghost use Rattle.ucl_pass.specs.Passes.{IsSound};
-ghost use Rattle.ucl_pass.specs.Views.{Pass, Noted, IsNote, pass_view_of};
+ghost use Rattle.ucl_pass.specs.CellCalls.{CellHasReported};
+ghost use Rattle.ucl_shared.specs.Passes.{IsSound};
+ghost use Rattle.ucl_shared.specs.Views.{Pass, Noted, IsNote, pass_view_of};
 
 use crate::rule::Seat;
 use std::marker::Model;

@@ -1,16 +1,16 @@
 //! The rule of the cell, and the kinds of its steps. The values named here exist in proofs alone.
 
-use crate::view::View;
 use atomic_table::{Join, Split};
 use crossbeam_utils::atomic::seq_cell::{Pass, RuledSeqCell};
 use crossbeam_utils::rule::{Outcome, Protocol};
 use std::marker::{Brand, PhantomData};
+use ucl_shared::View;
 
 /// One log of all steps, whose history has the twelve match words and whose reporters are as many as the thirteenth.
 pub struct OneHistory;
 
 impl Protocol<[u64; 13], View> for OneHistory {
-    ghost use Rattle.ucl_pass.specs.Views.{opener};
+    ghost use Rattle.ucl_shared.specs.Views.{opener};
     ghost use Rattle.ucl_pass.specs.CellRule.{CellKeepsOneHistory};
 
     ghost holds = { CellKeepsOneHistory };
@@ -80,7 +80,7 @@ impl Outcome<[u64; 13], View> for Enlists {
 pub struct SecondPass;
 
 impl Split<View> for SecondPass {
-    ghost use Rattle.ucl_pass.specs.Views.{kept_of, second_of};
+    ghost use Rattle.ucl_shared.specs.Views.{kept_of, second_of};
 
     ghost left = { kept_of };
 
@@ -91,7 +91,7 @@ impl Split<View> for SecondPass {
 pub struct Note;
 
 impl Split<View> for Note {
-    ghost use Rattle.ucl_pass.specs.Views.{note_of};
+    ghost use Rattle.ucl_shared.specs.Views.{note_of};
 
     ghost left = { λ v. v };
 
@@ -99,7 +99,7 @@ impl Split<View> for Note {
 }
 
 impl Join<View> for Note {
-    ghost use Rattle.ucl_pass.specs.Views.{told_by, newcomer};
+    ghost use Rattle.ucl_shared.specs.Views.{told_by, newcomer};
 
     ghost both = { told_by };
 

@@ -12,7 +12,7 @@ use Rattle.ucl_order.specs.declared.profile.Profile.{Profile}
 use Rattle.ucl_order.specs.Roster.{NamedClub}
 use Rattle.ucl_screen.specs.declared.night.NightEvent.{NightEvent}
 use Rattle.ucl_screen.specs.Screen.{screen_text}
-use Rattle.ucl_pass.specs.Passes.{PassView, Continues, SharedReading, ReportsMore}
+use Rattle.ucl_shared.specs.Passes.{PassView, Continues, SharedReading, ReportsMore}
 use Rattle.ucl_runs.specs.Gates.{CameTo, IsScreenOf, Showed, rows_by}
 
 -- a row of the reporter is one row more

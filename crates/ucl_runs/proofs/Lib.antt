@@ -1,6 +1,6 @@
+pub mod Elements
 pub mod Texts
 pub mod RunFacts
-pub mod Screens
 pub mod ShownVersions
 pub mod Points
 pub mod Parts
@@ -12,4 +12,3 @@ pub mod MergedRows
 pub mod Merges
 pub mod ToldLines
 pub mod Unsigned
-pub mod BoardScreens

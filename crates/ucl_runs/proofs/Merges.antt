@@ -16,7 +16,7 @@ use Rattle.ucl_board.specs.declared.reading.Reading.{Reading}
 use Rattle.ucl_board.specs.Fixtures.{match_numbers}
 use Rattle.ucl_board.specs.History.{entries_of, board_of, followed_by, sequential_reply, entry_of, after_attempt, accepted_of, snapshot_at}
 use Rattle.ucl_board.proofs.Histories.{entries_same, entries_else}
-use Rattle.ucl_steps.proofs.Lists.{get_some, take_one}
+use Rattle.ucl_runs.proofs.Elements.{get_some, take_one}
 use Rattle.ucl_screen.specs.declared.night.NightEvent.{NightEvent}
 use Rattle.ucl_runs.specs.Nights.{attempt_by, IsRefusedAt, IsEnteredAt, IsMerge, EachMatchHasOneReporter, ScheduleDoesNotMatter, night_board}
 use Rattle.ucl_runs.proofs.Points.{entered_within, place_within}

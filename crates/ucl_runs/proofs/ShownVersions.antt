@@ -11,8 +11,8 @@ use Rattle.ucl_board.proofs.Beginnings.{begins_length, begins_same, begins_take,
 use Rattle.ucl_order.specs.declared.profile.Profile.{Profile}
 use Rattle.ucl_order.specs.Roster.{NamedClub}
 use Rattle.ucl_screen.specs.Screen.{screen_text}
-use Rattle.ucl_pass.specs.Passes.{PassView, Continues, SharedReading}
-use Rattle.ucl_pass.specs.Settling.{Settled}
+use Rattle.ucl_shared.specs.Passes.{PassView, Continues, SharedReading}
+use Rattle.ucl_shared.specs.Settling.{Settled}
 use Rattle.ucl_runs.specs.Nights.{HasShown, IsLastScreen}
 
 -- a version that is no lower than what had been seen

@@ -7,5 +7,4 @@ pub mod Workers
 pub mod Show
 pub mod Run
 pub mod Telling
-pub mod Headline
 pub mod TellingScreens

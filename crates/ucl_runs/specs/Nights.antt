@@ -9,8 +9,8 @@ use Rattle.ucl_order.specs.declared.profile.Profile.{Profile}
 use Rattle.ucl_order.specs.Roster.{NamedClub}
 use Rattle.ucl_screen.specs.declared.night.NightEvent.{NightEvent}
 use Rattle.ucl_screen.specs.Screen.{screen_text}
-use Rattle.ucl_pass.specs.Passes.{PassView, IsSound, SeesOn, Continues, kept_pass, split_pass}
-use Rattle.ucl_pass.specs.Shares.{first_half, second_half}
+use Rattle.ucl_shared.specs.Passes.{PassView, IsSound, SeesOn, Continues, kept_pass, split_pass}
+use Rattle.ucl_shared.specs.Shares.{first_half, second_half}
 use Rattle.ucl_runs.specs.declared.fault.RunFault.{RunFault}
 use Rattle.ucl_runs.specs.Run.{MatchDuty}
 

@@ -3,8 +3,8 @@ use Rattle.std.specs.Prelude.{ℕ, List, option_map, string_bytes}
 use Rattle.ucl_order.specs.declared.profile.Profile.{Profile}
 use Rattle.ucl_order.specs.Roster.{NamedClub}
 use Rattle.ucl_screen.specs.declared.night.NightEvent.{NightEvent}
-use Rattle.ucl_pass.specs.declared.live_board.LiveBoard as boards
-use Rattle.ucl_pass.specs.Passes.{ReportsMore}
+use Rattle.ucl_shared.specs.declared.live_board.LiveBoard as boards
+use Rattle.ucl_shared.specs.Passes.{ReportsMore}
 use Rattle.ucl_runs.specs.declared.gate.Gate as gates
 use Rattle.ucl_runs.specs.declared.workers.Shown.{Shown}
 use Rattle.ucl_runs.specs.Gates.{CameTo, Showed, rows_by}

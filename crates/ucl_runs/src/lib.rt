@@ -19,7 +19,7 @@ mod workers;
 pub use fault::{RunFault, status_of};
 pub use feed::feed_run;
 pub use gate::{Gate, OpenGate};
-pub use laws::{boards_have_one_history, every_run_has_one_history, schedule_does_not_matter};
+pub use laws::schedule_does_not_matter;
 pub use night::{NightEnd, night_run, put_night};
 pub use output::put_text;
 pub use show::show_run;

@@ -20,7 +20,7 @@ use std::sync::Wait;
 use std::thread::Threads;
 use ucl_board::Reading;
 use ucl_order::Profile;
-use ucl_pass::{LiveBoard, settle};
+use ucl_shared::{LiveBoard, settle};
 use ucl_screen::{Night, NightEvent, Sink, screen};
 
 /// The row of the first event of a script.

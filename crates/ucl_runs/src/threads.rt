@@ -12,7 +12,7 @@ use std::sync::Wait;
 use std::thread;
 use std::thread::{Promise, PromisedHandle, Scope, Threads};
 use ucl_order::{Profile, Roster};
-use ucl_pass::LiveBoard;
+use ucl_shared::LiveBoard;
 use ucl_screen::NightEvent;
 use ucl_word::OutOfMemory;
 

@@ -2,7 +2,7 @@
 
 ghost use Rattle.std.specs.Prelude.{IfOk, option_map, string_bytes};
 ghost use Rattle.ucl_screen.specs.Screen.{IsGroup};
-ghost use Rattle.ucl_pass.specs.Passes.{ReportsMore};
+ghost use Rattle.ucl_shared.specs.Passes.{ReportsMore};
 ghost use Rattle.ucl_runs.specs.Gates.{CameTo, Showed, rows_by};
 ghost use Rattle.ucl_runs.specs.Nights.{IsFresh, IsNew, HasEntered, HasShown};
 
@@ -10,7 +10,7 @@ use crate::gate::Gate;
 use std::alloc::Global;
 use std::sync::Wait;
 use ucl_order::{Profile, Roster};
-use ucl_pass::LiveBoard;
+use ucl_shared::LiveBoard;
 use ucl_screen::{NightEvent, screen};
 use ucl_word::OutOfMemory;
 

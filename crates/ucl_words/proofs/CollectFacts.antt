@@ -15,9 +15,9 @@ use Rattle.ucl_steps.specs.Trails.{most_loads, IsCollect, IsUnclean, IsClean, ac
 use Rattle.ucl_steps.specs.Laws.{IsReadFrom}
 use Rattle.ucl_steps.proofs.Lists.{get_some}
 use Rattle.ucl_steps.proofs.Accesses.{collect_none, collect_more, collect_set, unclean_try, clean_shows, reading_whole}
-use Rattle.ucl_pass.specs.Passes.{Continues, SharedReading}
-use Rattle.ucl_pass.specs.declared.view.View.{View}
-use Rattle.ucl_pass.specs.Views.{pass_view_of, count_of, trail_of}
+use Rattle.ucl_shared.specs.Passes.{Continues, SharedReading}
+use Rattle.ucl_shared.specs.declared.view.View.{View}
+use Rattle.ucl_shared.specs.Views.{pass_view_of, count_of, trail_of}
 use Rattle.ucl_words.specs.WordSteps.{Loads, LoadsLast, no_access, twelfth_first, version_shown}
 use Rattle.ucl_words.specs.Collects.{Walks, Collects, HasCollected, FindsAgain, FindsAnother}
 use Rattle.ucl_words.specs.WordCalls.{IsSteady, ReadingSteps}

@@ -18,12 +18,12 @@ use Rattle.ucl_board.specs.Words.{word_at}
 use Rattle.ucl_board.specs.History.{match_after, board_of, IsLegal, followed_by, entry_of}
 use Rattle.ucl_board.specs.Log.{AccessKind, Look, First, Second, Swap, Target, Match, Enlisted, history_of, Access, access, Taken, Log, IsThere}
 use Rattle.ucl_board.proofs.Histories.{word_after}
-use Rattle.ucl_pass.specs.declared.view.View.{View}
-use Rattle.ucl_pass.specs.Views.{newcomer, opener, kept_of, second_of, note_of, told_by, trail_of}
-use Rattle.ucl_pass.specs.OneHistory.{KeepsOneHistory}
-use Rattle.ucl_pass.specs.Steps.{Enlists}
-use Rattle.ucl_pass.proofs.Moves.{logged, look, looked, same_history, look_keeps, look_same, look_tells, add, entered, longer_history, add_keeps, add_same, add_tells, count, enlisted_as, unchanged_history, enlist_keeps, enlist_same, enlist_tells, second_added, second_same, note_added, note_same, note_joined, joined_same}
-use Rattle.ucl_pass.proofs.Moves as moves
+use Rattle.ucl_shared.specs.declared.view.View.{View}
+use Rattle.ucl_shared.specs.Views.{newcomer, opener, kept_of, second_of, note_of, told_by, trail_of}
+use Rattle.ucl_shared.specs.OneHistory.{KeepsOneHistory}
+use Rattle.ucl_shared.specs.Steps.{Enlists}
+use Rattle.ucl_shared.proofs.Moves.{logged, look, looked, same_history, look_keeps, look_same, look_tells, add, entered, longer_history, add_keeps, add_same, add_tells, count, enlisted_as, unchanged_history, enlist_keeps, enlist_same, enlist_tells, second_added, second_same, note_added, note_same, note_joined, joined_same}
+use Rattle.ucl_shared.proofs.Moves as moves
 use Rattle.ucl_steps.specs.declared.step.Caller.{Caller}
 use Rattle.ucl_steps.specs.declared.step.Caller.TheVariants.{Reporter, Reader}
 use Rattle.ucl_steps.specs.Machine.{Idle, MachineState, initial_state, held_by}

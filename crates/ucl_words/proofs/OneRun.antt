@@ -22,7 +22,7 @@ use Rattle.ucl_steps.specs.PassRuns.{cast_for, caller_for, IsOf, IsRecordOf, Are
 use Rattle.ucl_steps.proofs.JoinedRuns.{steps_append}
 use Rattle.ucl_steps.proofs.LogRunsSeats.{not_of}
 use Rattle.ucl_steps.proofs.PassSteps.{fits_else, Turn, left_append}
-use Rattle.ucl_pass.specs.declared.view.View.{View}
+use Rattle.ucl_shared.specs.declared.view.View.{View}
 use Rattle.ucl_words.specs.declared.view.WordView.{WordView}
 use Rattle.ucl_words.specs.WordRule.{known, accesses_of_log, AreStepsOf, IsOfSome, IsOneRun}
 

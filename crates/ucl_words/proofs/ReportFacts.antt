@@ -24,10 +24,10 @@ use Rattle.ucl_board.specs.Log.{Look, Swap, Access, access, Match, Taken, step_t
 use Rattle.ucl_board.proofs.Beginnings.{begins_length, begins_more, begins_same, begins_through}
 use Rattle.ucl_steps.specs.Trails.{Follows, ReportAccesses}
 use Rattle.ucl_steps.proofs.Accesses.{follows_longer, follows_wider, follows_append, follows_one, report_whole}
-use Rattle.ucl_pass.specs.Passes.{Continues, AcceptedReport, RefusedReport}
-use Rattle.ucl_pass.specs.declared.view.View.{View}
-use Rattle.ucl_pass.specs.Views.{pass_view_of, trail_of, Takes}
-use Rattle.ucl_pass.proofs.Calls.{takes_on, takes_count}
+use Rattle.ucl_shared.specs.Passes.{Continues, AcceptedReport, RefusedReport}
+use Rattle.ucl_shared.specs.declared.view.View.{View}
+use Rattle.ucl_shared.specs.Views.{pass_view_of, trail_of, Takes}
+use Rattle.ucl_shared.proofs.Calls.{takes_on, takes_count}
 use Rattle.ucl_words.specs.WordSteps.{Loads, ExchangeMissed, ExchangeWon, IsNextWord}
 use Rattle.ucl_words.specs.Collects.{Walks}
 use Rattle.ucl_words.specs.WordCalls.{HasTrail, IsSteady, steps_with, ReportSteps}

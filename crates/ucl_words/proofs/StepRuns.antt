@@ -12,10 +12,10 @@ use Rattle.ucl_board.proofs.Logs.{accesses_append}
 use Rattle.ucl_board.proofs.Beginnings.{begins_length, begins_same, begins_through}
 use Rattle.ucl_steps.specs.Trails.{Follows}
 use Rattle.ucl_steps.proofs.Accesses.{follows_longer, follows_wider, follows_append, follows_one}
-use Rattle.ucl_pass.specs.declared.view.View.{View}
-use Rattle.ucl_pass.specs.Passes.{Continues}
-use Rattle.ucl_pass.specs.Views.{pass_view_of, count_of, trail_of, Takes}
-use Rattle.ucl_pass.proofs.Calls.{takes_none, takes_on, takes_count}
+use Rattle.ucl_shared.specs.declared.view.View.{View}
+use Rattle.ucl_shared.specs.Passes.{Continues}
+use Rattle.ucl_shared.specs.Views.{pass_view_of, count_of, trail_of, Takes}
+use Rattle.ucl_shared.proofs.Calls.{takes_none, takes_on, takes_count}
 use Rattle.ucl_words.specs.WordSteps.{LoadsMatch}
 use Rattle.ucl_words.specs.Collects.{Walks}
 use Rattle.ucl_words.specs.WordCalls.{HasTrail, IsSteady, steps_with}

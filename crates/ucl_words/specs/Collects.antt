@@ -2,9 +2,9 @@
 use Rattle.std.specs.Prelude.{◌≡◌, ℕ, List, [], ◌∷◌, ◌++◌, length, Some, None, slice_get}
 use Rattle.ucl_board.specs.Log.{First, Second, Access}
 use Rattle.ucl_steps.specs.Trails.{IsCollect, IsBroken}
-use Rattle.ucl_pass.specs.Passes.{SeesOn}
-use Rattle.ucl_pass.specs.declared.view.View.{View}
-use Rattle.ucl_pass.specs.Views.{pass_view_of, trail_of}
+use Rattle.ucl_shared.specs.Passes.{SeesOn}
+use Rattle.ucl_shared.specs.declared.view.View.{View}
+use Rattle.ucl_shared.specs.Views.{pass_view_of, trail_of}
 use Rattle.ucl_words.specs.WordCalls.{IsSteady, LeavesAccesses}
 
 -- steps on match words that stored nothing

@@ -10,10 +10,10 @@ use Rattle.ucl_steps.specs.declared.step.Call.TheVariants as calls
 use Rattle.ucl_steps.specs.Protocol.{MayAsk}
 use Rattle.ucl_board.specs.History.{entry_of}
 use Rattle.ucl_steps.specs.Trails.{Follows, ReportAccesses, most_tries, ReadingAccesses}
-use Rattle.ucl_pass.specs.declared.view.View.{View}
-use Rattle.ucl_pass.specs.Passes.{IsSound}
-use Rattle.ucl_pass.specs.Views.{pass_view_of, count_of, trail_of, Takes}
-use Rattle.ucl_pass.specs.CallSteps.{FoundEnlisted, EnlistSteps}
+use Rattle.ucl_shared.specs.declared.view.View.{View}
+use Rattle.ucl_shared.specs.Passes.{IsSound}
+use Rattle.ucl_shared.specs.Views.{pass_view_of, count_of, trail_of, Takes}
+use Rattle.ucl_shared.specs.CallSteps.{FoundEnlisted, EnlistSteps}
 
 -- along the whole trail the places never fall, and each word that was found is that of its match at its place
 abbrev pub HasTrail : View → Type 0

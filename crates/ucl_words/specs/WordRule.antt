@@ -12,8 +12,8 @@ use Rattle.ucl_steps.specs.declared.step.Caller.TheVariants.{Reporter, Reader}
 use Rattle.ucl_steps.specs.declared.step.Step.{Step}
 use Rattle.ucl_steps.specs.Machine.{Idle, MachineState, initial_state, held_by, after_steps}
 use Rattle.ucl_steps.specs.PassRuns.{cast_for, IsOf, left_by, callers_of, FitsRun, IsTight}
-use Rattle.ucl_pass.specs.declared.view.View.{View}
-use Rattle.ucl_pass.specs.OneHistory.{KeepsOneHistory}
+use Rattle.ucl_shared.specs.declared.view.View.{View}
+use Rattle.ucl_shared.specs.OneHistory.{KeepsOneHistory}
 use Rattle.ucl_words.specs.declared.view.WordView.{WordView}
 
 -- the number of enlisted reporters as word 0, and the words of matches 1 to 12

@@ -6,9 +6,9 @@ use Rattle.ucl_board.specs.declared.entry.Entry.{Entry}
 use Rattle.ucl_board.specs.Words.{word_at}
 use Rattle.ucl_board.specs.History.{board_of, IsLegal, followed_by}
 use Rattle.ucl_board.specs.Log.{AccessKind, Access, access, Look, First, Second, Swap, Match, Enlisted, Taken}
-use Rattle.ucl_pass.specs.declared.view.View.{View}
-use Rattle.ucl_pass.specs.Views.{Takes, trail_of}
-use Rattle.ucl_pass.specs.Steps.{Sees, Adds, Enlists}
+use Rattle.ucl_shared.specs.declared.view.View.{View}
+use Rattle.ucl_shared.specs.Views.{Takes, trail_of}
+use Rattle.ucl_shared.specs.Steps.{Sees, Adds, Enlists}
 use Rattle.ucl_steps.specs.Protocol.{after_look, after_swap, after_first, after_second}
 use Rattle.ucl_words.specs.declared.view.WordView.{WordView}
 use Rattle.ucl_words.specs.WordRule.{Stands}

@@ -6,10 +6,10 @@ ghost use Rattle.ucl_board.specs.Fixtures.{IsMatch};
 ghost use Rattle.ucl_board.specs.Words.{AreWords, version_of};
 ghost use Rattle.ucl_board.specs.Log as trails;
 ghost use Rattle.ucl_steps.specs.Trails.{most_loads};
-ghost use Rattle.ucl_pass.specs.Passes.{IsSound, Continues, AcceptedReport, RefusedReport, SharedReading, Enlistment, FullBoard, Hearing, Meeting, opening_pass, split_pass};
-ghost use Rattle.ucl_pass.specs.Views.{pass_view_of, count_of, trail_of, kept_of};
-ghost use Rattle.ucl_pass.specs.CallSteps.{MeetingSteps, HasCopyOf};
-ghost use Rattle.ucl_pass.specs.OneHistory.{BoardsOpenFresh};
+ghost use Rattle.ucl_shared.specs.Passes.{IsSound, Continues, AcceptedReport, RefusedReport, SharedReading, Enlistment, FullBoard, Hearing, Meeting, opening_pass, split_pass};
+ghost use Rattle.ucl_shared.specs.Views.{pass_view_of, count_of, trail_of, kept_of};
+ghost use Rattle.ucl_shared.specs.CallSteps.{MeetingSteps, HasCopyOf};
+ghost use Rattle.ucl_shared.specs.OneHistory.{BoardsOpenFresh};
 ghost use Rattle.ucl_words.specs.WordRule.{words_after, IsTheRule, Stands};
 ghost use Rattle.ucl_words.specs.WordSteps.{Loads, LoadsLast, LoadsEnlisted, ExchangeWon, ExchangeMissed, IsNextWord, EnlistWon, EnlistMissed};
 ghost use Rattle.ucl_words.specs.Collects.{Collects, HasCollected, FindsAgain, FindsAnother};
@@ -32,7 +32,7 @@ use atomic_table::TableRule;
 use std::alloc::Global;
 use std::marker::{Brand, Model};
 use ucl_board::{Board, Entry, Reading};
-use ucl_pass::TooManyReporters;
+use ucl_shared::TooManyReporters;
 use ucl_word::{Accepted, EventCall, OutOfMemory, Refusal, ReporterNo, next_word, number_of};
 
 /// Which word of the table is the number of enlisted reporters; words 1 to 12 are the matches.

@@ -1,6 +1,6 @@
 use Rattle.std.proofs.Common.{◌≢◌, ℕ, ◌+◌, ◌%◌, ◌^◌, refl, sym, ap, ◌∙◌, subst, take}
 use Rattle.std.proofs.Math.Nat.{mod-add-mod}
-use Rattle.ucl_pass.specs.Passes.{ReportsMore}
+use Rattle.ucl_shared.specs.Passes.{ReportsMore}
 use Rattle.ucl_runs.specs.Gates.{CameTo, rows_by}
 use Rattle.ucl_runs.specs.Nights.{HasEntered}
 use Rattle.ucl_runs.proofs.EnteredRows.{entered_none, next_skipped, next_entered}

@@ -2,8 +2,8 @@ use Rattle.std.proofs.Common.{◌≡◌, rules, sym, subst}
 use Rattle.std.specs.Prelude.{IsSome}
 use Rattle.crossbeam_utils.specs.Seq.{cell_view}
 use Rattle.crossbeam_utils.specs.Register.{Merges}
-use Rattle.ucl_pass.specs.declared.view.View.{View}
-use Rattle.ucl_pass.specs.Views.{newcomer, told_by}
+use Rattle.ucl_shared.specs.declared.view.View.{View}
+use Rattle.ucl_shared.specs.Views.{newcomer, told_by}
 use Rattle.ucl_pass.specs.CellRule.{CellKeepsOneHistory}
 use Rattle.ucl_pass.specs.CellSteps.{LooksAtEnlisted}
 use Rattle.ucl_pass.proofs.CellMoves.{joins}

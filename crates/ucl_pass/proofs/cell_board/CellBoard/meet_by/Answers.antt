@@ -2,9 +2,9 @@ use Rattle.std.proofs.Common.{subst}
 use Rattle.std.specs.Prelude.{List}
 use Rattle.crossbeam_utils.specs.Seq.{cell_view}
 use Rattle.ucl_board.specs.declared.entry.Entry.{Entry}
-use Rattle.ucl_pass.specs.Passes.{Hearing}
-use Rattle.ucl_pass.specs.Views.{pass_view_of}
-use Rattle.ucl_pass.proofs.Calls.{note_is, note_seen}
+use Rattle.ucl_shared.specs.Passes.{Hearing}
+use Rattle.ucl_shared.specs.Views.{pass_view_of}
+use Rattle.ucl_shared.proofs.Calls.{note_is, note_seen}
 use Rattle.ucl_pass.proofs.cell_board.CellBoard.meet_by.Goals as goal
 
 pub hear_by-requires-clause-note : goal.hear_by-requires-clause-note

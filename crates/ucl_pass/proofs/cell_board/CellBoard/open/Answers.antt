@@ -1,6 +1,6 @@
 use Rattle.std.proofs.Common.{rules, List, ℕ, [], ◌∷◌, ◌++◌, ap, ◌∙◌}
 use Rattle.ucl_pass.specs.CellRule.{words_after}
-use Rattle.ucl_pass.proofs.LogFacts.{opens_fresh}
+use Rattle.ucl_shared.proofs.LogFacts.{opens_fresh}
 use Rattle.ucl_pass.proofs.CellMoves.{begins}
 use Rattle.ucl_pass.proofs.cell_board.CellBoard.open.Goals as goal
 

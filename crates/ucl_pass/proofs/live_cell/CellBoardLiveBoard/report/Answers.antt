@@ -1,10 +1,10 @@
 use Rattle.std.proofs.Common.{subst, ◌+◌, ◌≤◌, sym, ◌∙◌, arith}
 use Rattle.crossbeam_utils.specs.Seq.{cell_view}
 use Rattle.ucl_board.specs.Words.{greatest_version}
-use Rattle.ucl_pass.specs.Passes.{ReportsMore}
-use Rattle.ucl_pass.specs.Views.{Pass, pass_view_of}
-use Rattle.ucl_pass.specs.CallSteps.{CellHasReported}
-use Rattle.ucl_pass.proofs.Calls.{room}
+use Rattle.ucl_shared.specs.Passes.{ReportsMore}
+use Rattle.ucl_shared.specs.Views.{Pass, pass_view_of}
+use Rattle.ucl_pass.specs.CellCalls.{CellHasReported}
+use Rattle.ucl_shared.proofs.Calls.{room}
 use Rattle.ucl_pass.proofs.Reports.{report_counts}
 use Rattle.ucl_pass.proofs.live_cell.CellBoardLiveBoard.report.Goals as goal
 

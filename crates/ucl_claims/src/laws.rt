@@ -1,0 +1,19 @@
+//! One history for all callers, and the screens of what they read. The functions do nothing: they are there for their contracts.
+
+ghost use Rattle.ucl_claims.specs.Headline.{EveryRunHasOneHistory, BoardsHaveOneHistory};
+
+/// Between any two steps of any threads on a word board, for every state that meets the rule of its table: the log of the board is one run
+/// of the protocol's machine, and one history of the sequential board holds each finished call of each pass once, with the reply that it
+/// got, between its beginning and its end; each reading is the board of a beginning of it, and its screen is the text of the chosen order of
+/// that board.
+pub fn boards_have_one_history()
+    ensures { BoardsHaveOneHistory }
+{}
+
+/// For every list of steps of any reporters and readers, with calls cut anywhere and left unfinished: one history of the
+/// sequential board holds each finished call once, with the reply that it got, between its beginning and its end; so no
+/// reading mixes two boards, no reader's versions fall, and each screen is the text of the order of the board that its
+/// reading copied.
+pub fn every_run_has_one_history()
+    ensures { EveryRunHasOneHistory }
+{}

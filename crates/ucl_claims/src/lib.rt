@@ -1,0 +1,7 @@
+//! What the boards, the protocol's machine and the screen claim together: one history for all callers. The functions do nothing: each is
+//! there for its contract.
+#![tactic(auto)]
+
+mod laws;
+
+pub use laws::{boards_have_one_history, every_run_has_one_history};

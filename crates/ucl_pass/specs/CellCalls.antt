@@ -1,0 +1,101 @@
+-- Which steps a call on the cell takes: the pass was v and is w.
+use Rattle.std.specs.Prelude.{◌≡◌, ℕ, ◌+◌, ◌==◌, ◌≤◌, Bool, true, false, List, [], ◌∷◌, ◌++◌, length, filter, if◌then◌else◌, Option, Some, None, Result, Ok, Err, IsOk}
+use Rattle.std.specs.List.{AllByRecursion, flat_map}
+use Rattle.ucl_word.specs.declared.event.EventCall.{EventCall}
+use Rattle.ucl_word.specs.declared.event.Accepted.{Accepted}
+use Rattle.ucl_word.specs.declared.refusal.Refusal.{Refusal}
+use Rattle.ucl_word.specs.Rules.{reply_of}
+use Rattle.ucl_word.specs.Layout.{record_at}
+use Rattle.ucl_board.specs.declared.reading.Reading.{Reading}
+use Rattle.ucl_board.specs.History.{entry_of}
+use Rattle.ucl_board.specs.declared.entry.Entry.{Entry}
+use Rattle.ucl_board.specs.Log.{Look, Swap, Target, Match, Enlisted, Whole, Taken, step_taken}
+use Rattle.ucl_shared.specs.declared.view.View.{View}
+use Rattle.ucl_shared.specs.Views.{Takes}
+
+-- a report on the cell: a load on whose word the rules refuse
+pub record CellRefused (call : EventCall) (refusal : Refusal) (now : ℕ) (steps : List Taken) : Type 0 where
+  pub looked : ℕ
+  pub steps_are : steps ≡ step_taken (Match Look call.game looked) now None ∷ []
+  pub answer : reply_of (record_at looked) call ≡ Err refusal
+
+-- a load on whose word they accept, and an exchange that added the entry
+pub record CellAccepted (number : ℕ) (call : EventCall) (reply : Accepted) (now : ℕ) (steps : List Taken) : Type 0 where
+  pub looked : ℕ
+  pub at : ℕ
+  pub before : ℕ
+  pub steps_are : steps ≡ step_taken (Match Look call.game looked) at None ∷ step_taken (Match Swap call.game looked) before (Some (entry_of (number, call))) ∷ []
+  pub answer : reply_of (record_at looked) call ≡ Ok reply
+  pub last : before + 1 ≡ now
+
+-- a try in vain: a load on whose word they accept, and an exchange that was missed
+pub record CellMissed (call : EventCall) (steps : List Taken) : Type 0 where
+  pub looked : ℕ
+  pub found : ℕ
+  pub at : ℕ
+  pub later : ℕ
+  pub steps_are : steps ≡ step_taken (Match Look call.game looked) at None ∷ step_taken (Match Swap call.game found) later None ∷ []
+  pub may : IsOk (reply_of (record_at looked) call)
+
+abbrev pub CellAnswered : ℕ → EventCall → Result Accepted Refusal → ℕ → List Taken → Type 0
+CellAnswered number call (Ok reply) now steps = CellAccepted number call reply now steps
+CellAnswered number call (Err refusal) now steps = CellRefused call refusal now steps
+
+-- a load and an exchange at one place of the history: no event came between
+abbrev pub no_event_between : List Taken → Bool
+no_event_between (x ∷ y ∷ steps) = x.at == y.at
+no_event_between steps = false
+
+-- no try was in vain but by another pass: between its load and its exchange an event came, or a reporter was enlisted
+abbrev pub WereLost : ℕ → List (List Taken) → ℕ → Type 0
+WereLost listed tries listed' = length (filter no_event_between tries) + listed ≤ listed'
+
+-- tries in vain, and then the one that has the answer
+pub record CellReport (v : View) (call : EventCall) (reply : Result Accepted Refusal) (w : View) : Type 0 where
+  pub tries : List (List Taken)
+  pub last : List Taken
+  pub takes : Takes v (flat_map (λ x. x) tries ++ last) w
+  pub missed : AllByRecursion (CellMissed call) tries
+  pub lost : WereLost v.listed tries w.listed
+  pub answered : CellAnswered v.number call reply (length w.seen) last
+
+-- a try in vain of an enlistment: a load, and an exchange that was missed
+pub record CellEnlistMissed (steps : List Taken) : Type 0 where
+  pub loaded : ℕ
+  pub found : ℕ
+  pub at : ℕ
+  pub later : ℕ
+  pub steps_are : steps ≡ step_taken (Enlisted loaded) at None ∷ step_taken (Enlisted found) later None ∷ []
+
+-- the try that has the answer: a load and an exchange that gave the number, or a load that found as many enlisted as there are numbers
+abbrev pub CellEnlistAnswered : Bool → ℕ → List Taken → Type 0
+CellEnlistAnswered true now steps = (loaded found at : ℕ) × (steps ≡ step_taken (Enlisted loaded) at None ∷ step_taken (Enlisted found) now None ∷ [])
+CellEnlistAnswered false now steps = (loaded : ℕ) × (steps ≡ step_taken (Enlisted loaded) now None ∷ [])
+
+-- an enlistment on the cell, which gave a number or found none: tries in vain, and then the one that has the answer. The number that it
+-- gave is one more than were enlisted
+pub record CellEnlistment (v : View) (given : Bool) (w : View) : Type 0 where
+  pub tries : List (List Taken)
+  pub last : List Taken
+  pub takes : Takes v (flat_map (λ x. x) tries ++ last) w
+  pub missed : AllByRecursion CellEnlistMissed tries
+  pub lost : WereLost (v.listed + (if given then 1 else 0)) tries w.listed
+  pub answered : CellEnlistAnswered given (length w.seen) last
+
+-- a load for a report
+abbrev pub looks_for_report : Target → Bool
+looks_for_report (Match Look game found) = true
+looks_for_report _ = false
+
+-- an exchange for a report that stored nothing
+abbrev pub was_missed : Target → Option Entry → Bool
+was_missed (Match Swap game found) None = true
+was_missed _ _ = false
+
+-- so many events were reported by these steps: a load for each, and one more for each exchange that was missed
+abbrev pub CellHasReported : List Taken → ℕ → Type 0
+CellHasReported steps n = length (filter (λ x. looks_for_report x.target) steps) ≡ length (filter (λ x. was_missed x.target x.entry) steps) + n
+
+-- a reading of the cell is one load, at its version
+abbrev pub CellReading : View → Reading → View → Type 0
+CellReading v reading w = Takes v (step_taken Whole reading.version None ∷ []) w
