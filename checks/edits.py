@@ -2,7 +2,8 @@
 
 An edit is a text file: a line `file:`, which names a file of the crate, and pairs of lines `old:` and `new:`, each text one line, that stands
 there exactly once. The gate's wrong bodies are crates/CRATE/must-fail/NAME.edit, further ones checks/wrong/CRATE/NAME.edit, and the control
-of either is checks/controls/CRATE/NAME.edit.
+of either is checks/controls/CRATE/NAME.edit. A wrong body has lines `breaks:` besides (one of the gate always), each with a public function and
+those of its clauses that this body breaks, as in `breaks: Board::report reply sequential`; checks/clauses.py says how they are named.
 """
 
 OF_THE_GATE = "crates/*/must-fail/*.edit"
@@ -23,6 +24,12 @@ def edits_of(top, pattern):
 def after(line, word):
     """What stands after the word that the line begins with, and after one blank."""
     return line[len(word) :][1:] if line[len(word) :].startswith(" ") else line[len(word) :]
+
+
+def broken_by(edit):
+    """The clauses that a wrong body breaks, by its lines `breaks:`."""
+    words = [line.split()[1:] for line in edit.read_text().split("\n") if line.startswith("breaks:")]
+    return [f"{line[0]} {clause}".strip() for line in words for clause in line[1:] or [""]]
 
 
 def edited(folder, edit):

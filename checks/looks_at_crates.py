@@ -3,6 +3,7 @@
 import collections
 import re
 
+import clauses
 import edits
 
 DEFINED = re.compile(r"^(?:abbrev pub|unfoldable pub|pub record|pub data) (\S+)", re.M)
@@ -45,6 +46,23 @@ def wrong_bodies_have_controls(top):
         [f"{crate}/{name} has no control" for crate, name in sorted(set(wrong) - controls)]
         + [f"{crate}/{name} is the control of no wrong body" for crate, name in sorted(controls - set(wrong))]
         + [f"{crate}/{name} is the name of {count} wrong bodies" for (crate, name), count in sorted(wrong.items()) if count > 1]
+    )
+
+
+def unbroken(top):
+    """The clauses of public functions, and the fields of the rule, that no wrong body of the gate breaks."""
+    broken = {clause for _, edit in edits.edits_of(top, edits.OF_THE_GATE) for clause in edits.broken_by(edit)}
+    return {clause: "no wrong body of the gate breaks it" for clause in clauses.clauses_of(top) if clause not in broken}
+
+
+def each_clause_is_broken(top):
+    """Each wrong body of the gate tells what it breaks, and each clause of a public function, and each field of the rule, has one that breaks it."""
+    known = set(clauses.clauses_of(top))
+    told = [(edit.relative_to(top), edits.broken_by(edit)) for _, edit in edits.edits_of(top, edits.OF_THE_GATE)]
+    return (
+        [f"{edit}: it does not tell what it breaks" for edit, broken in told if not broken]
+        + [f"{edit}: breaks {clause}, and there is no such clause" for edit, broken in told for clause in broken if clause not in known]
+        + against_list(unbroken(top), listed(top, "clauses_without_a_wrong_body"))
     )
 
 
@@ -126,7 +144,8 @@ def shrink_list(top, name, kept):
 
 def shrink_lists(top):
     """Takes out of the lists what is no longer needed."""
-    twice, needless, wide = defined_twice(top), unused(top), wide_lines(top)
+    twice, needless, wide, whole = defined_twice(top), unused(top), wide_lines(top), unbroken(top)
+    shrink_list(top, "clauses_without_a_wrong_body", lambda what, why: why if what in whole else None)
     shrink_list(top, "defined_twice", lambda what, why: why if what in twice else None)
     shrink_list(top, "unused_dependencies", lambda what, why: why if what in needless else None)
     shrink_list(top, "wide_lines", lambda what, most: min(int(most), wide.get(what, 0)))
@@ -135,6 +154,7 @@ def shrink_lists(top):
 LOOKS = [
     ("wrong bodies and controls fit the text", edits_fit),
     ("each wrong body has a control", wrong_bodies_have_controls),
+    ("each clause has a wrong body in the gate", each_clause_is_broken),
     ("each definition's name is defined once", each_name_once),
     ("each crate uses what it stands on", each_dependency_is_used),
     ("clauses have at most 100 columns", clauses_are_narrow),

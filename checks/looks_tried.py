@@ -40,13 +40,20 @@ FAULTS = {
         ("crates/ucl_command/src/night.rt", None, "\nuse ucl_pass::CellBoard;\n"),
     ],
     "wrong bodies and controls fit the text": [
-        ("crates/ucl_word/must-fail/finished_before_stale.edit", "old: ", "old: not there "),
+        ("crates/ucl_word/must-fail/limits_ignored.edit", "old: ", "old: not there "),
         ("checks/wrong/ucl_word/fault.edit", None, "file: src/rules.rt\nold: fn next_word(\nnew: fn next_word(\n"),
     ],
     "each wrong body has a control": [
-        ("checks/controls/ucl_word/finished_before_stale.edit", "", None),
+        ("checks/controls/ucl_word/limits_ignored.edit", "", None),
         ("checks/controls/ucl_word/fault.edit", None, "file: src/rules.rt\n"),
-        ("checks/wrong/ucl_word/finished_before_stale.edit", None, "file: src/rules.rt\n"),
+        ("checks/wrong/ucl_word/limits_ignored.edit", None, "file: src/rules.rt\n"),
+    ],
+    "each clause has a wrong body in the gate": [
+        ("crates/ucl_board/must-fail/packed_board_of_one_word.edit", "breaks: Board::of_packed\n", ""),
+        ("crates/ucl_board/must-fail/packed_board_of_one_word.edit", "breaks: Board::of_packed\n", "breaks: Board::of_others\n"),
+        ("crates/ucl_word/src/word.rt", "pub fn pack(", "pub fn pack_anew("),
+        ("crates/ucl_board/src/board.rt", "ensures unchanged {", "ensures unmoved {"),
+        ("checks/lists/clauses_without_a_wrong_body", None, "Board::of_packed: not so\n"),
     ],
     "each definition's name is defined once": [
         ("crates/ucl_board/specs/Words.antt", None, "\nabbrev pub refusal_of : ℕ\n"),

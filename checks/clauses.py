@@ -1,0 +1,110 @@
+"""The clauses that a wrong body has to break: those of each public function, and the fields of the rule of shared boards.
+
+A clause is named by its function and its own name, as in `Board::report reply`; of a function whose clauses have no name it is the function
+alone. A method is named by its type, also where the clauses are those of its trait. A function with an empty body is a law: no body of it is
+wrong, so it is left out. Of the traits of other crates the Display of a public type counts, for its text.
+"""
+
+import re
+
+PUBLIC = re.compile(r"^pub use (?:\w+::)*(?:\{([^}]*)\}|(\w+));", re.M)
+PUBLIC_MODULE = re.compile(r"^pub mod (\w+);", re.M)
+BLOCK = re.compile(r"^(?:pub )?(trait|impl)\b")
+FUNCTION = re.compile(r"^(    )?(pub )?fn (\w+)")
+CLAUSE = re.compile(r"^\s*ensures\s+(?:(\w+)\s+)?\{")
+DISPLAY = "Display"
+RULE = "KeepsOneHistory"
+FIELD = re.compile(r"^  pub (\w+) : ", re.M)
+
+
+def exported(crate):
+    """The names that a crate makes public, and its public modules."""
+    text = (crate / "src/lib.rt").read_text()
+    names = [name.strip() for many, one in PUBLIC.findall(text) for name in (many or one).split(",")]
+    return {name for name in names if name}, set(PUBLIC_MODULE.findall(text))
+
+
+def block_of(lines, start):
+    """Of a trait or an impl that begins here: the name of its trait, or None, and of its type, or of the trait alone."""
+    end = next(i for i in range(start, len(lines)) if "{" in lines[i])
+    head = " ".join(lines[start : end + 1]).split("{")[0].split(" requires ")[0]
+    if re.match(r"(?:pub )?trait", head):
+        name = re.search(r"trait (\w+)", head)[1]
+        return name, name
+    types = re.sub(r"^impl(<.*?>)? (?=[A-Z]|\w+::)", "", head).split(" for ")
+    names = [re.sub(r"<.*", "", name).strip().split("::")[-1] for name in types]
+    return (names[0], names[1]) if len(names) == 2 else (None, names[0])
+
+
+def function_at(lines, start, indent):
+    """The clauses of a function that begins here, and whether its body is empty."""
+    clauses = []
+    for line in lines[start:]:
+        found = CLAUSE.match(line)
+        if found:
+            clauses.append(found[1] or "")
+        if line.rstrip() in (indent + "{", indent + "{}") or line.endswith(";") or line.endswith("{}"):
+            return clauses, line.endswith("{}")
+        if line.endswith("{") and (line is lines[start] or line.startswith(indent + ")")):
+            return clauses, False
+    return clauses, True
+
+
+def functions_of(path):
+    """Each function of a file: its trait and type, if any, whether it says `pub`, its name, its clauses, and whether its body is empty."""
+    lines = path.read_text().split("\n")
+    trait = owner = None
+    for at, line in enumerate(lines):
+        if BLOCK.match(line):
+            trait, owner = block_of(lines, at)
+        elif line == "}":
+            trait = owner = None
+        found = FUNCTION.match(line)
+        if found and bool(found[1]) == bool(owner):
+            yield (trait, owner, bool(found[2]), found[3], *function_at(lines, at, found[1] or ""))
+
+
+def named(owner, function, clauses):
+    """The clauses by their names; those without a name as one, by the function alone."""
+    whole = f"{owner}::{function}" if owner else function
+    return [f"{whole} {clause}".strip() for clause in dict.fromkeys(clauses)] or [whole]
+
+
+def traits_of(crates):
+    """The clauses of each function of the public traits of these crates, by trait and function."""
+    found = {}
+    for crate, (names, _), functions in crates:
+        for _, (trait, owner, _, function, clauses, _) in functions:
+            if trait == owner and trait in names:
+                found[trait, function] = clauses
+    return found
+
+
+def clauses_of_crate(names, modules, functions, traits):
+    """The clauses of a crate's public functions."""
+    for path, (trait, owner, is_pub, function, clauses, is_empty) in functions:
+        is_method = owner in names and trait != owner
+        is_plain = owner is None and (function in names or path.stem in modules)
+        if trait == DISPLAY and is_method:
+            yield from named(owner, function, [])
+        elif is_empty:
+            continue
+        elif trait is not None and is_method and (trait, function) in traits:
+            yield from named(owner, function, clauses or traits[trait, function])
+        elif trait is None and is_pub and (is_method or is_plain):
+            yield from named(owner, function, clauses)
+
+
+def clauses_of(top):
+    """All clauses that a wrong body has to break, in order: of the crates that have definitions."""
+    folders = [path.parent for path in sorted(top.glob("crates/*/specs")) if (path.parent / "src/lib.rt").exists()]
+    crates = [
+        (crate, exported(crate), [(path, found) for path in sorted((crate / "src").glob("**/*.rt")) for found in functions_of(path)])
+        for crate in folders
+    ]
+    traits = traits_of(crates)
+    found = [clause for _, (names, modules), functions in crates for clause in clauses_of_crate(names, modules, functions, traits)]
+    for path in sorted(top.glob("crates/*/specs/*.antt")):
+        record = re.search(rf"^pub record {RULE} .*\n((?:  .*\n)*)", path.read_text(), re.M)
+        found += [f"{RULE} {field}" for field in FIELD.findall(record[1])] if record else []
+    return list(dict.fromkeys(found))
