@@ -8,7 +8,7 @@ use std::alloc::Global;
 use std::thread;
 use ucl_order::{Club, Profile, Roster};
 use ucl_screen::screen;
-use ucl_word::{EventCall, Kind, MatchNo, Side};
+use ucl_word::{Accepted, EventCall, Kind, MatchNo, Refusal, Side};
 use ucl_words::{WordBoard, WordReporterPass};
 
 /// The four clubs of the group, in slots 1 to 4.
@@ -29,22 +29,25 @@ fn clubs(alloc: Global) -> anyhow::Result<Roster> {
     .context("no roster")
 }
 
-/// Kicks a match off and enters a goal of the home side. A report names the event number that was last seen of the match.
-fn enter(board: &WordBoard, mut pass: WordReporterPass, game: MatchNo)
-    requires { pass.board ≡ board.now }
+/// Enters an event of a match. It names the event number that was last seen of the match: where another reporter was faster, the answer tells
+/// the number that is there, and the event is entered once more, from that one.
+fn enter(
+    board: &WordBoard,
+    pass: &mut WordReporterPass,
+    event: &EventCall,
+) -> Result<Accepted, Refusal>
+    requires { pass.old.board ≡ board.now }
+    ensures { pass.new.board ≡ board.now }
 {
-    let kick_off = EventCall {
-        game,
-        expected: 0,
-        kind: Kind::KickOff,
-    };
-    if let Ok(accepted) = board.report_now(&mut pass, &kick_off) {
-        let goal = EventCall {
-            game,
-            expected: accepted.number,
-            kind: Kind::Goal(Side::Home),
-        };
-        let _ = board.report_now(&mut pass, &goal);
+    match board.report_now(pass, event) {
+        Err(Refusal::Stale { found }) => {
+            let again = EventCall {
+                expected: found,
+                ..*event
+            };
+            board.report_now(pass, &again)
+        }
+        reply => reply,
     }
 }
 
@@ -53,21 +56,33 @@ fn main(rt: HostRuntime) -> anyhow::Result<()> {
     let (board, mut pass) = WordBoard::open(&rt, rt.alloc())?;
     let mut stadium = board.split_now(&mut pass);
     let other = board.split_now(&mut pass);
-    let first = board.enlist_now(pass).ok().context("no number is left")?;
-    let second = board.enlist_now(other).ok().context("no number is left")?;
-    let (one, two) = (
-        MatchNo::new(1).context("no match 1")?,
-        MatchNo::new(2).context("no match 2")?,
+    let mut north = board.enlist_now(pass).ok().context("no number is left")?;
+    let mut south = board.enlist_now(other).ok().context("no number is left")?;
+    let game = MatchNo::new(1).context("no match 1")?;
+    let event = |expected, kind| EventCall {
+        game,
+        expected,
+        kind,
+    };
+    let kick_off = event(0, Kind::KickOff);
+    enter(&board, &mut north, &kick_off)
+        .ok()
+        .context("no kick-off")?;
+    let (home, away) = (
+        event(1, Kind::Goal(Side::Home)),
+        event(1, Kind::Goal(Side::Away)),
     );
-    thread::join(
+    let (north_says, south_says) = thread::join(
         &rt,
         ||
-            requires { first.board ≡ board }
-        { enter(&board, first, one) },
+            requires { north.board ≡ board }
+        { enter(&board, &mut north, &home) },
         ||
-            requires { second.board ≡ board }
-        { enter(&board, second, two) },
+            requires { south.board ≡ board }
+        { enter(&board, &mut south, &away) },
     );
+    north_says.ok().context("no goal of the home side")?;
+    south_says.ok().context("no goal of the visitors")?;
     let reading = board.read_now(&mut stadium);
     print!(&rt;
         "{}",

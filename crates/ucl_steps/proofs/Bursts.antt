@@ -1,13 +1,10 @@
 -- Steps of one caller with none of another between them: a reading of all words at once is one.
-use Rattle.std.proofs.Common.{◌≡◌, ◌≢◌, ℕ, zero, suc, ◌+◌, ◌-◌, ◌<◌, ◌≤◌, ◌==◌, Bool, cond, List, [], ◌∷◌, ◌++◌, length, take, Some, refl, sym, ap, ◌∙◌, subst, arith, append-nil, eq-eqb, ne_eqb}
+use Rattle.std.proofs.Common.{◌≡◌, ℕ, zero, suc, ◌+◌, ◌-◌, ◌<◌, Bool, cond, List, [], ◌∷◌, ◌++◌, length, take, Some, refl, sym, ap, ◌∙◌, subst, arith, append-nil, eq-eqb, ne_eqb}
 use Rattle.std.specs.Prelude.{slice_index}
 use Rattle.std.proofs.lemmas.List.{length-take-le}
 use Rattle.std.proofs.Math.Seq.{take-length}
-use Rattle.ucl_word.specs.Layout.{word_of}
-use Rattle.ucl_board.specs.declared.entry.Entry.{Entry}
 use Rattle.ucl_board.specs.Fixtures.{IsMatch}
-use Rattle.ucl_board.specs.Words.{word_at}
-use Rattle.ucl_board.specs.History.{match_after, board_of}
+use Rattle.ucl_board.specs.History.{board_of}
 use Rattle.ucl_board.proofs.Histories.{word_after}
 use Rattle.ucl_board.specs.Log as log
 use Rattle.ucl_board.specs.Log.{AccessKind, Access, access}
@@ -18,11 +15,9 @@ use Rattle.ucl_steps.specs.declared.step.Call.TheVariants.{Reading}
 use Rattle.ucl_steps.specs.declared.step.Step.{Step}
 use Rattle.ucl_steps.specs.declared.trace.Reply.TheVariants.{Copied}
 use Rattle.ucl_steps.specs.Machine.{MachineState, initial_state, after_steps}
-use Rattle.ucl_steps.specs.Protocol.{Held, Nothing, Collecting, Checking, Doing, goes, ends, collected}
+use Rattle.ucl_steps.specs.Protocol.{Nothing, Collecting, Checking, Doing, goes, ends, collected}
 use Rattle.ucl_steps.specs.PassRuns.{FitsRun}
-use Rattle.ucl_steps.proofs.JoinedRuns.{steps_append}
-use Rattle.ucl_steps.proofs.LogRunsCalls.{IsNow}
-use Rattle.ucl_steps.proofs.LogRunsSeats.{Passes, passes_on}
+use Rattle.ucl_steps.proofs.OneStep.{steps_append, IsNow, Passes, passes_on}
 use Rattle.ucl_steps.proofs.PassSteps.{Turn, turn_begins, turn_first, turn_again, turn_clean}
 
 pub record Turns (seat number : ℕ) (w : MachineState) (c : Caller) (d : Doing) : Type 0 where

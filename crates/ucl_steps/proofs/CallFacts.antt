@@ -15,7 +15,8 @@ use Rattle.ucl_steps.specs.declared.step.Call.TheVariants.{Event, Reading}
 use Rattle.ucl_steps.specs.declared.trace.Reply.{Reply}
 use Rattle.ucl_steps.specs.declared.trace.Reply.TheVariants.{Accepted, Refused, Copied}
 use Rattle.ucl_steps.specs.declared.trace.CallRecord.{CallRecord}
-use Rattle.ucl_steps.specs.Machine.{Holds, Idle, Wanting, Holding, Collecting, Checking, Answered}
+use Rattle.ucl_steps.specs.Protocol.{Nothing, Holding, Collecting, Checking}
+use Rattle.ucl_steps.specs.Machine.{Holds, Idle, Wanting, Within, Answered}
 use Rattle.ucl_steps.proofs.Explanations.{IsSequential, LiesWithin, IsExplained}
 
 -- a reporter asks for an event of a match
@@ -68,17 +69,16 @@ pub record Checks (h : List Entry) (a : CallRecord) (words : List ℕ) (checked 
 abbrev pub in_call : Holds → Option ℕ
 in_call Idle = None
 in_call (Wanting k e) = Some k
-in_call (Holding k e old new) = Some k
-in_call (Collecting k words) = Some k
-in_call (Checking k words checked point) = Some k
+in_call (Within k held) = Some k
 in_call (Answered k) = Some k
 
 abbrev pub Sees : List Entry → CallRecord → Holds → Type 0
 Sees h a Idle = Unit {0}
 Sees h a (Wanting k e) = Asks a e
-Sees h a (Holding k e old new) = Offers h a e old new
-Sees h a (Collecting k words) = Collects h a words
-Sees h a (Checking k words checked point) = Checks h a words checked point
+Sees h a (Within k Nothing) = ⊥
+Sees h a (Within k (Holding e old new)) = Offers h a e old new
+Sees h a (Within k (Collecting words)) = Collects h a words
+Sees h a (Within k (Checking words checked point)) = Checks h a words checked point
 Sees h a (Answered k) = IsSome a.reply
 
 -- the caller is in this call, and what it holds says how far it is
@@ -99,7 +99,8 @@ module _ (h h' : List Entry) (b : IsPrefix h h') where
   pub sees_later : (a : CallRecord) (x : Holds) → Sees h a x → Sees h' a x
   sees_later a Idle s = tt
   sees_later a (Wanting k e) s = s
-  sees_later a (Holding k e old new) s = let long = begins_length h h' b in let w = s.within in record {
+  sees_later a (Within k Nothing) s = absurd s
+  sees_later a (Within k (Holding e old new)) s = let long = begins_length h h' b in let w = s.within in record {
     asks = s.asks;
     place = s.place;
     within = omega arith;
@@ -107,8 +108,8 @@ module _ (h h' : List Entry) (b : IsPrefix h h') where
     accepted = s.accepted;
     next = s.next;
   }
-  sees_later a (Collecting k words) s = record { reads = s.reads; few = s.few; loaded = loaded_later words (length h) (length h') (le_refl (length h)) (begins_length h h' b) s.loaded }
-  sees_later a (Checking k words checked point) s = let long = begins_length h h' b in let l = s.late in record {
+  sees_later a (Within k (Collecting words)) s = record { reads = s.reads; few = s.few; loaded = loaded_later words (length h) (length h') (le_refl (length h)) (begins_length h h' b) s.loaded }
+  sees_later a (Within k (Checking words checked point)) s = let long = begins_length h h' b in let l = s.late in record {
     reads = s.reads;
     twelve = s.twelve;
     few = s.few;

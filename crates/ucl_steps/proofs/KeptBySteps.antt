@@ -29,7 +29,8 @@ use Rattle.ucl_steps.specs.declared.step.Step.{Step}
 use Rattle.ucl_steps.specs.declared.step.Step.TheVariants.{Begin, Look, Swap, First, Second, End}
 use Rattle.ucl_steps.specs.declared.trace.CallRecord.{CallRecord}
 use Rattle.ucl_steps.specs.declared.trace.Reply.TheVariants.{Accepted, Refused, Copied}
-use Rattle.ucl_steps.specs.Machine.{may_begin, after_begin, after_step_holding, caller_of, Holds, Idle, Wanting, Holding, Collecting, Checking, Answered, MachineState, held_by, with_held, change_at, with_reply, with_end, after_rules, after_look, after_swap, after_first, after_second, after_reply}
+use Rattle.ucl_steps.specs.Protocol.{Holding, Collecting, Checking, GoesOn, Answers, by_rules}
+use Rattle.ucl_steps.specs.Machine.{may_begin, after_begin, after_step_holding, caller_of, Holds, Idle, Wanting, Within, Answered, MachineState, held_by, with_held, change_at, with_reply, with_end, after_outcome, stored, state_after_look, state_after_swap, state_after_first, state_after_second, after_reply}
 use Rattle.ucl_steps.proofs.Explanations.{IsExplained, IsSequential}
 use Rattle.ucl_steps.proofs.Turns.{IsInner}
 use Rattle.ucl_steps.proofs.CallFacts.{Asks, Offers, Loaded, AreAt, Collects, Checks, in_call}
@@ -85,7 +86,7 @@ module _ (steps : List Step) (w : MachineState) (kept : Keeps steps w) where
       (λ a at. (subst (λ (z : CallRecord). IsExplained h (f z) (Some now) (Some (Refused refusal))) (same_Some m.call a (sym m.at ∙ at)) told, refl)) refl
 
   look_kept : (n k : ℕ) (e : EventCall) (holds : held_by w.callers (Reporter n) ≡ Some (Wanting k e)) (o : Option Refusal) → refusal_of (record_at (word_at w.words e.game)) e.expected e.kind ≡ o
-      → Keeps (steps ++ Look (Reporter n) ∷ []) (after_rules (Reporter n) k e (word_at w.words e.game) o w)
+      → Keeps (steps ++ Look (Reporter n) ∷ []) (after_outcome (Reporter n) k now (by_rules n e (word_at w.words e.game) o) w)
   look_kept n k e holds (Some refusal) is =
       let m = kept.knows (Reporter n) (Wanting k e) k holds refl in
       refused_kept (Look (Reporter n)) (Reporter n) k e (Wanting k e) holds refl refusal tt m.sees
@@ -103,12 +104,12 @@ module _ (steps : List Step) (w : MachineState) (kept : Keeps steps w) where
         accepted = is;
         next = ap (λ (z : ℕ). word_of (after (record_at word) z e.kind)) (sym r_is);
       } in
-      stayed steps w kept (Reporter n) (Wanting k e) holds k refl (Look (Reporter n)) (Holding k e word new) tt (λ a at. subst (λ (z : CallRecord). Offers w.history z e word new) (same_Some m.call a (sym m.at ∙ at)) offers) refl
+      stayed steps w kept (Reporter n) (Wanting k e) holds k refl (Look (Reporter n)) (Within k (Holding e word new)) tt (λ a at. subst (λ (z : CallRecord). Offers w.history z e word new) (same_Some m.call a (sym m.at ∙ at)) offers) refl
 
-  module _ (n k : ℕ) (e : EventCall) (old new : ℕ) (holds : held_by w.callers (Reporter n) ≡ Some (Holding k e old new)) where
+  module _ (n k : ℕ) (e : EventCall) (old new : ℕ) (holds : held_by w.callers (Reporter n) ≡ Some (Within k (Holding e old new))) where
     missed : (word_at w.words e.game == old) ≡ false → Keeps (steps ++ Swap (Reporter n) ∷ []) (after_reply (Reporter n) k now (Refused (Stale (record_at (word_at w.words e.game)).number)) w)
     missed differs =
-        let m = kept.knows (Reporter n) (Holding k e old new) k holds refl in
+        let m = kept.knows (Reporter n) (Within k (Holding e old new)) k holds refl in
         let o = m.sees in
         let h = w.history in
         let g = e.game in
@@ -119,47 +120,75 @@ module _ (steps : List Step) (w : MachineState) (kept : Keeps steps w) where
         let at_now : (match_after (take now h) g).number ≡ (match_after h g).number = ap (λ (z : List Entry). (match_after z g).number) (take-length h) in
         let same = (same_number h o.place now g (sym number ∙ (is ∙ sym at_now))).1 in
         eqb-false (word_at w.words g) old differs (word_now g game ∙ (ap (λ (z : List Entry). word_of (match_after z g)) (sym (take-length h)) ∙ (sym same ∙ sym o.found))) in
-        refused_kept (Swap (Reporter n)) (Reporter n) k e (Holding k e old new) holds refl (Stale (record_at (word_at w.words g)).number) tt o.asks
+        refused_kept (Swap (Reporter n)) (Reporter n) k e (Within k (Holding e old new)) holds refl (Stale (record_at (word_at w.words g)).number) tt o.asks
         (is_stale (match_after h g) e.expected e.kind stale ∙ ap (λ (z : MatchRecord). Some (Stale z.number)) (sym (record_now g game)))
 
-    won : (word_at w.words e.game == old) ≡ true → Keeps (steps ++ Swap (Reporter n) ∷ []) (after_reply (Reporter n) k now (Accepted (record { number = (record_at new).number }))
-        (record w { words = slice_set w.words (e.game - 1) new; history = w.history ++ entered e n ∷ [] }))
-    won same =
-        let m = kept.knows (Reporter n) (Holding k e old new) k holds refl in
-        let o = m.sees in
-        let h = w.history in
-        let g = e.game in
-        let game = o.asks.game in
-        let now_is : old ≡ word_of (match_after h g) = sym (eqb-true (word_at w.words g) old same) ∙ word_now g game in
-        let match_is : record_at old ≡ match_after h g = ap record_at now_is ∙ read_back h g kept.legal in
-        let r_is : o.asks.reporter ≡ n = same_reporter o.asks.reporter n (sym o.asks.caller ∙ m.caller) in
-        let accepted : refusal_of (match_after h g) e.expected e.kind ≡ None = ap (λ (z : MatchRecord). refusal_of z e.expected e.kind) (sym match_is) ∙ o.accepted in
-        let number = number_expected (match_after h g) e.expected e.kind accepted in
-        let low = o.asks.low in
-        let high = o.asks.high in
-        let may : MayFollow h (entered e n) = record { game = game; accepted = record { reporter = (omega arith, omega arith); accepted = ap (λ (z : ℕ). refusal_of (match_after h g) z e.kind) (sym (number_is h g) ∙ sym number) ∙ accepted } } in
-        let h' = h ++ entered e n ∷ [] in
-        let legal = legal_snoc h (entered e n) kept.legal may in
-        let new_is : new ≡ word_of (after (match_after h g) n e.kind) = o.next ∙ (ap (λ (z : ℕ). word_of (after (record_at old) z e.kind)) r_is ∙ ap (λ (z : MatchRecord). word_of (after z n e.kind)) match_is) in
-        let words : slice_set w.words (g - 1) new ≡ board_of h' = ap (λ (z : List ℕ). slice_set z (g - 1) new) kept.words ∙ (ap (slice_set (board_of h) (g - 1)) new_is ∙ sym (board_next h (entered e n) kept.legal may)) in
-        let next = match_next h (entered e n) kept.legal may in
-        let count : (record_at new).number ≡ (match_after h g).number + 1 =
-        ap (λ (z : ℕ). (record_at z).number) (new_is ∙ ap word_of (sym next)) ∙ (ap (λ (z : MatchRecord). z.number) (read_back h' g legal ∙ next) ∙ number_after (match_after h g) n e.kind) in
-        let f = with_reply now (Accepted (record { number = (record_at new).number })) in
-        let base : IsSequential h' now (Reporter n) (Event e) (Accepted (record { number = (record_at new).number })) =
-        (ap (λ (z : List Entry). sequential_reply z e) (take-append_seam h (entered e n ∷ [])) ∙ (ap (answer (match_after h g).number) accepted ∙ ap (λ (z : ℕ). Ok (record { number = z })) (sym count)), at_end h (entered e n)) in
-        let is : IsSequential h' now m.call.caller m.call.call (Accepted (record { number = (record_at new).number })) =
-        subst (λ (z : Caller). IsSequential h' now z m.call.call (Accepted (record { number = (record_at new).number }))) (sym m.caller)
-        (subst (λ (z : Call). IsSequential h' now (Reporter n) z (Accepted (record { number = (record_at new).number }))) (sym o.asks.call) base) in
-        let long = length_push h (entered e n) in
-        let told : IsExplained h' (f m.call) (Some now) (Some (Accepted (record { number = (record_at new).number }))) = ((begun_before k m.call m.at, omega arith, unended_none m.call.ended (λ z. now < z) m.unended), is) in
-        moved steps w kept (Reporter n) (Holding k e old new) holds k refl (Swap (Reporter n)) (Answered k) h' (slice_set w.words (g - 1) new) f tt (entered e n ∷ [], refl) legal words (λ a. refl)
-        (once_accepted w.calls k f m.call m.at o.asks.reply h (entered e n) refl refl (made_within h w.calls kept.explained) kept.once)
-        (λ a at. (subst (λ (z : CallRecord). IsExplained h' (f z) (Some now) (Some (Accepted (record { number = (record_at new).number })))) (same_Some m.call a (sym m.at ∙ at)) told, refl)) refl
+    module _ (same : (word_at w.words e.game == old) ≡ true) where
+      abbrev sees_it : Offers w.history (kept.knows (Reporter n) (Within k (Holding e old new)) k holds refl).call e old new
+      sees_it = (kept.knows (Reporter n) (Within k (Holding e old new)) k holds refl).sees
 
-    swap_kept : (b : Bool) → (word_at w.words e.game == old) ≡ b → Keeps (steps ++ Swap (Reporter n) ∷ []) (cond b
-        (after_reply (Reporter n) k now (Accepted (record { number = (record_at new).number })) (record w { words = slice_set w.words (e.game - 1) new; history = w.history ++ entered e n ∷ [] }))
-        (after_reply (Reporter n) k now (Refused (Stale (record_at (word_at w.words e.game)).number)) w))
+      abbrev after_it : List Entry
+      after_it = w.history ++ entered e n ∷ []
+
+      match_is : record_at old ≡ match_after w.history e.game
+      match_is = ap record_at (sym (eqb-true (word_at w.words e.game) old same) ∙ word_now e.game sees_it.asks.game) ∙ read_back w.history e.game kept.legal
+
+      accepted_now : refusal_of (match_after w.history e.game) e.expected e.kind ≡ None
+      accepted_now = ap (λ (z : MatchRecord). refusal_of z e.expected e.kind) (sym match_is) ∙ sees_it.accepted
+
+      may_follow : MayFollow w.history (entered e n)
+      may_follow =
+          let m = kept.knows (Reporter n) (Within k (Holding e old new)) k holds refl in
+          let r_is : sees_it.asks.reporter ≡ n = same_reporter sees_it.asks.reporter n (sym sees_it.asks.caller ∙ m.caller) in
+          let low = sees_it.asks.low in
+          let high = sees_it.asks.high in
+          let number = number_expected (match_after w.history e.game) e.expected e.kind accepted_now in
+          record {
+            game = sees_it.asks.game;
+            accepted = record { reporter = (omega arith, omega arith); accepted = ap (λ (z : ℕ). refusal_of (match_after w.history e.game) z e.kind) (sym (number_is w.history e.game) ∙ sym number) ∙ accepted_now };
+          }
+
+      new_is : new ≡ word_of (after (match_after w.history e.game) n e.kind)
+      new_is =
+          let m = kept.knows (Reporter n) (Within k (Holding e old new)) k holds refl in
+          let r_is : sees_it.asks.reporter ≡ n = same_reporter sees_it.asks.reporter n (sym sees_it.asks.caller ∙ m.caller) in
+          sees_it.next ∙ (ap (λ (z : ℕ). word_of (after (record_at old) z e.kind)) r_is ∙ ap (λ (z : MatchRecord). word_of (after z n e.kind)) match_is)
+
+      found_number : (record_at (word_at w.words e.game)).number ≡ (match_after w.history e.game).number
+      found_number = ap (λ (z : MatchRecord). z.number) (record_now e.game sees_it.asks.game)
+
+      -- the next word has the next number
+      pub new_number : (record_at new).number ≡ (record_at (word_at w.words e.game)).number + 1
+      new_number =
+          let h = w.history in
+          let g = e.game in
+          let next = match_next h (entered e n) kept.legal may_follow in
+          ap (λ (z : ℕ). (record_at z).number) (new_is ∙ ap word_of (sym next))
+          ∙ (ap (λ (z : MatchRecord). z.number) (read_back after_it g (legal_snoc h (entered e n) kept.legal may_follow) ∙ next) ∙ (number_after (match_after h g) n e.kind ∙ ap (λ (z : ℕ). z + 1) (sym found_number)))
+
+      won : Keeps (steps ++ Swap (Reporter n) ∷ []) (after_reply (Reporter n) k now (Accepted (record { number = (record_at (word_at w.words e.game)).number + 1 })) (stored n e new w))
+      won =
+          let m = kept.knows (Reporter n) (Within k (Holding e old new)) k holds refl in
+          let o = m.sees in
+          let h = w.history in
+          let g = e.game in
+          let h' = h ++ entered e n ∷ [] in
+          let legal = legal_snoc h (entered e n) kept.legal may_follow in
+          let words : slice_set w.words (g - 1) new ≡ board_of h' = ap (λ (z : List ℕ). slice_set z (g - 1) new) kept.words ∙ (ap (slice_set (board_of h) (g - 1)) new_is ∙ sym (board_next h (entered e n) kept.legal may_follow)) in
+          let reply = Accepted (record { number = (record_at (word_at w.words g)).number + 1 }) in
+          let f = with_reply now reply in
+          let base : IsSequential h' now (Reporter n) (Event e) reply =
+          (ap (λ (z : List Entry). sequential_reply z e) (take-append_seam h (entered e n ∷ [])) ∙ (ap (answer (match_after h g).number) accepted_now ∙ ap (λ (z : ℕ). Ok (record { number = z + 1 })) (sym found_number)), at_end h (entered e n)) in
+          let is : IsSequential h' now m.call.caller m.call.call reply =
+          subst (λ (z : Caller). IsSequential h' now z m.call.call reply) (sym m.caller) (subst (λ (z : Call). IsSequential h' now (Reporter n) z reply) (sym o.asks.call) base) in
+          let long = length_push h (entered e n) in
+          let told : IsExplained h' (f m.call) (Some now) (Some reply) = ((begun_before k m.call m.at, omega arith, unended_none m.call.ended (λ z. now < z) m.unended), is) in
+          moved steps w kept (Reporter n) (Within k (Holding e old new)) holds k refl (Swap (Reporter n)) (Answered k) h' (slice_set w.words (g - 1) new) f tt (entered e n ∷ [], refl) legal words (λ a. refl)
+          (once_accepted w.calls k f m.call m.at o.asks.reply h (entered e n) refl refl (made_within h w.calls kept.explained) kept.once)
+          (λ a at. (subst (λ (z : CallRecord). IsExplained h' (f z) (Some now) (Some reply)) (same_Some m.call a (sym m.at ∙ at)) told, refl)) refl
+
+    swap_kept : (b : Bool) → (word_at w.words e.game == old) ≡ b → Keeps (steps ++ Swap (Reporter n) ∷ []) (after_reply (Reporter n) k now
+        (cond b (Accepted (record { number = (record_at (word_at w.words e.game)).number + 1 })) (Refused (Stale (record_at (word_at w.words e.game)).number))) (cond b (stored n e new w) w))
     swap_kept true is = won is
     swap_kept false is = missed is
 
@@ -176,10 +205,10 @@ module _ (steps : List Step) (w : MachineState) (kept : Keeps steps w) where
             (now, le_refl now, get_or_push loaded (slice_index w.words (length loaded)) 0 i is ∙ (ap (slice_index w.words) is ∙ word_at_place i (omega arith)))
       ]
 
-  first_kept : (c : Caller) (k : ℕ) (loaded : List ℕ) (holds : held_by w.callers c ≡ Some (Collecting k loaded)) (b : Bool) → (length (loaded ++ slice_index w.words (length loaded) ∷ []) == 12) ≡ b
-      → Keeps (steps ++ First c ∷ []) (with_held (cond b (Checking k (loaded ++ slice_index w.words (length loaded) ∷ []) 0 now) (Collecting k (loaded ++ slice_index w.words (length loaded) ∷ []))) c w)
+  first_kept : (c : Caller) (k : ℕ) (loaded : List ℕ) (holds : held_by w.callers c ≡ Some (Within k (Collecting loaded))) (b : Bool) → (length (loaded ++ slice_index w.words (length loaded) ∷ []) == 12) ≡ b
+      → Keeps (steps ++ First c ∷ []) (with_held (Within k (cond b (Checking (loaded ++ slice_index w.words (length loaded) ∷ []) 0 now) (Collecting (loaded ++ slice_index w.words (length loaded) ∷ [])))) c w)
   first_kept c k loaded holds true is =
-      let m = kept.knows c (Collecting k loaded) k holds refl in
+      let m = kept.knows c (Within k (Collecting loaded)) k holds refl in
       let o = m.sees in
       let more = loaded ++ slice_index w.words (length loaded) ∷ [] in
       let checks : Checks w.history m.call more 0 now = record {
@@ -191,30 +220,30 @@ module _ (steps : List Step) (w : MachineState) (kept : Keeps steps w) where
         loaded = loaded_more loaded o.few o.loaded;
         same = λ i none. absurd (omega arith);
       } in
-      stayed steps w kept c (Collecting k loaded) holds k refl (First c) (Checking k more 0 now) tt (λ a at. subst (λ (z : CallRecord). Checks w.history z more 0 now) (same_Some m.call a (sym m.at ∙ at)) checks) refl
+      stayed steps w kept c (Within k (Collecting loaded)) holds k refl (First c) (Within k (Checking more 0 now)) tt (λ a at. subst (λ (z : CallRecord). Checks w.history z more 0 now) (same_Some m.call a (sym m.at ∙ at)) checks) refl
   first_kept c k loaded holds false is =
-      let m = kept.knows c (Collecting k loaded) k holds refl in
+      let m = kept.knows c (Within k (Collecting loaded)) k holds refl in
       let o = m.sees in
       let more = loaded ++ slice_index w.words (length loaded) ∷ [] in
       let long = length_push loaded (slice_index w.words (length loaded)) in
       let few = o.few in
       let not-all = eqb-false (length more) 12 is in
       let collects : Collects w.history m.call more = record { reads = o.reads; few = below (length loaded) (length more) few long not-all; loaded = loaded_more loaded o.few o.loaded } in
-      stayed steps w kept c (Collecting k loaded) holds k refl (First c) (Collecting k more) tt (λ a at. subst (λ (z : CallRecord). Collects w.history z more) (same_Some m.call a (sym m.at ∙ at)) collects) refl
+      stayed steps w kept c (Within k (Collecting loaded)) holds k refl (First c) (Within k (Collecting more)) tt (λ a at. subst (λ (z : CallRecord). Collects w.history z more) (same_Some m.call a (sym m.at ∙ at)) collects) refl
     where
       below : (n m : ℕ) → n < 12 → m ≡ n + 1 → (m ≡ 12 → ⊥) → m < 12
       below n m few is not = omega arith
 
-  module _ (c : Caller) (k : ℕ) (words : List ℕ) (checked point : ℕ) (holds : held_by w.callers c ≡ Some (Checking k words checked point)) where
-    start_again : Keeps (steps ++ Second c ∷ []) (with_held (Collecting k []) c w)
+  module _ (c : Caller) (k : ℕ) (words : List ℕ) (checked point : ℕ) (holds : held_by w.callers c ≡ Some (Within k (Checking words checked point))) where
+    start_again : Keeps (steps ++ Second c ∷ []) (with_held (Within k (Collecting [])) c w)
     start_again =
-        let m = kept.knows c (Checking k words checked point) k holds refl in
+        let m = kept.knows c (Within k (Checking words checked point)) k holds refl in
         let collects : Collects w.history m.call [] = record { reads = m.sees.reads; few = omega arith; loaded = λ i none. absurd (omega arith) } in
-        stayed steps w kept c (Checking k words checked point) holds k refl (Second c) (Collecting k []) tt (λ a at. subst (λ (z : CallRecord). Collects w.history z []) (same_Some m.call a (sym m.at ∙ at)) collects) refl
+        stayed steps w kept c (Within k (Checking words checked point)) holds k refl (Second c) (Within k (Collecting [])) tt (λ a at. subst (λ (z : CallRecord). Collects w.history z []) (same_Some m.call a (sym m.at ∙ at)) collects) refl
 
     pub one_more : (slice_index w.words checked == slice_index words checked) ≡ true → AreAt w.history words (checked + 1) point
     one_more same i less =
-        let o = (kept.knows c (Checking k words checked point) k holds refl).sees in
+        let o = (kept.knows c (Within k (Checking words checked point)) k holds refl).sees in
         let few = o.few in
         let twelve = o.twelve in
         elim (cases_lt i checked) [
@@ -226,39 +255,49 @@ module _ (steps : List Step) (w : MachineState) (kept : Keeps steps w) where
               squeezed (i + 1) (get_or words i 0) w.history t.0 point now kept.legal t.1 o.late t.2 (there ∙ word_at_place i (omega arith))
         ]
 
-    goes_on : (slice_index w.words checked == slice_index words checked) ≡ true → (checked == 11) ≡ false → Keeps (steps ++ Second c ∷ []) (with_held (Checking k words (checked + 1) point) c w)
+    goes_on : (slice_index w.words checked == slice_index words checked) ≡ true → (checked == 11) ≡ false → Keeps (steps ++ Second c ∷ []) (with_held (Within k (Checking words (checked + 1) point)) c w)
     goes_on same other =
-        let m = kept.knows c (Checking k words checked point) k holds refl in
+        let m = kept.knows c (Within k (Checking words checked point)) k holds refl in
         let o = m.sees in
         let few = o.few in
         let not-last = eqb-false checked 11 other in
         let checks : Checks w.history m.call words (checked + 1) point = record { reads = o.reads; twelve = o.twelve; few = below checked few not-last; early = o.early; late = o.late; loaded = o.loaded; same = one_more same } in
-        stayed steps w kept c (Checking k words checked point) holds k refl (Second c) (Checking k words (checked + 1) point) tt (λ a at. subst (λ (z : CallRecord). Checks w.history z words (checked + 1) point) (same_Some m.call a (sym m.at ∙ at)) checks) refl
+        stayed steps w kept c (Within k (Checking words checked point)) holds k refl (Second c) (Within k (Checking words (checked + 1) point)) tt (λ a at. subst (λ (z : CallRecord). Checks w.history z words (checked + 1) point) (same_Some m.call a (sym m.at ∙ at)) checks) refl
       where
         below : (n : ℕ) → n < 12 → (n ≡ 11 → ⊥) → n + 1 < 12
         below n few not = omega arith
 
-    copied : (slice_index w.words checked == slice_index words checked) ≡ true → (checked == 11) ≡ true → Keeps (steps ++ Second c ∷ []) (after_reply c k point (Copied (record { board = words; version = version_of words })) w)
-    copied same last =
-        let m = kept.knows c (Checking k words checked point) k holds refl in
-        let o = m.sees in
-        let h = w.history in
-        let r = Copied (record { board = words; version = version_of words }) in
-        let f = with_reply point r in
-        let is_last = eqb-true checked 11 last in
-        let each = one_more same in
-        let board : words ≡ board_of (take point h) = board_from (take point h) words o.twelve (λ i few. each i (omega arith)) in
-        let version : version_of words ≡ point = ap version_of board ∙ (version_is (take point h) (legal_beginning h point kept.legal) ∙ length-take-le point h o.late) in
-        let is : IsSequential h point m.call.caller m.call.call r =
-        subst (λ (z : Call). IsSequential h point m.call.caller z r) (sym o.reads.call) (sequential_reading h point m.call.caller words (version_of words) board version) in
-        let late = o.late in
-        let told : IsExplained h (f m.call) (Some point) (Some r) = ((o.early, o.late, unended_none m.call.ended (λ z. point ≤ z) m.unended), is) in
-        moved steps w kept c (Checking k words checked point) holds k refl (Second c) (Answered k) h w.words f tt (begins_same h) kept.legal kept.words (λ a. refl)
-        (once_refused w.calls k f m.call m.at o.reads.reply h refl kept.once)
-        (λ a at. (subst (λ (z : CallRecord). IsExplained h (f z) (Some point) (Some r)) (same_Some m.call a (sym m.at ∙ at)) told, refl)) refl
+    module _ (same : (slice_index w.words checked == slice_index words checked) ≡ true) (last : (checked == 11) ≡ true) where
+      copied_board : words ≡ board_of (take point w.history)
+      copied_board =
+          let o = (kept.knows c (Within k (Checking words checked point)) k holds refl).sees in
+          let is_last = eqb-true checked 11 last in
+          let each = one_more same in
+          board_from (take point w.history) words o.twelve (λ i few. each i (omega arith))
+
+      -- the sum of the numbers of the words is the noted length
+      pub copied_version : version_of words ≡ point
+      copied_version =
+          let late = (kept.knows c (Within k (Checking words checked point)) k holds refl).sees.late in
+          ap version_of copied_board ∙ (version_is (take point w.history) (legal_beginning w.history point kept.legal) ∙ length-take-le point w.history late)
+
+      copied : Keeps (steps ++ Second c ∷ []) (after_reply c k point (Copied (record { board = words; version = point })) w)
+      copied =
+          let m = kept.knows c (Within k (Checking words checked point)) k holds refl in
+          let o = m.sees in
+          let h = w.history in
+          let r = Copied (record { board = words; version = point }) in
+          let f = with_reply point r in
+          let is : IsSequential h point m.call.caller m.call.call r =
+          subst (λ (z : Call). IsSequential h point m.call.caller z r) (sym o.reads.call) (sequential_reading h point m.call.caller words point copied_board refl) in
+          let late = o.late in
+          let told : IsExplained h (f m.call) (Some point) (Some r) = ((o.early, o.late, unended_none m.call.ended (λ z. point ≤ z) m.unended), is) in
+          moved steps w kept c (Within k (Checking words checked point)) holds k refl (Second c) (Answered k) h w.words f tt (begins_same h) kept.legal kept.words (λ a. refl)
+          (once_refused w.calls k f m.call m.at o.reads.reply h refl kept.once)
+          (λ a at. (subst (λ (z : CallRecord). IsExplained h (f z) (Some point) (Some r)) (same_Some m.call a (sym m.at ∙ at)) told, refl)) refl
 
     second_kept : (a b : Bool) → (slice_index w.words checked == slice_index words checked) ≡ a → (checked == 11) ≡ b
-        → Keeps (steps ++ Second c ∷ []) (cond a (cond b (after_reply c k point (Copied (record { board = words; version = version_of words })) w) (with_held (Checking k words (checked + 1) point) c w)) (with_held (Collecting k []) c w))
+        → Keeps (steps ++ Second c ∷ []) (after_outcome c k point (cond a (cond b (Answers (Copied (record { board = words; version = point }))) (GoesOn (Checking words (checked + 1) point))) (GoesOn (Collecting []))) w)
     second_kept true true same last = copied same last
     second_kept true false same last = goes_on same last
     second_kept false b same last = start_again
@@ -271,30 +310,21 @@ module _ (steps : List Step) (w : MachineState) (kept : Keeps steps w) where
       begun steps w kept (Reporter (suc n)) Idle holds refl (Event e) (Wanting (length w.calls) e)
       (record { call = refl; reporter = suc n; caller = refl; low = omega arith; high = leb-true (suc n) 255 b.1; game = (leb-true 1 e.game a.0, leb-true e.game 12 b.0); point = refl; reply = refl }) refl
   begin_kept (Reader n) (Event e) holds may = absurd (false≢true may)
-  begin_kept (Reporter n) Reading holds may = begun steps w kept (Reporter n) Idle holds refl Reading (Collecting (length w.calls) []) (record { reads = record { call = refl; point = refl; reply = refl }; few = omega arith; loaded = λ i none. absurd (omega arith) }) refl
-  begin_kept (Reader n) Reading holds may = begun steps w kept (Reader n) Idle holds refl Reading (Collecting (length w.calls) []) (record { reads = record { call = refl; point = refl; reply = refl }; few = omega arith; loaded = λ i none. absurd (omega arith) }) refl
-
-  -- a reader asks for no event
-  pub no_asker : (n : ℕ) (x : Holds) (k : ℕ) (e : EventCall) (holds : held_by w.callers (Reader n) ≡ Some x) (within : in_call x ≡ Some k) → Asks (kept.knows (Reader n) x k holds within).call e → ⊥
-  no_asker n x k e holds within asks = apart asks.reporter n (sym asks.caller ∙ (kept.knows (Reader n) x k holds within).caller)
-    where
-      apart : (r n : ℕ) → Reporter r ≡ Reader n → ⊥
-      apart r n e = cc
+  begin_kept (Reporter n) Reading holds may = begun steps w kept (Reporter n) Idle holds refl Reading (Within (length w.calls) (Collecting [])) (record { reads = record { call = refl; point = refl; reply = refl }; few = omega arith; loaded = λ i none. absurd (omega arith) }) refl
+  begin_kept (Reader n) Reading holds may = begun steps w kept (Reader n) Idle holds refl Reading (Within (length w.calls) (Collecting [])) (record { reads = record { call = refl; point = refl; reply = refl }; few = omega arith; loaded = λ i none. absurd (omega arith) }) refl
 
   pub step_kept : (s : Step) (o : Option Holds) (w' : MachineState) → held_by w.callers (caller_of s) ≡ o → after_step_holding s o w ≡ Some w' → Keeps (steps ++ s ∷ []) w'
   step_kept (Begin c call) (Some Idle) w' holds done =
       let t = cond_some (may_begin c call) (after_begin c call w) w' done in
       subst (Keeps (steps ++ Begin c call ∷ [])) t.1 (begin_kept c call holds t.0)
   step_kept (Look (Reporter n)) (Some (Wanting k e)) w' holds done =
-      subst (Keeps (steps ++ Look (Reporter n) ∷ [])) (same_Some (after_look (Reporter n) k e w) w' done) (look_kept n k e holds (refusal_of (record_at (word_at w.words e.game)) e.expected e.kind) refl)
-  step_kept (Look (Reader n)) (Some (Wanting k e)) w' holds done = absurd (no_asker n (Wanting k e) k e holds refl (kept.knows (Reader n) (Wanting k e) k holds refl).sees)
-  step_kept (Swap (Reporter n)) (Some (Holding k e old new)) w' holds done =
-      subst (Keeps (steps ++ Swap (Reporter n) ∷ [])) (same_Some (after_swap (Reporter n) k e old new w) w' done) (swap_kept n k e old new holds (word_at w.words e.game == old) refl)
-  step_kept (Swap (Reader n)) (Some (Holding k e old new)) w' holds done = absurd (no_asker n (Holding k e old new) k e holds refl (kept.knows (Reader n) (Holding k e old new) k holds refl).sees.asks)
-  step_kept (First c) (Some (Collecting k loaded)) w' holds done =
-      subst (Keeps (steps ++ First c ∷ [])) (same_Some (after_first c k loaded w) w' done) (first_kept c k loaded holds (length (loaded ++ slice_index w.words (length loaded) ∷ []) == 12) refl)
-  step_kept (Second c) (Some (Checking k words checked point)) w' holds done =
-      subst (Keeps (steps ++ Second c ∷ [])) (same_Some (after_second c k words checked point w) w' done) (second_kept c k words checked point holds (slice_index w.words checked == slice_index words checked) (checked == 11) refl refl)
+      subst (Keeps (steps ++ Look (Reporter n) ∷ [])) (same_Some (state_after_look n k e w) w' done) (look_kept n k e holds (refusal_of (record_at (word_at w.words e.game)) e.expected e.kind) refl)
+  step_kept (Swap (Reporter n)) (Some (Within k (Holding e old new))) w' holds done =
+      subst (Keeps (steps ++ Swap (Reporter n) ∷ [])) (same_Some (state_after_swap n k e old new w) w' done) (swap_kept n k e old new holds (word_at w.words e.game == old) refl)
+  step_kept (First c) (Some (Within k (Collecting loaded))) w' holds done =
+      subst (Keeps (steps ++ First c ∷ [])) (same_Some (state_after_first c k loaded w) w' done) (first_kept c k loaded holds (length (loaded ++ slice_index w.words (length loaded) ∷ []) == 12) refl)
+  step_kept (Second c) (Some (Within k (Checking words checked point))) w' holds done =
+      subst (Keeps (steps ++ Second c ∷ [])) (same_Some (state_after_second c k words checked point w) w' done) (second_kept c k words checked point holds (slice_index w.words checked == slice_index words checked) (checked == 11) refl refl)
   step_kept (End c) (Some (Answered k)) w' holds done =
       subst (Keeps (steps ++ End c ∷ [])) (same_Some (with_held Idle c (record w { calls = change_at k (with_end now) w.calls })) w' done) (ended steps w kept c (Answered k) holds k refl (kept.knows c (Answered k) k holds refl).sees)
   step_kept s o w' holds done = absurd (none-some w' done)

@@ -12,12 +12,7 @@ pub mod Invariant
 pub mod KeptBySteps
 pub mod Runs
 pub mod Accesses
-pub mod JoinedRuns
-pub mod CallsAsSteps
-pub mod Calls
-pub mod Schedules
 pub mod Reachable
-pub mod LogRunsCalls
-pub mod LogRunsSeats
+pub mod OneStep
 pub mod PassSteps
 pub mod Bursts

@@ -1,17 +1,16 @@
 -- One step of a pass on a match word, as steps of the machine: what the pass has done and holds stays what its callers have done and hold.
 use Rattle.std.proofs.Common.{◌≡◌, ◌≢◌, ℕ, ◌+◌, ◌<◌, ◌≤◌, ◌==◌, Bool, true, false, cond, List, [], ◌∷◌, ◌++◌, length, map, Option, Some, None, inl, inr, refl, sym, ap, ◌∙◌, subst, arith, append_assoc, append-nil, le_refl, eq-eqb, ne_eqb}
-use Rattle.std.specs.Prelude.{Ok, slice_get, slice_index, IsSome, is_some}
+use Rattle.std.specs.Prelude.{slice_get, slice_index, IsSome, is_some}
 use Rattle.std.proofs.lemmas.Option.{same_Some, option_and_then_some}
 use Rattle.std.proofs.lemmas.Bool.{false≢true, cases_eq}
 use Rattle.std.proofs.lemmas.List.{length_push, map-append}
 use Rattle.ucl_word.specs.declared.event.EventCall.{EventCall}
 use Rattle.ucl_word.specs.declared.refusal.Refusal.{Refusal}
-use Rattle.ucl_word.specs.declared.refusal.Refusal.TheVariants.{Stale}
-use Rattle.ucl_word.specs.Rules.{refusal_of, after, answer, reply_of}
-use Rattle.ucl_word.specs.Layout.{word_of, record_at}
+use Rattle.ucl_word.specs.Rules.{refusal_of, after}
+use Rattle.ucl_word.specs.Layout.{record_at}
 use Rattle.ucl_word.proofs.Sequences.{at_below, at_longer, at_end}
 use Rattle.ucl_board.specs.declared.entry.Entry.{Entry}
-use Rattle.ucl_board.specs.History.{entry_of}
+use Rattle.ucl_board.specs.History.{board_of, entry_of}
 use Rattle.ucl_board.specs.Log as log
 use Rattle.ucl_board.specs.Log.{Access, access}
 use Rattle.ucl_steps.specs.declared.step.Cast.{Cast}
@@ -23,21 +22,16 @@ use Rattle.ucl_steps.specs.declared.step.Step.{Step}
 use Rattle.ucl_steps.specs.declared.step.Step.TheVariants.{Begin, End}
 use Rattle.ucl_steps.specs.declared.trace.CallRecord.{CallRecord}
 use Rattle.ucl_steps.specs.declared.trace.Reply.{Reply}
-use Rattle.ucl_steps.specs.declared.trace.Reply.TheVariants.{Accepted, Refused, Copied}
-use Rattle.ucl_steps.specs.Machine as machine
-use Rattle.ucl_steps.specs.Machine.{Holds, Idle, Wanting, Answered, MachineState, initial_state, held_by, with_held, with_reply, with_end, may_begin, held_at_begin, after_begin, after_end, after_step_holding, caller_of, after_step, after_steps}
-use Rattle.ucl_steps.specs.CallRuns.{step_of, accesses_of_step, history_after}
+use Rattle.ucl_steps.specs.declared.trace.Reply.TheVariants.{Copied}
+use Rattle.ucl_steps.specs.Machine.{Holds, Idle, Wanting, Within, Answered, MachineState, initial_state, held_by, with_held, with_reply, with_end, may_begin, held_at_begin, after_begin, after_reply, after_end, after_outcome, stored, after_step_holding, caller_of, after_step, after_steps}
+use Rattle.ucl_steps.specs.CallRuns.{step_of, accesses_of_step}
 use Rattle.ucl_steps.specs.Trails.{Does}
-use Rattle.ucl_steps.specs.Protocol.{Held, Nothing, Holding, Collecting, Checking, Answer, Doing, goes, ends, IsNext, by_rules, after_look, swaps_holding, after_swap, collected, firsts_holding, after_first, seconds_holding, after_second, MayAsk}
-use Rattle.ucl_steps.specs.PassRuns.{caller_for, IsOf, call_of, holds_of, CanHold, IsRecordOf, AreRecordsOf, IsUnderWay, FitsHeld, pending, callers_of, left_by, FitsRun, Move, end_by, steps_of_move}
+use Rattle.ucl_steps.specs.Protocol.{Held, Nothing, Holding, Collecting, Checking, Outcome, GoesOn, Answers, by_rules, looked, swapped, loaded, compared, Answer, Doing, goes, ends, done_by, IsNext, after_look, swaps_holding, after_swap, collected, firsts_holding, after_first, seconds_holding, after_second, MayAsk}
+use Rattle.ucl_steps.specs.PassRuns.{caller_for, IsOf, call_of, CanHold, IsRecordOf, AreRecordsOf, IsUnderWay, FitsHeld, pending, callers_of, left_by, FitsRun, Move, end_by, steps_of_move}
 use Rattle.ucl_steps.proofs.ChangedLists.{change_at_here, change_at_else, length-change_at, map_unseen}
 use Rattle.ucl_steps.proofs.Callers.{same_caller, held_here, held_else}
-use Rattle.ucl_steps.proofs.JoinedRuns.{steps_on, steps_append}
-use Rattle.ucl_steps.proofs.CallsAsSteps.{Leads, Frame, caller_of_kind, inner}
-use Rattle.ucl_steps.proofs.Calls.{began, look_refused, swap_missed, swap_won}
-use Rattle.ucl_steps.proofs.Schedules.{nobody}
-use Rattle.ucl_steps.proofs.LogRunsCalls.{IsNow, now_within, now_found, now_amid, kept_on_run, Ends, ends_by, ends_copied, may_ask_begin}
-use Rattle.ucl_steps.proofs.LogRunsSeats.{Passes, passes_on, passes_frame, own_caller, calls_by, calls_else, calls_one}
+use Rattle.ucl_steps.proofs.Runs.{words_of_run}
+use Rattle.ucl_steps.proofs.OneStep.{steps_on, may_ask_begin, began, IsNow, caller_of_kind, Made, made_look, made_swap, made_first, made_second, Frame, frame_outcome, Passes, passes_on, passes_frame, own_caller, calls_by, calls_else, calls_one}
 
 pub of_call : (seat number : ℕ) (call : Call) → MayAsk number call → IsOf seat number (caller_for seat number call)
 of_call seat number (Event e) may = inr (refl, may.0)
@@ -130,11 +124,14 @@ record Under (seat number : ℕ) (w : MachineState) (fs : List Answer) (call : C
 
 -- of a pass whose call is under way
 under_way : (seat number : ℕ) (w : MachineState) (fs : List Answer) (begun : ℕ) (held : Held) (high : ℕ) → MayAsk number (call_of held) → AreRecordsOf w.calls seat number 0 fs high → IsUnderWay w seat number begun held high
-    → calls_by seat number (callers_of w) ≡ length fs + 1 → Under seat number w fs (call_of held) begun (λ k. holds_of k held)
+    → calls_by seat number (callers_of w) ≡ length fs + 1 → Under seat number w fs (call_of held) begun (λ k. Within k held)
 under_way seat number w fs begun held high may recorded u whole = record { may = may; high = high; recorded = recorded; place = u.place; low = u.low; at = u.record_is; held = u.holds; others = u.others; whole = whole }
 
-still_under_way : (seat number : ℕ) (w : MachineState) (fs : List Answer) (begun : ℕ) (held : Held) → CanHold number held → (u : Under seat number w fs (call_of held) begun (λ k. holds_of k held)) → IsUnderWay w seat number begun held u.high
-still_under_way seat number w fs begun held can u = record { can = can; place = u.place; low = u.low; record_is = u.at; holds = u.held; others = u.others }
+fits_under : (seat number : ℕ) (w : MachineState) (fs : List Answer) (begun : ℕ) (held : Held) → CanHold number held → pending held ≡ 1 → (u : Under seat number w fs (call_of held) begun (λ k. Within k held)) → FitsHeld w seat number begun held u.high
+fits_under seat number w fs begun Nothing can one u = absurd (omega (arith, one))
+fits_under seat number w fs begun (Holding e old new) can one u = record { can = can; place = u.place; low = u.low; record_is = u.at; holds = u.held; others = u.others }
+fits_under seat number w fs begun (Collecting words) can one u = record { can = can; place = u.place; low = u.low; record_is = u.at; holds = u.held; others = u.others }
+fits_under seat number w fs begun (Checking words checked point) can one u = record { can = can; place = u.place; low = u.low; record_is = u.at; holds = u.held; others = u.others }
 
 -- a call begins
 module _ (seat number : ℕ) (call : Call) (w : MachineState) (may : MayAsk number call) where
@@ -184,92 +181,114 @@ module _ (seat number : ℕ) (call : Call) (w : MachineState) (may : MayAsk numb
               ap (calls_by seat number) (map-append (λ (z : CallRecord). z.caller) w.calls (began mine call (length w.history) ∷ [])) ∙ omega arith;
         }
 
--- a call goes on
-module _ (cast : Cast) (seat number : ℕ) (steps : List Step) (w : MachineState) (run : after_steps steps (initial_state cast) ≡ Some w) (fs : List Answer) (call : Call) (begun : ℕ) (hold : ℕ → Holds) (u : Under seat number w fs call begun hold) (m : Access) (now : IsNow w m) where
+-- what comes of a step can be held, by a pass that makes this call
+abbrev CanGo : ℕ → Call → Outcome → Type 0
+CanGo number call (GoesOn held) = CanHold number held × (pending held ≡ 1) × (call_of held ≡ call)
+CanGo number call (Answers reply) = Unit {0}
+
+-- a step of a call under way, from state w: v is the board after it
+module _ (seat number : ℕ) (w : MachineState) (d : Doing) (call : Call) (begun : ℕ) (hold : ℕ → Holds) (u : Under seat number w d.calls call begun hold) (m : Access) (v : MachineState) (same : (v.callers ≡ w.callers) × (v.calls ≡ w.calls))
+    (entries : List Entry) (history : v.history ≡ w.history ++ entries) (now : ℕ) (place : length (w.history ++ entries) ≡ now) (point : ℕ) where
   abbrev by : Caller
   by = caller_for seat number call
 
-  -- by a step that does not end it
-  module _ (hold' : ℕ → Holds) (leads : (k : ℕ) → Leads by (hold k) m (hold' k)) where
-    abbrev inside : MachineState
-    inside = with_held (hold' u.place) by w
+  held_v : held_by v.callers by ≡ Some (hold u.place)
+  held_v = ap (λ cs. held_by cs by) same.0 ∙ u.held
 
-    inner_made : Rattle.ucl_steps.proofs.CallsAsSteps.Made by u.place w m inside
-    inner_made =
-        let kept = kept_on_run cast steps w run in
-        inner nobody by u.place (began by call begun) w.history m (now_within w m now) (now_found w m now) (hold u.place) w (now_amid by u.place (began by call begun) (hold u.place) w m kept.words now u.held u.at) (hold' u.place) (leads u.place)
+  passes_step : (o : Outcome) → Passes by w (after_outcome by u.place point o v)
+  passes_step o = passes_frame by u.place w (after_outcome by u.place point o v) (began by call begun) (frame_outcome by u.place (hold u.place) w v point o u.held same.0 same.1) u.at refl refl
 
-    inner_passes : Passes by w inside
-    inner_passes = passes_frame by u.place w inside (began by call begun) inner_made.frame u.at refl refl
+  -- it does not end the call
+  going_on : (held : Held) → CanGo number call (GoesOn held) → Made by w m (with_held (Within u.place held) by v) → TurnOn seat number w by m (goes begun held d) entries
+  going_on held can made =
+      let last = with_held (Within u.place held) by v in
+      let passes : Passes by w last = passes_step (GoesOn held) in
+      let after : Under seat number last d.calls call begun (λ k. Within k held) = record {
+        may = u.may;
+        high = u.high;
+        recorded = records_kept w.calls last.calls seat number 0 d.calls u.high passes.ended u.recorded;
+        place = u.place;
+        low = u.low;
+        at = ap (λ (cs : List CallRecord). slice_get cs u.place) same.1 ∙ u.at;
+        held = held_here v.callers by (hold u.place) (Within u.place held) held_v;
+        others = λ d of not. passes.holds d not ∙ u.others d of not;
+        whole = ap (λ (cs : List CallRecord). calls_by seat number (map (λ (z : CallRecord). z.caller) cs)) same.1 ∙ u.whole;
+      } in
+      let own = subst (λ (z : Call). Under seat number last d.calls z begun (λ k. Within k held)) (sym can.2) after in
+      let turn : Turn seat number w by m (goes begun held d) entries = record {
+        steps = step_of by m.kind ∷ [];
+        last = last;
+        run = steps_on (step_of by m.kind) [] w last last made.done refl;
+        left = append-nil (with_caller (step_of by m.kind) (accesses_of_step (step_of by m.kind) w)) ∙ one_left by m w made.left;
+        history = history;
+        of = of_call seat number call u.may;
+        passes = passes;
+        fits = record { high = own.high; recorded = own.recorded; held = fits_under seat number last d.calls begun held can.0 can.1 own; whole = own.whole ∙ ap (λ (n : ℕ). length d.calls + n) (sym can.1) };
+        move = record { caller = by; begins = None; kind = m.kind; ends = false };
+        shape = refl;
+      } in
+      record { turn = turn; ends = false; access = refl }
 
-    inner_under : Under seat number inside fs call begun hold'
-    inner_under = record {
-      may = u.may;
-      high = u.high;
-      recorded = u.recorded;
-      place = u.place;
-      low = u.low;
-      at = u.at;
-      held = held_here w.callers by (hold u.place) (hold' u.place) u.held;
-      others = λ d of not. inner_passes.holds d not ∙ u.others d of not;
-      whole = u.whole;
-    }
+  -- it is the call's last
+  answered : (reply : Reply) → Made by w m (after_reply by u.place point reply v) → TurnOn seat number w by m (ends call reply begun now d) entries
+  answered reply made =
+      let k = u.place in
+      let a = began by call begun in
+      let f : Answer = record { call = call; reply = reply; begun = begun; ended = now } in
+      let z = after_reply by k point reply v in
+      let replied = with_reply point reply a in
+      let n = length z.history in
+      let last = after_end by k z in
+      let at_z : slice_get z.calls k ≡ Some replied = change_at_here k (with_reply point reply) v.calls a (ap (λ (cs : List CallRecord). slice_get cs k) same.1 ∙ u.at) in
+      let held_z : held_by z.callers by ≡ Some (Answered k) = held_here v.callers by (hold k) (Answered k) held_v in
+      let one : after_step z (End by) ≡ Some last = ap (λ (o : Option Holds). after_step_holding (End by) o z) held_z in
+      let frame : Frame by k z last = record {
+        holds = λ d not. held_else z.callers by d Idle (Answered k) held_z not;
+        calls = λ i b not at. change_at_else k (with_end n) z.calls i b not at;
+        count = let long = length-change_at k (with_end n) z.calls in omega arith;
+        callers = map_unseen (λ (z : CallRecord). z.caller) k (with_end n) (λ z. refl) z.calls;
+      } in
+      let passes = passes_on by w z last (passes_step (Answers reply)) (passes_frame by k z last replied frame at_z refl refl) in
+      let at_last : slice_get last.calls k ≡ Some (with_end n replied) = change_at_here k (with_end n) z.calls replied at_z in
+      let count = at_below last.calls k (with_end n replied) at_last in
+      let more = length_push d.calls f in
+      let callers : callers_of last ≡ callers_of w = frame.callers ∙ (frame_outcome by k (hold k) w v point (Answers reply) u.held same.0 same.1).callers in
+      let turn : Turn seat number w by m (ends call reply begun now d) entries = record {
+        steps = step_of by m.kind ∷ End by ∷ [];
+        last = last;
+        run = steps_on (step_of by m.kind) (End by ∷ []) w z last made.done (steps_on (End by) [] z last last one refl);
+        left = ap (λ (o : Option MachineState). with_caller (step_of by m.kind) (accesses_of_step (step_of by m.kind) w) ++ left_by (End by ∷ []) o) made.done
+            ∙ (append-nil (with_caller (step_of by m.kind) (accesses_of_step (step_of by m.kind) w)) ∙ one_left by m w made.left);
+        history = history;
+        of = of_call seat number call u.may;
+        passes = passes;
+        fits = record {
+          high = k + 1;
+          recorded = records_more last.calls seat number 0 d.calls u.high k f (with_end n replied) (records_kept w.calls last.calls seat number 0 d.calls u.high passes.ended u.recorded) u.low at_last
+              (record { may = u.may; caller = refl; call = refl; begun = refl; reply = refl; ended = ap Some (ap length history ∙ place) });
+          held = (
+            omega arith,
+            λ d of. elim (same_caller d by) [
+              | inl is ↦ ap (held_by last.callers) is ∙ held_here z.callers by (Answered k) Idle held_z
+              | inr not ↦ passes.holds d not ∙ u.others d of not
+            ],
+          );
+          whole = ap (calls_by seat number) callers ∙ (u.whole ∙ omega arith);
+        };
+        move = record { caller = by; begins = None; kind = m.kind; ends = true };
+        shape = refl;
+      } in
+      record { turn = turn; ends = true; access = refl }
 
-    inner_run : after_steps (step_of by m.kind ∷ []) w ≡ Some inside
-    inner_run = steps_on (step_of by m.kind) [] w inside inside inner_made.done refl
+  turn_by : (o : Outcome) → CanGo number call o → Made by w m (after_outcome by u.place point o v) → TurnOn seat number w by m (done_by call begun now o d) entries
+  turn_by (GoesOn held) can made = going_on held can made
+  turn_by (Answers reply) can made = answered reply made
 
-  -- by its last step
-  module _ (reply : Reply) (ended : ℕ) (entries : List Entry) (finish : (k : ℕ) → Ends by k (hold k) m call reply) (history : history_after by call reply w.history ≡ w.history ++ entries) (place : length (w.history ++ entries) ≡ ended) where
-    abbrev f : Answer
-    f = record { call = call; reply = reply; begun = begun; ended = ended }
-
-    last_turn : TurnOn seat number w by m (record { calls = fs ++ record { call = call; reply = reply; begun = begun; ended = ended } ∷ []; held = Nothing; begun = begun }) entries
-    last_turn =
-        let k = u.place in
-        let a = began by call begun in
-        let made = finish k cast steps w a run now u.held u.at in
-        let v = made.after in
-        let n = length v.history in
-        let replied = with_reply made.point reply a in
-        let v' = after_end by k v in
-        let one : after_step v (End by) ≡ Some v' = ap (λ (o : Option Holds). after_step_holding (End by) o v) made.held_is in
-        let frame : Frame by k v v' = record {
-          holds = λ d not. held_else v.callers by d Idle (Answered k) made.held_is not;
-          calls = λ i b not at. change_at_else k (with_end n) v.calls i b not at;
-          count = let long = length-change_at k (with_end n) v.calls in omega arith;
-          callers = map_unseen (λ (z : CallRecord). z.caller) k (with_end n) (λ z. refl) v.calls;
-        } in
-        let passes = passes_on by w v v' (passes_frame by k w v a made.made.frame u.at refl refl) (passes_frame by k v v' replied frame made.call_is refl refl) in
-        let count = at_below v'.calls k (with_end n replied) (change_at_here k (with_end n) v.calls replied made.call_is) in
-        let more = length_push fs f in
-        let same : callers_of v' ≡ callers_of w = frame.callers ∙ made.made.frame.callers in
-        let turn : Turn seat number w by m (record { calls = fs ++ f ∷ []; held = Nothing; begun = begun }) entries = record {
-          steps = step_of by m.kind ∷ End by ∷ [];
-          last = v';
-          run = steps_on (step_of by m.kind) (End by ∷ []) w v v' made.made.done (steps_on (End by) [] v v' v' one refl);
-          left = ap (λ (o : Option MachineState). with_caller (step_of by m.kind) (accesses_of_step (step_of by m.kind) w) ++ left_by (End by ∷ []) o) made.made.done
-              ∙ (append-nil (with_caller (step_of by m.kind) (accesses_of_step (step_of by m.kind) w)) ∙ one_left by m w made.made.left);
-          history = made.history_is ∙ history;
-          of = of_call seat number call u.may;
-          passes = passes;
-          fits = record {
-            high = k + 1;
-            recorded = records_more v'.calls seat number 0 fs u.high k f (with_end n replied) (records_kept w.calls v'.calls seat number 0 fs u.high passes.ended u.recorded) u.low
-                (change_at_here k (with_end n) v.calls replied made.call_is)
-                (record { may = u.may; caller = refl; call = refl; begun = refl; reply = refl; ended = ap Some (ap length (made.history_is ∙ history) ∙ place) });
-            held = (
-              omega arith,
-              λ d of. elim (same_caller d by) [
-                | inl is ↦ ap (held_by v'.callers) is ∙ held_here v.callers by (Answered k) Idle made.held_is
-                | inr not ↦ passes.holds d not ∙ u.others d of not
-              ],
-            );
-            whole = ap (calls_by seat number) same ∙ (u.whole ∙ omega arith);
-          };
-          move = record { caller = by; begins = None; kind = m.kind; ends = true };
-          shape = refl;
-        } in
-        record { turn = turn; ends = true; access = refl }
+-- the same of a step that stores nothing
+turn_kept : (seat number : ℕ) (w : MachineState) (d : Doing) (call : Call) (begun : ℕ) (hold : ℕ → Holds) (u : Under seat number w d.calls call begun hold) (m : Access) (point : ℕ) (o : Outcome) → CanGo number call o
+    → Made (caller_for seat number call) w m (after_outcome (caller_for seat number call) u.place point o w) → TurnOn seat number w (caller_for seat number call) m (done_by call begun (length w.history) o d) []
+turn_kept seat number w d call begun hold u m point o can made =
+    turn_by seat number w d call begun hold u m w (refl, refl) [] (sym (append-nil w.history)) (length w.history) (ap length (append-nil w.history)) point o can made
 
 -- the pass's step, where its call begins with it
 begins_turn : (seat number : ℕ) (call : Call) (w : MachineState) (may : MayAsk number call) (m : Access) (d : Doing) (entries : List Entry) → held_by w.callers (caller_for seat number call) ≡ Some Idle
@@ -291,131 +310,96 @@ begins_turn seat number call w may m d entries idle on =
       shape = ap (λ (l : List Step). Begin c call ∷ l) on.access;
     }
 
--- a step that does not end its call
-inner_turn : (cast : Cast) (seat number : ℕ) (steps : List Step) (w : MachineState) (run : after_steps steps (initial_state cast) ≡ Some w) (d : Doing) (begun : ℕ) (held : Held) (hold : ℕ → Holds)
-    (u : Under seat number w d.calls (call_of held) begun hold) (m : Access) → IsNow w m → ((k : ℕ) → Leads (caller_for seat number (call_of held)) (hold k) m (holds_of k held)) → CanHold number held
-    → ((z : MachineState) (high : ℕ) → IsUnderWay z seat number begun held high → FitsHeld z seat number begun held high) → pending held ≡ 1
-    → TurnOn seat number w (caller_for seat number (call_of held)) m (goes begun held d) []
-inner_turn cast seat number steps w run d begun held hold u m now leads can fits one =
-    let c = caller_for seat number (call_of held) in
-    let hold' : ℕ → Holds = λ k. holds_of k held in
-    let v = inside cast seat number steps w run d.calls (call_of held) begun hold u m now hold' leads in
-    let after = inner_under cast seat number steps w run d.calls (call_of held) begun hold u m now hold' leads in
-    let turn : Turn seat number w c m (goes begun held d) [] = record {
-      steps = step_of c m.kind ∷ [];
-      last = v;
-      run = inner_run cast seat number steps w run d.calls (call_of held) begun hold u m now hold' leads;
-      left = append-nil (with_caller (step_of c m.kind) (accesses_of_step (step_of c m.kind) w)) ∙ one_left c m w (inner_made cast seat number steps w run d.calls (call_of held) begun hold u m now hold' leads).left;
-      history = sym (append-nil w.history);
-      of = of_call seat number (call_of held) u.may;
-      passes = inner_passes cast seat number steps w run d.calls (call_of held) begun hold u m now hold' leads;
-      fits = record { high = after.high; recorded = after.recorded; held = fits v after.high (still_under_way seat number v d.calls begun held can after); whole = after.whole ∙ ap (λ (n : ℕ). length d.calls + n) (sym one) };
-      move = record { caller = c; begins = None; kind = m.kind; ends = false };
-      shape = refl;
-    } in
-    record { turn = turn; ends = false; access = refl }
-
 module _ (cast : Cast) (seat number : ℕ) (steps : List Step) (w : MachineState) (run : after_steps steps (initial_state cast) ≡ Some w) (d : Doing) (f : FitsRun w seat number d) (m : Access) (now : IsNow w m) where
+  words_now : w.words ≡ board_of w.history
+  words_now = words_of_run cast steps w run
+
   idle_held : d.held ≡ Nothing → FitsHeld w seat number d.begun Nothing f.high
   idle_held none = subst (λ (h : Held). FitsHeld w seat number d.begun h f.high) none f.held
 
   whole_held : (h : Held) → d.held ≡ h → calls_by seat number (callers_of w) ≡ length d.calls + pending h
   whole_held h is = f.whole ∙ ap (λ (x : Held). length d.calls + pending x) is
 
-  begun_run : (call : Call) → MayAsk number call → held_by w.callers (caller_for seat number call) ≡ Some Idle
-      → after_steps (steps ++ Begin (caller_for seat number call) call ∷ []) (initial_state cast) ≡ Some (after_begin (caller_for seat number call) call w)
-  begun_run call may idle =
-      let c = caller_for seat number call in
-      let v = after_begin c call w in
-      steps_append steps (Begin c call ∷ []) (initial_state cast) w run ∙ steps_on (Begin c call) [] w v v (begins_step seat number call w may idle) refl
+  -- a call that begins now
+  module _ (call : Call) (may : MayAsk number call) (none : d.held ≡ Nothing) where
+    abbrev begun_now : MachineState
+    begun_now = after_begin (caller_for seat number call) call w
 
-  now_begun : (call : Call) → IsNow (after_begin (caller_for seat number call) call w) m
-  now_begun call = record { place = now.place; found = now.found }
+    free_now : held_by w.callers (caller_for seat number call) ≡ Some Idle
+    free_now = let idle = idle_held none in idle_now seat number call w may d.calls f.high f.recorded idle.0 idle.1 (whole_held Nothing none)
+
+    under_now : Under seat number (after_begin (caller_for seat number call) call w) d.calls call (length w.history) (held_at_begin call)
+    under_now = let idle = idle_held none in begins_under seat number call w may d.calls f.high f.recorded idle.0 idle.1 (whole_held Nothing none)
+
+    is_begun : IsNow (after_begin (caller_for seat number call) call w) m
+    is_begun = record { place = now.place; found = now.found }
 
   -- Look
-  module _ (e : EventCall) (may : MayAsk number (Event e)) (none : d.held ≡ Nothing) (does : Does log.Look e.game m) where
-    abbrev at_look : Option Refusal → Type 0
-    at_look o = Turn seat number w (Reporter number) m (by_rules number e m.found (length w.history) o d) []
+  can_look : (e : EventCall) → MayAsk number (Event e) → (o : Option Refusal) → refusal_of (record_at m.found) e.expected e.kind ≡ o → CanGo number (Event e) (by_rules number e m.found o)
+  can_look e may (Some refusal) is = tt
+  can_look e may None is = ((may.0, may.1, is, refl), refl, refl)
 
-    look_by : (o : Option Refusal) → refusal_of (record_at m.found) e.expected e.kind ≡ o → at_look o
-    look_by o is =
-        let idle = idle_held none in
-        let c : Caller = Reporter number in
-        let v = after_begin c (Event e) w in
-        let free = idle_now seat number (Event e) w may d.calls f.high f.recorded idle.0 idle.1 (whole_held Nothing none) in
-        let under = begins_under seat number (Event e) w may d.calls f.high f.recorded idle.0 idle.1 (whole_held Nothing none) in
-        let on = begun_run (Event e) may free in
-        begins_turn seat number (Event e) w may m (by_rules number e m.found (length w.history) o d) [] free (by_case v under on o is)
-      where
-        by_case : (v : MachineState) → Under seat number (after_begin (Reporter number) (Event e) w) d.calls (Event e) (length w.history) (λ k. Wanting k e)
-            → after_steps (steps ++ Begin (Reporter number) (Event e) ∷ []) (initial_state cast) ≡ Some (after_begin (Reporter number) (Event e) w) → (o : Option Refusal) → refusal_of (record_at m.found) e.expected e.kind ≡ o
-            → TurnOn seat number (after_begin (Reporter number) (Event e) w) (Reporter number) m (by_rules number e m.found (length w.history) o d) []
-        by_case v under on (Some refusal) is =
-            last_turn cast seat number (steps ++ Begin (Reporter number) (Event e) ∷ []) (after_begin (Reporter number) (Event e) w) on d.calls (Event e) (length w.history) (λ k. Wanting k e) under m (now_begun (Event e)) (Refused refusal) (length w.history) []
-            (λ k. ends_by (Reporter number) k (Wanting k e) m (Event e) (Refused refusal) m.at (λ a h legal within found. look_refused nobody number k a h e may.1 m within found refusal does is))
-            (sym (append-nil w.history)) (ap length (append-nil w.history))
-        by_case v under on None is =
-            inner_turn cast seat number (steps ++ Begin (Reporter number) (Event e) ∷ []) (after_begin (Reporter number) (Event e) w) on d (length w.history) (Holding e m.found (word_of (after (record_at m.found) number e.kind))) (λ k. Wanting k e) under m (now_begun (Event e))
-            (λ k. (may.1, does, is, refl)) (may.0, may.1, is, refl) (λ z high t. t) refl
-
-    pub turn_look : Turn seat number w (Reporter number) m (after_look number e m.found m.at d) []
-    turn_look = subst (λ (p : ℕ). Turn seat number w (Reporter number) m (after_look number e m.found p d) []) (sym now.place) (look_by (refusal_of (record_at m.found) e.expected e.kind) refl)
+  pub turn_look : (e : EventCall) → MayAsk number (Event e) → d.held ≡ Nothing → Does log.Look e.game m → Turn seat number w (Reporter number) m (after_look number e m.found m.at d) []
+  turn_look e may none does =
+      let v = after_begin (Reporter number) (Event e) w in
+      let u = under_now (Event e) may none in
+      subst (λ (p : ℕ). Turn seat number w (Reporter number) m (after_look number e m.found p d) []) (sym now.place)
+      (begins_turn seat number (Event e) w may m (after_look number e m.found (length w.history) d) [] (free_now (Event e) may none)
+      (turn_kept seat number v d (Event e) (length w.history) (λ k. Wanting k e) u m (length w.history) (looked number e m.found) (can_look e may (refusal_of (record_at m.found) e.expected e.kind) refl)
+      (made_look v m words_now (is_begun (Event e) may none) number u.place e u.held may.1 does)))
 
   -- Swap
   module _ (e : EventCall) (old new : ℕ) (is_held : d.held ≡ Holding e old new) (does : Does log.Swap e.game m) where
     swapping : IsUnderWay w seat number d.begun (Holding e old new) f.high
     swapping = subst (λ (h : Held). FitsHeld w seat number d.begun h f.high) is_held f.held
 
-    swap_under : Under seat number w d.calls (Event e) d.begun (λ k. machine.Holding k e old new)
+    swap_under : Under seat number w d.calls (Event e) d.begun (λ k. Within k (Holding e old new))
     swap_under = under_way seat number w d.calls d.begun (Holding e old new) f.high (swapping.can.0, swapping.can.1) f.recorded swapping (whole_held (Holding e old new) is_held)
 
-    pub turn_won : m.found ≡ old → Turn seat number w (Reporter number) m (ends (Event e) (Accepted (record { number = (record_at m.found).number + 1 })) d.begun (m.at + 1) d) (entry_of (number, e) ∷ [])
-    turn_won same =
-        let can = swapping.can in
-        let none : refusal_of (record_at m.found) e.expected e.kind ≡ None = ap (λ (z : ℕ). refusal_of (record_at z) e.expected e.kind) same ∙ can.2 in
-        let reply_is : reply_of (record_at m.found) e ≡ Ok (record { number = (record_at m.found).number + 1 }) = ap (answer (record_at m.found).number) none in
-        let now_held : (k : ℕ) → machine.Holding k e m.found (word_of (after (record_at m.found) number e.kind)) ≡ machine.Holding k e old new =
-        (λ k. ap (λ (z : ℕ). machine.Holding k e z (word_of (after (record_at z) number e.kind))) same ∙ ap (λ (z : ℕ). machine.Holding k e old z) (sym can.3)) in
-        (last_turn cast seat number steps w run d.calls (Event e) d.begun (λ k. machine.Holding k e old new) swap_under m now (Accepted (record { number = (record_at m.found).number + 1 })) (m.at + 1) (entry_of (number, e) ∷ [])
-        (λ k. subst (λ (x : Holds). Ends (Reporter number) k x m (Event e) (Accepted (record { number = (record_at m.found).number + 1 }))) (now_held k)
-        (ends_by (Reporter number) k (machine.Holding k e m.found (word_of (after (record_at m.found) number e.kind))) m (Event e) (Accepted (record { number = (record_at m.found).number + 1 })) m.at
-        (λ a h legal within found. swap_won nobody number k a h e can.1 m within found legal can.0 (record { number = (record_at m.found).number + 1 }) does reply_is)))
-        refl (length_push w.history (entry_of (number, e)) ∙ ap (λ (z : ℕ). z + 1) (sym now.place))).turn
+    abbrev board_by : Bool → MachineState
+    board_by b = cond b (stored number e new w) w
 
-    pub turn_missed : m.found ≢ old → Turn seat number w (Reporter number) m (ends (Event e) (Refused (Stale (record_at m.found).number)) d.begun m.at d) []
-    turn_missed other =
-        (last_turn cast seat number steps w run d.calls (Event e) d.begun (λ k. machine.Holding k e old new) swap_under m now (Refused (Stale (record_at m.found).number)) m.at []
-        (λ k. ends_by (Reporter number) k (machine.Holding k e old new) m (Event e) (Refused (Stale (record_at m.found).number)) m.at
-        (λ a h legal within found. swap_missed nobody number k a h e swapping.can.1 m within found old new does other))
-        (sym (append-nil w.history)) (ap length (append-nil w.history) ∙ sym now.place)).turn
+    keeps_calls : (b : Bool) → ((cond b (stored number e new w) w).callers ≡ w.callers) × ((cond b (stored number e new w) w).calls ≡ w.calls)
+    keeps_calls true = (refl, refl)
+    keeps_calls false = (refl, refl)
+
+    swap_by : (entries : List Entry) (after : ℕ) → (cond (m.found == old) (stored number e new w) w).history ≡ w.history ++ entries → length (w.history ++ entries) ≡ after → Turn seat number w (Reporter number) m (after_swap m.found after d) entries
+    swap_by entries after history place =
+        subst (λ (h : Held). Turn seat number w (Reporter number) m (swaps_holding h m.found after d) entries) (sym is_held)
+        (turn_by seat number w d (Event e) d.begun (λ k. Within k (Holding e old new)) swap_under m (cond (m.found == old) (stored number e new w) w) (keeps_calls (m.found == old)) entries history after place (length w.history) (swapped old m.found) tt
+        (made_swap w m words_now now number swap_under.place e old new swap_under.held swapping.can.1 does)).turn
+
+    pub turn_swapped : m.found ≡ old → Turn seat number w (Reporter number) m (after_swap m.found (m.at + 1) d) (entry_of (number, e) ∷ [])
+    turn_swapped same =
+        swap_by (entry_of (number, e) ∷ []) (m.at + 1) (ap (λ (b : Bool). (cond b (stored number e new w) w).history) (eq-eqb m.found old same))
+        (length_push w.history (entry_of (number, e)) ∙ ap (λ (z : ℕ). z + 1) (sym now.place))
+
+    pub turn_kept_out : m.found ≢ old → Turn seat number w (Reporter number) m (after_swap m.found m.at d) []
+    turn_kept_out other =
+        swap_by [] m.at (ap (λ (b : Bool). (cond b (stored number e new w) w).history) (ne_eqb m.found old other) ∙ sym (append-nil w.history)) (ap length (append-nil w.history) ∙ sym now.place)
 
   -- First
   abbrev reader : Caller
   reader = Reader (seat + 1)
 
-  first_on : (steps' : List Step) (v : MachineState) → after_steps steps' (initial_state cast) ≡ Some v → IsNow v m → (begun : ℕ) (words : List ℕ) → Under seat number v d.calls Reading begun (λ k. machine.Collecting k words) → length words < 12
-      → Does log.First (length words + 1) m → (b : Bool) → (length (words ++ m.found ∷ []) == 12) ≡ b
-      → TurnOn seat number v reader m (goes begun (cond b (Checking (words ++ m.found ∷ []) 0 m.at) (Collecting (words ++ m.found ∷ []))) d) []
-  first_on steps' v on now_v begun words under few does true is =
-      inner_turn cast seat number steps' v on d begun (Checking (words ++ m.found ∷ []) 0 m.at) (λ k. machine.Collecting k words) under m now_v
-      (λ k. (few, does, sym (ap (λ (b : Bool). cond b (machine.Checking k (words ++ m.found ∷ []) 0 m.at) (machine.Collecting k (words ++ m.found ∷ []))) is))) (omega arith) (λ z high t. t) refl
-  first_on steps' v on now_v begun words under few does false is =
+  can_load : (words : List ℕ) (at : ℕ) → length words < 12 → (b : Bool) → (length (words ++ m.found ∷ []) == 12) ≡ b → CanGo number Reading (GoesOn (cond b (Checking (words ++ m.found ∷ []) 0 at) (Collecting (words ++ m.found ∷ []))))
+  can_load words at few true is = (omega arith, refl, refl)
+  can_load words at few false is =
       let more = words ++ m.found ∷ [] in
       let long = length_push words m.found in
       let not : length more ≢ 12 = λ z. false≢true (sym is ∙ eq-eqb (length more) 12 z) in
       let less : length more < 12 = elim (cases_eq (length more) 12) [ inl z ↦ absurd (not z) | inr z ↦ omega arith ] in
-      inner_turn cast seat number steps' v on d begun (Collecting (words ++ m.found ∷ [])) (λ k. machine.Collecting k words) under m now_v
-      (λ k. (few, does, sym (ap (λ (b : Bool). cond b (machine.Checking k (words ++ m.found ∷ []) 0 m.at) (machine.Collecting k (words ++ m.found ∷ []))) is))) less (λ z high t. t) refl
+      (less, refl, refl)
 
   -- the first First of a reading
   pub turn_begins : d.held ≡ Nothing → Does log.First 1 m → Turn seat number w reader m (goes m.at (collected (m.found ∷ []) m.at) d) []
   turn_begins none does =
-      let idle = idle_held none in
-      let free = idle_now seat number Reading w tt d.calls f.high f.recorded idle.0 idle.1 (whole_held Nothing none) in
-      let under = begins_under seat number Reading w tt d.calls f.high f.recorded idle.0 idle.1 (whole_held Nothing none) in
-      subst (λ (p : ℕ). Turn seat number w reader m (goes p (collected (m.found ∷ []) m.at) d) []) (sym now.place)
-      (begins_turn seat number Reading w tt m (goes (length w.history) (collected (m.found ∷ []) m.at) d) [] free
-      (first_on (steps ++ Begin reader Reading ∷ []) (after_begin reader Reading w) (begun_run Reading tt free) (now_begun Reading) (length w.history) [] under (omega arith) does (length (m.found ∷ []) == 12) refl))
+      let v = after_begin reader Reading w in
+      let u = under_now Reading tt none in
+      subst (λ (p : ℕ). Turn seat number w reader m (goes p (collected (m.found ∷ []) p) d) []) (sym now.place)
+      (begins_turn seat number Reading w tt m (goes (length w.history) (collected (m.found ∷ []) (length w.history)) d) [] (free_now Reading tt none)
+      (turn_kept seat number v d Reading (length w.history) (λ k. Within k (Collecting [])) u m (length w.history) (loaded [] m.found (length w.history)) (can_load [] (length w.history) (omega arith) (length (m.found ∷ []) == 12) refl)
+      (made_first v m words_now (is_begun Reading tt none) reader u.place [] u.held (omega arith) does)))
 
   module _ (words : List ℕ) (is_held : d.held ≡ Collecting words) (does : Does log.First (length words + 1) m) where
     collecting : IsUnderWay w seat number d.begun (Collecting words) f.high
@@ -423,34 +407,10 @@ module _ (cast : Cast) (seat number : ℕ) (steps : List Step) (w : MachineState
 
     pub turn_first : Turn seat number w reader m (goes d.begun (collected (words ++ m.found ∷ []) m.at) d) []
     turn_first =
-        (first_on steps w run now d.begun words (under_way seat number w d.calls d.begun (Collecting words) f.high tt f.recorded collecting (whole_held (Collecting words) is_held)) collecting.can does (length (words ++ m.found ∷ []) == 12) refl).turn
-
-  -- Second
-  module _ (words : List ℕ) (checked point : ℕ) (is_held : d.held ≡ Checking words checked point) (does : Does log.Second (checked + 1) m) where
-    checking : IsUnderWay w seat number d.begun (Checking words checked point) f.high
-    checking = subst (λ (h : Held). FitsHeld w seat number d.begun h f.high) is_held f.held
-
-    check_under : Under seat number w d.calls Reading d.begun (λ k. machine.Checking k words checked point)
-    check_under = under_way seat number w d.calls d.begun (Checking words checked point) f.high tt f.recorded checking (whole_held (Checking words checked point) is_held)
-
-    pub turn_anew : m.found ≢ slice_index words checked → Turn seat number w reader m (goes d.begun (Collecting []) d) []
-    turn_anew differs =
-        (inner_turn cast seat number steps w run d d.begun (Collecting []) (λ k. machine.Checking k words checked point) check_under m now (λ k. (checking.can, does, inr (differs, refl))) (omega arith) (λ z high t. t) refl).turn
-
-    pub turn_again : m.found ≡ slice_index words checked → checked ≢ 11 → Turn seat number w reader m (goes d.begun (Checking words (checked + 1) point) d) []
-    turn_again same not =
-        let can = checking.can in
-        let less : checked < 11 = omega arith in
-        (inner_turn cast seat number steps w run d d.begun (Checking words (checked + 1) point) (λ k. machine.Checking k words checked point) check_under m now (λ k. (can, does, inl (same, less, refl))) (omega arith) (λ z high t. t) refl).turn
-
-    pub turn_clean : m.found ≡ slice_index words checked → checked ≡ 11 → Turn seat number w reader m (ends Reading (Copied (record { board = words; version = point })) d.begun m.at d) []
-    turn_clean same eleven =
-        (last_turn cast seat number steps w run d.calls Reading d.begun (λ k. machine.Checking k words checked point) check_under m now (Copied (record { board = words; version = point })) m.at []
-        (λ k. subst (λ (i : ℕ). Ends reader k (machine.Checking k words i point) m Reading (Copied (record { board = words; version = point }))) (sym eleven)
-        (ends_copied reader k m words point (record { board = words; version = point }) (subst (λ (i : ℕ). Does log.Second (i + 1) m) eleven does) (subst (λ (i : ℕ). m.found ≡ slice_index words i) eleven same) refl refl))
-        (sym (append-nil w.history)) (ap length (append-nil w.history) ∙ sym now.place)).turn
-
-  -- what each kind of step leaves, by what was held
+        let u = under_way seat number w d.calls d.begun (Collecting words) f.high tt f.recorded collecting (whole_held (Collecting words) is_held) in
+        subst (λ (p : ℕ). Turn seat number w reader m (goes d.begun (collected (words ++ m.found ∷ []) p) d) []) (sym now.place)
+        (turn_kept seat number w d Reading d.begun (λ k. Within k (Collecting words)) u m (length w.history) (loaded words m.found (length w.history)) (can_load words (length w.history) collecting.can (length (words ++ m.found ∷ []) == 12) refl)
+        (made_first w m words_now now reader u.place words u.held collecting.can does)).turn
 
   first_by : m.kind ≡ log.First → (h : Held) → d.held ≡ h → IsNext log.First m.game h → Turn seat number w reader m (firsts_holding h m.found m.at d) []
   first_by kind Nothing is next = turn_begins is (kind, next)
@@ -461,37 +421,43 @@ module _ (cast : Cast) (seat number : ℕ) (steps : List Step) (w : MachineState
   pub turn_firsts : m.kind ≡ log.First → IsNext log.First m.game d.held → Turn seat number w reader m (after_first m.found m.at d) []
   turn_firsts kind next = first_by kind d.held refl next
 
+  -- Second
+  module _ (words : List ℕ) (checked point : ℕ) (is_held : d.held ≡ Checking words checked point) (does : Does log.Second (checked + 1) m) where
+    checking : IsUnderWay w seat number d.begun (Checking words checked point) f.high
+    checking = subst (λ (h : Held). FitsHeld w seat number d.begun h f.high) is_held f.held
+
+    abbrev compared_by : Bool → Bool → Outcome
+    compared_by same last = cond same (cond last (Answers (Copied (record { board = words; version = point }))) (GoesOn (Checking words (checked + 1) point))) (GoesOn (Collecting []))
+
+    can_compare : (same last : Bool) → (checked == 11) ≡ last
+        → CanGo number Reading (cond same (cond last (Answers (Copied (record { board = words; version = point }))) (GoesOn (Checking words (checked + 1) point))) (GoesOn (Collecting [])))
+    can_compare true true is = tt
+    can_compare true false is = let few = checking.can in let not : checked ≢ 11 = λ z. false≢true (sym is ∙ eq-eqb checked 11 z) in (below not few, refl, refl)
+      where
+        below : checked ≢ 11 → checked < 12 → checked + 1 < 12
+        below not few = elim (cases_eq checked 11) [ inl z ↦ absurd (not z) | inr z ↦ omega arith ]
+    can_compare false last is = (omega arith, refl, refl)
+
+    turn_compared : Turn seat number w reader m (done_by Reading d.begun m.at (compared words checked point m.found) d) []
+    turn_compared =
+        let u = under_way seat number w d.calls d.begun (Checking words checked point) f.high tt f.recorded checking (whole_held (Checking words checked point) is_held) in
+        subst (λ (p : ℕ). Turn seat number w reader m (done_by Reading d.begun p (compared words checked point m.found) d) []) (sym now.place)
+        (turn_kept seat number w d Reading d.begun (λ k. Within k (Checking words checked point)) u m point (compared words checked point m.found) (can_compare (m.found == slice_index words checked) (checked == 11) refl)
+        (made_second w m words_now now reader u.place words checked point u.held checking.can does)).turn
+
+    pub turn_again : m.found ≡ slice_index words checked → checked ≢ 11 → Turn seat number w reader m (goes d.begun (Checking words (checked + 1) point) d) []
+    turn_again same not = subst (λ (b : Bool). Turn seat number w reader m (done_by Reading d.begun m.at (compared_by true b) d) []) (ne_eqb checked 11 not)
+        (subst (λ (b : Bool). Turn seat number w reader m (done_by Reading d.begun m.at (compared_by b (checked == 11)) d) []) (eq-eqb m.found (slice_index words checked) same) turn_compared)
+
+    pub turn_clean : m.found ≡ slice_index words checked → checked ≡ 11 → Turn seat number w reader m (ends Reading (Copied (record { board = words; version = point })) d.begun m.at d) []
+    turn_clean same eleven = subst (λ (b : Bool). Turn seat number w reader m (done_by Reading d.begun m.at (compared_by true b) d) []) (eq-eqb checked 11 eleven)
+        (subst (λ (b : Bool). Turn seat number w reader m (done_by Reading d.begun m.at (compared_by b (checked == 11)) d) []) (eq-eqb m.found (slice_index words checked) same) turn_compared)
+
   second_by : m.kind ≡ log.Second → (h : Held) → d.held ≡ h → IsNext log.Second m.game h → Turn seat number w reader m (seconds_holding h m.found m.at d) []
   second_by kind Nothing is next = absurd next
   second_by kind (Collecting words) is next = absurd next
   second_by kind (Holding e old new) is next = absurd next
-  second_by kind (Checking words checked point) is next =
-      let clean : Doing = ends Reading (Copied (record { board = words; version = point })) d.begun m.at d in
-      let on : Doing = goes d.begun (Checking words (checked + 1) point) d in
-      let anew : Doing = goes d.begun (Collecting []) d in
-      elim (cases_eq m.found (slice_index words checked)) [
-        | inl same ↦ subst (λ (b : Bool). Turn seat number w reader m (cond b (cond (checked == 11) clean on) anew) []) (sym (eq-eqb m.found (slice_index words checked) same))
-            (elim (cases_eq checked 11) [
-              | inl eleven ↦ subst (λ (b : Bool). Turn seat number w reader m (cond b clean on) []) (sym (eq-eqb checked 11 eleven)) (turn_clean words checked point is (kind, next) same eleven)
-              | inr not ↦ subst (λ (b : Bool). Turn seat number w reader m (cond b clean on) []) (sym (ne_eqb checked 11 not)) (turn_again words checked point is (kind, next) same not)
-            ])
-        | inr differs ↦ subst (λ (b : Bool). Turn seat number w reader m (cond b (cond (checked == 11) clean on) anew) []) (sym (ne_eqb m.found (slice_index words checked) differs)) (turn_anew words checked point is (kind, next) differs)
-      ]
+  second_by kind (Checking words checked point) is next = turn_compared words checked point is (kind, next)
 
   pub turn_seconds : m.kind ≡ log.Second → IsNext log.Second m.game d.held → Turn seat number w reader m (after_second m.found m.at d) []
   turn_seconds kind next = second_by kind d.held refl next
-
-  module _ (e : EventCall) (old new : ℕ) (is_held : d.held ≡ Holding e old new) (does : Does log.Swap e.game m) where
-    abbrev won_by : ℕ → Doing
-    won_by now = ends (Event e) (Accepted (record { number = (record_at m.found).number + 1 })) d.begun now d
-
-    abbrev missed_by : ℕ → Doing
-    missed_by now = ends (Event e) (Refused (Stale (record_at m.found).number)) d.begun now d
-
-    pub turn_swapped : m.found ≡ old → Turn seat number w (Reporter number) m (after_swap m.found (m.at + 1) d) (entry_of (number, e) ∷ [])
-    turn_swapped same = subst (λ (h : Held). Turn seat number w (Reporter number) m (swaps_holding h m.found (m.at + 1) d) (entry_of (number, e) ∷ [])) (sym is_held)
-        (subst (λ (b : Bool). Turn seat number w (Reporter number) m (cond b (won_by (m.at + 1)) (missed_by (m.at + 1))) (entry_of (number, e) ∷ [])) (sym (eq-eqb m.found old same)) (turn_won e old new is_held does same))
-
-    pub turn_kept_out : m.found ≢ old → Turn seat number w (Reporter number) m (after_swap m.found m.at d) []
-    turn_kept_out other = subst (λ (h : Held). Turn seat number w (Reporter number) m (swaps_holding h m.found m.at d) []) (sym is_held)
-        (subst (λ (b : Bool). Turn seat number w (Reporter number) m (cond b (won_by m.at) (missed_by m.at)) []) (sym (ne_eqb m.found old other)) (turn_missed e old new is_held does other))

@@ -6,9 +6,10 @@ use Rattle.std.proofs.lemmas.Option.{none-some, same_Some, slice_get-map, slice_
 use Rattle.std.proofs.lemmas.Bool.{false≢true}
 use Rattle.std.proofs.lemmas.List.{get_or_default, take_more_set, take_all, length-take-le, map-set, length-set}
 use Rattle.ucl_word.specs.declared.event.EventCall.{EventCall}
-use Rattle.ucl_word.specs.Layout.{word_of, IsWord}
+use Rattle.ucl_word.specs.declared.refusal.Refusal.TheVariants.{Stale}
+use Rattle.ucl_word.specs.Layout.{word_of, record_at, IsWord}
 use Rattle.ucl_board.specs.Fixtures.{IsMatch}
-use Rattle.ucl_board.specs.Words.{AreWords, word_at, greatest_version}
+use Rattle.ucl_board.specs.Words.{AreWords, word_at, version_of, greatest_version}
 use Rattle.ucl_board.specs.History.{match_after, board_of}
 use Rattle.ucl_board.proofs.Histories.{match_valid}
 use Rattle.ucl_board.proofs.HistoryLaws.{versions}
@@ -16,16 +17,19 @@ use Rattle.ucl_steps.specs.declared.step.Cast.{Cast}
 use Rattle.ucl_steps.specs.declared.step.Caller.{Caller}
 use Rattle.ucl_steps.specs.declared.step.Caller.TheVariants.{Reporter, Reader}
 use Rattle.ucl_steps.specs.declared.step.Step.{Step}
+use Rattle.ucl_steps.specs.declared.step.Step.TheVariants.{Swap, Second}
+use Rattle.ucl_steps.specs.declared.trace.Reply.TheVariants.{Accepted, Refused, Copied}
 use Rattle.ucl_steps.specs.declared.trace.CallRecord.{CallRecord}
 use Rattle.ucl_steps.specs.declared.machine.Held.{Held}
 use Rattle.ucl_steps.specs.declared.machine.Held.TheVariants as has
-use Rattle.ucl_steps.specs.Machine.{Holds, Idle, Wanting, Holding, Collecting, Checking, Callers, MachineState, initial_state, held_by, with_held, after_first, change_at, caller_of, after_step_holding, after_step, after_steps}
+use Rattle.ucl_steps.specs.Protocol.{Holding, Collecting, Checking, Outcome, GoesOn, Answers}
+use Rattle.ucl_steps.specs.Machine.{Holds, Idle, Wanting, Within, Callers, MachineState, initial_state, held_by, with_held, after_reply, after_outcome, stored, state_after_first, change_at, caller_of, after_step_holding, after_step, after_steps}
 use Rattle.ucl_board.specs.declared.entry.Entry.{Entry}
 use Rattle.ucl_steps.specs.Running.{holds_of, IsReachable, Takes}
 use Rattle.ucl_word.proofs.Sequences.{at_below}
 use Rattle.ucl_steps.proofs.Invariant.{Keeps}
 use Rattle.ucl_steps.proofs.CallFacts.{in_call}
-use Rattle.ucl_steps.proofs.KeptBySteps.{word_now, no_asker}
+use Rattle.ucl_steps.proofs.KeptBySteps.{word_now, new_number, copied_version}
 use Rattle.ucl_steps.proofs.Histories.{legal_beginning, board_none}
 use Rattle.ucl_word.specs.Record.{scheduled}
 use Rattle.ucl_steps.proofs.Runs.{kept_at_start, run_kept}
@@ -94,21 +98,21 @@ module _ (w : MachineState) (c : Caller) (k : ℕ) (ws : List ℕ) (n : ℕ) (tw
   abbrev filled : List ℕ
   filled = set ws n (get_or w.words n 0)
 
-  pub first_last : n ≡ 11 → with_held (Checking k (set ws n (get_or w.words n 0)) 0 (length w.history)) c w ≡ after_first c k (take n ws) w
+  pub first_last : n ≡ 11 → with_held (Within k (Checking (set ws n (get_or w.words n 0)) 0 (length w.history))) c w ≡ state_after_first c k (take n ws) w
   first_last is =
       let l = length-set ws n (get_or w.words n 0) in
       let whole : take (n + 1) filled ≡ filled = take_all (n + 1) filled (omega arith) in
       let test : (length (take (n + 1) filled) == 12) ≡ true = eq-eqb (length (take (n + 1) filled)) 12 (long ∙ omega arith) in
-      sym (ap (λ (z : List ℕ). with_held (cond (length z == 12) (Checking k z 0 (length w.history)) (Collecting k z)) c w) one_longer
-      ∙ (ap (λ (b : Bool). with_held (cond b (Checking k (take (n + 1) filled) 0 (length w.history)) (Collecting k (take (n + 1) filled))) c w) test
-      ∙ ap (λ (z : List ℕ). with_held (Checking k z 0 (length w.history)) c w) whole))
+      sym (ap (λ (z : List ℕ). with_held (Within k (cond (length z == 12) (Checking z 0 (length w.history)) (Collecting z))) c w) one_longer
+      ∙ (ap (λ (b : Bool). with_held (Within k (cond b (Checking (take (n + 1) filled) 0 (length w.history)) (Collecting (take (n + 1) filled)))) c w) test
+      ∙ ap (λ (z : List ℕ). with_held (Within k (Checking z 0 (length w.history))) c w) whole))
 
-  pub first_more : (n ≡ 11 → ⊥) → with_held (Collecting k (take (n + 1) (set ws n (get_or w.words n 0)))) c w ≡ after_first c k (take n ws) w
+  pub first_more : (n ≡ 11 → ⊥) → with_held (Within k (Collecting (take (n + 1) (set ws n (get_or w.words n 0))))) c w ≡ state_after_first c k (take n ws) w
   first_more not =
       let l = long in
       let test : (length (take (n + 1) filled) == 12) ≡ false = ne_eqb (length (take (n + 1) filled)) 12 (λ is. not (omega arith)) in
-      sym (ap (λ (z : List ℕ). with_held (cond (length z == 12) (Checking k z 0 (length w.history)) (Collecting k z)) c w) one_longer
-      ∙ ap (λ (b : Bool). with_held (cond b (Checking k (take (n + 1) filled) 0 (length w.history)) (Collecting k (take (n + 1) filled))) c w) test)
+      sym (ap (λ (z : List ℕ). with_held (Within k (cond (length z == 12) (Checking z 0 (length w.history)) (Collecting z))) c w) one_longer
+      ∙ ap (λ (b : Bool). with_held (Within k (cond b (Checking (take (n + 1) filled) 0 (length w.history)) (Collecting (take (n + 1) filled)))) c w) test)
 
 pub start_is : (cast : Cast) (words : List ℕ) (history : List Entry) (calls : List CallRecord) (reporters readers : List Holds) → words ≡ board_of [] → history ≡ [] → calls ≡ [] → reporters ≡ replicate cast.reporters Idle → readers ≡ replicate cast.readers Idle
     → state words history calls reporters readers ≡ initial_state cast
@@ -131,16 +135,16 @@ module _ (w : MachineState) (r : IsReachable w) (c : Caller) (o : Option Held) (
   call_below h k is within = let t = (reached_kept w r).knows c (holds_of h) k (holds h is) within in at_below w.calls k t.call t.at
 
   pub checked_few : (k : ℕ) (ws : List ℕ) (n p : ℕ) → o ≡ Some (has.Checking k ws n p) → n < 12
-  checked_few k ws n p is = ((reached_kept w r).knows c (Checking k ws n p) k (holds (has.Checking k ws n p) is) refl).sees.few
+  checked_few k ws n p is = ((reached_kept w r).knows c (Within k (Checking ws n p)) k (holds (has.Checking k ws n p) is) refl).sees.few
 
   pub loaded_few : (k : ℕ) (ws : List ℕ) (n : ℕ) → o ≡ Some (has.Collecting k ws n) → length ws ≡ 12 → n < 12
-  loaded_few k ws n is twelve = let few = ((reached_kept w r).knows c (Collecting k (take n ws)) k (holds (has.Collecting k ws n) is) refl).sees.few in let l = length-take n ws in omega arith
+  loaded_few k ws n is twelve = let few = ((reached_kept w r).knows c (Within k (Collecting (take n ws))) k (holds (has.Collecting k ws n) is) refl).sees.few in let l = length-take n ws in omega arith
 
   -- each collected word is one that its match had
   pub collected_words : (k : ℕ) (ws : List ℕ) (n p : ℕ) → o ≡ Some (has.Checking k ws n p) → AreWords ws
   collected_words k ws n p is =
       let kept = reached_kept w r in
-      let sees = (kept.knows c (Checking k ws n p) k (holds (has.Checking k ws n p) is) refl).sees in
+      let sees = (kept.knows c (Within k (Checking ws n p)) k (holds (has.Checking k ws n p) is) refl).sees in
       record {
         twelve = sees.twelve;
         each = λ i d below. let t = sees.loaded i below in record {
@@ -153,18 +157,31 @@ module _ (w : MachineState) (r : IsReachable w) (c : Caller) (o : Option Held) (
   pub wanted_word : (k : ℕ) (e : EventCall) → o ≡ Some (has.Wanting k e) → IsWord (word_at w.words e.game)
   wanted_word k e is = word_is w r e.game ((reached_kept w r).knows c (Wanting k e) k (holds (has.Wanting k e) is) refl).sees.game
 
-  -- only a reporter enters events
-  pub reporter_wants : (n k : ℕ) (e : EventCall) → c ≡ Reader n → o ≡ Some (has.Wanting k e) → ⊥
-  reporter_wants n k e reader is =
-      let at : held_by w.callers (Reader n) ≡ Some (Wanting k e) = ap (held_by w.callers) (sym reader) ∙ holds (has.Wanting k e) is in
-      let kept = reached_kept w r in
-      no_asker r.1 w kept n (Wanting k e) k e at refl (kept.knows (Reader n) (Wanting k e) k at refl).sees
+  -- a swap that is won: the next word has the next number
+  pub won_step : (n k : ℕ) (e : EventCall) (old new : ℕ) → c ≡ Reporter n → o ≡ Some (has.Holding k e old new) → word_at w.words e.game ≡ old
+      → after_step w (Swap c) ≡ Some (after_reply c k (length w.history) (Accepted (record { number = (record_at new).number })) (stored n e new w))
+  won_step n k e old new reporter is same =
+      let me : Caller = Reporter n in
+      let held : held_by w.callers me ≡ Some (Within k (Holding e old new)) = ap (held_by w.callers) (sym reporter) ∙ holds (has.Holding k e old new) is in
+      let found = word_at w.words e.game in
+      let here = eq-eqb found old same in
+      subst (λ (z : Caller). after_step w (Swap z) ≡ Some (after_reply z k (length w.history) (Accepted (record { number = (record_at new).number })) (stored n e new w))) (sym reporter)
+      (step_is (Swap me) w (after_reply me k (length w.history) (Accepted (record { number = (record_at new).number })) (stored n e new w)) (Within k (Holding e old new)) held
+      (ap (λ (b : Bool). Some (after_reply me k (length w.history) (cond b (Accepted (record { number = (record_at found).number + 1 })) (Refused (Stale (record_at found).number))) (cond b (stored n e new w) w))) here
+      ∙ ap (λ (v : ℕ). Some (after_reply me k (length w.history) (Accepted (record { number = v })) (stored n e new w))) (sym (new_number r.1 w (reached_kept w r) n k e old new held here))))
 
-  pub reporter_holds : (n k : ℕ) (e : EventCall) (old new : ℕ) → c ≡ Reader n → o ≡ Some (has.Holding k e old new) → ⊥
-  reporter_holds n k e old new reader is =
-      let at : held_by w.callers (Reader n) ≡ Some (Holding k e old new) = ap (held_by w.callers) (sym reader) ∙ holds (has.Holding k e old new) is in
-      let kept = reached_kept w r in
-      no_asker r.1 w kept n (Holding k e old new) k e at refl (kept.knows (Reader n) (Holding k e old new) k at refl).sees.asks
+  -- a second collect that is clean: the sum of the numbers of its words is the noted length
+  pub clean_step : (k : ℕ) (ws : List ℕ) (n p : ℕ) → o ≡ Some (has.Checking k ws n p) → slice_index w.words n ≡ slice_index ws n → n ≡ 11
+      → after_step w (Second c) ≡ Some (after_reply c k p (Copied (record { board = ws; version = version_of ws })) w)
+  clean_step k ws n p is same last =
+      let held = holds (has.Checking k ws n p) is in
+      let found = eq-eqb (slice_index w.words n) (slice_index ws n) same in
+      let all = eq-eqb n 11 last in
+      let clean : Outcome = Answers (Copied (record { board = ws; version = p })) in
+      step_is (Second c) w (after_reply c k p (Copied (record { board = ws; version = version_of ws })) w) (Within k (Checking ws n p)) held
+      (ap (λ (b : Bool). Some (after_outcome c k p (cond b (cond (n == 11) clean (GoesOn (Checking ws (n + 1) p))) (GoesOn (Collecting []))) w)) found
+      ∙ (ap (λ (b : Bool). Some (after_outcome c k p (cond b clean (GoesOn (Checking ws (n + 1) p))) w)) all
+      ∙ ap (λ (v : ℕ). Some (after_reply c k p (Copied (record { board = ws; version = v })) w)) (sym (copied_version r.1 w (reached_kept w r) c k ws n p held found all))))
 
 -- a step that was taken was enabled
 pub taken_step : (old new : MachineState) (s : Step) (taken : Bool) → Takes old s taken new → taken ≡ true → after_step old s ≡ Some new

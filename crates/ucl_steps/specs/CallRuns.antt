@@ -1,18 +1,13 @@
--- The accesses that steps of the machine leave, and calls that are made by steps.
-use Rattle.std.specs.Prelude.{◌≡◌, ℕ, ◌+◌, ◌≤◌, List, [], ◌∷◌, ◌++◌, length, Option, Some}
-use Rattle.ucl_board.specs.declared.entry.Entry.{Entry}
+-- The accesses that steps of the machine leave.
+use Rattle.std.specs.Prelude.{ℕ, ◌+◌, ◌≤◌, List, [], ◌∷◌, length, Option, Some}
 use Rattle.ucl_board.specs.Words.{word_at}
-use Rattle.ucl_board.specs.History.{board_of, entry_of}
 use Rattle.ucl_steps.specs.declared.step.Cast.{Cast}
 use Rattle.ucl_steps.specs.declared.step.Caller.{Caller}
 use Rattle.ucl_steps.specs.declared.step.Caller.TheVariants.{Reporter, Reader}
-use Rattle.ucl_steps.specs.declared.step.Call.{Call}
-use Rattle.ucl_steps.specs.declared.step.Call.TheVariants.{Event}
 use Rattle.ucl_steps.specs.declared.step.Step.{Step}
 use Rattle.ucl_steps.specs.declared.step.Step.TheVariants.{Look, Swap, First, Second}
-use Rattle.ucl_steps.specs.declared.trace.Reply.{Reply}
-use Rattle.ucl_steps.specs.declared.trace.Reply.TheVariants.{Accepted, Refused, Copied}
-use Rattle.ucl_steps.specs.Machine.{Holds, Idle, Wanting, Holding, Collecting, Checking, MachineState, held_by, caller_of}
+use Rattle.ucl_steps.specs.Protocol.{Holding, Collecting, Checking}
+use Rattle.ucl_steps.specs.Machine.{Holds, Wanting, Within, MachineState, held_by, caller_of}
 use Rattle.ucl_board.specs.Log as trail
 use Rattle.ucl_board.specs.Log.{AccessKind, Access, access}
 
@@ -30,32 +25,15 @@ access_in state kind game = access kind game (word_at state.words game) (length 
 -- the access that a step leaves, by what its caller holds; Begin and End leave none
 abbrev pub accesses_holding : Step → Option Holds → MachineState → List Access
 accesses_holding (Look c) (Some (Wanting call e)) state = access_in state trail.Look e.game ∷ []
-accesses_holding (Swap c) (Some (Holding call e old new)) state = access_in state trail.Swap e.game ∷ []
-accesses_holding (First c) (Some (Collecting call collected)) state = access_in state trail.First (length collected + 1) ∷ []
-accesses_holding (Second c) (Some (Checking call collected checked point)) state = access_in state trail.Second (checked + 1) ∷ []
+accesses_holding (Swap c) (Some (Within call (Holding e old new))) state = access_in state trail.Swap e.game ∷ []
+accesses_holding (First c) (Some (Within call (Collecting collected))) state = access_in state trail.First (length collected + 1) ∷ []
+accesses_holding (Second c) (Some (Within call (Checking collected checked point))) state = access_in state trail.Second (checked + 1) ∷ []
 accesses_holding _ _ state = []
 
 abbrev pub accesses_of_step : Step → MachineState → List Access
 accesses_of_step step state = accesses_holding step (held_by state.callers (caller_of step)) state
 
--- calls that are made by steps
+-- a caller of the cast
 abbrev pub IsInCast : Cast → Caller → Type 0
 IsInCast cast (Reporter n) = (1 ≤ n) × (n ≤ cast.reporters)
 IsInCast cast (Reader n) = (1 ≤ n) × (n ≤ cast.readers)
-
--- every caller is idle, after this history
-pub record IsAtRest (cast : Cast) (history : List Entry) (state : MachineState) : Type 0 where
-  pub idle : (c : Caller) → IsInCast cast c → held_by state.callers c ≡ Some Idle
-  pub history_is : state.history ≡ history
-  pub words_are : state.words ≡ board_of history
-
--- the entry that an accepted call makes
-abbrev pub entry_by : Caller → Call → List Entry
-entry_by (Reporter r) (Event e) = entry_of (r, e) ∷ []
-entry_by c call = []
-
--- the history after a call: longer by its entry where it was accepted
-abbrev pub history_after : Caller → Call → Reply → List Entry → List Entry
-history_after c call (Accepted reply) history = history ++ entry_by c call
-history_after c call (Refused refusal) history = history
-history_after c call (Copied reading) history = history

@@ -1,15 +1,12 @@
 -- The protocol of the shared board as a machine of six kinds of step: which step is enabled when, and what it does.
--- A reporter loads one match word and exchanges it by one compare and exchange; a reader collects the twelve words twice, and begins anew at the first difference.
-use Rattle.std.specs.Prelude.{ℕ, zero, suc, ◌+◌, ◌-◌, ◌==◌, ◌&&◌, nat_le, Bool, true, false, if◌then◌else◌, List, [], ◌∷◌, ◌++◌, length, replicate, Option, Some, None, IsSome, slice_get, slice_set, slice_index}
+-- What comes of a step on a match word is said by the protocol; here are the board, all callers, and their calls.
+use Rattle.std.specs.Prelude.{ℕ, zero, suc, ◌-◌, ◌==◌, ◌&&◌, nat_le, Bool, true, false, if◌then◌else◌, List, [], ◌∷◌, ◌++◌, length, replicate, Option, Some, None, IsSome, slice_get, slice_set, slice_index}
 use Rattle.std.specs.Option.{option_and_then}
 use Rattle.ucl_word.specs.declared.event.EventCall.{EventCall}
-use Rattle.ucl_word.specs.declared.refusal.Refusal.{Refusal}
-use Rattle.ucl_word.specs.declared.refusal.Refusal.TheVariants.{Stale}
 use Rattle.ucl_word.specs.Record.{scheduled}
-use Rattle.ucl_word.specs.Rules.{refusal_of, after}
-use Rattle.ucl_word.specs.Layout.{word_of, record_at}
+use Rattle.ucl_word.specs.Layout.{word_of}
 use Rattle.ucl_board.specs.declared.entry.Entry.{Entry}
-use Rattle.ucl_board.specs.Words.{word_at, version_of}
+use Rattle.ucl_board.specs.Words.{word_at}
 use Rattle.ucl_board.specs.History.{followed_by, entry_of}
 use Rattle.ucl_steps.specs.declared.step.Cast.{Cast}
 use Rattle.ucl_steps.specs.declared.step.Caller.{Caller}
@@ -19,18 +16,15 @@ use Rattle.ucl_steps.specs.declared.step.Call.TheVariants.{Event, Reading}
 use Rattle.ucl_steps.specs.declared.step.Step.{Step}
 use Rattle.ucl_steps.specs.declared.step.Step.TheVariants.{Begin, Look, Swap, First, Second, End}
 use Rattle.ucl_steps.specs.declared.trace.Reply.{Reply}
-use Rattle.ucl_steps.specs.declared.trace.Reply.TheVariants.{Accepted, Refused, Copied}
 use Rattle.ucl_steps.specs.declared.trace.CallRecord.{CallRecord}
+use Rattle.ucl_steps.specs.Protocol.{Held, Holding, Collecting, Checking, Outcome, GoesOn, Answers, looked, swapped, loaded, compared}
 
 -- What a caller holds between two of its steps; `call` is the place of its call among the calls.
--- Idle: no call. Wanting: an event to enter. Holding: the word that it loaded, and the one that is to take its place.
--- Collecting: the words of the first collect so far. Checking: all twelve, how many of them the second collect has found again, and the point noted at the last load of the first. Answered: a call that has its reply.
+-- Idle: no call. Wanting: an event to enter. Within: what the protocol holds in the call. Answered: a call that has its reply.
 pub data Holds : Type 0 where
   Idle : Holds
   Wanting : (call : ℕ) (e : EventCall) → Holds
-  Holding : (call : ℕ) (e : EventCall) (old new : ℕ) → Holds
-  Collecting : (call : ℕ) (collected : List ℕ) → Holds
-  Checking : (call : ℕ) (collected : List ℕ) (checked point : ℕ) → Holds
+  Within : (call : ℕ) (held : Held) → Holds
   Answered : (call : ℕ) → Holds
 
 -- what each reporter and each reader holds, the first of them first
@@ -92,7 +86,7 @@ may_begin c Reading = true
 
 abbrev pub held_at_begin : Call → ℕ → Holds
 held_at_begin (Event e) call = Wanting call e
-held_at_begin Reading call = Collecting call []
+held_at_begin Reading call = Within call (Collecting [])
 
 abbrev pub after_begin : Caller → Call → MachineState → MachineState
 after_begin c call state = with_held (held_at_begin call (length state.calls)) c
@@ -102,39 +96,31 @@ after_begin c call state = with_held (held_at_begin call (length state.calls)) c
 abbrev pub after_reply : Caller → ℕ → ℕ → Reply → MachineState → MachineState
 after_reply c call point reply state = with_held (Answered call) c (record state { calls = change_at call (with_reply point reply) state.calls })
 
--- Look: the word of the event's match is loaded. Where the rules refuse, the refusal is the reply, and the point is now; else the reporter holds the word and the one that is to take its place.
-abbrev pub after_rules : Caller → ℕ → EventCall → ℕ → Option Refusal → MachineState → MachineState
-after_rules c call e old (Some refusal) state = after_reply c call (length state.history) (Refused refusal) state
-after_rules (Reporter r) call e old None state = with_held (Holding call e old (word_of (after (record_at old) r e.kind))) (Reporter r) state
-after_rules (Reader n) call e old None state = state
+-- what comes of a step: the caller holds this in its call, or the call has its reply, with this linearization point
+abbrev pub after_outcome : Caller → ℕ → ℕ → Outcome → MachineState → MachineState
+after_outcome c call point (GoesOn held) state = with_held (Within call held) c state
+after_outcome c call point (Answers reply) state = after_reply c call point reply state
 
-abbrev pub after_look : Caller → ℕ → EventCall → MachineState → MachineState
-after_look c call e state = let word = word_at state.words e.game in after_rules c call e word (refusal_of (record_at word) e.expected e.kind) state
+-- a swap that is won: the new word takes the place of the one that was loaded, and the entry is added
+abbrev pub stored : ℕ → EventCall → ℕ → MachineState → MachineState
+stored r e new state = record state { words = slice_set state.words (e.game - 1) new; history = followed_by state.history (entry_of (r, e)) }
 
--- Swap: one compare and exchange. Where the word is still the one that was loaded, the new word takes its place, the entry is added, and the reply is the new number;
--- else the word stays, and the reply is stale with the number that is there. The point is the length of the history before the step.
-abbrev pub after_swap : Caller → ℕ → EventCall → ℕ → ℕ → MachineState → MachineState
-after_swap (Reader n) call e old new state = state
-after_swap (Reporter r) call e old new state =
-    if word_at state.words e.game == old
-    then after_reply (Reporter r) call (length state.history) (Accepted (record { number = (record_at new).number }))
-    (record state { words = slice_set state.words (e.game - 1) new; history = followed_by state.history (entry_of (r, e)) })
-    else after_reply (Reporter r) call (length state.history) (Refused (Stale (record_at (word_at state.words e.game)).number)) state
+-- The four steps on match words. The point of a report is the length of the history before its last step;
+-- that of a reading, the length at the last load of its first collect.
+abbrev pub state_after_look : ℕ → ℕ → EventCall → MachineState → MachineState
+state_after_look r call e state = after_outcome (Reporter r) call (length state.history) (looked r e (word_at state.words e.game)) state
 
--- First: one more word of the first collect is loaded; with the twelfth, the length of the history is noted as the reading's point, and the second collect begins.
-abbrev pub after_first : Caller → ℕ → List ℕ → MachineState → MachineState
-after_first c call collected state = let more = collected ++ slice_index state.words (length collected) ∷ [] in
-    with_held (if length more == 12 then Checking call more 0 (length state.history) else Collecting call more) c state
+abbrev pub state_after_swap : ℕ → ℕ → EventCall → ℕ → ℕ → MachineState → MachineState
+state_after_swap r call e old new state = let found = word_at state.words e.game in
+    after_outcome (Reporter r) call (length state.history) (swapped old found) (if found == old then stored r e new state else state)
 
--- Second: one more word of the second collect is loaded. At the first whole word that differs, the reading begins anew, and the noted point is dropped;
--- where all twelve are the same, the reply is the board of the collected words, with its version, at the noted point.
-abbrev pub after_second : Caller → ℕ → List ℕ → ℕ → ℕ → MachineState → MachineState
-after_second c call collected checked point state =
-    if slice_index state.words checked == slice_index collected checked
-    then (if checked == 11
-    then after_reply c call point (Copied (record { board = collected; version = version_of collected })) state
-    else with_held (Checking call collected (checked + 1) point) c state)
-    else with_held (Collecting call []) c state
+abbrev pub state_after_first : Caller → ℕ → List ℕ → MachineState → MachineState
+state_after_first c call words state = let now = length state.history in
+    after_outcome c call now (loaded words (slice_index state.words (length words)) now) state
+
+abbrev pub state_after_second : Caller → ℕ → List ℕ → ℕ → ℕ → MachineState → MachineState
+state_after_second c call words checked point state =
+    after_outcome c call point (compared words checked point (slice_index state.words checked)) state
 
 -- End: the length of the history is the call's end.
 abbrev pub after_end : Caller → ℕ → MachineState → MachineState
@@ -143,10 +129,10 @@ after_end c call state = with_held Idle c (record state { calls = change_at call
 -- the state after a step, by what its caller holds; None where the step is not enabled
 abbrev pub after_step_holding : Step → Option Holds → MachineState → Option MachineState
 after_step_holding (Begin c call) (Some Idle) state = if may_begin c call then Some (after_begin c call state) else None
-after_step_holding (Look c) (Some (Wanting call e)) state = Some (after_look c call e state)
-after_step_holding (Swap c) (Some (Holding call e old new)) state = Some (after_swap c call e old new state)
-after_step_holding (First c) (Some (Collecting call collected)) state = Some (after_first c call collected state)
-after_step_holding (Second c) (Some (Checking call collected checked point)) state = Some (after_second c call collected checked point state)
+after_step_holding (Look (Reporter r)) (Some (Wanting call e)) state = Some (state_after_look r call e state)
+after_step_holding (Swap (Reporter r)) (Some (Within call (Holding e old new))) state = Some (state_after_swap r call e old new state)
+after_step_holding (First c) (Some (Within call (Collecting words))) state = Some (state_after_first c call words state)
+after_step_holding (Second c) (Some (Within call (Checking words checked point))) state = Some (state_after_second c call words checked point state)
 after_step_holding (End c) (Some (Answered call)) state = Some (after_end c call state)
 after_step_holding _ _ state = None
 

@@ -12,8 +12,7 @@ use Rattle.ucl_steps.specs.declared.step.Call.TheVariants.{Event, Reading}
 use Rattle.ucl_steps.specs.declared.step.Step.{Step}
 use Rattle.ucl_steps.specs.declared.step.Step.TheVariants.{Begin, End}
 use Rattle.ucl_steps.specs.declared.trace.CallRecord.{CallRecord}
-use Rattle.ucl_steps.specs.Machine as machine
-use Rattle.ucl_steps.specs.Machine.{Holds, Idle, MachineState, held_by, caller_of, after_step}
+use Rattle.ucl_steps.specs.Machine.{Idle, Within, MachineState, held_by, caller_of, after_step}
 use Rattle.ucl_steps.specs.CallRuns.{step_of, accesses_of_step}
 use Rattle.ucl_board.specs.Log.{AccessKind, Access}
 use Rattle.ucl_steps.specs.Protocol.{Held, Nothing, Holding, Collecting, Checking, Answer, Doing, MayAsk}
@@ -35,7 +34,7 @@ is_of seat number (Reporter k) = (k == number) && (nat_le 1 number && nat_le num
 abbrev pub cast_for : ℕ → Cast
 cast_for readers = record { reporters = 255; readers = readers }
 
--- the call that is under way, and what the machine's caller holds in it, as call k
+-- the call that is under way
 abbrev pub call_of : Held → Call
 call_of (Holding e old new) = Event e
 call_of _ = Reading
@@ -44,12 +43,6 @@ call_of _ = Reading
 abbrev pub pending : Held → ℕ
 pending Nothing = 0
 pending _ = 1
-
-abbrev pub holds_of : ℕ → Held → Holds
-holds_of k Nothing = Idle
-holds_of k (Holding e old new) = machine.Holding k e old new
-holds_of k (Collecting words) = machine.Collecting k words
-holds_of k (Checking words checked point) = machine.Checking k words checked point
 
 -- what is held can be held
 abbrev pub CanHold : ℕ → Held → Type 0
@@ -78,7 +71,7 @@ pub record IsUnderWay (state : MachineState) (seat number begun : ℕ) (held : H
   pub place : ℕ
   pub low : high ≤ place
   pub record_is : slice_get state.calls place ≡ Some (record { caller = caller_for seat number (call_of held); call = call_of held; begun = begun; point = None; reply = None; ended = None })
-  pub holds : held_by state.callers (caller_for seat number (call_of held)) ≡ Some (holds_of place held)
+  pub holds : held_by state.callers (caller_for seat number (call_of held)) ≡ Some (Within place held)
   pub others : (c : Caller) → IsOf seat number c → c ≢ caller_for seat number (call_of held) → held_by state.callers c ≡ Some Idle
 
 abbrev pub FitsHeld : MachineState → ℕ → ℕ → ℕ → Held → ℕ → Type 0

@@ -5,14 +5,15 @@ use Rattle.ucl_steps.specs.declared.step.Step.{Step}
 use Rattle.ucl_steps.specs.declared.machine.Held.{Held}
 use Rattle.ucl_steps.specs.declared.machine.Held.TheVariants as has
 use Rattle.ucl_steps.specs.declared.machine.Machine.{Machine}
-use Rattle.ucl_steps.specs.Machine.{Holds, Idle, Wanting, Holding, Collecting, Checking, Answered, MachineState, initial_state, after_step, after_steps}
+use Rattle.ucl_steps.specs.Protocol.{Holding, Collecting, Checking}
+use Rattle.ucl_steps.specs.Machine.{Holds, Idle, Wanting, Within, Answered, MachineState, initial_state, after_step, after_steps}
 
 abbrev pub holds_of : Held → Holds
 holds_of has.Idle = Idle
 holds_of (has.Wanting call e) = Wanting call e
-holds_of (has.Holding call e old new) = Holding call e old new
-holds_of (has.Collecting call words loaded) = Collecting call (take loaded words)
-holds_of (has.Checking call words checked point) = Checking call words checked point
+holds_of (has.Holding call e old new) = Within call (Holding e old new)
+holds_of (has.Collecting call words loaded) = Within call (Collecting (take loaded words))
+holds_of (has.Checking call words checked point) = Within call (Checking words checked point)
 holds_of (has.Answered call) = Answered call
 
 abbrev pub state_of : Machine → MachineState

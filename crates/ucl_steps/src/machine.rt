@@ -4,7 +4,8 @@ ghost use Rattle.std.specs.Prelude.{◌≡◌, ◌<◌, [], length, IfOk, IsSome
 ghost use Rattle.std.specs.Option.{option_map};
 ghost use Rattle.ucl_board.specs.Words.{AreWords, version_of};
 ghost use Rattle.ucl_steps.specs.declared.step.Step.TheVariants.{Begin, Look, Swap, First, Second, End};
-ghost use Rattle.ucl_steps.specs.Machine.{Collecting, initial_state, held_by, with_held, after_reply};
+ghost use Rattle.ucl_steps.specs.Protocol.{Collecting};
+ghost use Rattle.ucl_steps.specs.Machine.{Within, initial_state, held_by, with_held, after_reply};
 ghost use Rattle.ucl_steps.specs.Traces.{IsLeftBy};
 ghost use Rattle.ucl_steps.specs.Running.{holds_of, state_of, IsReachable, Takes};
 
@@ -53,7 +54,7 @@ enum Held {
 impl Held {
     /// A reading that has loaded no word.
     fn collecting(call: usize) -> Held
-        ensures { holds_of result ≡ Collecting call [] }
+        ensures { holds_of result ≡ Within call (Collecting []) }
     {
         Held::Collecting {
             call,

@@ -1,5 +1,5 @@
 -- A running board is one run of the machine.
-use Rattle.std.proofs.Common.{◌≡◌, ℕ, List, ◌∷◌, length, refl, sym, ap, ◌∙◌, subst, le_refl}
+use Rattle.std.proofs.Common.{ℕ, List, ◌∷◌, length, sym, ap, ◌∙◌, subst, le_refl}
 use Rattle.ucl_board.specs.declared.entry.Entry.{Entry}
 use Rattle.ucl_board.specs.History.{board_of}
 use Rattle.ucl_steps.specs.Linearizable.{IsLinearizable}

@@ -1,5 +1,5 @@
 -- What the steps of a call leave as done and as held.
-use Rattle.std.proofs.Common.{◌≡◌, ◌≢◌, ◌⊎◌, inl, inr, ℕ, zero, suc, ◌+◌, ◌<◌, ◌≤◌, ◌==◌, Bool, true, false, cond, List, [], ◌∷◌, ◌++◌, take, length, set, Some, None, Ok, refl, sym, ap, ◌∙◌, subst, arith, eq-eqb, ne_eqb}
+use Rattle.std.proofs.Common.{◌≡◌, ◌≢◌, ◌⊎◌, inl, inr, ℕ, zero, suc, ◌+◌, ◌<◌, ◌≤◌, ◌==◌, Bool, true, cond, List, [], ◌∷◌, ◌++◌, take, length, set, Some, None, Ok, refl, sym, ap, ◌∙◌, subst, arith, eq-eqb, ne_eqb}
 use Rattle.std.specs.Prelude.{slice_index}
 use Rattle.std.proofs.lemmas.List.{length-take-le}
 use Rattle.std.proofs.Math.Seq.{take-length}
@@ -9,17 +9,14 @@ use Rattle.ucl_word.specs.declared.refusal.Refusal.{Refusal}
 use Rattle.ucl_word.specs.declared.refusal.Refusal.TheVariants.{Stale}
 use Rattle.ucl_word.specs.Rules.{refusal_of, after, reply_of}
 use Rattle.ucl_word.specs.Layout.{word_of, record_at, IsWord}
-use Rattle.ucl_word.specs.declared.record.MatchRecord.{MatchRecord}
-use Rattle.ucl_word.specs.declared.event.Kind.{Kind}
 use Rattle.ucl_word.proofs.Words.{word_packed}
-use Rattle.ucl_board.specs.declared.entry.Entry.{Entry}
 use Rattle.ucl_board.specs.declared.reading.Reading.{Reading}
-use Rattle.ucl_board.specs.Log.{AccessKind, First, Second}
+use Rattle.ucl_board.specs.Log.{First, Second}
 use Rattle.ucl_steps.specs.declared.step.Call.TheVariants as calls
 use Rattle.ucl_steps.specs.declared.trace.Reply.{Reply}
 use Rattle.ucl_steps.specs.declared.trace.Reply.TheVariants as replies
-use Rattle.ucl_steps.specs.Protocol.{Held, Nothing, Holding, Collecting, Checking, Doing, goes, ends, IsNext, by_rules, after_look, swaps_holding, after_swap, collected, firsts_holding, after_first, seconds_holding, after_second}
-use Rattle.ucl_steps.proofs.Calls.{none_of}
+use Rattle.ucl_steps.specs.Protocol.{Held, Nothing, Holding, Collecting, Checking, Outcome, GoesOn, Answers, by_rules, Doing, goes, ends, done_by, IsNext, after_look, after_swap, collected, firsts_holding, after_first, after_second}
+use Rattle.ucl_steps.proofs.OneStep.{none_of}
 use Rattle.ucl_words.specs.declared.view.WordView.{WordView}
 use Rattle.ucl_words.specs.WordDoings.{HasAnswered, AnswersCall, IsHoldingFor, MayCollect, IsBegun, HasFirsts, has_copied, begins_anew}
 
@@ -27,24 +24,26 @@ use Rattle.ucl_words.specs.WordDoings.{HasAnswered, AnswersCall, IsHoldingFor, M
 
 module _ (v u : WordView) (call : EventCall) (loaded number : ℕ) (is : v.pass.number ≡ number) (looked : u.doing ≡ after_look v.pass.number call loaded (length u.pass.seen) v.doing) (grown : length v.pass.seen ≤ length u.pass.seen) where
   pub look_answers : (refusal : Refusal) → refusal_of (record_at loaded) call.expected call.kind ≡ Some refusal → AnswersCall v (calls.Event call) (replies.Refused refusal) u
-  look_answers refusal refused = record { begun = length u.pass.seen; after_seen = grown; does = looked ∙ ap (λ o. by_rules v.pass.number call loaded (length u.pass.seen) o v.doing) refused }
+  look_answers refusal refused = record { begun = length u.pass.seen; after_seen = grown; does = looked ∙ ap (λ o. done_by (calls.Event call) (length u.pass.seen) (length u.pass.seen) (by_rules v.pass.number call loaded o) v.doing) refused }
 
   module _ (accepts : refusal_of (record_at loaded) call.expected call.kind ≡ None) (next : ℕ) (valid : IsWord next) (next_is : record_at next ≡ after (record_at loaded) number call.kind) where
     now_holding : u.doing ≡ goes (length u.pass.seen) (Holding call loaded next) v.doing
     now_holding =
         looked
-        ∙ (ap (λ o. by_rules v.pass.number call loaded (length u.pass.seen) o v.doing) accepts
+        ∙ (ap (λ o. done_by (calls.Event call) (length u.pass.seen) (length u.pass.seen) (by_rules v.pass.number call loaded o) v.doing) accepts
         ∙ ap (λ (n : ℕ). goes (length u.pass.seen) (Holding call loaded n) v.doing) (ap (λ (n : ℕ). word_of (after (record_at loaded) n call.kind)) is ∙ (ap word_of (sym next_is) ∙ word_packed next valid)))
 
     pub holding_for : (reporter : ℕ) → IsHoldingFor u.doing.held (record { game = call.game; reporter = reporter; kind = call.kind }) loaded next
     holding_for reporter = record { e = call; holds = ap (λ (d : Doing). d.held) now_holding; game = refl; kind = refl }
 
     module _ (z : WordView) (found : ℕ) (swapped : z.doing ≡ after_swap found (length z.pass.seen) u.doing) where
-      abbrev answer_by : Bool → Doing
-      answer_by b = cond b (ends (calls.Event call) (replies.Accepted (record { number = (record_at found).number + 1 })) (length u.pass.seen) (length z.pass.seen) v.doing) (ends (calls.Event call) (replies.Refused (Stale (record_at found).number)) (length u.pass.seen) (length z.pass.seen) v.doing)
+      abbrev reply_by : Bool → Reply
+      reply_by b = cond b (replies.Accepted (record { number = (record_at found).number + 1 })) (replies.Refused (Stale (record_at found).number))
 
-      now_answered : z.doing ≡ cond (found == loaded) (ends (calls.Event call) (replies.Accepted (record { number = (record_at found).number + 1 })) (length u.pass.seen) (length z.pass.seen) (goes (length u.pass.seen) (Holding call loaded next) v.doing))
-          (ends (calls.Event call) (replies.Refused (Stale (record_at found).number)) (length u.pass.seen) (length z.pass.seen) (goes (length u.pass.seen) (Holding call loaded next) v.doing))
+      abbrev answer_by : Bool → Doing
+      answer_by b = ends (calls.Event call) (reply_by b) (length u.pass.seen) (length z.pass.seen) v.doing
+
+      now_answered : z.doing ≡ answer_by (found == loaded)
       now_answered = swapped ∙ ap (after_swap found (length z.pass.seen)) now_holding
 
       pub won_answers : found ≡ loaded → (reply : Accepted) → reply_of (record_at loaded) call ≡ Ok reply → AnswersCall v (calls.Event call) (replies.Accepted reply) z
@@ -134,23 +133,26 @@ module _ (d : Doing) (words : List ℕ) (point i : ℕ) (f : Doing) (so_far : Se
   second_next = subst (λ (x : Doing). IsNext Second (i + 1) x.held) (sym so_far) refl
 
   module _ (n now : ℕ) (g : Doing) (is : g ≡ after_second n now f) where
-    abbrev clean : Doing
-    clean = has_copied words point now d
+    abbrev before : Doing
+    before = goes d.begun (Checking words i point) d
 
-    abbrev further : Doing
-    further = goes d.begun (Checking words (i + 1) point) d
+    abbrev compared_by : Bool → Bool → Outcome
+    compared_by same last = cond same (cond last (Answers (replies.Copied (record { board = words; version = point }))) (GoesOn (Checking words (i + 1) point))) (GoesOn (Collecting []))
 
-    step_is : g ≡ cond (n == slice_index words i) (cond (i == 11) clean further) (begins_anew d)
+    step_is : g ≡ done_by calls.Reading d.begun now (compared_by (n == slice_index words i) (i == 11)) before
     step_is = is ∙ ap (after_second n now) so_far
 
+    same_by : n ≡ slice_index words i → g ≡ done_by calls.Reading d.begun now (compared_by true (i == 11)) before
+    same_by same = step_is ∙ ap (λ (b : Bool). done_by calls.Reading d.begun now (compared_by b (i == 11)) before) (eq-eqb n (slice_index words i) same)
+
     pub second_on : n ≡ slice_index words i → i < 11 → Seconds d words point (i + 1) g
-    second_on same less = step_is ∙ (ap (λ (b : Bool). cond b (cond (i == 11) clean further) (begins_anew d)) (eq-eqb n (slice_index words i) same) ∙ ap (λ (b : Bool). cond b clean further) (ne_eqb i 11 (λ z. omega arith)))
+    second_on same less = same_by same ∙ ap (λ (b : Bool). done_by calls.Reading d.begun now (compared_by true b) before) (ne_eqb i 11 (λ z. omega arith))
 
     pub second_other : n ≢ slice_index words i → g ≡ begins_anew d
-    second_other other = step_is ∙ ap (λ (b : Bool). cond b (cond (i == 11) clean further) (begins_anew d)) (ne_eqb n (slice_index words i) other)
+    second_other other = step_is ∙ ap (λ (b : Bool). done_by calls.Reading d.begun now (compared_by b (i == 11)) before) (ne_eqb n (slice_index words i) other)
 
-    pub second_last : n ≡ slice_index words i → i ≡ 11 → g ≡ clean
-    second_last same eleven = step_is ∙ (ap (λ (b : Bool). cond b (cond (i == 11) clean further) (begins_anew d)) (eq-eqb n (slice_index words i) same) ∙ ap (λ (b : Bool). cond b clean further) (eq-eqb i 11 eleven))
+    pub second_last : n ≡ slice_index words i → i ≡ 11 → g ≡ has_copied words point now d
+    second_last same eleven = same_by same ∙ ap (λ (b : Bool). done_by calls.Reading d.begun now (compared_by true b) before) (eq-eqb i 11 eleven)
 
 -- tries of a reading
 

@@ -19,18 +19,17 @@ use Rattle.ucl_board.specs.History.{match_after, board_of, IsLegal, followed_by,
 use Rattle.ucl_board.specs.Log.{AccessKind, Look, First, Second, Swap, Target, Match, Enlisted, history_of, Access, access, Taken, Log, IsThere}
 use Rattle.ucl_board.proofs.Histories.{word_after}
 use Rattle.ucl_shared.specs.declared.view.View.{View}
-use Rattle.ucl_shared.specs.Views.{newcomer, opener, kept_of, second_of, note_of, told_by, trail_of}
+use Rattle.ucl_shared.specs.Views.{newcomer, opener, trail_of}
 use Rattle.ucl_shared.specs.OneHistory.{KeepsOneHistory}
 use Rattle.ucl_shared.specs.Steps.{Enlists}
 use Rattle.ucl_shared.proofs.Moves.{logged, look, looked, same_history, look_keeps, look_same, look_tells, add, entered, longer_history, add_keeps, add_same, add_tells, count, enlisted_as, unchanged_history, enlist_keeps, enlist_same, enlist_tells, second_added, second_same, note_added, note_same, note_joined, joined_same}
 use Rattle.ucl_shared.proofs.Moves as moves
 use Rattle.ucl_steps.specs.declared.step.Caller.{Caller}
 use Rattle.ucl_steps.specs.declared.step.Caller.TheVariants.{Reporter, Reader}
-use Rattle.ucl_steps.specs.Machine.{Idle, MachineState, initial_state, held_by}
-use Rattle.ucl_steps.specs.Protocol.{Nothing, Holding, Doing, nothing_done, IsNext, after_look, after_swap, after_first, after_second}
+use Rattle.ucl_steps.specs.Machine.{Idle, initial_state, held_by}
+use Rattle.ucl_steps.specs.Protocol.{Nothing, Doing, nothing_done, IsNext, after_look, after_swap, after_first, after_second}
 use Rattle.ucl_steps.specs.PassRuns.{cast_for, IsOf, FitsRun}
-use Rattle.ucl_steps.proofs.Calls.{rest_at_start}
-use Rattle.ucl_steps.proofs.LogRunsCalls.{IsNow}
+use Rattle.ucl_steps.proofs.OneStep.{idle_at_start, IsNow}
 use Rattle.ucl_steps.proofs.PassSteps.{Turn, turn_look, turn_firsts, turn_seconds, turn_swapped, turn_kept_out}
 use Rattle.ucl_words.specs.declared.view.WordView.{WordView}
 use Rattle.ucl_words.specs.WordViews.{new_pass, first_pass, left_pass, second_pass, note_pass, told_pass}
@@ -450,12 +449,12 @@ opens words are = let same = moves.opens_same words_after words are in both (ope
       tight = record { moves = []; are = refl };
       each = each;
       only = All-nil (IsOfSome (first_pass ∷ []));
-      unseated = λ seat over below. (rest_at_start (cast_for readers)).idle (Reader (seat + 1)) (omega arith, omega arith);
-      unnumbered = λ n above few. (rest_at_start (cast_for readers)).idle (Reporter n) (omega arith, omega arith);
+      unseated = λ seat over below. idle_at_start (cast_for readers) (Reader (seat + 1)) (omega arith, omega arith);
+      unnumbered = λ n above few. idle_at_start (cast_for readers) (Reporter n) (omega arith, omega arith);
     }
       where
         callers : (d : Caller) → IsOf 0 0 d → held_by (initial_state (cast_for readers)).callers d ≡ Some Idle
-        callers d (inl a) = subst (λ (c : Caller). held_by (initial_state (cast_for readers)).callers c ≡ Some Idle) (sym a) ((rest_at_start (cast_for readers)).idle (Reader 1) (omega arith, omega arith))
+        callers d (inl a) = subst (λ (c : Caller). held_by (initial_state (cast_for readers)).callers c ≡ Some Idle) (sym a) (idle_at_start (cast_for readers) (Reader 1) (omega arith, omega arith))
         callers d (inr b) = let low = b.1.0 in absurd (omega arith)
 
         each : (seat : ℕ) (v : WordView) → get_elem? (first_pass ∷ []) seat ≡ some v → FitsRun (initial_state (cast_for readers)) seat v.pass.number v.doing

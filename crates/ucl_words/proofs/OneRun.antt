@@ -1,11 +1,11 @@
 -- What steps of passes, splits and joins do to the run of the machine that the rule says there is.
-use Rattle.std.proofs.Common.{◌≡◌, ◌≢◌, ◌⊎◌, inl, inr, ⊎_elim, ℕ, zero, suc, ◌+◌, ◌<◌, ◌≤◌, ◌&&◌, Bool, true, false, cond, List, [], ◌∷◌, ◌++◌, length, replicate, set, map, Some, refl, sym, ap, ◌∙◌, subst, arith, le_refl, append-nil, length-append, length-set, ne_eqb}
+use Rattle.std.proofs.Common.{◌≡◌, ◌≢◌, ◌⊎◌, inl, inr, ⊎_elim, ℕ, zero, suc, ◌+◌, ◌<◌, ◌≤◌, ◌&&◌, Bool, false, cond, List, [], ◌∷◌, ◌++◌, length, replicate, set, map, Some, refl, sym, ap, ◌∙◌, subst, arith, le_refl, append-nil, length-append, length-set, ne_eqb}
 use Rattle.std.specs.Prelude.{All, filter, flat_map, nat_le}
 use mathlib.Core.Logic.{dite}
 use mathlib.Core.Option.{some, some-ne-none, some-injective}
 use lib.ListN.{get_elem?}
 use native.Mathlib.Decide.{ℕ_discrete}
-use Rattle.atomic_table.proofs.Lists.{at_set, at_longer, set_again, set_here, set_else}
+use Rattle.atomic_table.proofs.Lists.{at_set, at_longer, set_here, set_else}
 use Rattle.std.proofs.lemmas.List.Concat.{flat_map-append}
 use Rattle.std.proofs.lemmas.List.Elements.{All-append, All-cons, All-nil, All-head, All-tail}
 use Rattle.ucl_board.specs.Log.{Access, Taken, Log, history_of, access_list}
@@ -16,11 +16,10 @@ use Rattle.ucl_steps.specs.declared.step.Call.{Call}
 use Rattle.ucl_steps.specs.declared.step.Call.TheVariants.{Event, Reading}
 use Rattle.ucl_steps.specs.declared.step.Step.{Step}
 use Rattle.ucl_steps.specs.declared.trace.CallRecord.{CallRecord}
-use Rattle.ucl_steps.specs.Machine.{Idle, MachineState, initial_state, held_by, after_steps}
+use Rattle.ucl_steps.specs.Machine.{Idle, initial_state, held_by}
 use Rattle.ucl_steps.specs.Protocol.{Held, Nothing, Answer, Doing, nothing_done, MayAsk}
 use Rattle.ucl_steps.specs.PassRuns.{cast_for, caller_for, IsOf, IsRecordOf, AreRecordsOf, FitsHeld, is_of, callers_of, left_by, FitsRun, Move, steps_of_move, IsTight}
-use Rattle.ucl_steps.proofs.JoinedRuns.{steps_append}
-use Rattle.ucl_steps.proofs.LogRunsSeats.{not_of}
+use Rattle.ucl_steps.proofs.OneStep.{steps_append, not_of}
 use Rattle.ucl_steps.proofs.PassSteps.{fits_else, Turn, left_append}
 use Rattle.ucl_shared.specs.declared.view.View.{View}
 use Rattle.ucl_words.specs.declared.view.WordView.{WordView}

@@ -2,7 +2,8 @@ use Rattle.std.proofs.Common.{◌≡◌, ℕ, Some, length, set, arith, sym, ap,
 use Rattle.ucl_steps.specs.declared.step.Step.TheVariants.{First}
 use Rattle.ucl_steps.specs.declared.machine.Held.{Held}
 use Rattle.ucl_steps.specs.declared.machine.Held.TheVariants as has
-use Rattle.ucl_steps.specs.Machine.{Checking, with_held}
+use Rattle.ucl_steps.specs.Protocol.{Checking}
+use Rattle.ucl_steps.specs.Machine.{Within, with_held}
 use Rattle.ucl_steps.specs.Running.{state_of, holds_of}
 use Rattle.ucl_steps.proofs.Reachable.{first_last, first_more, loaded_few, holds, step_is}
 use Rattle.ucl_steps.proofs.machine.Machine.first.Goals.{then-loaded-eq11, else-loaded-eq11}
@@ -47,7 +48,7 @@ returns c =
     step_is (First c.args.caller) (state_of c.args.self.now) (state_of c.hold.new.self) (holds_of (has.Collecting c.in-Some-Collecting.call c.in-Some-Collecting.words c.in-Some-Collecting.loaded)) held (ap Some (sym (c.hold.ensures ∙ elim c.if-loaded-eq11.branch [
       | then-loaded-eq11 b ↦
           ap (λ (h : Held). with_held (holds_of h) c.args.caller (state_of c.args.self.now)) b.next-is
-          ∙ (ap (λ (n : ℕ). with_held (Checking c.in-Some-Collecting.call (set c.in-Some-Collecting.words c.in-Some-Collecting.loaded (get_or c.args.self.now.words c.in-Some-Collecting.loaded 0)) 0 n) c.args.caller (state_of c.args.self.now)) b.now.ensures
+          ∙ (ap (λ (n : ℕ). with_held (Within c.in-Some-Collecting.call (Checking (set c.in-Some-Collecting.words c.in-Some-Collecting.loaded (get_or c.args.self.now.words c.in-Some-Collecting.loaded 0)) 0 n)) c.args.caller (state_of c.args.self.now)) b.now.ensures
           ∙ first_last (state_of c.args.self.now) c.args.caller c.in-Some-Collecting.call c.in-Some-Collecting.words c.in-Some-Collecting.loaded twelve few b.if-loaded-eq11.true)
       | else-loaded-eq11 b ↦
           ap (λ (h : Held). with_held (holds_of h) c.args.caller (state_of c.args.self.now)) b.next-is

@@ -2,13 +2,8 @@ use Rattle.std.proofs.Common.{◌≡◌, ℕ, Some, ◌-◌, refl, sym, ap, ◌�
 use Rattle.ucl_word.specs.Layout.{IsWord}
 use Rattle.ucl_steps.specs.declared.machine.Held.TheVariants as has
 use Rattle.ucl_steps.specs.Running.{state_of}
-use Rattle.ucl_steps.proofs.Reachable.{call_below, wanted_word, reporter_wants}
+use Rattle.ucl_steps.proofs.Reachable.{call_below, wanted_word}
 use Rattle.ucl_steps.proofs.machine.Machine.look.Goals as goal
-
-pub returns-in_default-caller : goal.returns-in_default-caller
-returns-in_default-caller c =
-    let is : c.held-held.result ≡ Some (has.Wanting c.in-Some-Wanting.call c.in-Some-Wanting.event) = search rules in
-    absurd (reporter_wants (state_of c.args.self.now) c.requires c.args.caller c.held-held.result c.held-held.ensures c.in_default-caller.field-0 c.in-Some-Wanting.call c.in-Some-Wanting.event c.in_default-caller.is is)
 
 pub next_word-requires : goal.next_word-requires
 next_word-requires c =

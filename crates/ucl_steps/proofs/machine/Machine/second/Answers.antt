@@ -1,7 +1,10 @@
-use Rattle.std.proofs.Common.{◌≡◌, Some, arith, refl, rules}
+use Rattle.std.proofs.Common.{◌≡◌, Some, refl, sym, ap, ◌∙◌, arith, rules}
+use Rattle.ucl_board.specs.declared.reading.Reading.{Reading}
+use Rattle.ucl_steps.specs.declared.trace.Reply.TheVariants.{Copied}
+use Rattle.ucl_steps.specs.Machine.{after_reply}
 use Rattle.ucl_steps.specs.declared.machine.Held.TheVariants as has
 use Rattle.ucl_steps.specs.Running.{state_of}
-use Rattle.ucl_steps.proofs.Reachable.{call_below, checked_few, collected_words}
+use Rattle.ucl_steps.proofs.Reachable.{call_below, checked_few, collected_words, clean_step}
 use Rattle.ucl_steps.proofs.machine.Machine.second.Goals as goal
 
 pub offset_bounds-self-checked : goal.offset_bounds-self-checked
@@ -38,3 +41,9 @@ pub reading_of-reading-requires : goal.reading_of-reading-requires
 reading_of-reading-requires c =
     let is : c.held-held.result ≡ Some (has.Checking c.in-Some-Checking.call c.in-Some-Checking.words c.in-Some-Checking.checked c.in-Some-Checking.point) = search rules in
     collected_words (state_of c.args.self.now) c.requires c.args.caller c.held-held.result c.held-held.ensures c.in-Some-Checking.call c.in-Some-Checking.words c.in-Some-Checking.checked c.in-Some-Checking.point is
+
+pub returns-then-checked-eq11 : goal.returns-then-checked-eq11
+returns-then-checked-eq11 c =
+    let is : c.held-held.result ≡ Some (has.Checking c.in-Some-Checking.call c.in-Some-Checking.words c.in-Some-Checking.checked c.in-Some-Checking.point) = search rules in
+    clean_step (state_of c.args.self.now) c.requires c.args.caller c.held-held.result c.held-held.ensures c.in-Some-Checking.call c.in-Some-Checking.words c.in-Some-Checking.checked c.in-Some-Checking.point is c.if-self-checked.false c.if-checked-eq11.true
+    ∙ ap Some (sym (c.reply.ensures ∙ ap (λ (r : Reading). after_reply c.args.caller c.in-Some-Checking.call c.in-Some-Checking.point (Copied r) (state_of c.args.self.now)) c.reading_of-reading.ensures))

@@ -1,0 +1,239 @@
+-- One step of the machine on a match word: the word that it finds, what comes of it, the access that it leaves, and what it leaves as it was.
+use Rattle.std.proofs.Common.{◌≡◌, ◌≢◌, ℕ, zero, suc, ◌+◌, ◌-◌, ◌<◌, ◌≤◌, ◌==◌, ◌&&◌, nat_le, Bool, true, false, cond, List, [], ◌∷◌, ◌++◌, length, map, replicate, Option, Some, None, Result, Ok, Err, inl, inr, refl, sym, ap, ◌∙◌, arith, append_assoc, append-nil, length-append, eq-eqb, ne_eqb}
+use Rattle.std.specs.Prelude.{slice_get, slice_index, IsSome, is_some, is_ok, filter}
+use Rattle.std.specs.Option.{option_and_then}
+use Rattle.std.proofs.lemmas.Option.{same_Some, option_and_then_some}
+use Rattle.std.proofs.lemmas.Bool.{false≢true, cases_eq, le-leb, leb-true}
+use Rattle.std.proofs.lemmas.List.Elements.{filter-append}
+use Rattle.ucl_word.specs.declared.event.EventCall.{EventCall}
+use Rattle.ucl_word.specs.declared.event.Accepted as word
+use Rattle.ucl_word.specs.declared.refusal.Refusal.{Refusal}
+use Rattle.ucl_word.specs.Rules.{answer}
+use Rattle.ucl_word.specs.Layout.{word_of}
+use Rattle.ucl_board.specs.Fixtures.{IsMatch}
+use Rattle.ucl_board.specs.Words.{word_at}
+use Rattle.ucl_board.specs.History.{match_after, board_of}
+use Rattle.ucl_board.proofs.Histories.{word_after}
+use Rattle.ucl_board.specs.Log as log
+use Rattle.ucl_board.specs.Log.{AccessKind, Access, access}
+use Rattle.ucl_steps.specs.declared.step.Cast.{Cast}
+use Rattle.ucl_steps.specs.declared.step.Caller.{Caller}
+use Rattle.ucl_steps.specs.declared.step.Caller.TheVariants.{Reporter, Reader}
+use Rattle.ucl_steps.specs.declared.step.Call.{Call}
+use Rattle.ucl_steps.specs.declared.step.Call.TheVariants.{Event, Reading}
+use Rattle.ucl_steps.specs.declared.step.Step.{Step}
+use Rattle.ucl_steps.specs.declared.step.Step.TheVariants.{Look, Swap, First, Second}
+use Rattle.ucl_steps.specs.declared.trace.CallRecord.{CallRecord}
+use Rattle.ucl_steps.specs.Protocol.{Holding, Collecting, Checking, Outcome, GoesOn, Answers, looked, swapped, loaded, compared, MayAsk}
+use Rattle.ucl_steps.specs.Machine.{Holds, Idle, Wanting, Within, Answered, MachineState, initial_state, held_by, with_reply, may_begin, after_outcome, stored, after_step_holding, caller_of, after_step, after_steps}
+use Rattle.ucl_steps.specs.Trails.{Does}
+use Rattle.ucl_steps.specs.CallRuns.{step_of, access_in, accesses_holding, accesses_of_step, IsInCast}
+use Rattle.ucl_steps.specs.PassRuns.{caller_for, IsOf, is_of, callers_of}
+use Rattle.ucl_steps.proofs.ChangedLists.{change_at_else, length-change_at, map_unseen}
+use Rattle.ucl_steps.proofs.Callers.{held_else}
+
+-- steps one after another
+
+pub steps_on : (s : Step) (steps : List Step) (w v u : MachineState) → after_step w s ≡ Some v → after_steps steps v ≡ Some u → after_steps (s ∷ steps) w ≡ Some u
+steps_on s steps w v u one rest = ap (option_and_then (after_steps steps)) one ∙ rest
+
+pub steps_append : (xs ys : List Step) (w v : MachineState) → after_steps xs w ≡ Some v → after_steps (xs ++ ys) w ≡ after_steps ys v
+steps_append [] ys w v e = ap (after_steps ys) (same_Some w v e)
+steps_append (s ∷ xs) ys w v e = option_and_then_some (after_steps xs) (after_step w s) v e (λ u is rest. ap (option_and_then (after_steps (xs ++ ys))) is ∙ steps_append xs ys u v rest)
+
+-- before any step all callers are idle
+
+idle_in : (n k : ℕ) → k < n → slice_get (replicate n Idle) k ≡ Some Idle
+idle_in zero k l = absurd (omega arith)
+idle_in (suc n) zero l = refl
+idle_in (suc n) (suc k) l = idle_in n k (omega arith)
+
+pub idle_at_start : (cast : Cast) (c : Caller) → IsInCast cast c → held_by (initial_state cast).callers c ≡ Some Idle
+idle_at_start cast (Reporter zero) inside = let low = inside.0 in absurd (omega arith)
+idle_at_start cast (Reporter (suc k)) inside = let high = inside.1 in idle_in cast.reporters k (omega arith)
+idle_at_start cast (Reader zero) inside = let low = inside.0 in absurd (omega arith)
+idle_at_start cast (Reader (suc k)) inside = let high = inside.1 in idle_in cast.readers k (omega arith)
+
+-- who may begin what
+
+pub and_true : (a b : Bool) → a ≡ true → b ≡ true → (a && b) ≡ true
+and_true a b p q = ap (λ (z : Bool). z && b) p ∙ q
+
+pub may_ask_begin : (seat number : ℕ) (call : Call) → MayAsk number call → may_begin (caller_for seat number call) call ≡ true
+may_ask_begin seat number (Event e) may =
+    and_true (nat_le 1 e.game) (nat_le e.game 12 && nat_le number 255) (le-leb 1 e.game may.1.0) (and_true (nat_le e.game 12) (nat_le number 255) (le-leb e.game 12 may.1.1) (le-leb number 255 may.0.1))
+may_ask_begin seat number Reading may = refl
+
+-- a call that has just begun
+abbrev pub began : Caller → Call → ℕ → CallRecord
+began c call begun = record { caller = c; call = call; begun = begun; point = None; reply = None; ended = None }
+
+-- a number that the rules answer
+pub none_of : (n : ℕ) (o : Option Refusal) (reply : word.Accepted) → answer n o ≡ Ok reply → (o ≡ None) × (reply ≡ record { number = n + 1 })
+none_of n None reply e = (refl, sym (ap got e))
+  where
+    got : Result word.Accepted Refusal → word.Accepted
+    got (Ok x) = x
+    got (Err r) = reply
+none_of n (Some r) reply e = absurd (false≢true (ap is_ok e))
+
+-- what a step finds, and the access that it leaves
+
+-- the access of a step that comes next: it is at the whole history, whose word it found
+pub record IsNow (w : MachineState) (m : Access) : Type 0 where
+  pub place : m.at ≡ length w.history
+  pub found : m.found ≡ word_of (match_after w.history m.game)
+
+pub caller_of_kind : (c : Caller) (kind : AccessKind) → caller_of (step_of c kind) ≡ c
+caller_of_kind c log.Look = refl
+caller_of_kind c log.Swap = refl
+caller_of_kind c log.First = refl
+caller_of_kind c log.Second = refl
+
+access_same : (m : Access) (kind : AccessKind) (game found at : ℕ) → m.kind ≡ kind → m.game ≡ game → found ≡ m.found → at ≡ m.at → access kind game found at ≡ m
+access_same m kind game found at a g f p = ap (λ (z : AccessKind). access z game found at) (sym a) ∙ (ap (λ (z : ℕ). access m.kind z found at) (sym g) ∙ (ap (λ (z : ℕ). access m.kind m.game z at) f ∙ ap (λ (z : ℕ). access m.kind m.game m.found z) p))
+
+-- the step of an access was taken, and left it
+pub record Made (c : Caller) (w : MachineState) (m : Access) (w' : MachineState) : Type 0 where
+  pub done : after_step w (step_of c m.kind) ≡ Some w'
+  pub left : accesses_of_step (step_of c m.kind) w ≡ m ∷ []
+
+module _ (w : MachineState) (m : Access) (words : w.words ≡ board_of w.history) (now : IsNow w m) where
+  found_at : (game : ℕ) → m.game ≡ game → IsMatch game → word_at w.words game ≡ m.found
+  found_at game is match =
+      ap (λ (ws : List ℕ). word_at ws game) words ∙ (word_after w.history game match ∙ (ap (λ (g : ℕ). word_of (match_after w.history g)) (sym is) ∙ sym now.found))
+
+  -- the same of a word by its place
+  found_in : (k : ℕ) → m.game ≡ k + 1 → k < 12 → slice_index w.words k ≡ m.found
+  found_in k is few = let same : k ≡ k + 1 - 1 = omega arith in ap (slice_index w.words) same ∙ found_at (k + 1) is (omega arith, omega arith)
+
+  made : (c : Caller) (x : Holds) (s : Step) (kind : AccessKind) (game : ℕ) (w' : MachineState) → held_by w.callers c ≡ Some x → caller_of s ≡ c → s ≡ step_of c kind → Does kind game m → IsMatch game
+      → accesses_holding s (Some x) w ≡ access_in w kind game ∷ [] → after_step_holding s (Some x) w ≡ Some w' → Made c w m w'
+  made c x s kind game w' held by step_is does match leaves done =
+      let same : s ≡ step_of c m.kind = step_is ∙ ap (step_of c) (sym does.0) in
+      record {
+        done = ap (after_step w) (sym same) ∙ (ap (λ (z : Caller). after_step_holding s (held_by w.callers z) w) by ∙ (ap (λ (o : Option Holds). after_step_holding s o w) held ∙ done));
+        left = ap (λ (z : Step). accesses_of_step z w) (sym same) ∙ (ap (λ (z : Caller). accesses_holding s (held_by w.callers z) w) by ∙ (ap (λ (o : Option Holds). accesses_holding s o w) held ∙ (leaves
+            ∙ ap (λ (z : Access). z ∷ []) (access_same m kind game (word_at w.words game) (length w.history) does.0 does.1 (found_at game does.1 match) (sym now.place)))));
+      }
+
+  pub made_look : (r k : ℕ) (e : EventCall) → held_by w.callers (Reporter r) ≡ Some (Wanting k e) → IsMatch e.game → Does log.Look e.game m → Made (Reporter r) w m (after_outcome (Reporter r) k (length w.history) (looked r e m.found) w)
+  made_look r k e held match does =
+      made (Reporter r) (Wanting k e) (Look (Reporter r)) log.Look e.game (after_outcome (Reporter r) k (length w.history) (looked r e m.found) w) held refl refl does match refl
+      (ap (λ (z : ℕ). Some (after_outcome (Reporter r) k (length w.history) (looked r e z) w)) (found_at e.game does.1 match))
+
+  pub made_swap : (r k : ℕ) (e : EventCall) (old new : ℕ) → held_by w.callers (Reporter r) ≡ Some (Within k (Holding e old new)) → IsMatch e.game → Does log.Swap e.game m
+      → Made (Reporter r) w m (after_outcome (Reporter r) k (length w.history) (swapped old m.found) (cond (m.found == old) (stored r e new w) w))
+  made_swap r k e old new held match does =
+      made (Reporter r) (Within k (Holding e old new)) (Swap (Reporter r)) log.Swap e.game (after_outcome (Reporter r) k (length w.history) (swapped old m.found) (cond (m.found == old) (stored r e new w) w)) held refl refl does match refl
+      (ap (λ (z : ℕ). Some (after_outcome (Reporter r) k (length w.history) (swapped old z) (cond (z == old) (stored r e new w) w))) (found_at e.game does.1 match))
+
+  pub made_first : (c : Caller) (k : ℕ) (ws : List ℕ) → held_by w.callers c ≡ Some (Within k (Collecting ws)) → length ws < 12 → Does log.First (length ws + 1) m
+      → Made c w m (after_outcome c k (length w.history) (loaded ws m.found (length w.history)) w)
+  made_first c k ws held few does =
+      made c (Within k (Collecting ws)) (First c) log.First (length ws + 1) (after_outcome c k (length w.history) (loaded ws m.found (length w.history)) w) held refl refl does (omega arith, omega arith) refl
+      (ap (λ (z : ℕ). Some (after_outcome c k (length w.history) (loaded ws z (length w.history)) w)) (found_in (length ws) does.1 few))
+
+  pub made_second : (c : Caller) (k : ℕ) (ws : List ℕ) (checked point : ℕ) → held_by w.callers c ≡ Some (Within k (Checking ws checked point)) → checked < 12 → Does log.Second (checked + 1) m
+      → Made c w m (after_outcome c k point (compared ws checked point m.found) w)
+  made_second c k ws checked point held few does =
+      made c (Within k (Checking ws checked point)) (Second c) log.Second (checked + 1) (after_outcome c k point (compared ws checked point m.found) w) held refl refl does (omega arith, omega arith) refl
+      (ap (λ (z : ℕ). Some (after_outcome c k point (compared ws checked point z) w)) (found_in checked does.1 few))
+
+-- what a step leaves as it was
+
+-- a step of a caller leaves what the others hold, and all calls but its own
+pub record Frame (c : Caller) (k : ℕ) (w w' : MachineState) : Type 0 where
+  pub holds : (d : Caller) → d ≢ c → held_by w'.callers d ≡ held_by w.callers d
+  pub calls : (i : ℕ) (a : CallRecord) → i ≢ k → slice_get w.calls i ≡ Some a → slice_get w'.calls i ≡ Some a
+  pub count : length w.calls ≤ length w'.calls
+  pub callers : callers_of w' ≡ callers_of w
+
+pub frame_outcome : (c : Caller) (k : ℕ) (x : Holds) (w v : MachineState) (point : ℕ) (o : Outcome) → held_by w.callers c ≡ Some x → v.callers ≡ w.callers → v.calls ≡ w.calls → Frame c k w (after_outcome c k point o v)
+frame_outcome c k x w v point (GoesOn held) holds callers calls = record {
+  holds = λ d not. held_else v.callers c d (Within k held) x (ap (λ z. held_by z c) callers ∙ holds) not ∙ ap (λ z. held_by z d) callers;
+  calls = λ i a not at. ap (λ z. slice_get z i) calls ∙ at;
+  count = omega (arith, ap length calls);
+  callers = ap (map (λ (z : CallRecord). z.caller)) calls;
+}
+frame_outcome c k x w v point (Answers reply) holds callers calls = record {
+  holds = λ d not. held_else v.callers c d (Answered k) x (ap (λ z. held_by z c) callers ∙ holds) not ∙ ap (λ z. held_by z d) callers;
+  calls = λ i a not at. change_at_else k (with_reply point reply) v.calls i a not (ap (λ z. slice_get z i) calls ∙ at);
+  count = omega (arith, length-change_at k (with_reply point reply) v.calls, ap length calls);
+  callers = map_unseen (λ (z : CallRecord). z.caller) k (with_reply point reply) (λ z. refl) v.calls ∙ ap (map (λ (z : CallRecord). z.caller)) calls;
+}
+
+-- steps of a caller leave what the others hold, their calls, and what has ended
+pub record Passes (c : Caller) (w w' : MachineState) : Type 0 where
+  pub holds : (d : Caller) → d ≢ c → held_by w'.callers d ≡ held_by w.callers d
+  pub calls : (i : ℕ) (a : CallRecord) → a.caller ≢ c → slice_get w.calls i ≡ Some a → slice_get w'.calls i ≡ Some a
+  pub ended : (i : ℕ) (a : CallRecord) → IsSome a.ended → slice_get w.calls i ≡ Some a → slice_get w'.calls i ≡ Some a
+  pub count : length w.calls ≤ length w'.calls
+  pub new : ℕ
+  pub callers : callers_of w' ≡ callers_of w ++ replicate new c
+
+replicate_on : {X : Type 0} (n m : ℕ) (x : X) → replicate n x ++ replicate m x ≡ replicate (n + m) x
+replicate_on zero m x = let e : 0 + m ≡ m = omega arith in sym (ap (λ k. replicate k x) e)
+replicate_on (suc n) m x = let e : suc n + m ≡ suc (n + m) = omega arith in ap (λ l. x ∷ l) (replicate_on n m x) ∙ sym (ap (λ k. replicate k x) e)
+
+pub passes_on : (c : Caller) (w v u : MachineState) → Passes c w v → Passes c v u → Passes c w u
+passes_on c w v u p q =
+    let a = p.count in
+    let b = q.count in
+    record {
+      holds = λ d not. q.holds d not ∙ p.holds d not;
+      calls = λ i a not at. q.calls i a not (p.calls i a not at);
+      ended = λ i a some at. q.ended i a some (p.ended i a some at);
+      count = omega arith;
+      new = p.new + q.new;
+      callers = q.callers ∙ (ap (λ (l : List Caller). l ++ replicate q.new c) p.callers ∙ (append_assoc (callers_of w) (replicate p.new c) (replicate q.new c) ∙ ap (λ (l : List Caller). callers_of w ++ l) (replicate_on p.new q.new c)));
+    }
+
+pub passes_frame : (c : Caller) (k : ℕ) (w w' : MachineState) (b : CallRecord) → Frame c k w w' → slice_get w.calls k ≡ Some b → b.caller ≡ c → b.ended ≡ None → Passes c w w'
+passes_frame c k w w' b frame at own unended = record {
+  holds = frame.holds;
+  calls = λ i a not at_i. frame.calls i a (λ is. not (ap (λ (z : CallRecord). z.caller) (same_Some a b (sym at_i ∙ (ap (slice_get w.calls) is ∙ at))) ∙ own)) at_i;
+  ended = λ i a some at_i. frame.calls i a (λ is. false≢true (sym (ap is_some (ap (λ (z : CallRecord). z.ended) (same_Some a b (sym at_i ∙ (ap (slice_get w.calls) is ∙ at))) ∙ unended)) ∙ some)) at_i;
+  count = frame.count;
+  new = 0;
+  callers = frame.callers ∙ sym (append-nil (callers_of w));
+}
+
+-- whose calls they are
+
+pub not_of : (seat number : ℕ) (c : Caller) → ((d : Caller) → IsOf seat number d → d ≢ c) → is_of seat number c ≡ false
+not_of seat number (Reader k) apart = ne_eqb k (seat + 1) (λ is. apart (Reader k) (inl (ap Reader is)) refl)
+not_of seat number (Reporter k) apart = elim (cases_eq k number) [
+  | inr not ↦ ap (λ (b : Bool). b && (nat_le 1 number && nat_le number 255)) (ne_eqb k number not)
+  | inl is ↦ ap (λ (b : Bool). b && (nat_le 1 number && nat_le number 255)) (eq-eqb k number is) ∙ by_reporter is (nat_le 1 number) (nat_le number 255) refl refl
+]
+  where
+    by_reporter : k ≡ number → (a b : Bool) → nat_le 1 number ≡ a → nat_le number 255 ≡ b → (nat_le 1 number && nat_le number 255) ≡ false
+    by_reporter is false b p q = ap (λ (z : Bool). z && nat_le number 255) p
+    by_reporter is true false p q = ap (λ (z : Bool). z && nat_le number 255) p ∙ q
+    by_reporter is true true p q = absurd (apart (Reporter k) (inr (ap Reporter is, (leb-true 1 number p, leb-true number 255 q))) refl)
+
+pub own_caller : (seat number : ℕ) (call : Call) → MayAsk number call → is_of seat number (caller_for seat number call) ≡ true
+own_caller seat number (Event e) may = and_true (number == number) (nat_le 1 number && nat_le number 255) (eq-eqb number number refl) (and_true (nat_le 1 number) (nat_le number 255) (le-leb 1 number may.0.0) (le-leb number 255 may.0.1))
+own_caller seat number Reading may = eq-eqb (seat + 1) (seat + 1) refl
+
+abbrev pub calls_by : ℕ → ℕ → List Caller → ℕ
+calls_by seat number cs = length (filter (is_of seat number) cs)
+
+calls_append : (seat number : ℕ) (xs ys : List Caller) → calls_by seat number (xs ++ ys) ≡ calls_by seat number xs + calls_by seat number ys
+calls_append seat number xs ys = ap length (filter-append (is_of seat number) xs ys) ∙ length-append (filter (is_of seat number) xs) (filter (is_of seat number) ys)
+
+none_new : (seat number : ℕ) (c : Caller) → is_of seat number c ≡ false → (n : ℕ) → calls_by seat number (replicate n c) ≡ 0
+none_new seat number c not zero = refl
+none_new seat number c not (suc n) = ap (λ (b : Bool). length (cond b (c ∷ filter (is_of seat number) (replicate n c)) (filter (is_of seat number) (replicate n c)))) not ∙ none_new seat number c not n
+
+-- a caller of another pass adds none
+pub calls_else : (seat number : ℕ) (c : Caller) (w w' : MachineState) → ((d : Caller) → IsOf seat number d → d ≢ c) → Passes c w w' → calls_by seat number (callers_of w') ≡ calls_by seat number (callers_of w)
+calls_else seat number c w w' apart passes =
+    let none = none_new seat number c (not_of seat number c apart) passes.new in
+    let both = calls_append seat number (callers_of w) (replicate passes.new c) in
+    ap (calls_by seat number) passes.callers ∙ omega arith
+
+-- one of its own adds one
+pub calls_one : (seat number : ℕ) (c : Caller) (xs : List Caller) → is_of seat number c ≡ true → calls_by seat number (xs ++ c ∷ []) ≡ calls_by seat number xs + 1
+calls_one seat number c xs is = calls_append seat number xs (c ∷ []) ∙ ap (λ (b : Bool). calls_by seat number xs + length (cond b (c ∷ []) [])) is
