@@ -47,7 +47,8 @@ pub record EndsAt (steps : List Step) (p i : ℕ) (c : Caller) : Type 0 where
 abbrev pub EndedBySteps : List Step → List CallRecord → Type 0
 EndedBySteps steps calls = (i : ℕ) → IfSome (slice_get calls i) (λ c. IsSome c.ended ↔ ((p : ℕ) × EndsAt steps p i c.caller))
 
--- A call that has ended has a reply. A call has a linearization point where it has a reply: k says that it is after the first k entries, not before the call's beginning and not after its end.
+-- A call that has ended has a reply. A call has a linearization point where it has a reply: k says that it is
+-- after the first k entries, not before the call's beginning and not after its end.
 pub record PointWithinCall (history : List Entry) (c : CallRecord) : Type 0 where
   pub replied : IsSome c.ended → IsSome c.reply
   pub pointed : IsSome c.point ↔ IsSome c.reply
@@ -116,7 +117,8 @@ VersionsRise calls =
     a.caller ≡ b.caller → IfSome (version_read a.reply) (λ v. IfSome (version_read b.reply) (λ w. v ≤ w))))
 
 -- The calls are those that the steps begin, and the ended calls those that the steps end.
--- One history of the board of one thread holds each finished call once, with the reply that it got, between its beginning and its end.
+-- One history of the board of one thread holds each finished call once, with the reply that it got, between its
+-- beginning and its end.
 pub record IsLinearizable (steps : List Step) (history : List Entry) (calls : List CallRecord) : Type 0 where
   pub calls_begun : map caller_and_call calls ≡ begun_in steps
   pub calls_ended : EndedBySteps steps calls

@@ -32,7 +32,8 @@ pub record Callers : Type 0 where
   pub reporters : List Holds
   pub readers : List Holds
 
--- the machine between two steps: the twelve match words, the entries of the accepted events, oldest first, the calls in the order of their beginnings, and what each caller holds
+-- the machine between two steps: the twelve match words, the entries of the accepted events, oldest first, the
+-- calls in the order of their beginnings, and what each caller holds
 pub record MachineState : Type 0 where
   pub words : List ℕ
   pub history : List Entry

@@ -1,4 +1,5 @@
--- The passes of a board as callers of the machine: what each has done and what it holds are what the machine's callers have done and hold.
+-- The passes of a board as callers of the machine: what each has done and what it holds are what the machine's
+-- callers have done and hold.
 use Rattle.std.specs.Prelude.{◌≡◌, ◌≢◌, ℕ, ◌+◌, ◌==◌, ◌&&◌, nat_le, ◌<◌, ◌≤◌, ◌⊎◌, Bool, if◌then◌else◌, List, [], ◌∷◌, ◌++◌, map, filter, flat_map, Option, Some, None, length, slice_get}
 use Rattle.ucl_word.specs.Record.{IsReporter}
 use Rattle.ucl_word.specs.Rules.{refusal_of, after}
@@ -17,7 +18,8 @@ use Rattle.ucl_steps.specs.CallRuns.{step_of, accesses_of_step}
 use Rattle.ucl_board.specs.Log.{AccessKind, Access}
 use Rattle.ucl_steps.specs.Protocol.{Held, Nothing, Holding, Collecting, Checking, Answer, Doing, MayAsk}
 
--- A pass is two callers of the machine: the reader of its seat, seats being counted from 0, by its readings, and the reporter of its number (0 for none) by its events.
+-- A pass is two callers of the machine: the reader of its seat, seats being counted from 0, by its readings, and
+-- the reporter of its number (0 for none) by its events.
 abbrev pub caller_for : ℕ → ℕ → Call → Caller
 caller_for seat number (Event e) = Reporter number
 caller_for seat number Reading = Reader (seat + 1)
@@ -96,7 +98,8 @@ pub record FitsRun (state : MachineState) (seat number : ℕ) (d : Doing) : Type
   -- and no more: they have as many calls as it has, the one under way among them
   pub whole : length (filter (is_of seat number) (callers_of state)) ≡ length d.calls + pending d.held
 
--- one access of a caller, with the beginning of its call just before it where it is the first, and the end just after it where it is the last
+-- one access of a caller, with the beginning of its call just before it where it is the first, and the end just
+-- after it where it is the last
 pub record Move : Type 0 where
   pub caller : Caller
   pub begins : Option Call

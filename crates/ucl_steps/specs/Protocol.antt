@@ -9,7 +9,8 @@ use Rattle.ucl_word.specs.Record.{IsReporter}
 use Rattle.ucl_word.specs.Rules.{refusal_of, after}
 use Rattle.ucl_word.specs.Layout.{word_of, record_at}
 use Rattle.ucl_board.specs.Fixtures.{IsMatch}
-use Rattle.ucl_board.specs.Log.{AccessKind, Look, Swap, First, Second}
+use Rattle.ucl_board.specs.declared.entry.Entry.{Entry}
+use Rattle.ucl_board.specs.Log.{AccessKind, Look, Swap, First, Second, Target, Match, Taken, entry_list}
 use Rattle.ucl_steps.specs.declared.step.Call.{Call}
 use Rattle.ucl_steps.specs.declared.step.Call.TheVariants.{Event, Reading}
 use Rattle.ucl_steps.specs.declared.trace.Reply.{Reply}
@@ -134,6 +135,22 @@ seconds_holding _ found now d = d
 
 abbrev pub after_second : ℕ → ℕ → Doing → Doing
 after_second found now d = seconds_holding d.held found now d
+
+-- what a step of this call leaves as done; a step on no match word leaves all as it was
+abbrev pub after_target : ℕ → Call → Target → ℕ → Doing → Doing
+after_target number (Event e) (Match Look game found) now d = after_look number e found now d
+after_target number call (Match Swap game found) now d = after_swap found now d
+after_target number call (Match First game found) now d = after_first found now d
+after_target number call (Match Second game found) now d = after_second found now d
+after_target number call target now d = d
+
+abbrev pub after_taken : ℕ → Call → Taken → Doing → Doing
+after_taken number call x d = after_target number call x.target (x.at + length (entry_list x.entry)) d
+
+-- the steps of a call, one after another
+abbrev pub along : ℕ → Call → List Taken → Doing → Doing
+along number call [] d = d
+along number call (x ∷ steps) d = along number call steps (after_taken number call x d)
 
 -- only a reporter enters events, of matches that there are
 abbrev pub MayAsk : ℕ → Call → Type 0

@@ -35,7 +35,8 @@ pub record LookRefused (call : EventCall) (refusal : Refusal) (ms : List Access)
   pub answer : reply_of (record_at looked.found) call ≡ Err refusal
   pub last : looked.at ≡ now
 
--- a Look, on whose word the rules accept, and a Swap that found another word: the reply is stale, with the number of the word that the Swap found
+-- a Look, on whose word the rules accept, and a Swap that found another word: the reply is stale, with the number
+-- of the word that the Swap found
 pub record SwapMissed (call : EventCall) (refusal : Refusal) (ms : List Access) (now : ℕ) : Type 0 where
   pub looked : Access
   pub swapped : Access
@@ -46,7 +47,8 @@ pub record SwapMissed (call : EventCall) (refusal : Refusal) (ms : List Access) 
   pub answer : refusal ≡ Stale (record_at swapped.found).number
   pub last : swapped.at ≡ now
 
--- a Look, on whose word the rules accept, and a Swap that found the same word: the event is accepted, and its entry is the last that was seen
+-- a Look, on whose word the rules accept, and a Swap that found the same word: the event is accepted, and its
+-- entry is the last that was seen
 pub record SwapWon (call : EventCall) (reply : Accepted) (ms : List Access) (now : ℕ) : Type 0 where
   pub looked : Access
   pub swapped : Access
@@ -67,7 +69,8 @@ decided_at (Err refusal) now = now
 
 -- a reading's accesses
 
--- the most tries of a reading: each that is not clean has seen a longer history, and no history is longer than the greatest version
+-- the most tries of a reading: each that is not clean has seen a longer history, and no history is longer than the
+-- greatest version
 abbrev pub most_tries : ℕ
 most_tries = greatest_version + 1
 
@@ -99,7 +102,8 @@ pub record IsUnclean (ms : List Access) : Type 0 where
   pub collected : IsCollect First words firsts
   pub broken : IsBroken words seconds
 
--- a try with twelve equal Seconds: the board is that of the words of its Firsts, and the version is the place of the twelfth First
+-- a try with twelve equal Seconds: the board is that of the words of its Firsts, and the version is the place of
+-- the twelfth First
 pub record IsClean (reading : Reading) (ms : List Access) : Type 0 where
   pub firsts : List Access
   pub seconds : List Access

@@ -26,7 +26,9 @@ use Rattle.ucl_shared.proofs.Moves.{logged, look, looked, same_history, look_kee
 use Rattle.ucl_shared.proofs.Moves as moves
 use Rattle.ucl_steps.specs.declared.step.Caller.{Caller}
 use Rattle.ucl_steps.specs.declared.step.Caller.TheVariants.{Reporter, Reader}
-use Rattle.ucl_steps.specs.Machine.{Idle, initial_state, held_by}
+use Rattle.ucl_steps.specs.declared.step.Cast.{Cast}
+use Rattle.ucl_steps.specs.declared.step.Step as machine
+use Rattle.ucl_steps.specs.Machine.{Idle, initial_state, held_by, MachineState, after_steps}
 use Rattle.ucl_steps.specs.Protocol.{Nothing, Doing, nothing_done, IsNext, after_look, after_swap, after_first, after_second}
 use Rattle.ucl_steps.specs.PassRuns.{cast_for, IsOf, FitsRun}
 use Rattle.ucl_steps.proofs.OneStep.{idle_at_start, IsNow}
@@ -35,7 +37,7 @@ use Rattle.ucl_words.specs.declared.view.WordView.{WordView}
 use Rattle.ucl_words.specs.WordViews.{new_pass, first_pass, left_pass, second_pass, note_pass, told_pass}
 use Rattle.ucl_words.specs.WordDoings.{IsHoldingFor}
 use Rattle.ucl_words.specs.WordRule.{words_after, known, accesses_of_log, IsOfSome, IsOneRun, TableKeepsOneHistory, Stands}
-use Rattle.ucl_words.specs.WordSteps.{version_shown, ExchangeWon, IsNextWord, LookStep, FirstStep, SecondStep, LastLoadStep, EnlistedStep, ExchangeStep, EnlistStep}
+use Rattle.ucl_words.specs.WordSteps.{LoadsMatch, version_shown, ExchangeWon, IsNextWord, LookStep, FirstStep, SecondStep, LastLoadStep, EnlistedStep, ExchangeStep, EnlistStep}
 use Rattle.ucl_words.proofs.OneRun.{known_at, known_set, known_more, place_below, Apart, run_stepped, run_kept, run_enlisted, run_more, logged_accesses}
 
 abbrev Position : Type 0
@@ -153,86 +155,55 @@ module _ (s : Position) (r : TableKeepsOneHistory s) (seat : ℕ) (v : WordView)
 stands_after : (s : Position) (i n seat : ℕ) (cs : List (ℕ × Entry)) (v w : WordView) → get_elem? s.views seat ≡ some v → TableKeepsOneHistory (stepped s i n seat cs w keeps) → (place : ℕ) → place ≡ seat → Stands place w
 stands_after s i n seat cs v w here rule place is = record { state = stepped s i n seat cs w keeps; rule = rule; here = ap (get_elem? (set s.views seat w)) is ∙ set_here s.views seat w (place_below s.views seat v here) }
 
-pub looks : (slots seat game place : ℕ) (m : Me Entry WordView) (e : EventCall) → place ≡ seat → IsSome m.0.pass.share → IsMatch game → e.game ≡ game → IsReporter m.0.pass.number → m.0.doing.held ≡ Nothing → Allows TableKeepsOneHistory slots seat m game (λ n. n) (LookStep place e (step slots game 0 0 none) m)
-looks slots seat game place m e is_seat acts is of reporter nothing s r _ here _ =
+-- a load of a match word keeps the rule, whichever turn of the machine it is
+loads_by : (slots seat game : ℕ) (m : Me Entry WordView) (kind : AccessKind) (doing : ℕ → ℕ → Doing) (shown : ℕ → List ℕ) → IsSome m.0.pass.share → IsMatch game
+    → ((cast : Cast) (steps : List machine.Step) (w : MachineState) → after_steps steps (initial_state cast) ≡ Some w → FitsRun w seat m.0.pass.number m.0.doing → (a : Access) → IsNow w a → a.kind ≡ kind → a.game ≡ game
+        → (c : Caller) × Turn seat m.0.pass.number w c a (doing a.found a.at) [])
+    → (tells : ℕ → Me Entry WordView → Type 0)
+    → ((n : ℕ) (w : View) → LoadsMatch kind game m.0.pass n w → w.shown ≡ shown n → ((place : ℕ) → place ≡ seat → Stands place (record { pass = w; doing = doing n (length w.seen) })) → tells n (record { pass = w; doing = doing n (length w.seen) }, carried_after m.1 keeps))
+    → Allows TableKeepsOneHistory slots seat m game (λ n. n) tells
+loads_by slots seat game m kind doing shown acts is turn tells tell s r _ here _ =
     let v = m.0 in
-    let f = r.shared.fits seat v.pass (known_at s.views seat v here) in
     let n : ℕ = get_or s.words game 0 in
-    let w = after_load s r seat v here acts Look game is v.pass.shown in
-    let doing = after_look v.pass.number e n (length w.seen) v.doing in
-    let kept = load_runs s r seat v here acts Look game is v.pass.shown doing
-    (λ readers one now. (Reporter v.pass.number, turn_look (cast_for readers) seat v.pass.number one.steps one.state one.run v.doing (one.each seat v here) (here_access s r seat v here acts Look game is v.pass.shown) now e (reporter, subst IsMatch (sym of) is) nothing (refl, sym of)))
-    m.1 in (
-      record { pass = w; doing = doing },
-      keeps,
-      tt,
-      kept,
-      record {
-        loads = record { loads = record { sees = look_tells words_after s.words (known s.views) r.shared seat v.pass (known_at s.views seat v here) acts (Match Look game n) (there_now s r Look game is) v.pass.listed v.pass.shown f.listed; listed = refl }; shown = refl };
-        doing = refl;
-        stands = stands_after s game n seat m.1 v (record { pass = w; doing = doing }) here kept place is_seat;
-      },
-    )
+    let f = r.shared.fits seat v.pass (known_at s.views seat v here) in
+    let w = after_load s r seat v here acts kind game is (shown n) in
+    let then : WordView = record { pass = w; doing = doing n (length w.seen) } in
+    let kept = load_runs s r seat v here acts kind game is (shown n) (doing n (length w.seen))
+    (λ readers one now. turn (cast_for readers) one.steps one.state one.run (one.each seat v here) (here_access s r seat v here acts kind game is (shown n)) now refl refl)
+    m.1 in
+    let loads : LoadsMatch kind game v.pass n w = record { sees = look_tells words_after s.words (known s.views) r.shared seat v.pass (known_at s.views seat v here) acts (Match kind game n) (there_now s r kind game is) v.pass.listed (shown n) f.listed; listed = refl } in
+    (then, keeps, tt, kept, tell n w loads refl (λ place is_seat. stands_after s game n seat m.1 v then here kept place is_seat))
+
+pub looks : (slots seat game place : ℕ) (m : Me Entry WordView) (e : EventCall) → place ≡ seat → IsSome m.0.pass.share → IsMatch game → e.game ≡ game → IsReporter m.0.pass.number → m.0.doing.held ≡ Nothing → Allows TableKeepsOneHistory slots seat m game (λ n. n) (LookStep place e (step slots game 0 0 none) m)
+looks slots seat game place m e is_seat acts is of reporter nothing =
+    let number = m.0.pass.number in
+    loads_by slots seat game m Look (λ n now. after_look number e n now m.0.doing) (λ n. m.0.pass.shown) acts is
+    (λ cast steps w run fits a now kind at. (Reporter number, turn_look cast seat number steps w run m.0.doing fits a now e (reporter, subst IsMatch (sym of) is) nothing (kind, at ∙ sym of)))
+    (LookStep place e (step slots game 0 0 none) m)
+    (λ n w loads shown stands. record { loads = record { loads = loads; shown = shown }; doing = refl; stands = stands place is_seat })
 
 pub firsts : (slots seat game : ℕ) (m : Me Entry WordView) → IsSome m.0.pass.share → IsMatch game → IsNext First game m.0.doing.held → Allows TableKeepsOneHistory slots seat m game (λ n. n) (FirstStep (step slots game 0 0 none) m)
-firsts slots seat game m acts is next s r _ here _ =
-    let v = m.0 in
-    let f = r.shared.fits seat v.pass (known_at s.views seat v here) in
-    let n : ℕ = get_or s.words game 0 in
-    let w = after_load s r seat v here acts First game is v.pass.shown in
-    let doing = after_first n (length w.seen) v.doing in (
-      record { pass = w; doing = doing },
-      keeps,
-      tt,
-      load_runs s r seat v here acts First game is v.pass.shown doing
-          (λ readers one now. (Reader (seat + 1), turn_firsts (cast_for readers) seat v.pass.number one.steps one.state one.run v.doing (one.each seat v here) (here_access s r seat v here acts First game is v.pass.shown) now refl next))
-          m.1,
-      record {
-        loads = record { loads = record { sees = look_tells words_after s.words (known s.views) r.shared seat v.pass (known_at s.views seat v here) acts (Match First game n) (there_now s r First game is) v.pass.listed v.pass.shown f.listed; listed = refl }; shown = refl };
-        doing = refl;
-      },
-    )
+firsts slots seat game m acts is next =
+    loads_by slots seat game m First (λ n now. after_first n now m.0.doing) (λ n. m.0.pass.shown) acts is
+    (λ cast steps w run fits a now kind at. (Reader (seat + 1), turn_firsts cast seat m.0.pass.number steps w run m.0.doing fits a now kind (subst (λ (g : ℕ). IsNext First g m.0.doing.held) (sym at) next)))
+    (FirstStep (step slots game 0 0 none) m)
+    (λ n w loads shown stands. record { loads = record { loads = loads; shown = shown }; doing = refl })
+
+-- the machine's turn of a load of a second collect
+second_turn : (seat game : ℕ) (v : WordView) → IsNext Second game v.doing.held → (cast : Cast) (steps : List machine.Step) (w : MachineState) → after_steps steps (initial_state cast) ≡ Some w → FitsRun w seat v.pass.number v.doing
+    → (a : Access) → IsNow w a → a.kind ≡ Second → a.game ≡ game → (c : Caller) × Turn seat v.pass.number w c a (after_second a.found a.at v.doing) []
+second_turn seat game v next cast steps w run fits a now kind at =
+    (Reader (seat + 1), turn_seconds cast seat v.pass.number steps w run v.doing fits a now kind (subst (λ (g : ℕ). IsNext Second g v.doing.held) (sym at) next))
 
 pub again : (slots seat game : ℕ) (m : Me Entry WordView) → IsSome m.0.pass.share → IsMatch game → IsNext Second game m.0.doing.held → Allows TableKeepsOneHistory slots seat m game (λ n. n) (SecondStep (step slots game 0 0 none) m)
-again slots seat game m acts is next s r _ here _ =
-    let v = m.0 in
-    let f = r.shared.fits seat v.pass (known_at s.views seat v here) in
-    let n : ℕ = get_or s.words game 0 in
-    let w = after_load s r seat v here acts Second game is v.pass.shown in
-    let doing = after_second n (length w.seen) v.doing in (
-      record { pass = w; doing = doing },
-      keeps,
-      tt,
-      load_runs s r seat v here acts Second game is v.pass.shown doing
-          (λ readers one now. (Reader (seat + 1), turn_seconds (cast_for readers) seat v.pass.number one.steps one.state one.run v.doing (one.each seat v here) (here_access s r seat v here acts Second game is v.pass.shown) now refl next))
-          m.1,
-      record {
-        loads = record { loads = record { sees = look_tells words_after s.words (known s.views) r.shared seat v.pass (known_at s.views seat v here) acts (Match Second game n) (there_now s r Second game is) v.pass.listed v.pass.shown f.listed; listed = refl }; shown = refl };
-        doing = refl;
-      },
-    )
+again slots seat game m acts is next =
+    loads_by slots seat game m Second (λ n now. after_second n now m.0.doing) (λ n. m.0.pass.shown) acts is (second_turn seat game m.0 next) (SecondStep (step slots game 0 0 none) m)
+    (λ n w loads shown stands. record { loads = record { loads = loads; shown = shown }; doing = refl })
 
 pub loads_last : (slots seat game place : ℕ) (m : Me Entry WordView) → place ≡ seat → IsSome m.0.pass.share → IsMatch game → IsNext Second game m.0.doing.held → Allows TableKeepsOneHistory slots seat m game (λ n. n) (LastLoadStep place (step slots game 0 0 none) m)
-loads_last slots seat game place m is_seat acts is next s r _ here _ =
-    let v = m.0 in
-    let f = r.shared.fits seat v.pass (known_at s.views seat v here) in
-    let n : ℕ = get_or s.words game 0 in
-    let shown : List ℕ = v.pass.shown ++ version_shown (trail_of v.pass) n in
-    let w = after_load s r seat v here acts Second game is shown in
-    let doing = after_second n (length w.seen) v.doing in
-    let kept = load_runs s r seat v here acts Second game is shown doing
-    (λ readers one now. (Reader (seat + 1), turn_seconds (cast_for readers) seat v.pass.number one.steps one.state one.run v.doing (one.each seat v here) (here_access s r seat v here acts Second game is shown) now refl next))
-    m.1 in (
-      record { pass = w; doing = doing },
-      keeps,
-      tt,
-      kept,
-      record {
-        loads = record { loads = record { sees = look_tells words_after s.words (known s.views) r.shared seat v.pass (known_at s.views seat v here) acts (Match Second game n) (there_now s r Second game is) v.pass.listed shown f.listed; listed = refl }; shown = refl };
-        doing = refl;
-        stands = stands_after s game n seat m.1 v (record { pass = w; doing = doing }) here kept place is_seat;
-      },
-    )
+loads_last slots seat game place m is_seat acts is next =
+    loads_by slots seat game m Second (λ n now. after_second n now m.0.doing) (λ n. m.0.pass.shown ++ version_shown (trail_of m.0.pass) n) acts is (second_turn seat game m.0 next) (LastLoadStep place (step slots game 0 0 none) m)
+    (λ n w loads shown stands. record { loads = record { loads = loads; shown = shown }; doing = refl; stands = stands place is_seat })
 
 pub counts : (slots seat place : ℕ) (m : Me Entry WordView) → place ≡ seat → IsSome m.0.pass.share → Allows TableKeepsOneHistory slots seat m 0 (λ n. n) (EnlistedStep place (step slots 0 0 0 none) m)
 counts slots seat place m is_seat acts s r _ here _ =

@@ -19,8 +19,10 @@ use Rattle.ucl_words.specs.WordSteps.{IsNextWord}
 abbrev pub WordsTellTheEntry : Type 0
 WordsTellTheEntry = (history : List Entry) (e f : Entry) (old new : ℕ) → IsLegal history → e.game ≡ f.game → word_at (board_of history) e.game ≡ old → IsNextWord e old new → IsNextWord f old new → e ≡ f
 
--- the log is one run of the machine, from the fresh board to the history of the log and the words of the table: each of its steps on match words is the machine's step of a caller of its pass;
--- each call begins with its first access and ends with its last; what each pass has done and holds is what its callers have done and hold, and there are no other calls;
+-- the log is one run of the machine, from the fresh board to the history of the log and the words of the table:
+-- each of its steps on match words is the machine's step of a caller of its pass;
+-- each call begins with its first access and ends with its last; what each pass has done and holds is what its
+-- callers have done and hold, and there are no other calls;
 -- and all calls of all passes, those under way among them, are linearizable
 pub record IsRunOfBoard (s : State Entry WordView) (r : TableKeepsOneHistory s) : Type 0 where
   pub steps : List Step

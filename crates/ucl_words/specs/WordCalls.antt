@@ -36,7 +36,8 @@ abbrev pub entry_made : ℕ → EventCall → Result Accepted Refusal → Option
 entry_made number call (Ok reply) = Some (entry_of (number, call))
 entry_made number call (Err refusal) = None
 
--- the steps of a call are on match words alone: each leaves one access, these are between what was seen before and what is seen after, and
+-- the steps of a call are on match words alone: each leaves one access, these are between what was seen before and
+-- what is seen after, and
 -- the last may have added an entry
 pub record LeavesAccesses (v : View) (accesses : List Access) (entry : Option Entry) (w : View) : Type 0 where
   pub takes : Takes v (steps_with entry accesses) w
@@ -59,7 +60,8 @@ pub record ReadingSteps (v : View) (reading : Reading) (w : View) : Type 0 where
   pub collects : ReadingAccesses reading accesses
   pub few : length collects.tries + 1 ≤ most_tries
 
--- exchanges of the number of enlisted reporters, the first of them tried from this number: one that finds another is followed by one that is tried from what it found; one that finds it
+-- exchanges of the number of enlisted reporters, the first of them tried from this number: one that finds another
+-- is followed by one that is tried from what it found; one that finds it
 -- is won, is the last, and gives the number after it; and none is tried where as many are enlisted as there are numbers
 abbrev pub Enlisting : ℕ → List Taken → Option ℕ → Type 0
 Enlisting known [] given = (255 ≤ known) × (given ≡ None)

@@ -6,10 +6,13 @@ use Rattle.ucl_steps.specs.declared.step.Call.TheVariants.{Event, Reading}
 use Rattle.ucl_steps.specs.declared.trace.Reply.{Reply}
 use Rattle.ucl_steps.specs.declared.trace.Reply.TheVariants.{Copied}
 use Rattle.ucl_word.specs.declared.event.EventCall.{EventCall}
-use Rattle.ucl_steps.specs.Protocol.{Held, Nothing, Holding, Collecting, Checking, Doing, goes, ends}
+use Rattle.ucl_steps.specs.Protocol.{Held, Nothing, Holding, Collecting, Checking, Doing, goes, ends, along}
+use Rattle.ucl_board.specs.Log.{Taken}
+use Rattle.ucl_pass.specs.Views.{Takes}
 use Rattle.ucl_words.specs.declared.view.WordView.{WordView}
 
--- a call was answered: it is the last of the finished ones, nothing is held, and it began and ended when there were so many entries: no fewer at its beginning than its pass had seen before the call
+-- a call was answered: it is the last of the finished ones, nothing is held, and it began and ended when there
+-- were so many entries: no fewer at its beginning than its pass had seen before the call
 pub record HasAnswered (seen : ℕ) (d : Doing) (call : Call) (reply : Reply) (now : ℕ) (f : Doing) : Type 0 where
   pub begun : ℕ
   pub after_seen : seen ≤ begun
@@ -17,6 +20,13 @@ pub record HasAnswered (seen : ℕ) (d : Doing) (call : Call) (reply : Reply) (n
 
 abbrev pub AnswersCall : WordView → Call → Reply → WordView → Type 0
 AnswersCall v call reply w = HasAnswered (length v.pass.seen) v.doing call reply (length w.pass.seen) w.doing
+
+-- the steps of a call are the protocol's: what its pass has done is that which they make, one after another, of
+-- what it had done, as steps of this call
+pub record GoesAlong (v : WordView) (call : Call) (w : WordView) : Type 0 where
+  pub steps : List Taken
+  pub takes : Takes v.pass steps w.pass
+  pub does : w.doing ≡ along v.pass.number call steps v.doing
 
 -- a call that reports an event
 abbrev pub reports : Call → Bool
@@ -40,7 +50,8 @@ MayCollect Nothing = Unit {0}
 MayCollect (Collecting words) = words ≡ []
 MayCollect _ = ⊥
 
--- where nothing was held, the call begins with its first step, when there are no fewer entries than had been seen; else it began before
+-- where nothing was held, the call begins with its first step, when there are no fewer entries than had been seen;
+-- else it began before
 abbrev pub IsBegun : Held → ℕ → ℕ → ℕ → Type 0
 IsBegun Nothing seen was begun = seen ≤ begun
 IsBegun _ seen was begun = begun ≡ was

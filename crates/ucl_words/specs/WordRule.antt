@@ -38,8 +38,10 @@ AreStepsOf views (x ∷ xs) (y ∷ ys) = (x.1 ≡ y.1) × ((v : WordView) × (ge
 abbrev pub IsOfSome : List WordView → Caller → Type 0
 IsOfSome views c = (seat : ℕ) × (v : WordView) × (get_elem? views seat ≡ some v) × IsOf seat v.pass.number c
 
--- the log is a run of the machine from the fresh board: each of its steps on match words is the machine's step of a caller of its pass; each pass has done and holds what its callers have done and hold;
--- the run has no calls but those of passes, and callers of no pass are idle; and each call begins with its first access and ends with its last
+-- the log is a run of the machine from the fresh board: each of its steps on match words is the machine's step of
+-- a caller of its pass; each pass has done and holds what its callers have done and hold;
+-- the run has no calls but those of passes, and callers of no pass are idle; and each call begins with its first
+-- access and ends with its last
 pub record IsOneRun (readers enlisted : ℕ) (log : Log) (views : List WordView) : Type 0 where
   pub steps : List Step
   pub state : MachineState
@@ -52,7 +54,8 @@ pub record IsOneRun (readers enlisted : ℕ) (log : Log) (views : List WordView)
   pub unseated : (seat : ℕ) → length views ≤ seat → seat < readers → held_by state.callers (Reader (seat + 1)) ≡ Some Idle
   pub unnumbered : (n : ℕ) → enlisted < n → n ≤ 255 → held_by state.callers (Reporter n) ≡ Some Idle
 
--- the rule of the table: that of every shared board, and that its log is one run of the machine, with as many readers as there are seats, or more
+-- the rule of the table: that of every shared board, and that its log is one run of the machine, with as many
+-- readers as there are seats, or more
 pub record TableKeepsOneHistory (s : State Entry WordView) : Type 0 where
   pub shared : KeepsOneHistory words_after s.words (known s.views)
   pub one_run : (readers : ℕ) → length s.views ≤ readers → IsOneRun readers shared.enlisted shared.log s.views

@@ -80,7 +80,8 @@ pub record EnlistWon (v : View) (n : ℕ) (w : View) : Type 0 where
 abbrev pub no_call : EventCall
 no_call = record { game = 0; expected = 0; kind = KickOff }
 
--- the steps of the table, by what they found: each says what the pass knows after it, and what it then holds of its call; those that can end a call say that the pass then stands at its seat
+-- the steps of the table, by what they found: each says what the pass knows after it, and what it then holds of
+-- its call; those that can end a call say that the pass then stands at its seat
 
 -- a report's load, which begins the call for this event
 pub record LookStep (seat : ℕ) (e : EventCall) (st : Step Entry) (m : Me Entry WordView) (n : ℕ) (m' : Me Entry WordView) : Type 0 where

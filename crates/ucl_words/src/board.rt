@@ -16,7 +16,7 @@ ghost use Rattle.ucl_words.specs.Collects.{Collects, HasCollected, FindsAgain, F
 ghost use Rattle.ucl_words.specs.WordCalls.{IsSteady, ReportSteps, ReadingSteps, EnlistTries, KeepsTrail};
 ghost use Rattle.ucl_words.specs.WordViews.{left_pass, second_pass, note_pass, IsNotePass, view_of};
 ghost use Rattle.ucl_words.specs.WordMachine.{report_reply};
-ghost use Rattle.ucl_words.specs.WordDoings.{HasAnswered, AnswersCall, IsHoldingFor, MayCollect, HasFirsts, has_copied, begins_anew, WordHasReported};
+ghost use Rattle.ucl_words.specs.WordDoings.{HasAnswered, AnswersCall, GoesAlong, IsHoldingFor, MayCollect, HasFirsts, has_copied, begins_anew, WordHasReported};
 ghost use Rattle.ucl_word.specs.Record.{IsReporter};
 ghost use Rattle.ucl_steps.specs.Protocol.{Nothing, Checking, IsNext, nothing_done, after_look, after_swap, after_second};
 ghost use Rattle.ucl_steps.specs.declared.step.Call.TheVariants as calls;
@@ -172,6 +172,7 @@ impl WordBoard {
         ensures refused { IfErr result (λ refusal. RefusedReport (pass_view_of seat.old.me.0.pass) call.now refusal (pass_view_of seat.new.me.0.pass)) }
         ensures steps { ReportSteps seat.old.me.0.pass call.now result seat.new.me.0.pass }
         ensures answers { AnswersCall seat.old.me.0 (calls.Event call.now) (report_reply result) seat.new.me.0 }
+        ensures along { GoesAlong seat.old.me.0 (calls.Event call.now) seat.new.me.0 }
         ensures stands { Stands seat.new.id seat.new.me.0 }
     {
         let loaded = self.look::<Brand>(seat, call);
@@ -203,6 +204,7 @@ impl WordBoard {
         ensures long { length result ≡ 12 }
         ensures collects { Collects seat.old.me.0.pass result seat.new.me.0.pass }
         ensures does { HasFirsts (length seat.old.me.0.pass.seen) seat.old.me.0.doing result (length seat.new.me.0.pass.seen) seat.new.me.0.doing }
+        ensures along { GoesAlong seat.old.me.0 calls.Reading seat.new.me.0 }
     {
         let mut words = [0; 12];
         for i in 0..12 {
@@ -236,6 +238,7 @@ impl WordBoard {
         ensures seat { seat.new.id ≡ seat.old.id }
         ensures compared { MatchBool result (FindsAgain seat.old.me.0.pass words.now seat.new.me.0.pass) (FindsAnother seat.old.me.0.pass words.now seat.new.me.0.pass) }
         ensures does { MatchBool result (seat.new.me.0.doing ≡ has_copied words.now (length seat.old.me.0.pass.seen) (length seat.new.me.0.pass.seen) seat.old.me.0.doing) (seat.new.me.0.doing ≡ begins_anew seat.old.me.0.doing) }
+        ensures along { GoesAlong seat.old.me.0 calls.Reading seat.new.me.0 }
         ensures stands { MatchBool result (Stands seat.new.id seat.new.me.0) (Unit {0}) }
     {
         for i in 0..11 {
@@ -261,6 +264,7 @@ impl WordBoard {
         ensures reading { SharedReading (pass_view_of seat.old.me.0.pass) result (pass_view_of seat.new.me.0.pass) }
         ensures steps { ReadingSteps seat.old.me.0.pass result seat.new.me.0.pass }
         ensures answers { AnswersCall seat.old.me.0 calls.Reading (replies.Copied result) seat.new.me.0 }
+        ensures along { GoesAlong seat.old.me.0 calls.Reading seat.new.me.0 }
         ensures stands { Stands seat.new.id seat.new.me.0 }
         ensures least { count_of seat.old.me.0.pass + 24 ≤ count_of seat.new.me.0.pass }
         ensures most { count_of seat.new.me.0.pass ≤ count_of seat.old.me.0.pass + most_loads }
@@ -429,6 +433,7 @@ impl WordBoard {
         ensures refused { IfErr result (λ refusal. RefusedReport (pass_view_of pass.old.view) call.now refusal (pass_view_of pass.new.view)) }
         ensures steps { ReportSteps pass.old.view call.now result pass.new.view }
         ensures answers { HasAnswered (length pass.old.view.seen) pass.old.doing (calls.Event call.now) (report_reply result) (length pass.new.view.seen) pass.new.doing }
+        ensures along { GoesAlong (view_of pass.old) (calls.Event call.now) (view_of pass.new) }
         ensures most { count_of pass.new.view ≤ count_of pass.old.view + 2 }
         ensures stands { Stands pass.new.seat (view_of pass.new) }
     {
@@ -457,6 +462,7 @@ impl WordBoard {
         ensures reading { SharedReading (pass_view_of pass.old.view) result (pass_view_of pass.new.view) }
         ensures steps { ReadingSteps pass.old.view result pass.new.view }
         ensures answers { HasAnswered (length pass.old.view.seen) pass.old.doing calls.Reading (replies.Copied result) (length pass.new.view.seen) pass.new.doing }
+        ensures along { GoesAlong (view_of pass.old) calls.Reading (view_of pass.new) }
         ensures least { count_of pass.old.view + 24 ≤ count_of pass.new.view }
         ensures most { count_of pass.new.view ≤ count_of pass.old.view + most_loads }
         ensures stands { Stands pass.new.seat (view_of pass.new) }
@@ -486,6 +492,7 @@ impl WordBoard {
         ensures reading { SharedReading (pass_view_of pass.old.view) result (pass_view_of pass.new.view) }
         ensures steps { ReadingSteps pass.old.view result pass.new.view }
         ensures answers { HasAnswered (length pass.old.view.seen) pass.old.doing calls.Reading (replies.Copied result) (length pass.new.view.seen) pass.new.doing }
+        ensures along { GoesAlong (view_of pass.old) calls.Reading (view_of pass.new) }
         ensures least { count_of pass.old.view + 24 ≤ count_of pass.new.view }
         ensures most { count_of pass.new.view ≤ count_of pass.old.view + most_loads }
         ensures stands { Stands pass.new.seat (view_of pass.new) }

@@ -2,6 +2,8 @@ use Rattle.std.proofs.Common.{◌≡◌, length}
 use Rattle.ucl_board.specs.Log.{First}
 use Rattle.ucl_words.proofs.CollectFacts.{Collected}
 use Rattle.ucl_words.proofs.DoingFacts.{Firsts}
+use Rattle.ucl_steps.specs.declared.step.Call.TheVariants as calls
+use Rattle.ucl_words.specs.WordDoings.{GoesAlong}
 use Rattle.ucl_words.proofs.board.WordBoard.collect.Given as goal
 
 abbrev pub invariant-loop-i : goal.invariant-loop-i
@@ -11,4 +13,5 @@ invariant-loop-i l = record {
   long : length l.words ≡ 12;
   collected : Collected First l.fn.seat.me.0.pass l.words l.i l.seat.me.0.pass;
   does : Firsts (length l.fn.seat.me.0.pass.seen) l.fn.seat.me.0.doing l.words l.i (length l.seat.me.0.pass.seen) l.seat.me.0.doing;
+  along : GoesAlong l.fn.seat.me.0 calls.Reading l.seat.me.0;
 }

@@ -3,6 +3,8 @@ use Rattle.ucl_board.specs.Log.{Second}
 use Rattle.ucl_words.proofs.CollectFacts.{Collected}
 use Rattle.ucl_words.proofs.DoingFacts.{Seconds}
 use Rattle.ucl_words.specs.WordSteps.{no_call}
+use Rattle.ucl_steps.specs.declared.step.Call.TheVariants as calls
+use Rattle.ucl_words.specs.WordDoings.{GoesAlong}
 use Rattle.ucl_words.proofs.board.WordBoard.is_clean.Given as goal
 
 abbrev pub invariant-loop-i : goal.invariant-loop-i
@@ -11,6 +13,7 @@ invariant-loop-i l = record {
   place : l.seat.id ≡ l.fn.seat.id;
   collected : Collected Second l.fn.seat.me.0.pass l.words l.i l.seat.me.0.pass;
   does : Seconds l.fn.seat.me.0.doing l.words (length l.fn.seat.me.0.pass.seen) l.i l.seat.me.0.doing;
+  along : GoesAlong l.fn.seat.me.0 calls.Reading l.seat.me.0;
 }
 
 abbrev pub ghosts-twelfth : goal.ghosts-twelfth

@@ -2,10 +2,12 @@ use Rattle.std.proofs.Common.{length, inl, ◌∙◌, refl, arith}
 use Rattle.ucl_board.proofs.Beginnings.{begins_length}
 use Rattle.ucl_words.proofs.CollectFacts.{has_collected, tried_none, tried_longer, tried_again, are_words, same_reading, reads}
 use Rattle.ucl_words.proofs.DoingFacts.{tries_may, tries_held, tries_again, tries_clean}
+use Rattle.ucl_steps.specs.declared.step.Call.TheVariants as calls
+use Rattle.ucl_words.proofs.AlongFacts.{along_none, along_on}
 use Rattle.ucl_words.proofs.board.WordBoard.read_by.Goals as goal
 
 pub tries-init : goal.tries-init
-tries-init c = record { same = refl; place = refl; tried = tried_none c.args.seat.now.me.0.pass c.requires.steady; does = inl refl }
+tries-init c = record { same = refl; place = refl; tried = tried_none c.args.seat.now.me.0.pass c.requires.steady; does = inl refl; along = along_none c.args.seat.now.me.0 calls.Reading }
 
 pub collect-words-requires-clause-steady : goal.collect-words-requires-clause-steady
 collect-words-requires-clause-steady c = c.tries.invariant.tried.walks.steady
@@ -30,6 +32,8 @@ tries-preserved c = record {
   place = c.is_clean.ensures.seat ∙ (c.collect-words.ensures.seat ∙ c.tries.invariant.place);
   tried = tried_again c.tries.seat.me.0.pass c.collect-words.new.seat.me.0.pass c.is_clean.new.seat.me.0.pass c.collect-words.result c.collect-words.ensures.collects c.if-is_clean.ensures.compared c.args.seat.now.me.0.pass c.tries.invariant.tried;
   does = tries_again (length c.args.seat.now.me.0.pass.seen) c.args.seat.now.me.0.doing c.requires.next c.tries.seat.me.0.doing c.collect-words.new.seat.me.0.doing c.collect-words.result (length c.tries.seat.me.0.pass.seen) _ (begins_length _ _ c.tries.invariant.tried.walks.on.seen) c.tries.invariant.does c.collect-words.ensures.does c.is_clean.new.seat.me.0.doing c.if-is_clean.ensures.does;
+  along = along_on c.args.seat.now.me.0 c.tries.seat.me.0 c.is_clean.new.seat.me.0 calls.Reading c.tries.invariant.tried.walks.number c.tries.invariant.along
+      (along_on c.tries.seat.me.0 c.collect-words.new.seat.me.0 c.is_clean.new.seat.me.0 calls.Reading c.collect-words.ensures.collects.walks.number c.collect-words.ensures.along c.is_clean.ensures.along);
 }
 
 pub returns-then-is_clean-clause-steady : goal.returns-then-is_clean-clause-steady
@@ -54,3 +58,8 @@ pub returns-then-is_clean-clause-answers : goal.returns-then-is_clean-clause-ans
 returns-then-is_clean-clause-answers c =
     tries_clean (length c.args.seat.now.me.0.pass.seen) c.args.seat.now.me.0.doing c.requires.next c.tries.seat.me.0.doing c.collect-words.new.seat.me.0.doing c.collect-words.result (length c.tries.seat.me.0.pass.seen) _ (begins_length _ _ c.tries.invariant.tried.walks.on.seen) c.tries.invariant.does c.collect-words.ensures.does c.is_clean.new.seat.me.0.doing _ c.reading_of.result c.if-is_clean.ensures.does
     (same_reading c.tries.seat.me.0.pass c.collect-words.new.seat.me.0.pass c.is_clean.new.seat.me.0.pass c.collect-words.result c.collect-words.ensures.long c.collect-words.ensures.collects c.if-is_clean.ensures.compared c.reading_of.result c.reading_of.ensures.board c.reading_of.ensures.version)
+
+pub returns-then-is_clean-clause-along : goal.returns-then-is_clean-clause-along
+returns-then-is_clean-clause-along c =
+    along_on c.args.seat.now.me.0 c.tries.seat.me.0 c.is_clean.new.seat.me.0 calls.Reading c.tries.invariant.tried.walks.number c.tries.invariant.along
+    (along_on c.tries.seat.me.0 c.collect-words.new.seat.me.0 c.is_clean.new.seat.me.0 calls.Reading c.collect-words.ensures.collects.walks.number c.collect-words.ensures.along c.is_clean.ensures.along)

@@ -5,6 +5,8 @@ use Rattle.ucl_words.proofs.StepRuns.{found_valid, walks_continue}
 use Rattle.ucl_words.proofs.ReportFacts.{next_after, look_walks, look_steps, look_refuses, miss_walks, miss_steps, miss_refuses, won_steady, won_continues, won_steps, won_accepts, accepts_by, as_entry, me_in}
 use Rattle.ucl_board.proofs.Beginnings.{begins_length}
 use Rattle.ucl_words.proofs.DoingFacts.{look_answers, holding_for, won_answers, miss_answers}
+use Rattle.ucl_steps.specs.declared.step.Call.TheVariants as calls
+use Rattle.ucl_words.proofs.AlongFacts.{along_on, along_look, along_swap}
 use Rattle.ucl_words.proofs.board.WordBoard.report_by.Goals as goal
 
 pub next_word-requires : goal.next_word-requires
@@ -159,3 +161,20 @@ pub returns-else-found-loaded-clause-answers : goal.returns-else-found-loaded-cl
 returns-else-found-loaded-clause-answers c =
     miss_answers c.args.seat.now.me.0 c.look-loaded.new.seat.me.0 c.args.call.now c.look-loaded.result c.args.reporter c.requires.me.2 c.look-loaded.ensures.does (begins_length _ _ c.look-loaded.ensures.looks.loads.sees.goes.seen) c.in_ok-next.ensures.accepted.0 c.in_ok-next.next c.in_ok-next.ensures.valid c.in_ok-next.ensures.record
     c.swap-found.new.seat.me.0 c.swap-found.result c.swap-found.ensures.does c.if-found-loaded.false _ (ap (λ (n : ℕ). Stale n) c.number_of-else-found-loaded.ensures.value)
+
+pub returns-in_err-next-clause-along : goal.returns-in_err-next-clause-along
+returns-in_err-next-clause-along c = along_look c.args.seat.now.me.0 c.look-loaded.new.seat.me.0 c.args.call.now.game c.look-loaded.result c.args.call.now c.look-loaded.ensures.looks.loads c.look-loaded.ensures.does
+
+pub returns-then-found-loaded-clause-along : goal.returns-then-found-loaded-clause-along
+returns-then-found-loaded-clause-along c =
+    along_on c.args.seat.now.me.0 c.look-loaded.new.seat.me.0 c.swap-found.new.seat.me.0 (calls.Event c.args.call.now) c.look-loaded.ensures.looks.loads.sees.number
+    (along_look c.args.seat.now.me.0 c.look-loaded.new.seat.me.0 c.args.call.now.game c.look-loaded.result c.args.call.now c.look-loaded.ensures.looks.loads c.look-loaded.ensures.does)
+    (along_swap c.look-loaded.new.seat.me.0 c.swap-found.new.seat.me.0 c.args.call.now.game c.swap-found.result c.args.call.now (record { game = c.args.call.now.game; reporter = c.args.reporter; kind = c.args.call.now.kind }) c.look-loaded.result refl
+    c.swap-found.ensures.won c.swap-found.ensures.missed c.swap-found.ensures.does)
+
+pub returns-else-found-loaded-clause-along : goal.returns-else-found-loaded-clause-along
+returns-else-found-loaded-clause-along c =
+    along_on c.args.seat.now.me.0 c.look-loaded.new.seat.me.0 c.swap-found.new.seat.me.0 (calls.Event c.args.call.now) c.look-loaded.ensures.looks.loads.sees.number
+    (along_look c.args.seat.now.me.0 c.look-loaded.new.seat.me.0 c.args.call.now.game c.look-loaded.result c.args.call.now c.look-loaded.ensures.looks.loads c.look-loaded.ensures.does)
+    (along_swap c.look-loaded.new.seat.me.0 c.swap-found.new.seat.me.0 c.args.call.now.game c.swap-found.result c.args.call.now (record { game = c.args.call.now.game; reporter = c.args.reporter; kind = c.args.call.now.kind }) c.look-loaded.result refl
+    c.swap-found.ensures.won c.swap-found.ensures.missed c.swap-found.ensures.does)
