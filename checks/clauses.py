@@ -10,7 +10,7 @@ import re
 PUBLIC = re.compile(r"^pub use (?:\w+::)*(?:\{([^}]*)\}|(\w+));", re.M)
 PUBLIC_MODULE = re.compile(r"^pub mod (\w+);", re.M)
 BLOCK = re.compile(r"^(?:pub )?(trait|impl)\b")
-FUNCTION = re.compile(r"^(    )?(pub )?fn (\w+)")
+FUNCTION = re.compile(r"^(    )?(pub )?(?:extern \"C\" )?fn (\w+)")
 CLAUSE = re.compile(r"^\s*ensures\s+(?:(\w+)\s+)?\{")
 DISPLAY = "Display"
 RULE = "KeepsOneHistory"

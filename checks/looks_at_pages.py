@@ -20,6 +20,8 @@ SOURCES = [
     "bench/*",
     "bench/plain/**/*.rs",
     "examples/*.expected",
+    "crates/*/*.h",
+    "examples/python/*.py",
 ]
 
 

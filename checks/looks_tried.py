@@ -24,8 +24,8 @@ FAULTS = {
         ("crates/ucl_words/src/board.rt", None, "\nimpl Play<Entry, WordView> for Third {\n"),
     ],
     "the kinds of step of the cell board": [
-        ("crates/ucl_pass/src/rule.rt", None, "\nimpl Split<View> for Other {\n"),
-        ("crates/ucl_pass/src/cell_board.rt", None, "\nimpl Join<View> for Note {\n"),
+        ("crates/ucl_pass/src/rule.rt", None, "\nimpl Split<CellView> for Other {\n"),
+        ("crates/ucl_pass/src/cell_board.rt", None, "\nimpl Join<CellView> for Note {\n"),
     ],
     "the rule of the word board is that of one history": [
         ("crates/ucl_words/src/rule.rt", "ghost holds = { λ _. TableKeepsOneHistory };", "ghost holds = { λ _ _. Unit };"),
@@ -33,7 +33,7 @@ FAULTS = {
     ],
     "the rule of the cell board is that of one history": [
         ("crates/ucl_pass/src/rule.rt", "ghost holds = { CellKeepsOneHistory };", "ghost holds = { HoldsNothing };"),
-        ("crates/ucl_pass/specs/CellRule.antt", "History = KeepsOneHistory words_after", "History = KeepsOneHistory other_words"),
+        ("crates/ucl_pass/specs/CellRule.antt", "shared : KeepsOneHistory words_after", "shared : KeepsOther words_after"),
     ],
     "a night of the program is on the word board": [
         ("crates/ucl_command/src/program.rt", "WordBoard::open", "OtherBoard::open"),

@@ -298,7 +298,8 @@ SLOTS_DECIDE = "2000000000000000 " * 12
 # Calls, and runs of the program, of which each request for memory is refused in turn, with the program that makes them.
 CALLS = ["screen", "read_night", "read_words", "run_steps", "CellBoard::open", "WordBoard::open", "feed_run", "show_run", "night_run"]
 CALLS += ["night_run_in_a_cell"]
-SWEEPS = {**dict.fromkeys(CALLS, "ucl_hostile"), **dict.fromkeys(["help", "feed", "show", "night"], "ucl_night")}
+RUNS = ["help", "feed", "show", "show_stored", "show_in_order", "night", "refused_words"]
+SWEEPS = {**dict.fromkeys(CALLS, "ucl_hostile"), **dict.fromkeys(RUNS, "ucl_night")}
 
 CASES = [
     Other("a start of a built program", started),

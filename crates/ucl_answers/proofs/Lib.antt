@@ -7,3 +7,5 @@ pub mod ReadWords
 pub mod Failures
 pub mod Steps
 pub mod Boards
+pub mod Walks
+pub mod Wires

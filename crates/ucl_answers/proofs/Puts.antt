@@ -7,7 +7,7 @@ use Rattle.ucl_runs.specs.declared.fault.RunFault.{RunFault}
 use Rattle.ucl_runs.specs.declared.fault.RunFault.TheVariants.{Input, OutOfMemory, WriteFailed, NotOnDuty, NoThread, TooManyReporters, Strangers}
 use Rattle.ucl_runs.specs.Run.{IsStopped}
 use Rattle.ucl_runs.proofs.Parts.{stopped_first, stopped_second}
-use Rattle.ucl_answers.specs.Output.{FailsToPut, HasPut, Waiting}
+use Rattle.ucl_answers.specs.Output.{FailsToPut, HasPut, VainlyFails, Waiting}
 
 count-then : (before mid after a b : ℕ) → mid ≡ min (before + a) (2 ^ 64 - 1) → after ≡ min (mid + b) (2 ^ 64 - 1) → after ≡ min (before + (a + b)) (2 ^ 64 - 1)
 count-then before mid after a b p q = omega arith
@@ -68,3 +68,13 @@ put_fails a b failed x y t Asks IsRefused (NotOnDuty row) s = absurd s
 put_fails a b failed x y t Asks IsRefused NoThread s = absurd s
 put_fails a b failed x y t Asks IsRefused TooManyReporters s = absurd s
 put_fails a b failed x y t Asks IsRefused (Strangers version) s = absurd s
+
+-- a failed write is one call in vain
+pub vain_fails : (out : ℕ) (failed : Bool) (x y : Option (List ℕ)) (t : List ℕ) (old new : ℕ) (f : RunFault) → IsStopped out failed x y t f → new ≡ old + 1 → VainlyFails old new f
+vain_fails out failed x y t old new (WriteFailed written) s e = e
+vain_fails out failed x y t old new OutOfMemory s e = absurd s
+vain_fails out failed x y t old new (Input fault) s e = absurd s
+vain_fails out failed x y t old new (NotOnDuty row) s e = absurd s
+vain_fails out failed x y t old new NoThread s e = absurd s
+vain_fails out failed x y t old new TooManyReporters s e = absurd s
+vain_fails out failed x y t old new (Strangers version) s e = absurd s

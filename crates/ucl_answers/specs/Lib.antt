@@ -9,4 +9,5 @@ pub mod Output
 pub mod Seen
 pub mod Stepping
 pub mod Taking
+pub mod Wires
 pub mod Laws

@@ -24,3 +24,8 @@ FailsToPut before after failed old new text Asks IsRefused (WriteFailed written)
 FailsToPut before after failed old new text Asks IsRefused OutOfMemory = (after ≡ before) × (new ≡ old) × Asks
 FailsToPut before after failed old new text Asks IsRefused (Input fault) = (after ≡ before) × (new ≡ old) × IsRefused fault
 FailsToPut before after failed old new text Asks IsRefused _ = ⊥
+
+-- of the calls of the sink none was in vain, but the last one where it failed: it is not called again then, and none is called with nothing
+abbrev pub VainlyFails : ℕ → ℕ → RunFault → Type 0
+VainlyFails old new (WriteFailed written) = new ≡ old + 1
+VainlyFails old new _ = new ≡ old

@@ -3,6 +3,7 @@
 #![tactic(auto)]
 
 mod answer;
+mod asked;
 mod desk;
 mod evening;
 mod laws;
@@ -14,11 +15,14 @@ mod row;
 mod some_words;
 mod stage;
 mod table;
+mod wire;
 mod words;
 
+pub use asked::Asked;
 pub use laws::{
     beginnings_are_answered, boards_take_events, evenings_are_sequential,
     refused_evenings_are_silent, replies_are_those_of_feed,
 };
 pub use live::{Live, Progress, live_run};
 pub use options::{Format, Options};
+pub use wire::Wire;

@@ -2,16 +2,18 @@
 
 ghost use Rattle.std.specs.Prelude.{◌≡◌, ◌↔◌, IsTrue, ℕ, ◌+◌, ◌-◌, ◌^◌, ◌<◌, ◌≤◌, ◌++◌, List, [], ◌∷◌, None, Option, false, length, IfErr, IfOk, OnOk, IfSome};
 ghost use Rattle.std.specs.Io.KnownBytes.{Appends};
-ghost use Rattle.ucl_answers.specs.Output.{FailsToPut, HasPut};
+ghost use Rattle.ucl_answers.specs.Output.{FailsToPut, HasPut, VainlyFails};
 ghost use Rattle.ucl_answers.specs.Text.{Evening as AnEvening, live_text, missing_after, start_of};
 ghost use Rattle.ucl_answers.specs.Stepping.{Fails, IfTook, IsAt, IsPrompt, IsRefused, LineAsks, StaysPrompt, answers_to, begins, ended_at, last_answers, missing_at, moment_after};
 ghost use Rattle.ucl_answers.specs.Seen.{evening_seen};
+ghost use Rattle.ucl_answers.specs.Wires.{AskedMore, IsAnsweredSoFar};
 ghost use Rattle.ucl_answers.specs.Taking.{FailsToEnd, FailsToGive, FailsToTake, RunFails, begun_in, held_row, live_moment, live_row, live_waiting, moment_of};
 
 use crate::desk::Desk;
 use crate::evening::Evening;
 use crate::options::Options;
 use crate::stage::{Clubs, Stage};
+use crate::wire::Wire;
 use std::alloc::Global;
 use ucl_runs::RunFault;
 use ucl_screen::{InputFault, Sink, Source};
@@ -54,7 +56,10 @@ fn enter_byte<W: Sink>(
     ensures short { OnOk result (length desk.new.line.items ≤ 258) }
     ensures row { IfOk result (λ after. held_row after ≤ evening.row + 1) }
     ensures put { OnOk result (HasPut desk.old.page desk.new.page (W.taken sink.old) (W.taken sink.new) (answers_to (moment_of evening desk.old) (b ∷ []))) }
+    ensures sound { OnOk result (W.failed sink.new ≡ W.failed sink.old) }
+    ensures vain { OnOk result (W.in_vain sink.new ≡ W.in_vain sink.old) }
     ensures fails { IfErr result (FailsToTake (moment_of evening desk.old) (b ∷ []) desk.old.page desk.new.page (W.failed sink.new) (W.taken sink.old) (W.taken sink.new)) }
+    ensures fails_vainly { IfErr result (VainlyFails (W.in_vain sink.old) (W.in_vain sink.new)) }
 {
     let _written = desk.page.written();
     if b == b'\n' {
@@ -78,7 +83,10 @@ fn enter<W: Sink>(
     ensures short { OnOk result (length desk.new.line.items ≤ 258) }
     ensures row { IfOk result (λ after. held_row after ≤ evening.row + length bytes.now) }
     ensures put { OnOk result (HasPut desk.old.page desk.new.page (W.taken sink.old) (W.taken sink.new) (answers_to (moment_of evening desk.old) bytes.now)) }
+    ensures sound { OnOk result (W.failed sink.new ≡ W.failed sink.old) }
+    ensures vain { OnOk result (W.in_vain sink.new ≡ W.in_vain sink.old) }
     ensures fails { IfErr result (FailsToTake (moment_of evening desk.old) bytes.now desk.old.page desk.new.page (W.failed sink.new) (W.taken sink.old) (W.taken sink.new)) }
+    ensures fails_vainly { IfErr result (VainlyFails (W.in_vain sink.old) (W.in_vain sink.new)) }
 {
     let _written = desk.page.written();
     let mut evening = evening;
@@ -112,7 +120,10 @@ fn take_in<W: Sink>(
     ensures row { IfOk result (λ after. held_row after ≤ evening.row + length bytes.now) }
     ensures waiting { OnOk result (desk.new.page.held ≡ []) }
     ensures put { OnOk result (HasPut desk.old.page desk.new.page (W.taken sink.old) (W.taken sink.new) (answers_to (moment_of evening desk.old) bytes.now)) }
+    ensures sound { OnOk result (W.failed sink.new ≡ W.failed sink.old) }
+    ensures vain { OnOk result (W.in_vain sink.new ≡ W.in_vain sink.old) }
     ensures fails { IfErr result (FailsToGive (moment_of evening desk.old) bytes.now desk.old.page.out (W.failed sink.new) (W.taken sink.old) (W.taken sink.new)) }
+    ensures fails_vainly { IfErr result (VainlyFails (W.in_vain sink.old) (W.in_vain sink.new)) }
 {
     match enter(alloc, evening, desk, bytes, sink) {
         Ok(after) => {
@@ -140,7 +151,10 @@ fn answer_last<W: Sink>(
     requires row { evening.row < 2 ^ 64 - 1 }
     ensures ended { IfOk result (λ after. evening_seen after ≡ ended_at (moment_of evening desk.old)) }
     ensures put { OnOk result (HasPut desk.old.page desk.new.page (W.taken sink.old) (W.taken sink.new) (last_answers (moment_of evening desk.old))) }
+    ensures sound { OnOk result (W.failed sink.new ≡ W.failed sink.old) }
+    ensures vain { OnOk result (W.in_vain sink.new ≡ W.in_vain sink.old) }
     ensures fails { IfErr result (FailsToPut desk.old.page desk.new.page (W.failed sink.new) (W.taken sink.old) (W.taken sink.new) (last_answers (moment_of evening desk.old)) (LineAsks (moment_of evening desk.old)) (IsRefused (ended_at (moment_of evening desk.old)))) }
+    ensures fails_vainly { IfErr result (VainlyFails (W.in_vain sink.old) (W.in_vain sink.new)) }
 {
     let _written = desk.page.written();
     if desk.line.is_empty() {
@@ -161,7 +175,10 @@ fn end<W: Sink>(
     requires waiting { desk.old.page.held ≡ [] }
     ensures complete { OnOk result (missing_at (moment_of evening desk.old) ≡ None) }
     ensures out { OnOk result (Appends (W.taken sink.old) (W.taken sink.new) (last_answers (moment_of evening desk.old))) }
+    ensures sound { OnOk result (W.failed sink.new ≡ W.failed sink.old) }
+    ensures vain { OnOk result (W.in_vain sink.new ≡ W.in_vain sink.old) }
     ensures fails { IfErr result (FailsToEnd (moment_of evening desk.old) desk.old.page.out (W.failed sink.new) (W.taken sink.old) (W.taken sink.new)) }
+    ensures fails_vainly { IfErr result (VainlyFails (W.in_vain sink.old) (W.in_vain sink.new)) }
 {
     let after = answer_last(alloc, evening, desk, sink)?;
     match after.stage.missing(after.row) {
@@ -202,24 +219,30 @@ impl Live {
         self,
         alloc: Global,
         piece: &mut [u8],
-        source: &mut S,
-        sink: &mut W,
+        wire: &mut Wire<S, W>,
     ) -> Result<Progress, RunFault>
         requires room { 0 < length piece.old }
         requires few { live_row self + length piece.old < 2 ^ 64 }
         requires short { length (begun_in self) ≤ 258 }
         requires waiting { (live_waiting self).held ≡ [] }
-        ensures one_call { S.calls source.new ≡ S.calls source.old + 1 }
-        ensures vain { S.in_vain source.new ≤ S.in_vain source.old + 1 }
-        ensures moved { IfOk result (IfTook (λ _. S.in_vain source.new ≡ S.in_vain source.old)) }
-        ensures sound { OnOk result (S.failed source.new ≡ false) }
-        ensures prompt { (start : AnEvening) (first : Option (List ℕ)) (before : List ℕ) → IsPrompt start first self (W.taken sink.old) before
-            → IfOk result (StaysPrompt start first before (S.left source.old) (S.left source.new) (W.taken sink.new)) }
+        ensures asked { wire.new.asked.times
+            ≡ wire.old.asked.times ++ (wire.old.source, wire.old.sink) ∷ [] }
+        ensures one_call { S.calls wire.new.source ≡ S.calls wire.old.source + 1 }
+        ensures vain { S.in_vain wire.new.source ≤ S.in_vain wire.old.source + 1 }
+        ensures moved { IfOk result
+            (IfTook (λ _. S.in_vain wire.new.source ≡ S.in_vain wire.old.source)) }
+        ensures sound { OnOk result (S.failed wire.new.source ≡ false) }
+        ensures sink_sound { OnOk result (W.failed wire.new.sink ≡ W.failed wire.old.sink) }
+        ensures sink_vain { OnOk result (W.in_vain wire.new.sink ≡ W.in_vain wire.old.sink) }
+        ensures fails_vainly { IfErr result
+            (VainlyFails (W.in_vain wire.old.sink) (W.in_vain wire.new.sink)) }
+        ensures prompt { (start : AnEvening) (first : Option (List ℕ)) (before : List ℕ) → IsPrompt start first self (W.taken wire.old.sink) before
+            → IfOk result (StaysPrompt start first before (S.left wire.old.source) (S.left wire.new.source) (W.taken wire.new.sink)) }
         ensures short { IfOk result (IfTook (λ live. length (begun_in live) ≤ 258)) }
         ensures waiting { IfOk result (IfTook (λ live. (live_waiting live).held ≡ [])) }
         ensures row { IfOk result (IfTook (λ live. live_row live ≤ live_row self + length piece.old)) }
-        ensures fails { (start : AnEvening) (first : Option (List ℕ)) (before : List ℕ) → IsPrompt start first self (W.taken sink.old) before
-            → IfErr result (Fails (moment_after (begins start) before) (length before) (length (answers_to (begins start) before)) (S.failed source.new) (W.failed sink.new) (S.left source.old) (S.left source.new) (W.taken sink.old) (W.taken sink.new)) }
+        ensures fails { (start : AnEvening) (first : Option (List ℕ)) (before : List ℕ) → IsPrompt start first self (W.taken wire.old.sink) before
+            → IfErr result (Fails (moment_after (begins start) before) (length before) (length (answers_to (begins start) before)) (S.failed wire.new.source) (W.failed wire.new.sink) (S.left wire.old.source) (S.left wire.new.source) (W.taken wire.old.sink) (W.taken wire.new.sink)) }
     {
         let Live {
             evening,
@@ -227,14 +250,14 @@ impl Live {
             read,
         } = self;
         let mut desk = desk;
-        match source.take(piece) {
+        match wire.take(piece) {
             None => Err(RunFault::Input(InputFault::ReadFailed { bytes: read })),
             Some(0) => {
-                end(alloc, evening, &mut desk, sink)?;
+                end(alloc, evening, &mut desk, &mut wire.sink)?;
                 Ok(Progress::Ended)
             }
             Some(n) => {
-                let evening = take_in(alloc, evening, &mut desk, &piece[..n], sink)?;
+                let evening = take_in(alloc, evening, &mut desk, &piece[..n], &mut wire.sink)?;
                 Ok(Progress::Took(Live {
                     evening,
                     desk,
@@ -256,17 +279,28 @@ impl Live {
 pub fn live_run<S: Source, W: Sink>(
     alloc: Global,
     options: Options,
-    source: &mut S,
-    sink: &mut W,
+    wire: &mut Wire<S, W>,
 ) -> Result<(), RunFault>
-    ensures text { OnOk result (IfSome (S.left source.old) (λ bytes. Appends (W.taken sink.old) (W.taken sink.new) (live_text (start_of options) bytes))) }
-    ensures complete { OnOk result (IfSome (S.left source.old) (λ bytes. missing_after (start_of options) bytes ≡ None)) }
-    ensures sound { OnOk result (S.failed source.new ≡ false) }
+    ensures text { OnOk result (IfSome (S.left wire.old.source) (λ bytes. Appends (W.taken wire.old.sink) (W.taken wire.new.sink) (live_text (start_of options) bytes))) }
+    ensures complete { OnOk result (IfSome (S.left wire.old.source) (λ bytes. missing_after (start_of options) bytes ≡ None)) }
+    ensures sound { OnOk result (S.failed wire.new.source ≡ false) }
+    ensures sink_sound { OnOk result (W.failed wire.new.sink ≡ W.failed wire.old.sink) }
+
+    // Each time that bytes were asked for, also in a run that failed, the answers to all lines that had an end by then were out.
+    ensures prompt { AskedMore wire.old.asked.times wire.new.asked.times
+        (S.calls wire.old.source) (S.calls wire.new.source)
+        (λ time. IsAnsweredSoFar (start_of options)
+        (S.left wire.old.source) (S.left time.0) (W.taken wire.old.sink) (W.taken time.1)) }
 
     // A source that has failed, or told the end, is not called again.
-    ensures vain { S.in_vain source.new ≤ S.in_vain source.old + 1 }
+    ensures vain { S.in_vain wire.new.source ≤ S.in_vain wire.old.source + 1 }
 
-    ensures fails { IfErr result (RunFails (start_of options) (S.failed source.new) (W.failed sink.new) (S.left source.old) (S.left source.new) (W.taken sink.old) (W.taken sink.new)) }
+    // A sink that has failed is not called again, and none is called with nothing.
+    ensures sink_vain { OnOk result (W.in_vain wire.new.sink ≡ W.in_vain wire.old.sink) }
+    ensures fails_vainly { IfErr result
+        (VainlyFails (W.in_vain wire.old.sink) (W.in_vain wire.new.sink)) }
+
+    ensures fails { IfErr result (RunFails (start_of options) (S.failed wire.new.source) (W.failed wire.new.sink) (S.left wire.old.source) (S.left wire.new.source) (W.taken wire.old.sink) (W.taken wire.new.sink)) }
 {
     let mut live = Live::new(options);
     let mut piece = [0; PIECE];
@@ -274,7 +308,7 @@ pub fn live_run<S: Source, W: Sink>(
         if live.read > MOST_BYTES {
             return Err(RunFault::Input(InputFault::TooLong));
         }
-        match live.step(alloc, &mut piece, source, sink)? {
+        match live.step(alloc, &mut piece, wire)? {
             Progress::Ended => return Ok(()),
             Progress::Took(next) => live = next,
         }

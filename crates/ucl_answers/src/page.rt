@@ -2,6 +2,7 @@
 
 ghost use Rattle.std.specs.Prelude.{◌≡◌, ◌+◌, ◌-◌, ◌^◌, ◌≤◌, [], ◌++◌, min, length, IfErr, IfOk, OnOk};
 ghost use Rattle.std.specs.Io.KnownBytes.{Appends};
+ghost use Rattle.ucl_screen.specs.Stream.{VainlyGives};
 ghost use Rattle.ucl_runs.specs.Run.{IsStopped};
 ghost use Rattle.ucl_answers.specs.Output.{HasPut};
 
@@ -33,6 +34,8 @@ fn give<W: Sink>(before: usize, sink: &mut W, text: &[u8]) -> Result<usize, RunF
     ensures all { OnOk result (Appends (W.taken sink.old) (W.taken sink.new) text.now) }
     ensures count { IfOk result (λ after. after ≡ min (before + length text.now) (2 ^ 64 - 1)) }
     ensures stopped { IfErr result (IsStopped before (W.failed sink.new) (W.taken sink.old) (W.taken sink.new) text.now) }
+    ensures sound { OnOk result (W.failed sink.new ≡ W.failed sink.old) }
+    ensures vain { VainlyGives (W.in_vain sink.old) (W.in_vain sink.new) result }
 {
     match give_all(sink, text) {
         Ok(()) => Ok(before.saturating_add(text.len())),
@@ -66,6 +69,8 @@ impl Page {
         ensures put { OnOk result (HasPut self.old self.new (W.taken sink.old) (W.taken sink.new) []) }
         ensures empty { OnOk result (self.new.held ≡ []) }
         ensures stopped { IfErr result (IsStopped self.old.out (W.failed sink.new) (W.taken sink.old) (W.taken sink.new) self.old.held) }
+        ensures sound { OnOk result (W.failed sink.new ≡ W.failed sink.old) }
+        ensures vain { VainlyGives (W.in_vain sink.old) (W.in_vain sink.new) result }
     {
         self.out = give(self.out, sink, self.held.as_slice())?;
         self.held.clear();
@@ -77,6 +82,8 @@ impl Page {
     pub(crate) fn put<W: Sink>(&mut self, sink: &mut W, text: &[u8]) -> Result<(), RunFault>
         ensures put { OnOk result (HasPut self.old self.new (W.taken sink.old) (W.taken sink.new) text.now) }
         ensures stopped { IfErr result (IsStopped self.old.out (W.failed sink.new) (W.taken sink.old) (W.taken sink.new) (self.old.held ++ text.now)) }
+        ensures sound { OnOk result (W.failed sink.new ≡ W.failed sink.old) }
+        ensures vain { VainlyGives (W.in_vain sink.old) (W.in_vain sink.new) result }
     {
         let _before = self.out;
         match self.held.try_extend_from_slice(text) {
@@ -98,6 +105,8 @@ impl Page {
     ) -> Result<(), RunFault>
         ensures put { OnOk result (HasPut self.old self.new (W.taken sink.old) (W.taken sink.new) (text.now ++ more.now)) }
         ensures stopped { IfErr result (IsStopped self.old.out (W.failed sink.new) (W.taken sink.old) (W.taken sink.new) (self.old.held ++ (text.now ++ more.now))) }
+        ensures sound { OnOk result (W.failed sink.new ≡ W.failed sink.old) }
+        ensures vain { VainlyGives (W.in_vain sink.old) (W.in_vain sink.new) result }
     {
         self.put(sink, text)?;
         self.put(sink, more)

@@ -1,7 +1,7 @@
 //! The answers of an open board.
 
 ghost use Rattle.std.specs.Prelude.{◌≡◌, IfErr, IfOk, OnOk};
-ghost use Rattle.ucl_answers.specs.Output.{FailsToPut, HasPut};
+ghost use Rattle.ucl_answers.specs.Output.{FailsToPut, HasPut, VainlyFails};
 ghost use Rattle.ucl_answers.specs.Stages.{next_board};
 ghost use Rattle.ucl_answers.specs.Stepping.{AsksOf, NeverRefused};
 ghost use Rattle.ucl_answers.specs.Text.{answer_of, event_answer};
@@ -18,7 +18,7 @@ use ucl_screen::{NightEvent, Sink};
 
 impl Table {
     /// Enters an event, and answers it.
-    #[tactic(auto, using(crate::proofs::Puts::put_fails))]
+    #[tactic(auto, using(crate::proofs::Puts::put_fails, crate::proofs::Puts::vain_fails))]
     fn entered<W: Sink>(
         self,
         alloc: Global,
@@ -31,7 +31,11 @@ impl Table {
         ensures roster { IfOk result (λ after. after.roster ≡ self.roster) }
         ensures board { IfOk result (λ after. after.board ≡ next_board self.board (Event event.now)) }
         ensures put { OnOk result (HasPut page.old page.new (W.taken sink.old) (W.taken sink.new) (event_answer options.now row self.roster self.board event.now)) }
+        ensures sound { OnOk result (W.failed sink.new ≡ W.failed sink.old) }
+        ensures vain { OnOk result (W.in_vain sink.new ≡ W.in_vain sink.old) }
         ensures fails { IfErr result (FailsToPut page.old page.new (W.failed sink.new) (W.taken sink.old) (W.taken sink.new) (event_answer options.now row self.roster self.board event.now) (AsksOf options.now self.board (Event event.now)) NeverRefused) }
+        ensures fails_vainly { IfErr result
+            (VainlyFails (W.in_vain sink.old) (W.in_vain sink.new)) }
     {
         let before = self.board.version();
         let mut board = self.board;
@@ -52,7 +56,7 @@ impl Table {
     }
 
     /// Does what a row asks for, answers it, and gives the table after it.
-    #[tactic(auto, using(crate::proofs::Puts::put_fails))]
+    #[tactic(auto, using(crate::proofs::Puts::put_fails, crate::proofs::Puts::vain_fails))]
     pub(crate) fn answered<W: Sink>(
         self,
         alloc: Global,
@@ -65,7 +69,11 @@ impl Table {
         ensures roster { IfOk result (λ after. after.roster ≡ self.roster) }
         ensures board { IfOk result (λ after. after.board ≡ next_board self.board request.now) }
         ensures put { OnOk result (HasPut page.old page.new (W.taken sink.old) (W.taken sink.new) (answer_of options.now row self.roster self.board request.now)) }
+        ensures sound { OnOk result (W.failed sink.new ≡ W.failed sink.old) }
+        ensures vain { OnOk result (W.in_vain sink.new ≡ W.in_vain sink.old) }
         ensures fails { IfErr result (FailsToPut page.old page.new (W.failed sink.new) (W.taken sink.old) (W.taken sink.new) (answer_of options.now row self.roster self.board request.now) (AsksOf options.now self.board request.now) NeverRefused) }
+        ensures fails_vainly { IfErr result
+            (VainlyFails (W.in_vain sink.old) (W.in_vain sink.new)) }
     {
         let answer = match request {
             Request::Event(event) => {

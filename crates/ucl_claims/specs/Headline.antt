@@ -1,5 +1,7 @@
 -- One history for all callers, and the screens of what its readers read.
-use Rattle.std.specs.Prelude.{◌≡◌, ℕ, ◌++◌, List, All, take, flat_map, Some}
+use Rattle.std.specs.Prelude.{◌≡◌, ℕ, ◌++◌, List, All, map, length, take, drop, flat_map, Some}
+use mathlib.Core.Option.{some}
+use lib.ListN.{get_elem?}
 use Rattle.atomic_table.specs.Table.{State}
 use Rattle.ucl_board.specs.declared.entry.Entry.{Entry}
 use Rattle.ucl_board.specs.declared.reading.Reading.{Reading}
@@ -18,7 +20,11 @@ use Rattle.ucl_steps.specs.Machine.{MachineState, initial_state, after_steps}
 use Rattle.ucl_steps.specs.Linearizable.{IsDecided, IsLinearizable}
 use Rattle.ucl_words.specs.declared.view.WordView.{WordView}
 use Rattle.ucl_words.specs.WordRule.{TableKeepsOneHistory}
-use Rattle.ucl_words.specs.Laws.{IsRunOfBoard}
+use Rattle.ucl_steps.specs.PassRuns.{cast_for, callers_of, FitsRun, IsTight}
+use Rattle.ucl_pass.specs.declared.view.CellView.{CellView}
+use Rattle.ucl_pass.specs.Actors.{Actor, IsOfActor}
+use Rattle.ucl_pass.specs.CellViews.{actors_of}
+use Rattle.ucl_pass.specs.CellRule.{CellKeepsOneHistory}
 
 -- the board after the first k entries of a history, as a screen shows it: version k, and the clubs in the order of the
 -- profile, each with its numbers and its mark
@@ -43,11 +49,24 @@ pub record HasOneHistory (steps : List Step) (history : List Entry) (calls : Lis
 abbrev pub EveryRunHasOneHistory : Type 0
 EveryRunHasOneHistory = (cast : Cast) (steps : List Step) (state : MachineState) → after_steps steps (initial_state cast) ≡ Some state → HasOneHistory steps state.history state.calls
 
--- between any two steps of any threads on a word board: its log is one run of the machine, one history explains all its calls, those under way among them, and the screen of each reading is the text of
--- the chosen order of the board that the reading copied
-pub record BoardHasOneHistory (s : State Entry WordView) (r : TableKeepsOneHistory s) : Type 0 where
-  pub run : IsRunOfBoard s r
-  pub screens : All (ScreenIsOfItsPlace (history_of r.shared.log)) run.last.calls
+-- the board of these twelve words, whose passes have finished, and hold, these calls, has this one history: there is one run of the machine from the fresh board to this history and these words, in which
+-- each call begins with its first access and ends with its last; the calls of each pass, with their replies, are those of its callers, and there are no others; and all of it is explained by this history
+pub record HaveOneHistory (history : List Entry) (board : List ℕ) (actors : List Actor) : Type 0 where
+  pub steps : List Step
+  pub last : MachineState
+  pub run : after_steps steps (initial_state (cast_for (length actors))) ≡ Some last
+  pub history_is : last.history ≡ history
+  pub board_is : last.words ≡ board
+  pub tight : IsTight steps
+  pub calls : (seat : ℕ) (a : Actor) → get_elem? actors seat ≡ some a → FitsRun last seat a.number a.doing
+  pub only : All (IsOfActor actors) (callers_of last)
+  pub one : HasOneHistory steps history last.calls
 
-abbrev pub BoardsHaveOneHistory : Type 0
-BoardsHaveOneHistory = (s : State Entry WordView) (r : TableKeepsOneHistory s) → BoardHasOneHistory s r
+-- the passes of a word board
+abbrev pub word_actor : WordView → Actor
+word_actor v = record { number = v.pass.number; doing = v.doing }
+
+-- between any two steps of any threads, for each state that meets the rule of a board: that of the table of a word board, and that of the cell of a cell board
+pub record BoardsHaveOneHistory : Type 0 where
+  pub word_boards : (s : State Entry WordView) (r : TableKeepsOneHistory s) → HaveOneHistory (history_of r.shared.log) (drop 1 s.words) (map word_actor s.views)
+  pub cell_boards : (words : List ℕ) (views : List CellView) (r : CellKeepsOneHistory words views) → HaveOneHistory (history_of r.shared.log) (take 12 words) (actors_of views)

@@ -2,10 +2,11 @@
 
 ghost use Rattle.ucl_claims.specs.Headline.{EveryRunHasOneHistory, BoardsHaveOneHistory};
 
-/// Between any two steps of any threads on a word board, for every state that meets the rule of its table: the log of the board is one run
-/// of the protocol's machine, and one history of the sequential board holds each finished call of each pass once, with the reply that it
-/// got, between its beginning and its end; each reading is the board of a beginning of it, and its screen is the text of the chosen order of
-/// that board.
+/// Between any two steps of any threads on a word board, and on a cell board, for every state that meets the rule of its table or its cell:
+/// the history of its log is that of one run of the protocol's machine, whose calls are those of the passes and no others, each with the
+/// reply that it got. So one history of the sequential board holds each finished call of each pass once, between its beginning and its
+/// end; each reading is the board of a beginning of it, no versions of a pass fall, and the screen of each reading is the text of the
+/// chosen order of that board.
 pub fn boards_have_one_history()
     ensures { BoardsHaveOneHistory }
 {}

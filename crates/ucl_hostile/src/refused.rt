@@ -64,6 +64,7 @@ fn screens(alloc: Global, input: &[u8]) -> anyhow::Result<Outcome<OutOfMemory>> 
 }
 
 fn scripts(alloc: Global, input: &[u8]) -> anyhow::Result<Outcome<InputFault>> {
+    let lent = Vec::from_slice(alloc, input)?;
     begins(alloc)?;
     let first = read_night(alloc, &mut FromRead::new(input));
     ends(alloc)?;
@@ -71,10 +72,11 @@ fn scripts(alloc: Global, input: &[u8]) -> anyhow::Result<Outcome<InputFault>> {
     let night = second?;
     let events = night.events.len();
     Ok(Outcome {
-        is_kept: first
-            .as_ref()
-            .is_ok_and(|night| night.events.len() == events)
-            || first.is_err(),
+        is_kept: lent.as_slice() == input
+            && (first.is_err()
+                || first
+                    .as_ref()
+                    .is_ok_and(|night| night.events.len() == events)),
         first: first.err(),
         second: None,
         text: format!(in alloc; "{events} events\n")?,
@@ -82,13 +84,15 @@ fn scripts(alloc: Global, input: &[u8]) -> anyhow::Result<Outcome<InputFault>> {
 }
 
 fn sheets(alloc: Global, input: &[u8]) -> anyhow::Result<Outcome<InputFault>> {
+    let lent = Vec::from_slice(alloc, input)?;
     begins(alloc)?;
     let first = read_words(alloc, &mut FromRead::new(input));
     ends(alloc)?;
     let second = read_words(alloc, &mut FromRead::new(input));
     let sheet = second?;
     Ok(Outcome {
-        is_kept: first.as_ref().is_ok_and(|other| other.board == sheet.board) || first.is_err(),
+        is_kept: lent.as_slice() == input
+            && (first.is_err() || first.as_ref().is_ok_and(|other| other.board == sheet.board)),
         first: first.err(),
         second: None,
         text: screen(alloc, &sheet.board, &sheet.roster, b'A', Profile::Uefa)?,
@@ -128,7 +132,7 @@ fn steps(alloc: Global) -> anyhow::Result<Outcome<StepFault>> {
         readers: 1,
     };
     let steps = short_run(alloc)?;
-    let many = steps.len();
+    let lent = short_run(alloc)?;
     begins(alloc)?;
     let first = run_steps(alloc, &cast, &steps);
     ends(alloc)?;
@@ -137,43 +141,49 @@ fn steps(alloc: Global) -> anyhow::Result<Outcome<StepFault>> {
     let (entries, calls) = (trace.history.len(), trace.calls.len());
     Ok(Outcome {
         first: first.err(),
-        is_kept: steps.len() == many,
+        is_kept: steps.as_slice() == lent.as_slice() && cast.reporters == 2 && cast.readers == 1,
         second: None,
         text: format!(in alloc; "{entries} entries, {calls} calls\n")?,
     })
 }
 
-/// Two boards that were opened, of which the first may have found no memory; the second is read.
+/// Three boards that were opened, of which the second may have found no memory: the board before it is as it was, and the one after it is
+/// read.
 fn opened<B: LiveBoard + Drop, R: Wait>(
     rt: &R,
     alloc: Global,
+    before: (B, B::ReaderPass),
     first: Result<(B, B::ReaderPass), OutOfMemory>,
     second: (B, B::ReaderPass),
 ) -> anyhow::Result<Outcome<OutOfMemory>>
-    requires { B.is_reader second.0 second.1 }
+    requires { B.is_reader before.0 before.1 × B.is_reader second.0 second.1 }
 {
+    let (board, mut pass) = before;
+    let kept = board.read(rt, &mut pass);
     let (board, mut pass) = second;
     let version = board.read(rt, &mut pass).version;
     Ok(Outcome {
         first: first.err(),
-        is_kept: true,
+        is_kept: kept.version == 0 && kept.board == Board::fresh(),
         second: None,
         text: format!(in alloc; "version {version}\n")?,
     })
 }
 
 fn cells<R: Wait>(rt: &R, alloc: Global) -> anyhow::Result<Outcome<OutOfMemory>> {
+    let before = CellBoard::open(rt, alloc)?;
     begins(alloc)?;
     let first = CellBoard::open(rt, alloc);
     ends(alloc)?;
-    opened(rt, alloc, first, CellBoard::open(rt, alloc)?)
+    opened(rt, alloc, before, first, CellBoard::open(rt, alloc)?)
 }
 
 fn tables<R: Wait>(rt: &R, alloc: Global) -> anyhow::Result<Outcome<OutOfMemory>> {
+    let before = WordBoard::open(rt, alloc)?;
     begins(alloc)?;
     let first = WordBoard::open(rt, alloc);
     ends(alloc)?;
-    opened(rt, alloc, first, WordBoard::open(rt, alloc)?)
+    opened(rt, alloc, before, first, WordBoard::open(rt, alloc)?)
 }
 
 /// A run over a source and a sink.

@@ -10,7 +10,7 @@ use std::alloc::Global;
 use std::env;
 use std::io::ErrorKind;
 use std::process::ExitCode;
-use ucl_answers::{Options, live_run};
+use ucl_answers::{Options, Wire, live_run};
 use ucl_runs::{RunFault, put_text, tell};
 use ucl_screen::{FromRead, Sink, Source, ToWrite};
 
@@ -38,17 +38,16 @@ fn tell_refusal<E: Sink>(errors: &mut E, text: &str) -> u8 {
 fn run<S: Source, W: Sink, E: Sink>(
     alloc: Global,
     asked: Result<Options, WordsFault>,
-    source: &mut S,
-    sink: &mut W,
+    wire: &mut Wire<S, W>,
     errors: &mut E,
 ) -> u8 {
     match asked {
         Ok(options) => {
-            let done = live_run(alloc, options, source, sink);
+            let done = live_run(alloc, options, wire);
             ended(errors, done)
         }
         Err(WordsFault::Help(text)) => {
-            let done = put_text(sink, text.as_str());
+            let done = put_text(&mut wire.sink, text.as_str());
             ended(errors, done)
         }
         Err(WordsFault::Refused(text)) => tell_refusal(errors, text.as_str()),
@@ -59,8 +58,7 @@ fn run<S: Source, W: Sink, E: Sink>(
 /// Runs the program over the standard streams. Standard output has no buffer, so that nothing is left to flush.
 fn main(rt: HostRuntime) -> ExitCode {
     let alloc = rt.alloc();
-    let mut source = FromRead::new(rt.stdin());
-    let mut sink = ToWrite::new(rt.stdout());
+    let mut wire = Wire::new(FromRead::new(rt.stdin()), ToWrite::new(rt.stdout()));
     let mut errors = ToWrite::new(rt.stderr());
     let words = match env::args(&rt) {
         Ok(words) => words,
@@ -72,7 +70,7 @@ fn main(rt: HostRuntime) -> ExitCode {
     let status = match words.collect::<Vec<String>>(alloc) {
         Ok(words) => {
             let asked = options_of(alloc, &words);
-            run(alloc, asked, &mut source, &mut sink, &mut errors)
+            run(alloc, asked, &mut wire, &mut errors)
         }
         Err(_) => tell(&mut errors, RunFault::OutOfMemory),
     };

@@ -1,6 +1,6 @@
 -- From what steps on the cell tell to what a call says of its pass.
 use Rattle.std.proofs.Common.{◌≡◌, ◌≢◌, ℕ, suc, ◌+◌, ◌==◌, ◌<◌, ◌≤◌, Bool, cond, List, [], ◌∷◌, ◌++◌, length, take, refl, sym, ap, ◌∙◌, subst, arith, true≢false, true, false, length-append, append-nil, append_assoc, ne_eqb}
-use Rattle.std.specs.Prelude.{filter, slice_index, Result, Ok, Err, IsOk, MatchResult, is_ok, Some, None}
+use Rattle.std.specs.Prelude.{filter, slice_index, Result, Ok, Err, IsOk, MatchResult, is_ok, Option, Some, None}
 use Rattle.std.specs.List.{AllByRecursion, flat_map}
 use Rattle.std.proofs.lemmas.Grind.{flat_map-append}
 use Rattle.std.proofs.lemmas.List.{take_all, nil_from_length}
@@ -11,7 +11,7 @@ use native.Mathlib.Decide.{ℕ_discrete}
 use Rattle.ucl_word.specs.declared.event.EventCall.{EventCall}
 use Rattle.ucl_word.specs.declared.event.Accepted.{Accepted}
 use Rattle.ucl_word.specs.declared.refusal.Refusal.{Refusal}
-use Rattle.ucl_word.specs.Rules.{reply_of}
+use Rattle.ucl_word.specs.Rules.{refusal_of, answer, reply_of}
 use Rattle.ucl_word.specs.Layout.{record_at}
 use Rattle.ucl_board.specs.declared.entry.Entry.{Entry}
 use Rattle.ucl_board.specs.declared.reading.Reading.{Reading}
@@ -26,10 +26,14 @@ use Rattle.ucl_shared.specs.declared.view.View.{View}
 use Rattle.ucl_shared.specs.Passes.{IsSound, Continues, AcceptedReport, RefusedReport, SharedReading, Enlistment, FullBoard, Hearing}
 use Rattle.ucl_shared.specs.Views.{pass_view_of, count_of, Takes, note_of, told_by}
 use Rattle.ucl_shared.specs.Steps.{Goes}
+use Rattle.ucl_steps.specs.declared.step.Call.TheVariants as calls
+use Rattle.ucl_steps.specs.declared.trace.Reply.TheVariants as replies
+use Rattle.ucl_steps.specs.Protocol.{Answer}
+use Rattle.ucl_pass.specs.declared.view.CellView.{CellView}
 use Rattle.ucl_pass.specs.CellRule.{words_after}
-use Rattle.ucl_pass.specs.CellSteps.{IsNextBoard, with_one_more, word_looked_at, HasSeenAll, StoresEntry, StoresReporter, LooksOnly, LooksAtMatch, LooksAtEnlisted, LooksAndShows}
+use Rattle.ucl_pass.specs.CellSteps.{IsNextBoard, with_one_more, word_looked_at, HasSeenAll, StoresEntry, StoresReporter, LooksOnly, LooksAtMatch, LooksAtEnlisted, LooksAndShows, finished_too, after_load, HasAccepted, AreAccepting, LookOfCell, ReadOfCell}
 use Rattle.ucl_shared.specs.CallSteps.{MeetingSteps}
-use Rattle.ucl_pass.specs.CellCalls.{CellMissed, no_event_between, WereLost, CellReport, CellEnlistMissed, CellEnlistment, CellReading}
+use Rattle.ucl_pass.specs.CellCalls.{CellMissed, no_event_between, WereLost, CellReport, CellEnlistMissed, CellEnlistment, CellReading, FinishesReport, FinishesReading}
 use Rattle.ucl_shared.proofs.Calls.{takes_none, takes_on, takes_count, Stays, stays_none, stays_more, all_more}
 use Rattle.ucl_pass.proofs.CellMoves.{match_words, match_word, last_word, one_more_last}
 
@@ -352,3 +356,72 @@ module _ (a v w : View) (x : List ℕ) (looked : LooksAtEnlisted (told_by v (not
 
   pub met_steps : MeetingSteps v w
   met_steps = (slice_index x 12, record { own = looked.sees.takes.own; copied = looked.sees.takes.copied })
+
+-- the finished calls after a report, and between its tries
+
+abbrev ok_or : Accepted → Result Accepted Refusal → Accepted
+ok_or other (Ok reply) = reply
+ok_or other (Err refusal) = other
+
+abbrev err_or : Refusal → Result Accepted Refusal → Refusal
+err_or other (Ok reply) = other
+err_or other (Err refusal) = refusal
+
+accepts_none : (n : ℕ) (o : Option Refusal) (reply : Accepted) → answer n o ≡ Ok reply → o ≡ None
+accepts_none n None reply is = refl
+accepts_none n (Some refusal) reply is = absurd (true≢false (sym (ap is_ok is)))
+
+accepts_number : (n : ℕ) (o : Option Refusal) (reply : Accepted) → answer n o ≡ Ok reply → reply ≡ record { number = n + 1 }
+accepts_number n None reply is = sym (ap (ok_or reply) is)
+accepts_number n (Some refusal) reply is = absurd (true≢false (sym (ap is_ok is)))
+
+refuses_some : (n : ℕ) (o : Option Refusal) (refusal : Refusal) → answer n o ≡ Err refusal → o ≡ Some refusal
+refuses_some n None refusal is = absurd (true≢false (ap is_ok is))
+refuses_some n (Some other) refusal is = ap (λ (r : Result Accepted Refusal). Some (err_or refusal r)) is
+
+module _ (e : EventCall) (v w u : CellView) (x : List ℕ) (tried : TriedReport e v.pass w.pass) (same : w.calls ≡ v.calls) (looked : LookOfCell e w x x u) where
+  abbrev found : ℕ
+  found = word_at x e.game
+
+  abbrev at_found : Option Refusal → List Answer
+  at_found o = after_load e (length u.pass.seen) o w.calls
+
+  looked_on : length v.pass.seen ≤ length u.pass.seen
+  looked_on = begins_length v.pass.seen u.pass.seen (begins_through v.pass.seen w.pass.seen u.pass.seen tried.stays.on.seen looked.looks.sees.goes.seen)
+
+  pub looked_number : u.pass.number ≡ v.pass.number
+  looked_number = looked.looks.sees.number ∙ tried.stays.number
+
+  pub finishes_refused : (refusal : Refusal) → reply_of (record_at found) e ≡ Err refusal → FinishesReport v e (Err refusal) u
+  finishes_refused refusal is = record {
+    begun = length u.pass.seen;
+    after_seen = looked_on;
+    does = looked.calls ∙ (ap at_found (refuses_some (record_at found).number (refusal_of (record_at found) e.expected e.kind) refusal is)
+        ∙ ap (finished_too (calls.Event e) (replies.Refused refusal) (length u.pass.seen) (length u.pass.seen)) same);
+  }
+
+  module _ (reply : Accepted) (is : reply_of (record_at found) e ≡ Ok reply) where
+    pub are_accepting : AreAccepting x e
+    are_accepting = accepts_none (record_at found).number (refusal_of (record_at found) e.expected e.kind) reply is
+
+    none_finished : u.calls ≡ v.calls
+    none_finished = looked.calls ∙ (ap at_found are_accepting ∙ same)
+
+    pub still_finished : (z : CellView) → z.calls ≡ u.calls → z.calls ≡ v.calls
+    still_finished z kept = kept ∙ none_finished
+
+    pub finishes_accepted : (z : CellView) → HasAccepted e found u z → FinishesReport v e (Ok reply) z
+    finishes_accepted z h = record {
+      begun = h.begun;
+      after_seen = (let a = looked_on in let b = h.since in omega arith);
+      does = h.calls ∙ (ap (λ (a : Accepted). finished_too (calls.Event e) (replies.Accepted a) h.begun (length z.pass.seen) u.calls) (sym (accepts_number (record_at found).number (refusal_of (record_at found) e.expected e.kind) reply is))
+          ∙ ap (finished_too (calls.Event e) (replies.Accepted reply) h.begun (length z.pass.seen)) none_finished);
+    }
+
+-- and after a reading
+pub finishes_reading : (v w : CellView) (x : List ℕ) (reading : Reading) → ReadOfCell v x x w → reading.board ≡ take 12 x → reading.version ≡ length w.pass.seen → FinishesReading v reading w
+finishes_reading v w x reading shows board version = record {
+  begun = length w.pass.seen;
+  after_seen = begins_length v.pass.seen w.pass.seen shows.shows.sees.goes.seen;
+  does = shows.calls ∙ sym (λ i. finished_too calls.Reading (replies.Copied (record { board = board i; version = version i })) (length w.pass.seen) (length w.pass.seen) v.calls);
+}

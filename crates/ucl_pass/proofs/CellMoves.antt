@@ -1,23 +1,43 @@
 -- Each kind of step on the cell keeps the rule, and tells its pass what it says.
-use Rattle.std.proofs.Common.{◌≡◌, ◌≢◌, inl, inr, ⊎_elim, ℕ, zero, suc, ◌+◌, ◌-◌, ◌<◌, Bool, true, false, List, [], ◌∷◌, ◌++◌, length, set, take, nat_eq, get_or, if◌then◌else◌, refl, sym, ap, ◌∙◌, subst, arith, le_refl, true≢false}
+use Rattle.std.proofs.Common.{◌≡◌, ◌≢◌, inl, inr, ⊎_elim, ℕ, zero, suc, ◌+◌, ◌-◌, ◌<◌, ◌≤◌, Bool, true, false, Option, Some, None, List, [], ◌∷◌, ◌++◌, length, set, take, nat_eq, get_or, if◌then◌else◌, refl, sym, ap, ◌∙◌, subst, arith, le_refl, append-nil, length-append, length-set, true≢false}
 use Rattle.std.specs.Prelude.{slice_index, Result, Ok, Err, MatchResult, IsSome}
-use mathlib.Core.Option.{some}
+use mathlib.Core.Option.{some, some-ne-none, some-injective}
 use lib.ListN.{get_elem?}
 use lib.Pointwise.{pointwise, bytes_decides}
 use Rattle.crossbeam_utils.specs.Register.{Turns, Forks, Merges}
-use Rattle.ucl_word.specs.Layout.{word_of}
+use Rattle.ucl_word.specs.declared.event.EventCall.{EventCall}
+use Rattle.ucl_word.specs.declared.refusal.Refusal.{Refusal}
+use Rattle.ucl_word.specs.Record.{IsReporter}
+use Rattle.ucl_word.specs.Rules.{refusal_of}
+use Rattle.ucl_word.specs.Layout.{word_of, record_at}
 use Rattle.ucl_board.specs.declared.entry.Entry.{Entry}
 use Rattle.ucl_board.specs.Fixtures.{IsMatch}
 use Rattle.ucl_board.specs.Words.{word_at}
-use Rattle.ucl_board.specs.History.{match_after, board_of, IsLegal, followed_by}
+use Rattle.ucl_board.specs.History.{match_after, board_of, IsLegal, followed_by, entry_of}
 use Rattle.ucl_board.specs.Log.{AccessKind, Look, Swap, Target, Enlisted, Whole, history_of, IsThere}
 use Rattle.ucl_board.proofs.Histories.{board_length, word_after}
 use Rattle.ucl_board.proofs.HistoryLaws.{one_word}
+use Rattle.ucl_board.proofs.Beginnings.{begins_length}
 use Rattle.ucl_shared.specs.declared.view.View.{View}
-use Rattle.ucl_shared.specs.Views.{newcomer, opener, kept_of, second_of, note_of, told_by}
+use Rattle.ucl_shared.specs.Views.{newcomer, opener}
+use Rattle.ucl_shared.specs.OneHistory.{KeepsOneHistory}
+use Rattle.ucl_steps.specs.declared.step.Caller.{Caller}
+use Rattle.ucl_steps.specs.declared.step.Caller.TheVariants.{Reporter, Reader}
+use Rattle.ucl_steps.specs.declared.step.Call.{Call}
+use Rattle.ucl_steps.specs.declared.step.Call.TheVariants.{Event, Reading}
+use Rattle.ucl_steps.specs.declared.trace.Reply.{Reply}
+use Rattle.ucl_steps.specs.declared.trace.Reply.TheVariants.{Accepted, Refused, Copied}
+use Rattle.ucl_steps.specs.Machine.{MachineState}
+use Rattle.ucl_steps.specs.Protocol.{Answer, ends, nothing_done}
+use Rattle.ucl_steps.specs.PassRuns.{cast_for}
+use Rattle.ucl_pass.specs.declared.view.CellView.{CellView}
+use Rattle.ucl_pass.specs.Actors.{Actor, IsRunOfActors}
+use Rattle.ucl_pass.specs.CellViews.{new_cell_pass, first_cell_pass, left_cell_pass, second_cell_pass, note_cell_pass, told_cell_pass, all_finished, actor_of, actors_of, views_known}
 use Rattle.ucl_pass.specs.CellRule.{words_after, CellKeepsOneHistory}
-use Rattle.ucl_pass.specs.CellSteps.{IsNextBoard, with_one_more, word_looked_at, Looks, StoresEntry, StoresReporter, LooksOnly, LooksAtMatch, LooksAtEnlisted, LooksAndShows, AddsOrLooks, EnlistsOrLooks}
-use Rattle.ucl_shared.proofs.Moves.{looked, look_keeps, look_tells, same_history, entered, add_keeps, add_tells, longer_history, enlisted_as, enlist_keeps, enlist_tells, unchanged_history, second_added, note_added, note_joined, opens}
+use Rattle.ucl_pass.specs.CellSteps.{IsNextBoard, with_one_more, word_looked_at, Looks, StoresEntry, StoresReporter, LooksOnly, LooksAtMatch, LooksAtEnlisted, LooksAndShows, AddsOrLooks, EnlistsOrLooks, finished_too, after_load, HasAccepted, DecidesReport, AreAccepting, LookOfCell, AddOfCell, ReadOfCell, CountOfCell, EnlistOfCell}
+use Rattle.ucl_shared.proofs.Moves.{looked, look_keeps, look_tells, same_history, entered, add_keeps, add_tells, longer_history, enlisted_as, enlist_keeps, enlist_tells, unchanged_history, second_added, note_added, note_joined, opens, look_same, add_same, enlist_same, second_same, note_same, joined_same, opens_same}
+use Rattle.ucl_pass.proofs.Bursts.{Burst, reading_at_once, refused_at_once, accepted_at_once}
+use Rattle.ucl_pass.proofs.ActorRuns.{map_at, map_set, map_more, map_long, set_same, Apart, run_burst, run_enlisted, run_more, run_begins}
 
 -- the thirteen words
 
@@ -57,45 +77,190 @@ entry_differs h n e legal same =
 reporter_differs : (h : List Entry) (n : ℕ) → words_after h n ≢ words_after h (n + 1)
 reporter_differs h n same = let e : n ≡ n + 1 = sym (last_word h n) ∙ (ap (λ (l : List ℕ). slice_index l 12) same ∙ last_word h (n + 1)) in omega arith
 
--- a load
-module _ (x : List ℕ) (views : List View) (r : CellKeepsOneHistory x views) (seat : ℕ) (v : View) (here : get_elem? views seat ≡ some v) (acts : IsSome v.share) (target : Target) (there : IsThere (history_of r.log) target) where
-  abbrev seen_by_load : List ℕ → View
-  seen_by_load shown = looked words_after x views r seat v here acts target there r.enlisted shown (le_refl r.enlisted)
+-- the view of an actor
+view_there : (views : List CellView) (j : ℕ) (a : Actor) → get_elem? (actors_of views) j ≡ some a → (v : CellView) × (get_elem? views j ≡ some v) × (actor_of v ≡ a)
+view_there [] j a e = absurd (some-ne-none a (sym e))
+view_there (v ∷ views) zero a e = (v, refl, some-injective (actor_of v) a e)
+view_there (v ∷ views) (suc j) a e = view_there views j a e
 
-  load_keeps : (shown : List ℕ) → CellKeepsOneHistory x (set views seat (seen_by_load shown))
-  load_keeps shown = look_keeps words_after x views r seat v here acts target there r.enlisted shown (le_refl r.enlisted)
+-- views and actors
 
-  load_tells : (shown : List ℕ) → Looks target v shown x (seen_by_load shown)
-  load_tells shown =
-      let f = r.fits seat v here in
-      record {
-        seen_all = record {
-          words_are = r.words_are ∙ ap (λ (h : List Entry). words_after h r.enlisted) (sym (same_history words_after x views r seat v here acts target there r.enlisted shown (le_refl r.enlisted)));
-          listed = f.listed;
-          up_to_date = refl;
-        };
-        sees = look_tells words_after x views r seat v here acts target there r.enlisted shown (le_refl r.enlisted);
-        shown_is = refl;
-      }
+apart_actors : (x : List ℕ) (views : List CellView) (r : CellKeepsOneHistory x views) → Apart (actors_of views)
+apart_actors x views r i j a b at bt pos same = by_views (view_there views i a at) (view_there views j b bt)
+  where
+    by_views : (v : CellView) × (get_elem? views i ≡ some v) × (actor_of v ≡ a) → (w : CellView) × (get_elem? views j ≡ some w) × (actor_of w ≡ b) → i ≡ j
+    by_views v w =
+        let n : v.0.pass.number ≡ a.number = ap (λ (z : Actor). z.number) v.2 in
+        let m : w.0.pass.number ≡ b.number = ap (λ (z : Actor). z.number) w.2 in
+        r.shared.apart i j v.0.pass w.0.pass (map_at (λ (z : CellView). z.pass) views i v.0 v.1) (map_at (λ (z : CellView). z.pass) views j w.0 w.1) (omega arith) (n ∙ (same ∙ sym m))
 
-pub looks : (seat : ℕ) (v : View) (game : ℕ) → IsSome v.share → IsMatch game → Turns CellKeepsOneHistory seat v (λ x. x) (LooksAtMatch game)
-looks seat v game acts is x views r here =
-    let there = looked_there Look game x (history_of r.log) r.enlisted is r.words_are in
-    (seen_by_load x views r seat v here acts (word_looked_at Look game x) there v.shown, load_keeps x views r seat v here acts (word_looked_at Look game x) there v.shown, load_tells x views r seat v here acts (word_looked_at Look game x) there v.shown)
+low_actors : (x : List ℕ) (views : List CellView) (r : CellKeepsOneHistory x views) (j : ℕ) (a : Actor) → get_elem? (actors_of views) j ≡ some a → a.number ≤ r.shared.enlisted
+low_actors x views r j a at = by_view (view_there views j a at)
+  where
+    by_view : (v : CellView) × (get_elem? views j ≡ some v) × (actor_of v ≡ a) → a.number ≤ r.shared.enlisted
+    by_view v =
+        let n : v.0.pass.number ≡ a.number = ap (λ (z : Actor). z.number) v.2 in
+        let low = (r.shared.fits j v.0.pass (map_at (λ (z : CellView). z.pass) views j v.0 v.1)).number in
+        omega arith
 
-pub counts : (seat : ℕ) (v : View) → IsSome v.share → Turns CellKeepsOneHistory seat v (λ x. x) LooksAtEnlisted
-counts seat v acts x views r here = (seen_by_load x views r seat v here acts (Enlisted (slice_index x 12)) tt v.shown, load_keeps x views r seat v here acts (Enlisted (slice_index x 12)) tt v.shown, load_tells x views r seat v here acts (Enlisted (slice_index x 12)) tt v.shown)
+-- the same rule of the same views
+moved : (words : List ℕ) (ps ps' : List View) (q : KeepsOneHistory words_after words ps) → ps ≡ ps' → (q' : KeepsOneHistory words_after words ps') × (q'.enlisted ≡ q.enlisted) × (q'.log ≡ q.log)
+moved words ps ps' q e = subst (λ (vs : List View). (q' : KeepsOneHistory words_after words vs) × (q'.enlisted ≡ q.enlisted) × (q'.log ≡ q.log)) e (q, refl, refl)
 
-pub reads : (seat : ℕ) (v : View) → IsSome v.share → Turns CellKeepsOneHistory seat v (λ x. x) LooksAndShows
+-- the rule of the cell from its two parts
+both : (words : List ℕ) (views : List CellView) (ps : List View) (q : KeepsOneHistory words_after words ps) (n : ℕ) (h : List Entry) → ps ≡ views_known views → q.enlisted ≡ n → history_of q.log ≡ h
+    → ((readers : ℕ) → length views ≤ readers → IsRunOfActors readers n h (actors_of views)) → CellKeepsOneHistory words views
+both words views ps q n h e enlisted is run =
+    let t = moved words ps (views_known views) q e in
+    record {
+      shared = t.0;
+      one_run = λ readers all. subst (λ (z : List Entry). IsRunOfActors readers t.0.enlisted z (actors_of views)) (sym (ap history_of t.2 ∙ is)) (subst (λ (k : ℕ). IsRunOfActors readers k h (actors_of views)) (sym (t.1 ∙ enlisted)) (run readers all));
+    }
+
+-- one pass gets another view, by one step of it
+module _ (x : List ℕ) (views : List CellView) (r : CellKeepsOneHistory x views) (seat : ℕ) (v : CellView) (here : get_elem? views seat ≡ some v) where
+  abbrev at_seat : get_elem? (views_known views) seat ≡ some v.pass
+  at_seat = map_at (λ (z : CellView). z.pass) views seat v here
+
+  abbrev actor_at : get_elem? (actors_of views) seat ≡ some (actor_of v)
+  actor_at = map_at actor_of views seat v here
+
+  known_by : (w : CellView) → set (views_known views) seat w.pass ≡ views_known (set views seat w)
+  known_by w = sym (map_set (λ (z : CellView). z.pass) views seat w)
+
+  acted_by : (w : CellView) (readers n : ℕ) (h : List Entry) → IsRunOfActors readers n h (set (actors_of views) seat (actor_of w)) → IsRunOfActors readers n h (actors_of (set views seat w))
+  acted_by w readers n h run = subst (λ (l : List Actor). IsRunOfActors readers n h l) (sym (map_set actor_of views seat w)) run
+
+  -- a pass with the same number that has finished the same calls
+  same_run : (w : CellView) → actor_of w ≡ actor_of v → (readers n : ℕ) (h : List Entry) → IsRunOfActors readers n h (actors_of views) → IsRunOfActors readers n h (actors_of (set views seat w))
+  same_run w same readers n h run = acted_by w readers n h (subst (λ (l : List Actor). IsRunOfActors readers n h l) (sym (set_same (actors_of views) seat (actor_of w) (actor_at ∙ ap (λ (z : Actor). some z) (sym same)))) run)
+
+  module _ (acts : IsSome v.pass.share) (target : Target) (there : IsThere (history_of r.shared.log) target) where
+    abbrev seen_by_load : List ℕ → View
+    seen_by_load shown = looked words_after x (views_known views) r.shared seat v.pass at_seat acts target there r.shared.enlisted shown (le_refl r.shared.enlisted)
+
+    load_same : (shown : List ℕ) → (seen_by_load shown).seen ≡ history_of r.shared.log
+    load_same shown = same_history words_after x (views_known views) r.shared seat v.pass at_seat acts target there r.shared.enlisted shown (le_refl r.shared.enlisted)
+
+    load_keeps : (shown : List ℕ) (calls : List Answer) → ((readers : ℕ) → length views ≤ readers → IsRunOfActors readers r.shared.enlisted (history_of r.shared.log) (actors_of (set views seat (record { pass = seen_by_load shown; calls = calls }))))
+        → CellKeepsOneHistory x (set views seat (record { pass = seen_by_load shown; calls = calls }))
+    load_keeps shown calls run =
+        let w : CellView = record { pass = seen_by_load shown; calls = calls } in
+        let same = look_same words_after x (views_known views) r.shared seat v.pass at_seat acts target there r.shared.enlisted shown (le_refl r.shared.enlisted) in
+        both x (set views seat w) (set (views_known views) seat (seen_by_load shown)) (look_keeps words_after x (views_known views) r.shared seat v.pass at_seat acts target there r.shared.enlisted shown (le_refl r.shared.enlisted))
+        r.shared.enlisted (history_of r.shared.log) (known_by w) same.0 (ap history_of same.1 ∙ load_same shown)
+        (λ readers all. let long = length-set views seat w in run readers (omega arith))
+
+    load_tells : (shown : List ℕ) → Looks target v.pass shown x (seen_by_load shown)
+    load_tells shown =
+        let f = r.shared.fits seat v.pass at_seat in
+        record {
+          seen_all = record {
+            words_are = r.shared.words_are ∙ ap (λ (h : List Entry). words_after h r.shared.enlisted) (sym (load_same shown));
+            listed = f.listed;
+            up_to_date = refl;
+          };
+          sees = look_tells words_after x (views_known views) r.shared seat v.pass at_seat acts target there r.shared.enlisted shown (le_refl r.shared.enlisted);
+          shown_is = refl;
+        }
+
+    -- a load that decides nothing
+    idle_load : (shown : List ℕ) → CellKeepsOneHistory x (set views seat (record { pass = seen_by_load shown; calls = v.calls }))
+    idle_load shown = load_keeps shown v.calls (λ readers all. same_run (record { pass = seen_by_load shown; calls = v.calls }) refl readers r.shared.enlisted (history_of r.shared.log) (r.one_run readers all))
+
+    -- one that decides a call, by all steps of it
+    deciding_load : (shown : List ℕ) (calls : List Answer) (c : Caller)
+        → ((readers : ℕ) (one : IsRunOfActors readers r.shared.enlisted (history_of r.shared.log) (actors_of views)) → Burst seat v.pass.number one.state c (all_finished calls) [])
+        → CellKeepsOneHistory x (set views seat (record { pass = seen_by_load shown; calls = calls }))
+    deciding_load shown calls c burst = load_keeps shown calls (λ readers all.
+        let one = r.one_run readers all in
+        acted_by (record { pass = seen_by_load shown; calls = calls }) readers r.shared.enlisted (history_of r.shared.log)
+        (run_burst readers r.shared.enlisted (history_of r.shared.log) (actors_of views) one seat (actor_of v) actor_at (all_finished calls) (history_of r.shared.log) [] c (r.shared.fits seat v.pass at_seat).number (apart_actors x views r) (sym (append-nil (history_of r.shared.log))) (burst readers one)))
+
+-- where nothing is held it does not matter when the last call began
+as_finished : (seat number : ℕ) (w : MachineState) (c : Caller) (call : Call) (reply : Reply) (begun ended : ℕ) (calls : List Answer) (entries : List Entry)
+    → Burst seat number w c (ends call reply begun ended (all_finished calls)) entries → Burst seat number w c (all_finished (finished_too call reply begun ended calls)) entries
+as_finished seat number w c call reply begun ended calls entries b = record {
+  steps = b.steps;
+  last = b.last;
+  run = b.run;
+  history = b.history;
+  of = b.of;
+  passes = b.passes;
+  fits = record { high = b.fits.high; recorded = b.fits.recorded; held = b.fits.held; whole = b.fits.whole };
+  tight = b.tight;
+}
+
+-- the word of a match in the cell is that of the machine
+word_found : (x : List ℕ) (h : List Entry) (n game : ℕ) (w : MachineState) → IsMatch game → x ≡ words_after h n → w.history ≡ h → word_at x game ≡ word_of (match_after w.history game)
+word_found x h n game w is are same = ap (λ (ws : List ℕ). word_at ws game) are ∙ (match_word h n game is ∙ ap (λ (l : List Entry). word_of (match_after l game)) (sym same))
+
+-- a report's load
+module _ (x : List ℕ) (views : List CellView) (r : CellKeepsOneHistory x views) (seat : ℕ) (v : CellView) (e : EventCall) (here : get_elem? views seat ≡ some v) (acts : IsSome v.pass.share) (pos : 0 < v.pass.number) (is : IsMatch e.game) where
+  there_to_look : IsThere (history_of r.shared.log) (word_looked_at Look e.game x)
+  there_to_look = looked_there Look e.game x (history_of r.shared.log) r.shared.enlisted is r.shared.words_are
+
+  abbrev after_look : View
+  after_look = seen_by_load x views r seat v here acts (word_looked_at Look e.game x) there_to_look v.pass.shown
+
+  look_place : length (history_of r.shared.log) ≡ length after_look.seen
+  look_place = ap length (sym (load_same x views r seat v here acts (word_looked_at Look e.game x) there_to_look v.pass.shown))
+
+  is_reporter : IsReporter v.pass.number
+  is_reporter = let low = (r.shared.fits seat v.pass (at_seat x views r seat v here)).number in let few = r.shared.few in (omega arith, omega arith)
+
+  look_by : (o : Option Refusal) → refusal_of (record_at (word_at x e.game)) e.expected e.kind ≡ o → (w : CellView) × CellKeepsOneHistory x (set views seat w) × LookOfCell e v x x w
+  look_by None none = (
+    record { pass = after_look; calls = v.calls },
+    idle_load x views r seat v here acts (word_looked_at Look e.game x) there_to_look v.pass.shown,
+    record { looks = load_tells x views r seat v here acts (word_looked_at Look e.game x) there_to_look v.pass.shown; calls = sym (ap (λ (o : Option Refusal). after_load e (length after_look.seen) o v.calls) none) },
+  )
+  look_by (Some refusal) some_is =
+      let calls : List Answer = finished_too (Event e) (Refused refusal) (length after_look.seen) (length after_look.seen) v.calls in (
+        record { pass = after_look; calls = calls },
+        deciding_load x views r seat v here acts (word_looked_at Look e.game x) there_to_look v.pass.shown calls (Reporter v.pass.number) (λ readers one.
+            let found = word_found x (history_of r.shared.log) r.shared.enlisted e.game one.state is r.shared.words_are one.history_is in
+            let refuses = ap (λ (n : ℕ). refusal_of (record_at n) e.expected e.kind) (sym found) ∙ some_is in
+            let at : length one.state.history ≡ length after_look.seen = ap length one.history_is ∙ look_place in
+            subst (λ (n : ℕ). Burst seat v.pass.number one.state (Reporter v.pass.number) (all_finished (finished_too (Event e) (Refused refusal) n n v.calls)) []) at
+            (as_finished seat v.pass.number one.state (Reporter v.pass.number) (Event e) (Refused refusal) (length one.state.history) (length one.state.history) v.calls []
+            (refused_at_once (cast_for readers) seat v.pass.number one.steps one.state one.run (all_finished v.calls) (one.each seat (actor_of v) (actor_at x views r seat v here)) e (is_reporter, is) refl refusal refuses))),
+        record { looks = load_tells x views r seat v here acts (word_looked_at Look e.game x) there_to_look v.pass.shown; calls = sym (ap (λ (o : Option Refusal). after_load e (length after_look.seen) o v.calls) some_is) },
+      )
+
+pub looks : (seat : ℕ) (v : CellView) (e : EventCall) → IsSome v.pass.share → 0 < v.pass.number → IsMatch e.game → Turns CellKeepsOneHistory seat v (λ x. x) (LookOfCell e)
+looks seat v e acts pos is x views r here = look_by x views r seat v e here acts pos is (refusal_of (record_at (word_at x e.game)) e.expected e.kind) refl
+
+pub counts : (seat : ℕ) (v : CellView) → IsSome v.pass.share → Turns CellKeepsOneHistory seat v (λ x. x) CountOfCell
+counts seat v acts x views r here = (
+  record { pass = seen_by_load x views r seat v here acts (Enlisted (slice_index x 12)) tt v.pass.shown; calls = v.calls },
+  idle_load x views r seat v here acts (Enlisted (slice_index x 12)) tt v.pass.shown,
+  record { counts = load_tells x views r seat v here acts (Enlisted (slice_index x 12)) tt v.pass.shown; calls = refl },
+)
+
+pub reads : (seat : ℕ) (v : CellView) → IsSome v.pass.share → Turns CellKeepsOneHistory seat v (λ x. x) ReadOfCell
 reads seat v acts x views r here =
-    let shown : List ℕ = v.shown ++ length (history_of r.log) ∷ [] in
+    let shown : List ℕ = v.pass.shown ++ length (history_of r.shared.log) ∷ [] in
     let w = seen_by_load x views r seat v here acts Whole tt shown in
-    let same : shown ≡ v.shown ++ length w.seen ∷ [] = ap (λ (h : List Entry). v.shown ++ length h ∷ []) (sym (same_history words_after x views r seat v here acts Whole tt r.enlisted shown (le_refl r.enlisted))) in
-    (w, load_keeps x views r seat v here acts Whole tt shown, subst (λ (l : List ℕ). Looks Whole v l x w) same (load_tells x views r seat v here acts Whole tt shown))
+    let seen = load_same x views r seat v here acts Whole tt shown in
+    let same : shown ≡ v.pass.shown ++ length w.seen ∷ [] = ap (λ (h : List Entry). v.pass.shown ++ length h ∷ []) (sym seen) in
+    let now = length w.seen in
+    let words : List ℕ = take 12 x in
+    let board : words ≡ board_of (history_of r.shared.log) = ap (take 12) r.shared.words_are ∙ match_words (history_of r.shared.log) r.shared.enlisted in
+    let calls : List Answer = finished_too Reading (Copied (record { board = words; version = now })) now now v.calls in (
+      record { pass = w; calls = calls },
+      deciding_load x views r seat v here acts Whole tt shown calls (Reader (seat + 1)) (λ readers one.
+          as_finished seat v.pass.number one.state (Reader (seat + 1)) Reading (Copied (record { board = words; version = now })) now now v.calls []
+          (reading_at_once (cast_for readers) seat v.pass.number words now (ap length board ∙ board_length (history_of r.shared.log)) one.steps one.state one.run (all_finished v.calls) (one.each seat (actor_of v) (actor_at x views r seat v here)) refl
+          (board ∙ ap board_of (sym one.history_is)) (ap length one.history_is ∙ ap length (sym seen)))),
+      record { shows = subst (λ (l : List ℕ). Looks Whole v.pass l x w) same (load_tells x views r seat v here acts Whole tt shown); calls = refl },
+    )
 
 -- a board may open with the words of no event and no reporter
-pub begins : (words : List ℕ) → words ≡ words_after [] 0 → CellKeepsOneHistory words (opener ∷ [])
-begins = opens words_after
+pub begins : (words : List ℕ) → words ≡ words_after [] 0 → CellKeepsOneHistory words (first_cell_pass ∷ [])
+begins words are =
+    let same = opens_same words_after words are in
+    both words (first_cell_pass ∷ []) (opener ∷ []) (opens words_after words are) 0 [] refl same.0 (ap history_of same.1) (λ readers all. run_begins readers all)
 
 -- the exchange, by whether the words are those that were expected
 by_exchange : (current next : List ℕ) (P : List ℕ → List ℕ → Type 0) (x : List ℕ) → (x ≡ current → P x next) → (x ≢ current → P x x) → P x (if pointwise nat_eq x current then next else x)
@@ -106,95 +271,214 @@ by_exchange current next P x hit miss = go (pointwise nat_eq x current) refl
     go false e = miss (λ same. true≢false (sym ((bytes_decides x current).1 same) ∙ e))
 
 -- an exchange that adds an entry
-module _ (x next : List ℕ) (views : List View) (r : CellKeepsOneHistory x views) (seat : ℕ) (v : View) (e : Entry) (here : get_elem? views seat ≡ some v) (acts : IsSome v.share) (pos : 0 < v.number) (me : e.reporter ≡ v.number) (game : IsMatch e.game) (is : IsNextBoard e x next) where
-  next_is : (next ≡ words_after (followed_by (history_of r.log) e) r.enlisted) × IsLegal (followed_by (history_of r.log) e)
-  next_is = is (history_of r.log) r.enlisted r.legal r.words_are
+module _ (x next : List ℕ) (views : List CellView) (r : CellKeepsOneHistory x views) (seat : ℕ) (v : CellView) (e : EventCall) (here : get_elem? views seat ≡ some v) (acts : IsSome v.pass.share) (pos : 0 < v.pass.number) (game : IsMatch e.game)
+    (is : IsNextBoard (entry_of (v.pass.number, e)) x next) (accepts : AreAccepting x e) where
+  abbrev entry : Entry
+  entry = entry_of (v.pass.number, e)
 
-  there_now : IsThere (history_of r.log) (word_looked_at Swap e.game x)
-  there_now = looked_there Swap e.game x (history_of r.log) r.enlisted game r.words_are
+  abbrev known_here : get_elem? (views_known views) seat ≡ some v.pass
+  known_here = at_seat x views r seat v here
+
+  next_is : (next ≡ words_after (followed_by (history_of r.shared.log) entry) r.shared.enlisted) × IsLegal (followed_by (history_of r.shared.log) entry)
+  next_is = is (history_of r.shared.log) r.shared.enlisted r.shared.legal r.shared.words_are
+
+  there_now : IsThere (history_of r.shared.log) (word_looked_at Swap e.game x)
+  there_now = looked_there Swap e.game x (history_of r.shared.log) r.shared.enlisted game r.shared.words_are
 
   abbrev seen_by_store : View
-  seen_by_store = entered words_after x views r seat v here acts e (word_at x e.game) there_now pos me next_is.1 r.enlisted (le_refl r.enlisted)
+  seen_by_store = entered words_after x (views_known views) r.shared seat v.pass known_here acts entry (word_at x e.game) there_now pos refl next_is.1 r.shared.enlisted (le_refl r.shared.enlisted)
 
-  store_keeps : CellKeepsOneHistory next (set views seat seen_by_store)
-  store_keeps = add_keeps words_after x views r seat v here acts e (word_at x e.game) there_now pos me next_is.1 r.enlisted (le_refl r.enlisted) next next_is.0
+  longer : seen_by_store.seen ≡ followed_by (history_of r.shared.log) entry
+  longer = longer_history words_after x (views_known views) r.shared seat v.pass known_here acts entry (word_at x e.game) there_now pos refl next_is.1 r.shared.enlisted (le_refl r.shared.enlisted)
 
-  store_tells : StoresEntry e v x next seen_by_store
+  one_longer : length (history_of r.shared.log) + 1 ≡ length seen_by_store.seen
+  one_longer = sym (ap length longer ∙ length-append (history_of r.shared.log) (entry ∷ []))
+
+  abbrev calls_by_store : List Answer
+  calls_by_store = finished_too (Event e) (Accepted (record { number = (record_at (word_at x e.game)).number + 1 })) (length (history_of r.shared.log)) (length seen_by_store.seen) v.calls
+
+  abbrev after_store : CellView
+  after_store = record { pass = seen_by_store; calls = calls_by_store }
+
+  me : IsReporter v.pass.number
+  me = let low = (r.shared.fits seat v.pass known_here).number in let few = r.shared.few in (omega arith, omega arith)
+
+  store_burst : (readers : ℕ) (one : IsRunOfActors readers r.shared.enlisted (history_of r.shared.log) (actors_of views)) → Burst seat v.pass.number one.state (Reporter v.pass.number) (all_finished calls_by_store) (entry ∷ [])
+  store_burst readers one =
+      let found = word_found x (history_of r.shared.log) r.shared.enlisted e.game one.state game r.shared.words_are one.history_is in
+      let at : length one.state.history ≡ length (history_of r.shared.log) = ap length one.history_is in
+      let c : Caller = Reporter v.pass.number in
+      let reply : ℕ → Reply = λ n. Accepted (record { number = (record_at n).number + 1 }) in
+      let once = accepted_at_once (cast_for readers) seat v.pass.number one.steps one.state one.run (all_finished v.calls) (one.each seat (actor_of v) (actor_at x views r seat v here)) e (me, game) refl
+      (ap (λ (n : ℕ). refusal_of (record_at n) e.expected e.kind) (sym found) ∙ accepts) in
+      let done = as_finished seat v.pass.number one.state c (Event e) (reply (word_of (match_after one.state.history e.game))) (length one.state.history) (length one.state.history + 1) v.calls (entry ∷ []) once in
+      subst (λ (n : ℕ). Burst seat v.pass.number one.state c (all_finished (finished_too (Event e) (reply (word_at x e.game)) (length (history_of r.shared.log)) n v.calls)) (entry ∷ [])) one_longer
+      (subst (λ (n : ℕ). Burst seat v.pass.number one.state c (all_finished (finished_too (Event e) (reply (word_at x e.game)) n (n + 1) v.calls)) (entry ∷ [])) at
+      (subst (λ (n : ℕ). Burst seat v.pass.number one.state c (all_finished (finished_too (Event e) (reply n) (length one.state.history) (length one.state.history + 1) v.calls)) (entry ∷ [])) (sym found) done))
+
+  store_keeps : CellKeepsOneHistory next (set views seat after_store)
+  store_keeps =
+      let same = add_same words_after x (views_known views) r.shared seat v.pass known_here acts entry (word_at x e.game) there_now pos refl next_is.1 r.shared.enlisted (le_refl r.shared.enlisted) next next_is.0 in
+      both next (set views seat after_store) (set (views_known views) seat seen_by_store)
+      (add_keeps words_after x (views_known views) r.shared seat v.pass known_here acts entry (word_at x e.game) there_now pos refl next_is.1 r.shared.enlisted (le_refl r.shared.enlisted) next next_is.0)
+      r.shared.enlisted (followed_by (history_of r.shared.log) entry) (known_by x views r seat v here after_store) same.0 (ap history_of same.1 ∙ longer)
+      (λ readers all.
+      let long = length-set views seat after_store in
+      let one = r.one_run readers (omega arith) in
+      acted_by x views r seat v here after_store readers r.shared.enlisted (followed_by (history_of r.shared.log) entry)
+      (run_burst readers r.shared.enlisted (history_of r.shared.log) (actors_of views) one seat (actor_of v) (actor_at x views r seat v here) (all_finished calls_by_store) (followed_by (history_of r.shared.log) entry) (entry ∷ []) (Reporter v.pass.number)
+      (r.shared.fits seat v.pass known_here).number (apart_actors x views r) refl (store_burst readers one)))
+
+  store_tells : StoresEntry entry v.pass x next seen_by_store
   store_tells =
-      let f = r.fits seat v here in
+      let f = r.shared.fits seat v.pass known_here in
       record {
         seen_all = record {
-          words_are = next_is.0 ∙ ap (λ (h : List Entry). words_after h r.enlisted) (sym (longer_history words_after x views r seat v here acts e (word_at x e.game) there_now pos me next_is.1 r.enlisted (le_refl r.enlisted)));
+          words_are = next_is.0 ∙ ap (λ (h : List Entry). words_after h r.shared.enlisted) (sym longer);
           listed = f.listed;
           up_to_date = refl;
         };
-        adds = add_tells words_after x views r seat v here acts e (word_at x e.game) there_now pos me next_is.1 r.enlisted (le_refl r.enlisted);
-        before = history_of r.log;
-        legal = r.legal;
-        found = r.words_are;
+        adds = add_tells words_after x (views_known views) r.shared seat v.pass known_here acts entry (word_at x e.game) there_now pos refl next_is.1 r.shared.enlisted (le_refl r.shared.enlisted);
+        before = history_of r.shared.log;
+        legal = r.shared.legal;
+        found = r.shared.words_are;
       }
 
-  store_differs : x ≢ next
-  store_differs same = entry_differs (history_of r.log) r.enlisted e next_is.1 (sym r.words_are ∙ (same ∙ next_is.0))
+  store_decides : HasAccepted e (word_at x e.game) v after_store
+  store_decides = record { begun = length (history_of r.shared.log); last = one_longer; since = begins_length v.pass.seen (history_of r.shared.log) (r.shared.fits seat v.pass known_here).seen; calls = refl }
 
-pub adds : (seat : ℕ) (v : View) (e : Entry) (current next : List ℕ) → IsSome v.share → 0 < v.number → e.reporter ≡ v.number → IsMatch e.game → IsNextBoard e current next
-    → Turns CellKeepsOneHistory seat v (λ x. if pointwise nat_eq x current then next else x) (AddsOrLooks e)
-adds seat v e current next acts pos me game is x views r here =
-    by_exchange current next (λ x' y. (w : View) × CellKeepsOneHistory y (set views seat w) × AddsOrLooks e v x' y w) x
+  store_differs : x ≢ next
+  store_differs same = entry_differs (history_of r.shared.log) r.shared.enlisted entry next_is.1 (sym r.shared.words_are ∙ (same ∙ next_is.0))
+
+pub adds : (seat : ℕ) (v : CellView) (e : EventCall) (current next : List ℕ) → IsSome v.pass.share → 0 < v.pass.number → IsMatch e.game → IsNextBoard (entry_of (v.pass.number, e)) current next → AreAccepting current e
+    → Turns CellKeepsOneHistory seat v (λ x. if pointwise nat_eq x current then next else x) (AddOfCell e)
+adds seat v e current next acts pos game is accepts x views r here =
+    by_exchange current next (λ x' y. (w : CellView) × CellKeepsOneHistory y (set views seat w) × AddOfCell e v x' y w) x
     (λ same.
-    let is' : IsNextBoard e x next = subst (λ (ws : List ℕ). IsNextBoard e ws next) (sym same) is in
-    (seen_by_store x next views r seat v e here acts pos me game is', store_keeps x next views r seat v e here acts pos me game is', inr (store_differs x next views r seat v e here acts pos me game is', store_tells x next views r seat v e here acts pos me game is')))
+    let is' : IsNextBoard (entry_of (v.pass.number, e)) x next = subst (λ (ws : List ℕ). IsNextBoard (entry_of (v.pass.number, e)) ws next) (sym same) is in
+    let accepts' : AreAccepting x e = subst (λ (ws : List ℕ). AreAccepting ws e) (sym same) accepts in
+    let differs = store_differs x next views r seat v e here acts pos game is' accepts' in (
+      after_store x next views r seat v e here acts pos game is' accepts',
+      store_keeps x next views r seat v e here acts pos game is' accepts',
+      record {
+        adds = inr (differs, store_tells x next views r seat v e here acts pos game is' accepts');
+        missed = λ stays. absurd (differs stays);
+        won = λ _. store_decides x next views r seat v e here acts pos game is' accepts';
+      },
+    ))
     (λ _.
     let target = word_looked_at Swap e.game x in
-    let there = looked_there Swap e.game x (history_of r.log) r.enlisted game r.words_are in
-    (seen_by_load x views r seat v here acts target there v.shown, load_keeps x views r seat v here acts target there v.shown, inl (refl, load_tells x views r seat v here acts target there v.shown)))
+    let there = looked_there Swap e.game x (history_of r.shared.log) r.shared.enlisted game r.shared.words_are in (
+      record { pass = seen_by_load x views r seat v here acts target there v.pass.shown; calls = v.calls },
+      idle_load x views r seat v here acts target there v.pass.shown,
+      record { adds = inl (refl, load_tells x views r seat v here acts target there v.pass.shown); missed = λ _. refl; won = λ other. absurd (other refl) },
+    ))
 
 -- an exchange that adds a reporter
-module _ (x : List ℕ) (views : List View) (r : CellKeepsOneHistory x views) (seat : ℕ) (v : View) (here : get_elem? views seat ≡ some v) (acts : IsSome v.share) (reader : v.number ≡ 0) (room : slice_index x 12 < 255) where
-  left : r.enlisted < 255
-  left = subst (λ (k : ℕ). k < 255) (ap (λ (ws : List ℕ). slice_index ws 12) r.words_are ∙ last_word (history_of r.log) r.enlisted) room
+module _ (x : List ℕ) (views : List CellView) (r : CellKeepsOneHistory x views) (seat : ℕ) (v : CellView) (here : get_elem? views seat ≡ some v) (acts : IsSome v.pass.share) (reader : v.pass.number ≡ 0) (room : slice_index x 12 < 255) where
+  left : r.shared.enlisted < 255
+  left = subst (λ (k : ℕ). k < 255) (ap (λ (ws : List ℕ). slice_index ws 12) r.shared.words_are ∙ last_word (history_of r.shared.log) r.shared.enlisted) room
 
-  more : with_one_more x ≡ words_after (history_of r.log) (r.enlisted + 1)
-  more = ap with_one_more r.words_are ∙ more_words (history_of r.log) r.enlisted
+  more : with_one_more x ≡ words_after (history_of r.shared.log) (r.shared.enlisted + 1)
+  more = ap with_one_more r.shared.words_are ∙ more_words (history_of r.shared.log) r.shared.enlisted
+
+  abbrev seat_known : get_elem? (views_known views) seat ≡ some v.pass
+  seat_known = at_seat x views r seat v here
 
   abbrev seen_by_enlisting : View
-  seen_by_enlisting = enlisted_as words_after x views r seat v here acts reader left
+  seen_by_enlisting = enlisted_as words_after x (views_known views) r.shared seat v.pass seat_known acts reader left
 
-  enlisting_keeps : CellKeepsOneHistory (with_one_more x) (set views seat seen_by_enlisting)
-  enlisting_keeps = enlist_keeps words_after x views r seat v here acts reader left (with_one_more x) more
+  abbrev after_enlisting : CellView
+  after_enlisting = record { pass = seen_by_enlisting; calls = v.calls }
 
-  enlisting_tells : StoresReporter v (with_one_more x) seen_by_enlisting
+  enlisting_same : seen_by_enlisting.seen ≡ history_of r.shared.log
+  enlisting_same = unchanged_history words_after x (views_known views) r.shared seat v.pass seat_known acts reader left
+
+  enlisting_keeps : CellKeepsOneHistory (with_one_more x) (set views seat after_enlisting)
+  enlisting_keeps =
+      let same = enlist_same words_after x (views_known views) r.shared seat v.pass seat_known acts reader left (with_one_more x) more in
+      both (with_one_more x) (set views seat after_enlisting) (set (views_known views) seat seen_by_enlisting) (enlist_keeps words_after x (views_known views) r.shared seat v.pass seat_known acts reader left (with_one_more x) more)
+      (r.shared.enlisted + 1) (history_of r.shared.log) (known_by x views r seat v here after_enlisting) same.0 (ap history_of same.1 ∙ enlisting_same)
+      (λ readers all.
+      let long = length-set views seat after_enlisting in
+      acted_by x views r seat v here after_enlisting readers (r.shared.enlisted + 1) (history_of r.shared.log)
+      (run_enlisted readers r.shared.enlisted (history_of r.shared.log) (actors_of views) (r.one_run readers (omega arith)) seat (actor_of v) (actor_at x views r seat v here) reader left refl (low_actors x views r)))
+
+  enlisting_tells : StoresReporter v.pass (with_one_more x) seen_by_enlisting
   enlisting_tells =
-      let f = r.fits seat v here in
+      let f = r.shared.fits seat v.pass seat_known in
       let l = f.listed in
       record {
-        seen_all = record { words_are = more ∙ ap (λ (h : List Entry). words_after h (r.enlisted + 1)) (sym (unchanged_history words_after x views r seat v here acts reader left)); listed = omega arith; up_to_date = refl };
-        found = r.enlisted;
-        enlists = enlist_tells words_after x views r seat v here acts reader left;
+        seen_all = record { words_are = more ∙ ap (λ (h : List Entry). words_after h (r.shared.enlisted + 1)) (sym enlisting_same); listed = omega arith; up_to_date = refl };
+        found = r.shared.enlisted;
+        enlists = enlist_tells words_after x (views_known views) r.shared seat v.pass seat_known acts reader left;
       }
 
   enlisting_differs : x ≢ with_one_more x
-  enlisting_differs same = reporter_differs (history_of r.log) r.enlisted (sym r.words_are ∙ (same ∙ more))
+  enlisting_differs same = reporter_differs (history_of r.shared.log) r.shared.enlisted (sym r.shared.words_are ∙ (same ∙ more))
 
-pub enlists : (seat : ℕ) (v : View) (current next : List ℕ) → IsSome v.share → v.number ≡ 0 → slice_index current 12 < 255 → next ≡ with_one_more current
-    → Turns CellKeepsOneHistory seat v (λ x. if pointwise nat_eq x current then next else x) EnlistsOrLooks
+pub enlists : (seat : ℕ) (v : CellView) (current next : List ℕ) → IsSome v.pass.share → v.pass.number ≡ 0 → slice_index current 12 < 255 → next ≡ with_one_more current
+    → Turns CellKeepsOneHistory seat v (λ x. if pointwise nat_eq x current then next else x) EnlistOfCell
 enlists seat v current next acts reader room is x views r here =
-    by_exchange current next (λ x' y. (w : View) × CellKeepsOneHistory y (set views seat w) × EnlistsOrLooks v x' y w) x
+    by_exchange current next (λ x' y. (w : CellView) × CellKeepsOneHistory y (set views seat w) × EnlistOfCell v x' y w) x
     (λ same.
     let next' : next ≡ with_one_more x = is ∙ ap with_one_more (sym same) in
     let room' : slice_index x 12 < 255 = subst (λ (ws : List ℕ). slice_index ws 12 < 255) (sym same) room in
-    subst (λ (y : List ℕ). (w : View) × CellKeepsOneHistory y (set views seat w) × EnlistsOrLooks v x y w) (sym next')
-    (seen_by_enlisting x views r seat v here acts reader room', enlisting_keeps x views r seat v here acts reader room', inr (enlisting_differs x views r seat v here acts reader room', enlisting_tells x views r seat v here acts reader room')))
-    (λ _. (seen_by_load x views r seat v here acts (Enlisted (slice_index x 12)) tt v.shown, load_keeps x views r seat v here acts (Enlisted (slice_index x 12)) tt v.shown, inl (refl, load_tells x views r seat v here acts (Enlisted (slice_index x 12)) tt v.shown)))
+    subst (λ (y : List ℕ). (w : CellView) × CellKeepsOneHistory y (set views seat w) × EnlistOfCell v x y w) (sym next') (
+      after_enlisting x views r seat v here acts reader room',
+      enlisting_keeps x views r seat v here acts reader room',
+      record { enlists = inr (enlisting_differs x views r seat v here acts reader room', enlisting_tells x views r seat v here acts reader room'); calls = refl },
+    ))
+    (λ _. (
+      record { pass = seen_by_load x views r seat v here acts (Enlisted (slice_index x 12)) tt v.pass.shown; calls = v.calls },
+      idle_load x views r seat v here acts (Enlisted (slice_index x 12)) tt v.pass.shown,
+      record { enlists = inl (refl, load_tells x views r seat v here acts (Enlisted (slice_index x 12)) tt v.pass.shown); calls = refl },
+    ))
 
-pub seconds : (seat : ℕ) (v : View) → Forks CellKeepsOneHistory seat v (kept_of v) (second_of v)
-seconds seat v x views r here = second_added words_after x views r seat v here
+-- one pass more, that has finished no call, beside one that has finished what it had finished
+split_keeps : (x : List ℕ) (views : List CellView) (r : CellKeepsOneHistory x views) (seat : ℕ) (v : CellView) (here : get_elem? views seat ≡ some v) (u w : CellView) → actor_of u ≡ actor_of v → actor_of w ≡ record { number = 0; doing = nothing_done }
+    → (q : KeepsOneHistory words_after x (set (views_known views) seat u.pass ++ w.pass ∷ [])) → q.enlisted ≡ r.shared.enlisted → q.log ≡ r.shared.log → CellKeepsOneHistory x (set views seat u ++ w ∷ [])
+split_keeps x views r seat v here u w same none q enlisted log =
+    both x (set views seat u ++ w ∷ []) (set (views_known views) seat u.pass ++ w.pass ∷ []) q r.shared.enlisted (history_of r.shared.log)
+    (sym (map_more (λ (z : CellView). z.pass) (set views seat u) w ∙ ap (λ (l : List View). l ++ w.pass ∷ []) (map_set (λ (z : CellView). z.pass) views seat u))) enlisted (ap history_of log)
+    (λ readers all.
+    let long = length-append (set views seat u) (w ∷ []) in
+    let wide = length-set views seat u in
+    let actors = map_long actor_of (set views seat u) in
+    let one = same_run x views r seat v here u same readers r.shared.enlisted (history_of r.shared.log) (r.one_run readers (omega arith)) in
+    subst (λ (l : List Actor). IsRunOfActors readers r.shared.enlisted (history_of r.shared.log) l) (sym (map_more actor_of (set views seat u) w ∙ ap (λ (a : Actor). actors_of (set views seat u) ++ a ∷ []) none))
+    (run_more readers r.shared.enlisted (history_of r.shared.log) (actors_of (set views seat u)) one (omega arith)))
 
-pub notes : (seat : ℕ) (v : View) → Forks CellKeepsOneHistory seat v v (note_of v)
-notes seat v x views r here = note_added words_after x views r seat v here
+pub seconds : (seat : ℕ) (v : CellView) → Forks CellKeepsOneHistory seat v (left_cell_pass v) (second_cell_pass v)
+seconds seat v x views r here =
+    let at = at_seat x views r seat v here in
+    let same = second_same words_after x (views_known views) r.shared seat v.pass at in
+    split_keeps x views r seat v here (left_cell_pass v) (second_cell_pass v) refl refl (second_added words_after x (views_known views) r.shared seat v.pass at) same.0 same.1
 
-pub joins : (seat : ℕ) (v : View) (other : ℕ) (a : View) → Merges CellKeepsOneHistory seat v other (note_of a) (told_by v (note_of a)) newcomer
-joins seat v other a x views r here apart there = note_joined words_after x views r seat v here other (note_of a) apart there refl refl
+pub notes : (seat : ℕ) (v : CellView) → Forks CellKeepsOneHistory seat v v (note_cell_pass v)
+notes seat v x views r here =
+    let at = at_seat x views r seat v here in
+    let same = note_same words_after x (views_known views) r.shared seat v.pass at in
+    split_keeps x views r seat v here v (note_cell_pass v) refl refl (note_added words_after x (views_known views) r.shared seat v.pass at) same.0 same.1
+
+pub joins : (seat : ℕ) (v : CellView) (other : ℕ) (a : CellView) → Merges CellKeepsOneHistory seat v other (note_cell_pass a) (told_cell_pass v (note_cell_pass a)) new_cell_pass
+joins seat v other a x views r here apart there =
+    let at = at_seat x views r seat v here in
+    let told = told_cell_pass v (note_cell_pass a) in
+    let note = note_cell_pass a in
+    let told_views = set views seat told in
+    let is : views_known told_views ≡ set (views_known views) seat told.pass = map_set (λ (z : CellView). z.pass) views seat told in
+    let theirs : get_elem? (set (views_known views) seat told.pass) other ≡ some note.pass = subst (λ (l : List View). get_elem? l other ≡ some note.pass) is (map_at (λ (z : CellView). z.pass) told_views other note there) in
+    let same = joined_same words_after x (views_known views) r.shared seat v.pass at other note.pass apart theirs refl refl in
+    both x (set told_views other new_cell_pass) (set (set (views_known views) seat told.pass) other newcomer)
+    (note_joined words_after x (views_known views) r.shared seat v.pass at other note.pass apart theirs refl refl) r.shared.enlisted (history_of r.shared.log)
+    (sym (map_set (λ (z : CellView). z.pass) told_views other new_cell_pass ∙ ap (λ (l : List View). set l other newcomer) is)) same.0 (ap history_of same.1)
+    (λ readers all.
+    let wide = length-set views seat told in
+    let wider = length-set told_views other new_cell_pass in
+    let one = same_run x views r seat v here told refl readers r.shared.enlisted (history_of r.shared.log) (r.one_run readers (omega arith)) in
+    let here' : get_elem? (actors_of told_views) other ≡ some (actor_of new_cell_pass) = map_at actor_of told_views other note there in
+    subst (λ (l : List Actor). IsRunOfActors readers r.shared.enlisted (history_of r.shared.log) l) (sym (map_set actor_of told_views other new_cell_pass ∙ set_same (actors_of told_views) other (actor_of new_cell_pass) here')) one)
 
 other_words : (x current : List ℕ) → pointwise nat_eq x current ≡ false → x ≢ current
 other_words x current not is = true≢false (sym ((bytes_decides x current).1 is) ∙ not)
@@ -232,3 +516,43 @@ enlist_says v w current next (Ok x) is said =
     said.1
 enlist_says v w current next (Err x) is said =
     (other_words x current said.0, ⊎_elim (λ (t : (x ≡ x) × LooksAtEnlisted v x x w). t.1) (λ (t : (x ≢ x) × StoresReporter v x w). absurd (t.0 refl)) said.1)
+
+-- what an exchange for an event tells by its answer
+abbrev pub AnswersAdd : EventCall → CellView → List ℕ → List ℕ → Result (List ℕ) (List ℕ) → CellView → Type 0
+AnswersAdd e v current next r w = MatchResult r (λ x. (pointwise nat_eq x current ≡ true) × AddOfCell e v x next w) (λ x. (pointwise nat_eq x current ≡ false) × AddOfCell e v x x w)
+
+-- what it decides
+pub add_decides : (e : EventCall) (v w : CellView) (current next : List ℕ) (r : Result (List ℕ) (List ℕ)) → IsNextBoard (entry_of (v.pass.number, e)) current next
+    → AnswersAdd e v current next r w
+    → DecidesReport e v current r w
+add_decides e v w current next (Ok x) is said =
+    let same : x ≡ current = (bytes_decides x current).0 said.0 in
+    let differs : x ≢ next = ⊎_elim
+    (λ (t : (x ≡ next) × LooksOnly (word_looked_at Swap e.game x) v.pass x next w.pass).
+    let l = t.1 in
+    let was : current ≡ words_after w.pass.seen w.pass.listed = sym same ∙ (t.0 ∙ l.seen_all.words_are) in
+    let n = is w.pass.seen w.pass.listed l.sees.goes.legal was in
+    absurd (entry_differs w.pass.seen w.pass.listed (entry_of (v.pass.number, e)) n.1 (sym l.seen_all.words_are ∙ n.0)))
+    (λ (t : (x ≢ next) × StoresEntry (entry_of (v.pass.number, e)) v.pass x next w.pass). t.0)
+    said.1.adds in
+    subst (λ (ws : List ℕ). HasAccepted e (word_at ws e.game) v w) same (said.1.won differs)
+add_decides e v w current next (Err x) is said = said.1.missed refl
+
+-- what each exchange says of the pass
+pub add_seen : (e : EventCall) (v w : CellView) (current next : List ℕ) (r : Result (List ℕ) (List ℕ))
+    → AnswersAdd e v current next r w
+    → MatchResult r (λ x. (pointwise nat_eq x current ≡ true) × AddsOrLooks (entry_of (v.pass.number, e)) v.pass x next w.pass) (λ x. (pointwise nat_eq x current ≡ false) × AddsOrLooks (entry_of (v.pass.number, e)) v.pass x x w.pass)
+add_seen e v w current next (Ok x) said = (said.0, said.1.adds)
+add_seen e v w current next (Err x) said = (said.0, said.1.adds)
+
+pub enlist_seen : (v w : CellView) (current next : List ℕ) (r : Result (List ℕ) (List ℕ))
+    → MatchResult r (λ x. (pointwise nat_eq x current ≡ true) × EnlistOfCell v x next w) (λ x. (pointwise nat_eq x current ≡ false) × EnlistOfCell v x x w)
+    → MatchResult r (λ x. (pointwise nat_eq x current ≡ true) × EnlistsOrLooks v.pass x next w.pass) (λ x. (pointwise nat_eq x current ≡ false) × EnlistsOrLooks v.pass x x w.pass)
+enlist_seen v w current next (Ok x) said = (said.0, said.1.enlists)
+enlist_seen v w current next (Err x) said = (said.0, said.1.enlists)
+
+pub enlist_does : (v w : CellView) (current next : List ℕ) (r : Result (List ℕ) (List ℕ))
+    → MatchResult r (λ x. (pointwise nat_eq x current ≡ true) × EnlistOfCell v x next w) (λ x. (pointwise nat_eq x current ≡ false) × EnlistOfCell v x x w)
+    → w.calls ≡ v.calls
+enlist_does v w current next (Ok x) said = said.1.calls
+enlist_does v w current next (Err x) said = said.1.calls

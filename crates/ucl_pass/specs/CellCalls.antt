@@ -1,4 +1,4 @@
--- Which steps a call on the cell takes: the pass was v and is w.
+-- Which steps a call on the cell takes, and what it leaves among the finished calls of its pass: the pass was v and is w.
 use Rattle.std.specs.Prelude.{◌≡◌, ℕ, ◌+◌, ◌==◌, ◌≤◌, Bool, true, false, List, [], ◌∷◌, ◌++◌, length, filter, if◌then◌else◌, Option, Some, None, Result, Ok, Err, IsOk}
 use Rattle.std.specs.List.{AllByRecursion, flat_map}
 use Rattle.ucl_word.specs.declared.event.EventCall.{EventCall}
@@ -10,8 +10,14 @@ use Rattle.ucl_board.specs.declared.reading.Reading.{Reading}
 use Rattle.ucl_board.specs.History.{entry_of}
 use Rattle.ucl_board.specs.declared.entry.Entry.{Entry}
 use Rattle.ucl_board.specs.Log.{Look, Swap, Target, Match, Enlisted, Whole, Taken, step_taken}
+use Rattle.ucl_steps.specs.declared.step.Call.{Call}
+use Rattle.ucl_steps.specs.declared.step.Call.TheVariants as calls
+use Rattle.ucl_steps.specs.declared.trace.Reply.{Reply}
+use Rattle.ucl_steps.specs.declared.trace.Reply.TheVariants as replies
 use Rattle.ucl_shared.specs.declared.view.View.{View}
 use Rattle.ucl_shared.specs.Views.{Takes}
+use Rattle.ucl_pass.specs.declared.view.CellView.{CellView}
+use Rattle.ucl_pass.specs.CellSteps.{finished_too}
 
 -- a report on the cell: a load on whose word the rules refuse
 pub record CellRefused (call : EventCall) (refusal : Refusal) (now : ℕ) (steps : List Taken) : Type 0 where
@@ -99,3 +105,21 @@ CellHasReported steps n = length (filter (λ x. looks_for_report x.target) steps
 -- a reading of the cell is one load, at its version
 abbrev pub CellReading : View → Reading → View → Type 0
 CellReading v reading w = Takes v (step_taken Whole reading.version None ∷ []) w
+
+-- a call was answered: it is the last of the finished ones; it began when there were no fewer entries than its pass had seen before the
+-- call, and ended when there were as many as the pass has then seen
+pub record FinishesCall (v : CellView) (call : Call) (reply : Reply) (w : CellView) : Type 0 where
+  pub begun : ℕ
+  pub after_seen : length v.pass.seen ≤ begun
+  pub does : w.calls ≡ finished_too call reply begun (length w.pass.seen) v.calls
+
+-- the answer of a report, as the machine's reply
+abbrev pub reply_to_report : Result Accepted Refusal → Reply
+reply_to_report (Ok reply) = replies.Accepted reply
+reply_to_report (Err refusal) = replies.Refused refusal
+
+abbrev pub FinishesReport : CellView → EventCall → Result Accepted Refusal → CellView → Type 0
+FinishesReport v e answer w = FinishesCall v (calls.Event e) (reply_to_report answer) w
+
+abbrev pub FinishesReading : CellView → Reading → CellView → Type 0
+FinishesReading v reading w = FinishesCall v calls.Reading (replies.Copied reading) w

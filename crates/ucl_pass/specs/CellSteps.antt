@@ -1,13 +1,26 @@
--- What each kind of step on the cell tells its pass: v before and w after, x the words found and y the words left.
-use Rattle.std.specs.Prelude.{◌≡◌, ◌≢◌, ◌⊎◌, ℕ, ◌+◌, ◌≤◌, List, [], ◌∷◌, ◌++◌, length, slice_index, slice_set, Result, MatchResult}
+-- What each kind of step on the cell tells its pass, and which call it decides: v before and w after, x the words found and y the words left.
+use Rattle.std.specs.Prelude.{◌≡◌, ◌≢◌, ◌⊎◌, ℕ, ◌+◌, ◌≤◌, List, [], ◌∷◌, ◌++◌, length, take, slice_index, slice_set, Option, Some, None, Result, MatchResult}
 use Rattle.ucl_word.specs.declared.event.Kind.TheVariants.{KickOff}
+use Rattle.ucl_word.specs.declared.event.EventCall.{EventCall}
+use Rattle.ucl_word.specs.declared.refusal.Refusal.{Refusal}
+use Rattle.ucl_word.specs.Rules.{refusal_of}
+use Rattle.ucl_word.specs.Layout.{record_at}
 use Rattle.ucl_board.specs.declared.entry.Entry.{Entry}
 use Rattle.ucl_board.specs.Words.{word_at}
-use Rattle.ucl_board.specs.History.{IsLegal, followed_by}
+use Rattle.ucl_board.specs.History.{IsLegal, followed_by, entry_of}
 use Rattle.ucl_board.specs.Log.{AccessKind, Look, Swap, Target, Match, Enlisted, Whole, Taken}
 use Rattle.ucl_shared.specs.declared.view.View.{View}
 use Rattle.ucl_shared.specs.Views.{Takes}
 use Rattle.ucl_shared.specs.Steps.{Sees, Adds, Enlists}
+use Rattle.ucl_steps.specs.declared.step.Call.{Call}
+use Rattle.ucl_steps.specs.declared.step.Call.TheVariants.{Event, Reading}
+use Rattle.ucl_steps.specs.declared.trace.Reply.{Reply}
+use Rattle.ucl_steps.specs.declared.trace.Reply.TheVariants.{Accepted, Refused, Copied}
+use Rattle.ucl_steps.specs.Protocol.{Answer}
+use Rattle.ucl_pass.specs.declared.view.CellView.{CellView}
+use Rattle.atomic_table.specs.declared.shared.Seat.{Seat}
+use Rattle.crossbeam_utils.specs.declared.atomic.seq_cell.Doing as cell
+use Rattle.ucl_pass.specs.CellViews.{knows}
 use Rattle.ucl_pass.specs.CellRule.{words_after, IsUpToDate}
 
 -- the words with one event more, whatever the history is that they are the words of
@@ -85,10 +98,73 @@ ExchangesReporter v current next answer w = MatchResult answer
 abbrev pub EnlistsOrLooks : View → List ℕ → List ℕ → View → Type 0
 EnlistsOrLooks v x y w = ((x ≡ y) × LooksAtEnlisted v x y w) ⊎ ((x ≢ y) × StoresReporter v y w)
 
--- an entry for exchanges that add none
-abbrev pub no_entry : Entry
-no_entry = record { game = 0; reporter = 0; kind = KickOff }
+-- a call more is finished: it began when there were so many entries, and ended when there were so many
+abbrev pub finished_too : Call → Reply → ℕ → ℕ → List Answer → List Answer
+finished_too call reply begun ended calls = calls ++ record { call = call; reply = reply; begun = begun; ended = ended } ∷ []
+
+-- where the rules refuse the event, the load decides the report: all of it is at this place of the history
+abbrev pub after_load : EventCall → ℕ → Option Refusal → List Answer → List Answer
+after_load e at (Some refusal) calls = finished_too (Event e) (Refused refusal) at at calls
+after_load e at None calls = calls
+
+abbrev pub decided_by_load : EventCall → ℕ → ℕ → List Answer → List Answer
+decided_by_load e found at calls = after_load e at (refusal_of (record_at found) e.expected e.kind) calls
+
+-- an exchange that stored an event decides its report: the entry came between its beginning and its end
+pub record HasAccepted (e : EventCall) (found : ℕ) (v w : CellView) : Type 0 where
+  pub begun : ℕ
+  pub last : begun + 1 ≡ length w.pass.seen
+  pub since : length v.pass.seen ≤ begun
+  pub calls : w.calls ≡ finished_too (Event e) (Accepted (record { number = (record_at found).number + 1 })) begun (length w.pass.seen) v.calls
+
+-- what an exchange for an event decides by its answer: where it stored the event, the report; else nothing
+abbrev pub DecidesReport : EventCall → CellView → List ℕ → Result (List ℕ) (List ℕ) → CellView → Type 0
+DecidesReport e v current answer w = MatchResult answer (λ _. HasAccepted e (word_at current e.game) v w) (λ _. w.calls ≡ v.calls)
+
+-- the steps of the cell
+
+-- a report's load
+pub record LookOfCell (e : EventCall) (v : CellView) (x y : List ℕ) (w : CellView) : Type 0 where
+  pub looks : LooksAtMatch e.game v.pass x y w.pass
+  pub calls : w.calls ≡ decided_by_load e (word_at x e.game) (length w.pass.seen) v.calls
+
+-- a report's exchange
+pub record AddOfCell (e : EventCall) (v : CellView) (x y : List ℕ) (w : CellView) : Type 0 where
+  pub adds : AddsOrLooks (entry_of (v.pass.number, e)) v.pass x y w.pass
+  pub missed : x ≡ y → w.calls ≡ v.calls
+  pub won : x ≢ y → HasAccepted e (word_at x e.game) v w
+
+-- a reading's load, which decides the reading
+pub record ReadOfCell (v : CellView) (x y : List ℕ) (w : CellView) : Type 0 where
+  pub shows : LooksAndShows v.pass x y w.pass
+  pub calls : w.calls ≡ finished_too Reading (Copied (record { board = take 12 x; version = length w.pass.seen })) (length w.pass.seen) (length w.pass.seen) v.calls
+
+-- the load of an enlistment or a meeting
+pub record CountOfCell (v : CellView) (x y : List ℕ) (w : CellView) : Type 0 where
+  pub counts : LooksAtEnlisted v.pass x y w.pass
+  pub calls : w.calls ≡ v.calls
+
+-- the exchange of an enlistment
+pub record EnlistOfCell (v : CellView) (x y : List ℕ) (w : CellView) : Type 0 where
+  pub enlists : EnlistsOrLooks v.pass x y w.pass
+  pub calls : w.calls ≡ v.calls
+
+-- the entry that a pass at this seat would add by an event
+abbrev pub entry_at : {T : Type 0} → Seat T (cell.Doing T CellView) → EventCall → Entry
+entry_at p e = entry_of ((knows p).number, e)
+
+-- what an exchange for an event answers at a seat
+abbrev pub StoresOrLooks : {T : Type 0} → Seat T (cell.Doing T CellView) → EventCall → List ℕ → List ℕ → Result (List ℕ) (List ℕ) → Seat T (cell.Doing T CellView) → Type 0
+StoresOrLooks p e current next answer q = ExchangesEntry (entry_at p e) (knows p) current next answer (knows q)
+
+-- the rules accept the event where these words are
+abbrev pub AreAccepting : List ℕ → EventCall → Type 0
+AreAccepting words e = refusal_of (record_at (word_at words e.game)) e.expected e.kind ≡ None
+
+-- a call for reports that ask nothing
+abbrev pub asks_nothing : EventCall
+asks_nothing = record { game = 0; expected = 0; kind = KickOff }
 
 -- whatever it finds and leaves, a step of this kind is one step in the log, of the pass that took it
-abbrev pub LogsOneStep : (View → List ℕ → List ℕ → View → Type 0) → Type 0
-LogsOneStep tells = (v : View) (x y : List ℕ) (w : View) → tells v x y w → (t : Taken) × Takes v (t ∷ []) w
+abbrev pub LogsOneStep : (CellView → List ℕ → List ℕ → CellView → Type 0) → Type 0
+LogsOneStep tells = (v : CellView) (x y : List ℕ) (w : CellView) → tells v x y w → (t : Taken) × Takes v.pass (t ∷ []) w.pass

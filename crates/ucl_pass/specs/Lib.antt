@@ -1,3 +1,6 @@
+pub mod Actors
+pub mod CellViews
 pub mod CellRule
 pub mod CellSteps
 pub mod CellCalls
+pub mod Laws

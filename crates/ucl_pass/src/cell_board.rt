@@ -6,25 +6,26 @@ ghost use Rattle.crossbeam_utils.specs.Seq.{cell_view};
 ghost use Rattle.ucl_board.specs.Fixtures.{IsMatch};
 ghost use Rattle.ucl_board.specs.Words.{AreWords};
 ghost use Rattle.ucl_shared.specs.Passes.{Continues, AcceptedReport, RefusedReport, SharedReading, Enlistment, FullBoard, Hearing, Meeting, opening_pass};
-ghost use Rattle.ucl_shared.specs.Views.{pass_view_of, count_of, kept_of, second_of, note_of, IsNote};
+ghost use Rattle.ucl_shared.specs.Views.{pass_view_of, count_of};
 ghost use Rattle.ucl_shared.specs.OneHistory.{BoardsOpenFresh};
 ghost use Rattle.ucl_pass.specs.CellRule.{words_after, IsTheRule, IsUpToDate};
-ghost use Rattle.ucl_pass.specs.CellSteps.{ExchangesEntry, ExchangesReporter, IsNextBoard, with_one_more, LooksAtMatch, LooksAtEnlisted, LooksAndShows};
+ghost use Rattle.ucl_pass.specs.CellViews.{knows, calls_at, left_cell_pass, second_cell_pass, note_cell_pass, IsCellNote};
+ghost use Rattle.ucl_pass.specs.CellSteps.{ExchangesReporter, IsNextBoard, AreAccepting, entry_at, StoresOrLooks, DecidesReport, with_one_more, LooksAtMatch, LooksAtEnlisted, LooksAndShows, LookOfCell, ReadOfCell};
 ghost use Rattle.ucl_shared.specs.CallSteps.{MeetingSteps};
-ghost use Rattle.ucl_pass.specs.CellCalls.{CellReport, CellEnlistment, CellReading};
+ghost use Rattle.ucl_pass.specs.CellCalls.{CellReport, CellEnlistment, CellReading, FinishesReport, FinishesReading};
 
 use crate::passes::CellReaderPass;
 use crate::rule::{
-    Adding, Adds, Cell, Counts, Enlists, LooksAt, Note, OneHistory, Reads, Seat, SecondPass,
+    Adds, Asking, Cell, Counts, Enlists, LooksAt, Note, OneHistory, Reads, Seat, SecondPass,
 };
+use crate::view::CellView;
 use crossbeam_utils::atomic::seq_cell::RuledSeqCell;
 use crossbeam_utils::rule::Protocol;
 use std::alloc::Global;
 use std::marker::{Brand, Model};
 use std::sync::Wait;
-use ucl_board::{Board, Entry, Reading};
-use ucl_shared::View;
-use ucl_word::{Accepted, EventCall, MatchNo, OutOfMemory, Refusal, ReporterNo};
+use ucl_board::{Board, Reading};
+use ucl_word::{Accepted, EventCall, OutOfMemory, Refusal, ReporterNo};
 
 /// How many reporters a board can have.
 const MOST_REPORTERS: u64 = 255;
@@ -85,7 +86,7 @@ impl CellBoard {
         ensures fresh { IfOk result (λ opened. pass_view_of opened.1.view ≡ opening_pass) }
         ensures acts { IfOk result (λ opened. (opened.1.view.copied ≡ []) × (opened.1.view.own ≡ [])) }
         ensures rule { BoardsOpenFresh words_after }
-        ensures tied { IsTheRule ⟦<OneHistory as Protocol<[u64; 13], View>>⟧.holds }
+        ensures tied { IsTheRule ⟦<OneHistory as Protocol<[u64; 13], CellView>>⟧.holds }
     {
         let (cell, seat) = Cell::ruled(alloc, words_with(&Board::fresh(), 0))?;
         Ok((CellBoard { cell }, CellReaderPass { seat }))
@@ -93,32 +94,35 @@ impl CellBoard {
 
     /// The cell of the board. Its type names its rule, `OneHistory`, which is the rule that the laws on boards speak of. It is there for
     /// that: nobody needs it to call the board.
-    pub fn cell(&self) -> &RuledSeqCell<[u64; 13], View, OneHistory, 13>
+    pub fn cell(&self) -> &RuledSeqCell<[u64; 13], CellView, OneHistory, 13>
         ensures own { result.now.table.shared.table_id ≡ self.now }
-        ensures tied { IsTheRule ⟦<OneHistory as Protocol<[u64; 13], View>>⟧.holds }
+        ensures tied { IsTheRule ⟦<OneHistory as Protocol<[u64; 13], CellView>>⟧.holds }
     {
         &self.cell
     }
 
-    /// Loads the words, for a report that would add this entry.
-    fn look<K: Adding, R: Wait>(&self, rt: &R, seat: &mut Seat, game: MatchNo) -> [u64; 13]
+    /// Loads the words, for a report of this event.
+    fn look<K: Asking, R: Wait>(&self, rt: &R, seat: &mut Seat, call: &EventCall) -> [u64; 13]
         requires cell { seat.old.table_id ≡ self.now }
-        requires acts { IsSome (cell_view seat.old).share }
-        requires game { K.entry.game ≡ game }
+        requires acts { IsSome (knows seat.old).share }
+        requires asks { K.call ≡ call.now }
+        requires me { 0 < (knows seat.old).number }
         ensures own { seat.new.table_id ≡ seat.old.table_id }
-        ensures game { IsMatch game }
-        ensures looks { LooksAtMatch game (cell_view seat.old) result result (cell_view seat.new) }
+        ensures game { IsMatch call.now.game }
+        ensures looks { LooksAtMatch call.now.game (knows seat.old) result result (knows seat.new) }
+        ensures decides { LookOfCell call.now (cell_view seat.old) result result (cell_view seat.new) }
     {
-        let _number = game.get();
+        let _number = call.game.get();
         self.cell.load_as::<LooksAt<K>, R>(rt, seat)
     }
 
     /// Loads the words, for an enlistment or a meeting.
     fn count<R: Wait>(&self, rt: &R, seat: &mut Seat) -> [u64; 13]
         requires cell { seat.old.table_id ≡ self.now }
-        requires acts { IsSome (cell_view seat.old).share }
+        requires acts { IsSome (knows seat.old).share }
         ensures own { seat.new.table_id ≡ seat.old.table_id }
-        ensures looks { LooksAtEnlisted (cell_view seat.old) result result (cell_view seat.new) }
+        ensures looks { LooksAtEnlisted (knows seat.old) result result (knows seat.new) }
+        ensures does { calls_at seat.new ≡ calls_at seat.old }
     {
         self.cell.load_as::<Counts, R>(rt, seat)
     }
@@ -126,30 +130,33 @@ impl CellBoard {
     /// Loads the words, whose version is shown.
     fn look_to_show<R: Wait>(&self, rt: &R, seat: &mut Seat) -> [u64; 13]
         requires cell { seat.old.table_id ≡ self.now }
-        requires acts { IsSome (cell_view seat.old).share }
+        requires acts { IsSome (knows seat.old).share }
         ensures own { seat.new.table_id ≡ seat.old.table_id }
-        ensures looks { LooksAndShows (cell_view seat.old) result result (cell_view seat.new) }
+        ensures looks { LooksAndShows (knows seat.old) result result (knows seat.new) }
+        ensures decides { ReadOfCell (cell_view seat.old) result result (cell_view seat.new) }
     {
         self.cell.load_as::<Reads, R>(rt, seat)
     }
 
-    /// Stores the words with one event more, `entry`, where the words are still those given.
-    fn store_event<K: Adding, R: Wait>(
+    /// Stores the words with one event more, that of `call`, where the words are still those given.
+    fn store_event<K: Asking, R: Wait>(
         &self,
         rt: &R,
         seat: &mut Seat,
         current: [u64; 13],
         next: [u64; 13],
-        entry: Entry,
+        call: &EventCall,
     ) -> Result<[u64; 13], [u64; 13]>
         requires cell { seat.old.table_id ≡ self.now }
-        requires acts { IsSome (cell_view seat.old).share }
-        requires entry { K.entry ≡ entry }
-        requires me { (0 < (cell_view seat.old).number) × (K.entry.reporter ≡ (cell_view seat.old).number) }
-        requires game { IsMatch K.entry.game }
-        requires next { IsNextBoard K.entry current next }
+        requires acts { IsSome (knows seat.old).share }
+        requires asks { K.call ≡ call.now }
+        requires me { 0 < (knows seat.old).number }
+        requires game { IsMatch call.now.game }
+        requires next { IsNextBoard (entry_at seat.old call.now) current next }
+        requires accepts { AreAccepting current call.now }
         ensures own { seat.new.table_id ≡ seat.old.table_id }
-        ensures stored { ExchangesEntry K.entry (cell_view seat.old) current next result (cell_view seat.new) }
+        ensures stored { StoresOrLooks seat.old call.now current next result seat.new }
+        ensures decides { DecidesReport call.now (cell_view seat.old) current result (cell_view seat.new) }
     {
         self.cell
             .compare_exchange_as::<Adds<K>, R>(rt, seat, current, next)
@@ -164,12 +171,13 @@ impl CellBoard {
         next: [u64; 13],
     ) -> Result<[u64; 13], [u64; 13]>
         requires cell { seat.old.table_id ≡ self.now }
-        requires acts { IsSome (cell_view seat.old).share }
+        requires acts { IsSome (knows seat.old).share }
         requires next { next ≡ with_one_more current }
         requires room { slice_index current 12 < 255 }
-        requires reader { (cell_view seat.old).number ≡ 0 }
+        requires reader { (knows seat.old).number ≡ 0 }
         ensures own { seat.new.table_id ≡ seat.old.table_id }
-        ensures stored { ExchangesReporter (cell_view seat.old) current next result (cell_view seat.new) }
+        ensures stored { ExchangesReporter (knows seat.old) current next result (knows seat.new) }
+        ensures does { calls_at seat.new ≡ calls_at seat.old }
     {
         self.cell
             .compare_exchange_as::<Enlists, R>(rt, seat, current, next)
@@ -184,29 +192,25 @@ impl CellBoard {
         call: &EventCall,
     ) -> Result<Accepted, Refusal>
         requires cell { seat.old.table_id ≡ self.now }
-        requires acts { IsSome (cell_view seat.old).share }
-        requires me { (0 < reporter) × ((cell_view seat.old).number ≡ reporter) }
+        requires acts { IsSome (knows seat.old).share }
+        requires me { (0 < reporter) × ((knows seat.old).number ≡ reporter) }
         ensures own { seat.new.table_id ≡ seat.old.table_id }
-        ensures always { Continues (pass_view_of (cell_view seat.old)) (pass_view_of (cell_view seat.new)) }
-        ensures accepted { IfOk result (λ reply. AcceptedReport (pass_view_of (cell_view seat.old)) call.now reply (pass_view_of (cell_view seat.new))) }
-        ensures refused { IfErr result (λ refusal. RefusedReport (pass_view_of (cell_view seat.old)) call.now refusal (pass_view_of (cell_view seat.new))) }
-        ensures steps { CellReport (cell_view seat.old) call.now result (cell_view seat.new) }
-        ensures up_to_date { IsUpToDate (cell_view seat.new) }
+        ensures always { Continues (pass_view_of (knows seat.old)) (pass_view_of (knows seat.new)) }
+        ensures accepted { IfOk result (λ reply. AcceptedReport (pass_view_of (knows seat.old)) call.now reply (pass_view_of (knows seat.new))) }
+        ensures refused { IfErr result (λ refusal. RefusedReport (pass_view_of (knows seat.old)) call.now refusal (pass_view_of (knows seat.new))) }
+        ensures steps { CellReport (knows seat.old) call.now result (knows seat.new) }
+        ensures answers { FinishesReport (cell_view seat.old) call.now result (cell_view seat.new) }
+        ensures up_to_date { IsUpToDate (knows seat.new) }
     {
         'retry: for _ in rt.forever() {
-            let words = self.look::<Brand, R>(rt, seat, call.game);
+            let words = self.look::<Brand, R>(rt, seat, call);
             let mut board = board_at(&words);
             let accepted = match board.report(reporter, call) {
                 Ok(accepted) => accepted,
                 Err(refusal) => return Err(refusal),
             };
             let next = words_with(&board, words[12]);
-            let entry = Entry {
-                game: call.game,
-                reporter,
-                kind: call.kind,
-            };
-            let stored = self.store_event::<Brand, R>(rt, seat, words, next, entry);
+            let stored = self.store_event::<Brand, R>(rt, seat, words, next, call);
             if stored.is_ok() {
                 return Ok(accepted);
             }
@@ -217,13 +221,14 @@ impl CellBoard {
     /// The board of one load, and its version.
     pub(crate) fn read_by<R: Wait>(&self, rt: &R, seat: &mut Seat) -> Reading
         requires cell { seat.old.table_id ≡ self.now }
-        requires acts { IsSome (cell_view seat.old).share }
+        requires acts { IsSome (knows seat.old).share }
         ensures own { seat.new.table_id ≡ seat.old.table_id }
-        ensures always { Continues (pass_view_of (cell_view seat.old)) (pass_view_of (cell_view seat.new)) }
-        ensures reading { SharedReading (pass_view_of (cell_view seat.old)) result (pass_view_of (cell_view seat.new)) }
-        ensures version { result.version ≡ length (cell_view seat.new).seen }
-        ensures steps { CellReading (cell_view seat.old) result (cell_view seat.new) }
-        ensures up_to_date { IsUpToDate (cell_view seat.new) }
+        ensures always { Continues (pass_view_of (knows seat.old)) (pass_view_of (knows seat.new)) }
+        ensures reading { SharedReading (pass_view_of (knows seat.old)) result (pass_view_of (knows seat.new)) }
+        ensures version { result.version ≡ length (knows seat.new).seen }
+        ensures steps { CellReading (knows seat.old) result (knows seat.new) }
+        ensures answers { FinishesReading (cell_view seat.old) result (cell_view seat.new) }
+        ensures up_to_date { IsUpToDate (knows seat.new) }
     {
         let words = self.look_to_show(rt, seat);
         let board = board_at(&words);
@@ -234,16 +239,17 @@ impl CellBoard {
     /// Makes a seat a reporter's, and answers its number. `None` where 255 are enlisted.
     pub(crate) fn enlist_by<R: Wait>(&self, rt: &R, seat: &mut Seat) -> Option<ReporterNo>
         requires cell { seat.old.table_id ≡ self.now }
-        requires acts { IsSome (cell_view seat.old).share }
-        requires reader { (cell_view seat.old).number ≡ 0 }
+        requires acts { IsSome (knows seat.old).share }
+        requires reader { (knows seat.old).number ≡ 0 }
         ensures own { seat.new.table_id ≡ seat.old.table_id }
-        ensures enlisted { IfSome result (λ number. Enlistment (pass_view_of (cell_view seat.old)) (pass_view_of (cell_view seat.new)) × ((cell_view seat.new).number ≡ number)) }
-        ensures always { IfNone result (Continues (pass_view_of (cell_view seat.old)) (pass_view_of (cell_view seat.new))) }
-        ensures full { IfNone result (FullBoard (pass_view_of (cell_view seat.old)) (pass_view_of (cell_view seat.new))) }
-        ensures acts { count_of (cell_view seat.old) < count_of (cell_view seat.new) }
-        ensures given { IfSome result (λ _. CellEnlistment (cell_view seat.old) true (cell_view seat.new)) }
-        ensures none { IfNone result (CellEnlistment (cell_view seat.old) false (cell_view seat.new)) }
-        ensures up_to_date { IsUpToDate (cell_view seat.new) }
+        ensures enlisted { IfSome result (λ number. Enlistment (pass_view_of (knows seat.old)) (pass_view_of (knows seat.new)) × ((knows seat.new).number ≡ number)) }
+        ensures always { IfNone result (Continues (pass_view_of (knows seat.old)) (pass_view_of (knows seat.new))) }
+        ensures full { IfNone result (FullBoard (pass_view_of (knows seat.old)) (pass_view_of (knows seat.new))) }
+        ensures acts { count_of (knows seat.old) < count_of (knows seat.new) }
+        ensures given { IfSome result (λ _. CellEnlistment (knows seat.old) true (knows seat.new)) }
+        ensures none { IfNone result (CellEnlistment (knows seat.old) false (knows seat.new)) }
+        ensures does { calls_at seat.new ≡ calls_at seat.old }
+        ensures up_to_date { IsUpToDate (knows seat.new) }
     {
         'retry: for _ in rt.forever() {
             let words = self.count(rt, seat);
@@ -263,8 +269,8 @@ impl CellBoard {
     pub(crate) fn split_seat(&self, seat: &mut Seat) -> Seat
         requires { seat.old.table_id ≡ self.now }
         ensures own { seat.new.table_id ≡ seat.old.table_id }
-        ensures kept { cell_view seat.new ≡ kept_of (cell_view seat.old) }
-        ensures given { (result.table_id ≡ seat.old.table_id) × (cell_view result ≡ second_of (cell_view seat.old)) × (result.me.1 ≡ []) }
+        ensures kept { cell_view seat.new ≡ left_cell_pass (cell_view seat.old) }
+        ensures given { (result.table_id ≡ seat.old.table_id) × (cell_view result ≡ second_cell_pass (cell_view seat.old)) × (result.me.1 ≡ []) }
     {
         self.cell.split_pass::<SecondPass>(seat)
     }
@@ -274,7 +280,7 @@ impl CellBoard {
         requires { seat.old.table_id ≡ self.now }
         ensures own { seat.new.table_id ≡ seat.old.table_id }
         ensures unchanged { cell_view seat.new ≡ cell_view seat.old }
-        ensures given { (result.table_id ≡ seat.old.table_id) × (cell_view result ≡ note_of (cell_view seat.old)) × (result.me.1 ≡ []) }
+        ensures given { (result.table_id ≡ seat.old.table_id) × (cell_view result ≡ note_cell_pass (cell_view seat.old)) × (result.me.1 ≡ []) }
     {
         self.cell.split_pass::<Note>(seat)
     }
@@ -282,13 +288,14 @@ impl CellBoard {
     /// A note is joined to a seat, which then loads the words.
     pub(crate) fn hear_by<R: Wait>(&self, rt: &R, seat: &mut Seat, note: Seat)
         requires cell { (seat.old.table_id ≡ self.now) × (note.table_id ≡ self.now) }
-        requires acts { IsSome (cell_view seat.old).share }
-        requires note { IsNote (cell_view note) × (note.me.1 ≡ []) }
+        requires acts { IsSome (knows seat.old).share }
+        requires note { IsCellNote (cell_view note) × (note.me.1 ≡ []) }
         ensures own { seat.new.table_id ≡ seat.old.table_id }
-        ensures always { Continues (pass_view_of (cell_view seat.old)) (pass_view_of (cell_view seat.new)) }
-        ensures heard { Hearing (cell_view note).seen (pass_view_of (cell_view seat.old)) (pass_view_of (cell_view seat.new)) }
-        ensures steps { MeetingSteps (cell_view seat.old) (cell_view seat.new) }
-        ensures up_to_date { IsUpToDate (cell_view seat.new) }
+        ensures always { Continues (pass_view_of (knows seat.old)) (pass_view_of (knows seat.new)) }
+        ensures heard { Hearing (knows note).seen (pass_view_of (knows seat.old)) (pass_view_of (knows seat.new)) }
+        ensures steps { MeetingSteps (knows seat.old) (knows seat.new) }
+        ensures does { calls_at seat.new ≡ calls_at seat.old }
+        ensures up_to_date { IsUpToDate (knows seat.new) }
     {
         self.cell.join_pass::<Note>(seat, note);
         self.count(rt, seat);
@@ -297,13 +304,14 @@ impl CellBoard {
     /// The second hears a note of the first.
     pub(crate) fn meet_by<R: Wait>(&self, rt: &R, first: &mut Seat, second: &mut Seat)
         requires cell { (first.old.table_id ≡ self.now) × (second.old.table_id ≡ self.now) }
-        requires acts { IsSome (cell_view second.old).share }
+        requires acts { IsSome (knows second.old).share }
         ensures own { (first.new.table_id ≡ first.old.table_id) × (second.new.table_id ≡ second.old.table_id) }
         ensures unchanged { cell_view first.new ≡ cell_view first.old }
-        ensures always { Continues (pass_view_of (cell_view second.old)) (pass_view_of (cell_view second.new)) }
-        ensures meeting { Meeting (pass_view_of (cell_view first.old)) (pass_view_of (cell_view second.old)) (pass_view_of (cell_view second.new)) }
-        ensures steps { MeetingSteps (cell_view second.old) (cell_view second.new) }
-        ensures up_to_date { IsUpToDate (cell_view second.new) }
+        ensures always { Continues (pass_view_of (knows second.old)) (pass_view_of (knows second.new)) }
+        ensures meeting { Meeting (pass_view_of (knows first.old)) (pass_view_of (knows second.old)) (pass_view_of (knows second.new)) }
+        ensures steps { MeetingSteps (knows second.old) (knows second.new) }
+        ensures does { calls_at second.new ≡ calls_at second.old }
+        ensures up_to_date { IsUpToDate (knows second.new) }
     {
         let note = self.note_by(first);
         self.hear_by(rt, second, note);

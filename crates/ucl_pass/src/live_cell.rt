@@ -1,11 +1,12 @@
 //! The board in one cell is a live board.
 
-ghost use Rattle.std.specs.Prelude.{◌≡◌, ◌+◌, ◌<◌, length, IfOk, IfErr, MatchResult, true, false};
+ghost use Rattle.std.specs.Prelude.{◌≡◌, ◌+◌, ◌<◌, [], length, IfOk, IfErr, MatchResult, true, false};
 ghost use Rattle.ucl_shared.specs.Passes.{IsSound, Continues, ReportsMore, AcceptedReport, RefusedReport, SharedReading, split_pass, Enlistment, FullBoard, Hearing, Meeting, reporter_figures};
 ghost use Rattle.ucl_shared.specs.Views.{pass_view_of, count_of, kept_of};
 ghost use Rattle.ucl_pass.specs.CellRule.{IsUpToDate};
+ghost use Rattle.ucl_pass.specs.CellViews.{known_of, KeepsCalls};
 ghost use Rattle.ucl_shared.specs.CallSteps.{MeetingSteps, HasCopyOf};
-ghost use Rattle.ucl_pass.specs.CellCalls.{CellHasReported, CellReport, CellEnlistment, CellReading};
+ghost use Rattle.ucl_pass.specs.CellCalls.{CellHasReported, CellReport, CellEnlistment, CellReading, FinishesReport, FinishesReading};
 
 use crate::cell_board::CellBoard;
 use crate::passes::{CellNote, CellReaderPass, CellReporterPass};
@@ -53,6 +54,7 @@ impl LiveBoard for CellBoard {
         ensures reported { ReportsMore (CellHasReported pass.old.view.own) 1 (CellHasReported pass.new.view.own) }
         ensures acts { count_of pass.old.view < count_of pass.new.view }
         ensures steps { CellReport pass.old.view call.now result pass.new.view }
+        ensures answers { FinishesReport (known_of pass.old) call.now result (known_of pass.new) }
         ensures up_to_date { IsUpToDate pass.new.view }
     {
         let reporter = pass.number;
@@ -71,6 +73,7 @@ impl LiveBoard for CellBoard {
         ensures version { result.version ≡ length pass.new.view.seen }
         ensures acts { count_of pass.new.view ≡ count_of pass.old.view + 1 }
         ensures steps { CellReading pass.old.view result pass.new.view }
+        ensures answers { FinishesReading (known_of pass.old) result (known_of pass.new) }
         ensures up_to_date { IsUpToDate pass.new.view }
     {
         self.read_by(rt, &mut pass.seat)
@@ -85,6 +88,7 @@ impl LiveBoard for CellBoard {
         ensures version { result.version ≡ length pass.new.view.seen }
         ensures acts { count_of pass.new.view ≡ count_of pass.old.view + 1 }
         ensures steps { CellReading pass.old.view result pass.new.view }
+        ensures answers { FinishesReading (known_of pass.old) result (known_of pass.new) }
         ensures up_to_date { IsUpToDate pass.new.view }
     {
         let seat = &mut pass.seat;
@@ -99,6 +103,8 @@ impl LiveBoard for CellBoard {
         ensures given { pass_view_of result.view ≡ split_pass (pass_view_of pass.old.view) }
         ensures acts { count_of result.view ≡ count_of pass.old.view }
         ensures steps { HasCopyOf result.view pass.old.view }
+        ensures does { pass.new.calls ≡ pass.old.calls }
+        ensures nothing { result.calls ≡ [] }
     {
         let seat = self.split_seat(&mut pass.seat);
         CellReaderPass { seat }
@@ -117,6 +123,7 @@ impl LiveBoard for CellBoard {
         ensures reported { IfOk result (λ enlisted. CellHasReported enlisted.view.own 0) }
         ensures acts { MatchResult result (λ enlisted. count_of pass.view < count_of enlisted.view) (λ full. count_of pass.view < count_of full.0.view) }
         ensures steps { MatchResult result (λ enlisted. CellEnlistment pass.view true enlisted.view) (λ full. CellEnlistment pass.view false full.0.view) }
+        ensures does { MatchResult result (λ p. KeepsCalls pass p) (λ q. KeepsCalls pass q.0) }
         ensures up_to_date { MatchResult result (λ enlisted. IsUpToDate enlisted.view) (λ full. IsUpToDate full.0.view) }
     {
         let CellReaderPass { mut seat } = pass;
@@ -135,11 +142,12 @@ impl LiveBoard for CellBoard {
         ensures own { (first.new.board ≡ self.now) × (second.new.board ≡ self.now) }
         ensures sound { IsSound (pass_view_of first.old.view) }
         ensures always { Continues (pass_view_of second.old.view) (pass_view_of second.new.view) }
-        ensures unchanged { first.new.view ≡ first.old.view }
+        ensures unchanged { first.new ≡ first.old }
         ensures meeting { Meeting (pass_view_of first.old.view) (pass_view_of second.old.view) (pass_view_of second.new.view) }
         ensures reported { ReportsMore (CellHasReported first.old.view.own) 0 (CellHasReported first.new.view.own) × ReportsMore (CellHasReported second.old.view.own) 0 (CellHasReported second.new.view.own) }
         ensures acts { count_of second.new.view ≡ count_of second.old.view + 1 }
         ensures steps { MeetingSteps second.old.view second.new.view }
+        ensures does { second.new.calls ≡ second.old.calls }
         ensures up_to_date { IsUpToDate second.new.view }
     {
         self.meet_by(rt, &mut first.seat, &mut second.seat);
@@ -155,11 +163,12 @@ impl LiveBoard for CellBoard {
         ensures own { (first.new.board ≡ self.now) × (second.new.board ≡ self.now) }
         ensures sound { IsSound (pass_view_of first.old.view) }
         ensures always { Continues (pass_view_of second.old.view) (pass_view_of second.new.view) }
-        ensures unchanged { first.new.view ≡ first.old.view }
+        ensures unchanged { first.new ≡ first.old }
         ensures meeting { Meeting (pass_view_of first.old.view) (pass_view_of second.old.view) (pass_view_of second.new.view) }
         ensures reported { ReportsMore (CellHasReported second.old.view.own) 0 (CellHasReported second.new.view.own) }
         ensures acts { count_of second.new.view ≡ count_of second.old.view + 1 }
         ensures steps { MeetingSteps second.old.view second.new.view }
+        ensures does { second.new.calls ≡ second.old.calls }
         ensures up_to_date { IsUpToDate second.new.view }
     {
         let reader = &mut first.seat;
@@ -170,7 +179,7 @@ impl LiveBoard for CellBoard {
         requires { pass.old.board ≡ self.now }
         ensures own { (pass.new.board ≡ self.now) × (result.board ≡ self.now) }
         ensures sound { IsSound (pass_view_of pass.old.view) }
-        ensures unchanged { pass.new.view ≡ pass.old.view }
+        ensures unchanged { pass.new ≡ pass.old }
         ensures seen { result.seen ≡ pass.old.view.seen }
     {
         let seat = self.note_by(&mut pass.seat);
@@ -181,7 +190,7 @@ impl LiveBoard for CellBoard {
         requires { pass.old.board ≡ self.now }
         ensures own { (pass.new.board ≡ self.now) × (result.board ≡ self.now) }
         ensures sound { IsSound (pass_view_of pass.old.view) }
-        ensures unchanged { pass.new.view ≡ pass.old.view }
+        ensures unchanged { pass.new ≡ pass.old }
         ensures seen { result.seen ≡ pass.old.view.seen }
         ensures reported { ReportsMore (CellHasReported pass.old.view.own) 0 (CellHasReported pass.new.view.own) }
     {
@@ -196,6 +205,7 @@ impl LiveBoard for CellBoard {
         ensures heard { Hearing note.seen (pass_view_of pass.old.view) (pass_view_of pass.new.view) }
         ensures acts { count_of pass.new.view ≡ count_of pass.old.view + 1 }
         ensures steps { MeetingSteps pass.old.view pass.new.view }
+        ensures does { pass.new.calls ≡ pass.old.calls }
         ensures up_to_date { IsUpToDate pass.new.view }
     {
         self.hear_by(rt, &mut pass.seat, note.seat);
@@ -209,6 +219,7 @@ impl LiveBoard for CellBoard {
         ensures reported { ReportsMore (CellHasReported pass.old.view.own) 0 (CellHasReported pass.new.view.own) }
         ensures acts { count_of pass.new.view ≡ count_of pass.old.view + 1 }
         ensures steps { MeetingSteps pass.old.view pass.new.view }
+        ensures does { pass.new.calls ≡ pass.old.calls }
         ensures up_to_date { IsUpToDate pass.new.view }
     {
         let reporter = &mut pass.seat;

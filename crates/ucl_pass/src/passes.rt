@@ -4,7 +4,8 @@ ghost use Rattle.std.specs.Prelude.{◌≡◌, [], length};
 ghost use Rattle.crossbeam_utils.specs.Seq.{cell_view};
 ghost use Rattle.ucl_pass.specs.CellCalls.{CellHasReported};
 ghost use Rattle.ucl_shared.specs.Passes.{IsSound};
-ghost use Rattle.ucl_shared.specs.Views.{Pass, Noted, IsNote, pass_view_of};
+ghost use Rattle.ucl_shared.specs.Views.{Noted, pass_view_of};
+ghost use Rattle.ucl_pass.specs.CellViews.{CellPass, cell_pass_of, IsCellNote, knows};
 
 use crate::rule::Seat;
 use std::marker::Model;
@@ -17,17 +18,17 @@ pub struct CellReaderPass {
 }
 
 impl Model for CellReaderPass {
-    ghost Value = { Pass };
+    ghost Value = { CellPass };
 
-    ghost view = { λ reader. record { board = reader.seat.table_id; view = cell_view reader.seat } };
+    ghost view = { λ reader. cell_pass_of reader.seat.table_id (cell_view reader.seat) };
 
-    ghost invariant = { λ reader. IsSound (pass_view_of (cell_view reader.seat)) × ((cell_view reader.seat).number ≡ 0) × CellHasReported (cell_view reader.seat).own 0 };
+    ghost invariant = { λ reader. IsSound (pass_view_of (knows reader.seat)) × ((knows reader.seat).number ≡ 0) × CellHasReported (knows reader.seat).own 0 };
 }
 
 impl CellReaderPass {
     /// The seat at the cell of its board, by which the pass acts: what contracts see of the pass is the view of this seat, as it is.
     pub fn seat(&self) -> &Seat
-        ensures { self.now ≡ record { board = result.now.table_id; view = cell_view result.now } }
+        ensures { self.now ≡ cell_pass_of result.now.table_id (cell_view result.now) }
     {
         &self.seat
     }
@@ -42,17 +43,17 @@ pub struct CellReporterPass {
 }
 
 impl Model for CellReporterPass {
-    ghost Value = { Pass };
+    ghost Value = { CellPass };
 
-    ghost view = { λ reporter. record { board = reporter.seat.table_id; view = cell_view reporter.seat } };
+    ghost view = { λ reporter. cell_pass_of reporter.seat.table_id (cell_view reporter.seat) };
 
-    ghost invariant = { λ reporter. IsSound (pass_view_of (cell_view reporter.seat)) × ((cell_view reporter.seat).number ≡ reporter.number) × (length (cell_view reporter.seat).mine ≡ reporter.accepted) };
+    ghost invariant = { λ reporter. IsSound (pass_view_of (knows reporter.seat)) × ((knows reporter.seat).number ≡ reporter.number) × (length (knows reporter.seat).mine ≡ reporter.accepted) };
 }
 
 impl CellReporterPass {
     /// The seat at the cell of its board, by which the pass acts: what contracts see of the pass is the view of this seat, as it is.
     pub fn seat(&self) -> &Seat
-        ensures { self.now ≡ record { board = result.now.table_id; view = cell_view result.now } }
+        ensures { self.now ≡ cell_pass_of result.now.table_id (cell_view result.now) }
     {
         &self.seat
     }
@@ -68,7 +69,7 @@ pub struct CellNote {
 impl Model for CellNote {
     ghost Value = { Noted };
 
-    ghost view = { λ note. record { board = note.seat.table_id; seen = (cell_view note.seat).seen } };
+    ghost view = { λ note. record { board = note.seat.table_id; seen = (knows note.seat).seen } };
 
-    ghost invariant = { λ note. IsNote (cell_view note.seat) × (note.seat.me.1 ≡ []) };
+    ghost invariant = { λ note. IsCellNote (cell_view note.seat) × (note.seat.me.1 ≡ []) };
 }

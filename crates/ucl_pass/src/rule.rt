@@ -1,113 +1,113 @@
 //! The rule of the cell, and the kinds of its steps. The values named here exist in proofs alone.
 
+use crate::view::CellView;
 use atomic_table::{Join, Split};
 use crossbeam_utils::atomic::seq_cell::{Pass, RuledSeqCell};
 use crossbeam_utils::rule::{Outcome, Protocol};
 use std::marker::{Brand, PhantomData};
-use ucl_shared::View;
 
 /// One log of all steps, whose history has the twelve match words and whose reporters are as many as the thirteenth.
 pub struct OneHistory;
 
-impl Protocol<[u64; 13], View> for OneHistory {
-    ghost use Rattle.ucl_shared.specs.Views.{opener};
+impl Protocol<[u64; 13], CellView> for OneHistory {
+    ghost use Rattle.ucl_pass.specs.CellViews.{first_cell_pass};
     ghost use Rattle.ucl_pass.specs.CellRule.{CellKeepsOneHistory};
 
     ghost holds = { CellKeepsOneHistory };
 
-    ghost first = { opener };
+    ghost first = { first_cell_pass };
 }
 
-/// The entry that a report would add. Each call picks it.
-pub trait Adding {
-    ghost use Rattle.ucl_board.specs.declared.entry.Entry.{Entry};
+/// The event that a report enters. Each call picks it.
+pub trait Asking {
+    ghost use Rattle.ucl_word.specs.declared.event.EventCall.{EventCall};
 
-    ghost entry: { Entry };
+    ghost call: { EventCall };
 }
 
-impl Adding for Brand {
-    ghost use Rattle.ucl_pass.specs.CellSteps.{no_entry};
+impl Asking for Brand {
+    ghost use Rattle.ucl_pass.specs.CellSteps.{asks_nothing};
 
-    ghost entry = { no_entry };
+    ghost call = { asks_nothing };
 }
 
 /// A report's load.
 pub struct LooksAt<K>(PhantomData<K>);
 
-impl<K: Adding> Outcome<[u64; 13], View> for LooksAt<K> {
-    ghost use Rattle.ucl_pass.specs.CellSteps.{LooksAtMatch};
+impl<K: Asking> Outcome<[u64; 13], CellView> for LooksAt<K> {
+    ghost use Rattle.ucl_pass.specs.CellSteps.{LookOfCell};
 
-    ghost then = { LooksAtMatch K.entry.game };
+    ghost then = { LookOfCell K.call };
 }
 
 /// A report's exchange, which stores one event, or nothing.
 pub struct Adds<K>(PhantomData<K>);
 
-impl<K: Adding> Outcome<[u64; 13], View> for Adds<K> {
-    ghost use Rattle.ucl_pass.specs.CellSteps.{AddsOrLooks};
+impl<K: Asking> Outcome<[u64; 13], CellView> for Adds<K> {
+    ghost use Rattle.ucl_pass.specs.CellSteps.{AddOfCell};
 
-    ghost then = { AddsOrLooks K.entry };
+    ghost then = { AddOfCell K.call };
 }
 
 /// A reading's load, whose version is shown.
 pub struct Reads;
 
-impl Outcome<[u64; 13], View> for Reads {
-    ghost use Rattle.ucl_pass.specs.CellSteps.{LooksAndShows};
+impl Outcome<[u64; 13], CellView> for Reads {
+    ghost use Rattle.ucl_pass.specs.CellSteps.{ReadOfCell};
 
-    ghost then = { LooksAndShows };
+    ghost then = { ReadOfCell };
 }
 
 /// The load of an enlistment or a meeting.
 pub struct Counts;
 
-impl Outcome<[u64; 13], View> for Counts {
-    ghost use Rattle.ucl_pass.specs.CellSteps.{LooksAtEnlisted};
+impl Outcome<[u64; 13], CellView> for Counts {
+    ghost use Rattle.ucl_pass.specs.CellSteps.{CountOfCell};
 
-    ghost then = { LooksAtEnlisted };
+    ghost then = { CountOfCell };
 }
 
 /// The exchange of an enlistment, which stores it, or nothing.
 pub struct Enlists;
 
-impl Outcome<[u64; 13], View> for Enlists {
-    ghost use Rattle.ucl_pass.specs.CellSteps.{EnlistsOrLooks};
+impl Outcome<[u64; 13], CellView> for Enlists {
+    ghost use Rattle.ucl_pass.specs.CellSteps.{EnlistOfCell};
 
-    ghost then = { EnlistsOrLooks };
+    ghost then = { EnlistOfCell };
 }
 
 /// The split of a second reader's pass.
 pub struct SecondPass;
 
-impl Split<View> for SecondPass {
-    ghost use Rattle.ucl_shared.specs.Views.{kept_of, second_of};
+impl Split<CellView> for SecondPass {
+    ghost use Rattle.ucl_pass.specs.CellViews.{left_cell_pass, second_cell_pass};
 
-    ghost left = { kept_of };
+    ghost left = { left_cell_pass };
 
-    ghost right = { second_of };
+    ghost right = { second_cell_pass };
 }
 
 /// The split and the join of a note.
 pub struct Note;
 
-impl Split<View> for Note {
-    ghost use Rattle.ucl_shared.specs.Views.{note_of};
+impl Split<CellView> for Note {
+    ghost use Rattle.ucl_pass.specs.CellViews.{note_cell_pass};
 
     ghost left = { λ v. v };
 
-    ghost right = { note_of };
+    ghost right = { note_cell_pass };
 }
 
-impl Join<View> for Note {
-    ghost use Rattle.ucl_shared.specs.Views.{told_by, newcomer};
+impl Join<CellView> for Note {
+    ghost use Rattle.ucl_pass.specs.CellViews.{told_cell_pass, new_cell_pass};
 
-    ghost both = { told_by };
+    ghost both = { told_cell_pass };
 
-    ghost spent = { newcomer };
+    ghost spent = { new_cell_pass };
 }
 
 /// The cell: the words of matches 1 to 12, then the number of enlisted reporters.
-pub type Cell = RuledSeqCell<[u64; 13], View, OneHistory, 13>;
+pub type Cell = RuledSeqCell<[u64; 13], CellView, OneHistory, 13>;
 
 /// A pass of the cell.
-pub type Seat = Pass<[u64; 13], View>;
+pub type Seat = Pass<[u64; 13], CellView>;

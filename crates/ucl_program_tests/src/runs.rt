@@ -2,6 +2,7 @@
 
 mod devices;
 mod nights;
+mod told;
 
 use crate::joined;
 use devices::{Cut, Full, fed, has_refused, has_stopped, has_written, shown};

@@ -17,6 +17,16 @@ fn bad_words(rt: HostRuntime) -> Result<(), Fail> {
     Ok(())
 }
 
+/// Twelve words 0, which are of the first layout, are the fresh board; and beside ten of them the first of two bad words is told.
+#[test]
+fn words_of_nothing(rt: HostRuntime) {
+    let mut words = [0; 12];
+    assert_eq!(rt; Board::of_words(&words), Ok(Board::fresh()));
+    words[3] = 0x0000000000000c00;
+    words[8] = 0x0000000000000c00;
+    assert_eq!(rt; Board::of_words(&words), Err(BadWordAt { index: 4 }));
+}
+
 /// Words of the first layout, of this one and of both are read as the words of the same records.
 #[test]
 fn words_of_both_layouts(rt: HostRuntime) {

@@ -158,7 +158,7 @@ stands_after s i n seat cs v w here rule place is = record { state = stepped s i
 -- a load of a match word keeps the rule, whichever turn of the machine it is
 loads_by : (slots seat game : ℕ) (m : Me Entry WordView) (kind : AccessKind) (doing : ℕ → ℕ → Doing) (shown : ℕ → List ℕ) → IsSome m.0.pass.share → IsMatch game
     → ((cast : Cast) (steps : List machine.Step) (w : MachineState) → after_steps steps (initial_state cast) ≡ Some w → FitsRun w seat m.0.pass.number m.0.doing → (a : Access) → IsNow w a → a.kind ≡ kind → a.game ≡ game
-        → (c : Caller) × Turn seat m.0.pass.number w c a (doing a.found a.at) [])
+    → (c : Caller) × Turn seat m.0.pass.number w c a (doing a.found a.at) [])
     → (tells : ℕ → Me Entry WordView → Type 0)
     → ((n : ℕ) (w : View) → LoadsMatch kind game m.0.pass n w → w.shown ≡ shown n → ((place : ℕ) → place ≡ seat → Stands place (record { pass = w; doing = doing n (length w.seen) })) → tells n (record { pass = w; doing = doing n (length w.seen) }, carried_after m.1 keeps))
     → Allows TableKeepsOneHistory slots seat m game (λ n. n) tells

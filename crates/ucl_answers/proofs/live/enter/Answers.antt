@@ -1,4 +1,4 @@
-use Rattle.std.proofs.Common.{[], ◌∷◌, get_or, take, sym, ap, ◌∙◌, arith}
+use Rattle.std.proofs.Common.{[], ◌∷◌, get_or, take, refl, sym, ap, ◌∙◌, arith}
 use Rattle.std.proofs.lemmas.List.{take_more}
 use Rattle.std.proofs.lemmas.Result.{err_from_is_err_and}
 use Rattle.ucl_answers.specs.Stepping.{Moment, answers_to, moment_after}
@@ -15,6 +15,8 @@ loop-b-init g c =
       short = c.requires.short;
       row = omega arith;
       put = rw (answers-to-none m) (put_nothing c.args.desk.now.page _ c.written-written.ensures.bound);
+      sound = refl;
+      vain = refl;
     }
 
 pub returns-in_err-evening-clause-fails : goal.returns-in_err-evening-clause-fails
@@ -24,6 +26,12 @@ returns-in_err-evening-clause-fails g c =
     let m = moment_of c.args.evening c.args.desk.now in
     let s = rw so_far.moment at c.in_err-evening.ensures.fails in
     rw (p.1, p.2) (take-fails m c.loop-b.b-index c.args.bytes.now c.args.desk.now.page c.loop-b.desk.page c.enter_byte.new.desk.page _ _ _ _ _ c.loop-b-test.true so_far.put s)
+
+pub returns-in_err-evening-clause-fails_vainly : goal.returns-in_err-evening-clause-fails_vainly
+returns-in_err-evening-clause-fails_vainly g c =
+    let p = err_from_is_err_and c.from_residual.result c.from_residual.ensures.1 in
+    let s = rw c.loop-b.invariant.vain at c.in_err-evening.ensures.fails_vainly in
+    rw (p.1, p.2) s
 
 pub loop-b-preserved : goal.loop-b-preserved
 loop-b-preserved g c =
@@ -41,4 +49,6 @@ loop-b-preserved g c =
       short = c.in_ok-evening.ensures.short;
       row = omega arith;
       put = rw (answers-to-append m (take i bytes) (b ∷ [])) put;
+      sound = c.in_ok-evening.ensures.sound ∙ so_far.sound;
+      vain = c.in_ok-evening.ensures.vain ∙ so_far.vain;
     })

@@ -10,4 +10,6 @@ invariant-loop-b g l = record {
   short : length l.desk.line.items ≤ 258;
   row : l.evening.row ≤ l.initial.evening.row + l.b-index;
   put : HasPut l.initial.desk.page l.desk.page (g.W.Sink.taken l.initial.sink) (g.W.Sink.taken l.sink) (answers_to (moment_of l.initial.evening l.initial.desk) (take l.b-index l.bytes));
+  sound : g.W.Sink.failed l.sink ≡ g.W.Sink.failed l.initial.sink;
+  vain : g.W.Sink.in_vain l.sink ≡ g.W.Sink.in_vain l.initial.sink;
 }

@@ -2,14 +2,19 @@ use Rattle.std.proofs.Common.{◌≡◌, ◌-◌, ◌^◌, ℕ, List}
 use Rattle.std.specs.Io.KnownBytes.{Consumes}
 use Rattle.ucl_answers.specs.Stepping.{IsPrompt}
 use Rattle.ucl_answers.specs.Text.{start_of}
+use Rattle.ucl_answers.specs.Wires.{AskedMore, IsAnsweredSoFar}
 use Rattle.ucl_answers.proofs.live.live_run.Given as goal
 
 abbrev pub invariant-steps : goal.invariant-steps
 invariant-steps g l = record {
   bytes : List ℕ;
-  consumed : Consumes (g.S.Source.left l.initial.source) (g.S.Source.left l.source) bytes;
-  vain : g.S.Source.in_vain l.source ≡ g.S.Source.in_vain l.initial.source;
-  prompt : IsPrompt (start_of l.fn.options) (g.W.Sink.taken l.initial.sink) l.live (g.W.Sink.taken l.sink) bytes;
+  consumed : Consumes (g.S.Source.left l.initial.wire.source) (g.S.Source.left l.wire.source) bytes;
+  vain : g.S.Source.in_vain l.wire.source ≡ g.S.Source.in_vain l.initial.wire.source;
+  prompt : IsPrompt (start_of l.fn.options) (g.W.Sink.taken l.initial.wire.sink) l.live (g.W.Sink.taken l.wire.sink) bytes;
+  sink_sound : g.W.Sink.failed l.wire.sink ≡ g.W.Sink.failed l.initial.wire.sink;
+  sink_vain : g.W.Sink.in_vain l.wire.sink ≡ g.W.Sink.in_vain l.initial.wire.sink;
+  asked : AskedMore l.initial.wire.asked.times l.wire.asked.times (g.S.Source.calls l.initial.wire.source) (g.S.Source.calls l.wire.source)
+      (λ time. IsAnsweredSoFar (start_of l.fn.options) (g.S.Source.left l.initial.wire.source) (g.S.Source.left time.0) (g.W.Sink.taken l.initial.wire.sink) (g.W.Sink.taken time.1));
 }
 
 abbrev pub decreases-steps : goal.decreases-steps

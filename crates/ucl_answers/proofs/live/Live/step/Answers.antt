@@ -7,7 +7,8 @@ use Rattle.ucl_answers.proofs.live.Live.step.Goals as goal
 
 pub returns-in_ok-end-in-Some-eq0-clause-prompt : goal.returns-in_ok-end-in-Some-eq0-clause-prompt
 returns-in_ok-end-in-Some-eq0-clause-prompt g c = λ start first before p.
-    (c.in-Some-eq0.ensures.end c.in-Some-eq0.field-0-test c.requires.room, prompt-end start first _ _ c.args.self before p c.in_ok-end-in-Some-eq0.ensures.out, prompt-complete start first _ c.args.self before p c.in_ok-end-in-Some-eq0.ensures.complete)
+    let out = rw c.take.ensures.sink at c.in_ok-end-in-Some-eq0.ensures.out in
+    (c.in-Some-eq0.ensures.end c.in-Some-eq0.field-0-test c.requires.room, prompt-end start first _ _ c.args.self before p out, prompt-complete start first _ c.args.self before p c.in_ok-end-in-Some-eq0.ensures.complete)
 
 pub returns-in_ok-evening-in-Some-clause-prompt : goal.returns-in_ok-evening-in-Some-clause-prompt
 returns-in_ok-evening-in-Some-clause-prompt g c = λ start first before p.
@@ -17,13 +18,14 @@ returns-in_ok-evening-in-Some-clause-prompt g c = λ start first before p.
     let same = c.take.auto.buf in
     let count : length bytes ≡ n = omega (arith, length-take n c.take.new.buf) in
     let new = c.in_ok-evening-in-Some.ensures in
+    let put = rw c.take.ensures.sink at new.put in
     let read = c.saturating_add.ensures ∙ ap (λ (k : ℕ). min (c.args.self.read + k) (2 ^ 64 - 1)) (sym count) in
     let after : Live = record { evening = c.in_ok-evening-in-Some.evening; desk = c.take_in.new.desk; read = c.saturating_add.result } in
-    (bytes, c.in-Some.ensures.moves, λ e. c.in-Some.n-test.1 (sym count ∙ ap (length {A = ℕ}) e), prompt-then start first _ _ c.args.self after before bytes p new.moment new.put c.requires.waiting new.waiting read)
+    (bytes, c.in-Some.ensures.moves, λ e. c.in-Some.n-test.1 (sym count ∙ ap (length {A = ℕ}) e), prompt-then start first _ _ c.args.self after before bytes p new.moment put c.requires.waiting new.waiting read)
 
 pub returns-in-None-clause-fails : goal.returns-in-None-clause-fails
 returns-in-None-clause-fails g c = λ start first before p.
-    rw (c.in-None.ensures.fails.0 refl) (read-fails start first _ c.args.self before p (g.W.Sink.failed c.args.sink.now) _ _ c.in-None.ensures.moves)
+    rw (c.in-None.ensures.fails.0 refl, c.take.ensures.sink) (read-fails start first _ c.args.self before p (g.W.Sink.failed c.args.wire.now.sink) _ _ c.in-None.ensures.moves)
 
 pub returns-in_err-end-in-Some-eq0-clause-fails : goal.returns-in_err-end-in-Some-eq0-clause-fails
 returns-in_err-end-in-Some-eq0-clause-fails g c = λ start first before p.
@@ -31,13 +33,15 @@ returns-in_err-end-in-Some-eq0-clause-fails g c = λ start first before p.
     let moved = rw c.in-Some-eq0.field-0-test at c.in-Some-eq0.ensures.moves in
     let at-end = c.in-Some-eq0.ensures.end c.in-Some-eq0.field-0-test c.requires.room in
     let well = sound _ (λ h. true≢false (c.in-Some-eq0.ensures.fails.1 h)) in
-    rw (e.1, e.2, well) (end-fails start first _ c.args.self before p _ _ _ _ _ at-end moved c.in_err-end-in-Some-eq0.ensures.fails)
+    let fails = rw c.take.ensures.sink at c.in_err-end-in-Some-eq0.ensures.fails in
+    rw (e.1, e.2, well) (end-fails start first _ c.args.self before p _ _ _ _ _ at-end moved fails)
 
 pub returns-in_err-evening-in-Some-clause-fails : goal.returns-in_err-evening-in-Some-clause-fails
 returns-in_err-evening-in-Some-clause-fails g c = λ start first before p.
     let e = err_from_is_err_and c.from_residual-in_err-evening-in-Some.result c.from_residual-in_err-evening-in-Some.ensures.1 in
     let well = sound _ (λ h. true≢false (c.in-Some.ensures.fails.1 h)) in
-    rw (e.1, e.2, well) (give-fails start first _ c.args.self before p _ _ _ _ (take c.in-Some.n c.take.new.buf) _ c.in-Some.ensures.moves c.in_err-evening-in-Some.ensures.fails)
+    let fails = rw c.take.ensures.sink at c.in_err-evening-in-Some.ensures.fails in
+    rw (e.1, e.2, well) (give-fails start first _ c.args.self before p _ _ _ _ (take c.in-Some.n c.take.new.buf) _ c.in-Some.ensures.moves fails)
 
 pub returns-in_ok-evening-in-Some-clause-moved : goal.returns-in_ok-evening-in-Some-clause-moved
-returns-in_ok-evening-in-Some-clause-moved g c = c.in-Some.ensures.vain ∙ not-vain (g.S.Source.in_vain c.args.source.now) c.in-Some.n c.in-Some.n-test.1
+returns-in_ok-evening-in-Some-clause-moved g c = c.in-Some.ensures.vain ∙ not-vain (g.S.Source.in_vain c.args.wire.now.source) c.in-Some.n c.in-Some.n-test.1

@@ -1,5 +1,5 @@
 use Rattle.std.proofs.Common.{◌≡◌, ◌≢◌, sym, ◌∙◌}
-use Rattle.crossbeam_utils.specs.Seq.{cell_view}
+use Rattle.ucl_pass.specs.CellViews.{knows}
 use Rattle.ucl_pass.specs.CellSteps.{LooksAtEnlisted, StoresReporter}
 use Rattle.ucl_shared.proofs.Calls.{number_told}
 use Rattle.ucl_pass.proofs.Calls.{won, lost, tried_again, enlisted_says, new_number}
@@ -7,10 +7,10 @@ use Rattle.ucl_pass.proofs.cell_board.CellBoard.enlist_by.Goals as goal
 
 pub returns-then-is_ok-clause-enlisted : goal.returns-then-is_ok-clause-enlisted
 returns-then-is_ok-clause-enlisted g c =
-    let v = cell_view c.args.seat.now in
-    let w = cell_view c.retry.seat in
-    let u = cell_view c.count-words.new.seat in
-    let z = cell_view c.store_reporter.new.seat in
+    let v = knows c.args.seat.now in
+    let w = knows c.retry.seat in
+    let u = knows c.count-words.new.seat in
+    let z = knows c.store_reporter.new.seat in
     let x = c.count-words.result in
     let next = c.one_more_reporter-next.result in
     let looked = c.count-words.ensures.looks in
@@ -19,10 +19,10 @@ returns-then-is_ok-clause-enlisted g c =
 
 pub retry-preserved : goal.retry-preserved
 retry-preserved g c =
-    let v = cell_view c.args.seat.now in
-    let w = cell_view c.retry.seat in
-    let u = cell_view c.count-words.new.seat in
-    let z = cell_view c.store_reporter.new.seat in
+    let v = knows c.args.seat.now in
+    let w = knows c.retry.seat in
+    let u = knows c.count-words.new.seat in
+    let z = knows c.store_reporter.new.seat in
     let x = c.count-words.result in
     let next = c.one_more_reporter-next.result in
     let missed = lost c.store_reporter.result (λ found. (found ≡ x) × StoresReporter u next z) (λ found. (found ≢ x) × LooksAtEnlisted u found found z) c.store_reporter.ensures.stored (sym c.is_ok.ensures.value ∙ c.if-is_ok.false) in
@@ -32,4 +32,5 @@ retry-preserved g c =
       own = c.store_reporter.ensures.own ∙ (c.count-words.ensures.own ∙ c.retry.invariant.own);
       acts = missed.1.1.sees.goes.acts;
       tried = tried_again v w u x c.retry.invariant.tried c.count-words.ensures.looks z missed.0 missed.1.0 missed.1.1;
+      does = c.store_reporter.ensures.does ∙ (c.count-words.ensures.does ∙ c.retry.invariant.does);
     }

@@ -1,6 +1,6 @@
 use Rattle.std.proofs.Common.{◌≡◌}
 use Rattle.std.specs.Prelude.{IsSome}
-use Rattle.crossbeam_utils.specs.Seq.{cell_view}
+use Rattle.ucl_pass.specs.CellViews.{knows, calls_at}
 use Rattle.ucl_pass.proofs.Calls.{TriedEnlist}
 use Rattle.ucl_pass.proofs.cell_board.CellBoard.enlist_by.Given as goal
 
@@ -9,6 +9,7 @@ invariant-retry g l = record {
   can : (goal.iterator-retry g).can_next l.iterator';
   ends : (goal.iterator-retry g).is_finite l.iterator';
   own : l.seat.table_id ≡ l.initial.seat.table_id;
-  acts : IsSome (cell_view l.seat).share;
-  tried : TriedEnlist (cell_view l.initial.seat) (cell_view l.seat);
+  acts : IsSome (knows l.seat).share;
+  tried : TriedEnlist (knows l.initial.seat) (knows l.seat);
+  does : calls_at l.seat ≡ calls_at l.initial.seat;
 }

@@ -1,10 +1,13 @@
-use Rattle.std.proofs.Common.{◌≡◌, rules, sym, subst}
+use Rattle.std.proofs.Common.{◌≡◌, rules, sym, ap, ◌∙◌, subst, List}
 use Rattle.std.specs.Prelude.{IsSome}
 use Rattle.crossbeam_utils.specs.Seq.{cell_view}
 use Rattle.crossbeam_utils.specs.Register.{Merges}
 use Rattle.ucl_shared.specs.declared.view.View.{View}
-use Rattle.ucl_shared.specs.Views.{newcomer, told_by}
+use Rattle.ucl_shared.specs.Views.{told_by, note_of}
+use Rattle.ucl_steps.specs.Protocol.{Answer}
+use Rattle.ucl_pass.specs.declared.view.CellView.{CellView}
 use Rattle.ucl_pass.specs.CellRule.{CellKeepsOneHistory}
+use Rattle.ucl_pass.specs.CellViews.{knows, new_cell_pass, told_cell_pass}
 use Rattle.ucl_pass.specs.CellSteps.{LooksAtEnlisted}
 use Rattle.ucl_pass.proofs.CellMoves.{joins}
 use Rattle.ucl_pass.proofs.Calls.{met_says}
@@ -17,7 +20,7 @@ join_pass-requires g c = (
     search rules,
     (
       search rules,
-      subst (λ (n : View). Merges CellKeepsOneHistory c.args.seat.now.id (cell_view c.args.seat.now) c.args.note.id n (told_by (cell_view c.args.seat.now) n) newcomer) (sym c.requires.note.0)
+      subst (λ (n : CellView). Merges CellKeepsOneHistory c.args.seat.now.id (cell_view c.args.seat.now) c.args.note.id n (told_cell_pass (cell_view c.args.seat.now) n) new_cell_pass) (sym c.requires.note.0)
           (joins _ _ _ (cell_view c.args.note)),
     ),
   ),
@@ -25,11 +28,15 @@ join_pass-requires g c = (
 
 pub returns-clause-heard : goal.returns-clause-heard
 returns-clause-heard g c =
-    let a = cell_view c.args.note in
-    let v = cell_view c.args.seat.now in
-    let w = cell_view c.count.new.seat in
-    let told : cell_view c.join_pass.new.pass ≡ told_by v a = c.join_pass.ensures.1 in
-    met_says a v w c.count.result (subst (λ (u : View). LooksAtEnlisted u c.count.result c.count.result w) told c.count.ensures.looks)
+    let a = knows c.args.note in
+    let v = knows c.args.seat.now in
+    let w = knows c.count.new.seat in
+    let told : knows c.join_pass.new.pass ≡ told_by v a = ap (λ (z : CellView). z.pass) c.join_pass.ensures.1 in
+    let noted : a ≡ note_of a = ap (λ (z : CellView). z.pass) c.requires.note.0 in
+    met_says a v w c.count.result (subst (λ (u : View). LooksAtEnlisted u c.count.result c.count.result w) (told ∙ ap (told_by v) noted) c.count.ensures.looks)
 
 pub count-requires-clause-acts : goal.count-requires-clause-acts
-count-requires-clause-acts g c = subst (λ (u : View). IsSome u.share) (sym c.join_pass.ensures.1) c.requires.acts
+count-requires-clause-acts g c = subst (λ (u : CellView). IsSome u.pass.share) (sym c.join_pass.ensures.1) c.requires.acts
+
+pub returns-clause-does : goal.returns-clause-does
+returns-clause-does g c = c.count.ensures.does ∙ ap (λ (z : CellView). z.calls) c.join_pass.ensures.1

@@ -1,15 +1,29 @@
-use Rattle.std.proofs.Common.{rules, ℕ, ◌∙◌, sym, subst}
-use Rattle.ucl_board.specs.Fixtures.{IsMatch}
+use Rattle.std.proofs.Common.{rules, ℕ, ◌∙◌, sym, subst, ap}
 use Rattle.crossbeam_utils.specs.Seq.{cell_view}
-use Rattle.ucl_pass.specs.CellSteps.{LooksAtMatch}
+use Rattle.ucl_word.specs.declared.event.EventCall.{EventCall}
+use Rattle.ucl_board.specs.Fixtures.{IsMatch}
+use Rattle.ucl_pass.specs.CellSteps.{LookOfCell}
 use Rattle.ucl_pass.proofs.CellMoves.{looks}
 use Rattle.ucl_pass.proofs.cell_board.CellBoard.look.Goals as goal
 
 pub load_as-requires : goal.load_as-requires
-load_as-requires g c = (search rules, (search rules, (search rules, looks _ _ _ c.requires.acts (subst IsMatch (c.get-number.ensures.value ∙ sym c.requires.game) c.get-number.ensures.within))))
+load_as-requires g c = (
+  search rules,
+  (
+    search rules,
+    (
+      search rules,
+      looks _ _ _ c.requires.acts c.requires.me
+          (subst IsMatch (c.get-number.ensures.value ∙ sym (ap (λ (e : EventCall). e.game) c.requires.asks)) c.get-number.ensures.within),
+    ),
+  ),
+)
 
 pub returns-clause-game : goal.returns-clause-game
 returns-clause-game g c = subst IsMatch c.get-number.ensures.value c.get-number.ensures.within
 
 pub returns-clause-looks : goal.returns-clause-looks
-returns-clause-looks g c = subst (λ (n : ℕ). LooksAtMatch n (cell_view c.args.seat.now) c.load_as.result c.load_as.result (cell_view c.load_as.new.pass)) c.requires.game c.load_as.ensures.rule
+returns-clause-looks g c = (subst (λ (e : EventCall). LookOfCell e (cell_view c.args.seat.now) c.load_as.result c.load_as.result (cell_view c.load_as.new.pass)) c.requires.asks c.load_as.ensures.rule).looks
+
+pub returns-clause-decides : goal.returns-clause-decides
+returns-clause-decides g c = subst (λ (e : EventCall). LookOfCell e (cell_view c.args.seat.now) c.load_as.result c.load_as.result (cell_view c.load_as.new.pass)) c.requires.asks c.load_as.ensures.rule

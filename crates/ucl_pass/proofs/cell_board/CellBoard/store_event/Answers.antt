@@ -1,10 +1,37 @@
-use Rattle.std.proofs.Common.{rules}
+use Rattle.std.proofs.Common.{rules, sym, subst}
 use Rattle.crossbeam_utils.specs.Seq.{cell_view}
-use Rattle.ucl_pass.proofs.CellMoves.{adds, add_says}
+use Rattle.ucl_word.specs.declared.event.EventCall.{EventCall}
+use Rattle.ucl_board.specs.Fixtures.{IsMatch}
+use Rattle.ucl_board.specs.History.{entry_of}
+use Rattle.ucl_pass.specs.CellSteps.{IsNextBoard, AreAccepting}
+use Rattle.ucl_pass.proofs.CellMoves.{adds, add_seen, add_says, add_decides, AnswersAdd}
 use Rattle.ucl_pass.proofs.cell_board.CellBoard.store_event.Goals as goal
 
 pub compare_exchange_as-requires : goal.compare_exchange_as-requires
-compare_exchange_as-requires g c = (search rules, (search rules, (search rules, adds _ _ _ c.args.current c.args.next c.requires.acts c.requires.me.0 c.requires.me.1 c.requires.game c.requires.next)))
+compare_exchange_as-requires g c =
+    let v = cell_view c.args.seat.now in
+    let asked = sym c.requires.asks in (
+      search rules,
+      (
+        search rules,
+        (
+          search rules,
+          adds _ _ _ c.args.current c.args.next c.requires.acts c.requires.me (subst (λ (e : EventCall). IsMatch e.game) asked c.requires.game)
+              (subst (λ (e : EventCall). IsNextBoard (entry_of (v.pass.number, e)) c.args.current c.args.next) asked c.requires.next) (subst (AreAccepting c.args.current) asked c.requires.accepts),
+        ),
+      ),
+    )
 
 pub returns-clause-stored : goal.returns-clause-stored
-returns-clause-stored g c = add_says _ (cell_view c.args.seat.now) (cell_view c.compare_exchange_as.new.pass) c.args.current c.args.next c.compare_exchange_as.result c.requires.next c.compare_exchange_as.ensures.rule
+returns-clause-stored g c =
+    let v = cell_view c.args.seat.now in
+    let w = cell_view c.compare_exchange_as.new.pass in
+    add_says _ v.pass w.pass c.args.current c.args.next c.compare_exchange_as.result c.requires.next
+    (add_seen c.args.call.now v w c.args.current c.args.next c.compare_exchange_as.result (subst (λ (e : EventCall). AnswersAdd e v c.args.current c.args.next c.compare_exchange_as.result w) c.requires.asks c.compare_exchange_as.ensures.rule))
+
+pub returns-clause-decides : goal.returns-clause-decides
+returns-clause-decides g c =
+    let v = cell_view c.args.seat.now in
+    let w = cell_view c.compare_exchange_as.new.pass in
+    add_decides c.args.call.now v w c.args.current c.args.next c.compare_exchange_as.result c.requires.next
+    (subst (λ (e : EventCall). AnswersAdd e v c.args.current c.args.next c.compare_exchange_as.result w) c.requires.asks c.compare_exchange_as.ensures.rule)

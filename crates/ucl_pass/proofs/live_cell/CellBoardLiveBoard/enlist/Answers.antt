@@ -1,12 +1,12 @@
 use Rattle.std.proofs.Common.{◌≡◌, true, false, ◌∙◌}
-use Rattle.crossbeam_utils.specs.Seq.{cell_view}
+use Rattle.ucl_pass.specs.CellViews.{knows}
 use Rattle.ucl_pass.proofs.Reports.{enlistment_counts}
 use Rattle.ucl_pass.proofs.live_cell.CellBoardLiveBoard.enlist.Goals as goal
 
 pub invariant_of-result-in-None : goal.invariant_of-result-in-None
 invariant_of-result-in-None g c =
     let said = c.in-None.ensures in
-    (said.always.sound, said.always.number ∙ c.pass.invariant.1, enlistment_counts (cell_view c.pass.inside.seat) (cell_view c.enlist_by.new.seat) false said.none 0 c.pass.invariant.2)
+    (said.always.sound, said.always.number ∙ c.pass.invariant.1, enlistment_counts (knows c.pass.inside.seat) (knows c.enlist_by.new.seat) false said.none 0 c.pass.invariant.2)
 
 pub returns-in-Some-clause-reported : goal.returns-in-Some-clause-reported
-returns-in-Some-clause-reported g c = enlistment_counts (cell_view c.pass.inside.seat) (cell_view c.enlist_by.new.seat) true c.in-Some.ensures.given 0 c.pass.invariant.2
+returns-in-Some-clause-reported g c = enlistment_counts (knows c.pass.inside.seat) (knows c.enlist_by.new.seat) true c.in-Some.ensures.given 0 c.pass.invariant.2

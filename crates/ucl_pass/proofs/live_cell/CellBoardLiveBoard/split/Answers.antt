@@ -1,5 +1,6 @@
-use Rattle.std.proofs.Common.{◌≡◌, refl, sym, subst}
-use Rattle.crossbeam_utils.specs.Seq.{cell_view}
+use Rattle.std.proofs.Common.{◌≡◌, refl, sym, ap, subst}
+use Rattle.ucl_pass.specs.declared.view.CellView.{CellView}
+use Rattle.ucl_pass.specs.CellViews.{knows}
 use Rattle.ucl_shared.specs.declared.view.View.{View}
 use Rattle.ucl_shared.specs.Passes.{IsSound}
 use Rattle.ucl_shared.specs.Views.{pass_view_of}
@@ -11,7 +12,7 @@ abbrev IsReader : View → Type 0
 IsReader v = IsSound (pass_view_of v) × (v.number ≡ 0) × CellHasReported v.own 0
 
 pub invariant_of-result : goal.invariant_of-result
-invariant_of-result g c = subst IsReader (sym c.split_seat-seat.ensures.given.1) (sound_second (cell_view c.pass.inside.seat) c.pass.invariant.0, refl, refl)
+invariant_of-result g c = subst IsReader (sym (ap (λ (z : CellView). z.pass) c.split_seat-seat.ensures.given.1)) (sound_second (knows c.pass.inside.seat) c.pass.invariant.0, refl, refl)
 
 pub invariant_of-pass : goal.invariant_of-pass
-invariant_of-pass g c = subst IsReader (sym c.split_seat-seat.ensures.kept) (sound_kept (cell_view c.pass.inside.seat) c.pass.invariant.0, c.pass.invariant.1, c.pass.invariant.2)
+invariant_of-pass g c = subst IsReader (sym (ap (λ (z : CellView). z.pass) c.split_seat-seat.ensures.kept)) (sound_kept (knows c.pass.inside.seat) c.pass.invariant.0, c.pass.invariant.1, c.pass.invariant.2)

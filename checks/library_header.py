@@ -1,0 +1,151 @@
+"""The header of the library against the definitions and the code of `ucl_c`, and against what the archive and the shared library show."""
+
+import pathlib
+import re
+import subprocess
+import tempfile
+
+HEADER = "crates/ucl_c/uclboard.h"
+COMMANDS = [("C99", ["cc", "-std=c99", "-x", "c"]), ("C++11", ["c++", "-std=c++11", "-x", "c++"])]
+WARNINGS = ["-Wall", "-Wextra", "-pedantic", "-Wconversion", "-Wshadow", "-Werror", "-fsyntax-only"]
+# The structs: in the header, in the code.
+STRUCTS = {"uclboard_match": ("event.rt", "MatchOfC"), "uclboard_row": ("table.rt", "RowOfC"), "uclboard_club": ("table.rt", "ClubOfC")}
+SIZES = {"u32": 4, "[u8; 20]": 20}
+# Names that the header gives otherwise than the definitions.
+OTHER_NAMES = {"state FINISHED": "ENDED", "fault BAD_ROSTER": "BAD_ROSTER"}
+
+
+def shouted(name):
+    """A name as the header writes it: `NotTwelve` as `NOT_TWELVE`."""
+    return re.sub(r"(?<=[a-z])(?=[A-Z])", "_", name.replace(" ", "")).upper()
+
+
+def defined(top):
+    """What the definitions say of numbers: the name in the header, and the number."""
+    specs = top / "crates/ucl_c/specs"
+    codes, faults = (specs / "Codes.antt").read_text(), (specs / "Faults.antt").read_text()
+    numbers = {}
+    for what, function, text in (
+        ("refusal", "refusal_code", codes),
+        ("mark", "mark_code", codes),
+        ("state", "state_code_in_c", codes),
+        ("fault", "fault_code", faults),
+    ):
+        for name, number in re.findall(rf"^{function} \(?(?:state\.)?(\w+)[\w ]*\)? = (\d+)$", text, re.M):
+            key = f"{what} {shouted(name)}"
+            numbers["UCLBOARD_" + OTHER_NAMES.get(key, shouted(name))] = int(number)
+    for function in "kinds", "profiles":
+        body = re.search(rf"^{function} =(.*?)∷ \[\]$", codes, re.M | re.S).group(1)
+        for number, name in enumerate(part.strip() for part in body.split("∷") if part.strip()):
+            numbers["UCLBOARD_" + shouted(name.replace(" ", ""))] = number
+    numbers["UCLBOARD_DONE"] = 0
+    return numbers
+
+
+def told_by_c(top, wanted):
+    """What a C program that includes the header prints for each of these expressions."""
+    lines = "".join(f'    printf("%llu\\n", (unsigned long long)({expression}));\n' for expression in wanted)
+    program = f'#include "uclboard.h"\n#include <stdio.h>\nint main(void) {{\n{lines}    return 0;\n}}\n'
+    with tempfile.TemporaryDirectory() as folder:
+        path = pathlib.Path(folder) / "told"
+        subprocess.run(
+            ["cc", "-std=c99", "-x", "c", "-", "-I", str((top / HEADER).parent), "-o", str(path)], input=program.encode(), check=True
+        )
+        printed = subprocess.run([str(path)], stdout=subprocess.PIPE, universal_newlines=True, check=True).stdout
+    return dict(zip(wanted, map(int, printed.split())))
+
+
+def laid_out(top):
+    """The size of each struct and the offset of each field, by the code: fields one after another, each a number of 32 bits or bytes."""
+    wanted = {}
+    for name, (file, struct) in STRUCTS.items():
+        text = (top / "crates/ucl_c/src" / file).read_text()
+        body = re.search(rf"#\[repr\(C\)\]\n#\[derive\([^)]*\)\]\npub struct {struct} \{{\n(.*?)^\}}", text, re.M | re.S).group(1)
+        offset = 0
+        for field, of in re.findall(r"^    pub (\w+): (.*),$", body, re.M):
+            wanted[f"offsetof({name}, {field})"] = offset
+            wanted[f"sizeof((({name} *)0)->{field})"] = SIZES[of]
+            offset += SIZES[of]
+        wanted[f"sizeof({name})"] = offset
+    return wanted
+
+
+def numbers_differ(top):
+    """The numbers of the header that are not those of the definitions, and statuses, kinds and marks that only one of both has."""
+    wanted = defined(top)
+    declared = set(re.findall(r"\b(UCLBOARD_[A-Z_]+) = \d+", (top / HEADER).read_text()))
+    found = told_by_c(top, sorted(set(wanted) & declared))
+    return [f"{name} is {found[name]}, and by the definitions {wanted[name]}" for name in found if found[name] != wanted[name]] + [
+        f"{name} stands in only one of the header and the definitions" for name in sorted(set(wanted) ^ declared)
+    ]
+
+
+def structs_differ(top):
+    """The sizes and offsets that C has otherwise than the code."""
+    wanted = laid_out(top)
+    found = told_by_c(top, list(wanted))
+    return [f"{what} is {found[what]}, and by the code {wanted[what]}" for what in wanted if found[what] != wanted[what]]
+
+
+def calls_of_header(top):
+    """The calls that the header declares."""
+    return sorted(set(re.findall(r"^[^/\n]*?\b(uclboard_[a-z_]+)\(", (top / HEADER).read_text(), re.M)))
+
+
+def calls_of_code(top):
+    """The exports of the code."""
+    texts = [path.read_text() for path in sorted((top / "crates/ucl_c/src").glob("*.rt"))]
+    return sorted(name for text in texts for name in re.findall(r'^pub extern "C" fn (\w+)', text, re.M))
+
+
+def shown_by(path, *options):
+    """The names that a library shows."""
+    told = subprocess.run(["nm", *options, "--defined-only", "--format=posix", str(path)], stdout=subprocess.PIPE, universal_newlines=True, check=True).stdout
+    return sorted(line.split()[0] for line in told.splitlines() if len(line.split()) > 1 and not line.split()[0].startswith("_"))
+
+
+def names_differ(top):
+    """What the header, the code, the archive and the shared library do not have in common."""
+    header = calls_of_header(top)
+    others = {
+        "the code": calls_of_code(top),
+        "the archive": shown_by(top / "library/libuclboard.a", "--extern-only"),
+        "the shared library": shown_by(top / "library/libuclboard.so", "--dynamic"),
+    }
+    return [f"{where} has {sorted(set(names) ^ set(header))} otherwise than the header" for where, names in others.items() if names != header]
+
+
+def compiles(top, command):
+    """What a compiler says of the header where it takes it with a warning."""
+    ran = subprocess.run([*command, *WARNINGS, str(top / HEADER)], stdout=subprocess.PIPE, stderr=subprocess.STDOUT, universal_newlines=True)
+    return [] if ran.returncode == 0 else [ran.stdout.strip()[:400]]
+
+
+def version_differs(top):
+    """Whether the number of the header is that of the definition and of the file for pkg-config."""
+    code = (top / "crates/ucl_c/src/text.rt").read_text()
+    number = int(re.search(r"fn uclboard_version\(\) -> u32\n    ensures \{ result ≡ (\d+) \}", code).group(1))
+    version = re.search(r"^Version: (\d+)\.(\d+)\.(\d+)$", (top / "library/uclboard.pc").read_text(), re.M)
+    parts = sum(int(part) * weight for part, weight in zip(version.groups(), (1_000_000, 1000, 1)))
+    found = told_by_c(top, ["UCLBOARD_VERSION_NUMBER"])["UCLBOARD_VERSION_NUMBER"]
+    return [] if number == parts == found else [f"the header has {found}, the code {number}, pkg-config {parts}"]
+
+
+def cases(top):
+    """The header's cases, each as a verdict and a name."""
+    tried = [(f"the header as {name}, without a warning", lambda command=command: compiles(top, command)) for name, command in COMMANDS]
+    tried += [
+        ("the numbers of the header are those of the definitions", lambda: numbers_differ(top)),
+        ("the structs of the header are those of the code", lambda: structs_differ(top)),
+        ("header, code, archive and shared library have the same calls", lambda: names_differ(top)),
+        ("header, code and pkg-config have one version", lambda: version_differs(top)),
+    ]
+    for name, look in tried:
+        try:
+            found = look()
+        except FileNotFoundError as error:
+            yield f"not run: {error.filename} is not there", name
+            continue
+        except (subprocess.SubprocessError, AttributeError, KeyError) as error:
+            found = [repr(error)]
+        yield "FAILED: " + "; ".join(found) if found else "ok", name

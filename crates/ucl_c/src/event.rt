@@ -1,0 +1,142 @@
+//! One match: its next word, whether a word is one, and words of the first layout.
+
+ghost use Rattle.std.specs.Prelude.{◌≡◌, ◌↔◌, IsSome, IfSome, IfOk, IfErr, None, Some};
+ghost use Rattle.ucl_word.specs.declared.event.Kind.{Kind};
+ghost use Rattle.ucl_word.specs.Record.{IsReporter};
+ghost use Rattle.ucl_word.specs.Layout.{IsWord, record_at, word_of};
+ghost use Rattle.ucl_word.specs.Migration.{IsReadable, IsReadAs};
+ghost use Rattle.ucl_word.specs.Rules.{refusal_of, after};
+ghost use Rattle.ucl_c.specs.Codes.{kind_with};
+ghost use Rattle.ucl_c.specs.Answers.{answered, answer_to, match_seen};
+
+use crate::codes::{kind_with, refusal_code, state_code};
+use crate::fault::{Fault, fault_code};
+use ucl_word::{Kind, Refusal, ReporterNo, migrate, next_word, number_of, unpack};
+
+/// The record of a match.
+#[repr(C)]
+#[derive(Clone, Copy, Debug, PartialEq, Eq)]
+pub struct MatchOfC {
+    /// The event number, 0 to 4,095.
+    pub number: u32,
+    /// 0 scheduled, 1 in play, 2 finished.
+    pub state: u32,
+    pub home_goals: u32,
+    pub away_goals: u32,
+    pub home_yellows: u32,
+    pub away_yellows: u32,
+    pub home_expulsions: u32,
+    pub away_expulsions: u32,
+    /// The reporter of the last event, 1 to 255, or 0 where there was none.
+    pub reporter: u32,
+}
+
+/// The reporter with this number, where the number is 1 to 255.
+fn reporter_with(number: u32) -> Option<ReporterNo>
+    ensures exists { IsSome result ↔ IsReporter number }
+    ensures value { IfSome result (λ reporter. reporter ≡ number) }
+{
+    match u8::try_from(number) {
+        Ok(number) => ReporterNo::new(number),
+        Err(_) => None,
+    }
+}
+
+/// The next word of a match, or the first rule that refuses the event. An expected number that no match can have is stale.
+#[tactic(auto, unfolding(ucl_word::specs::Rules::refusal_of))]
+fn entered(word: u64, reporter: ReporterNo, expected: u32, kind: Kind) -> Result<u64, Refusal>
+    requires { IsWord word }
+    ensures refused { IfErr result (λ r. refusal_of (record_at word) expected kind ≡ Some r) }
+    ensures accepted { IfOk result (λ next. (refusal_of (record_at word) expected kind ≡ None)
+        × (next ≡ word_of (after (record_at word) reporter kind))) }
+{
+    match u16::try_from(expected) {
+        Ok(expected) => next_word(word, reporter, expected, kind),
+        Err(_) => Err(Refusal::Stale {
+            found: number_of(word),
+        }),
+    }
+}
+
+/// The next word of a match after an event of a reporter, or why it is not entered. The reporter is judged first, then the kind, then the
+/// word, and then the rules. Only a stale event writes to `found`, and only an accepted one to `next`.
+#[unsafe(no_mangle)]
+pub extern "C" fn uclboard_next_word(
+    word: u64,
+    reporter: u32,
+    expected: u32,
+    kind: u32,
+    next: &mut u64,
+    found: &mut u32,
+) -> u32
+    ensures no_reporter { (IsReporter reporter → ⊥) →
+        answered result next.new found.new ≡ answered 50 next.old found.old }
+    ensures no_kind { IsReporter reporter → kind_with kind ≡ None →
+        answered result next.new found.new ≡ answered 51 next.old found.old }
+    ensures bad_word { IsReporter reporter → IsSome (kind_with kind) → (IsWord word → ⊥) →
+        answered result next.new found.new ≡ answered 10 next.old found.old }
+    ensures judged { (k : Kind) → IsReporter reporter → kind_with kind ≡ Some k → IsWord word →
+        answered result next.new found.new
+        ≡ answer_to (record_at word) reporter expected k next.old found.old }
+{
+    let Some(reporter) = reporter_with(reporter) else {
+        return fault_code(Fault::NoReporter);
+    };
+    let Some(kind) = kind_with(kind) else {
+        return fault_code(Fault::NoKind);
+    };
+    if unpack(word).is_err() {
+        return fault_code(Fault::BadWord { index: 1 });
+    }
+    match entered(word, reporter, expected, kind) {
+        Ok(entered) => {
+            *next = entered;
+            0
+        }
+        Err(Refusal::Stale { found: number }) => {
+            *found = u32::from(number);
+            1
+        }
+        Err(refusal) => refusal_code(refusal),
+    }
+}
+
+/// The word that a word of either layout is read as, or status 10, which leaves `read` as it was.
+#[unsafe(no_mangle)]
+pub extern "C" fn uclboard_read_word(word: u64, read: &mut u64) -> u32
+    ensures done { IsReadable word → (result ≡ 0) × IsReadAs word read.new }
+    ensures refused { (IsReadable word → ⊥) → (result ≡ 10) × (read.new ≡ read.old) }
+{
+    match migrate(word) {
+        Ok(new) => {
+            *read = new;
+            0
+        }
+        Err(_) => fault_code(Fault::BadWord { index: 1 }),
+    }
+}
+
+/// The record of a word, written to `out`. Status 10 for a word of no valid record, and then `out` is as it was.
+#[unsafe(no_mangle)]
+pub extern "C" fn uclboard_match_of(word: u64, out: &mut MatchOfC) -> u32
+    ensures done { IsWord word → (result ≡ 0) × (out.new ≡ match_seen (record_at word)) }
+    ensures refused { (IsWord word → ⊥) → (result ≡ 10) × (out.new ≡ out.old) }
+{
+    match unpack(word) {
+        Ok(game) => {
+            *out = MatchOfC {
+                number: u32::from(game.number),
+                state: state_code(game.state),
+                home_goals: u32::from(game.home_goals),
+                away_goals: u32::from(game.away_goals),
+                home_yellows: u32::from(game.home_yellows),
+                away_yellows: u32::from(game.away_yellows),
+                home_expulsions: u32::from(game.home_expulsions),
+                away_expulsions: u32::from(game.away_expulsions),
+                reporter: u32::from(game.reporter),
+            };
+            0
+        }
+        Err(_) => fault_code(Fault::BadWord { index: 1 }),
+    }
+}

@@ -1,0 +1,11 @@
+//! The board for programs in other languages: functions over numbers, slices and `#[repr(C)]` structs, for C to call.
+//!
+//! Bad input is answered by a status, and no function asks anything of its caller but what the slices themselves need.
+#![tactic(auto)]
+
+mod codes;
+mod event;
+mod fault;
+mod group;
+mod table;
+mod text;

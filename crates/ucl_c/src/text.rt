@@ -1,0 +1,81 @@
+//! Texts, written into the caller's room.
+
+ghost use Rattle.std.specs.Prelude.{◌≡◌, List, ℕ, None, Some, MatchOption};
+ghost use Rattle.ucl_c.specs.Codes.{RefusalsAreWrittenByName, name_of_status};
+ghost use Rattle.ucl_c.specs.Tables.{HandsOver};
+
+use crate::fault::{Fault, fault_code};
+
+/// Writes a text and a zero to the front of `out`, where there is room for both; its length goes to `length` in any case.
+pub fn hand_over(text: &[u8], out: &mut [u8], length: &mut usize) -> u32
+    ensures { HandsOver text.now out.old out.new length.new result }
+{
+    let end = text.len();
+    *length = end;
+    if end >= out.len() {
+        return fault_code(Fault::NoRoom);
+    }
+    out[..end].copy_from_slice(text);
+    out[end] = 0;
+    0
+}
+
+/// The name of a status, where there is one.
+fn name_of_status(status: u32) -> Option<&'static str>
+    ensures { MatchOption result (name_of_status status ≡ None)
+        (λ name. name_of_status status ≡ Some name.now) }
+{
+    match status {
+        0 => Some("done"),
+        1 => Some("stale"),
+        2 => Some("finished"),
+        3 => Some("not-started"),
+        4 => Some("already-started"),
+        5 => Some("number-full"),
+        6 => Some("no-goal"),
+        7 => Some("no-caution"),
+        8 => Some("limit-reached"),
+        9 => Some("not-finished"),
+        10 => Some("bad word"),
+        21 => Some("bad roster"),
+        23 => Some("out of memory"),
+        50 => Some("no reporter"),
+        51 => Some("no kind"),
+        52 => Some("no profile"),
+        53 => Some("no group"),
+        54 => Some("not twelve words"),
+        55 => Some("not four clubs"),
+        56 => Some("no room"),
+        57 => Some("not four rows"),
+        58 => Some("no status"),
+        _ => None,
+    }
+}
+
+/// The name of a status. Its bytes and a zero go to the front of `out`, and their number without the zero to `length`, also where the room
+/// is too small. A number that is no status leaves both as they were.
+#[unsafe(no_mangle)]
+pub extern "C" fn uclboard_text_of_status(status: u32, out: &mut [u8], length: &mut usize) -> u32
+    ensures known { (name : List ℕ) → name_of_status status ≡ Some name →
+        HandsOver name out.old out.new length.new result }
+    ensures unknown { name_of_status status ≡ None →
+        (result ≡ 58) × (out.new ≡ out.old) × (length.new ≡ length.old) }
+{
+    match name_of_status(status) {
+        Some(name) => hand_over(name.as_bytes(), out, length),
+        None => fault_code(Fault::NoStatus),
+    }
+}
+
+/// The command line writes each refusal as its number, the name of the status with this number, and, where it is stale, the number found.
+pub fn refusals_are_written_by_name()
+    ensures { RefusalsAreWrittenByName }
+{}
+
+/// The version of the library: its first number times 1,000,000, its second times 1,000, and its third.
+#[unsafe(no_mangle)]
+pub extern "C" fn uclboard_version() -> u32
+    ensures { result ≡ 1000000 }
+{
+    1_000_000
+}

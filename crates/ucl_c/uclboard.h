@@ -1,0 +1,173 @@
+/* The table board of one group of the UEFA Champions League, for C and C++. docs/C.md says the same at length, and docs/RULES.md the rules.
+ *
+ * Every call but uclboard_version answers a status: 0 (UCLBOARD_DONE) where it was done, and else why not. At any other status whatever a call
+ * writes to is as it was, but for what the call says that it tells then.
+ *
+ * What a caller owes: a pointer points to as many elements as are passed beside it, one where no number stands beside it; it is not null, not
+ * even where that number is 0; and what a call writes to overlaps nothing else that it is given. Any other input has its status. All memory is
+ * the caller's, and no call keeps a pointer to it.
+ *
+ * Any thread may make any call at any time: no call knows of another. It may not be made in a signal handler, or in the forked child of a
+ * process with threads. Stacks need a few kilobytes. uclboard_standings, uclboard_screen and uclboard_screen_length ask malloc for memory, of
+ * which nothing is left when they return; malloc, realloc and free have to be of one allocator that aligns to 16. No other call asks for any.
+ *
+ * The library is for Linux on x86-64 processors of level x86-64-v2 or later.
+ */
+#ifndef UCLBOARD_H
+#define UCLBOARD_H
+
+#include <stddef.h>
+#include <stdint.h>
+
+#ifdef __cplusplus
+extern "C" {
+#endif
+
+#if defined(__GNUC__) || defined(__clang__)
+#define UCLBOARD_NEEDS_LOOK __attribute__((warn_unused_result))
+#else
+#define UCLBOARD_NEEDS_LOOK
+#endif
+
+/* The version of this header: the first number times 1,000,000, the second times 1,000, and the third. Structs and numbers do not change
+   while the first number stays. */
+#define UCLBOARD_VERSION_NUMBER 1000000
+
+/* The status of a call. 1 to 9 are the refusals of an event, by the rules. */
+typedef uint32_t uclboard_status;
+enum {
+    UCLBOARD_DONE = 0,
+    UCLBOARD_STALE = 1,           /* the expected number is not the match's, which is told */
+    UCLBOARD_FINISHED = 2,        /* the match is finished, and the event is no reopening */
+    UCLBOARD_NOT_STARTED = 3,     /* the match has not kicked off */
+    UCLBOARD_ALREADY_STARTED = 4, /* a kick-off of a match in play */
+    UCLBOARD_NUMBER_FULL = 5,     /* the event number is 4094 or more, and the event is not full time */
+    UCLBOARD_NO_GOAL = 6,         /* a goal is disallowed for a side that has none */
+    UCLBOARD_NO_CAUTION = 7,      /* a second yellow for a side with no standing yellow */
+    UCLBOARD_LIMIT_REACHED = 8,   /* goals or yellows would pass 63, or expulsions 31 */
+    UCLBOARD_NOT_FINISHED = 9,    /* a reopening of a match that is not finished */
+    UCLBOARD_BAD_WORD = 10,       /* a word of no valid record; of twelve, the first such word is told, 1 to 12 */
+    UCLBOARD_BAD_ROSTER = 21,     /* a name that is not 1 to 20 bytes from 0x20 to 0x7e, or a coefficient over 999,999: the least slot is told */
+    UCLBOARD_OUT_OF_MEMORY = 23,  /* malloc refused memory */
+    UCLBOARD_NO_REPORTER = 50,    /* not the number of a reporter, 1 to 255 */
+    UCLBOARD_NO_KIND = 51,        /* no kind of event has this number */
+    UCLBOARD_NO_PROFILE = 52,     /* no order has this number */
+    UCLBOARD_NO_GROUP = 53,       /* not a letter from 'A' to 'H' */
+    UCLBOARD_NOT_TWELVE = 54,     /* not twelve words */
+    UCLBOARD_NOT_FOUR = 55,       /* not four clubs */
+    UCLBOARD_NO_ROOM = 56,        /* a buffer has no room for the text and a zero: the length of the text is told */
+    UCLBOARD_NOT_FOUR_ROWS = 57,  /* not room for just four rows */
+    UCLBOARD_NO_STATUS = 58       /* no status has this number */
+};
+
+/* The kind of an event. */
+enum {
+    UCLBOARD_KICK_OFF = 0,
+    UCLBOARD_GOAL_HOME = 1,
+    UCLBOARD_GOAL_AWAY = 2,
+    UCLBOARD_DISALLOW_HOME = 3,
+    UCLBOARD_DISALLOW_AWAY = 4,
+    UCLBOARD_YELLOW_HOME = 5,
+    UCLBOARD_YELLOW_AWAY = 6,
+    UCLBOARD_SECOND_YELLOW_HOME = 7,
+    UCLBOARD_SECOND_YELLOW_AWAY = 8,
+    UCLBOARD_RED_HOME = 9,
+    UCLBOARD_RED_AWAY = 10,
+    UCLBOARD_FULL_TIME = 11,
+    UCLBOARD_REOPEN = 12
+};
+
+/* By what clubs that are level on points are ordered: the Regulations, or with away goals in the matches among them after goals scored. */
+enum { UCLBOARD_UEFA = 0, UCLBOARD_AWAY_IN_TIE = 1 };
+
+/* The state of a match. */
+enum { UCLBOARD_SCHEDULED = 0, UCLBOARD_IN_PLAY = 1, UCLBOARD_ENDED = 2 };
+
+/* The mark of a club: none, sure of a place among the first two, sure of none. */
+enum { UCLBOARD_BLANK = 0, UCLBOARD_PLUS = 1, UCLBOARD_MINUS = 2 };
+
+/* The word of a match before its kick-off. A new board is twelve of them. */
+#define UCLBOARD_SCHEDULED_WORD UINT64_C(0x2000000000000000)
+
+/* How many words a board has, how many clubs a group, and how many bytes a name at most. */
+#define UCLBOARD_WORDS 12
+#define UCLBOARD_CLUBS 4
+#define UCLBOARD_NAME 20
+
+/* Room for each screen and its zero, and for the name of each status. A screen has at most 296 bytes, so that uclboard_screen never answers
+   UCLBOARD_NO_ROOM where its buffer has this room. */
+#define UCLBOARD_SCREEN_ROOM 320
+#define UCLBOARD_NAME_ROOM 32
+
+/* The record of a match. */
+typedef struct uclboard_match {
+    uint32_t number;                          /* the event number: how many events were accepted, 0 to 4095 */
+    uint32_t state;                           /* UCLBOARD_SCHEDULED, UCLBOARD_IN_PLAY or UCLBOARD_ENDED */
+    uint32_t home_goals, away_goals;          /* 0 to 63 */
+    uint32_t home_yellows, away_yellows;      /* yellow cards that stand, 0 to 63 */
+    uint32_t home_expulsions, away_expulsions; /* 0 to 31 */
+    uint32_t reporter;                        /* who entered the last event, 1 to 255; 0 before the kick-off */
+} uclboard_match;
+
+/* A club of a group. Its slot is its place in an array of four, counted from 1. Two clubs may have one name. */
+typedef struct uclboard_club {
+    char name[UCLBOARD_NAME]; /* the name in its first bytes, with no zero */
+    uint32_t length;          /* how many bytes of it are the name, 1 to 20 */
+    uint32_t coefficient;     /* in whole thousandths, 0 to 999,999 */
+} uclboard_club;
+
+/* A club at its place of the table. All numbers but the first three are of matches in play and finished. */
+typedef struct uclboard_row {
+    uint32_t slot;                      /* 1 to 4 */
+    uint32_t place;                     /* 1 to 4 */
+    uint32_t mark;                      /* UCLBOARD_BLANK, UCLBOARD_PLUS or UCLBOARD_MINUS */
+    uint32_t played, wins, draws, losses; /* 0 to 6 */
+    uint32_t goals_for, goals_against;  /* 0 to 378 */
+    uint32_t points;                    /* 0 to 18 */
+} uclboard_row;
+
+/* The version of the library, to be compared with UCLBOARD_VERSION_NUMBER. */
+uint32_t uclboard_version(void);
+
+/* The word of a match after an event, in `next`, or the rule that refuses the event. `word` is of today's layout. `expected` is the event
+   number that the reporter last saw of the match. Judged in this order: UCLBOARD_NO_REPORTER, UCLBOARD_NO_KIND, UCLBOARD_BAD_WORD, and the
+   rules, 1 to 9. UCLBOARD_STALE tells the match's event number in `found`, and no other status writes there. */
+UCLBOARD_NEEDS_LOOK uclboard_status uclboard_next_word(uint64_t word, uint32_t reporter, uint32_t expected, uint32_t kind, uint64_t *next,
+                                                       uint32_t *found);
+
+/* The word of today's layout, in `read`, of the record of a word of today's or the first layout. Or UCLBOARD_BAD_WORD. */
+UCLBOARD_NEEDS_LOOK uclboard_status uclboard_read_word(uint64_t word, uint64_t *read);
+
+/* The record of a word of today's layout, in `match`. Or UCLBOARD_BAD_WORD. */
+UCLBOARD_NEEDS_LOOK uclboard_status uclboard_match_of(uint64_t word, uclboard_match *match);
+
+/* The version of a board, in `version`: the sum of the event numbers of its twelve words, which may be of both layouts. Judged in this order:
+   UCLBOARD_NOT_TWELVE, UCLBOARD_BAD_WORD, which tells the word in `at`. */
+UCLBOARD_NEEDS_LOOK uclboard_status uclboard_board_version(const uint64_t *words, size_t words_length, uint32_t *version, uint32_t *at);
+
+/* The table of twelve words, which may be of both layouts, and of four clubs, by places, in four `rows`. Judged in this order:
+   UCLBOARD_NO_PROFILE, UCLBOARD_NOT_TWELVE, UCLBOARD_BAD_WORD, UCLBOARD_NOT_FOUR, UCLBOARD_BAD_ROSTER, UCLBOARD_NOT_FOUR_ROWS. A bad word and
+   a bad roster tell the word or the slot in `at`, and no other status writes there. Or UCLBOARD_OUT_OF_MEMORY. */
+UCLBOARD_NEEDS_LOOK uclboard_status uclboard_standings(const uint64_t *words, size_t words_length, const uclboard_club *clubs, size_t clubs_length,
+                                                       uint32_t profile, uclboard_row *rows, size_t rows_length, uint32_t *at);
+
+/* The screen of twelve words, which may be of both layouts, and of four clubs: six lines of ASCII and a zero at the front of `out`, and the number of
+   bytes before the zero in `length`. `group` is a letter from 'A' to 'H'. Judged in this order: UCLBOARD_NO_PROFILE, UCLBOARD_NO_GROUP,
+   UCLBOARD_NOT_TWELVE, UCLBOARD_BAD_WORD, UCLBOARD_NOT_FOUR, UCLBOARD_BAD_ROSTER (`at` as above), and last UCLBOARD_NO_ROOM, which tells the
+   length in `length`, and writes nothing to `out`. Or UCLBOARD_OUT_OF_MEMORY. */
+UCLBOARD_NEEDS_LOOK uclboard_status uclboard_screen(const uint64_t *words, size_t words_length, const uclboard_club *clubs, size_t clubs_length,
+                                                    uint32_t group, uint32_t profile, char *out, size_t out_length, size_t *length,
+                                                    uint32_t *at);
+
+/* The length of that screen alone, without the zero. Judged as uclboard_screen is, but for the room. */
+UCLBOARD_NEEDS_LOOK uclboard_status uclboard_screen_length(const uint64_t *words, size_t words_length, const uclboard_club *clubs,
+                                                           size_t clubs_length, uint32_t group, uint32_t profile, size_t *length, uint32_t *at);
+
+/* The name of a status and a zero at the front of `out`, and the number of bytes before the zero in `length`. Of a refusal it is the name that
+   ucl_night prints. Or UCLBOARD_NO_STATUS, or UCLBOARD_NO_ROOM, which tells the length in `length`. */
+UCLBOARD_NEEDS_LOOK uclboard_status uclboard_text_of_status(uint32_t status, char *out, size_t out_length, size_t *length);
+
+#ifdef __cplusplus
+}
+#endif
+#endif

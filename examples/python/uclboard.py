@@ -1,0 +1,177 @@
+"""The table board of one group of the UEFA Champions League, by ctypes: nothing is to be installed.
+
+    import uclboard
+    board = uclboard.Board()
+    board.report(match=1, reporter=1, expected=0, kind="kickoff")
+    print(board.screen(clubs=[("Alpha", 60000), ("Bravo", 95000), ("Charlie", 60000), ("Delta", 81500)]))
+
+The library is libuclboard.so beside this file, or what the variable UCLBOARD_LIBRARY names. What the library does not do it answers by an
+exception: `Stale`, `Finished` and the others by their names, each of them a `Refused` with its `status`.
+"""
+
+import ctypes as c
+import os
+import pathlib
+
+VERSION_NUMBER = 1000000
+KINDS = {
+    name: code
+    for code, name in enumerate(
+        ["kickoff", "goal-home", "goal-away", "disallow-home", "disallow-away", "yellow-home", "yellow-away", "second-yellow-home"]
+        + ["second-yellow-away", "red-home", "red-away", "fulltime", "reopen"]
+    )
+}
+ORDERS = {"uefa": 0, "away-in-tie": 1}
+MARKS = ["", "+", "-"]
+STATES = ["scheduled", "in play", "finished"]
+SCHEDULED_WORD = 0x2000000000000000
+WORDS, CLUBS, NAME, SCREEN_ROOM, NAME_ROOM = 12, 4, 20, 320, 32
+# What stands for a kind, an order or a group that has no number: the library refuses it.
+NO_CODE = 0xFFFFFFFF
+
+
+class Match(c.Structure):
+    """The record of a match."""
+
+    _fields_ = [(name, c.c_uint32) for name in "number state home_goals away_goals home_yellows away_yellows".split()]
+    _fields_ += [(name, c.c_uint32) for name in "home_expulsions away_expulsions reporter".split()]
+
+
+class Club(c.Structure):
+    """A club as the library takes it."""
+
+    _fields_ = [("name", c.c_char * NAME), ("length", c.c_uint32), ("coefficient", c.c_uint32)]
+
+
+class Row(c.Structure):
+    """A club at its place of the table."""
+
+    _fields_ = [(name, c.c_uint32) for name in "slot place mark played wins draws losses goals_for goals_against points".split()]
+
+
+class Refused(Exception):
+    """A call that was not done: its status, and the number found, the word or the slot where the status has one."""
+
+    status = None
+
+    def __init__(self, text, told=None):
+        super().__init__(text if told is None else f"{text}: {told}")
+        self.told = told
+
+
+def exception(name, status):
+    """The exception of a status."""
+    return type(name, (Refused,), {"status": status, "__doc__": f"Status {status}."})
+
+
+NAMES = {1: "Stale", 2: "Finished", 3: "NotStarted", 4: "AlreadyStarted", 5: "NumberFull", 6: "NoGoal", 7: "NoCaution", 8: "LimitReached"}
+NAMES.update({9: "NotFinished", 10: "BadWord", 21: "BadRoster", 23: "OutOfMemory", 50: "NoReporter", 51: "NoKind", 52: "NoProfile"})
+NAMES.update({53: "NoGroup", 54: "NotTwelve", 55: "NotFour", 56: "NoRoom", 57: "NotFourRows", 58: "NoStatus"})
+EXCEPTIONS = {status: exception(name, status) for status, name in NAMES.items()}
+globals().update({raised.__name__: raised for raised in EXCEPTIONS.values()})
+
+LIBRARY = c.CDLL(os.environ.get("UCLBOARD_LIBRARY", str(pathlib.Path(__file__).resolve().parent / "libuclboard.so")))
+NUMBERS, CLUB_ROOM, TABLE_ROOM = c.POINTER(c.c_uint64), c.POINTER(Club), c.POINTER(Row)
+ONE, SIZE = c.POINTER(c.c_uint32), c.POINTER(c.c_size_t)
+
+
+def declared(name, *arguments):
+    """A call of the library, with what it takes."""
+    call = getattr(LIBRARY, "uclboard_" + name)
+    call.restype, call.argtypes = c.c_uint32, arguments
+    return call
+
+
+version = declared("version")
+next_word = declared("next_word", c.c_uint64, c.c_uint32, c.c_uint32, c.c_uint32, NUMBERS, ONE)
+read_word = declared("read_word", c.c_uint64, NUMBERS)
+match_of = declared("match_of", c.c_uint64, c.POINTER(Match))
+board_version = declared("board_version", NUMBERS, c.c_size_t, ONE, ONE)
+standings = declared("standings", NUMBERS, c.c_size_t, CLUB_ROOM, c.c_size_t, c.c_uint32, TABLE_ROOM, c.c_size_t, ONE)
+screen = declared("screen", NUMBERS, c.c_size_t, CLUB_ROOM, c.c_size_t, c.c_uint32, c.c_uint32, c.c_char_p, c.c_size_t, SIZE, ONE)
+screen_length = declared("screen_length", NUMBERS, c.c_size_t, CLUB_ROOM, c.c_size_t, c.c_uint32, c.c_uint32, SIZE, ONE)
+text_of_status = declared("text_of_status", c.c_uint32, c.c_char_p, c.c_size_t, SIZE)
+
+if version() // 1000000 != VERSION_NUMBER // 1000000:
+    raise ImportError(f"libuclboard of version {version()}, and this file is for {VERSION_NUMBER}")
+
+
+def name_of(status):
+    """The name of a status."""
+    name, length = c.create_string_buffer(NAME_ROOM), c.c_size_t()
+    if text_of_status(status, name, NAME_ROOM, length):
+        return f"status {status}"
+    return name.raw[: length.value].decode("ascii")
+
+
+def need(status, told=None):
+    """Raises the exception of a status that is not 0."""
+    if status:
+        raise EXCEPTIONS.get(status, Refused)(name_of(status), told)
+
+
+def number(value):
+    """A number as the library takes it: one that has no room in 32 bits is none that it knows."""
+    return value if isinstance(value, int) and 0 <= value < NO_CODE else NO_CODE
+
+
+def clubs_of(clubs):
+    """Clubs as the library takes them, each a pair of a name and a coefficient."""
+    made = (Club * len(clubs))()
+    for club, (name, coefficient) in zip(made, clubs):
+        text = name.encode("utf-8")
+        club.name, club.length, club.coefficient = text[:NAME], len(text), number(coefficient)
+    return made
+
+
+class Board:
+    """The twelve matches of a group: a new board, or that of twelve words, of today's layout or the first."""
+
+    def __init__(self, words=(SCHEDULED_WORD,) * WORDS):
+        self.words = (c.c_uint64 * len(words))(*words)
+        self.version()
+        for index, word in enumerate(words):
+            read = c.c_uint64()
+            need(read_word(word, read), index + 1)
+            self.words[index] = read.value
+
+    def report(self, match, reporter, expected, kind):
+        """Enters an event in a match, 1 to 12. Returns the match's event number after it."""
+        after, found, word = c.c_uint64(), c.c_uint32(), self.word(match)
+        status = next_word(word, number(reporter), number(expected), KINDS.get(kind, NO_CODE), after, found)
+        need(status, found.value if status == EXCEPTIONS[1].status else None)
+        self.words[match - 1] = after.value
+        return self.match(match).number
+
+    def word(self, match):
+        """The word of a match, 1 to 12."""
+        if not 1 <= match <= WORDS:
+            raise IndexError(f"no match has the number {match}")
+        return self.words[match - 1]
+
+    def match(self, match):
+        """The record of a match, 1 to 12."""
+        made = Match()
+        need(match_of(self.word(match), made), match)
+        return made
+
+    def version(self):
+        """How many events were entered on a board that was new."""
+        made, at = c.c_uint32(), c.c_uint32()
+        need(board_version(self.words, len(self.words), made, at), at.value or None)
+        return made.value
+
+    def standings(self, clubs, order="uefa"):
+        """The four rows of the table, by places."""
+        made, rows, at = clubs_of(clubs), (Row * CLUBS)(), c.c_uint32()
+        code = ORDERS.get(order, NO_CODE)
+        need(standings(self.words, len(self.words), made, len(made), code, rows, CLUBS, at), at.value or None)
+        return list(rows)
+
+    def screen(self, clubs, group="A", order="uefa"):
+        """The screen, as text."""
+        made, text, length, at = clubs_of(clubs), c.create_string_buffer(SCREEN_ROOM), c.c_size_t(), c.c_uint32()
+        letter, code = ord(group) if len(group) == 1 else NO_CODE, ORDERS.get(order, NO_CODE)
+        status = screen(self.words, len(self.words), made, len(made), letter, code, text, SCREEN_ROOM, length, at)
+        need(status, at.value or None)
+        return text.raw[: length.value].decode("ascii")
