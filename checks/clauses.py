@@ -13,6 +13,7 @@ BLOCK = re.compile(r"^(?:pub )?(trait|impl)\b")
 FUNCTION = re.compile(r"^(    )?(pub )?(?:extern \"C\" )?fn (\w+)")
 CLAUSE = re.compile(r"^\s*ensures\s+(?:(\w+)\s+)?\{")
 DISPLAY = "Display"
+EXPORT = "C"
 RULE = "KeepsOneHistory"
 FIELD = re.compile(r"^  pub (\w+) : ", re.M)
 
@@ -51,7 +52,8 @@ def function_at(lines, start, indent):
 
 
 def functions_of(path):
-    """Each function of a file: its trait and type, if any, whether it says `pub`, its name, its clauses, and whether its body is empty."""
+    """Each function of a file: its trait and type, if any, whether it says `pub` or is an export, its name, its clauses, and whether its
+    body is empty."""
     lines = path.read_text().split("\n")
     trait = owner = None
     for at, line in enumerate(lines):
@@ -61,7 +63,8 @@ def functions_of(path):
             trait = owner = None
         found = FUNCTION.match(line)
         if found and bool(found[1]) == bool(owner):
-            yield (trait, owner, bool(found[2]), found[3], *function_at(lines, at, found[1] or ""))
+            is_pub = EXPORT if f'extern "{EXPORT}"' in line else bool(found[2])
+            yield (trait, owner, is_pub, found[3], *function_at(lines, at, found[1] or ""))
 
 
 def named(owner, function, clauses):
@@ -84,7 +87,7 @@ def clauses_of_crate(names, modules, functions, traits):
     """The clauses of a crate's public functions."""
     for path, (trait, owner, is_pub, function, clauses, is_empty) in functions:
         is_method = owner in names and trait != owner
-        is_plain = owner is None and (function in names or path.stem in modules)
+        is_plain = owner is None and (function in names or path.stem in modules or is_pub == EXPORT)
         if trait == DISPLAY and is_method:
             yield from named(owner, function, [])
         elif is_empty:

@@ -2,7 +2,7 @@
 
 ghost use Rattle.std.specs.Prelude.{◌≤◌, IfSome, IfOk};
 
-use std::alloc::Global;
+use std::alloc::{AllocError, Global};
 use std::sync::Wait;
 use std::test::Fail;
 use std::thread;
@@ -341,6 +341,67 @@ fn all_numbers(rt: HostRuntime) -> Result<(), Fail> {
     let (board, reader) = WordBoard::open(&rt, rt.alloc())?;
     let in_words = all_numbers_on(&rt, &board, reader);
     assert_eq!(rt; [in_cell, in_words], [Ok((false, Some(0))); 2]);
+    Ok(())
+}
+
+/// Enlists a reporter, and keeps its pass beside those that are there.
+fn keep_one_more<B: LiveBoard, R: Wait>(
+    rt: &R,
+    board: &B,
+    reader: &mut B::ReaderPass,
+    kept: &mut Vec<B::ReporterPass>,
+) -> Result<(), AllocError>
+    requires { B.is_reader board.now reader.old }
+    ensures { B.is_reader board.now reader.new }
+{
+    if let Some(pass) = enlisted(rt, board, reader) {
+        kept.push(pass)?;
+    }
+    Ok(())
+}
+
+/// Enlists reporters 255 times, and keeps all their passes.
+fn all_passes_kept<B: LiveBoard, R: Wait>(
+    rt: &R,
+    alloc: Global,
+    board: &B,
+    reader: &mut B::ReaderPass,
+) -> Result<Vec<B::ReporterPass>, AllocError>
+    requires { B.is_reader board.now reader.old }
+    ensures { IfOk result (λ _. B.is_reader board.now reader.new) }
+{
+    let mut kept = Vec::new(alloc);
+    for _number in 0..255u8 {
+        keep_one_more(rt, board, reader, &mut kept)?;
+    }
+    Ok(kept)
+}
+
+/// How many reporters' passes are alive at once, and what is left when all are let go: whether there is another number, and the version
+/// that is read.
+fn all_let_go_on<B: LiveBoard, R: Wait>(
+    rt: &R,
+    alloc: Global,
+    board: &B,
+    mut reader: B::ReaderPass,
+) -> Result<(usize, bool, u16), AllocError>
+    requires { B.is_reader board.now reader }
+{
+    let kept = all_passes_kept(rt, alloc, board, &mut reader)?;
+    let many = kept.len();
+    drop(kept);
+    let another = enlisted(rt, board, &mut reader).is_some();
+    Ok((many, another, version_read(rt, board, &mut reader)))
+}
+
+#[test]
+fn all_passes_at_once(rt: HostRuntime) -> Result<(), Fail> {
+    let alloc = rt.alloc();
+    let (board, reader) = CellBoard::open(&rt, alloc)?;
+    let in_cell = all_let_go_on(&rt, alloc, &board, reader)?;
+    let (board, reader) = WordBoard::open(&rt, alloc)?;
+    let in_words = all_let_go_on(&rt, alloc, &board, reader)?;
+    assert_eq!(rt; [in_cell, in_words], [(255, false, 0); 2]);
     Ok(())
 }
 

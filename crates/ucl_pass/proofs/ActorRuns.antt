@@ -18,9 +18,7 @@ use Rattle.ucl_steps.specs.declared.trace.CallRecord.{CallRecord}
 use Rattle.ucl_steps.specs.Machine.{Idle, MachineState, initial_state, held_by}
 use Rattle.ucl_steps.specs.Protocol.{Held, Nothing, Answer, Doing, nothing_done, MayAsk}
 use Rattle.ucl_steps.specs.PassRuns.{cast_for, caller_for, IsOf, IsRecordOf, AreRecordsOf, FitsHeld, is_of, callers_of, FitsRun, Move, steps_of_move, IsTight}
-use Rattle.ucl_steps.proofs.Calls.{rest_at_start}
-use Rattle.ucl_steps.proofs.JoinedRuns.{steps_append}
-use Rattle.ucl_steps.proofs.LogRunsSeats.{not_of}
+use Rattle.ucl_steps.proofs.OneStep.{idle_at_start, steps_append, not_of}
 use Rattle.ucl_steps.proofs.PassSteps.{fits_else}
 use Rattle.ucl_pass.specs.Actors.{Actor, IsOfActor, IsRunOfActors}
 use Rattle.ucl_pass.proofs.Bursts.{Burst}
@@ -258,15 +256,15 @@ run_begins readers all = record {
   tight = record { moves = []; are = refl };
   each = each;
   only = All-nil (IsOfActor (first ∷ []));
-  unseated = λ seat over below. (rest_at_start (cast_for readers)).idle (Reader (seat + 1)) (omega arith, omega arith);
-  unnumbered = λ n above few. (rest_at_start (cast_for readers)).idle (Reporter n) (omega arith, omega arith);
+  unseated = λ seat over below. idle_at_start (cast_for readers) (Reader (seat + 1)) (omega arith, omega arith);
+  unnumbered = λ n above few. idle_at_start (cast_for readers) (Reporter n) (omega arith, omega arith);
 }
   where
     first : Actor
     first = record { number = 0; doing = nothing_done }
 
     callers : (d : Caller) → IsOf 0 0 d → held_by (initial_state (cast_for readers)).callers d ≡ Some Idle
-    callers d (inl k) = subst (λ (c : Caller). held_by (initial_state (cast_for readers)).callers c ≡ Some Idle) (sym k) ((rest_at_start (cast_for readers)).idle (Reader 1) (omega arith, omega arith))
+    callers d (inl k) = subst (λ (c : Caller). held_by (initial_state (cast_for readers)).callers c ≡ Some Idle) (sym k) (idle_at_start (cast_for readers) (Reader 1) (omega arith, omega arith))
     callers d (inr k) = let low = k.1.0 in absurd (omega arith)
 
     each : (seat : ℕ) (a : Actor) → get_elem? (record { number = 0; doing = nothing_done } ∷ []) seat ≡ some a → FitsRun (initial_state (cast_for readers)) seat a.number a.doing

@@ -5,6 +5,7 @@ use Rattle.std.proofs.lemmas.List.{length-take-le}
 use Rattle.std.proofs.Math.Seq.{take-length}
 use Rattle.ucl_word.specs.declared.event.EventCall.{EventCall}
 use Rattle.ucl_word.specs.declared.refusal.Refusal.{Refusal}
+use Rattle.ucl_word.specs.declared.refusal.Refusal.TheVariants.{Stale}
 use Rattle.ucl_word.specs.Rules.{refusal_of, after}
 use Rattle.ucl_word.specs.Layout.{word_of, record_at}
 use Rattle.ucl_board.specs.declared.entry.Entry.{Entry}
@@ -21,12 +22,10 @@ use Rattle.ucl_steps.specs.declared.step.Call.TheVariants.{Event, Reading}
 use Rattle.ucl_steps.specs.declared.step.Step.{Step}
 use Rattle.ucl_steps.specs.declared.trace.Reply.TheVariants.{Accepted, Refused, Copied}
 use Rattle.ucl_steps.specs.Machine.{MachineState, initial_state, after_steps}
-use Rattle.ucl_steps.specs.Protocol.{Held, Nothing, Holding, Collecting, Checking, Doing, goes, ends, by_rules, collected, MayAsk}
+use Rattle.ucl_steps.specs.Protocol.{Held, Nothing, Holding, Collecting, Checking, Answers, Doing, goes, ends, done_by, by_rules, collected, MayAsk}
 use Rattle.ucl_steps.specs.PassRuns.{IsOf, FitsRun, steps_of_move, IsTight}
-use Rattle.ucl_steps.proofs.JoinedRuns.{steps_append}
-use Rattle.ucl_steps.proofs.LogRunsCalls.{IsNow}
-use Rattle.ucl_steps.proofs.LogRunsSeats.{Passes, passes_on}
-use Rattle.ucl_steps.proofs.PassSteps.{Turn, turn_look, turn_won, turn_begins, turn_first, turn_again, turn_clean}
+use Rattle.ucl_steps.proofs.OneStep.{steps_append, IsNow, Passes, passes_on}
+use Rattle.ucl_steps.proofs.PassSteps.{Turn, turn_look, turn_swapped, turn_begins, turn_first, turn_again, turn_clean}
 
 pub record Burst (seat number : ℕ) (w : MachineState) (c : Caller) (d : Doing) (entries : List Entry) : Type 0 where
   pub steps : List Step
@@ -153,8 +152,8 @@ module _ (cast : Cast) (seat number : ℕ) (steps : List Step) (w : MachineState
   abbrev looks_there : Access
   looks_there = access log.Look e.game found_at (length w.history)
 
-  looked_there : (o : Option Refusal) → refusal_of (record_at found_at) e.expected e.kind ≡ o → Turn seat number w (Reporter number) looks_there (by_rules number e found_at (length w.history) o d) []
-  looked_there o is = subst (λ (o : Option Refusal). Turn seat number w (Reporter number) looks_there (by_rules number e found_at (length w.history) o d) []) is
+  looked_there : (o : Option Refusal) → refusal_of (record_at found_at) e.expected e.kind ≡ o → Turn seat number w (Reporter number) looks_there (done_by (Event e) (length w.history) (length w.history) (by_rules number e found_at o) d) []
+  looked_there o is = subst (λ (o : Option Refusal). Turn seat number w (Reporter number) looks_there (done_by (Event e) (length w.history) (length w.history) (by_rules number e found_at o) d) []) is
       (turn_look cast seat number steps w run d f looks_there (record { place = refl; found = refl }) e may none (refl, refl))
 
   -- which the rules refuse
@@ -173,4 +172,6 @@ module _ (cast : Cast) (seat number : ℕ) (steps : List Step) (w : MachineState
       let now : IsNow t.last swaps_there = record { place = ap length (sym same); found = ap (λ (h : List Entry). word_of (match_after h e.game)) (sym same) } in
       turns_on seat number w (Reporter number) looks_there on (ends (Event e) (Accepted (record { number = (record_at found_at).number + 1 })) (length w.history) (length w.history + 1) d) (entry_of (number, e) ∷ []) t
       (one_turn seat number t.last (Reporter number) swaps_there (ends (Event e) (Accepted (record { number = (record_at found_at).number + 1 })) (length w.history) (length w.history + 1) d) (entry_of (number, e) ∷ [])
-      (turn_won cast seat number (steps ++ t.steps) t.last (steps_append steps t.steps (initial_state cast) w run ∙ t.run) on t.fits swaps_there now e found_at next refl (refl, refl) refl))
+      (subst (λ (b : Bool). Turn seat number t.last (Reporter number) swaps_there (done_by (Event e) (length w.history) (length w.history + 1) (Answers (cond b (Accepted (record { number = (record_at found_at).number + 1 })) (Refused (Stale (record_at found_at).number)))) on) (entry_of (number, e) ∷ []))
+      (eq-eqb found_at found_at refl)
+      (turn_swapped cast seat number (steps ++ t.steps) t.last (steps_append steps t.steps (initial_state cast) w run ∙ t.run) on t.fits swaps_there now e found_at next refl (refl, refl) refl)))

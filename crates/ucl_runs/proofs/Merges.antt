@@ -9,7 +9,8 @@ use Rattle.std.proofs.Math.Seq.{take-length}
 use Rattle.ucl_word.specs.declared.event.EventCall.{EventCall}
 use Rattle.ucl_word.specs.Layout.{word_of}
 use Rattle.ucl_word.specs.Rules.{reply_of}
-use Rattle.ucl_word.specs.Counts.{MatchEntry, counted_match, entered}
+use Rattle.ucl_word.specs.Counts.{MatchEntry, counted_match}
+use Rattle.ucl_word.proofs.EntryCounts.{entered}
 use Rattle.ucl_word.proofs.Sequences.{at_below}
 use Rattle.ucl_board.specs.declared.entry.Entry.{Entry}
 use Rattle.ucl_board.specs.declared.reading.Reading.{Reading}

@@ -20,8 +20,8 @@ use std::sync::Wait;
 use std::thread::Threads;
 use ucl_board::Reading;
 use ucl_order::Profile;
-use ucl_shared::{LiveBoard, settle};
 use ucl_screen::{Night, NightEvent, Sink, screen};
+use ucl_shared::{LiveBoard, settle};
 
 /// The row of the first event of a script.
 const FIRST_EVENT_ROW: usize = 5;

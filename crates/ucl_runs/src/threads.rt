@@ -12,8 +12,8 @@ use std::sync::Wait;
 use std::thread;
 use std::thread::{Promise, PromisedHandle, Scope, Threads};
 use ucl_order::{Profile, Roster};
-use ucl_shared::LiveBoard;
 use ucl_screen::NightEvent;
+use ucl_shared::LiveBoard;
 use ucl_word::OutOfMemory;
 
 /// What a reporter's thread promises of the pass that it hands back.

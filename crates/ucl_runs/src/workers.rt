@@ -10,8 +10,8 @@ use crate::gate::Gate;
 use std::alloc::Global;
 use std::sync::Wait;
 use ucl_order::{Profile, Roster};
-use ucl_shared::LiveBoard;
 use ucl_screen::{NightEvent, screen};
+use ucl_shared::LiveBoard;
 use ucl_word::OutOfMemory;
 
 /// Enters the rows of one reporter of the script in their order, on a pass that has entered nothing yet. Replies are not

@@ -15,4 +15,3 @@ pub mod Accesses
 pub mod Reachable
 pub mod OneStep
 pub mod PassSteps
-pub mod Bursts

@@ -11,7 +11,8 @@ use Rattle.ucl_word.specs.declared.refusal.Refusal.{Refusal}
 use Rattle.ucl_word.specs.declared.refusal.Refusal.TheVariants.{Stale}
 use Rattle.ucl_word.specs.Rules.{refusal_of, after, reply_of}
 use Rattle.ucl_word.specs.Layout.{record_at, IsWord}
-use Rattle.ucl_word.specs.Counts.{MatchEntry, counted_match, entered, IsLegalMatch}
+use Rattle.ucl_word.specs.Counts.{MatchEntry, counted_match, IsLegalMatch}
+use Rattle.ucl_word.proofs.EntryCounts.{entered}
 use Rattle.ucl_word.proofs.AcceptedEvents.{after_number}
 use Rattle.ucl_word.proofs.Words.{word_packed}
 use Rattle.ucl_board.specs.declared.entry.Entry.{Entry}

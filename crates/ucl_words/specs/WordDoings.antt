@@ -8,7 +8,7 @@ use Rattle.ucl_steps.specs.declared.trace.Reply.TheVariants.{Copied}
 use Rattle.ucl_word.specs.declared.event.EventCall.{EventCall}
 use Rattle.ucl_steps.specs.Protocol.{Held, Nothing, Holding, Collecting, Checking, Doing, goes, ends, along}
 use Rattle.ucl_board.specs.Log.{Taken}
-use Rattle.ucl_pass.specs.Views.{Takes}
+use Rattle.ucl_shared.specs.Views.{Takes}
 use Rattle.ucl_words.specs.declared.view.WordView.{WordView}
 
 -- a call was answered: it is the last of the finished ones, nothing is held, and it began and ended when there

@@ -1,4 +1,5 @@
 use Rattle.std.proofs.Common.{◌≡◌, Some, refl, sym, ap, ◌∙◌, arith, rules}
+use Rattle.std.specs.Prelude.{slice_index}
 use Rattle.ucl_board.specs.declared.reading.Reading.{Reading}
 use Rattle.ucl_steps.specs.declared.trace.Reply.TheVariants.{Copied}
 use Rattle.ucl_steps.specs.Machine.{after_reply}
@@ -45,5 +46,6 @@ reading_of-reading-requires c =
 pub returns-then-checked-eq11 : goal.returns-then-checked-eq11
 returns-then-checked-eq11 c =
     let is : c.held-held.result ≡ Some (has.Checking c.in-Some-Checking.call c.in-Some-Checking.words c.in-Some-Checking.checked c.in-Some-Checking.point) = search rules in
-    clean_step (state_of c.args.self.now) c.requires c.args.caller c.held-held.result c.held-held.ensures c.in-Some-Checking.call c.in-Some-Checking.words c.in-Some-Checking.checked c.in-Some-Checking.point is c.if-self-checked.false c.if-checked-eq11.true
+    let same : slice_index c.args.self.now.words c.in-Some-Checking.checked ≡ slice_index c.in-Some-Checking.words c.in-Some-Checking.checked = search rules in
+    clean_step (state_of c.args.self.now) c.requires c.args.caller c.held-held.result c.held-held.ensures c.in-Some-Checking.call c.in-Some-Checking.words c.in-Some-Checking.checked c.in-Some-Checking.point is same c.if-checked-eq11.true
     ∙ ap Some (sym (c.reply.ensures ∙ ap (λ (r : Reading). after_reply c.args.caller c.in-Some-Checking.call c.in-Some-Checking.point (Copied r) (state_of c.args.self.now)) c.reading_of-reading.ensures))
