@@ -69,7 +69,7 @@ FAULTS = {
         ("checks/lists/wide_lines", None, "crates/ucl_bench_tally/src/lib.rt: 1\n"),
     ],
     "each name in backticks is there": [
-        ("README.md", "`whole_is_alone`", "`whole_is_lonely`"),
+        ("docs/PROMISES.md", "`whole_is_alone`", "`whole_is_lonely`"),
         ("README.md", "`bench/compare`", "`bench/compared`"),
         ("docs/DECISIONS.md", "`ucl_bench_tally`", "`ucl_tale`"),
     ],
@@ -86,8 +86,8 @@ FAULTS = {
         ("crates/ucl_command/src/texts.rt", "rattle-kit-", "rattle-kit-0"),
     ],
     "the examples at the calls and the program of the README are tested": [
-        ("README.md", "//! A board in a program of one's own", "//! A board in a program"),
-        ("crates/ucl_example/stdout", "IN PLAY 2", "IN PLAY 3"),
+        ("README.md", "board.report_now(pass, &again)", "board.report_now(pass, event)"),
+        ("README.md", "ucl_example: ucl_word ", "ucl_example: "),
         ("crates/ucl_boards_tests/src/word_board/examples.rt", "WordBoard::open(", "WordBoard::opens("),
     ],
 }
