@@ -10,7 +10,7 @@ import re
 PUBLIC = re.compile(r"^pub use (?:\w+::)*(?:\{([^}]*)\}|(\w+));", re.M)
 PUBLIC_MODULE = re.compile(r"^pub mod (\w+);", re.M)
 BLOCK = re.compile(r"^(?:pub )?(trait|impl)\b")
-FUNCTION = re.compile(r"^(    )?(pub )?(?:extern \"C\" )?fn (\w+)")
+FUNCTION = re.compile(r'^(    )?(?:(pub )|pub\(\w+\) )?(?:const )?(?:unsafe )?(?:extern "C" )?fn (\w+)')
 CLAUSE = re.compile(r"^\s*ensures\s+(?:(\w+)\s+)?\{")
 DISPLAY = "Display"
 EXPORT = "C"
@@ -98,16 +98,34 @@ def clauses_of_crate(names, modules, functions, traits):
             yield from named(owner, function, clauses)
 
 
-def clauses_of(top):
-    """All clauses that a wrong body has to break, in order: of the crates that have definitions."""
+def crates_with_definitions(top):
+    """The crates that have definitions, each with what it makes public and with its functions by their files."""
     folders = [path.parent for path in sorted(top.glob("crates/*/specs")) if (path.parent / "src/lib.rt").exists()]
-    crates = [
+    return [
         (crate, exported(crate), [(path, found) for path in sorted((crate / "src").glob("**/*.rt")) for found in functions_of(path)])
         for crate in folders
     ]
+
+
+def fields_of_the_rule(top):
+    """The fields of the rule of shared boards."""
+    texts = [path.read_text() for path in sorted(top.glob("crates/*/specs/*.antt"))]
+    records = [re.search(rf"^pub record {RULE} .*\n((?:  .*\n)*)", text, re.M) for text in texts]
+    return [f"{RULE} {field}" for record in records if record for field in FIELD.findall(record[1])]
+
+
+def clauses_of(top):
+    """All clauses that a wrong body has to break, in order: of the crates that have definitions."""
+    crates = crates_with_definitions(top)
     traits = traits_of(crates)
     found = [clause for _, (names, modules), functions in crates for clause in clauses_of_crate(names, modules, functions, traits)]
-    for path in sorted(top.glob("crates/*/specs/*.antt")):
-        record = re.search(rf"^pub record {RULE} .*\n((?:  .*\n)*)", path.read_text(), re.M)
-        found += [f"{RULE} {field}" for field in FIELD.findall(record[1])] if record else []
-    return list(dict.fromkeys(found))
+    return list(dict.fromkeys(found + fields_of_the_rule(top)))
+
+
+def all_clauses(top):
+    """All clauses that a wrong body may break: those that one has to break, and those of functions that are not public."""
+    found = set(clauses_of(top))
+    for _, _, functions in crates_with_definitions(top):
+        for _, (_, owner, _, function, clauses, _) in functions:
+            found.update(named(owner, function, clauses), named(owner, function, []))
+    return found

@@ -32,6 +32,21 @@ def broken_by(edit):
     return [f"{line[0]} {clause}".strip() for line in words for clause in line[1:] or [""]]
 
 
+def lines_of(broken):
+    """The lines that tell these clauses, a line for each function."""
+    functions = {}
+    for clause in broken:
+        function, _, name = clause.partition(" ")
+        functions.setdefault(function, []).extend([name] if name else [])
+    return [" ".join(["breaks:", function, *names]) for function, names in functions.items()]
+
+
+def write_broken(edit, broken):
+    """Writes an edit with lines that tell these clauses, in the place of those that it has."""
+    kept = [line for line in edit.read_text().split("\n") if not line.startswith("breaks:")]
+    edit.write_text("\n".join(lines_of(broken) + kept))
+
+
 def edited(folder, edit):
     """The texts that an edit changes, by their files below the crate's folder. A ValueError says why it does not fit."""
     texts, was, path, old = {}, {}, None, None

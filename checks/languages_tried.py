@@ -2,6 +2,7 @@
 
 import os
 import pathlib
+import re
 import shutil
 import subprocess
 import tempfile
@@ -33,6 +34,7 @@ def languages(top, work):
     """For each language: what compiles its example, and what runs it."""
     folder, examples = top / "library", top / "examples"
     c = ["cc", "-std=c11", "-O2", "-Wall", "-Wextra", "-pedantic", "-Werror", "-pthread", str(examples / "c/night.c"), "-I", str(folder)]
+    shared = [str(examples / "c/shared.c") if word == str(examples / "c/night.c") else word for word in c]
     cpp = ["c++", "-std=c++17", "-O2", "-Wall", "-Wextra", "-pedantic", "-Werror", str(examples / "cpp/night.cpp"), "-I", str(folder)]
     rust = ["rustc", "--edition", "2021", "-D", "warnings", "-L", str(folder), "-o", f"{work}/rust", str(examples / "rust/night.rs")]
     archive = str(folder / "libuclboard.a")
@@ -40,6 +42,8 @@ def languages(top, work):
         ("C", [*c, archive, "-o", f"{work}/c"], [f"{work}/c"], {}),
         ("C, with the address sanitizer", [*c, *SANITIZED, archive, "-o", f"{work}/sanitized"], [f"{work}/sanitized"], {}),
         ("C, with the shared library", [*c, "-L", str(folder), "-luclboard", "-o", f"{work}/shared"], [f"{work}/shared"], {"LD_LIBRARY_PATH": str(folder)}),
+        ("C, by handles", [*shared, archive, "-o", f"{work}/by_handles"], [f"{work}/by_handles"], {}),
+        ("C, by handles, with the address sanitizer", [*shared, *SANITIZED, archive, "-o", f"{work}/handles_sanitized"], [f"{work}/handles_sanitized"], {}),
         ("C++", [*cpp, archive, "-o", f"{work}/cpp"], [f"{work}/cpp"], {}),
         ("Python", None, ["python3", str(examples / "python/night.py")], {"UCLBOARD_LIBRARY": str(folder / "libuclboard.so"), "PYTHONDONTWRITEBYTECODE": "1"}),
         ("Rust", rust, [f"{work}/rust"], {}),
@@ -80,12 +84,40 @@ def cases(top):
             verdict = compiled(name, command)
             found = [] if verdict else played(top, run, variables)
             yield verdict or (f"FAILED: {'; '.join(found)}" if found else "ok"), title
+        yield from fed(top, work)
         yield from refused_memory(top, work)
+        yield from raced(top, work)
+
+
+def fed(top, work):
+    """The example that feeds a whole script: its replies and words are those that stand beside the script, and faults are told as there."""
+    title = "the example in C that feeds scripts, against what `ucl_night feed` writes"
+    folder = top / "library"
+    command = ["cc", "-std=c11", "-O2", "-Wall", "-Wextra", "-pedantic", "-Werror", str(top / "examples/c/feed.c"), "-I", str(folder)]
+    verdict = compiled("C", [*command, str(folder / "libuclboard.a"), "-o", f"{work}/feed"])
+    if verdict is None:
+        found = []
+        cases = [(path.read_bytes(), 0, path.with_suffix(".expected").read_bytes(), b"") for path in fed_scripts(top)]
+        club = b"club,1,Alpha,60000\n"
+        cases += [(b"", 3, b"", b"input refused 20: row 1\n"), (club, 3, b"", b"input refused 20: row 2\n")]
+        cases += [(b"x" * 4194305, 3, b"", b"input refused 24: too long\n")]
+        cases += [(b"".join(club.replace(b"1", b"%d" % i, 1) for i in (1, 2, 3, 4)).replace(b",4,Alpha", b",4,"), 3, b"", b"input refused 21: slot 4\n")]
+        for given, *wanted in cases:
+            ran = subprocess.run([f"{work}/feed"], input=given, stdout=subprocess.PIPE, stderr=subprocess.PIPE, timeout=60)
+            if [ran.returncode, ran.stdout, ran.stderr] != wanted:
+                found.append(f"{given[:60]}: status {ran.returncode} {ran.stderr.decode(errors='replace')[:200]}")
+        verdict = f"FAILED: {'; '.join(found)}" if found else "ok"
+    yield verdict, title
+
+
+def fed_scripts(top):
+    """The scripts of examples/ beside which stands what `ucl_night feed` writes."""
+    return [path for path in sorted((top / "examples").glob("*.csv")) if path.with_suffix(".expected").read_bytes()[:5] == b"5 ok "]
 
 
 def refused_memory(top, work):
     """Each request for memory is refused in turn."""
-    title = "each request for memory refused in turn: outputs as they were, nothing left"
+    title = "each request for memory refused in turn: outputs as they were, nothing left, no number of a reporter spent"
     folder = top / "library"
     command = ["cc", "-std=c11", "-Wall", "-Wextra", "-Werror", "-I", str(folder), str(top / "checks/library_memory.c"), str(folder / "libuclboard.a")]
     wraps = [f"-Wl,--wrap={name}" for name in ("malloc", "realloc", "free")]
@@ -93,4 +125,23 @@ def refused_memory(top, work):
     if verdict is None:
         ran = subprocess.run([f"{work}/memory"], stdout=subprocess.PIPE, stderr=subprocess.STDOUT, universal_newlines=True, timeout=60)
         verdict = "ok" if ran.returncode == 0 else f"FAILED: {ran.stdout.strip()[:400]}"
+    yield verdict, title
+
+
+def raced(top, work):
+    """Threads on a board under valgrind's helgrind: no race where each has a handle of its own, and one within the library in each racy program."""
+    title = "threads on a board under helgrind: no race by handles of their own, and one in each of two racy programs"
+    folder = top / "library"
+    command = ["cc", "-std=c11", "-Wall", "-Wextra", "-Werror", "-pthread", "-I", str(folder), str(top / "checks/library_races.c")]
+    verdict = "not run: no valgrind" if shutil.which("valgrind") is None else compiled("C", [*command, str(folder / "libuclboard.a"), "-o", f"{work}/races"])
+    if verdict is None:
+        found = []
+        for what, is_racy in ("sound", False), ("handle", True), ("words", True):
+            ran = subprocess.run(
+                ["valgrind", "-q", "--tool=helgrind", f"{work}/races", what], stdout=subprocess.PIPE, stderr=subprocess.STDOUT, universal_newlines=True, timeout=120
+            )
+            races = re.findall(r"Possible data race .*\n.*Locks held.*\n.* at 0x\w+: (\S+)", ran.stdout)
+            if any(name.startswith("ucl") for name in races) != is_racy or (not is_racy and (races or ran.returncode)):
+                found.append(f"{what}: status {ran.returncode}, races at {sorted(set(races))}")
+        verdict = f"FAILED: {'; '.join(found)}" if found else "ok"
     yield verdict, title

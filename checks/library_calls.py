@@ -2,6 +2,7 @@
 
 import importlib.machinery
 import importlib.util
+import json
 import os
 import random
 import subprocess
@@ -123,7 +124,8 @@ class Trial:
         self.same("board_version", (status, version.value, at.value), wanted)
         told = next((it for it in faults if it), None)
         self.screen(array, length, clubs, group, profile, told, said)
-        self.table(array, length, clubs, profile, next((it for it in (faults[0], faults[2], faults[3]) if it), None), said)
+        self.json(array, length, clubs, group, profile, told, said)
+        self.table(array, length, profile, next((it for it in (faults[0], faults[2]) if it), None), [coefficient for _, coefficient in said])
 
     def clubs(self):
         """Clubs for the library, the fault of them, and what they are called."""
@@ -167,25 +169,99 @@ class Trial:
         status = board.screen_length(array, length, clubs[0], clubs[1], group, profile, size, at)
         self.same("screen_length", (status, size.value, at.value), (told[0] if told else 0, untouched, answer[2]))
 
-    def table(self, array, length, clubs, profile, told, said):
-        """The table, in order of place, against the lines of the screen."""
+    def json(self, array, length, clubs, group, profile, told, said):
+        """The line of JSON, in some room, against what an evening answers."""
+        board, c = self.board, self.board.c
+        row, room = self.chance.choice([0, 9, 2**64 - 1]), self.chance.choice([2500, 2500, 0, 40])
+        out, size, at = c.create_string_buffer(b"\x55" * 2600, 2600), c.c_size_t(78), c.c_uint32(79)
+        status = board.screen_json(row, array, length, clubs[0], clubs[1], group, profile, out, room, size, at)
+        if told:
+            self.same("screen_json", (status, size.value, at.value, out.raw == b"\x55" * 2600), (told[0], 78, told[1], True))
+            return
+        evening = self.rules.Evening(["json", "--group", chr(group)] + ["away-in-tie"] * profile, None)
+        evening.roster, evening.matches = said, self.matches
+        if status == 0:
+            line, rest = out.raw[: size.value], out.raw[size.value :]
+            as_it_is = line.endswith(b"\n") and rest[:1] == b"\0" and set(rest[1:]) <= {0x55} and size.value < room
+            self.same("screen_json", (json.loads(line), at.value, as_it_is), (evening.shown(row)[0], 79, True))
+        else:
+            as_it_is = out.raw == b"\x55" * 2600 and room <= size.value < 2500
+            self.same("screen_json", (status, at.value, as_it_is), (56, 79, True))
+
+    def table(self, array, length, profile, told, coefficients):
+        """The table, in order of place, against the lines of the screen; by the coefficients of the clubs, whatever they are called."""
         board, c = self.board, self.board.c
         room = self.chance.choice([4] * 9 + [0, 3, 5])
         rows, at = (board.Row * 5)(), c.c_uint32(79)
         c.memset(rows, 0x55, c.sizeof(rows))
         before = bytes(rows)
-        status = board.standings(array, length, clubs[0], clubs[1], profile, rows, room, at)
-        if told or room != 4:
-            self.same("standings", (status, at.value, bytes(rows) == before), (*(told or (57, 79)), True))
+        slot = next((slot for slot, coefficient in enumerate(coefficients, 1) if coefficient > 999_999), None)
+        told = told or ((55, 79) if len(coefficients) != 4 else (21, slot) if slot else (57, 79) if room != 4 else None)
+        given = (c.c_uint32 * max(len(coefficients), 1))(*coefficients)
+        status = board.standings(array, length, given, len(coefficients), profile, rows, room, at)
+        if told:
+            self.same("standings", (status, at.value, bytes(rows) == before), (*told, True))
             return
-        lines = self.rules.screen(self.matches, said, "A", profile == 1).splitlines()[2:]
-        marks = " +-"
-        made = [
-            f"{row.place} {marks[row.mark]} {said[row.slot - 1][0]:20}{row.played:3}{row.wins:3}{row.draws:3}{row.losses:3}{row.goals_for:4}"
-            f"{row.goals_against:4}{row.goals_for - row.goals_against:+5}{row.points:4}"
-            for row in rows[:4]
+        marks = ["", "+", "-"]
+        names = "played", "wins", "draws", "losses", "goals_for", "goals_against", "points"
+        wanted = [
+            (it["slot"], it["place"], it["mark"], it["played"], it["won"], it["drawn"], it["lost"], it["goals_for"], it["goals_against"], it["points"])
+            for it in self.rules.places(self.matches, [("-", coefficient) for coefficient in coefficients], profile == 1)
         ]
-        self.same("standings", (status, at.value, made, bytes(rows)[160:] == before[160:]), (0, 79, lines, True))
+        made = [(row.slot, row.place, marks[row.mark], *(getattr(row, name) for name in names)) for row in rows[:4]]
+        self.same("standings", (status, at.value, made, bytes(rows)[160:] == before[160:]), (0, 79, wanted, True))
+
+    def script(self):
+        """A whole script, good or cut or changed, in some room."""
+        chance, board, c = self.chance, self.board, self.board.c
+        text = self.rules.script(chance, False)
+        if chance.random() < 0.4:
+            text = text[: chance.randint(0, len(text))]
+        if chance.random() < 0.2:
+            at = chance.randint(0, len(text))
+            text = text[:at] + chance.choice(["x", ",", "\n", "9", "-"]) + text[at + 1 :]
+        said = self.rules.parsed(text)
+        lengths = chance.choice([(4, 12)] * 9 + [(3, 12), (4, 13), (5, 11)])
+        clubs, words, count, at = (board.Club * 5)(), (c.c_uint64 * 13)(), c.c_size_t(78), c.c_uint32(79)
+        events = [] if isinstance(said, str) else said[1]
+        room = chance.choice([len(events) + 3, len(events), max(len(events) - 1, 0), 0])
+        replies = (board.Reply * (len(events) + 4))()
+        for outputs in clubs, words, replies:
+            c.memset(outputs, 0x55, c.sizeof(outputs))
+        before = bytes(clubs), bytes(words), bytes(replies)
+        given = text.encode()
+        status = board.script(given, len(given), clubs, lengths[0], words, lengths[1], replies, room, count, at)
+        fault = (54, 78, 79) if lengths[1] != 12 else (55, 78, 79) if lengths[0] != 4 else None
+        if isinstance(said, str) and fault is None:
+            fault = int(said.split()[2].rstrip(":")), 78, int(said.split()[-1])
+        if fault is None and room < len(events):
+            fault = 56, len(events), 79
+        if fault:
+            self.same(f"script {text!r}", (status, count.value, at.value, (bytes(clubs), bytes(words), bytes(replies)) == before), (*fault, True))
+            return
+        matches, lines = self.rules.entered(events)
+        size = c.sizeof(board.Reply)
+        found = status, at.value, [self.line(reply) for reply in replies[: count.value]], [f"{word:016x}" for word in words[:12]]
+        self.same(f"script {text!r}", found, (0, 79, lines.splitlines(), [m.word() for m in matches]))
+        named = [(bytes(club)[: club.length].decode(), club.coefficient) for club in clubs[:4]]
+        beyond = bytes(replies)[len(events) * size :] == before[2][len(events) * size :] and words[12] == 0x5555555555555555
+        self.same(f"script {text!r}", (named, [reply.version for reply in replies[: count.value]], beyond), (said[0], self.versions(lines), True))
+
+    def line(self, reply):
+        """A reply as the command line writes it."""
+        if reply.status == 0:
+            return f"{reply.row} ok {reply.match_number} {reply.event_number} {reply.version}"
+        found = f" {reply.event_number}" if reply.status == 1 else "" if reply.event_number == 0 else " a number"
+        return f"{reply.row} refused {reply.status} {self.board.name_of(reply.status)}{found}"
+
+    @staticmethod
+    def versions(lines):
+        """How many events were entered by each reply line."""
+        made, version = [], 0
+        for line in lines.splitlines():
+            version += " ok " in line
+            made.append(version)
+        return made
 
     def word(self):
         """A word as it is read, and its record."""
@@ -207,7 +283,7 @@ class Trial:
 
 
 def differ(top, count, seed):
-    """What differs over so many events, and over a sheet after each tenth."""
+    """What differs over so many events, over a sheet after each tenth, and over a script after each fiftieth."""
     os.environ["UCLBOARD_LIBRARY"] = str(top / "library/libuclboard.so")
     board, rules = module_of("uclboard", top / "examples/python/uclboard.py"), module_of("soak", top / "checks/soak")
     chance, found, trial = random.Random(seed), [], None
@@ -219,6 +295,8 @@ def differ(top, count, seed):
         if i % 10 == 0:
             trial.sheet()
             trial.word()
+        if i % 50 == 0:
+            trial.script()
     return found + trial.found
 
 
@@ -233,7 +311,7 @@ def names_differ(top):
 def cases(top, count, seed):
     """A verdict and a name for each."""
     for name, look in (
-        (f"{count} random events by Python, and {count // 10} sheets, of seed {seed}", lambda: differ(top, count, seed)),
+        (f"{count} random events by Python, {count // 10} sheets and {count // 50} scripts, of seed {seed}", lambda: differ(top, count, seed)),
         ("the names of statuses", lambda: names_differ(top)),
     ):
         try:

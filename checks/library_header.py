@@ -9,10 +9,20 @@ HEADER = "crates/ucl_c/uclboard.h"
 COMMANDS = [("C99", ["cc", "-std=c99", "-x", "c"]), ("C++11", ["c++", "-std=c++11", "-x", "c++"])]
 WARNINGS = ["-Wall", "-Wextra", "-pedantic", "-Wconversion", "-Wshadow", "-Werror", "-fsyntax-only"]
 # The structs: in the header, in the code.
-STRUCTS = {"uclboard_match": ("event.rt", "MatchOfC"), "uclboard_row": ("table.rt", "RowOfC"), "uclboard_club": ("table.rt", "ClubOfC")}
+STRUCTS = {
+    "uclboard_match": ("event.rt", "MatchOfC"),
+    "uclboard_row": ("table.rt", "RowOfC"),
+    "uclboard_club": ("group.rt", "ClubOfC"),
+    "uclboard_reply": ("script.rt", "ReplyOfC"),
+}
 SIZES = {"u32": 4, "[u8; 20]": 20}
 # Names that the header gives otherwise than the definitions.
-OTHER_NAMES = {"state FINISHED": "ENDED", "fault BAD_ROSTER": "BAD_ROSTER"}
+OTHER_NAMES = {
+    "state FINISHED": "ENDED",
+    "fault BAD_ROSTER": "BAD_ROSTER",
+    "fault NOT_AREADER": "NOT_A_READER",
+    "fault NOT_AREPORTER": "NOT_A_REPORTER",
+}
 
 
 def shouted(name):
@@ -87,6 +97,19 @@ def structs_differ(top):
     return [f"{what} is {found[what]}, and by the code {wanted[what]}" for what in wanted if found[what] != wanted[what]]
 
 
+def handle_differs(top):
+    """What of a handle the header does not have as the code: a pointer to a struct of its own name, and nothing else, of which calls get the address."""
+    code = (top / "crates/ucl_c_boards/src/handle.rt").read_text()
+    fields = re.search(r"#\[repr\(C\)\]\npub struct Handle \{\n(.*?)^\}", code, re.M | re.S).group(1)
+    data = re.findall(r"^    (?:pub(?:\(crate\))? )?(\w+): (\*mut \w+),$", fields, re.M)
+    header = (top / HEADER).read_text()
+    given = re.findall(r"\b(\w+) uclboard_(?:open|pass_\w+)\(uclboard_pass \*\*", header)
+    taken = re.findall(r'extern "C" fn uclboard_(?:open|pass_\w+)\(\s*alloc: Global,\s*pass: &mut Handle', (top / "crates/ucl_c/src/passes.rt").read_text())
+    found = [] if data == [("at", "*mut UclboardPass")] else [f"the handle of the code has {data}"]
+    found += [] if "typedef struct uclboard_pass uclboard_pass;" in header else ["the struct of the header is not opaque"]
+    return found + ([] if len(given) == len(taken) == 6 else [f"{len(given)} calls of the header and {len(taken)} of the code take a handle"])
+
+
 def calls_of_header(top):
     """The calls that the header declares."""
     return sorted(set(re.findall(r"^[^/\n]*?\b(uclboard_[a-z_]+)\(", (top / HEADER).read_text(), re.M)))
@@ -137,6 +160,7 @@ def cases(top):
     tried += [
         ("the numbers of the header are those of the definitions", lambda: numbers_differ(top)),
         ("the structs of the header are those of the code", lambda: structs_differ(top)),
+        ("the handle of the header is that of the code", lambda: handle_differs(top)),
         ("header, code, archive and shared library have the same calls", lambda: names_differ(top)),
         ("header, code and pkg-config have one version", lambda: version_differs(top)),
     ]

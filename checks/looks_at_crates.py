@@ -4,6 +4,7 @@ import collections
 import re
 
 import clauses
+import covers
 import edits
 
 DEFINED = re.compile(r"^(?:abbrev pub|unfoldable pub|pub record|pub data) (\S+)", re.M)
@@ -49,21 +50,37 @@ def wrong_bodies_have_controls(top):
     )
 
 
+def broken_by_all(top, patterns):
+    """The clauses that any wrong body of these tiers breaks."""
+    return {clause for pattern in patterns for _, edit in edits.edits_of(top, pattern) for clause in edits.broken_by(edit)}
+
+
 def unbroken(top):
-    """The clauses of public functions, and the fields of the rule, that no wrong body of the gate breaks."""
-    broken = {clause for _, edit in edits.edits_of(top, edits.OF_THE_GATE) for clause in edits.broken_by(edit)}
-    return {clause: "no wrong body of the gate breaks it" for clause in clauses.clauses_of(top) if clause not in broken}
+    """The clauses of public functions, and the fields of the rule, that no wrong body of either tier breaks."""
+    broken = broken_by_all(top, (edits.OF_THE_GATE, edits.FURTHER))
+    return {clause: "no wrong body breaks it" for clause in clauses.clauses_of(top) if clause not in broken}
 
 
 def each_clause_is_broken(top):
-    """Each wrong body of the gate tells what it breaks, and each clause of a public function, and each field of the rule, has one that breaks it."""
-    known = set(clauses.clauses_of(top))
+    """Each wrong body of the gate tells what it breaks, and each clause of a public function, and each field of the rule, has one of either
+    tier that breaks it; one may also tell what it breaks of a function that is not public."""
+    known = clauses.all_clauses(top)
     told = [(edit.relative_to(top), edits.broken_by(edit)) for _, edit in edits.edits_of(top, edits.OF_THE_GATE)]
     return (
         [f"{edit}: it does not tell what it breaks" for edit, broken in told if not broken]
         + [f"{edit}: breaks {clause}, and there is no such clause" for edit, broken in told for clause in broken if clause not in known]
         + against_list(unbroken(top), listed(top, "clauses_without_a_wrong_body"))
     )
+
+
+def each_function_is_broken_in_the_gate(top):
+    """Each public function of which any wrong body breaks a clause, and each such field of the rule, has one in the gate."""
+    known = set(clauses.clauses_of(top))
+    gate, either = (
+        {covers.part_of(clause) for clause in broken_by_all(top, patterns) & known}
+        for patterns in ((edits.OF_THE_GATE,), (edits.OF_THE_GATE, edits.FURTHER))
+    )
+    return [f"{part}: no wrong body of the gate breaks it" for part in sorted(either - gate)]
 
 
 def defined_twice(top):
@@ -154,7 +171,8 @@ def shrink_lists(top):
 LOOKS = [
     ("wrong bodies and controls fit the text", edits_fit),
     ("each wrong body has a control", wrong_bodies_have_controls),
-    ("each clause has a wrong body in the gate", each_clause_is_broken),
+    ("each clause has a wrong body", each_clause_is_broken),
+    ("each function has a wrong body in the gate", each_function_is_broken_in_the_gate),
     ("each definition's name is defined once", each_name_once),
     ("each crate uses what it stands on", each_dependency_is_used),
     ("clauses have at most 100 columns", clauses_are_narrow),

@@ -113,7 +113,7 @@ def kit():
 
 def kit_is_told(top):
     """The README and the version of the program tell the kit that is installed."""
-    files = {"README.md": rf"`({KIT})`", "crates/ucl_command/src/texts.rt": rf"proved with ({KIT})"}
+    files = {"README.md": rf"`({KIT})`", "crates/ucl_program/src/texts.rt": rf"proved with ({KIT})"}
     told = {name: re.findall(pattern, (top / name).read_text()) for name, pattern in files.items()}
     return [f"{name}: tells {', '.join(lines) or 'no kit'}, and the kit is {kit()}" for name, lines in told.items() if lines != [kit()]]
 
@@ -124,10 +124,23 @@ def examples_are_tests(top):
     return ran.stdout.strip().split("\n") if ran.returncode else []
 
 
+def reading_quotes(top):
+    """Each block of docs/READING.md stands, line for line, in the file that is named above it."""
+    text = (top / "docs/READING.md").read_text()
+    found = []
+    for name, block in re.findall(r"^`(crates/[^`]+)`:\n\n```\w+\n(.*?)\n```$", text, re.M | re.S):
+        lines = [line.strip() for line in (top / name).read_text().split("\n")] if (top / name).exists() else []
+        wanted = [line.strip() for line in block.split("\n")]
+        if not any(lines[at : at + len(wanted)] == wanted for at in range(len(lines))):
+            found.append(f"docs/READING.md: these lines do not stand in {name}: {wanted[0]}")
+    return found + ([] if text.count("```") == 2 * text.count("`:\n\n```") else ["docs/READING.md: a block without a file above it"])
+
+
 LOOKS = [
     ("each name in backticks is there", names_exist),
     ("the table of definitions is that of the files", definitions_are_listed),
     ("the table of crates is that of crates.txt", crates_are_listed),
     ("the README and --version tell the kit", kit_is_told),
     ("the examples at the calls and the program of the README are tested", examples_are_tests),
+    ("each block of docs/READING.md stands in its file", reading_quotes),
 ]

@@ -48,12 +48,16 @@ FAULTS = {
         ("checks/controls/ucl_word/fault.edit", None, "file: src/rules.rt\n"),
         ("checks/wrong/ucl_word/limits_ignored.edit", None, "file: src/rules.rt\n"),
     ],
-    "each clause has a wrong body in the gate": [
+    "each clause has a wrong body": [
         ("crates/ucl_board/must-fail/packed_board_of_one_word.edit", "breaks: Board::of_packed\n", ""),
         ("crates/ucl_board/must-fail/packed_board_of_one_word.edit", "breaks: Board::of_packed\n", "breaks: Board::of_others\n"),
         ("crates/ucl_word/src/word.rt", "pub fn pack(", "pub fn pack_anew("),
         ("crates/ucl_board/src/board.rt", "ensures unchanged {", "ensures unmoved {"),
         ("checks/lists/clauses_without_a_wrong_body", None, "Board::of_packed: not so\n"),
+    ],
+    "each function has a wrong body in the gate": [
+        ("crates/ucl_word/must-fail/match_12_taken_for_11.edit", "", None),
+        ("crates/ucl_board/must-fail/fixture_turned_round.edit", "", None),
     ],
     "each definition's name is defined once": [
         ("crates/ucl_board/specs/Words.antt", None, "\nabbrev pub refusal_of : ℕ\n"),
@@ -73,6 +77,28 @@ FAULTS = {
         ("README.md", "`bench/compare`", "`bench/compared`"),
         ("docs/DECISIONS.md", "`ucl_bench_tally`", "`ucl_tale`"),
     ],
+    "each block of docs/READING.md stands in its file": [
+        ("docs/READING.md", "'tries: loop {", "'rounds: loop {"),
+        ("crates/ucl_board/src/board.rt", "ensures value { result ≡ game_at self.now game }", "ensures value { game_at self.now game ≡ result }"),
+        ("docs/READING.md", None, "\n```rust\nfn other()\n```\n"),
+    ],
+    "each promise names its function and its clause": [
+        ("docs/PROMISES.md", "`Board::of_words`: `refused`", "`Board::of_words`: `refuted`"),
+        ("docs/PROMISES.md", "`Board::of_words`: `refused`", "`Board::of_words`"),
+        ("docs/PROMISES.md", "| `night_run`: `duty` |", "| `day_run`: `duty` |"),
+        ("docs/PROMISES.md", "| `give_all`: `calls`, `vain` |", "| `read_all` |"),
+        ("docs/PROMISES.md", "`KeepsOneHistory`: `shared`", "`KeepsOneHistory`: `divided`"),
+        ("crates/ucl_runs/src/night.rt", "ensures duty {", "ensures rota {"),
+    ],
+    "the calls that are given an allocator are those of the signatures": [
+        ("docs/PROMISES.md", "`bad_row_json`, `words_json`", "`words_json`"),
+        ("docs/PROMISES.md", "| `run_steps` |\n", "| `run_steps`, `words_json` |\n"),
+        ("crates/ucl_order/src/table.rt", "pub fn standings(", "pub fn standings(alloc: Global, "),
+    ],
+    "the calls that may wait are those of the signatures": [
+        ("docs/PROMISES.md", "`night_run`, `report_and_show`", "`night_run`"),
+        ("crates/ucl_command/src/program.rt", "pub fn feed<S: Source, W: Sink>(", "pub fn feed<S: Source, W: Sink, R: Wait>("),
+    ],
     "the table of definitions is that of the files": [
         ("docs/ARCHITECTURE.md", "`ucl_word`: `Migration`", "`ucl_word`: `Migrations`"),
         ("crates/ucl_word/specs/Fault.antt", None, "abbrev pub fault : ℕ\n"),
@@ -83,7 +109,7 @@ FAULTS = {
     ],
     "the README and --version tell the kit": [
         ("README.md", "rattle-kit-", "rattle-kit-0"),
-        ("crates/ucl_command/src/texts.rt", "rattle-kit-", "rattle-kit-0"),
+        ("crates/ucl_program/src/texts.rt", "rattle-kit-", "rattle-kit-0"),
     ],
     "the examples at the calls and the program of the README are tested": [
         ("README.md", "board.report_now(pass, &again)", "board.report_now(pass, event)"),

@@ -212,6 +212,22 @@ def started_with(told, status, answer):
         return answer(build("--start", "one", "word"))
 
 
+def proves_at_once():
+    """`./build` proves two crates that do not stand on each other at the same time: each of them waits until the other has begun."""
+    if len(os.sched_getaffinity(0)) < 2:
+        return None
+    wait = "for i in $(seq 100); do [ -e $there ] && break; sleep 0.1; done; [ -e $there ] || exit 1\n"
+    begun = "mkdir -p ../../begun && touch ../../begun/$(basename $PWD)\n"
+    there = "case $PWD in *left) there=../../begun/right ;; *right) there=../../begun/left ;; *) there=. ;; esac\n"
+    with tempfile.TemporaryDirectory(prefix="build-") as room:
+        build = small_repository(room, begun + there + wait + "[ $1 = lib ] || { echo 'echo built' >out/one && chmod +x out/one; }\n")
+        (pathlib.Path(room) / "crates.txt").write_text("low:\nleft: low\nright: low\none: left right\n")
+        for name in "left", "right":
+            (pathlib.Path(room) / "crates" / name / "src").mkdir(parents=True)
+        run = build("one")
+    return None if run.returncode == 0 else f"{run.returncode}, {run.stderr!r}"
+
+
 def proves_what_changed():
     """`./build` proves what is not proved from the sources as they are and no more, counts it, and stops where a proof fails."""
     rt = "pwd >>../../proved\n[ ! -e fails ] || exit 1\n[ $1 = lib ] || { echo 'echo built' >out/one && chmod +x out/one; }\n"
@@ -272,44 +288,24 @@ def measures_no():
     return None
 
 
-def placed(slots, words):
-    """Of the board of these words the plain table has these slots by place, and is the library's, and so is its screen."""
-    with tempfile.NamedTemporaryFile("w") as board:
-        board.write(" ".join(words) + "\n")
-        board.flush()
-        told = {}
-        for what in "standings", "screen":
-            plain, ours = (ran(["bench/boards", "check", table, what, board.name]).stdout for table in ("plain_table", "our_table"))
-            if not plain or plain != ours:
-                return f"{what}: {plain[:200]!r}, and ours is {ours[:200]!r}"
-            told[what] = plain.decode()
-    places = "".join(row.split()[2] for row in told["standings"].splitlines())
-    return None if places == slots else f"the slots are {places}"
-
-
-# 1-1 1-0 0-0 0-0 1-0 1-1 2-0 0-0 1-0 0-1 0-0 0-0: clubs 1 and 2 are level up to goals and away goals, and club 1 has won a match.
-WINS_DECIDE = (
-    "2001000000106004 2001000000006003 2001000000002002 2001000000002002 2001000000006003 2001000000106004 200100000000a004 "
-    "2001000000002002 2001000000006003 2001000000102003 2001000000002002 2001000000002002"
-)
-# No match has begun: coefficients decide, and between clubs 1 and 3 the slot.
-SLOTS_DECIDE = "2000000000000000 " * 12
-
 # Calls, and runs of the program, of which each request for memory is refused in turn, with the program that makes them.
 CALLS = ["screen", "read_night", "read_words", "run_steps", "CellBoard::open", "WordBoard::open", "feed_run", "show_run", "night_run"]
 CALLS += ["night_run_in_a_cell"]
 RUNS = ["help", "feed", "show", "show_stored", "show_in_order", "night", "refused_words"]
-SWEEPS = {**dict.fromkeys(CALLS, "ucl_hostile"), **dict.fromkeys(RUNS, "ucl_night")}
+EVENINGS = ["evening", "evening_with_screens", "evening_in_json", "help_of_evenings", "refused_words_of_evenings"]
+SWEEPS = {**dict.fromkeys(CALLS, "ucl_hostile"), **dict.fromkeys(RUNS, "ucl_night"), **dict.fromkeys(EVENINGS, "ucl_live")}
 
 CASES = [
     Other("a start of a built program", started),
     Other("a start without the proofs", unproved_answer, []),
     Other("a start that gives no answer", no_unproved_answer, []),
     Other("a build of what has changed", proves_what_changed, []),
+    Other("a build of two crates at the same time", proves_at_once, []),
     Other("the first look in the README", typed),
     Other("the matchdays of group A", matchdays),
     Other("an evening through a named pipe", through_a_pipe, ["ucl_live"]),
     Other("evenings", lambda: well("checks/evenings"), ["ucl_live"]),
+    Other("evenings that are followed", lambda: well("checks/followers"), ["ucl_live", "ucl_follow"]),
     Other("an evening in little memory", little_for_evening, ["ucl_live"]),
     Other("the examples of the help", examples_of_help),
     Other("the events in the help", events_of_help),
@@ -332,6 +328,4 @@ CASES = [
     Other("a second of soak", lambda: well("checks/soak", "1"), ["ucl_night", "ucl_hostile"]),
     Other("workloads", measures, ["ucl_bench"]),
     Other("words that are no workload", measures_no, ["ucl_bench"]),
-    Other("a plain table where wins decide", lambda: placed("4312", WINS_DECIDE.split()), ["ucl_bench"]),
-    Other("a plain table where slots decide", lambda: placed("2413", SLOTS_DECIDE.split()), ["ucl_bench"]),
 ]

@@ -80,6 +80,15 @@ def of_sheets(top):
         yield shown(f"feed and then show, {what}", ["show"], club_rows(script) + word_rows(fed), screen)
 
 
+def of_followers(top):
+    """Lines of an evening, turned round, doubled and cut, and what is shown of them."""
+    lines, screens, rows = ((top / EXAMPLES / f"followed.{ending}").read_bytes() for ending in ("jsonl", "expected", "rows"))
+    told = b"8 lines, 2 shown, 6 passed over\n"
+    yield Plain("lines that are followed", [], lines, Exactly(screens), errors=Exactly(told), program="ucl_follow")
+    yield Plain("rows by which an evening goes on", ["--resume"], lines, Exactly(rows), errors=Exactly(told), program="ucl_follow")
+    yield Plain("an evening that goes on", ["--screens"], rows + b"1,1,2,fulltime\nscreen,,,\n", Has(b"17 ok 1 3 4\n", b"v00004"), program="ucl_live")
+
+
 def is_night_of(closing, text):
     """The text is a screen of each reader and the closing part of a night."""
     rows = text.splitlines(True)
@@ -241,6 +250,7 @@ def cases(top):
         *of_examples(top),
         *of_sheets(top),
         *of_nights(top),
+        *of_followers(top),
         *of_season(top),
         *of_help(top),
         *of_words(),

@@ -42,13 +42,13 @@ impl fmt::Display for Fault {
 }
 
 /// An event with the number of its reporter.
-struct Report {
-    reporter: u8,
-    event: Event,
+pub struct Report {
+    pub reporter: u8,
+    pub event: Event,
 }
 
 /// The number of a field of so many decimal digits at most, where it is in a range.
-fn number(field: &[u8], digits: usize, range: RangeInclusive<u32>) -> Option<u32> {
+pub fn number(field: &[u8], digits: usize, range: RangeInclusive<u32>) -> Option<u32> {
     if field.is_empty() || field.len() > digits || !field.iter().all(u8::is_ascii_digit) {
         return None;
     }
@@ -90,7 +90,7 @@ fn is_good_club(record: &Record, slot: usize) -> Option<bool> {
 }
 
 /// The report of a row.
-fn report_of(record: &Record) -> Option<Report> {
+pub fn report_of(record: &Record) -> Option<Report> {
     let [reporter, game, expected, word] = record.four_fields()?;
     Some(Report {
         reporter: number(reporter, 3, 1..=255)? as u8,
@@ -128,7 +128,7 @@ fn reports_of(input: &[u8]) -> Result<Vec<Report>, Fault> {
 }
 
 /// Appends a number in decimal digits, and a byte after it.
-fn push_number(text: &mut Vec<u8>, number: usize, after: u8) {
+pub fn push_number(text: &mut Vec<u8>, number: usize, after: u8) {
     let mut digits = [0; 20];
     let mut first = digits.len();
     let mut rest = number;
@@ -145,7 +145,7 @@ fn push_number(text: &mut Vec<u8>, number: usize, after: u8) {
 }
 
 /// Appends the reply to an event.
-fn push_reply(text: &mut Vec<u8>, event: &Event, reply: Result<u64, Refusal>, version: usize) {
+pub fn push_reply(text: &mut Vec<u8>, event: &Event, reply: Result<u64, Refusal>, version: usize) {
     match reply {
         Ok(word) => {
             text.extend_from_slice(b"ok ");

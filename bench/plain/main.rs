@@ -1,9 +1,10 @@
-//! References for the benchmark, in plain Rust with its standard library alone: boards, the table with its screen, and `feed`. They do
+//! References for the benchmark, in plain Rust with its standard library alone: boards, the table with its screen, `feed` and evenings. They do
 //! what docs/RULES.md says, without a proof. `rustc -O --edition 2021 main.rs` builds them; bench/compare does so, and compares.
 
 mod boards;
 mod events;
 mod feed;
+mod live;
 mod nights;
 mod one_thread;
 mod records;
@@ -11,6 +12,7 @@ mod samples;
 mod table;
 mod tables;
 mod tally;
+mod trips;
 mod word;
 
 use boards::{Board, DoubleCollect, SequenceLock};
@@ -27,7 +29,10 @@ plain run SUBJECT WORKLOAD MS [FILE]    measures, and prints a line of JSON
 plain check record_table standings|screen FILE
                                         the rows, or the screens, of the boards of a file
 plain boards KIND                       1,000 boards: mixed, evening, finished, goalless or fresh; 20,000: narrow
-plain feed                              enters a script of events from standard input";
+plain feed                              enters a script of events from standard input
+plain live                              an evening: answers each row of standard input as it comes
+plain echo                              writes each line of standard input back as it comes
+plain trips ROW COUNT PROGRAM [WORD..]  a row to an evening's program and its answer back: the least time and the median, in nanoseconds";
 
 const LIST: &str = "double_collect read report mix-R-W paced-R-W night
 sequence_lock read report mix-R-W paced-R-W night
@@ -112,6 +117,32 @@ fn print_boards(kind: &str) -> Result<(), Failure> {
     Ok(())
 }
 
+/// The exit status and the text of an evening that did not end well.
+fn failure_of(failure: live::Failure) -> Failure {
+    match failure {
+        live::Failure::Input(fault) => (fault.status(), fault.to_string()),
+        live::Failure::Device(error) => (4, error.to_string()),
+    }
+}
+
+/// Measures trips of a row, after the clubs and a first row.
+fn print_trips(program: &[&str], row: &str, count: usize) -> Result<(), Failure> {
+    let clubs: String = (1..)
+        .zip(table::CLUBS)
+        .map(|(slot, club)| format!("club,{slot},{},{}\n", club.name, club.coefficient))
+        .collect();
+    let row = format!("{row}\n");
+    let lines = if program.contains(&"echo") { 5 } else { 1 };
+    let times = trips::trips(program, &format!("{clubs}{row}"), lines, &row, count)
+        .map_err(|error| (1, error.to_string()))?;
+    let (least, median) = (times.first(), times.get(count / 2));
+    let (Some(least), Some(median)) = (least, median) else {
+        return Err(usage());
+    };
+    println!("{least} {median}");
+    Ok(())
+}
+
 fn obey(words: &[&str]) -> Result<(), Failure> {
     match words {
         ["list"] => println!("{LIST}"),
@@ -125,6 +156,12 @@ fn obey(words: &[&str]) -> Result<(), Failure> {
             io::stdout()
                 .write_all(&text)
                 .map_err(|error| (4, error.to_string()))?;
+        }
+        ["live"] => live::live().map_err(failure_of)?,
+        ["echo"] => live::echo().map_err(failure_of)?,
+        ["trips", row, count, program @ ..] if !program.is_empty() => {
+            let count = count.parse().map_err(|_| usage())?;
+            print_trips(program, row, count)?;
         }
         _ => return Err(usage()),
     }

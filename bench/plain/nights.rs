@@ -25,7 +25,7 @@ const READINGS_AT_ONCE: u64 = 16;
 pub enum Style {
     /// Each has matches of its own, and enters one event after the other.
     Mix,
-    /// Each has matches of its own, and enters an event each five microseconds.
+    /// Each has matches of its own, and enters an event every five microseconds.
     Paced,
     /// All enter every match, one event of each in turn, and go on from the number that a reply tells.
     Night,

@@ -1,17 +1,24 @@
 //! Records of comma separated values: fields may be in double quotes, records end in a line feed, a carriage return or both, and empty
 //! lines are none.
 
-/// The fields of a record, one after the other, and where each ends.
+/// The fields of a record, one after the other, where each ends, and whether the input ended within quotes.
 #[derive(Default)]
 pub struct Record {
     bytes: Vec<u8>,
     ends: Vec<usize>,
+    is_open: bool,
 }
 
 impl Record {
     fn clear(&mut self) {
         self.bytes.clear();
         self.ends.clear();
+        self.is_open = false;
+    }
+
+    /// Whether the input ended within quotes.
+    pub fn is_open(&self) -> bool {
+        self.is_open
     }
 
     /// The fields, where they are four.
@@ -88,7 +95,7 @@ impl<'a> Records<'a> {
             record
                 .bytes
                 .extend_from_slice(self.take_to(|byte| *byte == b'"'));
-            self.next();
+            record.is_open = self.next().is_none();
             if self.rest.first() != Some(&b'"') {
                 return;
             }

@@ -5,11 +5,13 @@
  *
  * What a caller owes: a pointer points to as many elements as are passed beside it, one where no number stands beside it; it is not null, not
  * even where that number is 0; and what a call writes to overlaps nothing else that it is given. Any other input has its status. All memory is
- * the caller's, and no call keeps a pointer to it.
+ * the caller's, and no call keeps a pointer to it; but for the boards behind handles, which are the library's (below).
  *
- * Any thread may make any call at any time: no call knows of another. It may not be made in a signal handler, or in the forked child of a
- * process with threads. Stacks need a few kilobytes. uclboard_standings, uclboard_screen and uclboard_screen_length ask malloc for memory, of
- * which nothing is left when they return; malloc, realloc and free have to be of one allocator that aligns to 16. No other call asks for any.
+ * Any thread may make any call at any time: no call knows of another, but those on handles, of which each handle is in one call at a time. No
+ * call may be made in a signal handler, or in the forked child of a process with threads. Stacks need a few kilobytes. The calls for screens and
+ * for scripts (uclboard_screen, uclboard_screen_length, uclboard_screen_json, uclboard_script) ask malloc for memory, of which nothing is left when
+ * they return; uclboard_open, uclboard_pass_split and uclboard_pass_enlist ask for what a board and a pass take, which uclboard_pass_drop gives
+ * back. malloc, realloc and free have to be of one allocator that aligns to 16. No other call asks for any.
  *
  * The library is for Linux on x86-64 processors of level x86-64-v2 or later.
  */
@@ -47,17 +49,25 @@ enum {
     UCLBOARD_LIMIT_REACHED = 8,   /* goals or yellows would pass 63, or expulsions 31 */
     UCLBOARD_NOT_FINISHED = 9,    /* a reopening of a match that is not finished */
     UCLBOARD_BAD_WORD = 10,       /* a word of no valid record; of twelve, the first such word is told, 1 to 12 */
+    UCLBOARD_BAD_ROW = 20,        /* a row of a script that is missing, or is not as its place demands: the first is told, counted from 1 */
     UCLBOARD_BAD_ROSTER = 21,     /* a name that is not 1 to 20 bytes from 0x20 to 0x7e, or a coefficient over 999,999: the least slot is told */
     UCLBOARD_OUT_OF_MEMORY = 23,  /* malloc refused memory */
+    UCLBOARD_TOO_LONG = 24,       /* a script of more than 4,194,304 bytes */
+    UCLBOARD_FULL_BOARD = 30,     /* 255 reporters are enlisted, as many as there are numbers */
     UCLBOARD_NO_REPORTER = 50,    /* not the number of a reporter, 1 to 255 */
     UCLBOARD_NO_KIND = 51,        /* no kind of event has this number */
     UCLBOARD_NO_PROFILE = 52,     /* no order has this number */
     UCLBOARD_NO_GROUP = 53,       /* not a letter from 'A' to 'H' */
     UCLBOARD_NOT_TWELVE = 54,     /* not twelve words */
-    UCLBOARD_NOT_FOUR = 55,       /* not four clubs */
-    UCLBOARD_NO_ROOM = 56,        /* a buffer has no room for the text and a zero: the length of the text is told */
+    UCLBOARD_NOT_FOUR = 55,       /* not four clubs, or coefficients */
+    UCLBOARD_NO_ROOM = 56,        /* a buffer has no room for the text and a zero, or for the replies: how many they are is told */
     UCLBOARD_NOT_FOUR_ROWS = 57,  /* not room for just four rows */
-    UCLBOARD_NO_STATUS = 58       /* no status has this number */
+    UCLBOARD_NO_STATUS = 58,      /* no status has this number */
+    UCLBOARD_IN_USE = 59,         /* the handle that was to be given a pass is not null */
+    UCLBOARD_NO_PASS = 60,        /* the handle is null: it holds no pass */
+    UCLBOARD_NOT_A_READER = 61,   /* a reporter's pass is neither split nor enlisted */
+    UCLBOARD_NO_MATCH = 62,       /* not the number of a match, 1 to 12 */
+    UCLBOARD_NOT_A_REPORTER = 63  /* a reader's pass reports nothing */
 };
 
 /* The kind of an event. */
@@ -126,6 +136,15 @@ typedef struct uclboard_row {
     uint32_t points;                    /* 0 to 18 */
 } uclboard_row;
 
+/* What became of an event of a script. */
+typedef struct uclboard_reply {
+    uint32_t row;          /* the row of the event, counted from 1: 5 for the first event */
+    uint32_t match_number; /* the match, 1 to 12 */
+    uint32_t status;       /* UCLBOARD_DONE where the event was entered, else the rule that refuses it, 1 to 9 */
+    uint32_t event_number; /* where it was entered the match's event number after it, 1 to 4095; where it is stale the number found; else 0 */
+    uint32_t version;      /* how many events were entered by then */
+} uclboard_reply;
+
 /* The version of the library, to be compared with UCLBOARD_VERSION_NUMBER. */
 uint32_t uclboard_version(void);
 
@@ -145,11 +164,12 @@ UCLBOARD_NEEDS_LOOK uclboard_status uclboard_match_of(uint64_t word, uclboard_ma
    UCLBOARD_NOT_TWELVE, UCLBOARD_BAD_WORD, which tells the word in `at`. */
 UCLBOARD_NEEDS_LOOK uclboard_status uclboard_board_version(const uint64_t *words, size_t words_length, uint32_t *version, uint32_t *at);
 
-/* The table of twelve words, which may be of both layouts, and of four clubs, by places, in four `rows`. Judged in this order:
-   UCLBOARD_NO_PROFILE, UCLBOARD_NOT_TWELVE, UCLBOARD_BAD_WORD, UCLBOARD_NOT_FOUR, UCLBOARD_BAD_ROSTER, UCLBOARD_NOT_FOUR_ROWS. A bad word and
-   a bad roster tell the word or the slot in `at`, and no other status writes there. Or UCLBOARD_OUT_OF_MEMORY. */
-UCLBOARD_NEEDS_LOOK uclboard_status uclboard_standings(const uint64_t *words, size_t words_length, const uclboard_club *clubs, size_t clubs_length,
-                                                       uint32_t profile, uclboard_row *rows, size_t rows_length, uint32_t *at);
+/* The table of twelve words, which may be of both layouts, and of the coefficients of four clubs, by slots: four `rows`, by places. Names change
+   no table. Judged in this order: UCLBOARD_NO_PROFILE, UCLBOARD_NOT_TWELVE, UCLBOARD_BAD_WORD, UCLBOARD_NOT_FOUR, UCLBOARD_BAD_ROSTER,
+   UCLBOARD_NOT_FOUR_ROWS. A bad word and a bad roster tell the word or the slot in `at`, and no other status writes there. */
+UCLBOARD_NEEDS_LOOK uclboard_status uclboard_standings(const uint64_t *words, size_t words_length, const uint32_t *coefficients,
+                                                       size_t coefficients_length, uint32_t profile, uclboard_row *rows, size_t rows_length,
+                                                       uint32_t *at);
 
 /* The screen of twelve words, which may be of both layouts, and of four clubs: six lines of ASCII and a zero at the front of `out`, and the number of
    bytes before the zero in `length`. `group` is a letter from 'A' to 'H'. Judged in this order: UCLBOARD_NO_PROFILE, UCLBOARD_NO_GROUP,
@@ -163,9 +183,58 @@ UCLBOARD_NEEDS_LOOK uclboard_status uclboard_screen(const uint64_t *words, size_
 UCLBOARD_NEEDS_LOOK uclboard_status uclboard_screen_length(const uint64_t *words, size_t words_length, const uclboard_club *clubs,
                                                            size_t clubs_length, uint32_t group, uint32_t profile, size_t *length, uint32_t *at);
 
+/* That screen as one line of JSON, with its line feed and a zero: the line by which `ucl_live --format json` answers the row of this number where
+   it asks for the screen. Handed over as the text of uclboard_screen is, and judged as it is. The line is as long as its content: a buffer that
+   is too small is told by UCLBOARD_NO_ROOM how long. */
+UCLBOARD_NEEDS_LOOK uclboard_status uclboard_screen_json(uint64_t row, const uint64_t *words, size_t words_length, const uclboard_club *clubs,
+                                                         size_t clubs_length, uint32_t group, uint32_t profile, char *out, size_t out_length,
+                                                         size_t *length, uint32_t *at);
+
+/* Plays a whole script, the bytes of rows as docs/RULES.md has them: enters its events in turn on a new board. The four clubs go to `clubs`, the
+   twelve words after the last event to `words`, what became of each event to the front of `replies`, and how many events there are to `count`.
+   Judged in this order: UCLBOARD_NOT_TWELVE and UCLBOARD_NOT_FOUR, the room for words and for clubs; UCLBOARD_TOO_LONG; UCLBOARD_BAD_ROW of
+   rows 1 to 4; UCLBOARD_BAD_ROSTER; UCLBOARD_BAD_ROW of rows from 5 on; and last UCLBOARD_NO_ROOM, which tells in `count` how many replies there
+   are. A bad row and a bad roster tell the row or the slot in `at`, and no other status writes there. Or UCLBOARD_OUT_OF_MEMORY. */
+UCLBOARD_NEEDS_LOOK uclboard_status uclboard_script(const char *script, size_t script_length, uclboard_club *clubs, size_t clubs_length,
+                                                    uint64_t *words, size_t words_length, uclboard_reply *replies, size_t replies_length,
+                                                    size_t *count, uint32_t *at);
+
 /* The name of a status and a zero at the front of `out`, and the number of bytes before the zero in `length`. Of a refusal it is the name that
    ucl_night prints. Or UCLBOARD_NO_STATUS, or UCLBOARD_NO_ROOM, which tells the length in `length`. */
 UCLBOARD_NEEDS_LOOK uclboard_status uclboard_text_of_status(uint32_t status, char *out, size_t out_length, size_t *length);
+
+/* A board that threads share, behind handles. A handle is a pointer that begins as NULL and then holds a pass of a board. Each call is given the
+   address of the handle. The passes of a board are shares of it: the board is there as long as one of its handles is. No call waits: a report is
+   one load and at most one exchange of a word, a reading loads all words twice, again where another thread was quicker.
+
+   What a caller owes: a handle that is not NULL was given by this library and not yet dropped; it is not copied; it is in one call at a time, and
+   nothing reads or writes what it points to. It may go to another thread, by that thread's start or end, by a lock, or by an atomic that is
+   sequentially consistent. Several handles of one board are used at once, each in a thread of its own. */
+typedef struct uclboard_pass uclboard_pass;
+
+/* A new board, and its first pass, a reader's, in `pass`, which was NULL. Judged: UCLBOARD_IN_USE. Or UCLBOARD_OUT_OF_MEMORY. */
+UCLBOARD_NEEDS_LOOK uclboard_status uclboard_open(uclboard_pass **pass);
+
+/* A second reader's pass of the same board, in `other`, which was NULL. It has seen all that the first has seen. Judged in this order:
+   UCLBOARD_IN_USE, UCLBOARD_NO_PASS, UCLBOARD_NOT_A_READER. Or UCLBOARD_OUT_OF_MEMORY. */
+UCLBOARD_NEEDS_LOOK uclboard_status uclboard_pass_split(uclboard_pass **pass, uclboard_pass **other);
+
+/* A reporter's pass of the same board, in `other`, which was NULL, under a number of its own from 1 to 255, which no other pass of the board has or
+   gets. Judged in this order: UCLBOARD_IN_USE, UCLBOARD_NO_PASS, UCLBOARD_NOT_A_READER; then UCLBOARD_OUT_OF_MEMORY, which spends no number; and
+   last UCLBOARD_FULL_BOARD. */
+UCLBOARD_NEEDS_LOOK uclboard_status uclboard_pass_enlist(uclboard_pass **pass, uclboard_pass **other);
+
+/* Enters an event of a match, 1 to 12, under the number of a reporter's pass. `expected` is the event number that the reporter last saw of the
+   match. Judged in this order: UCLBOARD_NO_KIND, UCLBOARD_NO_MATCH, UCLBOARD_NO_PASS, UCLBOARD_NOT_A_REPORTER, and the rules, 1 to 9. Where the
+   event was entered the match's event number after it goes to `number`, and at UCLBOARD_STALE the number found; no other status writes there. */
+UCLBOARD_NEEDS_LOOK uclboard_status uclboard_pass_report(uclboard_pass **pass, uint32_t match, uint32_t expected, uint32_t kind, uint32_t *number);
+
+/* Reads the board by a pass of either kind: twelve words that stood at one moment of the call, and their version, how many events had been entered by
+   then. All that the pass has seen is in them. Judged in this order: UCLBOARD_NOT_TWELVE, UCLBOARD_NO_PASS. */
+UCLBOARD_NEEDS_LOOK uclboard_status uclboard_pass_read(uclboard_pass **pass, uint64_t *words, size_t words_length, uint32_t *version);
+
+/* Lets the pass of a handle go, and with the last pass of a board the board. The handle is NULL then; one that was stays so. */
+void uclboard_pass_drop(uclboard_pass **pass);
 
 #ifdef __cplusplus
 }

@@ -1,4 +1,4 @@
-// A night in C++17: a script is entered row by row, and the closing screen written as `ucl_night night` writes it.
+// A night in C++17: a whole script is played, and the closing screen written as `ucl_night night` writes it.
 //
 //     c++ -std=c++17 night.cpp -I FOLDER FOLDER/libuclboard.a -o night && ./night A < ../first_night.csv
 
@@ -7,8 +7,7 @@
 #include <array>
 #include <cstdlib>
 #include <iostream>
-#include <map>
-#include <sstream>
+#include <iterator>
 #include <stdexcept>
 #include <string>
 #include <vector>
@@ -18,7 +17,7 @@ class Refused : public std::runtime_error {
 public:
     Refused(uclboard_status status, uint32_t told) : std::runtime_error(name_of(status)), status(status), told(told) {}
     const uclboard_status status;
-    const uint32_t told; // the number found, the word or the slot, where the status has one
+    const uint32_t told; // the word, the row or the slot, where the status has one
 
 private:
     static std::string name_of(uclboard_status status) {
@@ -29,21 +28,29 @@ private:
     }
 };
 
-// The twelve matches of a group.
-class Board {
+// A script that was played: its clubs, the twelve matches after its events, and what became of each event.
+class Night {
 public:
-    Board() { words.fill(UCLBOARD_SCHEDULED_WORD); }
-
-    void report(uint32_t reporter, std::size_t match, uint32_t expected, uint32_t kind) {
-        uint64_t next = 0;
-        uint32_t found = 0;
-        uint64_t &word = words.at(match - 1);
-        const uclboard_status status = uclboard_next_word(word, reporter, expected, kind, &next, &found);
-        need(status, found);
-        word = next;
+    explicit Night(const std::string &script) : replies(1 + static_cast<std::size_t>(std::count(script.begin(), script.end(), '\n'))) {
+        std::size_t count = 0;
+        uint32_t at = 0;
+        const uclboard_status status = uclboard_script(script.data(), script.size(), clubs.data(), clubs.size(), words.data(), words.size(),
+                                                       replies.data(), replies.size(), &count, &at);
+        need(status, at);
+        replies.resize(count);
     }
 
-    std::string screen(const std::vector<uclboard_club> &clubs, char group, uint32_t profile) const {
+    std::size_t entered() const {
+        return static_cast<std::size_t>(std::count_if(replies.begin(), replies.end(), [](const uclboard_reply &reply) { return reply.status == UCLBOARD_DONE; }));
+    }
+
+    uint32_t version() const {
+        uint32_t version = 0, at = 0;
+        need(uclboard_board_version(words.data(), words.size(), &version, &at), at);
+        return version;
+    }
+
+    std::string screen(char group, uint32_t profile) const {
         std::array<char, UCLBOARD_SCREEN_ROOM> text;
         std::size_t length = 0;
         uint32_t at = 0;
@@ -57,51 +64,15 @@ private:
     static void need(uclboard_status status, uint32_t told) {
         if (status != UCLBOARD_DONE) throw Refused(status, told);
     }
+    std::array<uclboard_club, UCLBOARD_CLUBS> clubs;
     std::array<uint64_t, UCLBOARD_WORDS> words;
+    std::vector<uclboard_reply> replies;
 };
-
-static const std::map<std::string, uint32_t> kinds = {
-    {"kickoff", UCLBOARD_KICK_OFF},
-    {"goal-home", UCLBOARD_GOAL_HOME},
-    {"goal-away", UCLBOARD_GOAL_AWAY},
-    {"disallow-home", UCLBOARD_DISALLOW_HOME},
-    {"disallow-away", UCLBOARD_DISALLOW_AWAY},
-    {"yellow-home", UCLBOARD_YELLOW_HOME},
-    {"yellow-away", UCLBOARD_YELLOW_AWAY},
-    {"second-yellow-home", UCLBOARD_SECOND_YELLOW_HOME},
-    {"second-yellow-away", UCLBOARD_SECOND_YELLOW_AWAY},
-    {"red-home", UCLBOARD_RED_HOME},
-    {"red-away", UCLBOARD_RED_AWAY},
-    {"fulltime", UCLBOARD_FULL_TIME},
-    {"reopen", UCLBOARD_REOPEN},
-};
-
-static uclboard_club club_of(const std::string &name, unsigned long coefficient) {
-    uclboard_club club = {};
-    club.length = static_cast<uint32_t>(name.size());
-    club.coefficient = static_cast<uint32_t>(coefficient);
-    std::copy_n(name.begin(), std::min<std::size_t>(name.size(), UCLBOARD_NAME), club.name);
-    return club;
-}
 
 int main(int argc, char **argv) {
-    Board board;
-    std::vector<uclboard_club> clubs;
-    std::string row, fields[4];
-    while (std::getline(std::cin, row)) {
-        std::istringstream parts(row);
-        for (std::string &field : fields) std::getline(parts, field, ',');
-        if (fields[0] == "club") {
-            clubs.push_back(club_of(fields[2], std::stoul(fields[3])));
-            continue;
-        }
-        try {
-            board.report(static_cast<uint32_t>(std::stoul(fields[0])), std::stoul(fields[1]), static_cast<uint32_t>(std::stoul(fields[2])), kinds.at(fields[3]));
-        } catch (const Refused &refused) {
-            if (refused.status > UCLBOARD_NOT_FINISHED) throw;
-        }
-    }
+    const Night night(std::string(std::istreambuf_iterator<char>(std::cin), std::istreambuf_iterator<char>()));
+    if (night.entered() != night.version()) throw std::logic_error("the version is not the number of events that were entered");
     const bool away = argc > 2 && std::string(argv[2]) == "away-in-tie";
-    std::cout << "FINAL\n" << board.screen(clubs, argc > 1 ? argv[1][0] : 'A', away ? UCLBOARD_AWAY_IN_TIE : UCLBOARD_UEFA);
+    std::cout << "FINAL\n" << night.screen(argc > 1 ? argv[1][0] : 'A', away ? UCLBOARD_AWAY_IN_TIE : UCLBOARD_UEFA);
     return EXIT_SUCCESS;
 }

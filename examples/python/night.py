@@ -1,4 +1,4 @@
-"""A night in Python: a script is entered row by row, and the closing screen written as `ucl_night night` writes it.
+"""A night in Python: a whole script is played, and the closing screen written as `ucl_night night` writes it.
 
     UCLBOARD_LIBRARY=FOLDER/libuclboard.so python3 night.py A < ../first_night.csv
 """
@@ -10,17 +10,9 @@ import uclboard
 
 def main():
     group, order = (sys.argv[1:] + ["A", "uefa"][len(sys.argv[1:]) :])[:2]
-    board, clubs = uclboard.Board(), []
-    for row in sys.stdin.read().splitlines():
-        fields = row.split(",")
-        if fields[0] == "club":
-            clubs.append((fields[2], int(fields[3])))
-            continue
-        try:
-            board.report(match=int(fields[1]), reporter=int(fields[0]), expected=int(fields[2]), kind=fields[3])
-        except uclboard.Refused as refused:
-            if refused.status > 9:
-                raise
+    board, clubs, replies = uclboard.play(sys.stdin.buffer.read())
+    if board.version() != sum(reply.status == 0 for reply in replies):
+        raise ValueError("the version is not the number of events that were entered")
     print("FINAL\n" + board.screen(clubs, group, order), end="")
 
 

@@ -5,6 +5,8 @@
     board.report(match=1, reporter=1, expected=0, kind="kickoff")
     print(board.screen(clubs=[("Alpha", 60000), ("Bravo", 95000), ("Charlie", 60000), ("Delta", 81500)]))
 
+    board, clubs, replies = uclboard.play(open("first_night.csv", "rb").read())
+
 The library is libuclboard.so beside this file, or what the variable UCLBOARD_LIBRARY names. What the library does not do it answers by an
 exception: `Stale`, `Finished` and the others by their names, each of them a `Refused` with its `status`.
 """
@@ -25,7 +27,7 @@ ORDERS = {"uefa": 0, "away-in-tie": 1}
 MARKS = ["", "+", "-"]
 STATES = ["scheduled", "in play", "finished"]
 SCHEDULED_WORD = 0x2000000000000000
-WORDS, CLUBS, NAME, SCREEN_ROOM, NAME_ROOM = 12, 4, 20, 320, 32
+WORDS, CLUBS, NAME, SCREEN_ROOM, NAME_ROOM, JSON_ROOM = 12, 4, 20, 320, 32, 2048
 # What stands for a kind, an order or a group that has no number: the library refuses it.
 NO_CODE = 0xFFFFFFFF
 
@@ -49,8 +51,14 @@ class Row(c.Structure):
     _fields_ = [(name, c.c_uint32) for name in "slot place mark played wins draws losses goals_for goals_against points".split()]
 
 
+class Reply(c.Structure):
+    """What became of an event of a script."""
+
+    _fields_ = [(name, c.c_uint32) for name in "row match_number status event_number version".split()]
+
+
 class Refused(Exception):
-    """A call that was not done: its status, and the number found, the word or the slot where the status has one."""
+    """A call that was not done: its status, and the number found, the word, the row or the slot where the status has one."""
 
     status = None
 
@@ -65,13 +73,14 @@ def exception(name, status):
 
 
 NAMES = {1: "Stale", 2: "Finished", 3: "NotStarted", 4: "AlreadyStarted", 5: "NumberFull", 6: "NoGoal", 7: "NoCaution", 8: "LimitReached"}
-NAMES.update({9: "NotFinished", 10: "BadWord", 21: "BadRoster", 23: "OutOfMemory", 50: "NoReporter", 51: "NoKind", 52: "NoProfile"})
-NAMES.update({53: "NoGroup", 54: "NotTwelve", 55: "NotFour", 56: "NoRoom", 57: "NotFourRows", 58: "NoStatus"})
+NAMES.update({9: "NotFinished", 10: "BadWord", 20: "BadRow", 21: "BadRoster", 23: "OutOfMemory", 24: "TooLong", 50: "NoReporter"})
+NAMES.update({51: "NoKind", 52: "NoProfile", 53: "NoGroup", 54: "NotTwelve", 55: "NotFour", 56: "NoRoom", 57: "NotFourRows", 58: "NoStatus"})
+NAMES.update({30: "FullBoard", 59: "InUse", 60: "NoPass", 61: "NotAReader", 62: "NoMatch", 63: "NotAReporter"})
 EXCEPTIONS = {status: exception(name, status) for status, name in NAMES.items()}
 globals().update({raised.__name__: raised for raised in EXCEPTIONS.values()})
 
 LIBRARY = c.CDLL(os.environ.get("UCLBOARD_LIBRARY", str(pathlib.Path(__file__).resolve().parent / "libuclboard.so")))
-NUMBERS, CLUB_ROOM, TABLE_ROOM = c.POINTER(c.c_uint64), c.POINTER(Club), c.POINTER(Row)
+NUMBERS, CLUB_ROOM, TABLE_ROOM, REPLY_ROOM = c.POINTER(c.c_uint64), c.POINTER(Club), c.POINTER(Row), c.POINTER(Reply)
 ONE, SIZE = c.POINTER(c.c_uint32), c.POINTER(c.c_size_t)
 
 
@@ -87,8 +96,11 @@ next_word = declared("next_word", c.c_uint64, c.c_uint32, c.c_uint32, c.c_uint32
 read_word = declared("read_word", c.c_uint64, NUMBERS)
 match_of = declared("match_of", c.c_uint64, c.POINTER(Match))
 board_version = declared("board_version", NUMBERS, c.c_size_t, ONE, ONE)
-standings = declared("standings", NUMBERS, c.c_size_t, CLUB_ROOM, c.c_size_t, c.c_uint32, TABLE_ROOM, c.c_size_t, ONE)
-screen = declared("screen", NUMBERS, c.c_size_t, CLUB_ROOM, c.c_size_t, c.c_uint32, c.c_uint32, c.c_char_p, c.c_size_t, SIZE, ONE)
+standings = declared("standings", NUMBERS, c.c_size_t, ONE, c.c_size_t, c.c_uint32, TABLE_ROOM, c.c_size_t, ONE)
+SHOWN = NUMBERS, c.c_size_t, CLUB_ROOM, c.c_size_t, c.c_uint32, c.c_uint32, c.c_char_p, c.c_size_t, SIZE, ONE
+screen = declared("screen", *SHOWN)
+screen_json = declared("screen_json", c.c_uint64, *SHOWN)
+script = declared("script", c.c_char_p, c.c_size_t, CLUB_ROOM, c.c_size_t, NUMBERS, c.c_size_t, REPLY_ROOM, c.c_size_t, SIZE, ONE)
 screen_length = declared("screen_length", NUMBERS, c.c_size_t, CLUB_ROOM, c.c_size_t, c.c_uint32, c.c_uint32, SIZE, ONE)
 text_of_status = declared("text_of_status", c.c_uint32, c.c_char_p, c.c_size_t, SIZE)
 
@@ -161,17 +173,37 @@ class Board:
         need(board_version(self.words, len(self.words), made, at), at.value or None)
         return made.value
 
-    def standings(self, clubs, order="uefa"):
-        """The four rows of the table, by places."""
-        made, rows, at = clubs_of(clubs), (Row * CLUBS)(), c.c_uint32()
+    def standings(self, coefficients, order="uefa"):
+        """The four rows of the table, by places; of the coefficients of the four clubs, since names change no table."""
+        made, rows, at = (c.c_uint32 * len(coefficients))(*map(number, coefficients)), (Row * CLUBS)(), c.c_uint32()
         code = ORDERS.get(order, NO_CODE)
         need(standings(self.words, len(self.words), made, len(made), code, rows, CLUBS, at), at.value or None)
         return list(rows)
 
     def screen(self, clubs, group="A", order="uefa"):
         """The screen, as text."""
-        made, text, length, at = clubs_of(clubs), c.create_string_buffer(SCREEN_ROOM), c.c_size_t(), c.c_uint32()
+        return self.text(screen, clubs, group, order, SCREEN_ROOM)
+
+    def json(self, clubs, group="A", order="uefa", row=0):
+        """The screen as a line of JSON, which says that it answers this row."""
+        return self.text(lambda *given: screen_json(row, *given), clubs, group, order, JSON_ROOM)
+
+    def text(self, call, clubs, group, order, room):
+        """What a call writes into so much room; and where that is too small, into as much as it needs."""
+        made, text, length, at = clubs_of(clubs), c.create_string_buffer(room), c.c_size_t(), c.c_uint32()
         letter, code = ord(group) if len(group) == 1 else NO_CODE, ORDERS.get(order, NO_CODE)
-        status = screen(self.words, len(self.words), made, len(made), letter, code, text, SCREEN_ROOM, length, at)
+        status = call(self.words, len(self.words), made, len(made), letter, code, text, room, length, at)
+        if status == EXCEPTIONS[56].status and length.value >= room:
+            return self.text(call, clubs, group, order, length.value + 1)
         need(status, at.value or None)
         return text.raw[: length.value].decode("ascii")
+
+
+def play(text):
+    """Plays a whole script, the bytes of its rows: the board after its events, the clubs as pairs, and the replies."""
+    room = text.count(b"\n") + text.count(b"\r") + 1
+    clubs, words, replies = (Club * CLUBS)(), (c.c_uint64 * WORDS)(), (Reply * room)()
+    count, at = c.c_size_t(), c.c_uint32()
+    need(script(text, len(text), clubs, CLUBS, words, WORDS, replies, room, count, at), at.value or None)
+    named = [(bytes(club.name)[: club.length].decode("ascii"), club.coefficient) for club in clubs]
+    return Board(words), named, list(replies[: count.value])

@@ -1,30 +1,41 @@
 -- The board of an evening as that of a legal history.
-use Rattle.std.proofs.Common.{◌≡◌, ℕ, ◌+◌, ◌≤◌, ◌==◌, ◌&&◌, Bool, true, false, List, [], ◌∷◌, ◌++◌, length, Option, Some, None, refl, sym, ap, ap₂, ◌∙◌, inl, inr, arith}
+use Rattle.std.proofs.Common.{◌≡◌, ℕ, ◌+◌, ◌-◌, ◌≤◌, ◌==◌, ◌&&◌, Bool, true, false, List, [], ◌∷◌, ◌++◌, length, set, Option, Some, None, refl, sym, ap, ap₂, ◌∙◌, inl, inr, append-nil, arith}
 use Rattle.std.specs.Str.{bytes_eq}
 use Rattle.std.specs.Prelude.{All, codes, nat_le, if◌then◌else◌, Result}
 use Rattle.std.specs.List.{fold}
 use Rattle.std.proofs.lemmas.Bool.{cases_Bool}
 use Rattle.std.proofs.lemmas.Bool.Decides.{nat_tests}
-use Rattle.std.proofs.lemmas.List.Elements.{All-append}
+use Rattle.std.specs.Result.{is_ok}
+use Rattle.std.proofs.lemmas.List.Elements.{All-append, All-head, All-tail}
 use Rattle.ucl_word.specs.declared.event.Accepted.{Accepted}
+use Rattle.ucl_word.specs.declared.event.EventCall.{EventCall}
 use Rattle.ucl_word.specs.declared.event.Kind.{Kind}
 use Rattle.ucl_word.specs.declared.refusal.Refusal.{Refusal}
-use Rattle.ucl_board.specs.History.{Attempt, IsAttempt, board_after, board_of}
-use Rattle.ucl_board.proofs.HistoryLaws.{attempts_counted, versions}
-use Rattle.ucl_board.proofs.Histories.{reply_is}
+use Rattle.ucl_word.specs.Layout.{word_of}
+use Rattle.ucl_word.specs.Rules.{after, answer as answered, refusal_of, reply_of}
+use Rattle.ucl_word.proofs.EntryCounts.{counted}
+use Rattle.ucl_board.specs.declared.entry.Entry.{Entry}
+use Rattle.ucl_board.specs.Words.{game_at, version_of}
+use Rattle.ucl_board.specs.History.{Attempt, IsAttempt, IsLegal, after_attempt, board_after, board_of, entry_of, followed_by, match_after, sequential_reply}
+use Rattle.ucl_board.proofs.HistoryLaws.{attempt_board, attempt_legal, versions}
+use Rattle.ucl_board.proofs.Histories.{game_after, next_board as next_words, reply_is}
 use Rattle.ucl_order.specs.Roster.{NamedClub}
 use Rattle.ucl_runs.specs.Feed.{attempt_of, line_of_reply, reply_line}
 use Rattle.ucl_screen.specs.declared.night.NightEvent.{NightEvent}
 use Rattle.ucl_screen.specs.Numbers.{in_range, number}
 use Rattle.ucl_screen.specs.Events.{◌>>=◌, event_of, kind_of}
 use Rattle.ucl_screen.specs.Rows.{FourFields}
+use Rattle.ucl_answers.specs.declared.options.Format.{Format}
+use Rattle.ucl_answers.specs.declared.options.Format.TheVariants.{Text, Json}
+use Rattle.ucl_answers.specs.declared.options.Options.{Options}
 use Rattle.ucl_answers.specs.declared.request.Request.{Request}
 use Rattle.ucl_answers.specs.declared.request.Request.TheVariants.{Bad, Event, Screen, Words}
-use Rattle.ucl_answers.specs.Requests.{asked_by, or_bad, request_of}
+use Rattle.ucl_answers.specs.Requests.{asked_by, event_or_bad, request_of}
 use Rattle.ucl_answers.specs.Rows.{Said, Nothing, Garbled, Row, said_on}
-use Rattle.ucl_answers.specs.Stages.{Stage, Open, next_board, next_stage}
-use Rattle.ucl_answers.specs.Text.{after_lines, next}
-use Rattle.ucl_answers.specs.Laws.{BoardsTakeEvents, EveningsAreSequential, RefusedEveningsAreSilent, RepliesAreThoseOfFeed, attempts_in, attempts_of, attempts_on}
+use Rattle.ucl_answers.specs.Stages.{Stage, Open, Restoring, is_word_row, next_board, next_stage}
+use Rattle.ucl_answers.specs.Text.{Evening, after_lines, answer_said, answer_of, answers, next, reply_answer, reply_in, screen_after}
+use Rattle.ucl_answers.specs.ByHistory.{answer_by_history, answers_by_history, attempts_in, attempts_of, attempts_on, line_by_history, reply_by_history}
+use Rattle.ucl_answers.specs.Laws.{BoardsTakeEvents, EveningsAreSequential, FirstRowsOpenTheBoard, IsOtherRow, RefusedEveningsAreSilent, RepliesAreThoseOfFeed}
 use Rattle.ucl_answers.proofs.Silence.{refused-shut, silent}
 
 -- an event is of a reporter and a match that there are
@@ -75,7 +86,7 @@ none = λ k d h. absurd (omega arith)
 one : (a : Attempt) → IsAttempt a → All IsAttempt (a ∷ [])
 one a p = λ k d h. let z : k ≡ 0 = omega arith in rw z p
 
-by-event : (o : Option NightEvent) → ((e : NightEvent) → o ≡ Some e → IsAttempt (attempt_of e)) → AreAttempts (or_bad o)
+by-event : (o : Option NightEvent) → ((e : NightEvent) → o ≡ Some e → IsAttempt (attempt_of e)) → AreAttempts (event_or_bad o)
 by-event None p = none
 by-event (Some e) p = one (attempt_of e) (p e refl)
 
@@ -88,7 +99,7 @@ unfolding asked_by
 asked f =
     let words = if bytes_eq f.first (codes "words") then Words else Bad in
     let commands = if bytes_eq f.first (codes "screen") then Screen else words in
-    either ((length f.second == 0) && (length f.third == 0) && (length f.fourth == 0)) commands (or_bad (event_of f))
+    either ((length f.second == 0) && (length f.third == 0) && (length f.fourth == 0)) commands (event_or_bad (event_of f))
     (either (bytes_eq f.first (codes "screen")) Screen words none (either (bytes_eq f.first (codes "words")) Words Bad none none))
     (by-event (event_of f) (event-is_attempt f))
 
@@ -133,19 +144,115 @@ boards e (line ∷ lines) clubs board h =
     let there : next_stage e.row e.stage r ≡ Open clubs (board_on board r) = ap (λ (s : Stage). next_stage e.row s r) h ∙ next-open e.row clubs board r in
     boards (next e r) lines clubs (board_on board r) there ∙ ap (λ (b : List ℕ). Open clubs b) (sym (fold-said board r (attempts_in (e.row + 1) lines)))
 
-pub sequential : EveningsAreSequential
-sequential e lines clubs fresh =
-    let counted = attempts_counted (attempts_in e.row lines) (all-attempts e.row lines) in record {
-      legal = counted.legal;
-      stage = boards e lines clubs (board_of []) fresh ∙ ap (λ (b : List ℕ). Open clubs b) counted.board;
-    }
+-- ---- the history
 
--- replies
+attempts-legal : (h : List Entry) (attempts : List Attempt) → IsLegal h → All IsAttempt attempts → IsLegal (fold after_attempt h attempts)
+attempts-legal h [] legal all = legal
+attempts-legal h (a ∷ attempts) legal all =
+    attempts-legal (after_attempt h a) attempts (attempt_legal h a legal (All-head IsAttempt a attempts all)) (All-tail IsAttempt a attempts all)
+
+attempts-board : (h : List Entry) (attempts : List Attempt) → IsLegal h → All IsAttempt attempts → fold board_after (board_of h) attempts ≡ board_of (fold after_attempt h attempts)
+attempts-board h [] legal all = refl
+attempts-board h (a ∷ attempts) legal all =
+    let is = All-head IsAttempt a attempts all in
+    ap (λ (ws : List ℕ). fold board_after ws attempts) (attempt_board h a legal is) ∙ attempts-board (after_attempt h a) attempts (attempt_legal h a legal is) (All-tail IsAttempt a attempts all)
+
+-- ---- replies
 
 pub replies : RepliesAreThoseOfFeed
 unfolding reply_line
-replies history row event legal game =
+replies options clubs board history row event legal game =
     ap₂ (λ (before : ℕ) (reply : Result Accepted Refusal). line_of_reply row event.call.game before reply) (versions history legal).0 (reply_is history (board_of history) event.call legal refl game)
+
+reply-answer : (format : Format) (options : Options) (row : ℕ) (clubs : List NamedClub) (history : List Entry) (event : NightEvent)
+    → reply_in format options row clubs event.call.game (length history) (sequential_reply history event.call) (board_of (after_attempt history (attempt_of event)))
+    ≡ reply_by_history format options row clubs history event
+unfolding reply_line
+reply-answer Text options row clubs history event = refl
+reply-answer Json options row clubs history event = refl
+
+-- ---- answers
+
+first : (a : Attempt) (attempts : List Attempt) → All IsAttempt (a ∷ attempts) → IsAttempt a
+first a attempts all = All-head IsAttempt a attempts all
+
+event-answer : (options : Options) (row : ℕ) (clubs : List NamedClub) (history : List Entry) (event : NightEvent) → IsLegal history → IsAttempt (attempt_of event)
+    → answer_of options row clubs (board_of history) (Event event) ≡ answer_by_history options row clubs history (Event event)
+event-answer options row clubs history event legal is =
+    let call = event.call in
+    let reply : reply_of (game_at (board_of history) call.game) call ≡ sequential_reply history call = reply_is history (board_of history) call legal refl is.1 in
+    let after = attempt_board history (attempt_of event) legal is in
+    let told = ap₂ (λ (before : ℕ) (r : Result Accepted Refusal). reply_answer options row clubs call.game before r (next_board (board_of history) (Event event))) (versions history legal).0 reply in
+    let stands = ap (λ (board : List ℕ). reply_answer options row clubs call.game (length history) (sequential_reply history call) board) after in
+    let line = told ∙ stands ∙ reply-answer options.format options row clubs history event in
+    let screen = ap₂ (λ (r : Result Accepted Refusal) (board : List ℕ). screen_after options row clubs r board) reply after in
+    ap₂ (λ (a b : List ℕ). a ++ b) line screen
+
+request-answer : (options : Options) (row : ℕ) (clubs : List NamedClub) (history : List Entry) (request : Request) → IsLegal history → All IsAttempt (attempts_of request)
+    → answer_of options row clubs (board_of history) request ≡ answer_by_history options row clubs history request
+request-answer options row clubs history (Event event) legal all = event-answer options row clubs history event legal (first (attempt_of event) [] all)
+request-answer options row clubs history Bad legal all = refl
+request-answer options row clubs history Screen legal all = refl
+request-answer options row clubs history Words legal all = refl
+
+said-answer : (e : Evening) (clubs : List NamedClub) (history : List Entry) (r : Said) → IsLegal history → e.stage ≡ Open clubs (board_of history)
+    → answer_said e r ≡ line_by_history e.options e.row clubs history r
+said-answer e clubs history Nothing legal h = refl
+said-answer e clubs history Garbled legal h = rw h refl
+said-answer e clubs history (Row f) legal h = rw h (request-answer e.options e.row clubs history (request_of (Row f)) legal (asked f))
+
+-- the board that a line leaves
+said-board : (history : List Entry) (r : Said) → IsLegal history → board_on (board_of history) r ≡ board_of (fold after_attempt history (attempts_on r))
+said-board history r legal = sym (fold-said (board_of history) r []) ∙ whole history r legal
+  where
+    whole : (h : List Entry) (r : Said) → IsLegal h → fold board_after (board_of h) (attempts_on r ++ []) ≡ board_of (fold after_attempt h (attempts_on r))
+    whole h r legal = rw (append-nil (attempts_on r)) (attempts-board h (attempts_on r) legal (said-attempts r))
+
+said-stage : (e : Evening) (clubs : List NamedClub) (history : List Entry) (r : Said) → IsLegal history → e.stage ≡ Open clubs (board_of history)
+    → (next e r).stage ≡ Open clubs (board_of (fold after_attempt history (attempts_on r)))
+said-stage e clubs history r legal h =
+    ap (λ (s : Stage). next_stage e.row s r) h ∙ next-open e.row clubs (board_of history) r ∙ ap (λ (b : List ℕ). Open clubs b) (said-board history r legal)
+
+text-by-history : (e : Evening) (lines : List (List ℕ)) (clubs : List NamedClub) (history : List Entry) → IsLegal history → e.stage ≡ Open clubs (board_of history)
+    → answers e lines ≡ answers_by_history e.options e.row clubs history lines
+unfolding answers answers_by_history
+text-by-history e [] clubs history legal h = refl
+text-by-history e (line ∷ lines) clubs history legal h =
+    let r = said_on e.row line in
+    let later = fold after_attempt history (attempts_on r) in
+    ap₂ (λ (a b : List ℕ). a ++ b) (said-answer e clubs history r legal h)
+    (text-by-history (next e r) lines clubs later (attempts-legal history (attempts_on r) legal (said-attempts r)) (said-stage e clubs history r legal h))
+
+pub sequential : EveningsAreSequential
+sequential e lines clubs history legal h =
+    let all = all-attempts e.row lines in record {
+      legal = attempts-legal history (attempts_in e.row lines) legal all;
+      stage = boards e lines clubs (board_of history) h ∙ ap (λ (b : List ℕ). Open clubs b) (attempts-board history (attempts_in e.row lines) legal all);
+      text = text-by-history e lines clubs history legal h;
+    }
+
+-- ---- the first row
+
+first-answer : (e : Evening) (clubs : List NamedClub) (r : Said) → e.stage ≡ Restoring clubs [] → IsOtherRow r
+    → answer_said e r ≡ answer_said (record { options = e.options; row = e.row; stage = Open clubs (board_of []) }) r
+first-answer e clubs Nothing h k = absurd k
+first-answer e clubs Garbled h k = rw h refl
+first-answer e clubs (Row f) h k = rw (h, k) refl
+
+first-next : (e : Evening) (clubs : List NamedClub) (r : Said) → e.stage ≡ Restoring clubs [] → IsOtherRow r
+    → next e r ≡ next (record { options = e.options; row = e.row; stage = Open clubs (board_of []) }) r
+first-next e clubs Nothing h k = absurd k
+first-next e clubs Garbled h k = rw h refl
+first-next e clubs (Row f) h k = rw (h, k) refl
+
+pub first-rows : FirstRowsOpenTheBoard
+unfolding answers after_lines
+first-rows e clubs line lines h k =
+    let r = said_on e.row line in
+    let there = first-next e clubs r h k in record {
+      text = ap₂ (λ (a b : List ℕ). a ++ b) (first-answer e clubs r h k) (ap (λ (f : Evening). answers f lines) there);
+      after = ap (λ (f : Evening). after_lines f lines) there;
+    }
 
 pub silence : RefusedEveningsAreSilent
 silence e lines fault h = silent e lines (refused-shut _ fault h)

@@ -11,8 +11,8 @@ use Rattle.ucl_runs.specs.Run.{IsStopped}
 use Rattle.ucl_answers.specs.Lines.{ended_lines}
 use Rattle.ucl_answers.specs.Output.{FailsToPut, HasPut, Waiting}
 use Rattle.ucl_answers.specs.Rows.{said_on}
-use Rattle.ucl_answers.specs.Text.{Evening, answer, next}
-use Rattle.ucl_answers.specs.Stepping.{IsRefused, LineAsks, Moment, answers_to, ended_at, last_answers, missing_at, moment_after}
+use Rattle.ucl_answers.specs.Text.{Evening, answer_said, next}
+use Rattle.ucl_answers.specs.Stepping.{EveningIsRefused, LineAsks, Moment, answers_to, ended_at, last_answers, missing_at, moment_after}
 use Rattle.ucl_answers.specs.Taking.{FailsToEnd, FailsToGive, FailsToTake, GaveBefore, LeavesLine}
 use Rattle.ucl_answers.proofs.Moments.{answers-to-append, answers-to-none, end-answers, end-evening, moment-append, moment-none}
 use Rattle.ucl_answers.proofs.Puts.{all_out, put_nothing, put_stopped, put_then, stopped_more}
@@ -22,7 +22,7 @@ use Rattle.ucl_answers.proofs.Silence.{missing-last, refused-missing, shut-befor
 
 -- a line that ends was not answered
 pub line-fails : (m : Moment) (c : ℕ) (a b : Waiting) (failed : Bool) (x y : Option (List ℕ)) (f : RunFault) → c ≡ 10 → a.out ≤ 2 ^ 64 - 1
-    → FailsToPut a b failed x y (answer m.evening (said_on m.evening.row m.begun)) (LineAsks m) (IsRefused (next m.evening (said_on m.evening.row m.begun))) f
+    → FailsToPut a b failed x y (answer_said m.evening (said_on m.evening.row m.begun)) (LineAsks m) (EveningIsRefused (next m.evening (said_on m.evening.row m.begun))) f
     → FailsToTake m (c ∷ []) a b failed x y f
 line-fails m c a b failed x y (WriteFailed written) k bound s = rw (end-answers m c k) s
 line-fails m c a b failed x y OutOfMemory k bound s = record {
@@ -53,7 +53,7 @@ within m i bytes h =
           ∙ ap (λ (l : List ℕ). l ++ answers_to (moment_after m front) (drop (i + 1) bytes)) (answers-to-append m (take i bytes) (get_or bytes i 0 ∷ [])),
     )
 
-refused-on : (m : Moment) (xs ys : List ℕ) (fault : InputFault) → IsRefused (moment_after m xs).evening fault → IsRefused (moment_after m (xs ++ ys)).evening fault
+refused-on : (m : Moment) (xs ys : List ℕ) (fault : InputFault) → EveningIsRefused (moment_after m xs).evening fault → EveningIsRefused (moment_after m (xs ++ ys)).evening fault
 refused-on m xs ys fault h =
     let n = moment_after m xs in
     ap (λ (k : Moment). k.evening.stage) (moment-append m xs ys) ∙ stays-refused n.evening (ended_lines n.begun ys) fault h
@@ -75,7 +75,7 @@ take-fails m i bytes a b after failed x y z OutOfMemory h put s = record {
 take-fails m i bytes a b after failed x y z (Input fault) h put s =
     let byte = get_or bytes i 0 ∷ [] in
     let none : answers_to m (take i bytes) ≡ [] = shut-before m (take i bytes) byte fault s.1 in
-    let there : IsRefused (moment_after m (take i bytes ++ byte)).evening fault = ap (λ (k : Moment). k.evening.stage) (moment-append m (take i bytes) byte) ∙ s.1 in
+    let there : EveningIsRefused (moment_after m (take i bytes ++ byte)).evening fault = ap (λ (k : Moment). k.evening.stage) (moment-append m (take i bytes) byte) ∙ s.1 in
     let whole = refused-on m (take i bytes ++ byte) (drop (i + 1) bytes) fault there in
     (put_then a b after x y z [] [] (rw none at put) s.0, ap (λ (l : List ℕ). (moment_after m l).evening.stage) (parts-at bytes i h) ∙ whole)
 take-fails m i bytes a b after failed x y z (NotOnDuty row) h put s = absurd s
@@ -150,7 +150,7 @@ give-fails m bytes a b failed x y (Strangers version) s none other = absurd s
 
 -- ---- the end
 
-pub end-fails : (m : Moment) (a b : Waiting) (failed : Bool) (x y : Option (List ℕ)) (f : RunFault) → FailsToPut a b failed x y (last_answers m) (LineAsks m) (IsRefused (ended_at m)) f → a.held ≡ []
+pub end-fails : (m : Moment) (a b : Waiting) (failed : Bool) (x y : Option (List ℕ)) (f : RunFault) → FailsToPut a b failed x y (last_answers m) (LineAsks m) (EveningIsRefused (ended_at m)) f → a.held ≡ []
     → FailsToEnd m a.out failed x y f
 end-fails m a b failed x y (WriteFailed written) s none = rw none at s
 end-fails m a b failed x y OutOfMemory s none = (rw s.1 (appends-none x), s.2)

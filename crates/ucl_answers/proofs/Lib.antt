@@ -1,3 +1,4 @@
+pub mod WordDigits
 pub mod RowBytes
 pub mod RowEnds
 pub mod Puts
@@ -5,7 +6,9 @@ pub mod Moments
 pub mod Silence
 pub mod ReadWords
 pub mod Failures
+pub mod FaultKinds
 pub mod Steps
 pub mod Boards
 pub mod Walks
 pub mod Wires
+pub mod JsonLines

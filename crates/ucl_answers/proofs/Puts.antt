@@ -7,7 +7,7 @@ use Rattle.ucl_runs.specs.declared.fault.RunFault.{RunFault}
 use Rattle.ucl_runs.specs.declared.fault.RunFault.TheVariants.{Input, OutOfMemory, WriteFailed, NotOnDuty, NoThread, TooManyReporters, Strangers}
 use Rattle.ucl_runs.specs.Run.{IsStopped}
 use Rattle.ucl_runs.proofs.Parts.{stopped_first, stopped_second}
-use Rattle.ucl_answers.specs.Output.{FailsToPut, HasPut, VainlyFails, Waiting}
+use Rattle.ucl_answers.specs.Output.{FailsToPut, HasPut, SinkFails, Waiting}
 
 count-then : (before mid after a b : ℕ) → mid ≡ min (before + a) (2 ^ 64 - 1) → after ≡ min (mid + b) (2 ^ 64 - 1) → after ≡ min (before + (a + b)) (2 ^ 64 - 1)
 count-then before mid after a b p q = omega arith
@@ -59,22 +59,23 @@ pub stopped_before : (out : ℕ) (failed : Bool) (x y : Option (List ℕ)) (h t 
 stopped_before out failed x y h t u f s = stopped_more out failed x y h t u (t ++ u) f refl s
 
 -- a failed write is what is told of a text that was not put
-pub put_fails : (a b : Waiting) (failed : Bool) (x y : Option (List ℕ)) (t : List ℕ) (Asks : Type 0) (IsRefused : InputFault → Type 0) (f : RunFault) → IsStopped a.out failed x y (a.held ++ t) f
-    → FailsToPut a b failed x y t Asks IsRefused f
-put_fails a b failed x y t Asks IsRefused (WriteFailed written) s = s
-put_fails a b failed x y t Asks IsRefused OutOfMemory s = absurd s
-put_fails a b failed x y t Asks IsRefused (Input e) s = absurd s
-put_fails a b failed x y t Asks IsRefused (NotOnDuty row) s = absurd s
-put_fails a b failed x y t Asks IsRefused NoThread s = absurd s
-put_fails a b failed x y t Asks IsRefused TooManyReporters s = absurd s
-put_fails a b failed x y t Asks IsRefused (Strangers version) s = absurd s
+pub put_fails : (a b : Waiting) (failed : Bool) (x y : Option (List ℕ)) (t : List ℕ) (Asks : Type 0) (Refuses : InputFault → Type 0) (f : RunFault) → IsStopped a.out failed x y (a.held ++ t) f
+    → FailsToPut a b failed x y t Asks Refuses f
+put_fails a b failed x y t Asks Refuses (WriteFailed written) s = s
+put_fails a b failed x y t Asks Refuses OutOfMemory s = absurd s
+put_fails a b failed x y t Asks Refuses (Input e) s = absurd s
+put_fails a b failed x y t Asks Refuses (NotOnDuty row) s = absurd s
+put_fails a b failed x y t Asks Refuses NoThread s = absurd s
+put_fails a b failed x y t Asks Refuses TooManyReporters s = absurd s
+put_fails a b failed x y t Asks Refuses (Strangers version) s = absurd s
 
 -- a failed write is one call in vain
-pub vain_fails : (out : ℕ) (failed : Bool) (x y : Option (List ℕ)) (t : List ℕ) (old new : ℕ) (f : RunFault) → IsStopped out failed x y t f → new ≡ old + 1 → VainlyFails old new f
-vain_fails out failed x y t old new (WriteFailed written) s e = e
-vain_fails out failed x y t old new OutOfMemory s e = absurd s
-vain_fails out failed x y t old new (Input fault) s e = absurd s
-vain_fails out failed x y t old new (NotOnDuty row) s e = absurd s
-vain_fails out failed x y t old new NoThread s e = absurd s
-vain_fails out failed x y t old new TooManyReporters s e = absurd s
-vain_fails out failed x y t old new (Strangers version) s e = absurd s
+pub vain_fails : (out : ℕ) (failed failed2 : Bool) (x y : Option (List ℕ)) (t : List ℕ) (vain vain2 : ℕ) (f : RunFault) → IsStopped out failed2 x y t f → vain2 ≡ vain + 1
+    → SinkFails vain vain2 failed failed2 f
+vain_fails out failed failed2 x y t vain vain2 (WriteFailed written) s e = (e, s.failed_is)
+vain_fails out failed failed2 x y t vain vain2 OutOfMemory s e = absurd s
+vain_fails out failed failed2 x y t vain vain2 (Input fault) s e = absurd s
+vain_fails out failed failed2 x y t vain vain2 (NotOnDuty row) s e = absurd s
+vain_fails out failed failed2 x y t vain vain2 NoThread s e = absurd s
+vain_fails out failed failed2 x y t vain vain2 TooManyReporters s e = absurd s
+vain_fails out failed failed2 x y t vain vain2 (Strangers version) s e = absurd s

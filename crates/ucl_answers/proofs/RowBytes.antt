@@ -13,7 +13,7 @@ use Rattle.ucl_answers.specs.declared.row.Stand.{Stand}
 use Rattle.ucl_answers.specs.declared.row.Stand.TheVariants.{StartField, InField, InQuoted, AfterQuote}
 use Rattle.ucl_answers.specs.declared.row.Deed.{Deed}
 use Rattle.ucl_answers.specs.declared.row.Deed.TheVariants.{Copy, Skip, EndField, EndRecord}
-use Rattle.ucl_answers.specs.Reading.{after_deed, begins_row, made, state_of}
+use Rattle.ucl_answers.specs.Reading.{after_deed, begins_row, made, csv_state_of}
 
 pub by-deed : (s : State) (d : Deed) (b : ℕ) (fields : Row) (field rest : List ℕ) → step default_config s b ≡ made b d
     → next_record default_config s fields field (b ∷ rest) ≡ after_deed d b fields field rest
@@ -23,14 +23,14 @@ by-deed s (Skip stand) b fields field rest e = rw e refl
 by-deed s EndField b fields field rest e = rw e refl
 by-deed s EndRecord b fields field rest e = rw e refl
 
-pub stands-end : (stand : Stand) → ends_at_end (state_of stand) ≡ true
+pub stands-end : (stand : Stand) → ends_at_end (csv_state_of stand) ≡ true
 stands-end StartField = refl
 stands-end InField = refl
 stands-end InQuoted = refl
 stands-end AfterQuote = refl
 
 -- the end of a text ends the record
-pub at-end : (stand : Stand) (fields : Row) (field : List ℕ) → next_record default_config (state_of stand) fields field [] ≡ Some (fields ++ field ∷ [], st.StartRecord, [])
+pub at-end : (stand : Stand) (fields : Row) (field : List ℕ) → next_record default_config (csv_state_of stand) fields field [] ≡ Some (fields ++ field ∷ [], st.StartRecord, [])
 unfolding next_record
 at-end stand fields field = rw (stands-end stand) refl
 
@@ -41,14 +41,14 @@ plain_deed b = elim (cases_Bool (b == 44)) [
   | inr n ↦ elim (cases_Bool ((b == 13) || (b == 10))) [ inl y ↦ (EndRecord, rw (n, y) refl) | inr m ↦ (Copy InField, rw (n, m) refl) ]
 ]
 
-any-deed : (stand : Stand) (b : ℕ) → (d : Deed) × (step default_config (state_of stand) b ≡ made b d)
+any-deed : (stand : Stand) (b : ℕ) → (d : Deed) × (step default_config (csv_state_of stand) b ≡ made b d)
 any-deed StartField b = elim (cases_Bool (b == 34)) [ inl y ↦ (Skip InQuoted, rw y refl) | inr n ↦ let p = plain_deed b in (p.0, rw n p.1) ]
 any-deed InField b = plain_deed b
 any-deed InQuoted b = elim (cases_Bool (b == 34)) [ inl y ↦ (Skip AfterQuote, rw y refl) | inr n ↦ (Copy InQuoted, rw n refl) ]
 any-deed AfterQuote b = elim (cases_Bool (b == 34)) [ inl y ↦ (Copy InQuoted, rw y refl) | inr n ↦ let p = plain_deed b in (p.0, rw n p.1) ]
 
 abbrev HasRecord : List ℕ → Type 0
-HasRecord xs = (stand : Stand) (fields : Row) (field : List ℕ) → (p : Read) × (next_record default_config (state_of stand) fields field xs ≡ Some p)
+HasRecord xs = (stand : Stand) (fields : Row) (field : List ℕ) → (p : Read) × (next_record default_config (csv_state_of stand) fields field xs ≡ Some p)
 
 some-deed : (d : Deed) (b : ℕ) (fields : Row) (field xs : List ℕ) → HasRecord xs → (p : Read) × (after_deed d b fields field xs ≡ Some p)
 some-deed (Copy stand) b fields field xs more = more stand fields (field ++ b ∷ [])
@@ -57,12 +57,12 @@ some-deed EndField b fields field xs more = more StartField (fields ++ field ∷
 some-deed EndRecord b fields field xs more = ((fields ++ field ∷ [], after_end term.CRLF b, xs), refl)
 
 -- from within a row there is a record
-pub some-record : (xs : List ℕ) (stand : Stand) (fields : Row) (field : List ℕ) → (p : Read) × (next_record default_config (state_of stand) fields field xs ≡ Some p)
+pub some-record : (xs : List ℕ) (stand : Stand) (fields : Row) (field : List ℕ) → (p : Read) × (next_record default_config (csv_state_of stand) fields field xs ≡ Some p)
 some-record [] stand fields field = ((fields ++ field ∷ [], st.StartRecord, []), at-end stand fields field)
 some-record (b ∷ xs) stand fields field =
     let d = any-deed stand b in
     let p = some-deed d.0 b fields field xs (some-record xs) in
-    (p.0, by-deed (state_of stand) d.0 b fields field xs d.1 ∙ p.1)
+    (p.0, by-deed (csv_state_of stand) d.0 b fields field xs d.1 ∙ p.1)
 
 -- a row begins as a field does
 pub begins-field : (xs : List ℕ) → begins_row xs ≡ true → next_record default_config st.StartRecord [] [] xs ≡ next_record default_config st.StartField [] [] xs

@@ -15,7 +15,7 @@ use Rattle.ucl_answers.specs.declared.row.Stand.{Stand}
 use Rattle.ucl_answers.specs.declared.row.Stand.TheVariants.{StartField}
 use Rattle.ucl_answers.specs.declared.row.Deed.{Deed}
 use Rattle.ucl_answers.specs.declared.row.Found.TheVariants.{One, More}
-use Rattle.ucl_answers.specs.Reading.{AreFound, IsBehindEnds, after_deed, begins_row, made, read_on, state_of}
+use Rattle.ucl_answers.specs.Reading.{AreFound, IsBehindEnds, after_deed, begins_row, made, read_on, csv_state_of}
 use Rattle.ucl_answers.proofs.RowBytes.{at-end, begins-field, by-deed, some-record}
 
 whole : (line : List ℕ) → records default_config line ≡ rows_from st.StartRecord (Some line)
@@ -122,12 +122,12 @@ full-list b xs e h none = let k : false ≡ (length xs == 0) = sym h ∙ e in le
 
 -- a byte of a text is read
 pub fill-step : (stand : Stand) (d : Deed) (o : Option Stand) (i : ℕ) (text : List ℕ) (fields fields2 : Row) (field field2 : List ℕ) → i < length text
-    → step default_config (state_of stand) (get_or text i 0) ≡ made (get_or text i 0) d
+    → step default_config (csv_state_of stand) (get_or text i 0) ≡ made (get_or text i 0) d
     → ((rest : List ℕ) → after_deed d (get_or text i 0) fields field rest ≡ read_on o (get_or text i 0) fields2 field2 rest)
-    → next_record default_config (state_of stand) fields field (drop i text) ≡ read_on o (get_or text i 0) fields2 field2 (drop (i + 1) text)
+    → next_record default_config (csv_state_of stand) fields field (drop i text) ≡ read_on o (get_or text i 0) fields2 field2 (drop (i + 1) text)
 fill-step stand d o i text fields fields2 field field2 h e reads =
-    rw (drop_more text i 0 h) (by-deed (state_of stand) d (get_or text i 0) fields field (drop (i + 1) text) e ∙ reads (drop (i + 1) text))
+    rw (drop_more text i 0 h) (by-deed (csv_state_of stand) d (get_or text i 0) fields field (drop (i + 1) text) e ∙ reads (drop (i + 1) text))
 
 pub fill-end : (stand : Stand) (i : ℕ) (text : List ℕ) (fields : Row) (field : List ℕ) → length text ≤ i
-    → next_record default_config (state_of stand) fields field (drop i text) ≡ Some (fields ++ field ∷ [], st.StartRecord, [])
+    → next_record default_config (csv_state_of stand) fields field (drop i text) ≡ Some (fields ++ field ∷ [], st.StartRecord, [])
 fill-end stand i text fields field h = rw (drop_all i text h) (at-end stand fields field)

@@ -6,8 +6,8 @@ use Rattle.ucl_answers.specs.Lines.{ended_lines, last_lines}
 use Rattle.ucl_answers.specs.Requests.{request_of}
 use Rattle.ucl_answers.specs.Rows.{Said, Nothing, Garbled, Row, said_on}
 use Rattle.ucl_answers.specs.Stages.{Stage, Naming, Restoring, Open, Refused, after_row, missing, next_stage, opened}
-use Rattle.ucl_answers.specs.Text.{Evening, after_lines, answer, answer_at, answers, next}
-use Rattle.ucl_answers.specs.Stepping.{IsRefused, Moment, answers_to, ended_at, last_answers, missing_at, moment_after}
+use Rattle.ucl_answers.specs.Text.{Evening, after_lines, answer_said, answer_at, answers, next}
+use Rattle.ucl_answers.specs.Stepping.{EveningIsRefused, Moment, answers_to, ended_at, last_answers, missing_at, moment_after}
 
 abbrev pub is_open : Stage → Bool
 is_open (Open clubs board) = true
@@ -49,7 +49,7 @@ silent-at e (Restoring clubs words) r h = refl
 silent-at e (Refused fault) r h = refl
 silent-at e (Open clubs board) r h = cc
 
-silent-answer : (e : Evening) (r : Said) → is_open (next e r).stage ≡ false → answer e r ≡ []
+silent-answer : (e : Evening) (r : Said) → is_open (next e r).stage ≡ false → answer_said e r ≡ []
 silent-answer e Nothing h = refl
 silent-answer e Garbled h = silent-at e (opened e.stage Garbled) Garbled (shut-row e.row (opened e.stage Garbled) Garbled h)
 silent-answer e (Row f) h = silent-at e (opened e.stage (Row f)) (Row f) (shut-row e.row (opened e.stage (Row f)) (Row f) h)
@@ -72,7 +72,7 @@ refused-next row Nothing fault = refl
 refused-next row Garbled fault = refl
 refused-next row (Row f) fault = refl
 
-pub stays-refused : (e : Evening) (lines : List (List ℕ)) (fault : InputFault) → IsRefused e fault → IsRefused (after_lines e lines) fault
+pub stays-refused : (e : Evening) (lines : List (List ℕ)) (fault : InputFault) → EveningIsRefused e fault → EveningIsRefused (after_lines e lines) fault
 unfolding after_lines
 stays-refused e [] fault h = h
 stays-refused e (line ∷ lines) fault h =
@@ -83,11 +83,11 @@ pub refused-shut : (s : Stage) (fault : InputFault) → s ≡ Refused fault → 
 refused-shut s fault h = rw h refl
 
 -- nor was anything answered before
-pub shut-before : (m : Moment) (xs ys : List ℕ) (fault : InputFault) → IsRefused (moment_after (moment_after m xs) ys).evening fault → answers_to m xs ≡ []
+pub shut-before : (m : Moment) (xs ys : List ℕ) (fault : InputFault) → EveningIsRefused (moment_after (moment_after m xs) ys).evening fault → answers_to m xs ≡ []
 shut-before m xs ys fault h =
     let n = moment_after m xs in silent m.evening (ended_lines m.begun xs) (shut-lines n.evening (ended_lines n.begun ys) (refused-shut _ fault h))
 
-pub refused-missing : (e : Evening) (fault : InputFault) → IsRefused e fault → missing e.row e.stage ≡ Some fault
+pub refused-missing : (e : Evening) (fault : InputFault) → EveningIsRefused e fault → missing e.row e.stage ≡ Some fault
 refused-missing e fault h = rw h refl
 
 missing-shut : (row : ℕ) (s : Stage) (fault : InputFault) → missing row s ≡ Some fault → is_open s ≡ false

@@ -15,15 +15,15 @@ use Rattle.ucl_answers.specs.declared.live.Progress.{Progress}
 use Rattle.ucl_answers.specs.declared.live.Progress.TheVariants.{Ended, Took}
 use Rattle.ucl_answers.specs.Output.{HasPut, Waiting}
 use Rattle.ucl_answers.specs.Text.{Evening, live_text, missing_after}
-use Rattle.ucl_answers.specs.Stepping.{Fails, HasEnded, IfTook, IsAt, IsPrompt, IsRefused, IsTurnedAway, LineAsks, Moment, StaysPrompt, answers_to, begins, last_answers, missing_at, moment_after}
+use Rattle.ucl_answers.specs.Stepping.{Device, EveningIsRefused, Fails, FailsAfter, HasEnded, HasEndedPromptly, IfTook, IsAt, IsPrompt, IsPromptAgain, IsTextOf, IsTurnedAway, LineAsks, Moment, Past, StaysPrompt, answers_to, begins, last_answers, missing_at, moment_after, past_with, reached, unread}
 use Rattle.ucl_answers.specs.Taking.{FailsToEnd, FailsToGive, GaveBefore, live_moment}
 use Rattle.ucl_answers.proofs.Moments.{answers-to-append, answers-to-none, begun-short, moment-append, moment-none, row-bound, same-moment, whole-missing, whole-text}
 use Rattle.ucl_answers.proofs.Puts.{all_out}
 use Rattle.ucl_answers.proofs.Silence.{missing-before, shut-before}
 
 -- where a prompt evening is
-pub prompt-moment : (start : Evening) (first taken : Option (List ℕ)) (live : Live) (before : List ℕ) → IsPrompt start first live taken before → live_moment live ≡ moment_after (begins start) before
-prompt-moment start first taken live before p = same-moment (live_moment live) (moment_after (begins start) before) p.at.evening p.at.begun
+pub prompt-moment : (past : Past) (live : Live) (taken : Option (List ℕ)) → IsPrompt past live taken → live_moment live ≡ moment_after (begins past.start) past.bytes
+prompt-moment past live taken p = same-moment (live_moment live) (moment_after (begins past.start) past.bytes) p.at.evening p.at.begun
 
 -- nothing waits: what was put is what went out
 given-all : (a b : Waiting) (x y : Option (List ℕ)) (t : List ℕ) (p : HasPut a b x y t) → a.held ≡ [] → b.held ≡ [] → length p.given ≡ length t
@@ -34,12 +34,13 @@ count-more : (all before more out now k : ℕ) → all ≡ before + more → out
 count-more all before more out now k e f g h = omega arith
 
 -- a prompt evening took more bytes, and stays prompt
-pub prompt-then : (start : Evening) (first x y : Option (List ℕ)) (old new : Live) (before bytes : List ℕ) → IsPrompt start first old x before → live_moment new ≡ moment_after (live_moment old) bytes
+pub prompt-then : (past : Past) (x y : Option (List ℕ)) (old new : Live) (bytes : List ℕ) → IsPrompt past old x → live_moment new ≡ moment_after (live_moment old) bytes
     → HasPut old.desk.page new.desk.page x y (answers_to (live_moment old) bytes) → old.desk.page.held ≡ [] → new.desk.page.held ≡ [] → new.read ≡ min (old.read + length bytes) (2 ^ 64 - 1)
-    → IsPrompt start first new y (before ++ bytes)
-prompt-then start first x y old new before bytes p moved put none none2 read =
-    let s = begins start in
-    let here = prompt-moment start first x old before p in
+    → IsPrompt (past_with past bytes) new y
+prompt-then past x y old new bytes p moved put none none2 read =
+    let s = begins past.start in
+    let before = past.bytes in
+    let here = prompt-moment past old x p in
     let there : live_moment new ≡ moment_after s (before ++ bytes) = moved ∙ ap (λ (m : Moment). moment_after m bytes) here ∙ sym (moment-append s before bytes) in
     let text : answers_to s (before ++ bytes) ≡ answers_to s before ++ answers_to (live_moment old) bytes = answers-to-append s before bytes ∙ ap (λ (m : Moment). answers_to s before ++ answers_to m bytes) (sym here) in
     let out = all_out old.desk.page new.desk.page x y (answers_to (live_moment old) bytes) put none none2 in
@@ -52,20 +53,21 @@ prompt-then start first x y old new before bytes p moved put none none2 read =
             (ap (length {A = ℕ}) text ∙ length-append (answers_to s before) (answers_to (live_moment old) bytes)) p.at.written_is put.told (given-all old.desk.page new.desk.page x y (answers_to (live_moment old) bytes) put none none2);
         waiting = none2;
       };
-      answered = rw text (appends-then first x y (answers_to s before) (answers_to (live_moment old) bytes) p.answered out);
+      answered = rw text (appends-then past.first x y (answers_to s before) (answers_to (live_moment old) bytes) p.answered out);
     }
 
 -- it took no more, for the input has ended
-pub prompt-end : (start : Evening) (first x y : Option (List ℕ)) (old : Live) (before : List ℕ) → IsPrompt start first old x before → Appends x y (last_answers (live_moment old))
-    → Appends first y (answers_to (begins start) before ++ last_answers (moment_after (begins start) before))
-prompt-end start first x y old before p out =
-    appends-then first x y (answers_to (begins start) before) (last_answers (moment_after (begins start) before)) p.answered (subst (λ (m : Moment). Appends x y (last_answers m)) (prompt-moment start first x old before p) out)
+pub prompt-end : (past : Past) (x y : Option (List ℕ)) (old : Live) → IsPrompt past old x → Appends x y (last_answers (live_moment old))
+    → Appends past.first y (answers_to (begins past.start) past.bytes ++ last_answers (moment_after (begins past.start) past.bytes))
+prompt-end past x y old p out =
+    let m = moment_after (begins past.start) past.bytes in
+    appends-then past.first x y (answers_to (begins past.start) past.bytes) (last_answers m) p.answered (subst (λ (n : Moment). Appends x y (last_answers n)) (prompt-moment past old x p) out)
 
-pub prompt-complete : (start : Evening) (first x : Option (List ℕ)) (old : Live) (before : List ℕ) → IsPrompt start first old x before → missing_at (live_moment old) ≡ None
-    → missing_at (moment_after (begins start) before) ≡ None
-prompt-complete start first x old before p h = subst (λ (m : Moment). missing_at m ≡ None) (prompt-moment start first x old before p) h
+pub prompt-complete : (past : Past) (x : Option (List ℕ)) (old : Live) → IsPrompt past old x → missing_at (live_moment old) ≡ None
+    → missing_at (moment_after (begins past.start) past.bytes) ≡ None
+prompt-complete past x old p h = subst (λ (m : Moment). missing_at m ≡ None) (prompt-moment past old x p) h
 
-pub prompt-none : (start : Evening) (x : Option (List ℕ)) (live : Live) → IsAt (begins start) 0 0 live → IsPrompt start x live x []
+pub prompt-none : (start : Evening) (x : Option (List ℕ)) (live : Live) → IsAt (unread start) live → IsPrompt (record { start = start; first = x; bytes = [] }) live x
 prompt-none start x live p =
     let m = moment-none (begins start) in
     let t = answers-to-none (begins start) in
@@ -91,163 +93,188 @@ pub sound : (b : Bool) → (b ≡ true → ⊥) → b ≡ false
 sound true h = absurd (h refl)
 sound false h = refl
 
-module _ (start : Evening) (first x : Option (List ℕ)) (live : Live) (before : List ℕ) (p : IsPrompt start first live x before) where
-  here : live_moment live ≡ moment_after (begins start) before
-  here = prompt-moment start first x live before p
+module _ (past : Past) (live : Live) (old : Device) (p : IsPrompt past live old.taken) where
+  there : Moment
+  there = moment_after (begins past.start) past.bytes
 
-  pub read-fails : (sink_failed : Bool) (l k : Option (List ℕ)) → Keeps l k
-      → Fails (moment_after (begins start) before) (length before) (length (answers_to (begins start) before)) true sink_failed l k x x (Input (ReadFailed live.read))
-  read-fails sink_failed l k kept =
-      let m = moment_after (begins start) before in (
-        [],
-        none-moved l k kept,
-        inl (record {
-          failed_is = refl;
+  here : live_moment live ≡ moment_after (begins past.start) past.bytes
+  here = prompt-moment past live old.taken p
+
+  pub read-fails : (new : Device) → new.source_failed ≡ true → new.taken ≡ old.taken → Keeps old.left new.left
+      → Fails (reached past.start past.bytes) old new (Input (ReadFailed live.read))
+  read-fails new failed taken kept =
+      let m = moment_after (begins past.start) past.bytes in record {
+        bytes = [];
+        consumed = none-moved old.left new.left kept;
+        why = inl (record {
+          failed_is = failed;
           told = ap (λ (n : ℕ). ReadFailed n) (p.at.read_is ∙ ap (λ (n : ℕ). min n (2 ^ 64 - 1)) (omega arith));
-          out = rw (answers-to-none m) (appends-none x);
-        }),
-      )
+          out = rw (answers-to-none m, taken) (appends-none old.taken);
+        });
+      }
 
-  told-short : (sink_failed : Bool) (y : Option (List ℕ)) (t u : List ℕ) (written : ℕ) → t ≡ u → StoppedShort live.desk.page.out sink_failed x y t written
-      → StoppedShort (min (length (answers_to (begins start) before)) (2 ^ 64 - 1)) sink_failed x y u written
-  told-short sink_failed y t u written e s =
-      subst (λ (n : ℕ). StoppedShort n sink_failed x y u written) p.at.written_is (subst (λ (l : List ℕ). StoppedShort live.desk.page.out sink_failed x y l written) e s)
+  told-short : (failed : Bool) (y : Option (List ℕ)) (t u : List ℕ) (written : ℕ) → t ≡ u → StoppedShort live.desk.page.out failed old.taken y t written
+      → StoppedShort (min (length (answers_to (begins past.start) past.bytes)) (2 ^ 64 - 1)) failed old.taken y u written
+  told-short failed y t u written e s =
+      subst (λ (n : ℕ). StoppedShort n failed old.taken y u written) p.at.written_is (subst (λ (l : List ℕ). StoppedShort live.desk.page.out failed old.taken y l written) e s)
 
-  pub give-fails : (sink_failed : Bool) (l k y : Option (List ℕ)) (bytes : List ℕ) (f : RunFault) → Consumes l k bytes → FailsToGive (live_moment live) bytes live.desk.page.out sink_failed x y f
-      → Fails (moment_after (begins start) before) (length before) (length (answers_to (begins start) before)) false sink_failed l k x y f
-  give-fails sink_failed l k y bytes (WriteFailed written) moved s = (bytes, moved, (answers_to (moment_after (begins start) before) bytes, inl refl, told-short sink_failed y (answers_to (live_moment live) bytes) (answers_to (moment_after (begins start) before) bytes) written (ap (λ (m : Moment). answers_to m bytes) here) s))
-  give-fails sink_failed l k y bytes OutOfMemory moved s =
-      let t : GaveBefore (moment_after (begins start) before) bytes x y = subst (λ (m : Moment). GaveBefore m bytes x y) here s in
-      (bytes, moved, record { front = t.front; rest = 10 ∷ t.more; parts = t.parts; out = t.out; line = inl (t.more, refl); asks = t.asks })
-  give-fails sink_failed l k y bytes (Input fault) moved s =
-      let r : IsRefused (moment_after (moment_after (begins start) before) bytes).evening fault = subst (λ (m : Moment). IsRefused (moment_after m bytes).evening fault) here s.1 in
-      (bytes, moved, inr (record { failed_is = refl; refused = inl r; out = s.0 }))
-  give-fails sink_failed l k y bytes (NotOnDuty row) moved s = absurd s
-  give-fails sink_failed l k y bytes NoThread moved s = absurd s
-  give-fails sink_failed l k y bytes TooManyReporters moved s = absurd s
-  give-fails sink_failed l k y bytes (Strangers version) moved s = absurd s
+  pub give-fails : (new : Device) (bytes : List ℕ) (f : RunFault) → new.source_failed ≡ false → Consumes old.left new.left bytes
+      → FailsToGive (live_moment live) bytes live.desk.page.out new.sink_failed old.taken new.taken f → Fails (reached past.start past.bytes) old new f
+  give-fails new bytes (WriteFailed written) well moved s =
+      let m = moment_after (begins past.start) past.bytes in record {
+        bytes = bytes;
+        consumed = moved;
+        why = record {
+          text = answers_to m bytes;
+          text_is = inl refl;
+          stopped = told-short new.sink_failed new.taken (answers_to (live_moment live) bytes) (answers_to m bytes) written (ap (λ (n : Moment). answers_to n bytes) here) s;
+        };
+      }
+  give-fails new bytes OutOfMemory well moved s =
+      let t : GaveBefore (moment_after (begins past.start) past.bytes) bytes old.taken new.taken = subst (λ (m : Moment). GaveBefore m bytes old.taken new.taken) here s in record {
+        bytes = bytes;
+        consumed = moved;
+        why = record { front = t.front; rest = 10 ∷ t.more; parts = t.parts; out = t.out; line = inl (t.more, refl); asks = t.asks };
+      }
+  give-fails new bytes (Input fault) well moved s =
+      let r : EveningIsRefused (moment_after (moment_after (begins past.start) past.bytes) bytes).evening fault = subst (λ (m : Moment). EveningIsRefused (moment_after m bytes).evening fault) here s.1 in
+      record { bytes = bytes; consumed = moved; why = inr (record { failed_is = well; refused = inl r; out = s.0 }) }
+  give-fails new bytes (NotOnDuty row) well moved s = absurd s
+  give-fails new bytes NoThread well moved s = absurd s
+  give-fails new bytes TooManyReporters well moved s = absurd s
+  give-fails new bytes (Strangers version) well moved s = absurd s
 
-  last-there : last_answers (live_moment live) ≡ answers_to (moment_after (begins start) before) [] ++ last_answers (moment_after (moment_after (begins start) before) [])
+  last-there : last_answers (live_moment live) ≡ answers_to (moment_after (begins past.start) past.bytes) [] ++ last_answers (moment_after (moment_after (begins past.start) past.bytes) [])
   last-there =
-      let m = moment_after (begins start) before in
+      let m = moment_after (begins past.start) past.bytes in
       ap last_answers here ∙ sym (ap (λ (l : List ℕ). l ++ last_answers (moment_after m [])) (answers-to-none m) ∙ ap last_answers (moment-none m))
 
-  pub end-fails : (sink_failed : Bool) (l k y : Option (List ℕ)) (f : RunFault) → IsAtEnd l → Consumes l k [] → FailsToEnd (live_moment live) live.desk.page.out sink_failed x y f
-      → Fails (moment_after (begins start) before) (length before) (length (answers_to (begins start) before)) false sink_failed l k x y f
-  end-fails sink_failed l k y (WriteFailed written) at-end moved s =
-      let m = moment_after (begins start) before in
-      ([], moved, (answers_to m [] ++ last_answers (moment_after m []), inr ((l, at-end, moved), refl), told-short sink_failed y (last_answers (live_moment live)) _ written last-there s))
-  end-fails sink_failed l k y OutOfMemory at-end moved s =
-      let m = moment_after (begins start) before in (
-        [],
-        moved,
-        record {
+  pub end-fails : (new : Device) (f : RunFault) → new.source_failed ≡ false → IsAtEnd old.left → Consumes old.left new.left []
+      → FailsToEnd (live_moment live) live.desk.page.out new.sink_failed old.taken new.taken f → Fails (reached past.start past.bytes) old new f
+  end-fails new (WriteFailed written) well at-end moved s =
+      let m = moment_after (begins past.start) past.bytes in record {
+        bytes = [];
+        consumed = moved;
+        why = record {
+          text = answers_to m [] ++ last_answers (moment_after m []);
+          text_is = inr ((old.left, at-end, moved), refl);
+          stopped = told-short new.sink_failed new.taken (last_answers (live_moment live)) (answers_to m [] ++ last_answers (moment_after m [])) written last-there s;
+        };
+      }
+  end-fails new OutOfMemory well at-end moved s =
+      let m = moment_after (begins past.start) past.bytes in record {
+        bytes = [];
+        consumed = moved;
+        why = record {
           front = [];
           rest = [];
           parts = refl;
           out = rw (answers-to-none m) s.0;
-          line = inr (refl, (l, at-end, moved));
+          line = inr (refl, (old.left, at-end, moved));
           asks = subst (λ (n : Moment). LineAsks n) (here ∙ sym (moment-none m)) s.1;
-        },
-      )
-  end-fails sink_failed l k y (Input fault) at-end moved s =
-      let m = moment_after (begins start) before in (
-        [],
-        moved,
-        inr (record {
-          failed_is = refl;
-          refused = inr ((l, at-end, moved), sym (ap missing_at (here ∙ sym (moment-none m))) ∙ s.1);
+        };
+      }
+  end-fails new (Input fault) well at-end moved s =
+      let m = moment_after (begins past.start) past.bytes in record {
+        bytes = [];
+        consumed = moved;
+        why = inr (record {
+          failed_is = well;
+          refused = inr ((old.left, at-end, moved), sym (ap missing_at (here ∙ sym (moment-none m))) ∙ s.1);
           out = s.0;
-        }),
-      )
-  end-fails sink_failed l k y (NotOnDuty row) at-end moved s = absurd s
-  end-fails sink_failed l k y NoThread at-end moved s = absurd s
-  end-fails sink_failed l k y TooManyReporters at-end moved s = absurd s
-  end-fails sink_failed l k y (Strangers version) at-end moved s = absurd s
+        });
+      }
+  end-fails new (NotOnDuty row) well at-end moved s = absurd s
+  end-fails new NoThread well at-end moved s = absurd s
+  end-fails new TooManyReporters well at-end moved s = absurd s
+  end-fails new (Strangers version) well at-end moved s = absurd s
 
 -- ---- failures of a run, of which some bytes were taken before
 
-module _ (start : Evening) (first x : Option (List ℕ)) (before : List ℕ) (l0 l k y : Option (List ℕ)) (sf wf : Bool) (took : Consumes l0 l before) (answered : Appends first x (answers_to (begins start) before)) where
-  there : Moment
-  there = moment_after (begins start) before
+module _ (past : Past) (origin old new : Device) (took : Consumes origin.left old.left past.bytes) (answered : Appends origin.taken old.taken (answers_to (begins past.start) past.bytes)) where
+  all-text : (bytes : List ℕ) → answers_to (begins past.start) past.bytes ++ answers_to (moment_after (begins past.start) past.bytes) bytes ≡ answers_to (begins past.start) (past.bytes ++ bytes)
+  all-text bytes = sym (answers-to-append (begins past.start) past.bytes bytes)
 
-  all-text : (bytes : List ℕ) → answers_to (begins start) before ++ answers_to (moment_after (begins start) before) bytes ≡ answers_to (begins start) (before ++ bytes)
-  all-text bytes = sym (answers-to-append (begins start) before bytes)
+  all-moment : (bytes : List ℕ) → moment_after (moment_after (begins past.start) past.bytes) bytes ≡ moment_after (begins past.start) (past.bytes ++ bytes)
+  all-moment bytes = sym (moment-append (begins past.start) past.bytes bytes)
 
-  all-moment : (bytes : List ℕ) → moment_after (moment_after (begins start) before) bytes ≡ moment_after (begins start) (before ++ bytes)
-  all-moment bytes = sym (moment-append (begins start) before bytes)
+  stopped-all : (text : List ℕ) (written : ℕ) → StoppedShort (min (length (answers_to (begins past.start) past.bytes)) (2 ^ 64 - 1)) new.sink_failed old.taken new.taken text written
+      → StoppedShort (min 0 (2 ^ 64 - 1)) new.sink_failed origin.taken new.taken (answers_to (begins past.start) past.bytes ++ text) written
+  stopped-all text written s =
+      stopped_second (min 0 (2 ^ 64 - 1)) (min (length (answers_to (begins past.start) past.bytes)) (2 ^ 64 - 1)) new.sink_failed origin.taken old.taken new.taken (answers_to (begins past.start) past.bytes) text (WriteFailed written) answered (omega arith) s
 
-  stopped : (bytes text : List ℕ) (written : ℕ) → StoppedShort (min (length (answers_to (begins start) before)) (2 ^ 64 - 1)) wf x y text written
-      → StoppedShort (min 0 (2 ^ 64 - 1)) wf first y (answers_to (begins start) before ++ text) written
-  stopped bytes text written s =
-      stopped_second (min 0 (2 ^ 64 - 1)) (min (length (answers_to (begins start) before)) (2 ^ 64 - 1)) wf first x y (answers_to (begins start) before) text (WriteFailed written) answered (omega arith) s
+  silence : (bytes : List ℕ) (fault : InputFault)
+      → (EveningIsRefused (moment_after (moment_after (begins past.start) past.bytes) bytes).evening fault ⊎ (HasEnded new.left × (missing_at (moment_after (moment_after (begins past.start) past.bytes) bytes) ≡ Some fault)))
+      → answers_to (begins past.start) past.bytes ≡ []
+  silence bytes fault (inl r) = shut-before (begins past.start) past.bytes bytes fault r
+  silence bytes fault (inr r) = missing-before (begins past.start) past.bytes bytes fault r.1
 
-  silence : (bytes : List ℕ) (fault : InputFault) → (IsRefused (moment_after (moment_after (begins start) before) bytes).evening fault ⊎ (HasEnded k × (missing_at (moment_after (moment_after (begins start) before) bytes) ≡ Some fault)))
-      → answers_to (begins start) before ≡ []
-  silence bytes fault (inl r) = shut-before (begins start) before bytes fault r
-  silence bytes fault (inr r) = missing-before (begins start) before bytes fault r.1
-
-  refusal : (bytes : List ℕ) (fault : InputFault) → (IsRefused (moment_after (moment_after (begins start) before) bytes).evening fault ⊎ (HasEnded k × (missing_at (moment_after (moment_after (begins start) before) bytes) ≡ Some fault)))
-      → IsRefused (moment_after (begins start) (before ++ bytes)).evening fault ⊎ (HasEnded k × (missing_at (moment_after (begins start) (before ++ bytes)) ≡ Some fault))
-  refusal bytes fault (inl r) = inl (subst (λ (n : Moment). IsRefused n.evening fault) (all-moment bytes) r)
+  refusal : (bytes : List ℕ) (fault : InputFault)
+      → (EveningIsRefused (moment_after (moment_after (begins past.start) past.bytes) bytes).evening fault ⊎ (HasEnded new.left × (missing_at (moment_after (moment_after (begins past.start) past.bytes) bytes) ≡ Some fault)))
+      → EveningIsRefused (moment_after (begins past.start) (past.bytes ++ bytes)).evening fault ⊎ (HasEnded new.left × (missing_at (moment_after (begins past.start) (past.bytes ++ bytes)) ≡ Some fault))
+  refusal bytes fault (inl r) = inl (subst (λ (n : Moment). EveningIsRefused n.evening fault) (all-moment bytes) r)
   refusal bytes fault (inr r) = inr (r.0, subst (λ (n : Moment). missing_at n ≡ Some fault) (all-moment bytes) r.1)
 
-  away : (bytes : List ℕ) (fault : InputFault) → IsTurnedAway (moment_after (begins start) before) sf bytes k x y fault → IsTurnedAway (begins start) sf (before ++ bytes) k first y fault
+  away : (bytes : List ℕ) (fault : InputFault) → IsTurnedAway (reached past.start past.bytes) bytes old new fault → IsTurnedAway (unread past.start) (past.bytes ++ bytes) origin new fault
   away bytes fault r = record {
     failed_is = r.failed_is;
     refused = refusal bytes fault r.refused;
-    out = appends-then first x y [] [] (rw (silence bytes fault r.refused) at answered) r.out;
+    out = appends-then origin.taken old.taken new.taken [] [] (rw (silence bytes fault r.refused) at answered) r.out;
   }
 
-  pub run-fails : (f : RunFault) → Fails (moment_after (begins start) before) (length before) (length (answers_to (begins start) before)) sf wf l k x y f → Fails (begins start) 0 0 sf wf l0 k first y f
-  run-fails (WriteFailed written) (bytes, moved, (text, inl e, s)) =
-      (before ++ bytes, consumes-then l0 l k before bytes took moved, (answers_to (begins start) before ++ text, inl (ap (λ (t : List ℕ). answers_to (begins start) before ++ t) e ∙ all-text bytes), stopped bytes text written s))
-  run-fails (WriteFailed written) (bytes, moved, (text, inr e, s)) =
-      let m = moment_after (begins start) before in
-      let whole : answers_to (begins start) before ++ text ≡ answers_to (begins start) (before ++ bytes) ++ last_answers (moment_after (begins start) (before ++ bytes)) =
-      ap (λ (t : List ℕ). answers_to (begins start) before ++ t) e.1
-      ∙ sym (append_assoc (answers_to (begins start) before) (answers_to m bytes) (last_answers (moment_after m bytes)))
-      ∙ ap (λ (t : List ℕ). t ++ last_answers (moment_after m bytes)) (all-text bytes)
-      ∙ ap (λ (n : Moment). answers_to (begins start) (before ++ bytes) ++ last_answers n) (all-moment bytes) in
-      (before ++ bytes, consumes-then l0 l k before bytes took moved, (answers_to (begins start) before ++ text, inr (e.0, whole), stopped bytes text written s))
-  run-fails OutOfMemory (bytes, moved, r) = (
-    before ++ bytes,
-    consumes-then l0 l k before bytes took moved,
-    record {
-      front = before ++ r.front;
-      rest = r.rest;
-      parts = ap (λ (t : List ℕ). before ++ t) r.parts ∙ sym (append_assoc before r.front r.rest);
-      out = subst (Appends first y) (all-text r.front) (appends-then first x y (answers_to (begins start) before) (answers_to (moment_after (begins start) before) r.front) answered r.out);
-      line = r.line;
-      asks = subst (λ (n : Moment). LineAsks n) (all-moment r.front) r.asks;
-    },
-  )
-  run-fails (Input fault) (bytes, moved, inl r) = (
-    before ++ bytes,
-    consumes-then l0 l k before bytes took moved,
-    inl (record {
-      failed_is = r.failed_is;
-      told = r.told ∙ ap (λ (n : ℕ). ReadFailed (min n (2 ^ 64 - 1))) (omega (arith, length-append before bytes));
-      out = subst (Appends first y) (all-text bytes) (appends-then first x y (answers_to (begins start) before) (answers_to (moment_after (begins start) before) bytes) answered r.out);
-    }),
-  )
-  run-fails (Input fault) (bytes, moved, inr r) = (before ++ bytes, consumes-then l0 l k before bytes took moved, inr (away bytes fault r))
-  run-fails (NotOnDuty row) (bytes, moved, s) = absurd s
-  run-fails NoThread (bytes, moved, s) = absurd s
-  run-fails TooManyReporters (bytes, moved, s) = absurd s
-  run-fails (Strangers version) (bytes, moved, s) = absurd s
+  all-of : (bytes text : List ℕ) → IsTextOf (moment_after (begins past.start) past.bytes) bytes new.left text → IsTextOf (begins past.start) (past.bytes ++ bytes) new.left (answers_to (begins past.start) past.bytes ++ text)
+  all-of bytes text (inl e) = inl (ap (λ (t : List ℕ). answers_to (begins past.start) past.bytes ++ t) e ∙ all-text bytes)
+  all-of bytes text (inr e) =
+      let m = moment_after (begins past.start) past.bytes in
+      inr (
+        e.0,
+        ap (λ (t : List ℕ). answers_to (begins past.start) past.bytes ++ t) e.1
+            ∙ sym (append_assoc (answers_to (begins past.start) past.bytes) (answers_to m bytes) (last_answers (moment_after m bytes)))
+            ∙ ap (λ (t : List ℕ). t ++ last_answers (moment_after m bytes)) (all-text bytes)
+            ∙ ap (λ (n : Moment). answers_to (begins past.start) (past.bytes ++ bytes) ++ last_answers n) (all-moment bytes),
+      )
+
+  run-after : (bytes : List ℕ) (f : RunFault) → FailsAfter (reached past.start past.bytes) bytes old new f → FailsAfter (unread past.start) (past.bytes ++ bytes) origin new f
+  run-after bytes (WriteFailed written) r = record {
+    text = answers_to (begins past.start) past.bytes ++ r.text;
+    text_is = all-of bytes r.text r.text_is;
+    stopped = stopped-all r.text written r.stopped;
+  }
+  run-after bytes OutOfMemory r = record {
+    front = past.bytes ++ r.front;
+    rest = r.rest;
+    parts = ap (λ (t : List ℕ). past.bytes ++ t) r.parts ∙ sym (append_assoc past.bytes r.front r.rest);
+    out = subst (Appends origin.taken new.taken) (all-text r.front)
+        (appends-then origin.taken old.taken new.taken (answers_to (begins past.start) past.bytes) (answers_to (moment_after (begins past.start) past.bytes) r.front) answered r.out);
+    line = r.line;
+    asks = subst (λ (n : Moment). LineAsks n) (all-moment r.front) r.asks;
+  }
+  run-after bytes (Input fault) (inl r) = inl (record {
+    failed_is = r.failed_is;
+    told = r.told ∙ ap (λ (n : ℕ). ReadFailed (min n (2 ^ 64 - 1))) (omega (arith, length-append past.bytes bytes));
+    out = subst (Appends origin.taken new.taken) (all-text bytes)
+        (appends-then origin.taken old.taken new.taken (answers_to (begins past.start) past.bytes) (answers_to (moment_after (begins past.start) past.bytes) bytes) answered r.out);
+  })
+  run-after bytes (Input fault) (inr r) = inr (away bytes fault r)
+  run-after bytes (NotOnDuty row) s = absurd s
+  run-after bytes NoThread s = absurd s
+  run-after bytes TooManyReporters s = absurd s
+  run-after bytes (Strangers version) s = absurd s
+
+  pub run-fails : (f : RunFault) → Fails (reached past.start past.bytes) old new f → Fails (unread past.start) origin new f
+  run-fails f r = record { bytes = past.bytes ++ r.bytes; consumed = consumes-then origin.left old.left new.left past.bytes r.bytes took r.consumed; why = run-after r.bytes f r.why }
 
 -- ---- what a run knows of its evening
 
-module _ (start : Evening) (first x : Option (List ℕ)) (live : Live) (bytes : List ℕ) (p : IsPrompt start first live x bytes) where
-  pub run-few : start.row ≡ 1 → live.read ≤ 2 ^ 62 → live.evening.row + 16384 < 2 ^ 64
+module _ (past : Past) (x : Option (List ℕ)) (live : Live) (p : IsPrompt past live x) where
+  pub run-few : past.start.row ≡ 1 → live.read ≤ 2 ^ 62 → live.evening.row + 16384 < 2 ^ 64
   run-few one few =
-      let row : live.evening.row ≡ (moment_after (begins start) bytes).evening.row = ap (λ (e : Evening). e.row) p.at.evening in
-      let bound = row-bound (begins start) bytes in
+      let row : live.evening.row ≡ (moment_after (begins past.start) past.bytes).evening.row = ap (λ (e : Evening). e.row) p.at.evening in
+      let bound = row-bound (begins past.start) past.bytes in
       let read = p.at.read_is in omega arith
 
   pub run-short : length live.desk.line.items ≤ 258
-  run-short = rw p.at.begun (begun-short [] bytes (omega arith))
+  run-short = rw p.at.begun (begun-short [] past.bytes (omega arith))
 
 pub run-text : (start : Evening) (first y : Option (List ℕ)) (l0 l : Option (List ℕ)) (bytes : List ℕ) → Consumes l0 l bytes → IsAtEnd l
     → Appends first y (answers_to (begins start) bytes ++ last_answers (moment_after (begins start) bytes)) → IfSome l0 (λ all. Appends first y (live_text start all))
@@ -265,13 +292,11 @@ run-complete start (Some all) (Some left) bytes moved at-end h =
     let e : all ≡ bytes = moved ∙ ap (λ (t : List ℕ). bytes ++ t) at-end ∙ append-nil bytes in
     rw e (whole-missing start bytes ∙ h)
 
-pub stays-ended : (start : Evening) (first : Option (List ℕ)) (before : List ℕ) (l k y : Option (List ℕ)) (progress : Progress) → progress ≡ Ended → StaysPrompt start first before l k y progress
-    → StaysPrompt start first before l k y Ended
-stays-ended start first before l k y progress e s = subst (StaysPrompt start first before l k y) e s
+pub stays-ended : (past : Past) (old new : Device) (progress : Progress) → progress ≡ Ended → StaysPrompt past old new progress → HasEndedPromptly past old new
+stays-ended past old new progress e s = subst (StaysPrompt past old new) e s
 
-pub stays-took : (start : Evening) (first : Option (List ℕ)) (before : List ℕ) (l k y : Option (List ℕ)) (progress : Progress) (live : Live) → progress ≡ Took live → StaysPrompt start first before l k y progress
-    → StaysPrompt start first before l k y (Took live)
-stays-took start first before l k y progress live e s = subst (StaysPrompt start first before l k y) e s
+pub stays-took : (past : Past) (old new : Device) (progress : Progress) (live : Live) → progress ≡ Took live → StaysPrompt past old new progress → IsPromptAgain past old new live
+stays-took past old new progress live e s = subst (StaysPrompt past old new) e s
 
 -- it took more than before, as long as that can be told
 pub read-more : (before bytes : List ℕ) (old new : ℕ) → old ≡ min (length before) (2 ^ 64 - 1) → new ≡ min (length (before ++ bytes)) (2 ^ 64 - 1) → (bytes ≡ [] → ⊥) → old ≤ 2 ^ 62 → old < new

@@ -1,6 +1,5 @@
 pub mod Lines
 pub mod Rows
-pub mod WordsRead
 pub mod Requests
 pub mod Stages
 pub mod Text
@@ -10,4 +9,5 @@ pub mod Seen
 pub mod Stepping
 pub mod Taking
 pub mod Wires
+pub mod ByHistory
 pub mod Laws

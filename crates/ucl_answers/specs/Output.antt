@@ -1,5 +1,5 @@
 -- What waits to be given to a sink.
-use Rattle.std.specs.Prelude.{◌≡◌, ℕ, ◌+◌, ◌-◌, ◌^◌, min, Bool, List, ◌++◌, length, Option}
+use Rattle.std.specs.Prelude.{◌≡◌, ℕ, ◌+◌, ◌-◌, ◌^◌, min, Bool, true, List, ◌++◌, length, Option}
 use Rattle.std.specs.Io.KnownBytes.{Appends}
 use Rattle.ucl_screen.specs.declared.fault.InputFault.{InputFault}
 use Rattle.ucl_runs.specs.declared.fault.RunFault.{RunFault}
@@ -20,12 +20,13 @@ pub record HasPut (before after : Waiting) (old new : Option (List ℕ)) (text :
 
 -- a text was not put: the sink failed in it; or there was no memory for it, which it asks for, or it is refused, and nothing was done
 abbrev pub FailsToPut : Waiting → Waiting → Bool → Option (List ℕ) → Option (List ℕ) → List ℕ → Type 0 → (InputFault → Type 0) → RunFault → Type 0
-FailsToPut before after failed old new text Asks IsRefused (WriteFailed written) = StoppedShort before.out failed old new (before.held ++ text) written
-FailsToPut before after failed old new text Asks IsRefused OutOfMemory = (after ≡ before) × (new ≡ old) × Asks
-FailsToPut before after failed old new text Asks IsRefused (Input fault) = (after ≡ before) × (new ≡ old) × IsRefused fault
-FailsToPut before after failed old new text Asks IsRefused _ = ⊥
+FailsToPut before after failed old new text Asks Refuses (WriteFailed written) = StoppedShort before.out failed old new (before.held ++ text) written
+FailsToPut before after failed old new text Asks Refuses OutOfMemory = (after ≡ before) × (new ≡ old) × Asks
+FailsToPut before after failed old new text Asks Refuses (Input fault) = (after ≡ before) × (new ≡ old) × Refuses fault
+FailsToPut before after failed old new text Asks Refuses _ = ⊥
 
--- of the calls of the sink none was in vain, but the last one where it failed: it is not called again then, and none is called with nothing
-abbrev pub VainlyFails : ℕ → ℕ → RunFault → Type 0
-VainlyFails old new (WriteFailed written) = new ≡ old + 1
-VainlyFails old new _ = new ≡ old
+-- of the calls of the sink none was in vain, and none failed, but the last one where writing failed: it is not called again then, and none
+-- is called with nothing
+abbrev pub SinkFails : ℕ → ℕ → Bool → Bool → RunFault → Type 0
+SinkFails vain vain2 failed failed2 (WriteFailed written) = (vain2 ≡ vain + 1) × (failed2 ≡ true)
+SinkFails vain vain2 failed failed2 _ = (vain2 ≡ vain) × (failed2 ≡ failed)

@@ -20,16 +20,16 @@ use Rattle.ucl_answers.specs.declared.row.Found.{Found}
 use Rattle.ucl_answers.specs.declared.row.Found.TheVariants.{Nothing, One, More}
 use Rattle.ucl_answers.specs.declared.row.Fields.{Fields}
 
-abbrev pub state_of : Stand → State
-state_of StartField = st.StartField
-state_of InField = st.InField
-state_of InQuoted = st.InQuoted
-state_of AfterQuote = st.AfterQuote
+abbrev pub csv_state_of : Stand → State
+csv_state_of StartField = st.StartField
+csv_state_of InField = st.InField
+csv_state_of InQuoted = st.InQuoted
+csv_state_of AfterQuote = st.AfterQuote
 
 -- the state and the action that a byte makes
 abbrev pub made : ℕ → Deed → State × Action
-made b (Copy stand) = (state_of stand, act.Copy)
-made b (Skip stand) = (state_of stand, act.Skip)
+made b (Copy stand) = (csv_state_of stand, act.Copy)
+made b (Skip stand) = (csv_state_of stand, act.Skip)
 made b EndField = (st.StartField, act.EndField)
 made b EndRecord = (after_end term.CRLF b, act.EndRecord)
 
@@ -43,15 +43,15 @@ field_in f = drop (last_end 0 f.ends.items) f.bytes.items
 
 -- what the reading of a record becomes by a deed
 abbrev pub after_deed : Deed → ℕ → Row → List ℕ → List ℕ → Option Read
-after_deed (Copy stand) b fields field rest = next_record default_config (state_of stand) fields (field ++ b ∷ []) rest
-after_deed (Skip stand) b fields field rest = next_record default_config (state_of stand) fields field rest
+after_deed (Copy stand) b fields field rest = next_record default_config (csv_state_of stand) fields (field ++ b ∷ []) rest
+after_deed (Skip stand) b fields field rest = next_record default_config (csv_state_of stand) fields field rest
 after_deed EndField b fields field rest = next_record default_config st.StartField (fields ++ field ∷ []) [] rest
 after_deed EndRecord b fields field rest = Some (fields ++ field ∷ [], after_end term.CRLF b, rest)
 
 -- the reading from where it stands: of a record that has ended by a byte, or of one at hand
 abbrev pub read_on : Option Stand → ℕ → Row → List ℕ → List ℕ → Option Read
 read_on None b fields field rest = Some (fields, after_end term.CRLF b, rest)
-read_on (Some stand) b fields field rest = next_record default_config (state_of stand) fields field rest
+read_on (Some stand) b fields field rest = next_record default_config (csv_state_of stand) fields field rest
 
 -- whether the byte at the front of a text begins a row
 abbrev pub begins_row : List ℕ → Bool

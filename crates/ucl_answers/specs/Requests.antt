@@ -8,16 +8,16 @@ use Rattle.ucl_answers.specs.Rows.{Said, Nothing, Garbled, Row}
 use Rattle.ucl_answers.specs.declared.request.Request.{Request}
 use Rattle.ucl_answers.specs.declared.request.Request.TheVariants.{Bad, Event, Screen, Words}
 
-abbrev pub or_bad : Option NightEvent → Request
-or_bad None = Bad
-or_bad (Some event) = Event event
+abbrev pub event_or_bad : Option NightEvent → Request
+event_or_bad None = Bad
+event_or_bad (Some event) = Event event
 
 -- `screen,,,` and `words,,,`, or else an event
 unfoldable pub asked_by : FourFields → Request
 asked_by f =
     if (length f.second == 0) && (length f.third == 0) && (length f.fourth == 0)
     then (if bytes_eq f.first (codes "screen") then Screen else (if bytes_eq f.first (codes "words") then Words else Bad))
-    else or_bad (event_of f)
+    else event_or_bad (event_of f)
 
 abbrev pub request_of : Said → Request
 request_of Nothing = Bad

@@ -11,7 +11,7 @@ use Rattle.ucl_answers.specs.Rows.{Said, Nothing, Garbled, Row}
 use Rattle.ucl_answers.specs.declared.request.Request.{Request}
 use Rattle.ucl_answers.specs.declared.request.Request.TheVariants.{Bad, Event, Screen, Words}
 use Rattle.ucl_answers.specs.Requests.{request_of}
-use Rattle.ucl_answers.specs.WordsRead.{read_words}
+use Rattle.ucl_screen.specs.WordsRead.{read_words}
 
 -- the clubs are named, fewer than four so far; then, where a board was written down, its words are given, fewer than twelve so far;
 -- then the board is open. An evening whose clubs or words have a fault is refused
@@ -43,9 +43,9 @@ with_roster clubs (Some slot) = Refused (BadRoster slot)
 abbrev pub with_clubs : List NamedClub → Stage
 with_clubs clubs = if length clubs == 4 then with_roster clubs (bad_slot clubs) else Naming clubs
 
-abbrev pub with_club : ℕ → List NamedClub → Option NamedClub → Stage
-with_club row clubs None = bad_row row
-with_club row clubs (Some club) = with_clubs (clubs ++ club ∷ [])
+abbrev pub after_club : ℕ → List NamedClub → Option NamedClub → Stage
+after_club row clubs None = bad_row row
+after_club row clubs (Some club) = with_clubs (clubs ++ club ∷ [])
 
 -- ---- words
 
@@ -62,9 +62,9 @@ restored clubs (Err index) = Refused (BadWordAt index)
 abbrev pub with_words : List NamedClub → List ℕ → Stage
 with_words clubs words = if length words == 12 then restored clubs (read_words 1 words) else Restoring clubs words
 
-abbrev pub with_word : ℕ → List NamedClub → List ℕ → Option ℕ → Stage
-with_word row clubs words None = bad_row row
-with_word row clubs words (Some word) = with_words clubs (words ++ word ∷ [])
+abbrev pub after_word : ℕ → List NamedClub → List ℕ → Option ℕ → Stage
+after_word row clubs words None = bad_row row
+after_word row clubs words (Some word) = with_words clubs (words ++ word ∷ [])
 
 abbrev pub is_word_row : Said → Bool
 is_word_row (Row f) = bytes_eq f.first (codes "word")
@@ -90,8 +90,8 @@ opened (Refused fault) said = Refused fault
 
 -- the stage after a row with this number
 abbrev pub after_row : ℕ → Stage → Said → Stage
-after_row row (Naming clubs) said = with_club row clubs (club_said (length clubs + 1) said)
-after_row row (Restoring clubs words) said = with_word row clubs words (word_said (length words + 1) said)
+after_row row (Naming clubs) said = after_club row clubs (club_said (length clubs + 1) said)
+after_row row (Restoring clubs words) said = after_word row clubs words (word_said (length words + 1) said)
 after_row row (Open clubs board) said = Open clubs (next_board board (request_of said))
 after_row row (Refused fault) said = Refused fault
 

@@ -6,6 +6,7 @@ use Rattle.ucl_word.specs.Rules.{reply_of}
 use Rattle.ucl_board.specs.Words.{game_at}
 use Rattle.ucl_screen.specs.declared.fault.InputFault.{InputFault}
 use Rattle.ucl_screen.specs.declared.fault.InputFault.TheVariants.{ReadFailed}
+use Rattle.ucl_screen.specs.declared.fault.InputFault.TheVariants as input
 use Rattle.ucl_runs.specs.declared.fault.RunFault.{RunFault}
 use Rattle.ucl_runs.specs.declared.fault.RunFault.TheVariants.{Input, OutOfMemory, WriteFailed}
 use Rattle.ucl_runs.specs.Run.{StoppedShort}
@@ -16,6 +17,7 @@ use Rattle.ucl_answers.specs.declared.options.Format.TheVariants.{Json}
 use Rattle.ucl_answers.specs.declared.options.Options.{Options}
 use Rattle.ucl_answers.specs.declared.request.Request.{Request}
 use Rattle.ucl_answers.specs.declared.request.Request.TheVariants.{Bad, Event, Screen, Words}
+use Rattle.ucl_answers.specs.declared.wire.Wire.{Wire}
 use Rattle.ucl_answers.specs.Lines.{begun_line, ended_lines, last_lines}
 use Rattle.ucl_answers.specs.Rows.{Said, Nothing, Garbled, Row, said_on}
 use Rattle.ucl_answers.specs.Requests.{request_of}
@@ -52,13 +54,13 @@ missing_at m = missing (ended_at m).row (ended_at m).stage
 
 -- ---- want of memory
 
--- whether the answer to a request asks for memory: in JSON each does, and as text screens and words do
+-- whether the answer to a request asks for memory: in JSON each does, and as text screens alone
 abbrev pub AsksOf : Options → List ℕ → Request → Type 0
 AsksOf options board (Event event) =
     (options.format ≡ Json) ⊎ ((options.screens ≡ true) × (is_ok (reply_of (game_at board event.call.game) event.call) ≡ true))
 AsksOf options board Bad = options.format ≡ Json
 AsksOf options board Screen = ⊤
-AsksOf options board Words = ⊤
+AsksOf options board Words = options.format ≡ Json
 
 -- a club's name asks for memory, and a word does not
 abbrev pub AsksAt : Options → Stage → Request → Type 0
@@ -78,38 +80,86 @@ LineAsks m = AsksForMemory m.evening (said_on m.evening.row m.begun)
 
 -- ---- refusals
 
-abbrev pub IsRefusedAt : Stage → InputFault → Type 0
-IsRefusedAt stage fault = stage ≡ Refused fault
+abbrev pub StageIsRefused : Stage → InputFault → Type 0
+StageIsRefused stage fault = stage ≡ Refused fault
 
-abbrev pub IsRefused : Evening → InputFault → Type 0
-IsRefused e fault = e.stage ≡ Refused fault
+abbrev pub EveningIsRefused : Evening → InputFault → Type 0
+EveningIsRefused e fault = e.stage ≡ Refused fault
 
 abbrev pub NeverRefused : InputFault → Type 0
 NeverRefused fault = ⊥
 
 -- ---- a step
 
--- the figures of a run: how many bytes it has read and written, and what of the text waits for the sink
-pub record IsAt (m : Moment) (read written : ℕ) (live : Live) : Type 0 where
-  pub evening : evening_seen live.evening ≡ m.evening
-  pub begun : live.desk.line.items ≡ m.begun
-  pub read_is : live.read ≡ min read (2 ^ 64 - 1)
-  pub written_is : live.desk.page.out ≡ min written (2 ^ 64 - 1)
+-- how far a run is: at which moment of its evening, and after how many bytes that it has read and written
+pub record Reached : Type 0 where
+  pub moment : Moment
+  pub read : ℕ
+  pub written : ℕ
+
+-- before its first byte
+abbrev pub unread : Evening → Reached
+unread start = record { moment = begins start; read = 0; written = 0 }
+
+-- once it has taken these bytes, and given the answers to all their lines that have an end
+abbrev pub reached : Evening → List ℕ → Reached
+reached start bytes = record { moment = moment_after (begins start) bytes; read = length bytes; written = length (answers_to (begins start) bytes) }
+
+-- the value is that of a run that is so far, with its figures, and nothing waits for the sink
+pub record IsAt (at : Reached) (live : Live) : Type 0 where
+  pub evening : evening_seen live.evening ≡ at.moment.evening
+  pub begun : live.desk.line.items ≡ at.moment.begun
+  pub read_is : live.read ≡ min at.read (2 ^ 64 - 1)
+  pub written_is : live.desk.page.out ≡ min at.written (2 ^ 64 - 1)
   pub waiting : live.desk.page.held ≡ []
 
--- an evening began here, when the sink had taken `first`; it has taken these bytes since, and the sink has taken the answers to all
--- their lines that have an end, and nothing else
-pub record IsPrompt (start : Evening) (first : Option (List ℕ)) (live : Live) (taken : Option (List ℕ)) (bytes : List ℕ) : Type 0 where
-  pub at : IsAt (moment_after (begins start) bytes) (length bytes) (length (answers_to (begins start) bytes)) live
-  pub answered : Appends first taken (answers_to (begins start) bytes)
+-- what came before: where an evening began, what the sink had taken then, and which bytes the evening has taken since
+pub record Past : Type 0 where
+  pub start : Evening
+  pub first : Option (List ℕ)
+  pub bytes : List ℕ
 
--- an evening that was prompt is prompt again after a call that took bytes; at the end of the input a last line without an end is
--- answered too, and no club or word is missing
-abbrev pub StaysPrompt : Evening → Option (List ℕ) → List ℕ → Option (List ℕ) → Option (List ℕ) → Option (List ℕ) → Progress → Type 0
-StaysPrompt start first before left left2 taken2 (Took live) = (bytes : List ℕ) × Consumes left left2 bytes × (bytes ≡ [] → ⊥) × IsPrompt start first live taken2 (before ++ bytes)
-StaysPrompt start first before left left2 taken2 Ended =
-    let m = moment_after (begins start) before in
-    IsAtEnd left × Appends first taken2 (answers_to (begins start) before ++ last_answers m) × (missing_at m ≡ None)
+-- with these bytes more
+abbrev pub past_with : Past → List ℕ → Past
+past_with past more = record { start = past.start; first = past.first; bytes = past.bytes ++ more }
+
+-- the run is where these bytes bring it, and the sink has taken the answers to all their lines that have an end, and nothing else
+pub record IsPrompt (past : Past) (live : Live) (taken : Option (List ℕ)) : Type 0 where
+  pub at : IsAt (reached past.start past.bytes) live
+  pub answered : Appends past.first taken (answers_to (begins past.start) past.bytes)
+
+-- a device for both ways as a run leaves it: what its source has left and its sink has taken, where these are known, and which has failed
+pub record Device : Type 0 where
+  pub left : Option (List ℕ)
+  pub source_failed : Bool
+  pub taken : Option (List ℕ)
+  pub sink_failed : Bool
+
+abbrev pub device : {S W : Type 0} → (S → Option (List ℕ)) → (S → Bool) → (W → Option (List ℕ)) → (W → Bool) → Wire S W → Device
+device left source_failed taken sink_failed wire = record {
+  left = left wire.source;
+  source_failed = source_failed wire.source;
+  taken = taken wire.sink;
+  sink_failed = sink_failed wire.sink;
+}
+
+-- it took bytes, and is prompt again
+pub record IsPromptAgain (past : Past) (old new : Device) (live : Live) : Type 0 where
+  pub bytes : List ℕ
+  pub consumed : Consumes old.left new.left bytes
+  pub some : bytes ≡ [] → ⊥
+  pub prompt : IsPrompt (past_with past bytes) live new.taken
+
+-- its input has ended: a last line without an end is answered too, and no club or word is missing
+pub record HasEndedPromptly (past : Past) (old new : Device) : Type 0 where
+  pub at_end : IsAtEnd old.left
+  pub out : Appends past.first new.taken (answers_to (begins past.start) past.bytes ++ last_answers (moment_after (begins past.start) past.bytes))
+  pub complete : missing_at (moment_after (begins past.start) past.bytes) ≡ None
+
+-- so an evening that was prompt stays prompt
+abbrev pub StaysPrompt : Past → Device → Device → Progress → Type 0
+StaysPrompt past old new (Took live) = IsPromptAgain past old new live
+StaysPrompt past old new Ended = HasEndedPromptly past old new
 
 -- P holds of the evening that goes on
 abbrev pub IfTook : (Live → Type 0) → Progress → Type 0
@@ -117,6 +167,14 @@ IfTook P (Took live) = P live
 IfTook P Ended = ⊤
 
 -- ---- what is left where a run fails
+
+-- the faults of an evening: of its input, of its output, and want of memory, which is not told as a fault of the input
+abbrev pub IsOfEvening : RunFault → Type 0
+IsOfEvening (Input input.OutOfMemory) = ⊥
+IsOfEvening (Input fault) = ⊤
+IsOfEvening OutOfMemory = ⊤
+IsOfEvening (WriteFailed written) = ⊤
+IsOfEvening _ = ⊥
 
 -- the source had no byte left, and gave none
 abbrev pub HasEnded : Option (List ℕ) → Type 0
@@ -127,40 +185,47 @@ abbrev pub IsTextOf : Moment → List ℕ → Option (List ℕ) → List ℕ →
 IsTextOf m bytes left2 text =
     (text ≡ answers_to m bytes) ⊎ (HasEnded left2 × (text ≡ answers_to m bytes ++ last_answers (moment_after m bytes)))
 
+-- the sink failed in it, and the number of all bytes that went out is told
+pub record WriteFails (at : Reached) (bytes : List ℕ) (old new : Device) (count : ℕ) : Type 0 where
+  pub text : List ℕ
+  pub text_is : IsTextOf at.moment bytes new.left text
+  pub stopped : StoppedShort (min at.written (2 ^ 64 - 1)) new.sink_failed old.taken new.taken text count
+
 -- the bytes end a line here, or are at their end
 abbrev pub EndsLine : List ℕ → Option (List ℕ) → Type 0
 EndsLine rest left2 = ((more : List ℕ) × (rest ≡ 10 ∷ more)) ⊎ ((rest ≡ []) × HasEnded left2)
 
 -- a line was not answered, for which there was no memory: it asks for some, and those before it were answered, whole
-pub record RanOut (m : Moment) (bytes : List ℕ) (left2 taken taken2 : Option (List ℕ)) : Type 0 where
+pub record RanOut (at : Reached) (bytes : List ℕ) (old new : Device) : Type 0 where
   pub front : List ℕ
   pub rest : List ℕ
   pub parts : bytes ≡ front ++ rest
-  pub out : Appends taken taken2 (answers_to m front)
-  pub line : EndsLine rest left2
-  pub asks : LineAsks (moment_after m front)
+  pub out : Appends old.taken new.taken (answers_to at.moment front)
+  pub line : EndsLine rest new.left
+  pub asks : LineAsks (moment_after at.moment front)
 
--- the source failed, after so many bytes: all lines that have an end were answered
-pub record ReadFails (m : Moment) (read : ℕ) (failed : Bool) (bytes : List ℕ) (taken taken2 : Option (List ℕ)) (fault : InputFault) : Type 0 where
-  pub failed_is : failed ≡ true
-  pub told : fault ≡ ReadFailed (min (read + length bytes) (2 ^ 64 - 1))
-  pub out : Appends taken taken2 (answers_to m bytes)
+-- the source failed, and the number of bytes that came before is told: all lines that have an end were answered
+pub record ReadFails (at : Reached) (bytes : List ℕ) (old new : Device) (fault : InputFault) : Type 0 where
+  pub failed_is : new.source_failed ≡ true
+  pub told : fault ≡ ReadFailed (min (at.read + length bytes) (2 ^ 64 - 1))
+  pub out : Appends old.taken new.taken (answers_to at.moment bytes)
 
 -- the evening is refused, by the bytes that were taken or by their end, and nothing was answered
-pub record IsTurnedAway (m : Moment) (failed : Bool) (bytes : List ℕ) (left2 taken taken2 : Option (List ℕ)) (fault : InputFault) : Type 0 where
-  pub failed_is : failed ≡ false
-  pub refused : IsRefused (moment_after m bytes).evening fault ⊎ (HasEnded left2 × (missing_at (moment_after m bytes) ≡ Some fault))
-  pub out : Appends taken taken2 []
+pub record IsTurnedAway (at : Reached) (bytes : List ℕ) (old new : Device) (fault : InputFault) : Type 0 where
+  pub failed_is : new.source_failed ≡ false
+  pub refused :
+      EveningIsRefused (moment_after at.moment bytes).evening fault ⊎ (HasEnded new.left × (missing_at (moment_after at.moment bytes) ≡ Some fault))
+  pub out : Appends old.taken new.taken []
 
--- a run that was at this moment, and had read and written so many bytes, fails after these
-abbrev pub FailsAfter : Moment → ℕ → ℕ → Bool → Bool → List ℕ → Option (List ℕ) → Option (List ℕ) → Option (List ℕ) → RunFault → Type 0
-FailsAfter m read written source_failed sink_failed bytes left2 taken taken2 (Input fault) =
-    ReadFails m read source_failed bytes taken taken2 fault ⊎ IsTurnedAway m source_failed bytes left2 taken taken2 fault
-FailsAfter m read written source_failed sink_failed bytes left2 taken taken2 (WriteFailed count) =
-    (text : List ℕ) × IsTextOf m bytes left2 text × StoppedShort (min written (2 ^ 64 - 1)) sink_failed taken taken2 text count
-FailsAfter m read written source_failed sink_failed bytes left2 taken taken2 OutOfMemory = RanOut m bytes left2 taken taken2
-FailsAfter m read written source_failed sink_failed bytes left2 taken taken2 _ = ⊥
+-- why a run that was so far fails once it has taken these bytes
+abbrev pub FailsAfter : Reached → List ℕ → Device → Device → RunFault → Type 0
+FailsAfter at bytes old new (Input fault) = ReadFails at bytes old new fault ⊎ IsTurnedAway at bytes old new fault
+FailsAfter at bytes old new (WriteFailed count) = WriteFails at bytes old new count
+FailsAfter at bytes old new OutOfMemory = RanOut at bytes old new
+FailsAfter at bytes old new _ = ⊥
 
-abbrev pub Fails : Moment → ℕ → ℕ → Bool → Bool → Option (List ℕ) → Option (List ℕ) → Option (List ℕ) → Option (List ℕ) → RunFault → Type 0
-Fails m read written source_failed sink_failed left left2 taken taken2 fault =
-    (bytes : List ℕ) × Consumes left left2 bytes × FailsAfter m read written source_failed sink_failed bytes left2 taken taken2 fault
+-- which bytes it has taken, and why it fails
+pub record Fails (at : Reached) (old new : Device) (fault : RunFault) : Type 0 where
+  pub bytes : List ℕ
+  pub consumed : Consumes old.left new.left bytes
+  pub why : FailsAfter at bytes old new fault

@@ -11,7 +11,7 @@ use Rattle.ucl_answers.specs.declared.live.Live.{Live}
 use Rattle.ucl_answers.specs.Output.{HasPut, Waiting}
 use Rattle.ucl_answers.specs.Seen.{evening_seen}
 use Rattle.ucl_answers.specs.Text.{Evening}
-use Rattle.ucl_answers.specs.Stepping.{Fails, IsRefused, LineAsks, Moment, answers_to, begins, last_answers, missing_at, moment_after}
+use Rattle.ucl_answers.specs.Stepping.{Device, EveningIsRefused, Fails, LineAsks, Moment, answers_to, begins, last_answers, missing_at, moment_after, unread}
 
 abbrev pub moment_of : Held → Desk → Moment
 moment_of e desk = record { evening = evening_seen e; begun = desk.line.items }
@@ -28,8 +28,8 @@ live_row live = live.evening.row
 abbrev pub live_waiting : Live → Waiting
 live_waiting live = live.desk.page
 
-abbrev pub begun_in : Live → List ℕ
-begun_in live = live.desk.line.items
+abbrev pub line_begun_in : Live → List ℕ
+line_begun_in live = live.desk.line.items
 
 abbrev pub read_by : Live → ℕ
 read_by live = live.read
@@ -46,7 +46,7 @@ pub record LeavesLine (m : Moment) (bytes : List ℕ) (before after : Waiting) (
 abbrev pub FailsToTake : Moment → List ℕ → Waiting → Waiting → Bool → Option (List ℕ) → Option (List ℕ) → RunFault → Type 0
 FailsToTake m bytes before after failed old new (WriteFailed written) = StoppedShort before.out failed old new (before.held ++ answers_to m bytes) written
 FailsToTake m bytes before after failed old new OutOfMemory = LeavesLine m bytes before after old new
-FailsToTake m bytes before after failed old new (Input fault) = HasPut before after old new [] × IsRefused (moment_after m bytes).evening fault
+FailsToTake m bytes before after failed old new (Input fault) = HasPut before after old new [] × EveningIsRefused (moment_after m bytes).evening fault
 FailsToTake m bytes before after failed old new _ = ⊥
 
 -- the same, once the answers before were given to the sink
@@ -60,7 +60,7 @@ pub record GaveBefore (m : Moment) (bytes : List ℕ) (old new : Option (List �
 abbrev pub FailsToGive : Moment → List ℕ → ℕ → Bool → Option (List ℕ) → Option (List ℕ) → RunFault → Type 0
 FailsToGive m bytes out failed old new (WriteFailed written) = StoppedShort out failed old new (answers_to m bytes) written
 FailsToGive m bytes out failed old new OutOfMemory = GaveBefore m bytes old new
-FailsToGive m bytes out failed old new (Input fault) = Appends old new [] × IsRefused (moment_after m bytes).evening fault
+FailsToGive m bytes out failed old new (Input fault) = Appends old new [] × EveningIsRefused (moment_after m bytes).evening fault
 FailsToGive m bytes out failed old new _ = ⊥
 
 -- at the end of the input
@@ -70,8 +70,13 @@ FailsToEnd m out failed old new OutOfMemory = Appends old new [] × LineAsks m
 FailsToEnd m out failed old new (Input fault) = Appends old new [] × (missing_at m ≡ Some fault)
 FailsToEnd m out failed old new _ = ⊥
 
+-- more bytes than any evening has
+pub record IsTooLong (start : Evening) (old new : Device) : Type 0 where
+  pub bytes : List ℕ
+  pub consumed : Consumes old.left new.left bytes
+  pub long : 2 ^ 62 < length bytes
+  pub out : Appends old.taken new.taken (answers_to (begins start) bytes)
+
 -- a whole run fails: in a step; or after more bytes than any evening has
-abbrev pub RunFails : Evening → Bool → Bool → Option (List ℕ) → Option (List ℕ) → Option (List ℕ) → Option (List ℕ) → RunFault → Type 0
-RunFails start source_failed sink_failed left left2 taken taken2 fault =
-    Fails (begins start) 0 0 source_failed sink_failed left left2 taken taken2 fault
-    ⊎ ((fault ≡ Input TooLong) × (bytes : List ℕ) × (2 ^ 62 < length bytes) × Consumes left left2 bytes × Appends taken taken2 (answers_to (begins start) bytes))
+abbrev pub RunFails : Evening → Device → Device → RunFault → Type 0
+RunFails start old new fault = Fails (unread start) old new fault ⊎ ((fault ≡ Input TooLong) × IsTooLong start old new)

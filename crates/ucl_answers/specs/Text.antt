@@ -33,10 +33,13 @@ start_of options = record { options = options; row = 1; stage = Naming [] }
 
 -- ---- single answers, each in its format
 
--- the reply to an event of a match, where so many events were accepted before
-abbrev pub reply_answer : Format → ℕ → ℕ → ℕ → Result Accepted Refusal → List ℕ
-reply_answer Text row game before reply = line_of_reply row game before reply
-reply_answer Json row game before reply = json_line (reply_value row game before reply)
+-- the reply to an event of a match, where so many events were accepted before; in JSON an accepted event's has the board after it
+abbrev pub reply_in : Format → Options → ℕ → List NamedClub → ℕ → ℕ → Result Accepted Refusal → List ℕ → List ℕ
+reply_in Text options row clubs game before reply board = line_of_reply row game before reply
+reply_in Json options row clubs game before reply board = json_line (reply_value row game reply options.profile board clubs options.group)
+
+abbrev pub reply_answer : Options → ℕ → List NamedClub → ℕ → ℕ → Result Accepted Refusal → List ℕ → List ℕ
+reply_answer options row clubs game before reply board = reply_in options.format options row clubs game before reply board
 
 abbrev pub bad_line : ℕ → List ℕ
 bad_line row = decimal row ++ codes " refused 20 bad-row\n"
@@ -70,7 +73,8 @@ screen_after options row clubs (Err refusal) board = []
 abbrev pub event_answer : Options → ℕ → List NamedClub → List ℕ → NightEvent → List ℕ
 event_answer options row clubs board event =
     let reply = reply_of (game_at board event.call.game) event.call in
-    reply_answer options.format row event.call.game (version_of board) reply ++ screen_after options row clubs reply (next_board board (Event event))
+    let after = next_board board (Event event) in
+    reply_answer options row clubs event.call.game (version_of board) reply after ++ screen_after options row clubs reply after
 
 abbrev pub answer_of : Options → ℕ → List NamedClub → List ℕ → Request → List ℕ
 answer_of options row clubs board (Event event) = event_answer options row clubs board event
@@ -86,10 +90,10 @@ answer_at options row (Restoring clubs words) request = []
 answer_at options row (Refused fault) request = []
 
 -- the answer to what a line says
-abbrev pub answer : Evening → Said → List ℕ
-answer e Nothing = []
-answer e Garbled = answer_at e.options e.row (opened e.stage Garbled) (request_of Garbled)
-answer e (Row f) = answer_at e.options e.row (opened e.stage (Row f)) (request_of (Row f))
+abbrev pub answer_said : Evening → Said → List ℕ
+answer_said e Nothing = []
+answer_said e Garbled = answer_at e.options e.row (opened e.stage Garbled) (request_of Garbled)
+answer_said e (Row f) = answer_at e.options e.row (opened e.stage (Row f)) (request_of (Row f))
 
 abbrev pub next : Evening → Said → Evening
 next e said = record { options = e.options; row = e.row + 1; stage = next_stage e.row e.stage said }
@@ -98,7 +102,7 @@ next e said = record { options = e.options; row = e.row + 1; stage = next_stage 
 
 unfoldable pub answers : Evening → List (List ℕ) → List ℕ
 answers e [] = []
-answers e (line ∷ lines) = answer e (said_on e.row line) ++ answers (next e (said_on e.row line)) lines
+answers e (line ∷ lines) = answer_said e (said_on e.row line) ++ answers (next e (said_on e.row line)) lines
 
 -- the evening after lines
 unfoldable pub after_lines : Evening → List (List ℕ) → Evening

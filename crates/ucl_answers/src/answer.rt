@@ -7,16 +7,14 @@ ghost use Rattle.ucl_screen.specs.Screen.{IsGroup};
 ghost use Rattle.ucl_runs.specs.Feed.{line_of_reply};
 ghost use Rattle.ucl_runs.specs.Lines.{accepted_line, refused_line};
 ghost use Rattle.ucl_answers.specs.Seen.{bytes_of};
-ghost use Rattle.ucl_answers.specs.Text.{bad_answer, bad_line, reply_answer, screen_answer, words_answer};
+ghost use Rattle.ucl_answers.specs.Text.{bad_answer, bad_line, reply_answer, screen_answer};
 
 use crate::options::{Format, Options};
 use crate::stage::Table;
-use crate::words::words_text;
 use arrayvec::ArrayString;
 use itoa::Buffer;
 use std::alloc::{AllocError, Global};
-use ucl_board::Board;
-use ucl_json::{bad_row_json, reply_json, screen_json, words_json};
+use ucl_json::{bad_row_json, reply_json, screen_json};
 use ucl_runs::RunFault;
 use ucl_screen::screen;
 use ucl_word::{Accepted, Refusal};
@@ -113,22 +111,33 @@ fn reply_line(row: u64, game: u8, before: u16, reply: Result<Accepted, Refusal>)
     }
 }
 
-/// The reply to an event of a match, where so many events were accepted before.
+/// The reply to an event of a match, where so many events were accepted before, and the table is that after it.
 pub(crate) fn reply_answer(
     alloc: Global,
-    format: Format,
+    options: &Options,
     row: u64,
     game: u8,
     before: u16,
     reply: Result<Accepted, Refusal>,
+    after: &Table,
 ) -> Result<Answer, AllocError>
     requires { before < 2 ^ 16 - 1 }
-    ensures text { IfOk result (λ answer. bytes_of answer ≡ reply_answer format row game before reply) }
-    ensures memory { IfErr result (λ _. format ≡ Format.Json) }
+    ensures text { IfOk result (λ answer. bytes_of answer
+        ≡ reply_answer options.now row after.now.roster game before reply after.now.board) }
+    ensures memory { IfErr result (λ _. options.now.format ≡ Format.Json) }
 {
-    match format {
+    match options.format {
         Format::Text => Ok(Answer::Short(reply_line(row, game, before, reply))),
-        Format::Json => Ok(Answer::Long(reply_json(alloc, row, game, before, reply)?)),
+        Format::Json => Ok(Answer::Long(reply_json(
+            alloc,
+            row,
+            game,
+            reply,
+            &after.board,
+            &after.roster,
+            options.group,
+            options.profile,
+        )?)),
     }
 }
 
@@ -169,22 +178,6 @@ pub(crate) fn screen_answer(
             options.group,
             options.profile,
         )?,
-    };
-    Ok(Answer::Long(text))
-}
-
-/// The words of a board.
-pub(crate) fn words_answer(
-    alloc: Global,
-    format: Format,
-    row: u64,
-    board: &Board,
-) -> Result<Answer, AllocError>
-    ensures { IfOk result (λ answer. bytes_of answer ≡ words_answer format row board.now) }
-{
-    let text = match format {
-        Format::Text => words_text(alloc, board)?,
-        Format::Json => words_json(alloc, row, board)?,
     };
     Ok(Answer::Long(text))
 }

@@ -3,12 +3,12 @@
 ghost use Rattle.std.specs.Prelude.{◌≡◌, ◌-◌, ◌^◌, ◌+◌, ◌<◌, ◌≤◌, ◌++◌, [], ◌∷◌, length, option_map, IfErr, IfOk, OnOk};
 ghost use Rattle.csv.specs.Records.{Rising};
 ghost use Rattle.ucl_answers.specs.Lines.{longer};
-ghost use Rattle.ucl_answers.specs.Output.{FailsToPut, HasPut, VainlyFails};
+ghost use Rattle.ucl_answers.specs.Output.{FailsToPut, HasPut, SinkFails};
 ghost use Rattle.ucl_answers.specs.Reading.{fields_in, said_in};
 ghost use Rattle.ucl_answers.specs.Rows.{fits, said_by_text, said_on};
 ghost use Rattle.ucl_answers.specs.Seen.{evening_seen};
-ghost use Rattle.ucl_answers.specs.Stepping.{AsksForMemory, IsRefused};
-ghost use Rattle.ucl_answers.specs.Text.{answer, next};
+ghost use Rattle.ucl_answers.specs.Stepping.{AsksForMemory, EveningIsRefused};
+ghost use Rattle.ucl_answers.specs.Text.{answer_said, next};
 
 use crate::evening::Evening;
 use crate::page::Page;
@@ -96,12 +96,13 @@ impl Desk {
         requires row { evening.row < 2 ^ 64 - 1 }
         ensures next { IfOk result (λ after. evening_seen after ≡ next (evening_seen evening) (said_on evening.row self.old.line.items)) }
         ensures begun { OnOk result (self.new.line.items ≡ []) }
-        ensures put { OnOk result (HasPut self.old.page self.new.page (W.taken sink.old) (W.taken sink.new) (answer (evening_seen evening) (said_on evening.row self.old.line.items))) }
+        ensures put { OnOk result (HasPut self.old.page self.new.page (W.taken sink.old) (W.taken sink.new) (answer_said (evening_seen evening) (said_on evening.row self.old.line.items))) }
         ensures sound { OnOk result (W.failed sink.new ≡ W.failed sink.old) }
         ensures vain { OnOk result (W.in_vain sink.new ≡ W.in_vain sink.old) }
-        ensures fails { IfErr result (FailsToPut self.old.page self.new.page (W.failed sink.new) (W.taken sink.old) (W.taken sink.new) (answer (evening_seen evening) (said_on evening.row self.old.line.items)) (AsksForMemory (evening_seen evening) (said_on evening.row self.old.line.items)) (IsRefused (next (evening_seen evening) (said_on evening.row self.old.line.items)))) }
-        ensures fails_vainly { IfErr result
-            (VainlyFails (W.in_vain sink.old) (W.in_vain sink.new)) }
+        ensures fails { IfErr result (FailsToPut self.old.page self.new.page (W.failed sink.new) (W.taken sink.old) (W.taken sink.new) (answer_said (evening_seen evening) (said_on evening.row self.old.line.items)) (AsksForMemory (evening_seen evening) (said_on evening.row self.old.line.items)) (EveningIsRefused (next (evening_seen evening) (said_on evening.row self.old.line.items)))) }
+        ensures sink_fails { IfErr result (SinkFails
+            (W.in_vain sink.old) (W.in_vain sink.new)
+            (W.failed sink.old) (W.failed sink.new)) }
     {
         let _written = self.page.written();
         self.line.push(b'\n');

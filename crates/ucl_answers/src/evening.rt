@@ -2,13 +2,13 @@
 
 ghost use Rattle.std.specs.Prelude.{◌≡◌, ◌+◌, ◌-◌, ◌^◌, ◌<◌, IfErr, IfOk, OnOk, option_map};
 ghost use Rattle.ucl_screen.specs.Rows.{four_seen};
-ghost use Rattle.ucl_answers.specs.Output.{FailsToPut, HasPut, VainlyFails};
+ghost use Rattle.ucl_answers.specs.Output.{FailsToPut, HasPut, SinkFails};
 ghost use Rattle.ucl_answers.specs.Rows.{Nothing, of_row};
 ghost use Rattle.ucl_answers.specs.Requests.{request_of};
 ghost use Rattle.ucl_answers.specs.Seen.{evening_seen, stage_seen};
 ghost use Rattle.ucl_answers.specs.Stages.{after_row};
-ghost use Rattle.ucl_answers.specs.Stepping.{AsksAt, AsksForMemory, IsRefused, IsRefusedAt};
-ghost use Rattle.ucl_answers.specs.Text.{answer, answer_at, next};
+ghost use Rattle.ucl_answers.specs.Stepping.{AsksAt, AsksForMemory, EveningIsRefused, StageIsRefused};
+ghost use Rattle.ucl_answers.specs.Text.{answer_said, answer_at, next};
 
 use crate::options::Options;
 use crate::page::Page;
@@ -41,8 +41,10 @@ fn after_row<W: Sink>(
     ensures put { OnOk result (HasPut page.old page.new (W.taken sink.old) (W.taken sink.new) (answer_at options.now row (stage_seen stage) (request_of (of_row (option_map four_seen said.now))))) }
     ensures sound { OnOk result (W.failed sink.new ≡ W.failed sink.old) }
     ensures vain { OnOk result (W.in_vain sink.new ≡ W.in_vain sink.old) }
-    ensures fails { IfErr result (FailsToPut page.old page.new (W.failed sink.new) (W.taken sink.old) (W.taken sink.new) (answer_at options.now row (stage_seen stage) (request_of (of_row (option_map four_seen said.now)))) (AsksAt options.now (stage_seen stage) (request_of (of_row (option_map four_seen said.now)))) (IsRefusedAt (after_row row (stage_seen stage) (of_row (option_map four_seen said.now))))) }
-    ensures fails_vainly { IfErr result (VainlyFails (W.in_vain sink.old) (W.in_vain sink.new)) }
+    ensures fails { IfErr result (FailsToPut page.old page.new (W.failed sink.new) (W.taken sink.old) (W.taken sink.new) (answer_at options.now row (stage_seen stage) (request_of (of_row (option_map four_seen said.now)))) (AsksAt options.now (stage_seen stage) (request_of (of_row (option_map four_seen said.now)))) (StageIsRefused (after_row row (stage_seen stage) (of_row (option_map four_seen said.now))))) }
+    ensures sink_fails { IfErr result (SinkFails
+        (W.in_vain sink.old) (W.in_vain sink.new)
+        (W.failed sink.old) (W.failed sink.new)) }
 {
     let _written = page.written();
     match stage {
@@ -79,12 +81,13 @@ impl Evening {
     ) -> Result<Evening, RunFault>
         requires { self.row < 2 ^ 64 - 1 }
         ensures next { IfOk result (λ after. evening_seen after ≡ next (evening_seen self) (of_row (option_map four_seen said.now))) }
-        ensures put { OnOk result (HasPut page.old page.new (W.taken sink.old) (W.taken sink.new) (answer (evening_seen self) (of_row (option_map four_seen said.now)))) }
+        ensures put { OnOk result (HasPut page.old page.new (W.taken sink.old) (W.taken sink.new) (answer_said (evening_seen self) (of_row (option_map four_seen said.now)))) }
         ensures sound { OnOk result (W.failed sink.new ≡ W.failed sink.old) }
         ensures vain { OnOk result (W.in_vain sink.new ≡ W.in_vain sink.old) }
-        ensures fails { IfErr result (FailsToPut page.old page.new (W.failed sink.new) (W.taken sink.old) (W.taken sink.new) (answer (evening_seen self) (of_row (option_map four_seen said.now))) (AsksForMemory (evening_seen self) (of_row (option_map four_seen said.now))) (IsRefused (next (evening_seen self) (of_row (option_map four_seen said.now))))) }
-        ensures fails_vainly { IfErr result
-            (VainlyFails (W.in_vain sink.old) (W.in_vain sink.new)) }
+        ensures fails { IfErr result (FailsToPut page.old page.new (W.failed sink.new) (W.taken sink.old) (W.taken sink.new) (answer_said (evening_seen self) (of_row (option_map four_seen said.now))) (AsksForMemory (evening_seen self) (of_row (option_map four_seen said.now))) (EveningIsRefused (next (evening_seen self) (of_row (option_map four_seen said.now))))) }
+        ensures sink_fails { IfErr result (SinkFails
+            (W.in_vain sink.old) (W.in_vain sink.new)
+            (W.failed sink.old) (W.failed sink.new)) }
     {
         let Evening {
             options,

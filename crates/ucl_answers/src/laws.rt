@@ -1,6 +1,6 @@
 //! What holds of all evenings. The functions do nothing: they are there for their contracts.
 
-ghost use Rattle.ucl_answers.specs.Laws.{BeginningsAreAnswered, BoardsTakeEvents, EveningsAreSequential, RefusedEveningsAreSilent, RepliesAreThoseOfFeed};
+ghost use Rattle.ucl_answers.specs.Laws.{BeginningsAreAnswered, BoardsTakeEvents, EveningsAreSequential, FirstRowsOpenTheBoard, JsonAnswersAreLines, RefusedEveningsAreSilent, RepliesAreThoseOfFeed};
 
 /// The text of a longer input begins with the text of any beginning of it that ends with a line, and goes on as the text of the rest, from
 /// where the evening stood.
@@ -14,9 +14,21 @@ pub fn boards_take_events()
     ensures { BoardsTakeEvents }
 {}
 
-/// After any lines of an evening that opened on the board of no event, the board is that of the legal history of the accepted events.
+/// After any lines of an evening that opened on the board of a legal history, the history with the accepted events is legal and the board
+/// is its board; each reply that went out is the reply of the board of one thread, and each screen the text of the order of its board, after
+/// the events that were accepted in the lines before. So it is as text and in JSON, from the board of no event and from words.
 pub fn evenings_are_sequential()
     ensures { EveningsAreSequential }
+{}
+
+/// The first row after the clubs that is not that of a word is answered on the open board of no event, and so is all that comes after it.
+pub fn first_rows_open_the_board()
+    ensures { FirstRowsOpenTheBoard }
+{}
+
+/// In JSON the answers are the lines of values, and none of these has a line feed but its last byte.
+pub fn json_answers_are_lines()
+    ensures { JsonAnswersAreLines }
 {}
 
 /// On the board of a legal history each reply is the line that `feed` writes after this history.

@@ -21,8 +21,10 @@ mod words;
 pub use asked::Asked;
 pub use laws::{
     beginnings_are_answered, boards_take_events, evenings_are_sequential,
-    refused_evenings_are_silent, replies_are_those_of_feed,
+    first_rows_open_the_board, json_answers_are_lines, refused_evenings_are_silent,
+    replies_are_those_of_feed,
 };
 pub use live::{Live, Progress, live_run};
 pub use options::{Format, Options};
 pub use wire::Wire;
+pub use words::{Lines, word_lines};

@@ -1,13 +1,14 @@
 //! An evening, and its steps.
 
-ghost use Rattle.std.specs.Prelude.{◌≡◌, ◌↔◌, IsTrue, ℕ, ◌+◌, ◌-◌, ◌^◌, ◌<◌, ◌≤◌, ◌++◌, List, [], ◌∷◌, None, Option, false, length, IfErr, IfOk, OnOk, IfSome};
+ghost use Rattle.std.specs.Prelude.{◌≡◌, ◌↔◌, IsTrue, ℕ, ◌+◌, ◌-◌, ◌^◌, ◌<◌, ◌≤◌, ◌++◌, [], ◌∷◌, None, length, IfErr, IfOk, OnOk, IfSome};
 ghost use Rattle.std.specs.Io.KnownBytes.{Appends};
-ghost use Rattle.ucl_answers.specs.Output.{FailsToPut, HasPut, VainlyFails};
-ghost use Rattle.ucl_answers.specs.Text.{Evening as AnEvening, live_text, missing_after, start_of};
-ghost use Rattle.ucl_answers.specs.Stepping.{Fails, IfTook, IsAt, IsPrompt, IsRefused, LineAsks, StaysPrompt, answers_to, begins, ended_at, last_answers, missing_at, moment_after};
+ghost use Rattle.ucl_answers.specs.Output.{FailsToPut, HasPut, SinkFails};
+ghost use Rattle.ucl_runs.specs.Run.{is_read_failed};
+ghost use Rattle.ucl_answers.specs.Text.{live_text, missing_after, start_of};
+ghost use Rattle.ucl_answers.specs.Stepping.{EveningIsRefused, Fails, IfTook, IsAt, IsOfEvening, IsPrompt, LineAsks, Past, StaysPrompt, answers_to, begins, device, ended_at, last_answers, missing_at, moment_after, reached, unread};
 ghost use Rattle.ucl_answers.specs.Seen.{evening_seen};
 ghost use Rattle.ucl_answers.specs.Wires.{AskedMore, IsAnsweredSoFar};
-ghost use Rattle.ucl_answers.specs.Taking.{FailsToEnd, FailsToGive, FailsToTake, RunFails, begun_in, held_row, live_moment, live_row, live_waiting, moment_of};
+ghost use Rattle.ucl_answers.specs.Taking.{FailsToEnd, FailsToGive, FailsToTake, RunFails, line_begun_in, held_row, live_moment, live_row, live_waiting, moment_of};
 
 use crate::desk::Desk;
 use crate::evening::Evening;
@@ -59,7 +60,9 @@ fn enter_byte<W: Sink>(
     ensures sound { OnOk result (W.failed sink.new ≡ W.failed sink.old) }
     ensures vain { OnOk result (W.in_vain sink.new ≡ W.in_vain sink.old) }
     ensures fails { IfErr result (FailsToTake (moment_of evening desk.old) (b ∷ []) desk.old.page desk.new.page (W.failed sink.new) (W.taken sink.old) (W.taken sink.new)) }
-    ensures fails_vainly { IfErr result (VainlyFails (W.in_vain sink.old) (W.in_vain sink.new)) }
+    ensures sink_fails { IfErr result (SinkFails
+        (W.in_vain sink.old) (W.in_vain sink.new)
+        (W.failed sink.old) (W.failed sink.new)) }
 {
     let _written = desk.page.written();
     if b == b'\n' {
@@ -86,7 +89,9 @@ fn enter<W: Sink>(
     ensures sound { OnOk result (W.failed sink.new ≡ W.failed sink.old) }
     ensures vain { OnOk result (W.in_vain sink.new ≡ W.in_vain sink.old) }
     ensures fails { IfErr result (FailsToTake (moment_of evening desk.old) bytes.now desk.old.page desk.new.page (W.failed sink.new) (W.taken sink.old) (W.taken sink.new)) }
-    ensures fails_vainly { IfErr result (VainlyFails (W.in_vain sink.old) (W.in_vain sink.new)) }
+    ensures sink_fails { IfErr result (SinkFails
+        (W.in_vain sink.old) (W.in_vain sink.new)
+        (W.failed sink.old) (W.failed sink.new)) }
 {
     let _written = desk.page.written();
     let mut evening = evening;
@@ -123,7 +128,9 @@ fn take_in<W: Sink>(
     ensures sound { OnOk result (W.failed sink.new ≡ W.failed sink.old) }
     ensures vain { OnOk result (W.in_vain sink.new ≡ W.in_vain sink.old) }
     ensures fails { IfErr result (FailsToGive (moment_of evening desk.old) bytes.now desk.old.page.out (W.failed sink.new) (W.taken sink.old) (W.taken sink.new)) }
-    ensures fails_vainly { IfErr result (VainlyFails (W.in_vain sink.old) (W.in_vain sink.new)) }
+    ensures sink_fails { IfErr result (SinkFails
+        (W.in_vain sink.old) (W.in_vain sink.new)
+        (W.failed sink.old) (W.failed sink.new)) }
 {
     match enter(alloc, evening, desk, bytes, sink) {
         Ok(after) => {
@@ -153,8 +160,10 @@ fn answer_last<W: Sink>(
     ensures put { OnOk result (HasPut desk.old.page desk.new.page (W.taken sink.old) (W.taken sink.new) (last_answers (moment_of evening desk.old))) }
     ensures sound { OnOk result (W.failed sink.new ≡ W.failed sink.old) }
     ensures vain { OnOk result (W.in_vain sink.new ≡ W.in_vain sink.old) }
-    ensures fails { IfErr result (FailsToPut desk.old.page desk.new.page (W.failed sink.new) (W.taken sink.old) (W.taken sink.new) (last_answers (moment_of evening desk.old)) (LineAsks (moment_of evening desk.old)) (IsRefused (ended_at (moment_of evening desk.old)))) }
-    ensures fails_vainly { IfErr result (VainlyFails (W.in_vain sink.old) (W.in_vain sink.new)) }
+    ensures fails { IfErr result (FailsToPut desk.old.page desk.new.page (W.failed sink.new) (W.taken sink.old) (W.taken sink.new) (last_answers (moment_of evening desk.old)) (LineAsks (moment_of evening desk.old)) (EveningIsRefused (ended_at (moment_of evening desk.old)))) }
+    ensures sink_fails { IfErr result (SinkFails
+        (W.in_vain sink.old) (W.in_vain sink.new)
+        (W.failed sink.old) (W.failed sink.new)) }
 {
     let _written = desk.page.written();
     if desk.line.is_empty() {
@@ -178,7 +187,9 @@ fn end<W: Sink>(
     ensures sound { OnOk result (W.failed sink.new ≡ W.failed sink.old) }
     ensures vain { OnOk result (W.in_vain sink.new ≡ W.in_vain sink.old) }
     ensures fails { IfErr result (FailsToEnd (moment_of evening desk.old) desk.old.page.out (W.failed sink.new) (W.taken sink.old) (W.taken sink.new)) }
-    ensures fails_vainly { IfErr result (VainlyFails (W.in_vain sink.old) (W.in_vain sink.new)) }
+    ensures sink_fails { IfErr result (SinkFails
+        (W.in_vain sink.old) (W.in_vain sink.new)
+        (W.failed sink.old) (W.failed sink.new)) }
 {
     let after = answer_last(alloc, evening, desk, sink)?;
     match after.stage.missing(after.row) {
@@ -191,7 +202,7 @@ impl Live {
     /// An evening before its first byte.
     pub fn new(options: Options) -> Live
         ensures moment { live_moment result ≡ begins (start_of options) }
-        ensures figures { IsAt (begins (start_of options)) 0 0 result }
+        ensures figures { IsAt (unread (start_of options)) result }
     {
         Live {
             evening: Evening {
@@ -213,7 +224,7 @@ impl Live {
     ///
     /// Where the source fails, the answers before are out. Where the sink fails, a first part of the answers is out, and how many bytes
     /// went out since the start is told. Where there is no memory for the answer to a line, those before it are out, whole; only a line
-    /// that names a club, that asks for the screen or the words, an accepted event which the screen follows, and any line in JSON, ask for
+    /// that names a club, that asks for the screen, an accepted event which the screen follows, and any line in JSON, ask for
     /// memory. Where the clubs or the words have a fault, nothing is out. The evening is over then.
     pub fn step<S: Source, W: Sink>(
         self,
@@ -223,7 +234,7 @@ impl Live {
     ) -> Result<Progress, RunFault>
         requires room { 0 < length piece.old }
         requires few { live_row self + length piece.old < 2 ^ 64 }
-        requires short { length (begun_in self) ≤ 258 }
+        requires short { length (line_begun_in self) ≤ 258 }
         requires waiting { (live_waiting self).held ≡ [] }
         ensures asked { wire.new.asked.times
             ≡ wire.old.asked.times ++ (wire.old.source, wire.old.sink) ∷ [] }
@@ -231,18 +242,24 @@ impl Live {
         ensures vain { S.in_vain wire.new.source ≤ S.in_vain wire.old.source + 1 }
         ensures moved { IfOk result
             (IfTook (λ _. S.in_vain wire.new.source ≡ S.in_vain wire.old.source)) }
-        ensures sound { OnOk result (S.failed wire.new.source ≡ false) }
+        ensures read_failed { S.failed wire.new.source ≡ is_read_failed result }
+        ensures kinds { IfErr result IsOfEvening }
         ensures sink_sound { OnOk result (W.failed wire.new.sink ≡ W.failed wire.old.sink) }
         ensures sink_vain { OnOk result (W.in_vain wire.new.sink ≡ W.in_vain wire.old.sink) }
-        ensures fails_vainly { IfErr result
-            (VainlyFails (W.in_vain wire.old.sink) (W.in_vain wire.new.sink)) }
-        ensures prompt { (start : AnEvening) (first : Option (List ℕ)) (before : List ℕ) → IsPrompt start first self (W.taken wire.old.sink) before
-            → IfOk result (StaysPrompt start first before (S.left wire.old.source) (S.left wire.new.source) (W.taken wire.new.sink)) }
-        ensures short { IfOk result (IfTook (λ live. length (begun_in live) ≤ 258)) }
+        ensures sink_fails { IfErr result (SinkFails
+            (W.in_vain wire.old.sink) (W.in_vain wire.new.sink)
+            (W.failed wire.old.sink) (W.failed wire.new.sink)) }
+        ensures prompt { (past : Past) → IsPrompt past self (W.taken wire.old.sink)
+            → IfOk result (StaysPrompt past
+            (device S.left S.failed W.taken W.failed wire.old)
+            (device S.left S.failed W.taken W.failed wire.new)) }
+        ensures short { IfOk result (IfTook (λ live. length (line_begun_in live) ≤ 258)) }
         ensures waiting { IfOk result (IfTook (λ live. (live_waiting live).held ≡ [])) }
         ensures row { IfOk result (IfTook (λ live. live_row live ≤ live_row self + length piece.old)) }
-        ensures fails { (start : AnEvening) (first : Option (List ℕ)) (before : List ℕ) → IsPrompt start first self (W.taken wire.old.sink) before
-            → IfErr result (Fails (moment_after (begins start) before) (length before) (length (answers_to (begins start) before)) (S.failed wire.new.source) (W.failed wire.new.sink) (S.left wire.old.source) (S.left wire.new.source) (W.taken wire.old.sink) (W.taken wire.new.sink)) }
+        ensures fails { (past : Past) → IsPrompt past self (W.taken wire.old.sink)
+            → IfErr result (Fails (reached past.start past.bytes)
+            (device S.left S.failed W.taken W.failed wire.old)
+            (device S.left S.failed W.taken W.failed wire.new)) }
     {
         let Live {
             evening,
@@ -283,8 +300,10 @@ pub fn live_run<S: Source, W: Sink>(
 ) -> Result<(), RunFault>
     ensures text { OnOk result (IfSome (S.left wire.old.source) (λ bytes. Appends (W.taken wire.old.sink) (W.taken wire.new.sink) (live_text (start_of options) bytes))) }
     ensures complete { OnOk result (IfSome (S.left wire.old.source) (λ bytes. missing_after (start_of options) bytes ≡ None)) }
-    ensures sound { OnOk result (S.failed wire.new.source ≡ false) }
-    ensures sink_sound { OnOk result (W.failed wire.new.sink ≡ W.failed wire.old.sink) }
+
+    // A failed read is answered exactly where the source has failed. Want of memory is not answered as a fault of the input.
+    ensures read_failed { S.failed wire.new.source ≡ is_read_failed result }
+    ensures kinds { IfErr result IsOfEvening }
 
     // Each time that bytes were asked for, also in a run that failed, the answers to all lines that had an end by then were out.
     ensures prompt { AskedMore wire.old.asked.times wire.new.asked.times
@@ -295,12 +314,17 @@ pub fn live_run<S: Source, W: Sink>(
     // A source that has failed, or told the end, is not called again.
     ensures vain { S.in_vain wire.new.source ≤ S.in_vain wire.old.source + 1 }
 
-    // A sink that has failed is not called again, and none is called with nothing.
+    // A failed write is answered exactly where the sink has failed, which is not called again then; and it is not called with nothing.
+    ensures sink_sound { OnOk result (W.failed wire.new.sink ≡ W.failed wire.old.sink) }
     ensures sink_vain { OnOk result (W.in_vain wire.new.sink ≡ W.in_vain wire.old.sink) }
-    ensures fails_vainly { IfErr result
-        (VainlyFails (W.in_vain wire.old.sink) (W.in_vain wire.new.sink)) }
+    ensures sink_fails { IfErr result (SinkFails
+        (W.in_vain wire.old.sink) (W.in_vain wire.new.sink)
+        (W.failed wire.old.sink) (W.failed wire.new.sink)) }
 
-    ensures fails { IfErr result (RunFails (start_of options) (S.failed wire.new.source) (W.failed wire.new.sink) (S.left wire.old.source) (S.left wire.new.source) (W.taken wire.old.sink) (W.taken wire.new.sink)) }
+    // Why it fails, and what is out then.
+    ensures fails { IfErr result (RunFails (start_of options)
+        (device S.left S.failed W.taken W.failed wire.old)
+        (device S.left S.failed W.taken W.failed wire.new)) }
 {
     let mut live = Live::new(options);
     let mut piece = [0; PIECE];

@@ -7,7 +7,7 @@ ghost use Rattle.csv.specs.Records.{Rising};
 ghost use Rattle.csv.specs.declared.parser.State.{State};
 ghost use Rattle.csv.specs.declared.parser.State.TheVariants as st;
 ghost use Rattle.ucl_screen.specs.Rows.{four_of, four_seen};
-ghost use Rattle.ucl_answers.specs.Reading.{AreFound, IsBehindEnds, after_deed, field_in, fields_in, made, read_on, state_of};
+ghost use Rattle.ucl_answers.specs.Reading.{AreFound, IsBehindEnds, after_deed, field_in, fields_in, made, read_on, csv_state_of};
 
 use arrayvec::ArrayVec;
 use ucl_screen::Four;
@@ -53,7 +53,7 @@ pub(crate) enum Found {
 
 /// What a byte does.
 fn deed_of(stand: Stand, b: u8) -> Deed
-    ensures { step default_config (state_of stand) b ≡ made b result }
+    ensures { step default_config (csv_state_of stand) b ≡ made b result }
 {
     match stand {
         Stand::InQuoted if b == b'"' => Deed::Skip(Stand::AfterQuote),

@@ -4,7 +4,7 @@ ghost use Rattle.std.specs.Prelude.{◌≡◌, ◌+◌, ◌-◌, ◌^◌, ◌<�
 ghost use Rattle.ucl_order.specs.Roster.{bad_slot, club_seen};
 ghost use Rattle.ucl_screen.specs.Rows.{four_seen};
 ghost use Rattle.ucl_answers.specs.Rows.{of_row};
-ghost use Rattle.ucl_answers.specs.Stages.{Restoring, club_said, is_word_row, missing, opened, told_row, with_club, with_clubs, with_roster, with_word, with_words, word_said};
+ghost use Rattle.ucl_answers.specs.Stages.{Restoring, club_said, is_word_row, missing, opened, told_row, after_club, with_clubs, with_roster, after_word, with_words, word_said};
 ghost use Rattle.ucl_answers.specs.Seen.{Becomes, BecomesIfMemory, clubs_seen, stage_seen};
 
 use crate::some_words::SomeWords;
@@ -139,7 +139,7 @@ pub(crate) fn with_club(
     clubs: Clubs,
     said: &Option<Four<'_>>,
 ) -> Result<Stage, RunFault>
-    ensures { BecomesIfMemory (with_club row (clubs_seen clubs) (club_said (length (clubs_seen clubs) + 1) (of_row (option_map four_seen said.now)))) result }
+    ensures { BecomesIfMemory (after_club row (clubs_seen clubs) (club_said (length (clubs_seen clubs) + 1) (of_row (option_map four_seen said.now)))) result }
 {
     match club_said(alloc, clubs.next_slot(), said)? {
         None => Err(RunFault::Input(bad_row(row))),
@@ -167,7 +167,7 @@ impl SomeWords {
 
     /// The stage after a row with this number that has to give a word.
     pub(crate) fn with_row(self, row: u64, said: &Option<Four<'_>>) -> Result<Stage, RunFault>
-        ensures { Becomes (with_word row self.roster self.words.items (word_said (length self.words.items + 1) (of_row (option_map four_seen said.now)))) result }
+        ensures { Becomes (after_word row self.roster self.words.items (word_said (length self.words.items + 1) (of_row (option_map four_seen said.now)))) result }
     {
         let game = self.words.len() as u8 + 1;
         match word_said(game, said) {

@@ -1,20 +1,51 @@
 //! The answers of an open board.
 
 ghost use Rattle.std.specs.Prelude.{◌≡◌, IfErr, IfOk, OnOk};
-ghost use Rattle.ucl_answers.specs.Output.{FailsToPut, HasPut, VainlyFails};
+ghost use Rattle.ucl_answers.specs.Output.{FailsToPut, HasPut, SinkFails};
 ghost use Rattle.ucl_answers.specs.Stages.{next_board};
 ghost use Rattle.ucl_answers.specs.Stepping.{AsksOf, NeverRefused};
-ghost use Rattle.ucl_answers.specs.Text.{answer_of, event_answer};
+ghost use Rattle.ucl_answers.specs.Text.{answer_of, event_answer, words_answer};
+ghost use Rattle.ucl_answers.specs.declared.options.Format.TheVariants.{Json};
 ghost use Rattle.ucl_answers.specs.declared.request.Request.TheVariants.{Event};
 
-use crate::answer::{bad_answer, reply_answer, screen_answer, words_answer};
-use crate::options::Options;
+use crate::answer::{bad_answer, reply_answer, screen_answer};
+use crate::options::{Format, Options};
 use crate::page::Page;
 use crate::request::Request;
 use crate::stage::Table;
+use crate::words::word_lines;
 use std::alloc::Global;
+use ucl_board::Board;
+use ucl_json::words_json;
 use ucl_runs::RunFault;
 use ucl_screen::{NightEvent, Sink};
+
+/// Puts the words of a board.
+#[tactic(auto, using(crate::proofs::Puts::put_fails, crate::proofs::Puts::vain_fails))]
+fn put_words<W: Sink>(
+    alloc: Global,
+    format: Format,
+    row: u64,
+    board: &Board,
+    page: &mut Page,
+    sink: &mut W,
+) -> Result<(), RunFault>
+    ensures put { OnOk result (HasPut page.old page.new
+        (W.taken sink.old) (W.taken sink.new) (words_answer format row board.now)) }
+    ensures sound { OnOk result (W.failed sink.new ≡ W.failed sink.old) }
+    ensures vain { OnOk result (W.in_vain sink.new ≡ W.in_vain sink.old) }
+    ensures fails { IfErr result (FailsToPut page.old page.new
+        (W.failed sink.new) (W.taken sink.old) (W.taken sink.new)
+        (words_answer format row board.now) (format ≡ Json) NeverRefused) }
+    ensures sink_fails { IfErr result (SinkFails
+        (W.in_vain sink.old) (W.in_vain sink.new)
+        (W.failed sink.old) (W.failed sink.new)) }
+{
+    match format {
+        Format::Text => page.put(sink, word_lines(board).as_slice()),
+        Format::Json => page.put(sink, words_json(alloc, row, board)?.as_bytes()),
+    }
+}
 
 impl Table {
     /// Enters an event, and answers it.
@@ -34,18 +65,19 @@ impl Table {
         ensures sound { OnOk result (W.failed sink.new ≡ W.failed sink.old) }
         ensures vain { OnOk result (W.in_vain sink.new ≡ W.in_vain sink.old) }
         ensures fails { IfErr result (FailsToPut page.old page.new (W.failed sink.new) (W.taken sink.old) (W.taken sink.new) (event_answer options.now row self.roster self.board event.now) (AsksOf options.now self.board (Event event.now)) NeverRefused) }
-        ensures fails_vainly { IfErr result
-            (VainlyFails (W.in_vain sink.old) (W.in_vain sink.new)) }
+        ensures sink_fails { IfErr result (SinkFails
+            (W.in_vain sink.old) (W.in_vain sink.new)
+            (W.failed sink.old) (W.failed sink.new)) }
     {
         let before = self.board.version();
         let mut board = self.board;
         let reply = board.report(event.reporter, &event.call);
         let game = event.call.game.get();
-        let line = reply_answer(alloc, options.format, row, game, before, reply)?;
         let after = Table {
             roster: self.roster,
             board,
         };
+        let line = reply_answer(alloc, options, row, game, before, reply, &after)?;
         if options.screens && reply.is_ok() {
             let screen = screen_answer(alloc, options, row, &after)?;
             page.put_both(sink, line.bytes(), screen.bytes())?;
@@ -72,8 +104,9 @@ impl Table {
         ensures sound { OnOk result (W.failed sink.new ≡ W.failed sink.old) }
         ensures vain { OnOk result (W.in_vain sink.new ≡ W.in_vain sink.old) }
         ensures fails { IfErr result (FailsToPut page.old page.new (W.failed sink.new) (W.taken sink.old) (W.taken sink.new) (answer_of options.now row self.roster self.board request.now) (AsksOf options.now self.board request.now) NeverRefused) }
-        ensures fails_vainly { IfErr result
-            (VainlyFails (W.in_vain sink.old) (W.in_vain sink.new)) }
+        ensures sink_fails { IfErr result (SinkFails
+            (W.in_vain sink.old) (W.in_vain sink.new)
+            (W.failed sink.old) (W.failed sink.new)) }
     {
         let answer = match request {
             Request::Event(event) => {
@@ -81,7 +114,10 @@ impl Table {
             }
             Request::Bad => bad_answer(alloc, options.format, row)?,
             Request::Screen => screen_answer(alloc, options, row, &self)?,
-            Request::Words => words_answer(alloc, options.format, row, &self.board)?,
+            Request::Words => {
+                put_words(alloc, options.format, row, &self.board, page, sink)?;
+                return Ok(self);
+            }
         };
         page.put(sink, answer.bytes())?;
         Ok(self)

@@ -1,16 +1,14 @@
 //! What the words of the command line ask for.
 
 use crate::live_subject::LiveSubject;
-use crate::locked_words::LockedSubject;
 use crate::nights::{Plan, Style};
 use crate::one_thread::{Chunks, measure_read, measure_report};
-use crate::plain_table::PlainTable;
 use crate::plain_words::PlainSubject;
 use crate::starts::measure_nights;
 use crate::subject::Subject;
 use crate::tables::{
-    OurTable, Rounds, Table, boards_of, measure_screens, measure_standings, print_screens,
-    print_standings,
+    OurTable, ReadTable, Rounds, Table, boards_of, measure_screens, measure_standings,
+    print_screens, print_standings,
 };
 use anyhow::{Context, Result};
 use std::alloc::Global;
@@ -26,9 +24,8 @@ use ucl_words::WordBoard;
 const LIST: &str = "word_board read report mix-R-W paced-R-W night
 cell_board read report mix-R-W paced-R-W night
 plain_words read report mix-R-W paced-R-W night
-locked_words read report mix-R-W paced-R-W night
-our_table standings screen
-plain_table standings screen
+table standings screen
+read_table standings screen
 ";
 
 /// What words there are.
@@ -110,7 +107,6 @@ fn calls_of<R: Wait + Clock>(
         "word_board" => measure_calls::<LiveSubject<WordBoard>, R>(rt, alloc, calls, millis),
         "cell_board" => measure_calls::<LiveSubject<CellBoard>, R>(rt, alloc, calls, millis),
         "plain_words" => measure_calls::<PlainSubject, R>(rt, alloc, calls, millis),
-        "locked_words" => measure_calls::<LockedSubject, R>(rt, alloc, calls, millis),
         _ => anyhow::bail!("no such subject"),
     }
 }
@@ -163,8 +159,8 @@ fn check<R: Print + Files + AllocGlobal>(rt: &R, alloc: Global, words: &[String]
     let name = word_at(words, 3);
     let boards = boards_in(rt, alloc, word_at(words, 4))?;
     match word_at(words, 2) {
-        "our_table" => print_table::<OurTable, R>(rt, alloc, name, &boards),
-        "plain_table" => print_table::<PlainTable, R>(rt, alloc, name, &boards),
+        "table" => print_table::<OurTable, R>(rt, alloc, name, &boards),
+        "read_table" => print_table::<ReadTable, R>(rt, alloc, name, &boards),
         _ => anyhow::bail!("no such subject"),
     }
 }
@@ -183,14 +179,14 @@ fn run_workload<R: Print + Files + AllocGlobal + Threads + Wait + Clock + Copy +
         .context("how many milliseconds?")?;
     let head = format!(in alloc; "{{\"board\":\"{subject}\",\"workload\":\"{name}\",")?;
     match subject {
-        "our_table" => {
+        "table" => {
             let boards = boards_in(&rt, alloc, word_at(words, 5))?;
             let rounds = measure_table::<OurTable, R>(&rt, alloc, name, millis, &boards)?;
             println!(&rt; "{head}{rounds}}}")?;
         }
-        "plain_table" => {
+        "read_table" => {
             let boards = boards_in(&rt, alloc, word_at(words, 5))?;
-            let rounds = measure_table::<PlainTable, R>(&rt, alloc, name, millis, &boards)?;
+            let rounds = measure_table::<ReadTable, R>(&rt, alloc, name, millis, &boards)?;
             println!(&rt; "{head}{rounds}}}")?;
         }
         _ => match workload_of(name).context("no such workload")? {

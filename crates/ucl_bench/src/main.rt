@@ -1,15 +1,13 @@
-//! Measures the boards and the table, beside plain references in the same program: `ucl_bench list` prints what can be measured,
+//! Measures the boards and the table, beside a double collect with no proof in the same program: `ucl_bench list` prints what can be measured,
 //! `ucl_bench run SUBJECT WORKLOAD MS [FILE]` measures for about so many milliseconds and prints one line of JSON, and
-//! `ucl_bench check SUBJECT standings|screen FILE` prints the rows, or the screens, of the boards of a file.
+//! `ucl_bench check table standings|screen FILE` prints the rows, or the screens, of the boards of a file.
 #![tactic(auto)]
 
 mod clock;
 mod command;
 mod live_subject;
-mod locked_words;
 mod nights;
 mod one_thread;
-mod plain_table;
 mod plain_words;
 mod starts;
 mod subject;

@@ -140,7 +140,7 @@ impl PlainWords {
 }
 
 /// The sum of the event numbers.
-pub fn version_of(words: &[u64; 12]) -> u16 {
+fn version_of(words: &[u64; 12]) -> u16 {
     let mut version = 0u64;
     for word in words {
         version = version.wrapping_add(*word & NUMBER);
@@ -194,7 +194,7 @@ fn changed(word: u64, kind: Kind) -> Result<u64, Refusal> {
 
 /// The word after an event, or why the event is refused. As a call it would hand its answer on through memory.
 #[inline(always)]
-pub fn next_word(word: u64, reporter: u8, call: &EventCall) -> Result<u64, Refusal> {
+fn next_word(word: u64, reporter: u8, call: &EventCall) -> Result<u64, Refusal> {
     let number = number_of(word);
     let state = word & ALL_STATES;
     let kind = call.kind;

@@ -2,7 +2,6 @@
 //! the same body for each subject.
 
 use crate::live_subject::LiveSubject;
-use crate::locked_words::LockedSubject;
 use crate::nights::{Nights, Plan, Staff, enter_nights, read_nights};
 use crate::plain_words::PlainSubject;
 use anyhow::Result;
@@ -48,7 +47,6 @@ pub fn measure_nights<R: Threads + Wait + Clock + Copy + Send + 'static>(
         "word_board" => hold_nights!(LiveSubject<WordBoard>, rt, alloc, plan, millis),
         "cell_board" => hold_nights!(LiveSubject<CellBoard>, rt, alloc, plan, millis),
         "plain_words" => hold_nights!(PlainSubject, rt, alloc, plan, millis),
-        "locked_words" => hold_nights!(LockedSubject, rt, alloc, plan, millis),
         _ => anyhow::bail!("no such subject"),
     }
 }

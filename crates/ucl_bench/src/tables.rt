@@ -1,5 +1,7 @@
 //! The table and the screen of boards that a file lists.
 
+ghost use Rattle.ucl_board.specs.Fixtures.{IsSlot};
+
 use crate::clock::{Quotient, nanos, nanos_since};
 use anyhow::{Context, Result, ensure};
 use std::alloc::Global;
@@ -7,7 +9,7 @@ use std::fmt;
 use std::sync::Wait;
 use std::time::Clock;
 use ucl_board::Board;
-use ucl_order::{Club, Mark, Profile, Roster, Row, standings};
+use ucl_order::{Club, LentClub, Mark, Profile, Roster, Row, standings};
 use ucl_screen::screen;
 use ucl_word::OutOfMemory;
 
@@ -91,6 +93,47 @@ impl Table for OurTable {
 
     fn screen(alloc: Global, board: &Board, roster: &Roster) -> Result<String, OutOfMemory> {
         screen(alloc, board, roster, b'A', Profile::Uefa)
+    }
+}
+
+/// The table of words of which nothing is known, and of lent clubs: both are read anew each time, as a call of another language does.
+pub struct ReadTable;
+
+/// The club in a slot, lent.
+fn lent(roster: &Roster, slot: u8) -> LentClub<'_>
+    requires { IsSlot slot }
+{
+    LentClub {
+        name: roster.name(slot),
+        coefficient: roster.coefficient(slot),
+    }
+}
+
+/// The board and the roster, read anew. Both are good, so that this never gives nothing.
+fn read_anew(board: &Board, roster: &Roster) -> Option<(Board, Roster)> {
+    let board = Board::of_words(&board.words()).ok()?;
+    let clubs = [
+        lent(roster, 1),
+        lent(roster, 2),
+        lent(roster, 3),
+        lent(roster, 4),
+    ];
+    Some((board, Roster::of_lent(&clubs).ok()?))
+}
+
+impl Table for ReadTable {
+    fn standings(board: &Board, roster: &Roster) -> [Row; 4] {
+        match read_anew(board, roster) {
+            Some((board, roster)) => standings(&board, &roster, Profile::Uefa),
+            None => standings(board, roster, Profile::Uefa),
+        }
+    }
+
+    fn screen(alloc: Global, board: &Board, roster: &Roster) -> Result<String, OutOfMemory> {
+        match read_anew(board, roster) {
+            Some((board, roster)) => screen(alloc, &board, &roster, b'A', Profile::Uefa),
+            None => screen(alloc, board, roster, b'A', Profile::Uefa),
+        }
     }
 }
 

@@ -87,6 +87,10 @@ board_next h e game = let long = board_length h in
     (word_after (followed_by h e) e.game game ∙ sym (get_or-set_same (board_of h) (e.game - 1) _ 0 (omega arith))))
     (λ not. word_after (followed_by h e) g is ∙ (ap (λ (es : List MatchEntry). word_of (counted_match es)) (entries_else h e g not) ∙ (sym (word_after h g is) ∙ sym (get_or-set_other (board_of h) (e.game - 1) (g - 1) _ 0 (λ eq. not (omega arith)))))))
 
+-- the same by the word that is there after it
+pub board_with : (h : List Entry) (e : Entry) (next : ℕ) → IsMatch e.game → next ≡ word_at (board_of (followed_by h e)) e.game → set (board_of h) (e.game - 1) next ≡ board_of (followed_by h e)
+board_with h e next game is = ap (set (board_of h) (e.game - 1)) (is ∙ word_after (followed_by h e) e.game game) ∙ sym (board_next h e game)
+
 -- the board and the history after an accepted event
 pub next_board : (h : List Entry) (words : List ℕ) (game reporter : ℕ) (kind : Kind) (m : MatchRecord) → IsLegal h → board_of h ≡ words → IsMatch game
     → ((es : List MatchEntry) → IsLegalMatch es → counted_match es ≡ game_at words game → (m ≡ counted_match (entered es reporter kind)) × IsLegalMatch (entered es reporter kind))

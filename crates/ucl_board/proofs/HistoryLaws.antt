@@ -65,7 +65,7 @@ total : ℕ → List Entry → ℕ
 total zero h = 0
 total (suc n) h = length (entries_of (suc n) h) + total n h
 
-more : (h : List Entry) (e : Entry) (g : ℕ) → e.game ≡ g → length (entries_of g (followed_by h e)) ≡ length (entries_of g h) + 1
+pub more : (h : List Entry) (e : Entry) (g : ℕ) → e.game ≡ g → length (entries_of g (followed_by h e)) ≡ length (entries_of g h) + 1
 more h e g is = ap length (entries_same h e g is) ∙ length-append (entries_of g h) _
 
 total_same : (n : ℕ) (h : List Entry) (e : Entry) → n < e.game → total n (followed_by h e) ≡ total n h
@@ -165,34 +165,34 @@ one_word h e legal =
     }
 
 -- an accepted attempt may follow
-may_attempt : (h : List Entry) (a : Attempt) → IsLegal h → IsAttempt a → refusal_of (match_after h a.1.game) a.1.expected a.1.kind ≡ None → MayFollow h (entry_of a)
+pub may_attempt : (h : List Entry) (a : Attempt) → IsLegal h → IsAttempt a → refusal_of (match_after h a.call.game) a.call.expected a.call.kind ≡ None → MayFollow h (entry_of a.reporter a.call)
 may_attempt h a legal is none = record {
   game = is.1;
-  accepted = may_last IsAccepted (entries_of a.1.game h) (record { reporter = a.0; kind = a.1.kind })
-      (counted (entries_of a.1.game h) (match_after h a.1.game) a.0 a.1.expected a.1.kind (legal_match a.1.game h legal) refl is.0 none).1;
+  accepted = may_last IsAccepted (entries_of a.call.game h) (record { reporter = a.reporter; kind = a.call.kind })
+      (counted (entries_of a.call.game h) (match_after h a.call.game) a.reporter a.call.expected a.call.kind (legal_match a.call.game h legal) refl is.0 none).1;
 }
 
-attempt_cases : (h : List Entry) (a : Attempt) (o : Option Refusal) → refusal_of (match_after h a.1.game) a.1.expected a.1.kind ≡ o → IsLegal h → IsAttempt a
-    → IsLegal (if is_ok (answer (match_after h a.1.game).number o) then followed_by h (entry_of a) else h)
-attempt_cases h a None none legal is = may_next MayFollow h (entry_of a) legal (may_attempt h a legal is none)
+attempt_cases : (h : List Entry) (a : Attempt) (o : Option Refusal) → refusal_of (match_after h a.call.game) a.call.expected a.call.kind ≡ o → IsLegal h → IsAttempt a
+    → IsLegal (if is_ok (answer (match_after h a.call.game).number o) then followed_by h (entry_of a.reporter a.call) else h)
+attempt_cases h a None none legal is = may_next MayFollow h (entry_of a.reporter a.call) legal (may_attempt h a legal is none)
 attempt_cases h a (Some r) some legal is = legal
 
 pub attempt_legal : (h : List Entry) (a : Attempt) → IsLegal h → IsAttempt a → IsLegal (after_attempt h a)
-attempt_legal h a legal is = attempt_cases h a (refusal_of (match_after h a.1.game) a.1.expected a.1.kind) refl legal is
+attempt_legal h a legal is = attempt_cases h a (refusal_of (match_after h a.call.game) a.call.expected a.call.kind) refl legal is
 
 -- the board after an attempt is that of the history after it
-attempt_boards : (h : List Entry) (a : Attempt) (o : Option Refusal) → refusal_of (match_after h a.1.game) a.1.expected a.1.kind ≡ o → IsLegal h → IsAttempt a
-    → (if is_ok (answer (match_after h a.1.game).number o) then set (board_of h) (a.1.game - 1) (word_of (after (match_after h a.1.game) a.0 a.1.kind)) else board_of h)
-    ≡ board_of (if is_ok (answer (match_after h a.1.game).number o) then followed_by h (entry_of a) else h)
+attempt_boards : (h : List Entry) (a : Attempt) (o : Option Refusal) → refusal_of (match_after h a.call.game) a.call.expected a.call.kind ≡ o → IsLegal h → IsAttempt a
+    → (if is_ok (answer (match_after h a.call.game).number o) then set (board_of h) (a.call.game - 1) (word_of (after (match_after h a.call.game) a.reporter a.call.kind)) else board_of h)
+    ≡ board_of (if is_ok (answer (match_after h a.call.game).number o) then followed_by h (entry_of a.reporter a.call) else h)
 attempt_boards h a None none legal is =
-    (next_board h (board_of h) a.1.game a.0 a.1.kind (after (match_after h a.1.game) a.0 a.1.kind) legal refl is.1
-    (λ es legal_es is_es. counted es (match_after h a.1.game) a.0 a.1.expected a.1.kind legal_es (is_es ∙ game_after h a.1.game legal is.1) is.0 none)).0
+    (next_board h (board_of h) a.call.game a.reporter a.call.kind (after (match_after h a.call.game) a.reporter a.call.kind) legal refl is.1
+    (λ es legal_es is_es. counted es (match_after h a.call.game) a.reporter a.call.expected a.call.kind legal_es (is_es ∙ game_after h a.call.game legal is.1) is.0 none)).0
 attempt_boards h a (Some r) some legal is = refl
 
-attempt_board : (h : List Entry) (a : Attempt) → IsLegal h → IsAttempt a → board_after (board_of h) a ≡ board_of (after_attempt h a)
-attempt_board h a legal is = rw (game_after h a.1.game legal is.1) (attempt_boards h a (refusal_of (match_after h a.1.game) a.1.expected a.1.kind) refl legal is)
+pub attempt_board : (h : List Entry) (a : Attempt) → IsLegal h → IsAttempt a → board_after (board_of h) a ≡ board_of (after_attempt h a)
+attempt_board h a legal is = rw (game_after h a.call.game legal is.1) (attempt_boards h a (refusal_of (match_after h a.call.game) a.call.expected a.call.kind) refl legal is)
 
-attempts_from : (h : List Entry) (attempts : List Attempt) → IsLegal h → All IsAttempt attempts
+pub attempts_from : (h : List Entry) (attempts : List Attempt) → IsLegal h → All IsAttempt attempts
     → IsLegal (fold after_attempt h attempts) × (fold board_after (board_of h) attempts ≡ board_of (fold after_attempt h attempts))
 attempts_from h [] legal all = (legal, refl)
 attempts_from h (a ∷ attempts) legal all =

@@ -14,7 +14,7 @@ use Rattle.ucl_word.specs.Counts.{MatchEntry, counted_match, IsAccepted}
 use Rattle.ucl_board.specs.declared.entry.Entry.{Entry}
 use Rattle.ucl_board.specs.declared.reading.Reading.{Reading}
 use Rattle.ucl_board.specs.Fixtures.{match_numbers, IsMatch}
-use Rattle.ucl_board.specs.Words.{game_at}
+use Rattle.ucl_board.specs.Words.{game_at, version_of}
 
 -- an entry as one of its match alone
 abbrev pub of_match : Entry → MatchEntry
@@ -53,30 +53,39 @@ GainsEntry words e next = GainsOne IsLegal board_of e words next
 abbrev pub sequential_reply : List Entry → EventCall → Result Accepted Refusal
 sequential_reply history call = reply_of (match_after history call.game) call
 
+-- what a reading of these words tells: the words, with their version
+abbrev pub reading_of : List ℕ → Reading
+reading_of words = record { board = words; version = version_of words }
+
 -- what a reading of the board shows after the first k entries of a history
 abbrev pub snapshot_at : List Entry → ℕ → Reading
 snapshot_at history k = record { board = board_of (take k history); version = k }
 
 -- a reporter's number, and the event that the reporter enters
-abbrev pub Attempt : Type 0
-Attempt = ℕ × EventCall
+pub record Attempt : Type 0 where
+  pub reporter : ℕ
+  pub call : EventCall
+
+abbrev pub attempted : ℕ → EventCall → Attempt
+attempted reporter call = record { reporter = reporter; call = call }
 
 -- of a match and a reporter that there are
 abbrev pub IsAttempt : Attempt → Type 0
-IsAttempt a = IsReporter a.0 × IsMatch a.1.game
+IsAttempt a = IsReporter a.reporter × IsMatch a.call.game
 
 -- the board after an attempt: one word is another where the reply is no refusal
 abbrev pub board_after : List ℕ → Attempt → List ℕ
 board_after words a =
-    let m = game_at words a.1.game in
-    if is_ok (reply_of m a.1) then slice_set words (a.1.game - 1) (word_of (after m a.0 a.1.kind)) else words
+    let m = game_at words a.call.game in
+    if is_ok (reply_of m a.call) then slice_set words (a.call.game - 1) (word_of (after m a.reporter a.call.kind)) else words
 
-abbrev pub entry_of : Attempt → Entry
-entry_of a = record { game = a.1.game; reporter = a.0; kind = a.1.kind }
+-- the entry that this event of this reporter is, once it is accepted
+abbrev pub entry_of : ℕ → EventCall → Entry
+entry_of reporter call = record { game = call.game; reporter = reporter; kind = call.kind }
 
 -- the history after an attempt: longer by its entry where the reply is no refusal
 abbrev pub after_attempt : List Entry → Attempt → List Entry
-after_attempt history a = if is_ok (sequential_reply history a.1) then followed_by history (entry_of a) else history
+after_attempt history a = if is_ok (sequential_reply history a.call) then followed_by history (entry_of a.reporter a.call) else history
 
 -- the accepted entries of attempts that are made one after the other
 abbrev pub accepted_of : List Attempt → List Entry

@@ -39,13 +39,21 @@ pub record Taken : Type 0 where
 abbrev pub step_taken : Target → ℕ → Option Entry → Taken
 step_taken target at entry = record { target = target; at = at; entry = entry }
 
--- the steps of all passes, each with the seat of the pass that took it
+-- a step in the log: the seat of the pass that took it, and the step
+pub record Logged : Type 0 where
+  pub seat : ℕ
+  pub step : Taken
+
+abbrev pub logged_by : ℕ → Taken → Logged
+logged_by seat step = record { seat = seat; step = step }
+
+-- the steps of all passes
 abbrev pub Log : Type 0
-Log = List (ℕ × Taken)
+Log = List Logged
 
 -- the steps of one seat
 abbrev pub taken_by : ℕ → Log → List Taken
-taken_by seat log = map (λ x. x.1) (filter (λ x. x.0 == seat) log)
+taken_by seat log = map (λ x. x.step) (filter (λ x. x.seat == seat) log)
 
 -- the entry of a step, where it added one
 abbrev pub entry_list : Option Entry → List Entry
@@ -58,7 +66,7 @@ added_by steps = flat_map (λ x. entry_list x.entry) steps
 
 -- the history is the entries of the log
 abbrev pub history_of : Log → List Entry
-history_of log = flat_map (λ x. entry_list x.1.entry) log
+history_of log = flat_map (λ x. entry_list x.step.entry) log
 
 -- the access of a step on a match word
 abbrev pub access_list : Target → ℕ → List Access
@@ -82,10 +90,10 @@ MayAdd target None = Unit {0}
 MayAdd target (Some e) = (found : ℕ) × (target ≡ Match Swap e.game found)
 
 -- a step that may come next: it is after the whole history, whose words it found
-pub record MayBeTaken (log : Log) (x : ℕ × Taken) : Type 0 where
-  pub place : x.1.at ≡ length (history_of log)
-  pub there : IsThere (history_of log) x.1.target
-  pub adds : MayAdd x.1.target x.1.entry
+pub record MayBeTaken (log : Log) (x : Logged) : Type 0 where
+  pub place : x.step.at ≡ length (history_of log)
+  pub there : IsThere (history_of log) x.step.target
+  pub adds : MayAdd x.step.target x.step.entry
 
 -- each step comes after the whole history of the steps before it
 abbrev pub IsLog : Log → Type 0

@@ -5,7 +5,7 @@ ghost use Rattle.ucl_word.specs.Record.{IsValid};
 ghost use Rattle.ucl_word.specs.Rules.{reply_of};
 ghost use Rattle.ucl_board.specs.declared.entry.Entry.{Entry};
 ghost use Rattle.ucl_board.specs.Words.{AreWords, AreReadable, AreReadAs, IsFirstBad, game_at, greatest_version, version_of};
-ghost use Rattle.ucl_board.specs.History.{GainsEntry, IsLegal, board_of, board_after, sequential_reply, entry_of};
+ghost use Rattle.ucl_board.specs.History.{GainsEntry, IsLegal, board_of, board_after, sequential_reply, attempted, entry_of};
 
 use std::marker::Model;
 use thiserror::Error;
@@ -118,9 +118,9 @@ impl Board {
     pub fn report(&mut self, reporter: ReporterNo, call: &EventCall) -> Result<Accepted, Refusal>
         ensures reply { result ≡ reply_of (game_at self.old call.now.game) call.now }
         ensures unchanged { IfErr result (λ r. self.new ≡ self.old) }
-        ensures board { self.new ≡ board_after self.old (reporter, call.now) }
+        ensures board { self.new ≡ board_after self.old (attempted reporter call.now) }
         ensures sequential { (history : List Entry) → IsLegal history → board_of history ≡ self.old → result ≡ sequential_reply history call.now }
-        ensures counted { IfOk result (λ _. GainsEntry self.old (entry_of (reporter, call.now)) self.new) }
+        ensures counted { IfOk result (λ _. GainsEntry self.old (entry_of reporter call.now) self.new) }
     {
         let at = usize::from(call.game.get() - 1);
         match next_word(self.words[at], reporter, call.expected, call.kind) {

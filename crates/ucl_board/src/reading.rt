@@ -1,7 +1,7 @@
 //! Readings of a board.
 
 ghost use Rattle.std.specs.Prelude.{◌≡◌};
-ghost use Rattle.ucl_board.specs.Words.{version_of};
+ghost use Rattle.ucl_board.specs.History.{reading_of};
 
 use crate::board::Board;
 
@@ -17,7 +17,7 @@ pub struct Reading {
 impl Reading {
     /// The copy of this board, with its version.
     pub fn of(board: &Board) -> Reading
-        ensures { result ≡ record { board = board.now; version = version_of board.now } }
+        ensures { result ≡ reading_of board.now }
     {
         Reading {
             board: *board,

@@ -1,2 +1,4 @@
-pub mod FirstFaults
+pub mod Boards
 pub mod ScreenLength
+pub mod PlayedScripts
+pub mod ScriptClubs

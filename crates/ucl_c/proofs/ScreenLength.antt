@@ -11,9 +11,8 @@ use Rattle.std.proofs.lemmas.List.Concat.{length-flat_map}
 use Rattle.std.proofs.lemmas.List.Sums.{count_by-le-length, sum_by-le}
 use Rattle.std.proofs.lemmas.Fmt.{length-decimal-le}
 use Rattle.ucl_word.specs.Layout.{IsWord, record_at}
-use Rattle.ucl_word.proofs.FirstWords.{read_valid}
 use Rattle.ucl_word.specs.Rules.{is_in_play}
-use Rattle.ucl_board.specs.Words.{AreReadAs, AreWords, version_of}
+use Rattle.ucl_board.specs.Words.{AreWords, version_of}
 use Rattle.ucl_order.specs.declared.profile.Profile.{Profile}
 use Rattle.ucl_order.specs.declared.table.Row.{Row}
 use Rattle.ucl_order.specs.Roster.{NamedClub, IsClub, IsRoster, bad_slot, bad_slot_from, club_in, is_club, is_name, is_printed, name_of}
@@ -23,8 +22,6 @@ use Rattle.ucl_order.proofs.Limits.{rows_within}
 use Rattle.ucl_screen.specs.Lines.{header, zeros_before}
 use Rattle.ucl_screen.specs.Screen.{columns, in_play, row_line, screen_text}
 use Rattle.ucl_screen.proofs.Columns.{lines_wide}
-use Rattle.ucl_c.specs.declared.fault.Fault.TheVariants.{NotFour}
-use Rattle.ucl_c.specs.Faults.{fault_of_clubs, fault_unless, first_fault, of_slot}
 
 number_low : (word : ℕ) → (record_at word).number ≤ 4095
 unfolding record_at
@@ -99,34 +96,6 @@ module _ (profile : Profile) (board : List ℕ) (roster : List NamedClub) (words
       let whole : length (top ++ columns ++ lines) ≡ length top + length columns + length lines = simp length-append in
       omega arith
 
--- The board and the clubs of a call. --
-
-board_words : (words board : List ℕ) → AreReadAs words board → AreWords board
-board_words words board r =
-    let twelve : length board ≡ 12 = r.twelve in record {
-      twelve = r.twelve;
-      each = All-from_get_or IsWord board 0 (λ k less. let e : k + 1 - 1 ≡ k = omega arith in
-          read_valid (get_or words k 0) (get_or board k 0) (rw e at (r.each (k + 1) (omega arith, omega arith))));
-    }
-
-all_good : (slot : ℕ) (clubs : List NamedClub) → bad_slot_from slot clubs ≡ None → All IsClub clubs
-unfolding bad_slot_from
-all_good slot [] none = All-nil IsClub
-all_good slot (club ∷ clubs) none = elim (cases_Bool (is_club club)) [
-  | inl good ↦ All-cons IsClub club clubs good (all_good (slot + 1) clubs (rw good at none))
-  | inr bad ↦ absurd (let e = rw bad at none in grind (arith, e))
-]
-
-parts : (b : Bool) (slot : Option ℕ) → first_fault (fault_unless b NotFour ∷ of_slot slot ∷ []) ≡ None → (b ≡ true) × (slot ≡ None)
-parts true None e = (refl, refl)
-parts true (Some slot) e = absurd (grind (arith, e))
-parts false slot e = absurd (grind (arith, e))
-
-good_roster : (clubs : List NamedClub) → fault_of_clubs clubs ≡ None → IsRoster clubs
-good_roster clubs none =
-    let both_good = parts (length clubs == 4) (bad_slot clubs) none in
-    let four : (length clubs == 4) ≡ true = both_good.0 in record { four = grind (arith, nat_tests, four); each = all_good 1 clubs both_good.1 }
-
-pub screen_bound : (profile : Profile) (words board : List ℕ) (clubs roster : List NamedClub) (group : ℕ) (text : List ℕ)
-    → AreReadAs words board → roster ≡ clubs → fault_of_clubs clubs ≡ None → text ≡ screen_text profile board roster group → length text ≤ 296
-screen_bound profile words board clubs roster group text read same none is = rw is (rw same (screen_short profile board clubs (board_words words board read) (good_roster clubs none) group))
+pub screen_bound : (profile : Profile) (board : List ℕ) (roster : List NamedClub) (group : ℕ) (text : List ℕ)
+    → AreWords board → IsRoster roster → text ≡ screen_text profile board roster group → length text ≤ 296
+screen_bound profile board roster group text words good is = rw is (screen_short profile board roster words good group)

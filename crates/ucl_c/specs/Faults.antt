@@ -1,16 +1,22 @@
 -- Why a call is not done: which fault is told, and by what number.
-use Rattle.std.specs.Prelude.{◌≡◌, ◌≢◌, ℕ, ◌==◌, ◌&&◌, nat_le, Bool, true, false, List, [], ◌∷◌, length, Option, Some, None}
-use Rattle.ucl_board.specs.Words.{AreReadable, IsFirstBad}
+use Rattle.std.specs.Prelude.{ℕ, ◌==◌, ◌&&◌, nat_le, nat_lt, Bool, true, false, codes, List, [], ◌∷◌, length, map, Option, Some, None, Result, Ok, Err}
 use Rattle.ucl_order.specs.declared.profile.Profile.{Profile}
 use Rattle.ucl_order.specs.Roster.{NamedClub, bad_slot}
+use Rattle.ucl_screen.specs.declared.fault.InputFault.{InputFault}
+use Rattle.ucl_screen.specs.declared.fault.InputFault.TheVariants as input
+use Rattle.ucl_screen.specs.Script.{Script, night_of}
+use Rattle.ucl_screen.specs.WordsRead.{read_words}
 use Rattle.ucl_c.specs.declared.fault.Fault.{Fault}
-use Rattle.ucl_c.specs.declared.fault.Fault.TheVariants.{BadWord, BadRoster, OutOfMemory, NoReporter, NoKind, NoProfile, NoGroup, NotTwelve, NotFour, NoRoom, NotFourRows, NoStatus}
+use Rattle.ucl_c.specs.declared.fault.Fault.TheVariants.{BadWord, BadRow, BadRoster, OutOfMemory, TooLong, FullBoard, NoReporter, NoKind, NoProfile, NoGroup, NotTwelve, NotFour, NoRoom, NotFourRows, NoStatus, InUse, NoPass, NotAReader, NoMatch, NotAReporter}
 use Rattle.ucl_c.specs.Codes.{profile_with}
 
 abbrev pub fault_code : Fault → ℕ
 fault_code (BadWord index) = 10
+fault_code (BadRow row) = 20
 fault_code (BadRoster slot) = 21
 fault_code OutOfMemory = 23
+fault_code TooLong = 24
+fault_code FullBoard = 30
 fault_code NoReporter = 50
 fault_code NoKind = 51
 fault_code NoProfile = 52
@@ -20,15 +26,21 @@ fault_code NotFour = 55
 fault_code NoRoom = 56
 fault_code NotFourRows = 57
 fault_code NoStatus = 58
+fault_code InUse = 59
+fault_code NoPass = 60
+fault_code NotAReader = 61
+fault_code NoMatch = 62
+fault_code NotAReporter = 63
 
 -- the status of a call: 0 where nothing is wrong
 abbrev pub status_with : Option Fault → ℕ
 status_with None = 0
 status_with (Some fault) = fault_code fault
 
--- what is written where a fault has a place, the word or the slot, over what was there before; else that stays
+-- what is written where a fault has a place, the word, the row or the slot, over what was there before; else that stays
 abbrev pub place_with : Option Fault → ℕ → ℕ
 place_with (Some (BadWord index)) before = index
+place_with (Some (BadRow row)) before = row
 place_with (Some (BadRoster slot)) before = slot
 place_with _ before = before
 
@@ -37,6 +49,8 @@ abbrev pub first_fault : List (Option Fault) → Option Fault
 first_fault [] = None
 first_fault (None ∷ later) = first_fault later
 first_fault (Some fault ∷ later) = Some fault
+
+-- One input. --
 
 abbrev pub fault_unless : Bool → Fault → Option Fault
 fault_unless true fault = None
@@ -52,39 +66,84 @@ fault_of_profile code = of_profile (profile_with code)
 abbrev pub fault_of_group : ℕ → Option Fault
 fault_of_group letter = fault_unless (nat_le 65 letter && nat_le letter 72) NoGroup
 
--- what is wrong with the words of a board, where anything is: they are not twelve, or this is the first that is of neither layout
-abbrev pub IsFaultOfWords : List ℕ → Option Fault → Type 0
-IsFaultOfWords words None = AreReadable words
-IsFaultOfWords words (Some NotTwelve) = length words ≢ 12
-IsFaultOfWords words (Some (BadWord index)) = (length words ≡ 12) × IsFirstBad words index
-IsFaultOfWords words (Some _) = ⊥
+abbrev pub of_words : Result (List ℕ) ℕ → Option Fault
+of_words (Ok board) = None
+of_words (Err index) = Some (BadWord index)
+
+abbrev pub fault_of_twelve : ℕ → Option Fault
+fault_of_twelve count = fault_unless (count == 12) NotTwelve
+
+-- the words of a board: they are not twelve, or this is the first that is of neither layout
+abbrev pub fault_of_words : List ℕ → Option Fault
+fault_of_words words = first_fault (fault_of_twelve (length words) ∷ of_words (read_words 1 words) ∷ [])
 
 abbrev pub of_slot : Option ℕ → Option Fault
 of_slot (Some slot) = Some (BadRoster slot)
 of_slot None = None
 
+abbrev pub fault_of_four : ℕ → Option Fault
+fault_of_four count = fault_unless (count == 4) NotFour
+
 -- not four clubs, or the least slot whose club no roster takes in
 abbrev pub fault_of_clubs : List NamedClub → Option Fault
-fault_of_clubs clubs = first_fault (fault_unless (length clubs == 4) NotFour ∷ of_slot (bad_slot clubs) ∷ [])
+fault_of_clubs clubs = first_fault (fault_of_four (length clubs) ∷ of_slot (bad_slot clubs) ∷ [])
+
+-- a club of this coefficient, and of a name that any roster takes in
+abbrev pub club_with : ℕ → NamedClub
+club_with coefficient = record { name = codes "-"; coefficient = coefficient }
+
+-- not four coefficients, or the least slot whose coefficient no roster takes in
+abbrev pub fault_of_coefficients : List ℕ → Option Fault
+fault_of_coefficients coefficients = fault_of_clubs (map club_with coefficients)
 
 abbrev pub fault_of_rows : ℕ → Option Fault
 fault_of_rows room = fault_unless (room == 4) NotFourRows
 
--- the order in which the inputs of a table are judged: the profile, the words, the clubs, the room for rows. Words behind a fault are not read
-pub record IsFaultOfTable (profile : ℕ) (words : List ℕ) (clubs : List NamedClub) (room : ℕ) (fault : Option Fault) : Type 0 where
-  pub of_words : Option Fault
-  pub judged : fault_of_profile profile ≡ None → IsFaultOfWords words of_words
-  pub first : fault ≡ first_fault (fault_of_profile profile ∷ of_words ∷ fault_of_clubs clubs ∷ fault_of_rows room ∷ [])
+-- a text and a zero have no room
+abbrev pub fault_of_text : List ℕ → ℕ → Option Fault
+fault_of_text text room = fault_unless (nat_lt (length text) room) NoRoom
 
--- and those of a screen: the profile, the group, the words, the clubs
-pub record IsFaultOfScreen (profile group : ℕ) (words : List ℕ) (clubs : List NamedClub) (fault : Option Fault) : Type 0 where
-  pub of_words : Option Fault
-  pub judged : fault_of_profile profile ≡ None → fault_of_group group ≡ None → IsFaultOfWords words of_words
-  pub first : fault ≡ first_fault (fault_of_profile profile ∷ fault_of_group group ∷ of_words ∷ fault_of_clubs clubs ∷ [])
+-- the fault of a script by what the reader of scripts says, which of bytes in memory says none but these three, or want of memory
+abbrev pub of_input : InputFault → Fault
+of_input (input.BadRow row) = BadRow row
+of_input (input.BadRoster slot) = BadRoster slot
+of_input input.TooLong = TooLong
+of_input _ = OutOfMemory
 
--- a call tells of the first fault of its inputs, or of none: by its status, and by its place
-pub record Tells (IsFault : Option Fault → Type 0) (status before after : ℕ) : Type 0 where
-  pub fault : Option Fault
-  pub is : IsFault fault
-  pub told : status ≡ status_with fault
-  pub placed : after ≡ place_with fault before
+abbrev pub of_script : Result Script InputFault → Option Fault
+of_script (Ok script) = None
+of_script (Err fault) = Some (of_input fault)
+
+-- the first fault of the rows of a script, or too many bytes
+abbrev pub fault_of_script : List ℕ → Option Fault
+fault_of_script bytes = of_script (night_of bytes)
+
+-- as many replies as the script has events have no room
+abbrev pub of_events : Result Script InputFault → ℕ → Option Fault
+of_events (Ok script) room = fault_unless (nat_le (length script.events) room) NoRoom
+of_events (Err fault) room = None
+
+abbrev pub fault_of_replies : List ℕ → ℕ → Option Fault
+fault_of_replies bytes room = of_events (night_of bytes) room
+
+-- The inputs of a call, in the order in which they are judged. --
+
+-- of a table: the profile, the words, the coefficients, the room for rows
+abbrev pub fault_of_table : ℕ → List ℕ → List ℕ → ℕ → Option Fault
+fault_of_table profile words coefficients room =
+    first_fault (fault_of_profile profile ∷ fault_of_words words ∷ fault_of_coefficients coefficients ∷ fault_of_rows room ∷ [])
+
+-- of a screen, but for its room: the profile, the group, the words, the clubs
+abbrev pub fault_of_inputs : ℕ → ℕ → List ℕ → List NamedClub → Option Fault
+fault_of_inputs profile group words clubs =
+    first_fault (fault_of_profile profile ∷ fault_of_group group ∷ fault_of_words words ∷ fault_of_clubs clubs ∷ [])
+
+-- and of its room, where this is the text
+abbrev pub fault_of_shown : ℕ → ℕ → List ℕ → List NamedClub → List ℕ → ℕ → Option Fault
+fault_of_shown profile group words clubs text room =
+    first_fault (fault_of_inputs profile group words clubs ∷ fault_of_text text room ∷ [])
+
+-- of a script that is played: the room for words and that for clubs, the bytes, the room for replies
+abbrev pub fault_of_play : List ℕ → ℕ → ℕ → ℕ → Option Fault
+fault_of_play bytes clubs words replies =
+    first_fault (fault_of_twelve words ∷ fault_of_four clubs ∷ fault_of_script bytes ∷ fault_of_replies bytes replies ∷ [])

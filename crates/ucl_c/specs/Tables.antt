@@ -1,21 +1,17 @@
--- What twelve words and four clubs are read as, and what is written of them.
-use Rattle.std.specs.Prelude.{◌≡◌, ℕ, ◌+◌, ◌<◌, ◌≤◌, ◌++◌, nat_le, if◌then◌else◌, List, [], ◌∷◌, map, take, drop, length, None, Some}
-use Rattle.ucl_board.specs.Words.{AreReadAs, version_of}
+-- What twelve words and four clubs are shown as, and how it is written.
+use Rattle.std.specs.Prelude.{◌≡◌, ℕ, ◌+◌, ◌<◌, ◌≤◌, ◌++◌, nat_le, if◌then◌else◌, List, [], ◌∷◌, map, take, drop, length, Option, None, Some, Result, Ok, Err}
+use Rattle.ucl_board.specs.Words.{version_of}
 use Rattle.ucl_order.specs.declared.profile.Profile.{Profile}
 use Rattle.ucl_order.specs.declared.table.Row.{Row}
 use Rattle.ucl_order.specs.Roster.{NamedClub}
 use Rattle.ucl_order.specs.Rows.{rows_of}
 use Rattle.ucl_screen.specs.Screen.{screen_text}
+use Rattle.ucl_screen.specs.WordsRead.{read_words}
+use Rattle.ucl_json.specs.Lines.{json_line}
+use Rattle.ucl_json.specs.Values.{screen_value}
 use Rattle.ucl_c.specs.declared.table.RowOfC.{RowOfC}
-use Rattle.ucl_c.specs.declared.table.ClubOfC.{ClubOfC}
+use Rattle.ucl_c.specs.declared.group.ClubOfC.{ClubOfC}
 use Rattle.ucl_c.specs.Codes.{mark_code, profile_with}
-use Rattle.ucl_c.specs.Faults.{IsFaultOfScreen}
-
--- the version of the board that the words are read as
-pub record IsVersionOf (words : List ℕ) (version : ℕ) : Type 0 where
-  pub board : List ℕ
-  pub read : AreReadAs words board
-  pub summed : version ≡ version_of board
 
 -- a row of the table as C sees it
 abbrev pub row_seen : Row → RowOfC
@@ -39,21 +35,39 @@ club_handed club = record { name = if nat_le club.length 20 then take club.lengt
 abbrev pub clubs_handed : List ClubOfC → List NamedClub
 clubs_handed clubs = map club_handed clubs
 
--- the table of the board that the words are read as, in the order of the profile with this code
-pub record AreRowsOf (code : ℕ) (words : List ℕ) (clubs : List NamedClub) (rows : List RowOfC) : Type 0 where
-  pub profile : Profile
-  pub coded : profile_with code ≡ Some profile
-  pub board : List ℕ
-  pub read : AreReadAs words board
-  pub seen : rows ≡ map row_seen (rows_of profile board clubs)
+-- Of words that are read as no board, and in no order, nothing is shown.
 
--- the screen of the board that the words are read as, in the order of the profile with this code
-pub record IsScreenOfWords (code group : ℕ) (words : List ℕ) (clubs : List NamedClub) (text : List ℕ) : Type 0 where
-  pub profile : Profile
-  pub coded : profile_with code ≡ Some profile
-  pub board : List ℕ
-  pub read : AreReadAs words board
-  pub written : text ≡ screen_text profile board clubs group
+abbrev pub version_by : Result (List ℕ) ℕ → ℕ
+version_by (Ok board) = version_of board
+version_by (Err index) = 0
+
+-- the version of the board that the words are read as
+abbrev pub version_told : List ℕ → ℕ
+version_told words = version_by (read_words 1 words)
+
+abbrev pub table_by : Option Profile → Result (List ℕ) ℕ → List NamedClub → List RowOfC
+table_by (Some profile) (Ok board) clubs = map row_seen (rows_of profile board clubs)
+table_by _ _ clubs = []
+
+-- the table of that board, in the order of the profile with this code
+abbrev pub table_shown : ℕ → List ℕ → List NamedClub → List RowOfC
+table_shown code words clubs = table_by (profile_with code) (read_words 1 words) clubs
+
+abbrev pub screen_by : Option Profile → ℕ → Result (List ℕ) ℕ → List NamedClub → List ℕ
+screen_by (Some profile) group (Ok board) clubs = screen_text profile board clubs group
+screen_by _ group _ clubs = []
+
+-- the screen of that board, for a group
+abbrev pub screen_shown : ℕ → ℕ → List ℕ → List NamedClub → List ℕ
+screen_shown code group words clubs = screen_by (profile_with code) group (read_words 1 words) clubs
+
+abbrev pub json_by : Option Profile → ℕ → ℕ → Result (List ℕ) ℕ → List NamedClub → List ℕ
+json_by (Some profile) row group (Ok board) clubs = json_line (screen_value row profile board clubs group)
+json_by _ row group _ clubs = []
+
+-- the line in JSON by which an evening answers the row of this number, where it asks for that screen
+abbrev pub json_shown : ℕ → ℕ → ℕ → List ℕ → List NamedClub → List ℕ
+json_shown row code group words clubs = json_by (profile_with code) row group (read_words 1 words) clubs
 
 -- the text and a zero stand at the front of what was there before, and the rest is as it was
 pub record IsWritten (text before after : List ℕ) : Type 0 where
@@ -65,15 +79,3 @@ pub record HandsOver (text before after : List ℕ) (told status : ℕ) : Type 0
   pub told_length : told ≡ length text
   pub whole : length text < length before → (status ≡ 0) × IsWritten text before after
   pub no_room : length before ≤ length text → (status ≡ 56) × (after ≡ before)
-
--- the inputs are those of a screen, and it is handed over
-pub record IsScreenHandedOver (code group : ℕ) (words : List ℕ) (clubs : List NamedClub) (before after : List ℕ) (told status : ℕ) : Type 0 where
-  pub sound : IsFaultOfScreen code group words clubs None
-  pub text : List ℕ
-  pub of : IsScreenOfWords code group words clubs text
-  pub handed : HandsOver text before after told status
-
-pub record IsLengthOfScreen (code group : ℕ) (words : List ℕ) (clubs : List NamedClub) (told : ℕ) : Type 0 where
-  pub text : List ℕ
-  pub of : IsScreenOfWords code group words clubs text
-  pub measured : told ≡ length text

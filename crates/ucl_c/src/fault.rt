@@ -11,10 +11,16 @@ use std::alloc::AllocError;
 pub enum Fault {
     /// 10: the first of the words that is of no valid record, counted from 1.
     BadWord { index: u8 },
+    /// 20: the first row of a script, counted from 1, that is missing or is not as its place demands.
+    BadRow { row: u32 },
     /// 21: the least slot whose club no roster takes in.
     BadRoster { slot: u8 },
     /// 23: an allocation was refused.
     OutOfMemory,
+    /// 24: a script has more than 4,194,304 bytes.
+    TooLong,
+    /// 30: as many reporters are enlisted as there are numbers, 255.
+    FullBoard,
     /// 50: not the number of a reporter, 1 to 255.
     NoReporter,
     /// 51: no kind of event has this code.
@@ -27,12 +33,22 @@ pub enum Fault {
     NotTwelve,
     /// 55: not four clubs.
     NotFour,
-    /// 56: the caller's room is too small for the text and a zero.
+    /// 56: the caller's room is too small for the text and a zero, or for the replies.
     NoRoom,
     /// 57: not room for four rows.
     NotFourRows,
     /// 58: no status has this number.
     NoStatus,
+    /// 59: the handle that was to be given a pass is not null.
+    InUse,
+    /// 60: the handle holds no pass.
+    NoPass,
+    /// 61: only a reader's pass is split or enlisted.
+    NotAReader,
+    /// 62: not the number of a match, 1 to 12.
+    NoMatch,
+    /// 63: only a reporter's pass reports.
+    NotAReporter,
 }
 
 /// The number of a fault.
@@ -41,8 +57,11 @@ pub fn fault_code(fault: Fault) -> u32
 {
     match fault {
         Fault::BadWord { index } => 10,
+        Fault::BadRow { row } => 20,
         Fault::BadRoster { slot } => 21,
         Fault::OutOfMemory => 23,
+        Fault::TooLong => 24,
+        Fault::FullBoard => 30,
         Fault::NoReporter => 50,
         Fault::NoKind => 51,
         Fault::NoProfile => 52,
@@ -52,16 +71,22 @@ pub fn fault_code(fault: Fault) -> u32
         Fault::NoRoom => 56,
         Fault::NotFourRows => 57,
         Fault::NoStatus => 58,
+        Fault::InUse => 59,
+        Fault::NoPass => 60,
+        Fault::NotAReader => 61,
+        Fault::NoMatch => 62,
+        Fault::NotAReporter => 63,
     }
 }
 
-/// Tells of a fault: its number, and in `at` its word or its slot, where it has one.
+/// Tells of a fault: its number, and in `at` its word, its row or its slot, where it has one.
 pub fn tell(fault: Fault, at: &mut u32) -> u32
     ensures told { result ≡ fault_code fault }
     ensures placed { at.new ≡ place_with (Some fault) at.old }
 {
     match fault {
         Fault::BadWord { index } => *at = u32::from(index),
+        Fault::BadRow { row } => *at = row,
         Fault::BadRoster { slot } => *at = u32::from(slot),
         _ => {}
     }

@@ -1,20 +1,44 @@
-//! Boards and rosters of what C hands over.
+//! Boards, rosters and groups of what C hands over.
 
-ghost use Rattle.std.specs.Prelude.{◌≡◌, ◌≢◌, None, Some, IfOk, IfErr};
-ghost use Rattle.ucl_board.specs.Words.{AreReadAs};
-ghost use Rattle.ucl_order.specs.Roster.{club_seen};
+ghost use Rattle.std.specs.Prelude.{◌≡◌, map, None, Some, Ok, IfOk, IfErr};
+ghost use Rattle.ucl_board.specs.Words.{AreWords};
+ghost use Rattle.ucl_order.specs.Roster.{club_lent};
 ghost use Rattle.ucl_screen.specs.Screen.{IsGroup};
-ghost use Rattle.ucl_c.specs.declared.fault.Fault.TheVariants.{OutOfMemory};
+ghost use Rattle.ucl_screen.specs.WordsRead.{read_words};
 ghost use Rattle.ucl_c.specs.Codes.{profile_with};
-ghost use Rattle.ucl_c.specs.Faults.{IsFaultOfWords, fault_of_clubs, fault_of_group, fault_of_profile};
+ghost use Rattle.ucl_c.specs.Faults.{club_with, fault_of_clubs, fault_of_coefficients, fault_of_group, fault_of_inputs, fault_of_profile, fault_of_words};
 ghost use Rattle.ucl_c.specs.Tables.{club_handed, clubs_handed};
+ghost use Rattle.ucl_c.specs.Inputs.{IsGroupOf};
 
 use crate::codes::profile_with;
 use crate::fault::Fault;
-use crate::table::ClubOfC;
-use std::alloc::{AllocError, Global};
 use ucl_board::Board;
-use ucl_order::{Club, Profile, Roster};
+use ucl_order::{LentClub, Profile, Roster};
+
+/// A club of a group.
+#[repr(C)]
+#[derive(Clone, Copy, Debug, PartialEq, Eq)]
+pub struct ClubOfC {
+    /// The name in its first bytes.
+    pub name: [u8; 20],
+    /// How many bytes of it are the name, 1 to 20.
+    pub length: u32,
+    /// The coefficient in whole thousandths, at most 999,999.
+    pub coefficient: u32,
+}
+
+/// A group that is shown.
+#[derive(Drop)]
+pub struct Group {
+    /// Its matches.
+    pub board: Board,
+    /// Its clubs.
+    pub roster: Roster,
+    /// Its letter, `A` to `H`.
+    pub letter: u8,
+    /// The order of its table.
+    pub profile: Profile,
+}
 
 /// The order profile with this code.
 pub fn profile_of(code: u32) -> Result<Profile, Fault>
@@ -28,7 +52,7 @@ pub fn profile_of(code: u32) -> Result<Profile, Fault>
 }
 
 /// The letter of a group, in a wider number.
-pub fn group_of(letter: u32) -> Result<u8, Fault>
+fn letter_of(letter: u32) -> Result<u8, Fault>
     ensures taken { IfOk result (λ group. (group ≡ letter) × IsGroup letter
         × (fault_of_group letter ≡ None)) }
     ensures refused { IfErr result (λ fault. fault_of_group letter ≡ Some fault) }
@@ -42,9 +66,10 @@ pub fn group_of(letter: u32) -> Result<u8, Fault>
 
 /// The board that twelve words are read as.
 pub fn board_of(words: &[u64]) -> Result<Board, Fault>
-    ensures board { IfOk result (λ board. AreReadAs words.now board
-        × IsFaultOfWords words.now None) }
-    ensures refused { IfErr result (λ fault. IsFaultOfWords words.now (Some fault)) }
+    ensures board { IfOk result (λ board. (read_words 1 words.now ≡ Ok board)
+        × (fault_of_words words.now ≡ None)) }
+    ensures valid { IfOk result AreWords }
+    ensures refused { IfErr result (λ fault. fault_of_words words.now ≡ Some fault) }
 {
     if words.len() != 12 {
         return Err(Fault::NotTwelve);
@@ -58,38 +83,86 @@ pub fn board_of(words: &[u64]) -> Result<Board, Fault>
 }
 
 /// A club as a roster takes it in.
-fn club_of(alloc: Global, club: &ClubOfC) -> Result<Club, AllocError>
-    ensures { IfOk result (λ made. club_seen made ≡ club_handed club.now) }
+fn club_of(club: &ClubOfC) -> LentClub<'_>
+    ensures { club_lent result ≡ club_handed club.now }
 {
     let name = if club.length <= 20 {
-        Vec::from_slice(alloc, &club.name[..club.length as usize])?
+        &club.name[..club.length as usize]
     } else {
-        Vec::new(alloc)
+        &club.name[..0]
     };
-    Ok(Club {
+    LentClub {
         name,
         coefficient: club.coefficient,
-    })
+    }
 }
 
 /// The roster of four clubs.
-pub fn roster_of(alloc: Global, clubs: &[ClubOfC]) -> Result<Roster, Fault>
+fn roster_of(clubs: &[ClubOfC]) -> Result<Roster, Fault>
     ensures taken { IfOk result (λ roster. (roster ≡ clubs_handed clubs.now)
         × (fault_of_clubs (clubs_handed clubs.now) ≡ None)) }
-    ensures refused { IfErr result (λ fault. fault ≢ OutOfMemory →
-        fault_of_clubs (clubs_handed clubs.now) ≡ Some fault) }
+    ensures refused { IfErr result (λ fault. fault_of_clubs (clubs_handed clubs.now) ≡ Some fault) }
 {
     let [first, second, third, fourth] = clubs else {
         return Err(Fault::NotFour);
     };
     let clubs = [
-        club_of(alloc, first)?,
-        club_of(alloc, second)?,
-        club_of(alloc, third)?,
-        club_of(alloc, fourth)?,
+        club_of(first),
+        club_of(second),
+        club_of(third),
+        club_of(fourth),
     ];
-    match Roster::new(clubs) {
+    match Roster::of_lent(&clubs) {
         Ok(roster) => Ok(roster),
         Err(bad) => Err(Fault::BadRoster { slot: bad.slot }),
     }
+}
+
+/// A club of this coefficient, whose name is of no account.
+fn club_with(coefficient: u32) -> LentClub<'static>
+    ensures { club_lent result ≡ club_with coefficient }
+{
+    LentClub {
+        name: b"-",
+        coefficient,
+    }
+}
+
+/// A roster of clubs with these four coefficients.
+pub fn roster_with(coefficients: &[u32]) -> Result<Roster, Fault>
+    ensures taken { IfOk result (λ roster. (roster ≡ map club_with coefficients.now)
+        × (fault_of_coefficients coefficients.now ≡ None)) }
+    ensures refused { IfErr result (λ fault. fault_of_coefficients coefficients.now ≡ Some fault) }
+{
+    let [first, second, third, fourth] = coefficients else {
+        return Err(Fault::NotFour);
+    };
+    let clubs = [
+        club_with(*first),
+        club_with(*second),
+        club_with(*third),
+        club_with(*fourth),
+    ];
+    match Roster::of_lent(&clubs) {
+        Ok(roster) => Ok(roster),
+        Err(bad) => Err(Fault::BadRoster { slot: bad.slot }),
+    }
+}
+
+/// The group of twelve words, four clubs, a letter and the code of an order.
+pub fn group_of(words: &[u64], clubs: &[ClubOfC], letter: u32, profile: u32) -> Result<Group, Fault>
+    ensures taken { IfOk result (IsGroupOf profile letter words.now (clubs_handed clubs.now)) }
+    ensures refused { IfErr result (λ fault.
+        fault_of_inputs profile letter words.now (clubs_handed clubs.now) ≡ Some fault) }
+{
+    let profile = profile_of(profile)?;
+    let letter = letter_of(letter)?;
+    let board = board_of(words)?;
+    let roster = roster_of(clubs)?;
+    Ok(Group {
+        board,
+        roster,
+        letter,
+        profile,
+    })
 }

@@ -37,8 +37,11 @@ fn name_of_status(status: u32) -> Option<&'static str>
         8 => Some("limit-reached"),
         9 => Some("not-finished"),
         10 => Some("bad word"),
+        20 => Some("bad row"),
         21 => Some("bad roster"),
         23 => Some("out of memory"),
+        24 => Some("too long"),
+        30 => Some("full board"),
         50 => Some("no reporter"),
         51 => Some("no kind"),
         52 => Some("no profile"),
@@ -48,6 +51,11 @@ fn name_of_status(status: u32) -> Option<&'static str>
         56 => Some("no room"),
         57 => Some("not four rows"),
         58 => Some("no status"),
+        59 => Some("in use"),
+        60 => Some("no pass"),
+        61 => Some("not a reader"),
+        62 => Some("no match"),
+        63 => Some("not a reporter"),
         _ => None,
     }
 }

@@ -1,7 +1,6 @@
 -- One history for all callers, and the screens of what its readers read.
-use Rattle.std.specs.Prelude.{◌≡◌, ℕ, ◌++◌, List, All, map, length, take, drop, flat_map, Some}
-use mathlib.Core.Option.{some}
-use lib.ListN.{get_elem?}
+use Rattle.std.specs.Prelude.{◌≡◌, ℕ, ◌++◌, List, All, length, take, drop, flat_map, Some}
+use mathlib.Core.List.{IsPrefix}
 use Rattle.atomic_table.specs.Table.{State}
 use Rattle.ucl_board.specs.declared.entry.Entry.{Entry}
 use Rattle.ucl_board.specs.declared.reading.Reading.{Reading}
@@ -19,12 +18,12 @@ use Rattle.ucl_steps.specs.declared.trace.Reply.TheVariants.{Copied}
 use Rattle.ucl_steps.specs.Machine.{MachineState, initial_state, after_steps}
 use Rattle.ucl_steps.specs.Linearizable.{IsDecided, IsLinearizable}
 use Rattle.ucl_words.specs.declared.view.WordView.{WordView}
-use Rattle.ucl_words.specs.WordRule.{TableKeepsOneHistory}
-use Rattle.ucl_steps.specs.PassRuns.{cast_for, callers_of, FitsRun, IsTight}
-use Rattle.ucl_pass.specs.declared.view.CellView.{CellView}
-use Rattle.ucl_pass.specs.Actors.{Actor, IsOfActor}
+use Rattle.ucl_words.specs.WordRule.{word_actors, TableKeepsOneHistory}
+use Rattle.ucl_steps.specs.PassRuns.{steps_of_moves}
+use Rattle.ucl_steps.specs.Actors.{Actor, IsRunOfActors}
+use Rattle.ucl_steps.specs.Growing.{HaveGoneOn, GoesOnFrom}
 use Rattle.ucl_pass.specs.CellViews.{actors_of}
-use Rattle.ucl_pass.specs.CellRule.{CellKeepsOneHistory}
+use Rattle.ucl_pass.specs.CellRule.{CellState, CellMeetsItsRule}
 
 -- the board after the first k entries of a history, as a screen shows it: version k, and the clubs in the order of the
 -- profile, each with its numbers and its mark
@@ -49,24 +48,19 @@ pub record HasOneHistory (steps : List Step) (history : List Entry) (calls : Lis
 abbrev pub EveryRunHasOneHistory : Type 0
 EveryRunHasOneHistory = (cast : Cast) (steps : List Step) (state : MachineState) → after_steps steps (initial_state cast) ≡ Some state → HasOneHistory steps state.history state.calls
 
--- the board of these twelve words, whose passes have finished, and hold, these calls, has this one history: there is one run of the machine from the fresh board to this history and these words, in which
+-- the board of these twelve words, with so many reporters enlisted, whose passes have finished, and hold, these calls, has this one history: there is one run of the machine from the fresh board to this history and these words, in which
 -- each call begins with its first access and ends with its last; the calls of each pass, with their replies, are those of its callers, and there are no others; and all of it is explained by this history
-pub record HaveOneHistory (history : List Entry) (board : List ℕ) (actors : List Actor) : Type 0 where
-  pub steps : List Step
-  pub last : MachineState
-  pub run : after_steps steps (initial_state (cast_for (length actors))) ≡ Some last
-  pub history_is : last.history ≡ history
-  pub board_is : last.words ≡ board
-  pub tight : IsTight steps
-  pub calls : (seat : ℕ) (a : Actor) → get_elem? actors seat ≡ some a → FitsRun last seat a.number a.doing
-  pub only : All (IsOfActor actors) (callers_of last)
-  pub one : HasOneHistory steps history last.calls
-
--- the passes of a word board
-abbrev pub word_actor : WordView → Actor
-word_actor v = record { number = v.pass.number; doing = v.doing }
+pub record HaveOneHistory (enlisted : ℕ) (history : List Entry) (board : List ℕ) (actors : List Actor) : Type 0 where
+  pub run : IsRunOfActors (length actors) enlisted history actors
+  pub board_is : run.state.words ≡ board
+  pub one : HasOneHistory (steps_of_moves run.moves) history run.state.calls
 
 -- between any two steps of any threads, for each state that meets the rule of a board: that of the table of a word board, and that of the cell of a cell board
 pub record BoardsHaveOneHistory : Type 0 where
-  pub word_boards : (s : State Entry WordView) (r : TableKeepsOneHistory s) → HaveOneHistory (history_of r.shared.log) (drop 1 s.words) (map word_actor s.views)
-  pub cell_boards : (words : List ℕ) (views : List CellView) (r : CellKeepsOneHistory words views) → HaveOneHistory (history_of r.shared.log) (take 12 words) (actors_of views)
+  pub word_boards : (s : State Entry WordView) (r : TableKeepsOneHistory s) → HaveOneHistory r.shared.enlisted (history_of r.shared.log) (drop 1 s.words) (word_actors s.views)
+  pub cell_boards : (s : CellState) (r : CellMeetsItsRule s) → HaveOneHistory r.shared.enlisted (history_of r.shared.log) (take 12 s.words) (actors_of s.views)
+  -- the run of a later state of a word board begins with that of the earlier one
+  pub later_word_boards : (s t : State Entry WordView) (r : TableKeepsOneHistory s) (q : TableKeepsOneHistory t) → IsPrefix r.shared.log q.shared.log → HaveGoneOn (word_actors s.views) (word_actors t.views) → IsPrefix (word_boards s r).run.moves (word_boards t q).run.moves
+  -- that of a later state of a cell board goes on from it: what it has of each pass begins with what the earlier run has of it
+  pub later_cell_boards : (s t : CellState) (r : CellMeetsItsRule s) (q : CellMeetsItsRule t) → IsPrefix r.shared.log q.shared.log → HaveGoneOn (actors_of s.views) (actors_of t.views)
+      → GoesOnFrom (actors_of s.views) (cell_boards s r).run.state (actors_of t.views) (cell_boards t q).run.state

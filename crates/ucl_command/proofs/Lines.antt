@@ -1,59 +1,31 @@
 -- Words without a fault name a line.
-use Rattle.std.proofs.Common.{◌≡◌, ◌∙◌, ◌≤◌, ◌^◌, ◌&&◌, ◌||◌, ℕ, Bool, cond, true, false, refl, sym, ap, subst, arith, List, [], ◌∷◌, map, drop, codes, Option, Some, None}
+use Rattle.std.proofs.Common.{◌≡◌, ◌∙◌, ◌≤◌, ◌^◌, ◌&&◌, ◌||◌, ℕ, Bool, cond, true, false, refl, sym, ap, subst, arith, List, [], ◌∷◌, drop, codes, Option, Some, None}
 use Rattle.std.proofs.Common.{Result, is_some, true≢false, lt-ltb, le-leb, ltb-true}
 use Rattle.std.specs.Prelude.{⊤, nat_lt, option_and_then, option_map, pos, unwrap_or}
-use Rattle.std.specs.List.{list_any}
 use Rattle.std.specs.Option.{option_map_or}
 use Rattle.std.specs.Str.{bytes_eq}
 use Rattle.std.specs.Str.Parse.{ParsesUnsigned, digits_value, without_leading_plus}
-use Rattle.std.specs.Borrow.{Bor}
 use Rattle.std.proofs.lemmas.Slice.Eq.{bytes_eq-Decides}
 use Rattle.clap.specs.Lexer.{without_minus}
 use Rattle.clap.specs.Matches.{ReadsOne}
-use Rattle.clap.specs.Values.{refused_kind}
 use Rattle.clap.specs.ValueTests.{accepts, is_numeral}
 use Rattle.clap.specs.Words.{Row, Rule, Shape, Text, fault_of}
-use Rattle.clap.specs.Kinds.{value_kinds}
 use Rattle.clap.specs.Walk.{answers_to, finished, has_row, nothing_held, rows_after, settled, walk, walk_from, with_default}
 use Rattle.clap.specs.Simple.{built, entered, help_shape, built_leaf, label_of, names_of, new_shape, rows_at}
 use Rattle.clap.specs.Faults.{check_fault, defaults_fault, entered_fault, level_fault, settle_fault, walk_fault}
-use Rattle.clap.specs.declared.builder.value_parser.ValueParser.{ValueParser}
 use Rattle.clap.specs.declared.builder.value_parser.ValueParser.TheVariants.{Names as Among, Signed}
 use Rattle.clap.proofs.CallerReads.{signed_reads}
 use Rattle.clap.proofs.ValueTestLemmas.{accepts-Accepts}
-use Rattle.clap.proofs.WalkLemmas.{both, list_any-map}
+use Rattle.clap.proofs.WalkLemmas.{both}
 use Rattle.ucl_order.specs.declared.profile.Profile.{Profile}
-use Rattle.ucl_command.specs.CommandLine.{Tables, Texts, group_in, group_named, letters, line_in, line_named, night_of, number_named, order_in, order_named, order_names, program}
-use Rattle.ucl_command.specs.CommandLine.{readings_in, show_of}
+use Rattle.ucl_program.specs.Options.{group_in, order_in}
+use Rattle.ucl_program.proofs.Taken.{group_there, level_good, names_built, order_there, passes}
+use Rattle.ucl_program.proofs.WalkFacts.{Keeps, StopsOn, neither, walk_on}
+use Rattle.ucl_program.proofs.Values.{AreGood, Fills, fill_help, fill_option, has_defaults, has_option, help_built, keep_help, keep_option, option_built, value_found}
+use Rattle.ucl_command.specs.CommandLine.{Tables, line_in, line_named, night_of, number_named, program, readings_in, show_of}
 use Rattle.ucl_command.proofs.Matches.{digits_back, digits_from, number_is, up_to_most}
-use Rattle.ucl_command.proofs.WalkFacts.{Keeps, StopsOn, neither, settled_keeps, walk_keeps, walk_on}
-use Rattle.ucl_command.proofs.Values.{AreGood, Each, Fills, each_found, fill_help, fill_option, good-defaults, has_defaults, has_option, help_built, keep_help, keep_option}
-use Rattle.ucl_command.proofs.Values.{option_built, value_found}
 
 -- ---- what an option takes names something
-
-passes : (ignore_case : Bool) (parser : ValueParser) (v : Text) → value_kinds ignore_case parser v ≡ [] → accepts ignore_case parser v ≡ true
-passes ignore_case parser v e = go (accepts ignore_case parser v) e
-  where
-    go : (b : Bool) → cond b [] (refused_kind parser ∷ []) ≡ [] → b ≡ true
-    go true f = refl
-    go false f = cc
-
--- what holds of each text of a list holds of a text that is among them
-abbrev HoldsOfEach : (Text → Type 0) → List Text → Type 0
-HoldsOfEach Q [] = ⊤
-HoldsOfEach Q (w ∷ ws) = Q w × HoldsOfEach Q ws
-
-among : (Q : Text → Type 0) (v : Text) (ws : List Text) → HoldsOfEach Q ws → list_any (λ w. bytes_eq w v) ws ≡ true → Q v
-among Q v [] h e = absurd (true≢false (sym e))
-among Q v (w ∷ ws) h e = go (bytes_eq w v) refl (among Q v ws h.1) e
-  where
-    go : (b : Bool) → bytes_eq w v ≡ b → (list_any (λ u. bytes_eq u v) ws ≡ true → Q v) → (b || list_any (λ u. bytes_eq u v) ws) ≡ true → Q v
-    go true is more f = subst Q ((bytes_eq-Decides w v).0 is) h.0
-    go false is more f = more f
-
-named : (names : Texts) (ws : List Text) (Q : Text → Type 0) (v : Text) → map (λ t. t.now) names.now ≡ ws → HoldsOfEach Q ws → accepts false (Among names) v ≡ true → Q v
-named names ws Q v is h e = among Q v ws h (sym (list_any-map (λ w. bytes_eq w v) (λ (t : Bor Text). t.now) names.now ∙ ap (list_any (λ w. bytes_eq w v)) is) ∙ e)
 
 -- what `parse` reads from a text
 abbrev Reads : Text → Result ℕ ⊤ → Type 0
@@ -84,13 +56,13 @@ number_taken v e =
 -- ---- the subcommands as they are built
 
 abbrev group_built : Tables → Rule
-group_built t = option_built (codes "group") (Among t.groups) (codes "A")
+group_built t = names_built (codes "group") t.groups (codes "A")
 
 abbrev readings_built : Rule
 readings_built = option_built (codes "readings") (Signed (pos 0) (pos 1000)) (codes "0")
 
 abbrev order_built : Tables → Rule
-order_built t = option_built (codes "order") (Among t.orders) (codes "uefa")
+order_built t = names_built (codes "order") t.orders (codes "uefa")
 
 abbrev leaf : Text → List Rule → Shape
 leaf name rules = record (new_shape name) { rules = rules; disable_help_subcommand = true; is_built = true }
@@ -103,19 +75,6 @@ show t = leaf (codes "show") (group_built t ∷ order_built t ∷ help_built ∷
 
 abbrev night : Tables → Shape
 night t = leaf (codes "night") (group_built t ∷ readings_built ∷ order_built t ∷ help_built ∷ [])
-
--- the rows of a subcommand are good for an option, where its words have no fault
-level_good : (option : Rule) (s : Shape) (words : List Text)
-    → Each (Keeps s.rules s.args_override_self (AreGood option)) s.rules → Each (Fills option) s.rules
-    → level_fault s [] nothing_held words false [] ≡ [] → AreGood option (rows_after s.rules [] words)
-level_good option s words keeps fills e =
-    let end = (walk s.rules [] nothing_held words).held in
-    let one = neither (walk_fault s [] (walk_from nothing_held) words) _ e in
-    let two = neither (settle_fault s.rules s.args_override_self end) _ one.1 in
-    let three = neither (defaults_fault (settled s.rules end).rows s.rules) _ two.1 in
-    let each = each_found (Keeps s.rules s.args_override_self (AreGood option)) s.rules keeps in
-    let walked = walk_keeps s [] (AreGood option) each (walk_from nothing_held) words tt one.0 in
-    good-defaults option s.rules (settled s.rules end).rows fills (settled_keeps s.rules s.args_override_self (AreGood option) each end walked two.0) three.0
 
 -- what the options ask of their own values, and nothing of another option's
 module _ (t : Tables) (c : List Rule) (again : Bool) where
@@ -174,25 +133,12 @@ module _ (t : Tables) where
   order_fills : Fills (order_built t) (order_built t)
   order_fills = fill_option (order_built t) (codes "order") (Among t.orders) (codes "uefa") (λ v e same. (e, refl))
 
-  -- ---- a good row names a group, a number, an order
-
-  group_there : (rows : List Row) → AreGood (group_built t) rows → has_row (codes "group") rows ≡ true → is_some (group_in rows) ≡ true
-  group_there rows good has =
-      let v = value_found (group_built t) rows good has in
-      ap (λ (o : Option Text). is_some (option_and_then group_named o)) v.1
-      ∙ named t.groups letters (λ w. is_some (group_named w) ≡ true) v.0 t.groups_are (refl, (refl, (refl, (refl, (refl, (refl, (refl, (refl, tt))))))))
-      (passes false (Among t.groups) v.0 (neither _ _ v.3).0)
+  -- ---- a good row names a number
 
   readings_there : (rows : List Row) → AreGood readings_built rows → has_row (codes "readings") rows ≡ true → is_some (readings_in rows) ≡ true
   readings_there rows good has =
       let v = value_found readings_built rows good has in
       ap (λ (o : Option Text). is_some (option_and_then number_named o)) v.2 ∙ number_taken v.0 (passes false (Signed (pos 0) (pos 1000)) v.0 (neither _ _ v.3).0)
-
-  order_there : (rows : List Row) → AreGood (order_built t) rows → has_row (codes "order") rows ≡ true → is_some (order_in rows) ≡ true
-  order_there rows good has =
-      let v = value_found (order_built t) rows good has in
-      ap (λ (o : Option Text). is_some (option_and_then order_named o)) v.1
-      ∙ named t.orders order_names (λ w. is_some (order_named w) ≡ true) v.0 t.orders_are (refl, (refl, tt)) (passes false (Among t.orders) v.0 (neither _ _ v.3).0)
 
   shown : (group : Option ℕ) (order : Option Profile) → is_some group ≡ true → is_some order ≡ true → is_some (show_of group order) ≡ true
   shown None order g o = g
@@ -211,15 +157,15 @@ module _ (t : Tables) where
       let c = (show t).rules in
       let rows = rows_after c [] words in
       let first = (settled c (walk c [] nothing_held words).held).rows in
-      let group = level_good (group_built t) (show t) words (group_keeps t c false, (group_keeps-order t c false, (keep_help (group_built t) c false, tt)))
+      let group = level_good (group_built t) (show t) words false [] (group_keeps t c false, (group_keeps-order t c false, (keep_help (group_built t) c false, tt)))
       (group_fills, (group_fills-order, (fill_help (group_built t), tt))) e in
-      let order = level_good (order_built t) (show t) words (order_keeps-group t c false, (order_keeps t c false, (keep_help (order_built t) c false, tt)))
+      let order = level_good (order_built t) (show t) words false [] (order_keeps-group t c false, (order_keeps t c false, (keep_help (order_built t) c false, tt)))
       (order_fills-group, (order_fills, (fill_help (order_built t), tt))) e in
       let has_group = has_defaults (codes "group") (order_built t ∷ help_built ∷ []) (with_default first (group_built t))
       (has_option (codes "group") (Among t.groups) (codes "A") first refl) in
       let has_order = has_defaults (codes "order") (help_built ∷ []) (with_default (with_default first (group_built t)) (order_built t))
       (has_option (codes "order") (Among t.orders) (codes "uefa") (with_default first (group_built t)) refl) in
-      shown (group_in rows) (order_in rows) (group_there rows group has_group) (order_there rows order has_order)
+      shown (group_in rows) (order_in rows) (group_there t.groups rows t.groups_are group has_group) (order_there t.orders rows t.orders_are order has_order)
 
   night_line : (words : List Text) → level_fault (night t) [] nothing_held words false [] ≡ [] → is_some (line_in (rows_at (night t) words)) ≡ true
   night_line words e =
@@ -228,20 +174,21 @@ module _ (t : Tables) where
       let first = (settled c (walk c [] nothing_held words).held).rows in
       let second = with_default first (group_built t) in
       let third = with_default second readings_built in
-      let group = level_good (group_built t) (night t) words
+      let group = level_good (group_built t) (night t) words false []
       (group_keeps t c false, (group_keeps-readings t c false, (group_keeps-order t c false, (keep_help (group_built t) c false, tt))))
       (group_fills, (group_fills-readings, (group_fills-order, (fill_help (group_built t), tt)))) e in
-      let readings = level_good readings_built (night t) words
+      let readings = level_good readings_built (night t) words false []
       (readings_keeps-group t c false, (readings_keeps t c false, (readings_keeps-order t c false, (keep_help readings_built c false, tt))))
       (readings_fills-group, (readings_fills, (readings_fills-order, (fill_help readings_built, tt)))) e in
-      let order = level_good (order_built t) (night t) words
+      let order = level_good (order_built t) (night t) words false []
       (order_keeps-group t c false, (order_keeps-readings t c false, (order_keeps t c false, (keep_help (order_built t) c false, tt))))
       (order_fills-group, (order_fills-readings, (order_fills, (fill_help (order_built t), tt)))) e in
       let has_group = has_defaults (codes "group") (readings_built ∷ order_built t ∷ help_built ∷ []) second (has_option (codes "group") (Among t.groups) (codes "A") first refl) in
       let has_readings = has_defaults (codes "readings") (order_built t ∷ help_built ∷ []) third
       (has_option (codes "readings") (Signed (pos 0) (pos 1000)) (codes "0") second refl) in
       let has_order = has_defaults (codes "order") (help_built ∷ []) (with_default third (order_built t)) (has_option (codes "order") (Among t.orders) (codes "uefa") third refl) in
-      nightly (group_in rows) (readings_in rows) (order_in rows) (group_there rows group has_group) (readings_there rows readings has_readings) (order_there rows order has_order)
+      nightly (group_in rows) (readings_in rows) (order_in rows) (group_there t.groups rows t.groups_are group has_group) (readings_there rows readings has_readings)
+      (order_there t.orders rows t.orders_are order has_order)
 
   -- ---- the subcommand that the words name
 

@@ -1,47 +1,17 @@
 -- What is read from the matches of a subcommand.
-use Rattle.std.proofs.Common.{◌≡◌, ◌∙◌, ◌<◌, ◌≤◌, ◌&&◌, ℕ, Bool, cond, true, false, refl, sym, ap, arith, List, [], ◌∷◌, codes, length, Option, Some, None, Result, Ok, Err}
-use Rattle.std.proofs.Common.{lt-ltb, le-leb, ltb-true, leb-true}
+use Rattle.std.proofs.Common.{◌≡◌, ◌∙◌, ◌≤◌, ◌&&◌, ℕ, Bool, cond, true, false, refl, sym, ap, arith, List, [], ◌∷◌, length, Option, Some, None, Result, Ok, Err}
+use Rattle.std.proofs.Common.{lt-ltb, ltb-true, leb-true}
 use Rattle.std.specs.Prelude.{nat_le, nat_lt, option_and_then}
-use Rattle.std.specs.List.{list_all, slice_index_or}
+use Rattle.std.specs.List.{list_all}
 use Rattle.std.specs.Char.{digit_value}
 use Rattle.std.specs.Str.Parse.{AllDigits, ParsesUnsigned, digits_value, without_leading_plus}
 use Rattle.std.specs.Result.{result_unwrap_or}
+use Rattle.std.specs.Bool.{then_some}
 use Rattle.clap.specs.Words.{Text}
 use Rattle.clap.specs.Matches.{ReadsOne}
 use Rattle.clap.specs.ValueTests.{is_numeral}
 use Rattle.clap.proofs.WalkLemmas.{both}
-use Rattle.ucl_screen.specs.Screen.{IsGroup}
-use Rattle.std.specs.Str.{bytes_eq}
-use Rattle.std.specs.Bool.{then_some}
-use Rattle.std.proofs.lemmas.Slice.Eq.{bytes_eq-Decides}
-use Rattle.ucl_command.specs.CommandLine.{group_named, number_named, order_named}
-
--- a text of one letter of a group is that letter
-pub is_letter : (text : Text) → 1 ≤ length text → length text < 2 → IsGroup (slice_index_or text 0 0) → Some (slice_index_or text 0 0) ≡ group_named text
-is_letter [] some one group = absurd (omega arith)
-is_letter (x ∷ []) some one group = rw (le-leb 65 x group.0, le-leb x 72 group.1) refl
-is_letter (x ∷ y ∷ ys) some one group = absurd (omega arith)
-
--- and no other text is one
-pub no_letter : (text : Text) → length text < 1 → None ≡ group_named text
-no_letter [] none = refl
-no_letter (x ∷ xs) none = absurd (omega arith)
-
-pub many_letters : (text : Text) → 2 ≤ length text → None ≡ group_named text
-many_letters [] many = absurd (omega arith)
-many_letters (x ∷ []) many = absurd (omega arith)
-many_letters (x ∷ y ∷ ys) many = refl
-
-pub other_letter : (text : Text) → 1 ≤ length text → length text < 2 → (IsGroup (slice_index_or text 0 0) → ⊥) → None ≡ group_named text
-other_letter [] some one other = absurd (omega arith)
-other_letter (x ∷ y ∷ ys) some one other = absurd (omega arith)
-other_letter (x ∷ []) some one other = go (nat_le 65 x && nat_le x 72) refl
-  where
-    go : (b : Bool) → (nat_le 65 x && nat_le x 72) ≡ b → None ≡ cond b (Some x) None
-    go false e = refl
-    go true e =
-        let parts = both _ _ e in
-        absurd (other (leb-true _ _ parts.0, leb-true _ _ parts.1))
+use Rattle.ucl_command.specs.CommandLine.{number_named}
 
 pub digits_from : (ds : List ℕ) → list_all (λ d. nat_lt (digit_value d) 10) ds ≡ true → AllDigits 10 ds
 digits_from [] e = tt
@@ -84,22 +54,6 @@ pub number_is : {E : Type 0} (G : Text → Result ℕ E → Type 0) → ((u : Te
 number_is G only None r none some = rw (none refl) refl
 number_is {E = E} G only (Some u) (Some n) none some = number_read {E = E} u (Ok n) (only u (Ok n) (some u refl)) n refl
 number_is G only (Some u) None none some = let h = some u refl in no_number_read u h.0 (only u (Err h.0) h.1)
-
--- what a text of the matches names
-pub named_by : {X : Type 0} (name : Text → Option X) (text bytes : Text) (first : Option Text) (r : Option X)
-    → Some text ≡ first → bytes ≡ text → r ≡ name bytes → r ≡ option_and_then name first
-named_by name text bytes first r some same is = is ∙ ap name same ∙ ap (option_and_then name) some
-
-differs : (xs ys : Text) → (xs ≡ ys → ⊥) → bytes_eq xs ys ≡ false
-differs xs ys other = go (bytes_eq xs ys) refl
-  where
-    go : (b : Bool) → bytes_eq xs ys ≡ b → b ≡ false
-    go false e = refl
-    go true e = absurd (other ((bytes_eq-Decides xs ys).0 e))
-
--- no other text is the name of an order
-pub no_order : (text : Text) → (text ≡ codes "uefa" → ⊥) → (text ≡ codes "away-in-tie" → ⊥) → None ≡ order_named text
-no_order text uefa away = rw (differs text (codes "uefa") uefa, differs text (codes "away-in-tie") away) refl
 
 pub then_some_is : (n : ℕ) → then_some (nat_le n 1000) n ≡ up_to_most n
 then_some_is n = go (nat_le n 1000)

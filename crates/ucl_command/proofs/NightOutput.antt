@@ -19,11 +19,12 @@ use Rattle.ucl_runs.specs.declared.fault.RunFault.TheVariants.{Input, OutOfMemor
 use Rattle.ucl_runs.specs.Nights.{EachMatchHasOneReporter, HasShown, IsMerge, IsOnDuty, night_text, number_of_two}
 use Rattle.ucl_command.specs.Program.{HasLooked, IsPlayed, IsScriptOnDuty, Obeys, streams}
 use Rattle.ucl_runs.specs.Run.{IsStopped, StoppedShort, TextHas}
+use Rattle.ucl_runs.specs.Styles.{styled}
 use Rattle.ucl_runs.proofs.Unsigned.{screen_of_script}
 
 -- The output of a night. --
 
-pub looked : (profile : Profile) (history : List Entry) (k m : PassView) (readings : ℕ) (roster : List NamedClub) (group : ℕ) (last : Option (List ℕ)) → HasShown profile history k m readings roster group last
+pub looked : (profile : Profile) (history : List Entry) (k m : PassView) (readings : ℕ) (roster : List NamedClub) (group : ℕ) (last : Option (List ℕ)) → HasShown (styled profile roster group) history k m readings last
     → HasLooked profile history readings roster group last
 looked profile history k m readings roster group None h = sym h.many ∙ ap length h.last_is
 looked profile history k m readings roster group (Some text) h =

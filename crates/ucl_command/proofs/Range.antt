@@ -1,32 +1,17 @@
 -- A line that is read is in its range.
-use Rattle.std.proofs.Common.{◌≡◌, ◌≤◌, ◌&&◌, ℕ, Bool, cond, true, false, refl, sym, subst, List, [], ◌∷◌, codes, Option, Some, None, leb-true}
-use Rattle.std.specs.Prelude.{nat_le, option_and_then}
+use Rattle.std.proofs.Common.{◌≡◌, ◌≤◌, ◌&&◌, ℕ, Bool, cond, true, false, refl, sym, subst, List, codes, Option, Some, None, leb-true}
+use Rattle.std.specs.Prelude.{IfSome, nat_le, option_and_then}
+use Rattle.std.specs.Str.{bytes_eq}
 use Rattle.std.specs.Str.Parse.{digits_value, without_leading_plus}
 use Rattle.clap.specs.ValueTests.{is_numeral}
-use Rattle.ucl_screen.specs.Screen.{IsGroup}
-use Rattle.std.specs.Str.{bytes_eq}
-use Rattle.clap.specs.Words.{Row, Text, first_of, one_of}
-use Rattle.clap.proofs.WalkLemmas.{both}
+use Rattle.clap.specs.Words.{Row, Text, one_of}
 use Rattle.ucl_order.specs.declared.profile.Profile.{Profile}
+use Rattle.ucl_screen.specs.Screen.{IsGroup}
+use Rattle.ucl_program.specs.Options.{group_in, order_in}
+use Rattle.ucl_program.proofs.Named.{group_in_range, through}
 use Rattle.ucl_command.specs.declared.command_line.Line.{Line}
 use Rattle.ucl_command.specs.declared.command_line.Line.TheVariants.{Feed}
-use Rattle.ucl_command.specs.CommandLine.{IsInRange, group_in, group_named, line_in, night_of, number_named, order_in, readings_in, show_of}
-use Rattle.std.specs.Prelude.{IfSome}
-
-group_in_range : (text : Text) → IfSome (group_named text) IsGroup
-group_in_range [] = tt
-group_in_range (x ∷ y ∷ ys) = tt
-group_in_range (x ∷ []) = go (nat_le 65 x && nat_le x 72) refl
-  where
-    go : (b : Bool) → (nat_le 65 x && nat_le x 72) ≡ b → IfSome (cond b (Some x) None) IsGroup
-    go false e = tt
-    go true e =
-        let parts = both _ _ e in
-        (leb-true _ _ parts.0, leb-true _ _ parts.1)
-
-through : {X Y : Type 0} (P : Y → Type 0) (f : X → Option Y) (o : Option X) → ((x : X) → IfSome (f x) P) → IfSome (option_and_then f o) P
-through P f None h = tt
-through P f (Some x) h = h x
+use Rattle.ucl_command.specs.CommandLine.{IsInRange, line_in, night_of, number_named, readings_in, show_of}
 
 number_in_range : (text : Text) → IfSome (number_named text) (λ n. n ≤ 1000)
 number_in_range text = go (is_numeral (without_leading_plus text)) (nat_le (digits_value 10 (without_leading_plus text)) 1000) refl
@@ -56,8 +41,8 @@ line_in_range p = go (bytes_eq p.0 (codes "feed")) (bytes_eq p.0 (codes "show"))
         → IfSome (cond a (Some Feed) (cond b (show_of (group_in p.1) (order_in p.1)) (cond c (night_of (group_in p.1) (readings_in p.1) (order_in p.1)) None)))
         IsInRange
     go true b c = tt
-    go false true c = show_in_range (group_in p.1) (order_in p.1) (through IsGroup group_named (first_of (codes "group") p.1) group_in_range)
-    go false false true = night_in_range (group_in p.1) (readings_in p.1) (order_in p.1) (through IsGroup group_named (first_of (codes "group") p.1) group_in_range)
+    go false true c = show_in_range (group_in p.1) (order_in p.1) (group_in_range p.1)
+    go false false true = night_in_range (group_in p.1) (readings_in p.1) (order_in p.1) (group_in_range p.1)
         (through (λ n. n ≤ 1000) number_named (one_of (codes "readings") p.1) number_in_range)
     go false false false = tt
 

@@ -1,9 +1,7 @@
 -- What lines mean that are written out, wherever the letters and the names lie.
-use Rattle.std.proofs.Common.{◌≡◌, ◌∙◌, ◌≤◌, ◌++◌, ℕ, true, zero, suc, refl, sym, ap, subst, arith, List, [], ◌∷◌, map, codes, Some, inl, inr, ◌==◌, false, lt-ltb, le-leb}
+use Rattle.std.proofs.Common.{◌≡◌, ◌≤◌, ◌++◌, ℕ, true, refl, sym, subst, arith, List, [], ◌∷◌, codes, Some, ◌==◌, false, lt-ltb, le-leb}
 use Rattle.std.specs.Prelude.{option_and_then, pos, slice_index}
-use Rattle.std.specs.Borrow.{Bor}
 use Rattle.std.specs.Str.Parse.{IsNumeral, digits_value, starts_with_minus}
-use Rattle.std.proofs.lemmas.Bool.{cases_lt}
 use Rattle.std.proofs.lemmas.Int.{ints}
 use Rattle.std.proofs.lemmas.Str.Parse.{digit_from_value}
 use Rattle.clap.specs.Values.{IsSignedIn}
@@ -15,45 +13,25 @@ use Rattle.clap.specs.declared.error.kind.ErrorKind.TheVariants as kind
 use Rattle.clap.proofs.OnLiterals.{clap_on_literals}
 use Rattle.ucl_order.specs.declared.profile.Profile.TheVariants.{Uefa, AwayInTie}
 use Rattle.ucl_screen.specs.Screen.{IsGroup}
-use Rattle.ucl_command.specs.CommandLine.{number_named, Tables, Texts, letters, line_in, order_names, program, program_with}
+use Rattle.ucl_program.specs.Options.{Texts, letters, names_of_orders}
+use Rattle.ucl_program.specs.Written.{words}
+use Rattle.ucl_program.proofs.Places.{Places, each_letter, from_low, is_table, places, table}
+use Rattle.ucl_command.specs.CommandLine.{number_named, Tables, line_in, program, program_with}
 use Rattle.ucl_command.proofs.Matches.{digits_back}
 use Rattle.ucl_command.specs.declared.command_line.Line.{Line}
 use Rattle.ucl_command.specs.declared.command_line.Line.TheVariants.{Feed, Show, Night}
-use Rattle.ucl_command.specs.Written.{RefusedLines, TakenLines, FailsAs, Means, words}
+use Rattle.ucl_command.specs.Written.{RefusedLines, TakenLines, FailsAs, Means}
 
 -- ---- where the tables lie
 
-abbrev Places : Type 0
-Places = ℕ → ℕ × ℕ
-
-places : List (Bor Text) → Places
-places [] i = (0, 0)
-places (x ∷ xs) zero = x.ref_ptr
-places (x ∷ xs) (suc i) = places xs i
-
-abbrev lying : Places → List Text → List (Bor Text)
-lying at [] = []
-lying at (w ∷ ws) = record { ref_ptr = at 0; now = w } ∷ lying (λ i. at (suc i)) ws
-
-abbrev table : ℕ × ℕ → Places → List Text → Texts
-table place at ws = record { ref_ptr = place; now = lying at ws }
-
-is_lying : (xs : List (Bor Text)) → xs ≡ lying (places xs) (map (λ t. t.now) xs)
-unfolding places
-is_lying [] = refl
-is_lying (x ∷ xs) = ap (λ rest. x ∷ rest) (is_lying xs)
-
-is_table : (names : Texts) (ws : List Text) → map (λ t. t.now) names.now ≡ ws → names ≡ table names.ref_ptr (places names.now) ws
-is_table names ws is = ap (λ (xs : List (Bor Text)). record { ref_ptr = names.ref_ptr; now = xs }) (is_lying names.now ∙ ap (lying (places names.now)) is)
-
 -- what holds wherever the tables lie holds of the program
 abbrev Anywhere : (App → Type 0) → Type 0
-Anywhere Q = (p q : ℕ × ℕ) (g o : Places) → Q (program_with (table p g letters) (table q o order_names))
+Anywhere Q = (p q : ℕ × ℕ) (g o : Places) → Q (program_with (table p g letters) (table q o names_of_orders))
 
 in_program : (Q : App → Type 0) → Anywhere Q → (t : Tables) → Q (program t)
 in_program Q h t =
     subst (λ (names : Texts). Q (program_with names t.orders)) (sym (is_table t.groups letters t.groups_are))
-    (subst (λ (names : Texts). Q (program_with (table t.groups.ref_ptr (places t.groups.now) letters) names)) (sym (is_table t.orders order_names t.orders_are))
+    (subst (λ (names : Texts). Q (program_with (table t.groups.ref_ptr (places t.groups.now) letters) names)) (sym (is_table t.orders names_of_orders t.orders_are))
     (h t.groups.ref_ptr t.orders.ref_ptr (places t.groups.now) (places t.orders.now)))
 
 -- `clap` takes the words for this command, and reads the line from them
@@ -67,20 +45,6 @@ failed : (ws : List Text) (kinds : Kinds) → Anywhere (λ a. fault_of a ws ≡ 
 failed ws kinds h = in_program (λ a. fault_of a ws ≡ kinds) h
 
 -- ---- the letters
-
-from_low : (Q : ℕ → Type 0) (low n : ℕ) → Q low → low ≤ n → (suc low ≤ n → Q n) → Q n
-from_low Q low n here least more = elim (cases_lt low n) [
-  | inl above ↦ more above
-  | inr same ↦
-      let is : low ≡ n = omega arith in
-      subst Q is here
-]
-
-each_letter : (Q : ℕ → Type 0) → Q 65 → Q 66 → Q 67 → Q 68 → Q 69 → Q 70 → Q 71 → Q 72 → (letter : ℕ) → IsGroup letter → Q letter
-each_letter Q a b c d e f g h n group =
-    from_low Q 65 n a group.0 (λ low. from_low Q 66 n b low (λ low. from_low Q 67 n c low (λ low. from_low Q 68 n d low
-    (λ low. from_low Q 69 n e low (λ low. from_low Q 70 n f low (λ low. from_low Q 71 n g low (λ low. from_low Q 72 n h low
-    (λ low. let past = group.1 in absurd (omega arith)))))))))
 
 each_group : (ws : ℕ → List Text) (line : ℕ → Line) → Anywhere (Reads (ws 65) (line 65)) → Anywhere (Reads (ws 66) (line 66)) → Anywhere (Reads (ws 67) (line 67))
     → Anywhere (Reads (ws 68) (line 68)) → Anywhere (Reads (ws 69) (line 69)) → Anywhere (Reads (ws 70) (line 70)) → Anywhere (Reads (ws 71) (line 71))

@@ -1,12 +1,10 @@
 -- What the program does with what its words ask for.
-use Rattle.std.specs.Prelude.{◌≡◌, ◌≢◌, ℕ, ◌≤◌, ⊤, Bool, true, List, All, length, map, take, Option, Some, None, IfSome, Result, Ok, Err, IfErr, IsErrOf, OnOk, string_bytes}
-use Rattle.std.specs.Io.KnownBytes.{Appends}
+use Rattle.std.specs.Prelude.{◌≡◌, ◌≢◌, ℕ, ◌≤◌, ⊤, Bool, List, All, length, map, take, Option, Some, None, IfSome, Result, Ok, Err, IfErr, string_bytes}
 use Rattle.ucl_board.specs.declared.entry.Entry.{Entry}
 use Rattle.ucl_board.specs.History.{accepted_of, board_of}
 use Rattle.ucl_order.specs.declared.profile.Profile.{Profile}
 use Rattle.ucl_order.specs.Roster.{NamedClub}
 use Rattle.ucl_screen.specs.declared.fault.InputFault.{InputFault}
-use Rattle.ucl_screen.specs.declared.fault.InputFault.TheVariants as input
 use Rattle.ucl_screen.specs.declared.stream.Source as reads
 use Rattle.ucl_screen.specs.declared.stream.Sink as writes
 use Rattle.ucl_screen.specs.Input.{Reads}
@@ -15,16 +13,18 @@ use Rattle.ucl_screen.specs.Parsing.{MeansNight, MeansSheet, night_seen, sheet_s
 use Rattle.ucl_screen.specs.Screen.{screen_text}
 use Rattle.ucl_command.specs.declared.command_line.Line.{Line}
 use Rattle.ucl_command.specs.declared.command_line.Line.TheVariants.{Feed, Show, Night}
-use Rattle.ucl_command.specs.declared.command_line.LineFault.{LineFault}
-use Rattle.ucl_command.specs.declared.command_line.LineFault.TheVariants as words
+use Rattle.ucl_program.specs.declared.fault.LineFault.{LineFault}
+use Rattle.ucl_program.specs.declared.fault.LineFault.TheVariants as words
 use Rattle.ucl_runs.specs.declared.fault.RunFault.{RunFault}
 use Rattle.ucl_runs.specs.declared.fault.RunFault.TheVariants.{Input, OutOfMemory, WriteFailed, NotOnDuty, NoThread, TooManyReporters, Strangers}
-use Rattle.ucl_runs.specs.Faults.{IsOfOneThread, status}
+use Rattle.ucl_program.specs.Ending.{Ends, WritesText}
+use Rattle.ucl_runs.specs.Faults.{IsOfOneThread}
 use Rattle.ucl_runs.specs.Feed.{IsFed, attempt_of}
 use Rattle.ucl_runs.specs.Show.{IsShown}
-use Rattle.ucl_runs.specs.Telling.{Tells, fault_line}
+use Rattle.ucl_runs.specs.Telling.{Tells}
 use Rattle.ucl_runs.specs.Nights.{EachMatchHasOneReporter, IsFirstOffDuty, IsMerge, IsOnDuty, night_text, number_of_two}
-use Rattle.ucl_runs.specs.Run.{IfInput, IfWriteFailed, IsCutShort, StoppedShort, TextHas, UnlessWriteFailed, WroteFirst, is_read_failed}
+use Rattle.ucl_screen.specs.Stream.{WroteFirst}
+use Rattle.ucl_runs.specs.Run.{BlamesOutput, IfInput, IfWriteFailed, StoppedShort, TellsMemoryApart, TextHas, WritesAll, WritesNothing, is_read_failed}
 
 -- The text that a line calls for. --
 
@@ -120,30 +120,20 @@ streams_at source sink s w = streams (source.left s) (source.failed s) (sink.tak
 
 -- a line was done, or has the fault r, over these streams
 pub record Obeys (line : Line) (before after : Streams) (r : Result ⊤ RunFault) : Type 0 where
-  pub text : OnOk r (TextHas (CallsFor line) before.left (Appends before.taken after.taken))
+  pub text : WritesAll (CallsFor line) before.left before.taken after.taken r
   pub kinds : IfErr r (IsFaultOf line before.left)
-  pub memory : IsErrOf r (Input input.OutOfMemory) → ⊥
+  pub memory : TellsMemoryApart r
   pub input : IfErr r (λ f. IfInput f (RefusesInput line before.left after.left after.read_failed))
-  pub unwritten : IfErr r (λ f. UnlessWriteFailed f (after.taken ≡ before.taken))
+  pub unwritten : WritesNothing before.taken after.taken r
   pub read_failed : after.read_failed ≡ is_read_failed r
-  pub write_failed : IfErr r (λ f. IfWriteFailed f (λ written. after.write_failed ≡ true))
+  pub write_failed : BlamesOutput after.write_failed r
   pub written : IfErr r (λ f. IfWriteFailed f (λ written. TextHas (CallsFor line) before.left (StopsWithin line after.write_failed before.taken after.taken written)))
-
--- status 0 and nothing is told; or the line of the fault is told, and its status
-abbrev pub Ends : Result ⊤ RunFault → ℕ → Bool → Option (List ℕ) → Option (List ℕ) → Type 0
-Ends (Ok done) code failed old new = (code ≡ 0) × (new ≡ old)
-Ends (Err fault) code failed old new = (code ≡ status fault) × Tells failed old new (fault_line fault)
-
--- a text was written whole, or has the fault r
-pub record WritesText (text : List ℕ) (before after : Streams) (r : Result ⊤ RunFault) : Type 0 where
-  pub all : OnOk r (Appends before.taken after.taken text)
-  pub part : IfErr r (IsCutShort after.write_failed before.taken after.taken text)
 
 -- what the program does where its words ask for a line, ask for help, are refused, or could not be read for want of memory; and its
 -- exit status, and what it tells on the error sink
 abbrev pub Runs : Result Line LineFault → Streams → Streams → ℕ → Bool → Option (List ℕ) → Option (List ℕ) → Type 0
 Runs (Ok line) before after code failed old new = (r : Result ⊤ RunFault) × Obeys line before after r × Ends r code failed old new
 Runs (Err (words.Help text)) before after code failed old new =
-    (r : Result ⊤ RunFault) × WritesText (string_bytes text) before after r × Ends r code failed old new
+    (r : Result ⊤ RunFault) × WritesText (string_bytes text) after.write_failed before.taken after.taken r × Ends r code failed old new
 Runs (Err (words.Refused text)) before after code failed old new = (after ≡ before) × (code ≡ 2) × Tells failed old new (string_bytes text)
 Runs (Err words.OutOfMemory) before after code failed old new = (after ≡ before) × Ends (Err OutOfMemory) code failed old new

@@ -1,31 +1,23 @@
 -- What lines mean that are written out.
-use Rattle.std.specs.Prelude.{◌≡◌, ◌≤◌, ◌==◌, ◌++◌, ℕ, true, List, [], ◌∷◌, Some, codes, if◌then◌else◌}
+use Rattle.std.specs.Prelude.{◌≤◌, ◌++◌, ℕ, List, [], ◌∷◌, codes}
 use Rattle.std.specs.Str.Parse.{IsNumeral, digits_value}
-use Rattle.clap.specs.Words.{Kinds, Text, fault_of, takes}
+use Rattle.clap.specs.Words.{Kinds, Text}
 use Rattle.clap.specs.declared.error.kind.ErrorKind.TheVariants as kind
 use Rattle.ucl_order.specs.declared.profile.Profile.TheVariants.{Uefa, AwayInTie}
 use Rattle.ucl_screen.specs.Screen.{IsGroup}
 use Rattle.ucl_command.specs.declared.command_line.Line.{Line}
 use Rattle.ucl_command.specs.declared.command_line.Line.TheVariants.{Feed, Show, Night}
-use Rattle.ucl_command.specs.CommandLine.{Tables, line_named, program}
-
--- a character before the first word
-abbrev pub before : ℕ → List Text → List Text
-before c [] = (c ∷ []) ∷ []
-before c (word ∷ words) = (c ∷ word) ∷ words
-
--- the words of a line, with one space between two
-abbrev pub words : Text → List Text
-words [] = [] ∷ []
-words (c ∷ cs) = if c == 32 then [] ∷ words cs else before c (words cs)
+use Rattle.ucl_program.specs.Lines.{IsReading, IsRefusing}
+use Rattle.ucl_program.specs.Written.{words}
+use Rattle.ucl_command.specs.CommandLine.{line_named, program}
 
 -- `clap` takes the words and reads the line from them
 abbrev pub Means : List Text → Line → Type 0
-Means ws line = (t : Tables) → (takes (program t) ws ≡ true) × (line_named t ws ≡ Some line)
+Means = IsReading program line_named
 
 -- `clap` refuses the words, by one of these kinds of error
 abbrev pub FailsAs : List Text → Kinds → Type 0
-FailsAs ws kinds = (t : Tables) → fault_of (program t) ws ≡ kinds
+FailsAs = IsRefusing program
 
 -- lines that are taken, with the letter of any group and any number to 1,000
 pub record TakenLines : Type 0 where

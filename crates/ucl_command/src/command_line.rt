@@ -1,16 +1,15 @@
 //! The program's words, read by `clap`.
 
-ghost use Rattle.std.specs.Prelude.{◌≡◌, ◌<◌, IfErr, IfOk, false, length, map, option_and_then, string_bytes};
-ghost use Rattle.clap.specs.Words.{app_of, found_of, kind_of, rows_of, rule_of, subcommand_rows_of};
-ghost use Rattle.ucl_command.specs.CommandLine.{AreTaken, AskFor, IsFaultOf, IsInRange, Tables, Tells, program, top_command};
-ghost use Rattle.ucl_command.specs.CommandLine.{group_in, group_option, line_in, order_in, order_option, readings_in, readings_option};
+ghost use Rattle.std.specs.Prelude.{◌≡◌, IfErr, IfOk, false, map, option_and_then, string_bytes};
+ghost use Rattle.clap.specs.Words.{app_of, found_of, rows_of, rule_of, subcommand_rows_of};
+ghost use Rattle.ucl_command.specs.CommandLine.{AreTaken, AskFor, IsFaultOf, IsInRange, Tables, program, top_command};
+ghost use Rattle.ucl_command.specs.CommandLine.{line_in, readings_in, readings_option};
 
 use crate::texts;
-use clap::error::ErrorKind;
-use clap::{Arg, ArgAction, ArgMatches, Command, Error, value_parser};
+use clap::{Arg, ArgAction, ArgMatches, Command, value_parser};
 use std::alloc::{AllocError, Global};
 use ucl_order::Profile;
-use ucl_screen::is_group;
+use ucl_program::{LineFault, VERSION, fault_of, group_of, group_option, order_option, profile_of};
 
 /// What the program is to do.
 #[derive(Clone, Copy, Debug, PartialEq, Eq)]
@@ -35,43 +34,14 @@ pub enum Line {
     },
 }
 
-/// Why the words name nothing to do.
-#[derive(Debug, Drop)]
-pub enum LineFault {
-    /// Help or the version was asked for, and is this text.
-    Help(String),
-    /// The words are refused, as this text says.
-    Refused(String),
-    /// 23: memory was asked for, and there was none.
-    OutOfMemory,
-}
-
 /// The letters that `--group` takes.
 static GROUPS: [&str; 8] = ["A", "B", "C", "D", "E", "F", "G", "H"];
 
 /// The orders that `--order` takes, the UEFA order first.
-static ORDERS: [&str; 2] = [UEFA, AWAY_IN_TIE];
-
-const UEFA: &str = "uefa";
-
-const AWAY_IN_TIE: &str = "away-in-tie";
+static ORDERS: [&str; 2] = ["uefa", "away-in-tie"];
 
 /// The most readings that `--readings` asks of each reader.
 const MOST_READINGS: u32 = 1000;
-
-/// The option `--group`, with the letters that it takes.
-fn group_option<'a>(alloc: Global, letters: &'a [&'a str]) -> Arg<'a>
-    ensures rule { rule_of result ≡ group_option letters.entry }
-    ensures local { result.global ≡ false }
-{
-    Arg::new(alloc, "group")
-        .long("group")
-        .action(ArgAction::Set)
-        .value_name("GROUP")
-        .help(texts::GROUP)
-        .value_parser(letters)
-        .default_value("A")
-}
 
 /// The option `--readings`.
 fn readings_option<'a>(alloc: Global) -> Arg<'a>
@@ -87,26 +57,12 @@ fn readings_option<'a>(alloc: Global) -> Arg<'a>
         .default_value("0")
 }
 
-/// The option `--order`, with the names that it takes.
-fn order_option<'a>(alloc: Global, names: &'a [&'a str]) -> Arg<'a>
-    ensures rule { rule_of result ≡ order_option names.entry }
-    ensures local { result.global ≡ false }
-{
-    Arg::new(alloc, "order")
-        .long("order")
-        .action(ArgAction::Set)
-        .value_name("ORDER")
-        .help(texts::ORDER)
-        .value_parser(names)
-        .default_value(UEFA)
-}
-
 /// The program's command, before it has subcommands.
 fn top_command<'a>(alloc: Global) -> Command<'a>
     ensures { app_of result ≡ top_command }
 {
     Command::new(alloc, "ucl_night")
-        .version(texts::VERSION)
+        .version(VERSION)
         .about(texts::PROGRAM)
         .after_help(texts::PROGRAM_MORE)
         .subcommand_required(true)
@@ -138,33 +94,12 @@ fn command<'a>(alloc: Global) -> Result<Command<'a>, AllocError>
         .subcommand(night)
 }
 
-/// The group that was named.
-fn group_of(matches: &ArgMatches<'_>) -> Option<u8>
-    ensures { result ≡ group_in (rows_of (found_of matches.now)) }
-{
-    match matches.get_str("group")?.as_bytes() {
-        [letter] if is_group(*letter) => Some(*letter),
-        _ => None,
-    }
-}
-
 /// How many readings were asked for.
 fn readings_of(matches: &ArgMatches<'_>) -> Option<u32>
     ensures { result ≡ readings_in (rows_of (found_of matches.now)) }
 {
     let readings = matches.get_one::<u32>("readings")?;
     (readings <= MOST_READINGS).then_some(readings)
-}
-
-/// The order that was named.
-fn profile_of(matches: &ArgMatches<'_>) -> Option<Profile>
-    ensures { result ≡ order_in (rows_of (found_of matches.now)) }
-{
-    match matches.get_str("order")? {
-        UEFA => Some(Profile::Uefa),
-        AWAY_IN_TIE => Some(Profile::AwayInTie),
-        _ => None,
-    }
 }
 
 /// The line that was named.
@@ -187,33 +122,6 @@ fn line_in(matches: &ArgMatches<'_>) -> Option<Line>
     }
 }
 
-/// The text of an error, which is what `clap` says of it. `clap` does not promise that it says anything: an empty text gives way to the
-/// program's own.
-fn text_of(alloc: Global, error: &Error) -> Result<String, AllocError>
-    ensures { IfOk result (λ text. 0 < length (string_bytes text)) }
-{
-    let text = error.to_string(alloc)?;
-    if text.is_empty() {
-        return String::from_str(alloc, texts::NO_TEXT);
-    }
-    Ok(text)
-}
-
-/// What to tell of words that were not taken.
-fn fault_of(alloc: Global, error: &Error) -> LineFault
-    ensures memory { kind_of error.now ≡ ErrorKind.OutOfMemory → result ≡ LineFault.OutOfMemory }
-    ensures tells { Tells result (kind_of error.now) }
-{
-    if error.kind() == ErrorKind::OutOfMemory {
-        return LineFault::OutOfMemory;
-    }
-    match text_of(alloc, error) {
-        Err(_) => LineFault::OutOfMemory,
-        Ok(text) if error.use_stderr() => LineFault::Refused(text),
-        Ok(text) => LineFault::Help(text),
-    }
-}
-
 /// What the program's words ask for. The first word is the program's name.
 ///
 /// The words are read by `clap`: the name is followed by the subcommand `feed`, `show` or `night`. The latter two take
@@ -232,7 +140,7 @@ pub fn line_of(alloc: Global, words: &[String]) -> Result<Line, LineFault>
     };
     let matches = match command.try_get_matches_from(words) {
         Ok(matches) => matches,
-        Err(error) => return Err(fault_of(alloc, &error)),
+        Err(error) => return Err(fault_of(alloc, &error, texts::NO_TEXT)),
     };
     let Some(line) = line_in(&matches) else {
         unreachable!("what the parser has taken names a line")

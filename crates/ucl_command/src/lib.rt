@@ -6,11 +6,10 @@ mod command_line;
 mod laws;
 mod night;
 mod program;
-mod refusal;
 mod texts;
 
-pub use command_line::{Line, LineFault, line_of};
+pub use command_line::{Line, line_of};
 pub use laws::{words_that_are_refused, words_that_are_taken};
 pub use night::{PlayedNight, night_on};
 pub use program::{feed, obey, run, show};
-pub use refusal::tell_refusal;
+pub use ucl_program::{LineFault, tell_refusal};

@@ -9,6 +9,7 @@ ghost use Rattle.ucl_runs.specs.Faults.{IsOfNight};
 ghost use Rattle.ucl_runs.specs.Gates.{HaveCalled, Showed, rows_by};
 ghost use Rattle.ucl_runs.specs.Nights.{HasShown, HaveEnteredAll, HaveMerged, HaveNightBoard, HaveRead, HaveShares, IsDutyTold, IsOnDuty, last_shown, night_history, night_output, pass_of_reader_1, pass_of_reader_2};
 ghost use Rattle.ucl_runs.specs.Run.{IsStopped};
+ghost use Rattle.ucl_runs.specs.Styles.{styled};
 
 use std::alloc::Global;
 use std::sync::Wait;
@@ -88,13 +89,27 @@ pub fn night_on<B: LiveBoard, G: Gate, W: Sink, R: Threads + Wait + Sync>(
     ensures shares { IfOk result (λ played. HaveShares (B.reader pass) (B.reporter played.end.reporter_1) (B.reporter played.end.reporter_2) (B.reader played.end.reader_1) (B.reader played.end.reader_2)) }
 
     // What the readers showed are versions of the history that was settled, which has all that they and the lent pass have seen.
-    ensures shown_1 { IfOk result (λ played. HasShown profile (night_history (B.reporter played.end.reporter_2) played.end.settled.version) (pass_of_reader_1 (B.reader pass)) (B.reader played.end.reader_1) readings night.entry.now.roster group (last_shown played.end.last 0)) }
-    ensures shown_2 { IfOk result (λ played. HasShown profile (night_history (B.reporter played.end.reporter_2) played.end.settled.version) (pass_of_reader_2 (B.reader pass)) (B.reader played.end.reader_2) readings night.entry.now.roster group (last_shown played.end.last 1)) }
+    ensures shown_1 { IfOk result (λ played. HasShown
+        (styled profile night.entry.now.roster group)
+        (night_history (B.reporter played.end.reporter_2) played.end.settled.version)
+        (pass_of_reader_1 (B.reader pass)) (B.reader played.end.reader_1)
+        readings (last_shown played.end.last 0)) }
+    ensures shown_2 { IfOk result (λ played. HasShown
+        (styled profile night.entry.now.roster group)
+        (night_history (B.reporter played.end.reporter_2) played.end.settled.version)
+        (pass_of_reader_2 (B.reader pass)) (B.reader played.end.reader_2)
+        readings (last_shown played.end.last 1)) }
 
     // The gate was told of each call of each worker, and of the screen of each reading, which is of a version of the settled history.
     ensures called { IfOk result (λ _. HaveCalled (G.came gate.entry.now) night.entry.now.events.items readings) }
-    ensures showed_1 { IfOk result (λ played. Showed (G.showed gate.entry.now) 3 profile (night_history (B.reporter played.end.reporter_2) played.end.settled.version) (B.reader played.end.reader_1).shown night.entry.now.roster group) }
-    ensures showed_2 { IfOk result (λ played. Showed (G.showed gate.entry.now) 4 profile (night_history (B.reporter played.end.reporter_2) played.end.settled.version) (B.reader played.end.reader_2).shown night.entry.now.roster group) }
+    ensures showed_1 { IfOk result (λ played. Showed (G.showed gate.entry.now) 3
+        (styled profile night.entry.now.roster group)
+        (night_history (B.reporter played.end.reporter_2) played.end.settled.version)
+        (B.reader played.end.reader_1).shown) }
+    ensures showed_2 { IfOk result (λ played. Showed (G.showed gate.entry.now) 4
+        (styled profile night.entry.now.roster group)
+        (night_history (B.reporter played.end.reporter_2) played.end.settled.version)
+        (B.reader played.end.reader_2).shown) }
 {
     let end = night_run(
         rt, alloc, board, pass, night, group, readings, gate, profile,

@@ -3,15 +3,15 @@
 ghost use Rattle.std.specs.Prelude.{IfOk};
 ghost use Rattle.ucl_screen.specs.Screen.{IsGroup};
 ghost use Rattle.ucl_command.specs.CommandLine.{IsInRange};
-ghost use Rattle.ucl_command.specs.Program.{Ends, Obeys, Runs, streams_at};
+ghost use Rattle.ucl_command.specs.Program.{Obeys, Runs, streams_at};
 
+use crate::Line;
 use crate::night::night_on;
-use crate::refusal::tell_refusal;
-use crate::{Line, LineFault};
 use std::alloc::Global;
 use std::sync::Wait;
 use std::thread::Threads;
 use ucl_order::Profile;
+use ucl_program::{LineFault, ended, tell_refusal};
 use ucl_runs::{OpenGate, RunFault, feed_run, put_text, show_run, tell};
 use ucl_screen::{Sink, Source, read_night};
 use ucl_words::WordBoard;
@@ -91,16 +91,6 @@ pub fn obey<S: Source, W: Sink, R: Threads + Wait + Sync>(
             readings,
             profile,
         } => play(rt, alloc, source, sink, group, readings, profile),
-    }
-}
-
-/// The exit status, where a fault is told by its line.
-fn ended<E: Sink>(errors: &mut E, done: Result<(), RunFault>) -> u8
-    ensures { Ends done result (E.failed errors.new) (E.taken errors.old) (E.taken errors.new) }
-{
-    match done {
-        Ok(()) => 0,
-        Err(fault) => tell(errors, fault),
     }
 }
 

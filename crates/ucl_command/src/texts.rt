@@ -1,7 +1,4 @@
-//! What the program tells of itself: its version, and the texts of its help.
-
-/// The version, and what it is proved with.
-pub const VERSION: &str = "1.0.0 (proved with rattle-kit-13f logic dac8208d650f15bf)";
+//! What the program tells of itself: the texts of its help.
 
 /// What the program says in place of a text that would be empty.
 pub const NO_TEXT: &str = "ucl_night: the words name nothing to do; see --help\n";
@@ -84,13 +81,5 @@ headed `READER 1` and `READER 2`; then the closing screen, headed `FINAL`
 Example:
   ucl_night night --readings 3 < examples/group_a_2021_night.csv";
 
-/// What `--group` is.
-pub const GROUP: &str = "The letter of the group";
-
 /// What `--readings` is.
 pub const READINGS: &str = "How many readings each of two readers takes, 0 to 1,000";
-
-/// What `--order` is.
-pub const ORDER: &str = "\
-The order of the clubs: that of the Regulations, or
-with away goals among tied clubs";

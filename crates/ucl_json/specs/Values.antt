@@ -1,5 +1,6 @@
--- Answers as values. The members of an object stand in the order of their names.
-use Rattle.std.specs.Prelude.{ℕ, ◌+◌, pos, ◌-ℤ◌, List, [], ◌∷◌, codes, Result, Ok, Err}
+-- Answers as values. The members of an object stand in the order of their names. An accepted event's answer and a screen's stand for
+-- themselves: each has the group, its order, the clubs and the words of the board, so that it is one moment, whole.
+use Rattle.std.specs.Prelude.{ℕ, pos, ◌-ℤ◌, List, [], ◌∷◌, codes, Result, Ok, Err}
 use Rattle.serde_json.specs.Data.{Data, Items, item, no_items, Members, member, no_members, array, number, object, put, string, unsigned}
 use Rattle.serde_json.specs.Find.{of_integer}
 use Rattle.ucl_word.specs.declared.event.Accepted.{Accepted}
@@ -11,41 +12,66 @@ use Rattle.ucl_order.specs.declared.mark.Mark.TheVariants.{Plus, Minus, Blank}
 use Rattle.ucl_order.specs.declared.profile.Profile.{Profile}
 use Rattle.ucl_order.specs.declared.profile.Profile.TheVariants.{Uefa, AwayInTie}
 use Rattle.ucl_order.specs.declared.table.Row.{Row}
-use Rattle.ucl_order.specs.Roster.{NamedClub, name_of}
+use Rattle.ucl_order.specs.Roster.{NamedClub, coefficient_of, name_of}
 use Rattle.ucl_order.specs.Rows.{rows_of}
 use Rattle.ucl_screen.specs.Screen.{in_play}
 use Rattle.ucl_runs.specs.Lines.{hex_digits}
 
-abbrev pub count : ℕ → Data
-count n = number (unsigned n)
+abbrev pub number_value : ℕ → Data
+number_value n = number (unsigned n)
+
+-- ---- what a moment is told by
+
+abbrev pub order_name : Profile → List ℕ
+order_name Uefa = codes "uefa"
+order_name AwayInTie = codes "away-in-tie"
+
+-- each word in sixteen hexadecimal digits
+abbrev pub word_items : List ℕ → Items
+word_items [] = no_items
+word_items (word ∷ words) = item (string (hex_digits word)) (word_items words)
+
+-- the club of a slot, with its coefficient in thousandths
+abbrev pub club_value : List NamedClub → ℕ → Data
+club_value roster slot = object (
+    member (codes "club") (string (name_of roster slot)) (
+    member (codes "coefficient") (number_value (coefficient_of roster slot)) no_members))
+
+-- the four clubs, in the order of their slots
+abbrev pub club_items : List NamedClub → Items
+club_items roster = item (club_value roster 1) (item (club_value roster 2) (item (club_value roster 3) (item (club_value roster 4) no_items)))
 
 -- ---- replies
 
--- the reply to an event that was entered
-abbrev pub accepted_value : ℕ → ℕ → ℕ → ℕ → Data
-accepted_value row game event_number version = object (
-    member (codes "match") (count game) (
-    member (codes "number") (count event_number) (
+-- the reply to an event that was entered, with the group, its order and clubs, and the board after the event
+unfoldable pub accepted_value : ℕ → ℕ → ℕ → Profile → List ℕ → List NamedClub → ℕ → Data
+accepted_value row game event_number profile board roster group = object (
+    member (codes "clubs") (array (club_items roster)) (
+    member (codes "group") (string (group ∷ [])) (
+    member (codes "match") (number_value game) (
+    member (codes "number") (number_value event_number) (
+    member (codes "order") (string (order_name profile)) (
     member (codes "reply") (string (codes "ok")) (
-    member (codes "row") (count row) (
-    member (codes "version") (count version) no_members)))))
+    member (codes "row") (number_value row) (
+    member (codes "version") (number_value (version_of board)) (
+    member (codes "words") (array (word_items board)) no_members)))))))))
 
 -- the reply to an event that is stale, with the number that was found
 abbrev pub stale_value : ℕ → ℕ → Data
 stale_value row found = object (
-    member (codes "code") (count 1) (
+    member (codes "code") (number_value 1) (
     member (codes "name") (string (codes "stale")) (
-    member (codes "number") (count found) (
+    member (codes "number") (number_value found) (
     member (codes "reply") (string (codes "refused")) (
-    member (codes "row") (count row) no_members)))))
+    member (codes "row") (number_value row) no_members)))))
 
 -- the reply to any other row that is refused
 abbrev pub coded_value : ℕ → ℕ → List ℕ → Data
 coded_value row code name = object (
-    member (codes "code") (count code) (
+    member (codes "code") (number_value code) (
     member (codes "name") (string name) (
     member (codes "reply") (string (codes "refused")) (
-    member (codes "row") (count row) no_members))))
+    member (codes "row") (number_value row) no_members))))
 
 -- the reply to an event that is refused
 abbrev pub refused_value : ℕ → Refusal → Data
@@ -59,10 +85,10 @@ refused_value row NoCaution = coded_value row 7 (codes "no-caution")
 refused_value row LimitReached = coded_value row 8 (codes "limit-reached")
 refused_value row NotFinished = coded_value row 9 (codes "not-finished")
 
--- the reply to an event, where so many events were accepted before: an accepted one raises the version by one
-abbrev pub reply_value : ℕ → ℕ → ℕ → Result Accepted Refusal → Data
-reply_value row game before (Ok accepted) = accepted_value row game accepted.number (before + 1)
-reply_value row game before (Err refusal) = refused_value row refusal
+-- the reply to an event, with the board after it
+abbrev pub reply_value : ℕ → ℕ → Result Accepted Refusal → Profile → List ℕ → List NamedClub → ℕ → Data
+reply_value row game (Ok accepted) profile board roster group = accepted_value row game accepted.number profile board roster group
+reply_value row game (Err refusal) profile board roster group = refused_value row refusal
 
 -- the reply to a row that asks for nothing that there is
 abbrev pub bad_row_value : ℕ → Data
@@ -70,15 +96,10 @@ bad_row_value row = coded_value row 20 (codes "bad-row")
 
 -- ---- words
 
--- each word in sixteen hexadecimal digits
-abbrev pub word_items : List ℕ → Items
-word_items [] = no_items
-word_items (word ∷ words) = item (string (hex_digits word)) (word_items words)
-
 abbrev pub words_value : ℕ → List ℕ → Data
 words_value row words = object (
     member (codes "reply") (string (codes "words")) (
-    member (codes "row") (count row) (
+    member (codes "row") (number_value row) (
     member (codes "words") (array (word_items words)) no_members)))
 
 -- ---- screens
@@ -88,50 +109,48 @@ mark_name Plus = codes "+"
 mark_name Minus = codes "-"
 mark_name Blank = codes ""
 
-abbrev pub order_name : Profile → List ℕ
-order_name Uefa = codes "uefa"
-order_name AwayInTie = codes "away-in-tie"
-
 -- the members of a place, as they are put one after the other
 abbrev pub with_matches : Row → Members → Members
-with_matches row ms = put (codes "drawn") (count row.draws) (put (codes "lost") (count row.losses) (put (codes "played") (count row.played) (put (codes "won") (count row.wins) ms)))
+with_matches row ms = put (codes "drawn") (number_value row.draws) (put (codes "lost") (number_value row.losses) (put (codes "played") (number_value row.played) (put (codes "won") (number_value row.wins) ms)))
 
-abbrev pub difference : Row → Data
-difference row = number (of_integer (pos row.goals_for -ℤ pos row.goals_against))
+abbrev pub difference_value : Row → Data
+difference_value row = number (of_integer (pos row.goals_for -ℤ pos row.goals_against))
 
 abbrev pub with_goals : Row → Members → Members
-with_goals row ms = put (codes "goal_difference") (difference row) (put (codes "goals_against") (count row.goals_against) (put (codes "goals_for") (count row.goals_for) (put (codes "points") (count row.points) ms)))
+with_goals row ms = put (codes "goal_difference") (difference_value row) (put (codes "goals_against") (number_value row.goals_against) (put (codes "goals_for") (number_value row.goals_for) (put (codes "points") (number_value row.points) ms)))
 
 abbrev pub with_club : List NamedClub → Row → Members → Members
-with_club roster row ms = put (codes "club") (string (name_of roster row.slot)) (put (codes "mark") (string (mark_name row.mark)) (put (codes "place") (count row.place) (put (codes "slot") (count row.slot) ms)))
+with_club roster row ms = put (codes "club") (string (name_of roster row.slot)) (put (codes "mark") (string (mark_name row.mark)) (put (codes "place") (number_value row.place) (put (codes "slot") (number_value row.slot) ms)))
 
 -- a place of the table, with the name of its club
 unfoldable pub place_value : List NamedClub → Row → Data
 place_value roster row = object (
     member (codes "club") (string (name_of roster row.slot)) (
-    member (codes "drawn") (count row.draws) (
-    member (codes "goal_difference") (difference row) (
-    member (codes "goals_against") (count row.goals_against) (
-    member (codes "goals_for") (count row.goals_for) (
-    member (codes "lost") (count row.losses) (
+    member (codes "drawn") (number_value row.draws) (
+    member (codes "goal_difference") (difference_value row) (
+    member (codes "goals_against") (number_value row.goals_against) (
+    member (codes "goals_for") (number_value row.goals_for) (
+    member (codes "lost") (number_value row.losses) (
     member (codes "mark") (string (mark_name row.mark)) (
-    member (codes "place") (count row.place) (
-    member (codes "played") (count row.played) (
-    member (codes "points") (count row.points) (
-    member (codes "slot") (count row.slot) (
-    member (codes "won") (count row.wins) no_members))))))))))))
+    member (codes "place") (number_value row.place) (
+    member (codes "played") (number_value row.played) (
+    member (codes "points") (number_value row.points) (
+    member (codes "slot") (number_value row.slot) (
+    member (codes "won") (number_value row.wins) no_members))))))))))))
 
 abbrev pub place_items : List NamedClub → List Row → Items
 place_items roster [] = no_items
 place_items roster (row ∷ rows) = item (place_value roster row) (place_items roster rows)
 
--- the screen of a board, for a group, in the order of the profile
+-- the screen of a board, for a group, in the order of the profile, and what it is worked out from
 unfoldable pub screen_value : ℕ → Profile → List ℕ → List NamedClub → ℕ → Data
 screen_value row profile board roster group = object (
+    member (codes "clubs") (array (club_items roster)) (
     member (codes "group") (string (group ∷ [])) (
-    member (codes "in_play") (count (in_play board)) (
+    member (codes "in_play") (number_value (in_play board)) (
     member (codes "order") (string (order_name profile)) (
     member (codes "reply") (string (codes "screen")) (
-    member (codes "row") (count row) (
+    member (codes "row") (number_value row) (
     member (codes "table") (array (place_items roster (rows_of profile board roster))) (
-    member (codes "version") (count (version_of board)) no_members)))))))
+    member (codes "version") (number_value (version_of board)) (
+    member (codes "words") (array (word_items board)) no_members)))))))))

@@ -1,6 +1,8 @@
-//! The answers of an evening as JSON: each is one object on one line, with a member `reply` that says what kind of answer it is.
+//! The answers of an evening as JSON: each is one object on one line, with a member `reply` that says what kind of answer it is. The answer
+//! to an accepted event and that of a screen stand for themselves: the clubs and the words of the board are among their members.
 #![tactic(auto)]
 
+mod clubs;
 mod line;
 mod reply;
 mod screen;

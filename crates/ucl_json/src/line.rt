@@ -11,6 +11,7 @@ use serde_json::Value;
 use std::alloc::{AllocError, Global};
 
 /// The text of a value on one line.
+#[tactic(auto, using(crate::proofs::OneLine::line_is_one))]
 pub(crate) fn line_of(alloc: Global, value: &Value) -> Result<String, AllocError>
     requires whole { has_float (view value.now) ≡ false }
     requires shallow { depth (view value.now) ≤ max_depth }

@@ -1,26 +1,50 @@
 //! Replies to events.
 
-ghost use Rattle.std.specs.Prelude.{◌≡◌, ◌<◌, ◌-◌, ◌^◌, IfOk, string_bytes};
+ghost use Rattle.std.specs.Prelude.{◌≡◌, ◌≤◌, [], ◌∷◌, IfOk, length, string_bytes};
 ghost use Rattle.serde_json.specs.View.{view};
+ghost use Rattle.ucl_screen.specs.Screen.{IsGroup};
 ghost use Rattle.ucl_json.specs.Lines.{IsLineOf};
 ghost use Rattle.ucl_json.specs.Values.{accepted_value, bad_row_value, coded_value, refused_value, reply_value, stale_value};
 
+use crate::clubs::club_values;
 use crate::line::line_of;
+use crate::screen::{letter_of, order_name};
+use crate::words::word_values;
 use serde_json::{Value, json};
 use std::alloc::{AllocError, Global};
+use ucl_board::Board;
+use ucl_order::{Profile, Roster};
 use ucl_word::{Accepted, Refusal};
 
-/// The reply to an event that was entered.
+/// The reply to an event that was entered, with the board after it.
+#[tactic(auto, unfolding(crate::specs::Values::accepted_value))]
 fn accepted_value(
     alloc: Global,
     row: u64,
     game: u8,
     number: u16,
-    version: u16,
+    board: &Board,
+    roster: &Roster,
+    group: u8,
+    profile: Profile,
 ) -> Result<Value, AllocError>
-    ensures { IfOk result (λ value. view value ≡ accepted_value row game number version) }
+    requires { IsGroup group }
+    ensures { IfOk result (λ value. view value
+        ≡ accepted_value row game number profile board.now roster.now group) }
 {
-    json!(in alloc; {"row": row, "reply": "ok", "match": game, "number": number, "version": version})
+    let clubs = club_values(alloc, roster)?;
+    let words = word_values(alloc, board.words().as_slice())?;
+    json!(in alloc; {
+        "row": row,
+        "reply": "ok",
+        "match": game,
+        "number": number,
+        "version": board.version(),
+        "group": letter_of(group),
+        "order": order_name(profile),
+        "clubs": clubs,
+        "words": words
+    })
 }
 
 /// The reply to an event that is stale.
@@ -54,24 +78,38 @@ fn refused_value(alloc: Global, row: u64, refusal: Refusal) -> Result<Value, All
     }
 }
 
-/// The reply to an event of a match, where so many events were accepted before.
+/// The reply to an event of a match, with the board after it.
 fn reply_value(
     alloc: Global,
     row: u64,
     game: u8,
-    before: u16,
     reply: Result<Accepted, Refusal>,
+    board: &Board,
+    roster: &Roster,
+    group: u8,
+    profile: Profile,
 ) -> Result<Value, AllocError>
-    requires { before < 2 ^ 16 - 1 }
-    ensures { IfOk result (λ value. view value ≡ reply_value row game before reply) }
+    requires { IsGroup group }
+    ensures { IfOk result (λ value. view value
+        ≡ reply_value row game reply profile board.now roster.now group) }
 {
     match reply {
-        Ok(accepted) => accepted_value(alloc, row, game, accepted.number, before + 1),
+        Ok(accepted) => accepted_value(
+            alloc,
+            row,
+            game,
+            accepted.number,
+            board,
+            roster,
+            group,
+            profile,
+        ),
         Err(refusal) => refused_value(alloc, row, refusal),
     }
 }
 
-/// The line of the reply to an event of a match, where so many events were accepted before.
+/// The line of the reply to an event of a match, with the board after the event. Where the event was entered, the line stands for itself:
+/// the group, its order, the clubs and the words of that board are in it.
 ///
 /// # Errors
 ///
@@ -80,13 +118,18 @@ pub fn reply_json(
     alloc: Global,
     row: u64,
     game: u8,
-    before: u16,
     reply: Result<Accepted, Refusal>,
+    board: &Board,
+    roster: &Roster,
+    group: u8,
+    profile: Profile,
 ) -> Result<String, AllocError>
-    requires { before < 2 ^ 16 - 1 }
-    ensures { IfOk result (λ line. IsLineOf (reply_value row game before reply) (string_bytes line)) }
+    requires { IsGroup group }
+    ensures { IfOk result (λ line.
+        IsLineOf (reply_value row game reply profile board.now roster.now group)
+        (string_bytes line)) }
 {
-    let value = reply_value(alloc, row, game, before, reply)?;
+    let value = reply_value(alloc, row, game, reply, board, roster, group, profile)?;
     line_of(alloc, &value)
 }
 

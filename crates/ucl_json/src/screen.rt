@@ -7,7 +7,9 @@ ghost use Rattle.ucl_screen.specs.Screen.{IsGroup};
 ghost use Rattle.ucl_json.specs.Lines.{IsLineOf};
 ghost use Rattle.ucl_json.specs.Values.{mark_name, order_name, place_items, place_value, screen_value, with_club, with_goals, with_matches};
 
+use crate::clubs::club_values;
 use crate::line::line_of;
+use crate::words::word_values;
 use serde_json::{Map, Value, json, put};
 use std::alloc::{AllocError, Global};
 use ucl_board::Board;
@@ -26,7 +28,7 @@ fn mark_name(mark: Mark) -> &'static str
 }
 
 /// The name of an order.
-fn order_name(profile: Profile) -> &'static str
+pub(crate) fn order_name(profile: Profile) -> &'static str
     ensures { result.now ≡ order_name profile }
 {
     match profile {
@@ -36,7 +38,7 @@ fn order_name(profile: Profile) -> &'static str
 }
 
 /// The letter of a group, as text.
-fn letter_of(group: u8) -> &'static str
+pub(crate) fn letter_of(group: u8) -> &'static str
     requires { IsGroup group }
     ensures { result.now ≡ group ∷ [] }
 {
@@ -130,6 +132,8 @@ fn screen_value(
     ensures { IfOk result (λ value. view value ≡ screen_value row profile board.now roster.now group) }
 {
     let table = place_values(alloc, &standings(board, roster, profile), roster)?;
+    let clubs = club_values(alloc, roster)?;
+    let words = word_values(alloc, board.words().as_slice())?;
     json!(in alloc; {
         "row": row,
         "reply": "screen",
@@ -137,11 +141,13 @@ fn screen_value(
         "order": order_name(profile),
         "version": board.version(),
         "in_play": matches_in_play(board),
-        "table": table
+        "table": table,
+        "clubs": clubs,
+        "words": words
     })
 }
 
-/// The line of the screen of a board, for a group, in the order of the profile.
+/// The line of the screen of a board, for a group, in the order of the profile. It stands for itself: the clubs and the words are in it.
 ///
 /// # Errors
 ///

@@ -27,7 +27,7 @@ fn word_value(alloc: Global, word: u64) -> Result<Value, AllocError>
 }
 
 /// Each word as a value.
-fn word_values(alloc: Global, words: &[u64]) -> Result<Vec<Value>, AllocError>
+pub(crate) fn word_values(alloc: Global, words: &[u64]) -> Result<Vec<Value>, AllocError>
     ensures { IfOk result (λ values. items_view values.items ≡ word_items words.now) }
 {
     let mut values = Vec::new(alloc);

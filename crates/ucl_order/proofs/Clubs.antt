@@ -5,8 +5,8 @@ use Rattle.std.proofs.lemmas.List.{get_or-map, length-map}
 use Rattle.std.proofs.lemmas.List.Elements.{All-get_or}
 use Rattle.ucl_order.specs.declared.roster.Member.{Member}
 use Rattle.ucl_order.specs.Code.Members.{member_seen, members_seen}
-use Rattle.ucl_order.specs.declared.roster.Club.{Club}
-use Rattle.ucl_order.specs.Roster.{club_seen, IsClub, IsRoster, is_club, is_name, bad_slot, bad_slot_from}
+use Rattle.ucl_order.specs.declared.roster.LentClub.{LentClub}
+use Rattle.ucl_order.specs.Roster.{NamedClub, club_lent, IsClub, IsRoster, is_club, is_name, bad_slot, bad_slot_from}
 
 and-left : (a b : Bool) → (a && b) ≡ true → a ≡ true
 and-left a b h = elim a as (λ x. (x && b) ≡ true → x ≡ true) [ true ↦ λ _. refl | false ↦ λ e. e ] h
@@ -47,11 +47,27 @@ four-places (w ∷ x ∷ y ∷ z ∷ []) a b c d n p q r s = cc
 four-places (w ∷ x ∷ y ∷ z ∷ v ∷ vs) a b c d n p q r s = absurd (omega arith)
 
 -- four good clubs, and what the roster keeps of them
-pub record IsTaken (club : Club) (member : Member) : Type 0 where
-  pub good : IsClub (club_seen club)
-  pub same : member_seen member ≡ club_seen club
+pub record IsTaken (club : NamedClub) (member : Member) : Type 0 where
+  pub good : IsClub club
+  pub same : member_seen member ≡ club
 
-pub four-taken : (a b c d : Club) (w x y z : Member) → IsTaken a w → IsTaken b x → IsTaken c y → IsTaken d z
-    → (members_seen (w ∷ x ∷ y ∷ z ∷ []) ≡ map club_seen (a ∷ b ∷ c ∷ d ∷ [])) × (bad_slot (map club_seen (a ∷ b ∷ c ∷ d ∷ [])) ≡ None)
+pub four-taken : (a b c d : NamedClub) (w x y z : Member) → IsTaken a w → IsTaken b x → IsTaken c y → IsTaken d z
+    → (members_seen (w ∷ x ∷ y ∷ z ∷ []) ≡ a ∷ b ∷ c ∷ d ∷ []) × (bad_slot (a ∷ b ∷ c ∷ d ∷ []) ≡ None)
 unfolding bad_slot_from
 four-taken a b c d w x y z p q r s = (rw (p.same, q.same, r.same, s.same), rw (p.good, q.good, r.good, s.good))
+
+-- the same of clubs that are lent
+pub four-lent : (clubs : List LentClub) (p q r s : LentClub) (w x y z : Member) → length clubs ≡ 4
+    → IsClub (club_lent (slice_index_or clubs 0 p)) × (member_seen w ≡ club_lent (slice_index_or clubs 0 p))
+    → IsClub (club_lent (slice_index_or clubs 1 q)) × (member_seen x ≡ club_lent (slice_index_or clubs 1 q))
+    → IsClub (club_lent (slice_index_or clubs 2 r)) × (member_seen y ≡ club_lent (slice_index_or clubs 2 r))
+    → IsClub (club_lent (slice_index_or clubs 3 s)) × (member_seen z ≡ club_lent (slice_index_or clubs 3 s))
+    → (members_seen (w ∷ x ∷ y ∷ z ∷ []) ≡ map club_lent clubs) × (bad_slot (map club_lent clubs) ≡ None)
+four-lent [] p q r s w x y z n a b c d = absurd (omega arith)
+four-lent (e ∷ []) p q r s w x y z n a b c d = absurd (omega arith)
+four-lent (e ∷ f ∷ []) p q r s w x y z n a b c d = absurd (omega arith)
+four-lent (e ∷ f ∷ g ∷ []) p q r s w x y z n a b c d = absurd (omega arith)
+four-lent (e ∷ f ∷ g ∷ h ∷ i ∷ more) p q r s w x y z n a b c d = absurd (omega arith)
+four-lent (e ∷ f ∷ g ∷ h ∷ []) p q r s w x y z n a b c d =
+    four-taken (club_lent e) (club_lent f) (club_lent g) (club_lent h) w x y z
+    (record { good = a.0; same = a.1 }) (record { good = b.0; same = b.1 }) (record { good = c.0; same = c.1 }) (record { good = d.0; same = d.1 })

@@ -21,3 +21,4 @@ pub mod Rounds
 pub mod SortedClubs
 pub mod MarkFacts
 pub mod Unsigned
+pub mod Coefficients

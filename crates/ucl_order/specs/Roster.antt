@@ -1,16 +1,24 @@
 -- The clubs of a group, and which clubs can stand in a roster.
-use Rattle.std.specs.Prelude.{◌≡◌, ℕ, ◌+◌, ◌-◌, ◌&&◌, nat_le, Bool, true, if◌then◌else◌, List, [], ◌∷◌, All, length, slice_index_or, Option, Some, None}
+use Rattle.std.specs.Prelude.{◌≡◌, ℕ, ◌+◌, ◌-◌, ◌&&◌, nat_le, Bool, true, if◌then◌else◌, List, [], ◌∷◌, All, length, map, slice_index_or, Option, Some, None}
 use Rattle.std.specs.List.{list_all}
 use Rattle.ucl_order.specs.declared.roster.Club.{Club}
+use Rattle.ucl_order.specs.declared.roster.LentClub.{LentClub}
 
 -- a club's name and coefficient, wherever they lie in memory
 pub record NamedClub : Type 0 where
   pub name : List ℕ
   pub coefficient : ℕ
 
+abbrev pub named : List ℕ → ℕ → NamedClub
+named name coefficient = record { name = name; coefficient = coefficient }
+
 -- what a club says
 abbrev pub club_seen : Club → NamedClub
-club_seen club = record { name = club.name.items; coefficient = club.coefficient }
+club_seen club = named club.name.items club.coefficient
+
+-- the same of a club whose name is lent
+abbrev pub club_lent : LentClub → NamedClub
+club_lent club = named club.name.now club.coefficient
 
 -- a letter, a digit, a sign or the space of ASCII
 abbrev pub is_printed : ℕ → Bool
@@ -50,3 +58,7 @@ name_of clubs slot = (club_in clubs slot).name
 
 abbrev pub coefficient_of : List NamedClub → ℕ → ℕ
 coefficient_of clubs slot = (club_in clubs slot).coefficient
+
+-- the coefficients of clubs, in the order of their slots
+abbrev pub coefficients_in : List NamedClub → List ℕ
+coefficients_in clubs = map (λ club. club.coefficient) clubs

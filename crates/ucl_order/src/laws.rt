@@ -1,6 +1,6 @@
 //! What holds of every order and of every mark. The functions do nothing: each is there for its contract.
 
-ghost use Rattle.ucl_order.specs.Laws.{BoardsFitKeys, ClassesAreLevel, HigherHasGreaterKey, MinusIsCertain, OrderGoesByStanding, OrderHasEachClub, OrderIsUnique, PlusIsCertain, RankingsAreOrders, TiesFollowRule};
+ghost use Rattle.ucl_order.specs.Laws.{BoardsFitKeys, ClassesAreLevel, HigherHasGreaterKey, MinusIsCertain, OrderGoesByStanding, OrderHasEachClub, OrderIsUnique, PlusIsCertain, RankingsAreOrders, TableGoesByCoefficients, TiesFollowRule};
 
 /// The order has each of the four clubs once.
 pub fn order_has_each_club()
@@ -39,10 +39,15 @@ pub fn boards_fit_keys()
     ensures { BoardsFitKeys }
 {}
 
-/// Of two clubs of a board the one that is higher by the criteria over all matches has the greater `overall_key`, and the one with the
-/// greater triple in a set of clubs has the greater `tie_key` in that set; and the other way round.
+/// Of two clubs of a board the one that is higher by the criteria over all matches has the greater `overall_key`, and the one that is higher
+/// head to head in a set of clubs, by the criteria of the profile, has the greater `tie_key` in that set; and the other way round.
 pub fn higher_has_greater_key()
     ensures { HigherHasGreaterKey }
+{}
+
+/// The rows of the table, with their marks, go by the coefficients of the clubs alone: rosters of other names have the same table.
+pub fn table_goes_by_coefficients()
+    ensures { TableGoesByCoefficients }
 {}
 
 /// A club marked `Plus` is among the first two however the group ends.

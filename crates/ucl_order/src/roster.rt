@@ -3,7 +3,7 @@
 ghost use Rattle.std.specs.Prelude.{◌≡◌, ◌≤◌, None, Some, true, false, IfOk, IfErr, length, map};
 ghost use Rattle.std.specs.List.{list_all};
 ghost use Rattle.ucl_board.specs.Fixtures.{IsSlot};
-ghost use Rattle.ucl_order.specs.Roster.{club_seen, is_printed, is_name, is_club, IsClub, bad_slot, name_of, coefficient_of};
+ghost use Rattle.ucl_order.specs.Roster.{club_lent, club_seen, named, is_printed, is_name, is_club, IsClub, bad_slot, name_of, coefficient_of};
 ghost use Rattle.ucl_order.specs.Code.Members.{member_seen};
 
 use arrayvec::ArrayVec;
@@ -27,6 +27,15 @@ const GREATEST_COEFFICIENT: u32 = 999_999;
 pub struct Club {
     /// The name: 1 to 20 bytes of printed ASCII, 0x20 to 0x7e.
     pub name: Vec<u8>,
+    /// The club coefficient in whole thousandths, 0 to 999,999. Two clubs may have the same.
+    pub coefficient: u32,
+}
+
+/// A club as a roster takes it in, with a name that is lent. Either field can hold anything; `Roster::of_lent` says what a roster takes.
+#[derive(Clone, Copy)]
+pub struct LentClub<'a> {
+    /// The name: 1 to 20 bytes of printed ASCII, 0x20 to 0x7e.
+    pub name: &'a [u8],
     /// The club coefficient in whole thousandths, 0 to 999,999. Two clubs may have the same.
     pub coefficient: u32,
 }
@@ -82,25 +91,45 @@ fn is_name(name: &[u8]) -> bool
     is_printed(name)
 }
 
-/// A copy of the club in this slot, where a roster takes it in.
+/// A club of this name and coefficient in this slot, where a roster takes it in. The name is copied.
 #[tactic(auto, unfolding(crate::specs::Roster::is_club))]
-fn member_of(slot: u8, club: &Club) -> Result<Member, BadRoster>
-    ensures taken { IfOk result (λ m. IsClub (club_seen club.now) × (member_seen m ≡ club_seen club.now)) }
-    ensures refused { IfErr result (λ bad. (is_club (club_seen club.now) ≡ false) × (bad.slot ≡ slot)) }
+fn member_with(slot: u8, name: &[u8], coefficient: u32) -> Result<Member, BadRoster>
+    ensures taken { IfOk result (λ m. IsClub (named name.now coefficient)
+        × (member_seen m ≡ named name.now coefficient)) }
+    ensures refused { IfErr result (λ bad. (is_club (named name.now coefficient) ≡ false)
+        × (bad.slot ≡ slot)) }
 {
     let bad = BadRoster { slot };
-    if !is_name(&club.name) || club.coefficient > GREATEST_COEFFICIENT {
+    if !is_name(name) || coefficient > GREATEST_COEFFICIENT {
         return Err(bad);
     }
-    let mut name = ArrayVec::new();
-    match name.try_extend_from_slice(&club.name) {
+    let mut kept = ArrayVec::new();
+    match kept.try_extend_from_slice(name) {
         Ok(()) => {}
         Err(_) => return Err(bad),
     }
     Ok(Member {
-        name,
-        coefficient: club.coefficient,
+        name: kept,
+        coefficient,
     })
+}
+
+/// A copy of the club in this slot, where a roster takes it in.
+fn member_of(slot: u8, club: &Club) -> Result<Member, BadRoster>
+    ensures taken { IfOk result (λ m. IsClub (club_seen club.now) × (member_seen m ≡ club_seen club.now)) }
+    ensures refused { IfErr result (λ bad. (is_club (club_seen club.now) ≡ false) × (bad.slot ≡ slot)) }
+{
+    member_with(slot, &club.name, club.coefficient)
+}
+
+/// A copy of the lent club in this slot, where a roster takes it in.
+fn member_lent(slot: u8, club: &LentClub<'_>) -> Result<Member, BadRoster>
+    ensures taken { IfOk result (λ m. IsClub (club_lent club.now)
+        × (member_seen m ≡ club_lent club.now)) }
+    ensures refused { IfErr result (λ bad. (is_club (club_lent club.now) ≡ false)
+        × (bad.slot ≡ slot)) }
+{
+    member_with(slot, club.name, club.coefficient)
 }
 
 impl Roster {
@@ -121,6 +150,26 @@ impl Roster {
             member_of(4, &clubs[3])?,
         ];
         Ok(Roster { members })
+    }
+
+    /// The roster of four clubs whose names are lent, the first of which is in slot 1. It takes no memory: the names are copied.
+    ///
+    /// It refuses what `new` refuses, and names the same slot.
+    #[tactic(auto, unfolding(crate::specs::Roster::bad_slot_from))]
+    pub fn of_lent(clubs: &[LentClub<'_>; 4]) -> Result<Roster, BadRoster>
+        ensures taken { IfOk result (λ roster. (roster ≡ map club_lent clubs.now)
+            × (bad_slot (map club_lent clubs.now) ≡ None)) }
+        ensures refused { IfErr result (λ bad.
+            bad_slot (map club_lent clubs.now) ≡ Some bad.slot) }
+    {
+        Ok(Roster {
+            members: [
+                member_lent(1, &clubs[0])?,
+                member_lent(2, &clubs[1])?,
+                member_lent(3, &clubs[2])?,
+                member_lent(4, &clubs[3])?,
+            ],
+        })
     }
 
     /// The name of the club in a slot from 1 to 4: 1 to 20 bytes of printed ASCII.

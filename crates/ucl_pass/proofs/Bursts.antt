@@ -1,8 +1,9 @@
 -- Steps of one caller with none of another between them: a reading of all words at once is one, and so is a report.
-use Rattle.std.proofs.Common.{◌≡◌, ◌≢◌, ℕ, zero, suc, ◌+◌, ◌-◌, ◌<◌, ◌≤◌, ◌==◌, Bool, cond, List, [], ◌∷◌, ◌++◌, length, take, Option, Some, None, refl, sym, ap, ◌∙◌, subst, arith, append-nil, eq-eqb, ne_eqb}
+use Rattle.std.proofs.Common.{◌≡◌, ℕ, zero, suc, ◌+◌, ◌-◌, ◌<◌, Bool, cond, List, [], ◌∷◌, ◌++◌, length, take, Option, Some, None, refl, sym, ap, ◌∙◌, subst, arith, append-nil, eq-eqb, ne_eqb}
 use Rattle.std.specs.Prelude.{slice_index}
 use Rattle.std.proofs.lemmas.List.{length-take-le}
 use Rattle.std.proofs.Math.Seq.{take-length}
+use Rattle.ucl_word.specs.declared.record.MatchRecord.{MatchRecord}
 use Rattle.ucl_word.specs.declared.event.EventCall.{EventCall}
 use Rattle.ucl_word.specs.declared.refusal.Refusal.{Refusal}
 use Rattle.ucl_word.specs.declared.refusal.Refusal.TheVariants.{Stale}
@@ -10,9 +11,9 @@ use Rattle.ucl_word.specs.Rules.{refusal_of, after}
 use Rattle.ucl_word.specs.Layout.{word_of, record_at}
 use Rattle.ucl_board.specs.declared.entry.Entry.{Entry}
 use Rattle.ucl_board.specs.Fixtures.{IsMatch}
-use Rattle.ucl_board.specs.Words.{word_at}
-use Rattle.ucl_board.specs.History.{match_after, board_of, entry_of}
+use Rattle.ucl_board.specs.History.{match_after, board_of, reading_of, attempted, entry_of}
 use Rattle.ucl_board.proofs.Histories.{word_after}
+use Rattle.ucl_board.proofs.HistoryLaws.{may_attempt}
 use Rattle.ucl_board.specs.Log as log
 use Rattle.ucl_board.specs.Log.{AccessKind, Access, access}
 use Rattle.ucl_steps.specs.declared.step.Cast.{Cast}
@@ -22,43 +23,23 @@ use Rattle.ucl_steps.specs.declared.step.Call.TheVariants.{Event, Reading}
 use Rattle.ucl_steps.specs.declared.step.Step.{Step}
 use Rattle.ucl_steps.specs.declared.trace.Reply.TheVariants.{Accepted, Refused, Copied}
 use Rattle.ucl_steps.specs.Machine.{MachineState, initial_state, after_steps}
-use Rattle.ucl_steps.specs.Protocol.{Held, Nothing, Holding, Collecting, Checking, Answers, Doing, goes, ends, done_by, by_rules, collected, MayAsk}
-use Rattle.ucl_steps.specs.PassRuns.{IsOf, FitsRun, steps_of_move, IsTight}
-use Rattle.ucl_steps.proofs.OneStep.{steps_append, IsNow, Passes, passes_on}
+use Rattle.ucl_steps.specs.Protocol.{Nothing, Holding, Collecting, Checking, Answers, Doing, goes, ends, done_by, by_rules, collected, MayAsk}
+use Rattle.ucl_steps.specs.PassRuns.{FitsRun, steps_of_move, steps_of_moves}
+use Rattle.ucl_steps.proofs.Histories.{read_back, number_next}
+use Rattle.ucl_steps.proofs.Runs.{kept_at_start, run_kept}
+use Rattle.ucl_steps.proofs.OneStep.{steps_append, IsNow, passes_on}
+use Rattle.ucl_steps.proofs.ActorRuns.{Burst, one_turn}
 use Rattle.ucl_steps.proofs.PassSteps.{Turn, turn_look, turn_swapped, turn_begins, turn_first, turn_again, turn_clean}
-
-pub record Burst (seat number : ℕ) (w : MachineState) (c : Caller) (d : Doing) (entries : List Entry) : Type 0 where
-  pub steps : List Step
-  pub last : MachineState
-  pub run : after_steps steps w ≡ Some last
-  pub history : last.history ≡ w.history ++ entries
-  pub of : IsOf seat number c
-  pub passes : Passes c w last
-  pub fits : FitsRun last seat number d
-  pub tight : IsTight steps
-
-one_turn : (seat number : ℕ) (w : MachineState) (c : Caller) (m : Access) (d : Doing) (entries : List Entry) → Turn seat number w c m d entries → Burst seat number w c d entries
-one_turn seat number w c m d entries t = record {
-  steps = t.steps;
-  last = t.last;
-  run = t.run;
-  history = t.history;
-  of = t.of;
-  passes = t.passes;
-  fits = t.fits;
-  tight = record { moves = t.move ∷ []; are = t.shape ∙ sym (append-nil (steps_of_move t.move)) };
-}
 
 turns_on : (seat number : ℕ) (w : MachineState) (c : Caller) (m : Access) (d e : Doing) (entries : List Entry) (t : Turn seat number w c m d []) → Burst seat number t.last c e entries → Burst seat number w c e entries
 turns_on seat number w c m d e entries t u = record {
-  steps = t.steps ++ u.steps;
+  moves = t.move ∷ u.moves;
   last = u.last;
-  run = steps_append t.steps u.steps w t.last t.run ∙ u.run;
+  run = steps_append (steps_of_move t.move) (steps_of_moves u.moves) w t.last t.run ∙ u.run;
   history = u.history ∙ ap (λ (h : List Entry). h ++ entries) (t.history ∙ append-nil w.history);
   of = t.of;
   passes = passes_on c w t.last u.last t.passes u.passes;
   fits = u.fits;
-  tight = record { moves = t.move ∷ u.tight.moves; are = λ i. t.shape i ++ u.tight.are i };
 }
 
 -- the access of a step on a word of the board
@@ -68,24 +49,25 @@ now_there kind w words k less is =
     let same : k ≡ k + 1 - 1 = omega arith in
     record { place = refl; found = ap (λ (ws : List ℕ). slice_index ws k) is ∙ (ap (slice_index (board_of w.history)) same ∙ word_after w.history (k + 1) game) }
 
-module _ (cast : Cast) (seat number : ℕ) (words : List ℕ) (point now : ℕ) where
-  abbrev copied_at : Doing → Doing
-  copied_at d = ends Reading (Copied (record { board = words; version = point })) d.begun now d
+-- the reading that was under way has these words
+abbrev copied_at : List ℕ → ℕ → Doing → Doing
+copied_at words now d = ends Reading (Copied (reading_of words)) d.begun now d
 
+module _ (cast : Cast) (seat number : ℕ) (words : List ℕ) (point now : ℕ) where
   seconds_all : (n : ℕ) (steps : List Step) (w : MachineState) (run : after_steps steps (initial_state cast) ≡ Some w) (d : Doing) (f : FitsRun w seat number d) (k : ℕ) → k + n ≡ 11 → d.held ≡ Checking words k point → words ≡ board_of w.history
-      → length w.history ≡ now → Burst seat number w (Reader (seat + 1)) (copied_at d) []
+      → length w.history ≡ now → Burst seat number w (Reader (seat + 1)) (copied_at words now d) []
   seconds_all zero steps w run d f k at held is place =
       let m : Access = access log.Second (k + 1) (slice_index words k) (length w.history) in
-      one_turn seat number w (Reader (seat + 1)) m (copied_at d) []
-      (subst (λ (p : ℕ). Turn seat number w (Reader (seat + 1)) m (ends Reading (Copied (record { board = words; version = point })) d.begun p d) []) place
+      one_turn seat number w (Reader (seat + 1)) m (copied_at words now d) []
+      (subst (λ (p : ℕ). Turn seat number w (Reader (seat + 1)) m (ends Reading (Copied (reading_of words)) d.begun p d) []) place
       (turn_clean cast seat number steps w run d f m (now_there log.Second w words k (omega arith) is) words k point held (refl, refl) refl (omega arith)))
   seconds_all (suc n) steps w run d f k at held is place =
       let m : Access = access log.Second (k + 1) (slice_index words k) (length w.history) in
       let e : Doing = goes d.begun (Checking words (k + 1) point) d in
       let t : Turn seat number w (Reader (seat + 1)) m e [] = turn_again cast seat number steps w run d f m (now_there log.Second w words k (omega arith) is) words k point held (refl, refl) refl (λ z. omega arith) in
       let same = t.history ∙ append-nil w.history in
-      turns_on seat number w (Reader (seat + 1)) m e (copied_at d) [] t
-      (seconds_all n (steps ++ t.steps) t.last (steps_append steps t.steps (initial_state cast) w run ∙ t.run) e t.fits (k + 1) (omega arith) refl (is ∙ ap board_of (sym same)) (ap length same ∙ place))
+      turns_on seat number w (Reader (seat + 1)) m e (copied_at words now d) [] t
+      (seconds_all n (steps ++ steps_of_move t.move) t.last (steps_append steps (steps_of_move t.move) (initial_state cast) w run ∙ t.run) e t.fits (k + 1) (omega arith) refl (is ∙ ap board_of (sym same)) (ap length same ∙ place))
 
 -- the words of a list, one by one
 take_next : (ws : List ℕ) (k : ℕ) → k < length ws → take k ws ++ slice_index ws k ∷ [] ≡ take (k + 1) ws
@@ -107,7 +89,7 @@ module _ (cast : Cast) (seat number : ℕ) (words : List ℕ) (now : ℕ) (twelv
         (turn_first cast seat number steps w run d f next_first (now_there log.First w words k less is) (take k words) held (refl, ap (λ (j : ℕ). j + 1) (sym long))))
 
   firsts_all : (n : ℕ) (steps : List Step) (w : MachineState) (run : after_steps steps (initial_state cast) ≡ Some w) (d : Doing) (f : FitsRun w seat number d) (k : ℕ) → k + n ≡ 11 → d.held ≡ Collecting (take k words) → words ≡ board_of w.history
-      → length w.history ≡ now → Burst seat number w (Reader (seat + 1)) (copied_at cast seat number words now now d) []
+      → length w.history ≡ now → Burst seat number w (Reader (seat + 1)) (copied_at words now d) []
   firsts_all zero steps w run d f k at held is place =
       let e : Doing = goes d.begun (collected (take (k + 1) words) now) d in
       let less : k < 12 = omega arith in
@@ -116,8 +98,8 @@ module _ (cast : Cast) (seat number : ℕ) (words : List ℕ) (now : ℕ) (twelv
       let twelfth : k + 1 ≡ length words = omega (arith, twelve) in
       let all : take (k + 1) words ≡ words = ap (λ (j : ℕ). take j words) twelfth ∙ take-length words in
       let held' : collected (take (k + 1) words) now ≡ Checking words 0 now = ap (λ (l : List ℕ). collected l now) all ∙ ap (λ (b : Bool). cond b (Checking words 0 now) (Collecting words)) (eq-eqb (length words) 12 twelve) in
-      turns_on seat number w (Reader (seat + 1)) (next_first steps w run d f k less held is place) e (copied_at cast seat number words now now d) [] t
-      (seconds_all cast seat number words now now 11 (steps ++ t.steps) t.last (steps_append steps t.steps (initial_state cast) w run ∙ t.run) e t.fits 0 refl held' (is ∙ ap board_of (sym same)) (ap length same ∙ place))
+      turns_on seat number w (Reader (seat + 1)) (next_first steps w run d f k less held is place) e (copied_at words now d) [] t
+      (seconds_all cast seat number words now now 11 (steps ++ steps_of_move t.move) t.last (steps_append steps (steps_of_move t.move) (initial_state cast) w run ∙ t.run) e t.fits 0 refl held' (is ∙ ap board_of (sym same)) (ap length same ∙ place))
   firsts_all (suc n) steps w run d f k at held is place =
       let e : Doing = goes d.begun (collected (take (k + 1) words) now) d in
       let less : k < 12 = omega arith in
@@ -126,12 +108,12 @@ module _ (cast : Cast) (seat number : ℕ) (words : List ℕ) (now : ℕ) (twelv
       let long' : length (take (k + 1) words) ≡ k + 1 = length-take-le (k + 1) words (omega (arith, twelve)) in
       let held' : collected (take (k + 1) words) now ≡ Collecting (take (k + 1) words) =
       ap (λ (b : Bool). cond b (Checking (take (k + 1) words) 0 now) (Collecting (take (k + 1) words))) (ne_eqb (length (take (k + 1) words)) 12 (λ z. omega arith)) in
-      turns_on seat number w (Reader (seat + 1)) (next_first steps w run d f k less held is place) e (copied_at cast seat number words now now d) [] t
-      (firsts_all n (steps ++ t.steps) t.last (steps_append steps t.steps (initial_state cast) w run ∙ t.run) e t.fits (k + 1) (omega arith) held' (is ∙ ap board_of (sym same)) (ap length same ∙ place))
+      turns_on seat number w (Reader (seat + 1)) (next_first steps w run d f k less held is place) e (copied_at words now d) [] t
+      (firsts_all n (steps ++ steps_of_move t.move) t.last (steps_append steps (steps_of_move t.move) (initial_state cast) w run ∙ t.run) e t.fits (k + 1) (omega arith) held' (is ∙ ap board_of (sym same)) (ap length same ∙ place))
 
   -- a whole reading at one place of the history: a load of all words at once
   pub reading_at_once : (steps : List Step) (w : MachineState) (run : after_steps steps (initial_state cast) ≡ Some w) (d : Doing) (f : FitsRun w seat number d) → d.held ≡ Nothing → words ≡ board_of w.history → length w.history ≡ now
-      → Burst seat number w (Reader (seat + 1)) (ends Reading (Copied (record { board = words; version = now })) now now d) []
+      → Burst seat number w (Reader (seat + 1)) (ends Reading (Copied (reading_of words)) now now d) []
   reading_at_once steps w run d f none is place =
       let m : Access = access log.First 1 (slice_index words 0) (length w.history) in
       let e : Doing = goes now (Collecting (take 1 words)) d in
@@ -140,8 +122,8 @@ module _ (cast : Cast) (seat number : ℕ) (words : List ℕ) (now : ℕ) (twelv
       (subst (λ (l : List ℕ). Turn seat number w (Reader (seat + 1)) m (goes (length w.history) (Collecting l) d) []) (take_next words 0 (omega arith))
       (turn_begins cast seat number steps w run d f m (now_there log.First w words 0 (omega arith) is) none (refl, refl))) in
       let same = t.history ∙ append-nil w.history in
-      turns_on seat number w (Reader (seat + 1)) m e (ends Reading (Copied (record { board = words; version = now })) now now d) [] t
-      (firsts_all 10 (steps ++ t.steps) t.last (steps_append steps t.steps (initial_state cast) w run ∙ t.run) e t.fits 1 refl refl (is ∙ ap board_of (sym same)) (ap length same ∙ place))
+      turns_on seat number w (Reader (seat + 1)) m e (ends Reading (Copied (reading_of words)) now now d) [] t
+      (firsts_all 10 (steps ++ steps_of_move t.move) t.last (steps_append steps (steps_of_move t.move) (initial_state cast) w run ∙ t.run) e t.fits 1 refl refl (is ∙ ap board_of (sym same)) (ap length same ∙ place))
 
 -- a whole report at one place of the history
 module _ (cast : Cast) (seat number : ℕ) (steps : List Step) (w : MachineState) (run : after_steps steps (initial_state cast) ≡ Some w) (d : Doing) (f : FitsRun w seat number d) (e : EventCall) (may : MayAsk number (Event e)) (none : d.held ≡ Nothing) where
@@ -161,17 +143,31 @@ module _ (cast : Cast) (seat number : ℕ) (steps : List Step) (w : MachineState
   refused_at_once refusal is = one_turn seat number w (Reporter number) looks_there (ends (Event e) (Refused refusal) (length w.history) (length w.history) d) [] (looked_there (Some refusal) is)
 
   -- or accept
+  abbrev next_there : ℕ
+  next_there = word_of (after (record_at found_at) number e.kind)
+
+  -- the number of the next word
+  next_number : refusal_of (record_at found_at) e.expected e.kind ≡ None → (record_at next_there).number ≡ (record_at found_at).number + 1
+  next_number is =
+      let legal = (run_kept steps [] (initial_state cast) w (kept_at_start cast) run).legal in
+      let back : record_at found_at ≡ match_after w.history e.game = read_back w.history e.game legal in
+      let accepts : refusal_of (match_after w.history e.game) e.expected e.kind ≡ None = ap (λ (m : MatchRecord). refusal_of m e.expected e.kind) (sym back) ∙ is in
+      ap (λ (m : MatchRecord). (record_at (word_of (after m number e.kind))).number) back
+      ∙ (number_next w.history (entry_of number e) legal (may_attempt w.history (attempted number e) legal may accepts) ∙ ap (λ (m : MatchRecord). m.number + 1) (sym back))
+
   pub accepted_at_once : refusal_of (record_at found_at) e.expected e.kind ≡ None
-      → Burst seat number w (Reporter number) (ends (Event e) (Accepted (record { number = (record_at found_at).number + 1 })) (length w.history) (length w.history + 1) d) (entry_of (number, e) ∷ [])
+      → Burst seat number w (Reporter number) (ends (Event e) (Accepted (record { number = (record_at found_at).number + 1 })) (length w.history) (length w.history + 1) d) (entry_of number e ∷ [])
   accepted_at_once is =
-      let next : ℕ = word_of (after (record_at found_at) number e.kind) in
+      let next : ℕ = next_there in
       let on : Doing = goes (length w.history) (Holding e found_at next) d in
       let t : Turn seat number w (Reporter number) looks_there on [] = looked_there None is in
       let same : t.last.history ≡ w.history = t.history ∙ append-nil w.history in
       let swaps_there : Access = access log.Swap e.game found_at (length w.history) in
       let now : IsNow t.last swaps_there = record { place = ap length (sym same); found = ap (λ (h : List Entry). word_of (match_after h e.game)) (sym same) } in
-      turns_on seat number w (Reporter number) looks_there on (ends (Event e) (Accepted (record { number = (record_at found_at).number + 1 })) (length w.history) (length w.history + 1) d) (entry_of (number, e) ∷ []) t
-      (one_turn seat number t.last (Reporter number) swaps_there (ends (Event e) (Accepted (record { number = (record_at found_at).number + 1 })) (length w.history) (length w.history + 1) d) (entry_of (number, e) ∷ [])
-      (subst (λ (b : Bool). Turn seat number t.last (Reporter number) swaps_there (done_by (Event e) (length w.history) (length w.history + 1) (Answers (cond b (Accepted (record { number = (record_at found_at).number + 1 })) (Refused (Stale (record_at found_at).number)))) on) (entry_of (number, e) ∷ []))
+      let answered : ℕ → Doing = λ n. ends (Event e) (Accepted (record { number = n })) (length w.history) (length w.history + 1) d in
+      subst (λ (n : ℕ). Burst seat number w (Reporter number) (answered n) (entry_of number e ∷ [])) (next_number is)
+      (turns_on seat number w (Reporter number) looks_there on (answered (record_at next).number) (entry_of number e ∷ []) t
+      (one_turn seat number t.last (Reporter number) swaps_there (answered (record_at next).number) (entry_of number e ∷ [])
+      (subst (λ (b : Bool). Turn seat number t.last (Reporter number) swaps_there (done_by (Event e) (length w.history) (length w.history + 1) (Answers (cond b (Accepted (record { number = (record_at next).number })) (Refused (Stale (record_at found_at).number)))) on) (entry_of number e ∷ []))
       (eq-eqb found_at found_at refl)
-      (turn_swapped cast seat number (steps ++ t.steps) t.last (steps_append steps t.steps (initial_state cast) w run ∙ t.run) on t.fits swaps_there now e found_at next refl (refl, refl) refl)))
+      (turn_swapped cast seat number (steps ++ steps_of_move t.move) t.last (steps_append steps (steps_of_move t.move) (initial_state cast) w run ∙ t.run) on t.fits swaps_there now e found_at next refl (refl, refl) refl))))

@@ -17,8 +17,8 @@ use Rattle.ucl_board.specs.declared.entry.Entry.{Entry}
 use Rattle.ucl_board.specs.declared.reading.Reading.{Reading}
 use Rattle.ucl_board.specs.Fixtures.{IsMatch}
 use Rattle.ucl_board.specs.Words.{AreWords, word_at, version_of}
-use Rattle.ucl_board.specs.History.{board_of, IsLegal, followed_by, entry_of, sequential_reply}
-use Rattle.ucl_board.specs.Log.{Look, Swap, Match, Enlisted, Taken, step_taken}
+use Rattle.ucl_board.specs.History.{board_of, IsLegal, followed_by, entry_of, reading_of, sequential_reply}
+use Rattle.ucl_board.specs.Log.{Look, Swap, Match, Enlisted, access, Taken, step_taken}
 use Rattle.ucl_board.proofs.Histories.{board_words, word_after}
 use Rattle.ucl_board.proofs.HistoryLaws.{versions}
 use Rattle.ucl_board.proofs.Beginnings.{begins_length, begins_through}
@@ -32,7 +32,7 @@ use Rattle.ucl_steps.specs.Protocol.{Answer}
 use Rattle.ucl_pass.specs.declared.view.CellView.{CellView}
 use Rattle.ucl_pass.specs.CellRule.{words_after}
 use Rattle.ucl_pass.specs.CellSteps.{IsNextBoard, with_one_more, word_looked_at, HasSeenAll, StoresEntry, StoresReporter, LooksOnly, LooksAtMatch, LooksAtEnlisted, LooksAndShows, finished_too, after_load, HasAccepted, AreAccepting, LookOfCell, ReadOfCell}
-use Rattle.ucl_shared.specs.CallSteps.{MeetingSteps}
+use Rattle.ucl_shared.specs.CallSteps.{steps_with, entry_made, MeetingSteps}
 use Rattle.ucl_pass.specs.CellCalls.{CellMissed, no_event_between, WereLost, CellReport, CellEnlistMissed, CellEnlistment, CellReading, FinishesReport, FinishesReading}
 use Rattle.ucl_shared.proofs.Calls.{takes_none, takes_on, takes_count, Stays, stays_none, stays_more, all_more}
 use Rattle.ucl_pass.proofs.CellMoves.{match_words, match_word, last_word, one_more_last}
@@ -136,7 +136,7 @@ module _ (call : EventCall) (v w u : View) (x : List ℕ) (tried : TriedReport c
     }
 
     pub refused_steps : CellReport v call (Err refusal) u
-    refused_steps = record { tries = tried.tries; last = look_step ∷ []; takes = look_takes; missed = tried.missed; answered = record { looked = word_at x call.game; steps_are = refl; answer = answer }; lost = (let a = tried.lost in let b = looked.seen_all.listed in omega arith) }
+    refused_steps = record { tries = tried.tries; last = look_step ∷ []; takes = look_takes; missed = tried.missed; answered = record { accesses = access Look call.game (word_at x call.game) (length u.seen) ∷ []; steps_are = refl; deciding = record { looked = word_at x call.game; accesses = refl; answer = answer } }; lost = (let a = tried.lost in let b = looked.seen_all.listed in omega arith) }
 
   -- they accept, and an exchange was missed
   pub missed_again : (z : View) (y : List ℕ) → y ≢ x → IsOk (reply_of (record_at (word_at x call.game)) call) → LooksOnly (word_looked_at Swap call.game y) u y y z → TriedReport call v z
@@ -149,7 +149,14 @@ module _ (call : EventCall) (v w u : View) (x : List ℕ) (tried : TriedReport c
         tries = tried.tries ++ one ∷ [];
         takes = subst (λ (l : List Taken). Takes v l z) (sym all) (subst (λ (l : List Taken). Takes v l z) (append_assoc (flat_map (λ t. t) tried.tries) (look_step ∷ []) (swap_step ∷ []))
             (takes_on v u z (flat_map (λ t. t) tried.tries ++ look_step ∷ []) (swap_step ∷ []) look_takes lost.sees.takes));
-        missed = all_more (CellMissed call) tried.tries one tried.missed (record { looked = word_at x call.game; found = word_at y call.game; at = length u.seen; later = length z.seen; steps_are = refl; may = may });
+        missed = all_more (CellMissed call) tried.tries one tried.missed (record {
+          looked = word_at x call.game;
+          found = word_at y call.game;
+          later = length z.seen;
+          accesses = access Look call.game (word_at x call.game) (length u.seen) ∷ access Swap call.game (word_at y call.game) (length z.seen) ∷ [];
+          steps_are = refl;
+          missed = record { at = length u.seen; accesses = refl; may = may };
+        });
         lost = lost_more v.listed tried.tries one w.listed z.listed tried.lost (let a = looked.seen_all.listed in let b = lost.seen_all.listed in omega arith)
             (λ is.
             let less = enlisted_between u z x y looked.seen_all.words_are lost.seen_all.words_are other lost.sees.goes.seen lost.seen_all.listed (same_places (length u.seen) (length z.seen) is) in
@@ -158,7 +165,7 @@ module _ (call : EventCall) (v w u : View) (x : List ℕ) (tried : TriedReport c
       }
 
   -- they accept, and an exchange was won
-  module _ (z : View) (next : List ℕ) (stored : StoresEntry (entry_of (v.number, call)) u x next z) where
+  module _ (z : View) (next : List ℕ) (stored : StoresEntry (entry_of v.number call) u x next z) where
     since : IsPrefix v.seen stored.before
     since = begins_through v.seen u.seen stored.before look_stays.on.seen stored.adds.since
 
@@ -169,7 +176,7 @@ module _ (call : EventCall) (v w u : View) (x : List ℕ) (tried : TriedReport c
       last = stored.adds.last;
       since = since;
       answer = sym (said stored.before stored.legal (sym (ap (take 12) stored.found ∙ match_words stored.before z.listed)));
-      mine = stored.adds.mine ∙ ap (λ (l : List Entry). followed_by l (entry_of (v.number, call))) look_stays.mine;
+      mine = stored.adds.mine ∙ ap (λ (l : List Entry). followed_by l (entry_of v.number call)) look_stays.mine;
       shown = stored.adds.shown ∙ look_stays.shown;
     }
 
@@ -186,7 +193,7 @@ module _ (call : EventCall) (v w u : View) (x : List ℕ) (tried : TriedReport c
 
     pub accepted_steps : (reply : Accepted) → reply_of (record_at (word_at x call.game)) call ≡ Ok reply → CellReport v call (Ok reply) z
     accepted_steps reply answer =
-        let swap_step = step_taken (Match Swap call.game (word_at x call.game)) (length stored.before) (Some (entry_of (v.number, call))) in
+        let swap_step = step_taken (Match Swap call.game (word_at x call.game)) (length stored.before) (Some (entry_of v.number call)) in
         record {
           tries = tried.tries;
           last = look_step ∷ swap_step ∷ [];
@@ -195,19 +202,23 @@ module _ (call : EventCall) (v w u : View) (x : List ℕ) (tried : TriedReport c
           missed = tried.missed;
           lost = (let a = tried.lost in let b = looked.seen_all.listed in let d = stored.seen_all.listed in omega arith);
           answered = record {
-            looked = word_at x call.game;
-            at = length u.seen;
-            before = length stored.before;
+            accesses = access Look call.game (word_at x call.game) (length u.seen) ∷ access Swap call.game (word_at x call.game) (length stored.before) ∷ [];
             steps_are = refl;
-            answer = answer;
-            last = sym (ap length stored.adds.last ∙ length-append stored.before (entry_of (v.number, call) ∷ []));
+            deciding = record {
+              looked = word_at x call.game;
+              at = length u.seen;
+              before = length stored.before;
+              accesses = refl;
+              answer = answer;
+              last = sym (ap length stored.adds.last ∙ length-append stored.before (entry_of v.number call ∷ []));
+            };
           };
         }
 
 -- a report takes a step at least
 some_steps : (n : ℕ) (call : EventCall) (r : Result Accepted Refusal) (now : ℕ) (steps : List Taken) → Rattle.ucl_pass.specs.CellCalls.CellAnswered n call r now steps → 0 < length steps
-some_steps n call (Ok reply) now steps a = let l = ap length a.steps_are in omega arith
-some_steps n call (Err refusal) now steps a = let l = ap length a.steps_are in omega arith
+some_steps n call (Ok reply) now steps a = let l = ap length (a.steps_are ∙ ap (steps_with (entry_made n call (Ok reply))) a.deciding.accesses) in omega arith
+some_steps n call (Err refusal) now steps a = let l = ap length (a.steps_are ∙ ap (steps_with (entry_made n call (Err refusal))) a.deciding.accesses) in omega arith
 
 pub report_counts : (v w : View) (call : EventCall) (r : Result Accepted Refusal) → CellReport v call r w → count_of v < count_of w
 report_counts v w call r s =
@@ -218,21 +229,21 @@ report_counts v w call r s =
 pub next_words : (x board next : List ℕ) (e : Entry)
     → ((history : List Entry) → IsLegal history → board_of history ≡ take 12 x → (board ≡ board_of (followed_by history e)) × IsLegal (followed_by history e))
     → next ≡ board ++ slice_index x 12 ∷ [] → IsNextBoard e x next
-next_words x board next e counted is h n legal words =
-    let c = counted h legal (sym (ap (take 12) words ∙ match_words h n)) in
-    let last : slice_index x 12 ≡ n = ap (λ (ws : List ℕ). slice_index ws 12) words ∙ last_word h n in
+next_words x board next e counted is n h legal words =
+    let c = counted h legal (sym (match_words h n) ∙ ap (take 12) words) in
+    let last : slice_index x 12 ≡ n = ap (λ (ws : List ℕ). slice_index ws 12) (sym words) ∙ last_word h n in
     (is ∙ (ap (λ (k : ℕ). board ++ k ∷ []) last ∙ ap (λ (b : List ℕ). b ++ n ∷ []) c.0), c.1)
 
 -- a reading
-module _ (v w : View) (x : List ℕ) (reading : Reading) (shows : LooksAndShows v x x w) (board : reading.board ≡ take 12 x) (version : reading.version ≡ version_of reading.board) where
+module _ (v w : View) (x : List ℕ) (reading : Reading) (shows : LooksAndShows v x x w) (is : reading ≡ reading_of (take 12 x)) where
   pub version_seen : reading.version ≡ length w.seen
-  version_seen = version ∙ (ap version_of (board ∙ board_seen x v w shows.seen_all shows.sees.goes) ∙ (versions w.seen shows.sees.goes.legal).0)
+  version_seen = ap (λ (r : Reading). r.version) is ∙ (ap version_of (board_seen x v w shows.seen_all shows.sees.goes) ∙ (versions w.seen shows.sees.goes.legal).0)
 
   pub read_says : SharedReading (pass_view_of v) reading (pass_view_of w)
   read_says =
       let low = begins_length v.seen w.seen shows.sees.goes.seen in
       let n = version_seen in
-      let same : reading.board ≡ board_of (take reading.version w.seen) = board ∙ (board_seen x v w shows.seen_all shows.sees.goes ∙ ap board_of (sym (take_all reading.version w.seen (omega arith)))) in
+      let same : reading.board ≡ board_of (take reading.version w.seen) = ap (λ (r : Reading). r.board) is ∙ (board_seen x v w shows.seen_all shows.sees.goes ∙ ap board_of (sym (take_all reading.version w.seen (omega arith)))) in
       record {
         low = omega arith;
         high = omega arith;
@@ -419,9 +430,9 @@ module _ (e : EventCall) (v w u : CellView) (x : List ℕ) (tried : TriedReport 
     }
 
 -- and after a reading
-pub finishes_reading : (v w : CellView) (x : List ℕ) (reading : Reading) → ReadOfCell v x x w → reading.board ≡ take 12 x → reading.version ≡ length w.pass.seen → FinishesReading v reading w
-finishes_reading v w x reading shows board version = record {
+pub finishes_reading : (v w : CellView) (x : List ℕ) (reading : Reading) → ReadOfCell v x x w → reading ≡ reading_of (take 12 x) → FinishesReading v reading w
+finishes_reading v w x reading shows is = record {
   begun = length w.pass.seen;
   after_seen = begins_length v.pass.seen w.pass.seen shows.shows.sees.goes.seen;
-  does = shows.calls ∙ sym (λ i. finished_too calls.Reading (replies.Copied (record { board = board i; version = version i })) (length w.pass.seen) (length w.pass.seen) v.calls);
+  does = shows.calls ∙ ap (λ (r : Reading). finished_too calls.Reading (replies.Copied r) (length w.pass.seen) (length w.pass.seen) v.calls) (sym is);
 }

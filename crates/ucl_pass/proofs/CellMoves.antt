@@ -1,10 +1,11 @@
 -- Each kind of step on the cell keeps the rule, and tells its pass what it says.
 use Rattle.std.proofs.Common.{◌≡◌, ◌≢◌, inl, inr, ⊎_elim, ℕ, zero, suc, ◌+◌, ◌-◌, ◌<◌, ◌≤◌, Bool, true, false, Option, Some, None, List, [], ◌∷◌, ◌++◌, length, set, take, nat_eq, get_or, if◌then◌else◌, refl, sym, ap, ◌∙◌, subst, arith, le_refl, append-nil, length-append, length-set, true≢false}
 use Rattle.std.specs.Prelude.{slice_index, Result, Ok, Err, MatchResult, IsSome}
-use mathlib.Core.Option.{some, some-ne-none, some-injective}
+use mathlib.Core.Option.{some}
 use lib.ListN.{get_elem?}
 use lib.Pointwise.{pointwise, bytes_decides}
 use Rattle.crossbeam_utils.specs.Register.{Turns, Forks, Merges}
+use Rattle.atomic_table.proofs.Lists.{at_longer, set_here}
 use Rattle.ucl_word.specs.declared.event.EventCall.{EventCall}
 use Rattle.ucl_word.specs.declared.refusal.Refusal.{Refusal}
 use Rattle.ucl_word.specs.Record.{IsReporter}
@@ -13,7 +14,7 @@ use Rattle.ucl_word.specs.Layout.{word_of, record_at}
 use Rattle.ucl_board.specs.declared.entry.Entry.{Entry}
 use Rattle.ucl_board.specs.Fixtures.{IsMatch}
 use Rattle.ucl_board.specs.Words.{word_at}
-use Rattle.ucl_board.specs.History.{match_after, board_of, IsLegal, followed_by, entry_of}
+use Rattle.ucl_board.specs.History.{match_after, board_of, IsLegal, followed_by, entry_of, reading_of}
 use Rattle.ucl_board.specs.Log.{AccessKind, Look, Swap, Target, Enlisted, Whole, history_of, IsThere}
 use Rattle.ucl_board.proofs.Histories.{board_length, word_after}
 use Rattle.ucl_board.proofs.HistoryLaws.{one_word}
@@ -29,15 +30,16 @@ use Rattle.ucl_steps.specs.declared.trace.Reply.{Reply}
 use Rattle.ucl_steps.specs.declared.trace.Reply.TheVariants.{Accepted, Refused, Copied}
 use Rattle.ucl_steps.specs.Machine.{MachineState}
 use Rattle.ucl_steps.specs.Protocol.{Answer, ends, nothing_done}
-use Rattle.ucl_steps.specs.PassRuns.{cast_for}
+use Rattle.ucl_steps.specs.PassRuns.{cast_for, steps_of_moves}
 use Rattle.ucl_pass.specs.declared.view.CellView.{CellView}
-use Rattle.ucl_pass.specs.Actors.{Actor, IsRunOfActors}
+use Rattle.ucl_steps.specs.Actors.{Actor, IsRunOfActors}
 use Rattle.ucl_pass.specs.CellViews.{new_cell_pass, first_cell_pass, left_cell_pass, second_cell_pass, note_cell_pass, told_cell_pass, all_finished, actor_of, actors_of, views_known}
-use Rattle.ucl_pass.specs.CellRule.{words_after, CellKeepsOneHistory}
-use Rattle.ucl_pass.specs.CellSteps.{IsNextBoard, with_one_more, word_looked_at, Looks, StoresEntry, StoresReporter, LooksOnly, LooksAtMatch, LooksAtEnlisted, LooksAndShows, AddsOrLooks, EnlistsOrLooks, finished_too, after_load, HasAccepted, DecidesReport, AreAccepting, LookOfCell, AddOfCell, ReadOfCell, CountOfCell, EnlistOfCell}
+use Rattle.ucl_pass.specs.CellRule.{words_after, CellKeepsOneHistory, CellStands}
+use Rattle.ucl_pass.specs.CellSteps.{IsNextBoard, with_one_more, word_looked_at, Looks, StoresEntry, StoresReporter, LooksOnly, LooksAtEnlisted, AddsOrLooks, EnlistsOrLooks, finished_too, after_load, HasAccepted, DecidesReport, AreAccepting, LookOfCell, AddOfCell, ReadOfCell, CountOfCell, EnlistOfCell, TellsAndStands}
 use Rattle.ucl_shared.proofs.Moves.{looked, look_keeps, look_tells, same_history, entered, add_keeps, add_tells, longer_history, enlisted_as, enlist_keeps, enlist_tells, unchanged_history, second_added, note_added, note_joined, opens, look_same, add_same, enlist_same, second_same, note_same, joined_same, opens_same}
-use Rattle.ucl_pass.proofs.Bursts.{Burst, reading_at_once, refused_at_once, accepted_at_once}
-use Rattle.ucl_pass.proofs.ActorRuns.{map_at, map_set, map_more, map_long, set_same, Apart, run_burst, run_enlisted, run_more, run_begins}
+use Rattle.ucl_pass.proofs.Bursts.{reading_at_once, refused_at_once, accepted_at_once}
+use Rattle.ucl_steps.proofs.Seats.{map_at, map_there, map_set, map_more, map_long, set_same, place_below}
+use Rattle.ucl_steps.proofs.ActorRuns.{Burst, Apart, run_burst, run_enlisted, run_more, run_begins}
 
 -- the thirteen words
 
@@ -77,16 +79,10 @@ entry_differs h n e legal same =
 reporter_differs : (h : List Entry) (n : ℕ) → words_after h n ≢ words_after h (n + 1)
 reporter_differs h n same = let e : n ≡ n + 1 = sym (last_word h n) ∙ (ap (λ (l : List ℕ). slice_index l 12) same ∙ last_word h (n + 1)) in omega arith
 
--- the view of an actor
-view_there : (views : List CellView) (j : ℕ) (a : Actor) → get_elem? (actors_of views) j ≡ some a → (v : CellView) × (get_elem? views j ≡ some v) × (actor_of v ≡ a)
-view_there [] j a e = absurd (some-ne-none a (sym e))
-view_there (v ∷ views) zero a e = (v, refl, some-injective (actor_of v) a e)
-view_there (v ∷ views) (suc j) a e = view_there views j a e
-
 -- views and actors
 
 apart_actors : (x : List ℕ) (views : List CellView) (r : CellKeepsOneHistory x views) → Apart (actors_of views)
-apart_actors x views r i j a b at bt pos same = by_views (view_there views i a at) (view_there views j b bt)
+apart_actors x views r i j a b at bt pos same = by_views (map_there actor_of views i a at) (map_there actor_of views j b bt)
   where
     by_views : (v : CellView) × (get_elem? views i ≡ some v) × (actor_of v ≡ a) → (w : CellView) × (get_elem? views j ≡ some w) × (actor_of w ≡ b) → i ≡ j
     by_views v w =
@@ -95,7 +91,7 @@ apart_actors x views r i j a b at bt pos same = by_views (view_there views i a a
         r.shared.apart i j v.0.pass w.0.pass (map_at (λ (z : CellView). z.pass) views i v.0 v.1) (map_at (λ (z : CellView). z.pass) views j w.0 w.1) (omega arith) (n ∙ (same ∙ sym m))
 
 low_actors : (x : List ℕ) (views : List CellView) (r : CellKeepsOneHistory x views) (j : ℕ) (a : Actor) → get_elem? (actors_of views) j ≡ some a → a.number ≤ r.shared.enlisted
-low_actors x views r j a at = by_view (view_there views j a at)
+low_actors x views r j a at = by_view (map_there actor_of views j a at)
   where
     by_view : (v : CellView) × (get_elem? views j ≡ some v) × (actor_of v ≡ a) → a.number ≤ r.shared.enlisted
     by_view v =
@@ -116,6 +112,20 @@ both words views ps q n h e enlisted is run =
       shared = t.0;
       one_run = λ readers all. subst (λ (z : List Entry). IsRunOfActors readers t.0.enlisted z (actors_of views)) (sym (ap history_of t.2 ∙ is)) (subst (λ (k : ℕ). IsRunOfActors readers k h (actors_of views)) (sym (t.1 ∙ enlisted)) (run readers all));
     }
+
+-- after a step that keeps the rule its pass stands at its seat
+pub stands_too : (seat : ℕ) (v : CellView) (f : List ℕ → List ℕ) (tells : CellView → List ℕ → List ℕ → CellView → Type 0) (place : ℕ) → place ≡ seat → Turns CellKeepsOneHistory seat v f tells
+    → Turns CellKeepsOneHistory seat v f (TellsAndStands place tells)
+stands_too seat v f tells place is turns x views r here =
+    let t = turns x views r here in
+    let w : CellView = t.0 in (
+      w,
+      t.1,
+      record {
+        told = t.2;
+        stands = record { state = record { words = f x; views = set views seat w }; rule = t.1; here = ap (get_elem? (set views seat w)) is ∙ set_here views seat w (place_below views seat v here) };
+      },
+    )
 
 -- one pass gets another view, by one step of it
 module _ (x : List ℕ) (views : List CellView) (r : CellKeepsOneHistory x views) (seat : ℕ) (v : CellView) (here : get_elem? views seat ≡ some v) where
@@ -181,14 +191,13 @@ module _ (x : List ℕ) (views : List CellView) (r : CellKeepsOneHistory x views
 as_finished : (seat number : ℕ) (w : MachineState) (c : Caller) (call : Call) (reply : Reply) (begun ended : ℕ) (calls : List Answer) (entries : List Entry)
     → Burst seat number w c (ends call reply begun ended (all_finished calls)) entries → Burst seat number w c (all_finished (finished_too call reply begun ended calls)) entries
 as_finished seat number w c call reply begun ended calls entries b = record {
-  steps = b.steps;
+  moves = b.moves;
   last = b.last;
   run = b.run;
   history = b.history;
   of = b.of;
   passes = b.passes;
   fits = record { high = b.fits.high; recorded = b.fits.recorded; held = b.fits.held; whole = b.fits.whole };
-  tight = b.tight;
 }
 
 -- the word of a match in the cell is that of the machine
@@ -224,7 +233,7 @@ module _ (x : List ℕ) (views : List CellView) (r : CellKeepsOneHistory x views
             let at : length one.state.history ≡ length after_look.seen = ap length one.history_is ∙ look_place in
             subst (λ (n : ℕ). Burst seat v.pass.number one.state (Reporter v.pass.number) (all_finished (finished_too (Event e) (Refused refusal) n n v.calls)) []) at
             (as_finished seat v.pass.number one.state (Reporter v.pass.number) (Event e) (Refused refusal) (length one.state.history) (length one.state.history) v.calls []
-            (refused_at_once (cast_for readers) seat v.pass.number one.steps one.state one.run (all_finished v.calls) (one.each seat (actor_of v) (actor_at x views r seat v here)) e (is_reporter, is) refl refusal refuses))),
+            (refused_at_once (cast_for readers) seat v.pass.number (steps_of_moves one.moves) one.state one.run (all_finished v.calls) (one.each seat (actor_of v) (actor_at x views r seat v here)) e (is_reporter, is) refl refusal refuses))),
         record { looks = load_tells x views r seat v here acts (word_looked_at Look e.game x) there_to_look v.pass.shown; calls = sym (ap (λ (o : Option Refusal). after_load e (length after_look.seen) o v.calls) some_is) },
       )
 
@@ -247,11 +256,11 @@ reads seat v acts x views r here =
     let now = length w.seen in
     let words : List ℕ = take 12 x in
     let board : words ≡ board_of (history_of r.shared.log) = ap (take 12) r.shared.words_are ∙ match_words (history_of r.shared.log) r.shared.enlisted in
-    let calls : List Answer = finished_too Reading (Copied (record { board = words; version = now })) now now v.calls in (
+    let calls : List Answer = finished_too Reading (Copied (reading_of words)) now now v.calls in (
       record { pass = w; calls = calls },
       deciding_load x views r seat v here acts Whole tt shown calls (Reader (seat + 1)) (λ readers one.
-          as_finished seat v.pass.number one.state (Reader (seat + 1)) Reading (Copied (record { board = words; version = now })) now now v.calls []
-          (reading_at_once (cast_for readers) seat v.pass.number words now (ap length board ∙ board_length (history_of r.shared.log)) one.steps one.state one.run (all_finished v.calls) (one.each seat (actor_of v) (actor_at x views r seat v here)) refl
+          as_finished seat v.pass.number one.state (Reader (seat + 1)) Reading (Copied (reading_of words)) now now v.calls []
+          (reading_at_once (cast_for readers) seat v.pass.number words now (ap length board ∙ board_length (history_of r.shared.log)) (steps_of_moves one.moves) one.state one.run (all_finished v.calls) (one.each seat (actor_of v) (actor_at x views r seat v here)) refl
           (board ∙ ap board_of (sym one.history_is)) (ap length one.history_is ∙ ap length (sym seen)))),
       record { shows = subst (λ (l : List ℕ). Looks Whole v.pass l x w) same (load_tells x views r seat v here acts Whole tt shown); calls = refl },
     )
@@ -261,6 +270,10 @@ pub begins : (words : List ℕ) → words ≡ words_after [] 0 → CellKeepsOneH
 begins words are =
     let same = opens_same words_after words are in
     both words (first_cell_pass ∷ []) (opener ∷ []) (opens words_after words are) 0 [] refl same.0 (ap history_of same.1) (λ readers all. run_begins readers all)
+
+-- its first pass stands there, as the only one
+pub begins_stands : CellStands 0 first_cell_pass
+begins_stands = record { state = record { words = words_after [] 0; views = first_cell_pass ∷ [] }; rule = begins (words_after [] 0) refl; here = refl }
 
 -- the exchange, by whether the words are those that were expected
 by_exchange : (current next : List ℕ) (P : List ℕ → List ℕ → Type 0) (x : List ℕ) → (x ≡ current → P x next) → (x ≢ current → P x x) → P x (if pointwise nat_eq x current then next else x)
@@ -272,15 +285,15 @@ by_exchange current next P x hit miss = go (pointwise nat_eq x current) refl
 
 -- an exchange that adds an entry
 module _ (x next : List ℕ) (views : List CellView) (r : CellKeepsOneHistory x views) (seat : ℕ) (v : CellView) (e : EventCall) (here : get_elem? views seat ≡ some v) (acts : IsSome v.pass.share) (pos : 0 < v.pass.number) (game : IsMatch e.game)
-    (is : IsNextBoard (entry_of (v.pass.number, e)) x next) (accepts : AreAccepting x e) where
+    (is : IsNextBoard (entry_of v.pass.number e) x next) (accepts : AreAccepting x e) where
   abbrev entry : Entry
-  entry = entry_of (v.pass.number, e)
+  entry = entry_of v.pass.number e
 
   abbrev known_here : get_elem? (views_known views) seat ≡ some v.pass
   known_here = at_seat x views r seat v here
 
   next_is : (next ≡ words_after (followed_by (history_of r.shared.log) entry) r.shared.enlisted) × IsLegal (followed_by (history_of r.shared.log) entry)
-  next_is = is (history_of r.shared.log) r.shared.enlisted r.shared.legal r.shared.words_are
+  next_is = is r.shared.enlisted (history_of r.shared.log) r.shared.legal (sym r.shared.words_are)
 
   there_now : IsThere (history_of r.shared.log) (word_looked_at Swap e.game x)
   there_now = looked_there Swap e.game x (history_of r.shared.log) r.shared.enlisted game r.shared.words_are
@@ -309,7 +322,7 @@ module _ (x next : List ℕ) (views : List CellView) (r : CellKeepsOneHistory x 
       let at : length one.state.history ≡ length (history_of r.shared.log) = ap length one.history_is in
       let c : Caller = Reporter v.pass.number in
       let reply : ℕ → Reply = λ n. Accepted (record { number = (record_at n).number + 1 }) in
-      let once = accepted_at_once (cast_for readers) seat v.pass.number one.steps one.state one.run (all_finished v.calls) (one.each seat (actor_of v) (actor_at x views r seat v here)) e (me, game) refl
+      let once = accepted_at_once (cast_for readers) seat v.pass.number (steps_of_moves one.moves) one.state one.run (all_finished v.calls) (one.each seat (actor_of v) (actor_at x views r seat v here)) e (me, game) refl
       (ap (λ (n : ℕ). refusal_of (record_at n) e.expected e.kind) (sym found) ∙ accepts) in
       let done = as_finished seat v.pass.number one.state c (Event e) (reply (word_of (match_after one.state.history e.game))) (length one.state.history) (length one.state.history + 1) v.calls (entry ∷ []) once in
       subst (λ (n : ℕ). Burst seat v.pass.number one.state c (all_finished (finished_too (Event e) (reply (word_at x e.game)) (length (history_of r.shared.log)) n v.calls)) (entry ∷ [])) one_longer
@@ -350,12 +363,12 @@ module _ (x next : List ℕ) (views : List CellView) (r : CellKeepsOneHistory x 
   store_differs : x ≢ next
   store_differs same = entry_differs (history_of r.shared.log) r.shared.enlisted entry next_is.1 (sym r.shared.words_are ∙ (same ∙ next_is.0))
 
-pub adds : (seat : ℕ) (v : CellView) (e : EventCall) (current next : List ℕ) → IsSome v.pass.share → 0 < v.pass.number → IsMatch e.game → IsNextBoard (entry_of (v.pass.number, e)) current next → AreAccepting current e
+pub adds : (seat : ℕ) (v : CellView) (e : EventCall) (current next : List ℕ) → IsSome v.pass.share → 0 < v.pass.number → IsMatch e.game → IsNextBoard (entry_of v.pass.number e) current next → AreAccepting current e
     → Turns CellKeepsOneHistory seat v (λ x. if pointwise nat_eq x current then next else x) (AddOfCell e)
 adds seat v e current next acts pos game is accepts x views r here =
     by_exchange current next (λ x' y. (w : CellView) × CellKeepsOneHistory y (set views seat w) × AddOfCell e v x' y w) x
     (λ same.
-    let is' : IsNextBoard (entry_of (v.pass.number, e)) x next = subst (λ (ws : List ℕ). IsNextBoard (entry_of (v.pass.number, e)) ws next) (sym same) is in
+    let is' : IsNextBoard (entry_of v.pass.number e) x next = subst (λ (ws : List ℕ). IsNextBoard (entry_of v.pass.number e) ws next) (sym same) is in
     let accepts' : AreAccepting x e = subst (λ (ws : List ℕ). AreAccepting ws e) (sym same) accepts in
     let differs = store_differs x next views r seat v e here acts pos game is' accepts' in (
       after_store x next views r seat v e here acts pos game is' accepts',
@@ -455,6 +468,16 @@ seconds seat v x views r here =
     let same = second_same words_after x (views_known views) r.shared seat v.pass at in
     split_keeps x views r seat v here (left_cell_pass v) (second_cell_pass v) refl refl (second_added words_after x (views_known views) r.shared seat v.pass at) same.0 same.1
 
+-- a pass that another was split off still stands
+pub split_stands : (seat : ℕ) (v : CellView) → CellStands seat v → CellStands seat (left_cell_pass v)
+split_stands seat v was =
+    let left : List CellView = set was.state.views seat (left_cell_pass v) in
+    record {
+      state = record { words = was.state.words; views = left ++ second_cell_pass v ∷ [] };
+      rule = seconds seat v was.state.words was.state.views was.rule was.here;
+      here = at_longer left (second_cell_pass v ∷ []) seat (left_cell_pass v) (set_here was.state.views seat (left_cell_pass v) (place_below was.state.views seat v was.here));
+    }
+
 pub notes : (seat : ℕ) (v : CellView) → Forks CellKeepsOneHistory seat v v (note_cell_pass v)
 notes seat v x views r here =
     let at = at_seat x views r seat v here in
@@ -493,7 +516,7 @@ add_says e v w current next (Ok x) is said =
     (λ (t : (x ≡ next) × LooksOnly (word_looked_at Swap e.game x) v x next w).
     let l = t.1 in
     let was : current ≡ words_after w.seen w.listed = sym same ∙ (t.0 ∙ l.seen_all.words_are) in
-    let n = is w.seen w.listed l.sees.goes.legal was in
+    let n = is w.listed w.seen l.sees.goes.legal (sym was) in
     absurd (entry_differs w.seen w.listed e n.1 (sym l.seen_all.words_are ∙ n.0)))
     (λ (t : (x ≢ next) × StoresEntry e v x next w). (same, subst (λ (c : List ℕ). StoresEntry e v c next w) same t.1))
     said.1
@@ -517,12 +540,24 @@ enlist_says v w current next (Ok x) is said =
 enlist_says v w current next (Err x) is said =
     (other_words x current said.0, ⊎_elim (λ (t : (x ≡ x) × LooksAtEnlisted v x x w). t.1) (λ (t : (x ≢ x) × StoresReporter v x w). absurd (t.0 refl)) said.1)
 
--- what an exchange for an event tells by its answer
+-- what an exchange tells by its answer
+abbrev pub AnswersBy : (CellView → List ℕ → List ℕ → CellView → Type 0) → CellView → List ℕ → List ℕ → Result (List ℕ) (List ℕ) → CellView → Type 0
+AnswersBy tells v current next r w = MatchResult r (λ x. (pointwise nat_eq x current ≡ true) × tells v x next w) (λ x. (pointwise nat_eq x current ≡ false) × tells v x x w)
+
+pub told_by : (seat : ℕ) (tells : CellView → List ℕ → List ℕ → CellView → Type 0) (v w : CellView) (current next : List ℕ) (r : Result (List ℕ) (List ℕ)) → AnswersBy (TellsAndStands seat tells) v current next r w → AnswersBy tells v current next r w
+told_by seat tells v w current next (Ok x) said = (said.0, said.1.told)
+told_by seat tells v w current next (Err x) said = (said.0, said.1.told)
+
+pub stands_by : (seat : ℕ) (tells : CellView → List ℕ → List ℕ → CellView → Type 0) (v w : CellView) (current next : List ℕ) (r : Result (List ℕ) (List ℕ)) → AnswersBy (TellsAndStands seat tells) v current next r w → CellStands seat w
+stands_by seat tells v w current next (Ok x) said = said.1.stands
+stands_by seat tells v w current next (Err x) said = said.1.stands
+
+-- an exchange for an event
 abbrev pub AnswersAdd : EventCall → CellView → List ℕ → List ℕ → Result (List ℕ) (List ℕ) → CellView → Type 0
-AnswersAdd e v current next r w = MatchResult r (λ x. (pointwise nat_eq x current ≡ true) × AddOfCell e v x next w) (λ x. (pointwise nat_eq x current ≡ false) × AddOfCell e v x x w)
+AnswersAdd e v current next r w = AnswersBy (AddOfCell e) v current next r w
 
 -- what it decides
-pub add_decides : (e : EventCall) (v w : CellView) (current next : List ℕ) (r : Result (List ℕ) (List ℕ)) → IsNextBoard (entry_of (v.pass.number, e)) current next
+pub add_decides : (e : EventCall) (v w : CellView) (current next : List ℕ) (r : Result (List ℕ) (List ℕ)) → IsNextBoard (entry_of v.pass.number e) current next
     → AnswersAdd e v current next r w
     → DecidesReport e v current r w
 add_decides e v w current next (Ok x) is said =
@@ -531,9 +566,9 @@ add_decides e v w current next (Ok x) is said =
     (λ (t : (x ≡ next) × LooksOnly (word_looked_at Swap e.game x) v.pass x next w.pass).
     let l = t.1 in
     let was : current ≡ words_after w.pass.seen w.pass.listed = sym same ∙ (t.0 ∙ l.seen_all.words_are) in
-    let n = is w.pass.seen w.pass.listed l.sees.goes.legal was in
-    absurd (entry_differs w.pass.seen w.pass.listed (entry_of (v.pass.number, e)) n.1 (sym l.seen_all.words_are ∙ n.0)))
-    (λ (t : (x ≢ next) × StoresEntry (entry_of (v.pass.number, e)) v.pass x next w.pass). t.0)
+    let n = is w.pass.listed w.pass.seen l.sees.goes.legal (sym was) in
+    absurd (entry_differs w.pass.seen w.pass.listed (entry_of v.pass.number e) n.1 (sym l.seen_all.words_are ∙ n.0)))
+    (λ (t : (x ≢ next) × StoresEntry (entry_of v.pass.number e) v.pass x next w.pass). t.0)
     said.1.adds in
     subst (λ (ws : List ℕ). HasAccepted e (word_at ws e.game) v w) same (said.1.won differs)
 add_decides e v w current next (Err x) is said = said.1.missed refl
@@ -541,7 +576,7 @@ add_decides e v w current next (Err x) is said = said.1.missed refl
 -- what each exchange says of the pass
 pub add_seen : (e : EventCall) (v w : CellView) (current next : List ℕ) (r : Result (List ℕ) (List ℕ))
     → AnswersAdd e v current next r w
-    → MatchResult r (λ x. (pointwise nat_eq x current ≡ true) × AddsOrLooks (entry_of (v.pass.number, e)) v.pass x next w.pass) (λ x. (pointwise nat_eq x current ≡ false) × AddsOrLooks (entry_of (v.pass.number, e)) v.pass x x w.pass)
+    → MatchResult r (λ x. (pointwise nat_eq x current ≡ true) × AddsOrLooks (entry_of v.pass.number e) v.pass x next w.pass) (λ x. (pointwise nat_eq x current ≡ false) × AddsOrLooks (entry_of v.pass.number e) v.pass x x w.pass)
 add_seen e v w current next (Ok x) said = (said.0, said.1.adds)
 add_seen e v w current next (Err x) said = (said.0, said.1.adds)
 

@@ -1,26 +1,51 @@
--- A running cell board is one run of the machine.
+-- A running cell board is one run of the machine, and goes on with it.
 use Rattle.std.proofs.Common.{◌≡◌, ℕ, List, [], ◌∷◌, ◌++◌, length, refl, sym, ap, ◌∙◌, subst, le_refl}
+use Rattle.std.proofs.lemmas.List.Concat.{flat_map-append}
+use mathlib.Core.Option.{some}
+use mathlib.Core.List.{IsPrefix}
+use lib.ListN.{get_elem?}
 use Rattle.ucl_board.specs.declared.entry.Entry.{Entry}
 use Rattle.ucl_board.specs.History.{board_of}
+use Rattle.ucl_board.specs.Log.{Logged, Log, entry_list, history_of}
+use Rattle.ucl_steps.specs.Protocol.{Nothing}
 use Rattle.ucl_steps.specs.Linearizable.{IsLinearizable}
-use Rattle.ucl_steps.specs.PassRuns.{cast_for}
+use Rattle.ucl_steps.specs.PassRuns.{cast_for, steps_of_moves}
+use Rattle.ucl_steps.specs.Actors.{Actor, IsRunOfActors}
+use Rattle.ucl_steps.specs.Growing.{HaveGoneOn, GoesOnFrom}
 use Rattle.ucl_steps.proofs.Runs.{linearizable_run, words_of_run}
-use Rattle.ucl_pass.specs.CellViews.{actor_of}
-use Rattle.ucl_pass.specs.Laws.{CellBoardsAreRuns}
-use Rattle.ucl_pass.proofs.ActorRuns.{map_at}
+use Rattle.ucl_steps.proofs.Seats.{map_there}
+use Rattle.ucl_steps.proofs.KeptRecords.{kept_records}
+use Rattle.ucl_pass.specs.declared.view.CellView.{CellView}
+use Rattle.ucl_pass.specs.CellViews.{actor_of, actors_of}
+use Rattle.ucl_pass.specs.Laws.{CellBoardsAreRuns, CellRunsGrow}
 
 pub cells_run : CellBoardsAreRuns
-cells_run words views r =
-    let cast = cast_for (length views) in
-    let one = r.one_run (length views) (le_refl (length views)) in
+cells_run s r =
+    let cast = cast_for (length s.views) in
+    let one = r.one_run (length s.views) (le_refl (length s.views)) in
+    let steps = steps_of_moves one.moves in
     record {
-      steps = one.steps;
-      last = one.state;
-      run = one.run;
-      history = one.history_is;
-      words_are = r.shared.words_are ∙ ap (λ (ws : List ℕ). ws ++ r.shared.enlisted ∷ []) (sym (words_of_run cast one.steps one.state one.run ∙ ap board_of one.history_is));
-      tight = one.tight;
-      calls = λ seat v here. one.each seat (actor_of v) (map_at actor_of views seat v here);
-      only = one.only;
-      linearizable = subst (λ (h : List Entry). IsLinearizable one.steps h one.state.calls) one.history_is (linearizable_run cast one.steps one.state one.run);
+      one = one;
+      words_are = r.shared.words_are ∙ ap (λ (ws : List ℕ). ws ++ r.shared.enlisted ∷ []) (sym (words_of_run cast steps one.state one.run ∙ ap board_of one.history_is));
+      linearizable = subst (λ (h : List Entry). IsLinearizable steps h one.state.calls) one.history_is (linearizable_run cast steps one.state one.run);
     }
+
+history_before : (log log' : Log) → IsPrefix log log' → IsPrefix (history_of log) (history_of log')
+history_before log log' before = (history_of before.0, sym (flat_map-append (λ (x : Logged). entry_list x.step.entry) log before.0) ∙ ap history_of before.1)
+
+-- one run that fits a cell goes on from another: all calls are finished
+module _ (views views' : List CellView) (readers readers' enlisted enlisted' : ℕ) (log log' : Log) (r : IsRunOfActors readers enlisted (history_of log) (actors_of views)) (q : IsRunOfActors readers' enlisted' (history_of log') (actors_of views')) where
+  none_held : (views : List CellView) (seat : ℕ) (a : Actor) → get_elem? (actors_of views) seat ≡ some a → a.doing.held ≡ Nothing
+  none_held views seat a there = let v = map_there actor_of views seat a there in subst (λ (b : Actor). b.doing.held ≡ Nothing) v.2 refl
+
+  pub cell_goes_on : IsPrefix log log' → HaveGoneOn (actors_of views) (actors_of views') → GoesOnFrom (actors_of views) r.state (actors_of views') q.state
+  cell_goes_on before on =
+      let entries = history_before log log' before in
+      record {
+        entries = (entries.0, ap (λ (h : List Entry). h ++ entries.0) r.history_is ∙ (entries.1 ∙ sym q.history_is));
+        records = kept_records (actors_of views) (actors_of views') r.state q.state on (λ seat a there. (r.each seat a there, none_held views seat a there)) (λ seat a there. (q.each seat a there, none_held views' seat a there));
+      }
+
+pub cells_go_on : CellRunsGrow
+cells_go_on s t r q before on earlier later =
+    cell_goes_on s.views t.views (length s.views) (length t.views) r.shared.enlisted q.shared.enlisted r.shared.log q.shared.log earlier.one later.one before on

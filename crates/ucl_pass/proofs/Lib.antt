@@ -1,6 +1,6 @@
 pub mod Bursts
-pub mod ActorRuns
 pub mod CellMoves
+pub mod Standing
 pub mod Calls
 pub mod Reports
 pub mod CellRuns

@@ -1,5 +1,5 @@
 -- How many events a pass of the cell board has reported.
-use Rattle.std.proofs.Common.{◌≡◌, ℕ, ◌+◌, Bool, true, false, List, [], ◌∷◌, ◌++◌, length, filter, Some, None, Result, Ok, Err, refl, sym, ap, ◌∙◌, subst, arith, length-append}
+use Rattle.std.proofs.Common.{None, ◌≡◌, ℕ, ◌+◌, Bool, true, false, List, [], ◌∷◌, ◌++◌, length, filter, Result, Ok, Err, refl, sym, ap, ◌∙◌, subst, arith, length-append}
 use Rattle.std.specs.List.{AllByRecursion, flat_map}
 use Rattle.std.proofs.lemmas.List.Elements.{filter-append}
 use Rattle.ucl_word.specs.declared.event.EventCall.{EventCall}
@@ -9,6 +9,7 @@ use Rattle.ucl_board.specs.Log.{Taken}
 use Rattle.ucl_shared.specs.declared.view.View.{View}
 use Rattle.ucl_shared.specs.Passes.{ReportsMore}
 use Rattle.ucl_shared.specs.Views.{Takes}
+use Rattle.ucl_shared.specs.CallSteps.{steps_with, entry_made}
 use Rattle.ucl_pass.specs.CellCalls.{CellAnswered, CellEnlistAnswered, CellEnlistMissed, CellEnlistment, CellHasReported, CellMissed, CellReport, looks_for_report, was_missed}
 
 looks : List Taken → ℕ
@@ -29,15 +30,15 @@ reports_both xs ys m n a b =
 
 -- a try in vain reports nothing
 try_reports : (call : EventCall) (steps : List Taken) → CellMissed call steps → CellHasReported steps 0
-try_reports call steps t = subst (λ (l : List Taken). CellHasReported l 0) (sym t.steps_are) refl
+try_reports call steps t = subst (λ (l : List Taken). CellHasReported l 0) (sym (t.steps_are ∙ ap (steps_with None) t.missed.accesses)) refl
 
 tries_report : (call : EventCall) (tries : List (List Taken)) → AllByRecursion (CellMissed call) tries → CellHasReported (flat_map (λ t. t) tries) 0
 tries_report call [] all = refl
 tries_report call (t ∷ ts) all = reports_both t (flat_map (λ x. x) ts) 0 0 (try_reports call t all.0) (tries_report call ts all.1)
 
 answer_reports : (number : ℕ) (call : EventCall) (reply : Result Accepted Refusal) (now : ℕ) (steps : List Taken) → CellAnswered number call reply now steps → CellHasReported steps 1
-answer_reports number call (Ok reply) now steps a = subst (λ (l : List Taken). CellHasReported l 1) (sym a.steps_are) refl
-answer_reports number call (Err refusal) now steps a = subst (λ (l : List Taken). CellHasReported l 1) (sym a.steps_are) refl
+answer_reports number call (Ok reply) now steps a = subst (λ (l : List Taken). CellHasReported l 1) (sym (a.steps_are ∙ ap (steps_with (entry_made number call (Ok reply))) a.deciding.accesses)) refl
+answer_reports number call (Err refusal) now steps a = subst (λ (l : List Taken). CellHasReported l 1) (sym (a.steps_are ∙ ap (steps_with (entry_made number call (Err refusal))) a.deciding.accesses)) refl
 
 -- what a pass has reported after steps that report so many
 more_by : (v : View) (steps : List Taken) (w : View) (more : ℕ) → Takes v steps w → CellHasReported steps more → ReportsMore (CellHasReported v.own) more (CellHasReported w.own)

@@ -1,51 +1,41 @@
 -- Which steps a call on the cell takes, and what it leaves among the finished calls of its pass: the pass was v and is w.
-use Rattle.std.specs.Prelude.{◌≡◌, ℕ, ◌+◌, ◌==◌, ◌≤◌, Bool, true, false, List, [], ◌∷◌, ◌++◌, length, filter, if◌then◌else◌, Option, Some, None, Result, Ok, Err, IsOk}
+use Rattle.std.specs.Prelude.{◌≡◌, ℕ, ◌+◌, ◌==◌, ◌≤◌, Bool, true, false, List, [], ◌∷◌, ◌++◌, length, filter, if◌then◌else◌, Option, None, Result, Ok, Err}
 use Rattle.std.specs.List.{AllByRecursion, flat_map}
 use Rattle.ucl_word.specs.declared.event.EventCall.{EventCall}
 use Rattle.ucl_word.specs.declared.event.Accepted.{Accepted}
 use Rattle.ucl_word.specs.declared.refusal.Refusal.{Refusal}
-use Rattle.ucl_word.specs.Rules.{reply_of}
-use Rattle.ucl_word.specs.Layout.{record_at}
 use Rattle.ucl_board.specs.declared.reading.Reading.{Reading}
-use Rattle.ucl_board.specs.History.{entry_of}
 use Rattle.ucl_board.specs.declared.entry.Entry.{Entry}
-use Rattle.ucl_board.specs.Log.{Look, Swap, Target, Match, Enlisted, Whole, Taken, step_taken}
+use Rattle.ucl_board.specs.Log.{Look, Swap, Target, Match, Enlisted, Whole, Access, Taken, step_taken}
+use Rattle.ucl_steps.specs.Trails.{LookRefused, StoredNothing, SwapWon}
 use Rattle.ucl_steps.specs.declared.step.Call.{Call}
 use Rattle.ucl_steps.specs.declared.step.Call.TheVariants as calls
 use Rattle.ucl_steps.specs.declared.trace.Reply.{Reply}
 use Rattle.ucl_steps.specs.declared.trace.Reply.TheVariants as replies
 use Rattle.ucl_shared.specs.declared.view.View.{View}
 use Rattle.ucl_shared.specs.Views.{Takes}
+use Rattle.ucl_shared.specs.CallSteps.{steps_with, entry_made}
 use Rattle.ucl_pass.specs.declared.view.CellView.{CellView}
 use Rattle.ucl_pass.specs.CellSteps.{finished_too}
 
--- a report on the cell: a load on whose word the rules refuse
-pub record CellRefused (call : EventCall) (refusal : Refusal) (now : ℕ) (steps : List Taken) : Type 0 where
-  pub looked : ℕ
-  pub steps_are : steps ≡ step_taken (Match Look call.game looked) now None ∷ []
-  pub answer : reply_of (record_at looked) call ≡ Err refusal
-
--- a load on whose word they accept, and an exchange that added the entry
-pub record CellAccepted (number : ℕ) (call : EventCall) (reply : Accepted) (now : ℕ) (steps : List Taken) : Type 0 where
-  pub looked : ℕ
-  pub at : ℕ
-  pub before : ℕ
-  pub steps_are : steps ≡ step_taken (Match Look call.game looked) at None ∷ step_taken (Match Swap call.game looked) before (Some (entry_of (number, call))) ∷ []
-  pub answer : reply_of (record_at looked) call ≡ Ok reply
-  pub last : before + 1 ≡ now
-
--- a try in vain: a load on whose word they accept, and an exchange that was missed
+-- a try in vain of a report on the cell: a load on whose word the rules accept, and an exchange that stored nothing
 pub record CellMissed (call : EventCall) (steps : List Taken) : Type 0 where
   pub looked : ℕ
   pub found : ℕ
-  pub at : ℕ
   pub later : ℕ
-  pub steps_are : steps ≡ step_taken (Match Look call.game looked) at None ∷ step_taken (Match Swap call.game found) later None ∷ []
-  pub may : IsOk (reply_of (record_at looked) call)
+  pub accesses : List Access
+  pub steps_are : steps ≡ steps_with None accesses
+  pub missed : StoredNothing call looked found accesses later
 
-abbrev pub CellAnswered : ℕ → EventCall → Result Accepted Refusal → ℕ → List Taken → Type 0
-CellAnswered number call (Ok reply) now steps = CellAccepted number call reply now steps
-CellAnswered number call (Err refusal) now steps = CellRefused call refusal now steps
+-- the try that has the answer: a load on whose word the rules refuse; or one on whose word they accept, and an exchange that added the entry
+abbrev pub AreDeciding : EventCall → Result Accepted Refusal → List Access → ℕ → Type 0
+AreDeciding call (Ok reply) accesses now = SwapWon call reply accesses now
+AreDeciding call (Err refusal) accesses now = LookRefused call refusal accesses now
+
+pub record CellAnswered (number : ℕ) (call : EventCall) (reply : Result Accepted Refusal) (now : ℕ) (steps : List Taken) : Type 0 where
+  pub accesses : List Access
+  pub steps_are : steps ≡ steps_with (entry_made number call reply) accesses
+  pub deciding : AreDeciding call reply accesses now
 
 -- a load and an exchange at one place of the history: no event came between
 abbrev pub no_event_between : List Taken → Bool

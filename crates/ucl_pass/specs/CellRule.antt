@@ -5,9 +5,13 @@ use Rattle.ucl_board.specs.History.{board_of}
 use Rattle.ucl_board.specs.Log.{history_of}
 use Rattle.ucl_shared.specs.declared.view.View.{View}
 use Rattle.ucl_shared.specs.OneHistory.{KeepsOneHistory}
+use Rattle.ucl_shared.specs.Standing.{StandsIn}
 use Rattle.ucl_pass.specs.declared.view.CellView.{CellView}
-use Rattle.ucl_pass.specs.Actors.{IsRunOfActors}
-use Rattle.ucl_pass.specs.CellViews.{actors_of, views_known}
+use Rattle.atomic_table.specs.declared.shared.Seat.{Seat}
+use Rattle.crossbeam_utils.specs.declared.atomic.seq_cell.Doing as cell
+use Rattle.crossbeam_utils.specs.Seq.{cell_view}
+use Rattle.ucl_steps.specs.Actors.{IsRunOfActors}
+use Rattle.ucl_pass.specs.CellViews.{CellPass, known_of, actors_of, views_known}
 
 -- the words of the twelve matches, and the number of enlisted reporters
 abbrev pub words_after : List Entry → ℕ → List ℕ
@@ -26,3 +30,21 @@ IsUpToDate v = v.seen ≡ history_of v.log
 -- whatever keeps this rule keeps that of the cell
 abbrev pub IsTheRule : (List ℕ → List CellView → Type 0) → Type 0
 IsTheRule holds = (words : List ℕ) (views : List CellView) → holds words views → CellKeepsOneHistory words views
+
+-- the words of the cell, and the views of its passes, between two steps
+pub record CellState : Type 0 where
+  pub words : List ℕ
+  pub views : List CellView
+
+abbrev pub CellMeetsItsRule : CellState → Type 0
+CellMeetsItsRule s = CellKeepsOneHistory s.words s.views
+
+-- a pass of the cell stands at its seat
+abbrev pub CellStands : ℕ → CellView → Type 0
+CellStands seat v = StandsIn CellMeetsItsRule (λ (s : CellState). s.views) seat v
+
+abbrev pub PassStands : CellPass → Type 0
+PassStands p = CellStands p.seat (known_of p)
+
+abbrev pub SeatStands : {T : Type 0} → Seat T (cell.Doing T CellView) → Type 0
+SeatStands p = CellStands p.id (cell_view p)

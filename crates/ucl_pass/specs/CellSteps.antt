@@ -5,9 +5,10 @@ use Rattle.ucl_word.specs.declared.event.EventCall.{EventCall}
 use Rattle.ucl_word.specs.declared.refusal.Refusal.{Refusal}
 use Rattle.ucl_word.specs.Rules.{refusal_of}
 use Rattle.ucl_word.specs.Layout.{record_at}
+use Rattle.ucl_word.specs.Sequence.{GainsOne}
 use Rattle.ucl_board.specs.declared.entry.Entry.{Entry}
 use Rattle.ucl_board.specs.Words.{word_at}
-use Rattle.ucl_board.specs.History.{IsLegal, followed_by, entry_of}
+use Rattle.ucl_board.specs.History.{IsLegal, entry_of, reading_of}
 use Rattle.ucl_board.specs.Log.{AccessKind, Look, Swap, Target, Match, Enlisted, Whole, Taken}
 use Rattle.ucl_shared.specs.declared.view.View.{View}
 use Rattle.ucl_shared.specs.Views.{Takes}
@@ -21,12 +22,11 @@ use Rattle.ucl_pass.specs.declared.view.CellView.{CellView}
 use Rattle.atomic_table.specs.declared.shared.Seat.{Seat}
 use Rattle.crossbeam_utils.specs.declared.atomic.seq_cell.Doing as cell
 use Rattle.ucl_pass.specs.CellViews.{knows}
-use Rattle.ucl_pass.specs.CellRule.{words_after, IsUpToDate}
+use Rattle.ucl_pass.specs.CellRule.{words_after, IsUpToDate, CellStands}
 
 -- the words with one event more, whatever the history is that they are the words of
 abbrev pub IsNextBoard : Entry → List ℕ → List ℕ → Type 0
-IsNextBoard e current next = (history : List Entry) (enlisted : ℕ) → IsLegal history → current ≡ words_after history enlisted
-    → (next ≡ words_after (followed_by history e) enlisted) × IsLegal (followed_by history e)
+IsNextBoard e current next = (enlisted : ℕ) → GainsOne IsLegal (λ history. words_after history enlisted) e current next
 
 -- the words with one reporter more
 abbrev pub with_one_more : List ℕ → List ℕ
@@ -82,13 +82,7 @@ LooksAndShows v x y w = Looks Whole v (v.shown ++ length w.seen ∷ []) y w
 abbrev pub AddsOrLooks : Entry → View → List ℕ → List ℕ → View → Type 0
 AddsOrLooks e v x y w = ((x ≡ y) × LooksOnly (word_looked_at Swap e.game x) v x y w) ⊎ ((x ≢ y) × StoresEntry e v x y w)
 
--- what an exchange for an event answers: the words that were given, and it stored the next ones; or other words, and it stored nothing
-abbrev pub ExchangesEntry : Entry → View → List ℕ → List ℕ → Result (List ℕ) (List ℕ) → View → Type 0
-ExchangesEntry e v current next answer w = MatchResult answer
-    (λ found. (found ≡ current) × StoresEntry e v current next w)
-    (λ found. (found ≢ current) × LooksOnly (word_looked_at Swap e.game found) v found found w)
-
--- the same of an exchange for an enlistment
+-- what an exchange for an enlistment answers: the words that were given, and it stored the next ones; or other words, and it stored nothing
 abbrev pub ExchangesReporter : View → List ℕ → List ℕ → Result (List ℕ) (List ℕ) → View → Type 0
 ExchangesReporter v current next answer w = MatchResult answer
     (λ found. (found ≡ current) × StoresReporter v next w)
@@ -130,14 +124,14 @@ pub record LookOfCell (e : EventCall) (v : CellView) (x y : List ℕ) (w : CellV
 
 -- a report's exchange
 pub record AddOfCell (e : EventCall) (v : CellView) (x y : List ℕ) (w : CellView) : Type 0 where
-  pub adds : AddsOrLooks (entry_of (v.pass.number, e)) v.pass x y w.pass
+  pub adds : AddsOrLooks (entry_of v.pass.number e) v.pass x y w.pass
   pub missed : x ≡ y → w.calls ≡ v.calls
   pub won : x ≢ y → HasAccepted e (word_at x e.game) v w
 
 -- a reading's load, which decides the reading
 pub record ReadOfCell (v : CellView) (x y : List ℕ) (w : CellView) : Type 0 where
   pub shows : LooksAndShows v.pass x y w.pass
-  pub calls : w.calls ≡ finished_too Reading (Copied (record { board = take 12 x; version = length w.pass.seen })) (length w.pass.seen) (length w.pass.seen) v.calls
+  pub calls : w.calls ≡ finished_too Reading (Copied (reading_of (take 12 x))) (length w.pass.seen) (length w.pass.seen) v.calls
 
 -- the load of an enlistment or a meeting
 pub record CountOfCell (v : CellView) (x y : List ℕ) (w : CellView) : Type 0 where
@@ -149,13 +143,29 @@ pub record EnlistOfCell (v : CellView) (x y : List ℕ) (w : CellView) : Type 0 
   pub enlists : EnlistsOrLooks v.pass x y w.pass
   pub calls : w.calls ≡ v.calls
 
+-- what a step tells, and that its pass then stands at its seat
+pub record TellsAndStands (seat : ℕ) (tells : CellView → List ℕ → List ℕ → CellView → Type 0) (v : CellView) (x y : List ℕ) (w : CellView) : Type 0 where
+  pub told : tells v x y w
+  pub stands : CellStands seat w
+
 -- the entry that a pass at this seat would add by an event
 abbrev pub entry_at : {T : Type 0} → Seat T (cell.Doing T CellView) → EventCall → Entry
-entry_at p e = entry_of ((knows p).number, e)
+entry_at p e = entry_of (knows p).number e
 
--- what an exchange for an event answers at a seat
-abbrev pub StoresOrLooks : {T : Type 0} → Seat T (cell.Doing T CellView) → EventCall → List ℕ → List ℕ → Result (List ℕ) (List ℕ) → Seat T (cell.Doing T CellView) → Type 0
-StoresOrLooks p e current next answer q = ExchangesEntry (entry_at p e) (knows p) current next answer (knows q)
+-- an exchange for an event: the words that it expects, and those that it would leave
+pub record Exchange : Type 0 where
+  pub call : EventCall
+  pub current : List ℕ
+  pub next : List ℕ
+
+abbrev pub exchange : EventCall → List ℕ → List ℕ → Exchange
+exchange call current next = record { call = call; current = current; next = next }
+
+-- what it answers: the words that were expected, and it stored the next ones; or other words, and it stored nothing. The seat was p and is q
+abbrev pub StoresOrLooks : {T : Type 0} → Exchange → Seat T (cell.Doing T CellView) → Result (List ℕ) (List ℕ) → Seat T (cell.Doing T CellView) → Type 0
+StoresOrLooks x p answer q = MatchResult answer
+    (λ found. (found ≡ x.current) × StoresEntry (entry_at p x.call) (knows p) x.current x.next (knows q))
+    (λ found. (found ≢ x.current) × LooksOnly (word_looked_at Swap x.call.game found) (knows p) found found (knows q))
 
 -- the rules accept the event where these words are
 abbrev pub AreAccepting : List ℕ → EventCall → Type 0

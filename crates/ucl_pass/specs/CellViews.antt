@@ -1,5 +1,5 @@
 -- What contracts see of a pass of the cell board; and the view of a new pass, of the first pass, of a pass that another was split off, of a second pass, of a note, and of a pass that took in a note.
-use Rattle.std.specs.Prelude.{◌≡◌, List, [], map}
+use Rattle.std.specs.Prelude.{◌≡◌, ℕ, List, [], map}
 use Rattle.atomic_table.specs.Seated.{TableId}
 use Rattle.atomic_table.specs.declared.shared.Seat.{Seat}
 use Rattle.crossbeam_utils.specs.declared.atomic.seq_cell.Doing as cell
@@ -8,16 +8,17 @@ use Rattle.ucl_shared.specs.declared.view.View.{View}
 use Rattle.ucl_shared.specs.Views.{newcomer, opener, kept_of, second_of, note_of, told_by}
 use Rattle.ucl_steps.specs.Protocol.{Nothing, Answer, Doing}
 use Rattle.ucl_pass.specs.declared.view.CellView.{CellView}
-use Rattle.ucl_pass.specs.Actors.{Actor}
+use Rattle.ucl_steps.specs.Actors.{Actor}
 
--- the board that a pass is of, what it knows, and which calls it has finished
+-- the board that a pass is of, its seat there, what it knows, and which calls it has finished
 pub record CellPass : Type 0 where
   pub board : TableId
+  pub seat : ℕ
   pub view : View
   pub calls : List Answer
 
-abbrev pub cell_pass_of : TableId → CellView → CellPass
-cell_pass_of board v = record { board = board; view = v.pass; calls = v.calls }
+abbrev pub cell_pass_of : {T : Type 0} → Seat T (cell.Doing T CellView) → CellPass
+cell_pass_of p = record { board = p.table_id; seat = p.id; view = (cell_view p).pass; calls = (cell_view p).calls }
 
 abbrev pub known_of : CellPass → CellView
 known_of p = record { pass = p.view; calls = p.calls }

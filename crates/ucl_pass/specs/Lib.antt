@@ -1,4 +1,3 @@
-pub mod Actors
 pub mod CellViews
 pub mod CellRule
 pub mod CellSteps

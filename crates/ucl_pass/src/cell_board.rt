@@ -1,6 +1,6 @@
 //! The board in one cell, and its calls by a seat.
 
-ghost use Rattle.std.specs.Prelude.{◌≡◌, ◌+◌, ◌<◌, ◌++◌, ◌∷◌, [], take, length, slice_index, IfOk, IfErr, IfSome, IfNone, IsSome, true, false};
+ghost use Rattle.std.specs.Prelude.{◌≡◌, ℕ, ◌+◌, ◌<◌, ◌++◌, ◌∷◌, [], take, length, slice_index, IfOk, IfErr, IfSome, IfNone, IsSome, true, false};
 ghost use Rattle.atomic_table.specs.Seated.{TableId};
 ghost use Rattle.crossbeam_utils.specs.Seq.{cell_view};
 ghost use Rattle.ucl_board.specs.Fixtures.{IsMatch};
@@ -8,9 +8,9 @@ ghost use Rattle.ucl_board.specs.Words.{AreWords};
 ghost use Rattle.ucl_shared.specs.Passes.{Continues, AcceptedReport, RefusedReport, SharedReading, Enlistment, FullBoard, Hearing, Meeting, opening_pass};
 ghost use Rattle.ucl_shared.specs.Views.{pass_view_of, count_of};
 ghost use Rattle.ucl_shared.specs.OneHistory.{BoardsOpenFresh};
-ghost use Rattle.ucl_pass.specs.CellRule.{words_after, IsTheRule, IsUpToDate};
-ghost use Rattle.ucl_pass.specs.CellViews.{knows, calls_at, left_cell_pass, second_cell_pass, note_cell_pass, IsCellNote};
-ghost use Rattle.ucl_pass.specs.CellSteps.{ExchangesReporter, IsNextBoard, AreAccepting, entry_at, StoresOrLooks, DecidesReport, with_one_more, LooksAtMatch, LooksAtEnlisted, LooksAndShows, LookOfCell, ReadOfCell};
+ghost use Rattle.ucl_pass.specs.CellRule.{words_after, IsTheRule, IsUpToDate, CellStands, SeatStands};
+ghost use Rattle.ucl_pass.specs.CellViews.{knows, known_of, calls_at, left_cell_pass, second_cell_pass, note_cell_pass, IsCellNote};
+ghost use Rattle.ucl_pass.specs.CellSteps.{ExchangesReporter, IsNextBoard, AreAccepting, entry_at, exchange, StoresOrLooks, DecidesReport, with_one_more, LooksAtMatch, LooksAtEnlisted, LooksAndShows, LookOfCell, ReadOfCell};
 ghost use Rattle.ucl_shared.specs.CallSteps.{MeetingSteps};
 ghost use Rattle.ucl_pass.specs.CellCalls.{CellReport, CellEnlistment, CellReading, FinishesReport, FinishesReading};
 
@@ -87,6 +87,7 @@ impl CellBoard {
         ensures acts { IfOk result (λ opened. (opened.1.view.copied ≡ []) × (opened.1.view.own ≡ [])) }
         ensures rule { BoardsOpenFresh words_after }
         ensures tied { IsTheRule ⟦<OneHistory as Protocol<[u64; 13], CellView>>⟧.holds }
+        ensures stands { IfOk result (λ opened. (seat : ℕ) × CellStands seat (known_of opened.1)) }
     {
         let (cell, seat) = Cell::ruled(alloc, words_with(&Board::fresh(), 0))?;
         Ok((CellBoard { cell }, CellReaderPass { seat }))
@@ -107,35 +108,44 @@ impl CellBoard {
         requires acts { IsSome (knows seat.old).share }
         requires asks { K.call ≡ call.now }
         requires me { 0 < (knows seat.old).number }
+        requires place { K.seat ≡ seat.old.id }
         ensures own { seat.new.table_id ≡ seat.old.table_id }
+        ensures seat { seat.new.id ≡ seat.old.id }
         ensures game { IsMatch call.now.game }
         ensures looks { LooksAtMatch call.now.game (knows seat.old) result result (knows seat.new) }
         ensures decides { LookOfCell call.now (cell_view seat.old) result result (cell_view seat.new) }
+        ensures stands { SeatStands seat.new }
     {
         let _number = call.game.get();
         self.cell.load_as::<LooksAt<K>, R>(rt, seat)
     }
 
     /// Loads the words, for an enlistment or a meeting.
-    fn count<R: Wait>(&self, rt: &R, seat: &mut Seat) -> [u64; 13]
+    fn count<K: Asking, R: Wait>(&self, rt: &R, seat: &mut Seat) -> [u64; 13]
         requires cell { seat.old.table_id ≡ self.now }
         requires acts { IsSome (knows seat.old).share }
+        requires place { K.seat ≡ seat.old.id }
         ensures own { seat.new.table_id ≡ seat.old.table_id }
+        ensures seat { seat.new.id ≡ seat.old.id }
         ensures looks { LooksAtEnlisted (knows seat.old) result result (knows seat.new) }
         ensures does { calls_at seat.new ≡ calls_at seat.old }
+        ensures stands { SeatStands seat.new }
     {
-        self.cell.load_as::<Counts, R>(rt, seat)
+        self.cell.load_as::<Counts<K>, R>(rt, seat)
     }
 
     /// Loads the words, whose version is shown.
-    fn look_to_show<R: Wait>(&self, rt: &R, seat: &mut Seat) -> [u64; 13]
+    fn look_to_show<K: Asking, R: Wait>(&self, rt: &R, seat: &mut Seat) -> [u64; 13]
         requires cell { seat.old.table_id ≡ self.now }
         requires acts { IsSome (knows seat.old).share }
+        requires place { K.seat ≡ seat.old.id }
         ensures own { seat.new.table_id ≡ seat.old.table_id }
+        ensures seat { seat.new.id ≡ seat.old.id }
         ensures looks { LooksAndShows (knows seat.old) result result (knows seat.new) }
         ensures decides { ReadOfCell (cell_view seat.old) result result (cell_view seat.new) }
+        ensures stands { SeatStands seat.new }
     {
-        self.cell.load_as::<Reads, R>(rt, seat)
+        self.cell.load_as::<Reads<K>, R>(rt, seat)
     }
 
     /// Stores the words with one event more, that of `call`, where the words are still those given.
@@ -154,16 +164,19 @@ impl CellBoard {
         requires game { IsMatch call.now.game }
         requires next { IsNextBoard (entry_at seat.old call.now) current next }
         requires accepts { AreAccepting current call.now }
+        requires place { K.seat ≡ seat.old.id }
         ensures own { seat.new.table_id ≡ seat.old.table_id }
-        ensures stored { StoresOrLooks seat.old call.now current next result seat.new }
+        ensures seat { seat.new.id ≡ seat.old.id }
+        ensures stored { StoresOrLooks (exchange call.now current next) seat.old result seat.new }
         ensures decides { DecidesReport call.now (cell_view seat.old) current result (cell_view seat.new) }
+        ensures stands { SeatStands seat.new }
     {
         self.cell
             .compare_exchange_as::<Adds<K>, R>(rt, seat, current, next)
     }
 
     /// Stores the words with one reporter more, where the words are still those given.
-    fn store_reporter<R: Wait>(
+    fn store_reporter<K: Asking, R: Wait>(
         &self,
         rt: &R,
         seat: &mut Seat,
@@ -175,12 +188,15 @@ impl CellBoard {
         requires next { next ≡ with_one_more current }
         requires room { slice_index current 12 < 255 }
         requires reader { (knows seat.old).number ≡ 0 }
+        requires place { K.seat ≡ seat.old.id }
         ensures own { seat.new.table_id ≡ seat.old.table_id }
+        ensures seat { seat.new.id ≡ seat.old.id }
         ensures stored { ExchangesReporter (knows seat.old) current next result (knows seat.new) }
         ensures does { calls_at seat.new ≡ calls_at seat.old }
+        ensures stands { SeatStands seat.new }
     {
         self.cell
-            .compare_exchange_as::<Enlists, R>(rt, seat, current, next)
+            .compare_exchange_as::<Enlists<K>, R>(rt, seat, current, next)
     }
 
     /// Enters an event under the seat's number, trying again where another call changed the words meanwhile.
@@ -195,12 +211,14 @@ impl CellBoard {
         requires acts { IsSome (knows seat.old).share }
         requires me { (0 < reporter) × ((knows seat.old).number ≡ reporter) }
         ensures own { seat.new.table_id ≡ seat.old.table_id }
+        ensures seat { seat.new.id ≡ seat.old.id }
         ensures always { Continues (pass_view_of (knows seat.old)) (pass_view_of (knows seat.new)) }
         ensures accepted { IfOk result (λ reply. AcceptedReport (pass_view_of (knows seat.old)) call.now reply (pass_view_of (knows seat.new))) }
         ensures refused { IfErr result (λ refusal. RefusedReport (pass_view_of (knows seat.old)) call.now refusal (pass_view_of (knows seat.new))) }
         ensures steps { CellReport (knows seat.old) call.now result (knows seat.new) }
         ensures answers { FinishesReport (cell_view seat.old) call.now result (cell_view seat.new) }
         ensures up_to_date { IsUpToDate (knows seat.new) }
+        ensures stands { SeatStands seat.new }
     {
         'retry: for _ in rt.forever() {
             let words = self.look::<Brand, R>(rt, seat, call);
@@ -223,17 +241,17 @@ impl CellBoard {
         requires cell { seat.old.table_id ≡ self.now }
         requires acts { IsSome (knows seat.old).share }
         ensures own { seat.new.table_id ≡ seat.old.table_id }
+        ensures seat { seat.new.id ≡ seat.old.id }
         ensures always { Continues (pass_view_of (knows seat.old)) (pass_view_of (knows seat.new)) }
         ensures reading { SharedReading (pass_view_of (knows seat.old)) result (pass_view_of (knows seat.new)) }
         ensures version { result.version ≡ length (knows seat.new).seen }
         ensures steps { CellReading (knows seat.old) result (knows seat.new) }
         ensures answers { FinishesReading (cell_view seat.old) result (cell_view seat.new) }
         ensures up_to_date { IsUpToDate (knows seat.new) }
+        ensures stands { SeatStands seat.new }
     {
-        let words = self.look_to_show(rt, seat);
-        let board = board_at(&words);
-        let version = board.version();
-        Reading { board, version }
+        let words = self.look_to_show::<Brand, R>(rt, seat);
+        Reading::of(&board_at(&words))
     }
 
     /// Makes a seat a reporter's, and answers its number. `None` where 255 are enlisted.
@@ -242,6 +260,7 @@ impl CellBoard {
         requires acts { IsSome (knows seat.old).share }
         requires reader { (knows seat.old).number ≡ 0 }
         ensures own { seat.new.table_id ≡ seat.old.table_id }
+        ensures seat { seat.new.id ≡ seat.old.id }
         ensures enlisted { IfSome result (λ number. Enlistment (pass_view_of (knows seat.old)) (pass_view_of (knows seat.new)) × ((knows seat.new).number ≡ number)) }
         ensures always { IfNone result (Continues (pass_view_of (knows seat.old)) (pass_view_of (knows seat.new))) }
         ensures full { IfNone result (FullBoard (pass_view_of (knows seat.old)) (pass_view_of (knows seat.new))) }
@@ -250,15 +269,17 @@ impl CellBoard {
         ensures none { IfNone result (CellEnlistment (knows seat.old) false (knows seat.new)) }
         ensures does { calls_at seat.new ≡ calls_at seat.old }
         ensures up_to_date { IsUpToDate (knows seat.new) }
+        ensures stands { SeatStands seat.new }
     {
         'retry: for _ in rt.forever() {
-            let words = self.count(rt, seat);
+            let words = self.count::<Brand, R>(rt, seat);
             let enlisted = words[12];
             if enlisted >= MOST_REPORTERS {
                 return None;
             }
             let next = one_more_reporter(words);
-            if self.store_reporter(rt, seat, words, next).is_ok() {
+            let added = self.store_reporter::<Brand, R>(rt, seat, words, next);
+            if added.is_ok() {
                 return ReporterNo::new((enlisted + 1) as u8);
             }
         }
@@ -269,8 +290,10 @@ impl CellBoard {
     pub(crate) fn split_seat(&self, seat: &mut Seat) -> Seat
         requires { seat.old.table_id ≡ self.now }
         ensures own { seat.new.table_id ≡ seat.old.table_id }
+        ensures seat { seat.new.id ≡ seat.old.id }
         ensures kept { cell_view seat.new ≡ left_cell_pass (cell_view seat.old) }
         ensures given { (result.table_id ≡ seat.old.table_id) × (cell_view result ≡ second_cell_pass (cell_view seat.old)) × (result.me.1 ≡ []) }
+        ensures stands { SeatStands seat.old → SeatStands seat.new }
     {
         self.cell.split_pass::<SecondPass>(seat)
     }
@@ -279,6 +302,7 @@ impl CellBoard {
     pub(crate) fn note_by(&self, seat: &mut Seat) -> Seat
         requires { seat.old.table_id ≡ self.now }
         ensures own { seat.new.table_id ≡ seat.old.table_id }
+        ensures seat { seat.new.id ≡ seat.old.id }
         ensures unchanged { cell_view seat.new ≡ cell_view seat.old }
         ensures given { (result.table_id ≡ seat.old.table_id) × (cell_view result ≡ note_cell_pass (cell_view seat.old)) × (result.me.1 ≡ []) }
     {
@@ -291,14 +315,16 @@ impl CellBoard {
         requires acts { IsSome (knows seat.old).share }
         requires note { IsCellNote (cell_view note) × (note.me.1 ≡ []) }
         ensures own { seat.new.table_id ≡ seat.old.table_id }
+        ensures seat { seat.new.id ≡ seat.old.id }
         ensures always { Continues (pass_view_of (knows seat.old)) (pass_view_of (knows seat.new)) }
         ensures heard { Hearing (knows note).seen (pass_view_of (knows seat.old)) (pass_view_of (knows seat.new)) }
         ensures steps { MeetingSteps (knows seat.old) (knows seat.new) }
         ensures does { calls_at seat.new ≡ calls_at seat.old }
         ensures up_to_date { IsUpToDate (knows seat.new) }
+        ensures stands { SeatStands seat.new }
     {
         self.cell.join_pass::<Note>(seat, note);
-        self.count(rt, seat);
+        self.count::<Brand, R>(rt, seat);
     }
 
     /// The second hears a note of the first.
@@ -306,12 +332,14 @@ impl CellBoard {
         requires cell { (first.old.table_id ≡ self.now) × (second.old.table_id ≡ self.now) }
         requires acts { IsSome (knows second.old).share }
         ensures own { (first.new.table_id ≡ first.old.table_id) × (second.new.table_id ≡ second.old.table_id) }
+        ensures seat { (first.new.id ≡ first.old.id) × (second.new.id ≡ second.old.id) }
         ensures unchanged { cell_view first.new ≡ cell_view first.old }
         ensures always { Continues (pass_view_of (knows second.old)) (pass_view_of (knows second.new)) }
         ensures meeting { Meeting (pass_view_of (knows first.old)) (pass_view_of (knows second.old)) (pass_view_of (knows second.new)) }
         ensures steps { MeetingSteps (knows second.old) (knows second.new) }
         ensures does { calls_at second.new ≡ calls_at second.old }
         ensures up_to_date { IsUpToDate (knows second.new) }
+        ensures stands { SeatStands second.new }
     {
         let note = self.note_by(first);
         self.hear_by(rt, second, note);

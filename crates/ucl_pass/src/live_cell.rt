@@ -3,7 +3,7 @@
 ghost use Rattle.std.specs.Prelude.{◌≡◌, ◌+◌, ◌<◌, [], length, IfOk, IfErr, MatchResult, true, false};
 ghost use Rattle.ucl_shared.specs.Passes.{IsSound, Continues, ReportsMore, AcceptedReport, RefusedReport, SharedReading, split_pass, Enlistment, FullBoard, Hearing, Meeting, reporter_figures};
 ghost use Rattle.ucl_shared.specs.Views.{pass_view_of, count_of, kept_of};
-ghost use Rattle.ucl_pass.specs.CellRule.{IsUpToDate};
+ghost use Rattle.ucl_pass.specs.CellRule.{IsUpToDate, PassStands};
 ghost use Rattle.ucl_pass.specs.CellViews.{known_of, KeepsCalls};
 ghost use Rattle.ucl_shared.specs.CallSteps.{MeetingSteps, HasCopyOf};
 ghost use Rattle.ucl_pass.specs.CellCalls.{CellHasReported, CellReport, CellEnlistment, CellReading, FinishesReport, FinishesReading};
@@ -48,6 +48,7 @@ impl LiveBoard for CellBoard {
     ) -> Result<Accepted, Refusal>
         requires { pass.old.board ≡ self.now }
         ensures own { pass.new.board ≡ self.now }
+        ensures seat { pass.new.seat ≡ pass.old.seat }
         ensures always { Continues (pass_view_of pass.old.view) (pass_view_of pass.new.view) }
         ensures accepted { IfOk result (λ reply. AcceptedReport (pass_view_of pass.old.view) call.now reply (pass_view_of pass.new.view)) }
         ensures refused { IfErr result (λ refusal. RefusedReport (pass_view_of pass.old.view) call.now refusal (pass_view_of pass.new.view)) }
@@ -56,6 +57,7 @@ impl LiveBoard for CellBoard {
         ensures steps { CellReport pass.old.view call.now result pass.new.view }
         ensures answers { FinishesReport (known_of pass.old) call.now result (known_of pass.new) }
         ensures up_to_date { IsUpToDate pass.new.view }
+        ensures stands { PassStands pass.new }
     {
         let reporter = pass.number;
         let result = self.report_by(rt, &mut pass.seat, reporter, call);
@@ -68,6 +70,7 @@ impl LiveBoard for CellBoard {
     fn read<R: Wait>(&self, rt: &R, pass: &mut CellReaderPass) -> Reading
         requires { pass.old.board ≡ self.now }
         ensures own { pass.new.board ≡ self.now }
+        ensures seat { pass.new.seat ≡ pass.old.seat }
         ensures always { Continues (pass_view_of pass.old.view) (pass_view_of pass.new.view) }
         ensures reading { SharedReading (pass_view_of pass.old.view) result (pass_view_of pass.new.view) }
         ensures version { result.version ≡ length pass.new.view.seen }
@@ -75,6 +78,7 @@ impl LiveBoard for CellBoard {
         ensures steps { CellReading pass.old.view result pass.new.view }
         ensures answers { FinishesReading (known_of pass.old) result (known_of pass.new) }
         ensures up_to_date { IsUpToDate pass.new.view }
+        ensures stands { PassStands pass.new }
     {
         self.read_by(rt, &mut pass.seat)
     }
@@ -82,6 +86,7 @@ impl LiveBoard for CellBoard {
     fn read_own<R: Wait>(&self, rt: &R, pass: &mut CellReporterPass) -> Reading
         requires { pass.old.board ≡ self.now }
         ensures own { pass.new.board ≡ self.now }
+        ensures seat { pass.new.seat ≡ pass.old.seat }
         ensures always { Continues (pass_view_of pass.old.view) (pass_view_of pass.new.view) }
         ensures reading { SharedReading (pass_view_of pass.old.view) result (pass_view_of pass.new.view) }
         ensures reported { ReportsMore (CellHasReported pass.old.view.own) 0 (CellHasReported pass.new.view.own) }
@@ -90,6 +95,7 @@ impl LiveBoard for CellBoard {
         ensures steps { CellReading pass.old.view result pass.new.view }
         ensures answers { FinishesReading (known_of pass.old) result (known_of pass.new) }
         ensures up_to_date { IsUpToDate pass.new.view }
+        ensures stands { PassStands pass.new }
     {
         let seat = &mut pass.seat;
         self.read_by(rt, seat)
@@ -98,6 +104,7 @@ impl LiveBoard for CellBoard {
     fn split<R: Wait>(&self, _rt: &R, pass: &mut CellReaderPass) -> CellReaderPass
         requires { pass.old.board ≡ self.now }
         ensures own { (pass.new.board ≡ self.now) × (result.board ≡ self.now) }
+        ensures seat { pass.new.seat ≡ pass.old.seat }
         ensures sound { IsSound (pass_view_of pass.old.view) }
         ensures kept { pass.new.view ≡ kept_of pass.old.view }
         ensures given { pass_view_of result.view ≡ split_pass (pass_view_of pass.old.view) }
@@ -105,6 +112,7 @@ impl LiveBoard for CellBoard {
         ensures steps { HasCopyOf result.view pass.old.view }
         ensures does { pass.new.calls ≡ pass.old.calls }
         ensures nothing { result.calls ≡ [] }
+        ensures stands { PassStands pass.old → PassStands pass.new }
     {
         let seat = self.split_seat(&mut pass.seat);
         CellReaderPass { seat }
@@ -117,6 +125,7 @@ impl LiveBoard for CellBoard {
     ) -> Result<CellReporterPass, TooManyReporters<CellReaderPass>>
         requires { pass.board ≡ self.now }
         ensures own { MatchResult result (λ enlisted. enlisted.board ≡ self.now) (λ full. full.0.board ≡ self.now) }
+        ensures seat { MatchResult result (λ p. p.seat ≡ pass.seat) (λ q. q.0.seat ≡ pass.seat) }
         ensures enlisted { IfOk result (λ enlisted. Enlistment (pass_view_of pass.view) (pass_view_of enlisted.view)) }
         ensures always { IfErr result (λ full. Continues (pass_view_of pass.view) (pass_view_of full.0.view)) }
         ensures full { IfErr result (λ full. FullBoard (pass_view_of pass.view) (pass_view_of full.0.view)) }
@@ -125,6 +134,7 @@ impl LiveBoard for CellBoard {
         ensures steps { MatchResult result (λ enlisted. CellEnlistment pass.view true enlisted.view) (λ full. CellEnlistment pass.view false full.0.view) }
         ensures does { MatchResult result (λ p. KeepsCalls pass p) (λ q. KeepsCalls pass q.0) }
         ensures up_to_date { MatchResult result (λ enlisted. IsUpToDate enlisted.view) (λ full. IsUpToDate full.0.view) }
+        ensures stands { MatchResult result (λ p. PassStands p) (λ q. PassStands q.0) }
     {
         let CellReaderPass { mut seat } = pass;
         match self.enlist_by(rt, &mut seat) {
@@ -140,6 +150,7 @@ impl LiveBoard for CellBoard {
     fn meet<R: Wait>(&self, rt: &R, first: &mut CellReporterPass, second: &mut CellReporterPass)
         requires { (first.old.board ≡ self.now) × (second.old.board ≡ self.now) }
         ensures own { (first.new.board ≡ self.now) × (second.new.board ≡ self.now) }
+        ensures seat { second.new.seat ≡ second.old.seat }
         ensures sound { IsSound (pass_view_of first.old.view) }
         ensures always { Continues (pass_view_of second.old.view) (pass_view_of second.new.view) }
         ensures unchanged { first.new ≡ first.old }
@@ -149,6 +160,7 @@ impl LiveBoard for CellBoard {
         ensures steps { MeetingSteps second.old.view second.new.view }
         ensures does { second.new.calls ≡ second.old.calls }
         ensures up_to_date { IsUpToDate second.new.view }
+        ensures stands { PassStands second.new }
     {
         self.meet_by(rt, &mut first.seat, &mut second.seat);
     }
@@ -161,6 +173,7 @@ impl LiveBoard for CellBoard {
     )
         requires { (first.old.board ≡ self.now) × (second.old.board ≡ self.now) }
         ensures own { (first.new.board ≡ self.now) × (second.new.board ≡ self.now) }
+        ensures seat { second.new.seat ≡ second.old.seat }
         ensures sound { IsSound (pass_view_of first.old.view) }
         ensures always { Continues (pass_view_of second.old.view) (pass_view_of second.new.view) }
         ensures unchanged { first.new ≡ first.old }
@@ -170,6 +183,7 @@ impl LiveBoard for CellBoard {
         ensures steps { MeetingSteps second.old.view second.new.view }
         ensures does { second.new.calls ≡ second.old.calls }
         ensures up_to_date { IsUpToDate second.new.view }
+        ensures stands { PassStands second.new }
     {
         let reader = &mut first.seat;
         self.meet_by(rt, reader, &mut second.seat);
@@ -194,19 +208,22 @@ impl LiveBoard for CellBoard {
         ensures seen { result.seen ≡ pass.old.view.seen }
         ensures reported { ReportsMore (CellHasReported pass.old.view.own) 0 (CellHasReported pass.new.view.own) }
     {
-        let seat = self.note_by(&mut pass.seat);
+        let noted = &mut pass.seat;
+        let seat = self.note_by(noted);
         CellNote { seat }
     }
 
     fn hear<R: Wait>(&self, rt: &R, pass: &mut CellReaderPass, note: CellNote)
         requires { (pass.old.board ≡ self.now) × (note.board ≡ self.now) }
         ensures own { pass.new.board ≡ self.now }
+        ensures seat { pass.new.seat ≡ pass.old.seat }
         ensures always { Continues (pass_view_of pass.old.view) (pass_view_of pass.new.view) }
         ensures heard { Hearing note.seen (pass_view_of pass.old.view) (pass_view_of pass.new.view) }
         ensures acts { count_of pass.new.view ≡ count_of pass.old.view + 1 }
         ensures steps { MeetingSteps pass.old.view pass.new.view }
         ensures does { pass.new.calls ≡ pass.old.calls }
         ensures up_to_date { IsUpToDate pass.new.view }
+        ensures stands { PassStands pass.new }
     {
         self.hear_by(rt, &mut pass.seat, note.seat);
     }
@@ -214,6 +231,7 @@ impl LiveBoard for CellBoard {
     fn hear_own<R: Wait>(&self, rt: &R, pass: &mut CellReporterPass, note: CellNote)
         requires { (pass.old.board ≡ self.now) × (note.board ≡ self.now) }
         ensures own { pass.new.board ≡ self.now }
+        ensures seat { pass.new.seat ≡ pass.old.seat }
         ensures always { Continues (pass_view_of pass.old.view) (pass_view_of pass.new.view) }
         ensures heard { Hearing note.seen (pass_view_of pass.old.view) (pass_view_of pass.new.view) }
         ensures reported { ReportsMore (CellHasReported pass.old.view.own) 0 (CellHasReported pass.new.view.own) }
@@ -221,6 +239,7 @@ impl LiveBoard for CellBoard {
         ensures steps { MeetingSteps pass.old.view pass.new.view }
         ensures does { pass.new.calls ≡ pass.old.calls }
         ensures up_to_date { IsUpToDate pass.new.view }
+        ensures stands { PassStands pass.new }
     {
         let reporter = &mut pass.seat;
         self.hear_by(rt, reporter, note.seat);

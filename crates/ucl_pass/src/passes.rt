@@ -20,7 +20,7 @@ pub struct CellReaderPass {
 impl Model for CellReaderPass {
     ghost Value = { CellPass };
 
-    ghost view = { λ reader. cell_pass_of reader.seat.table_id (cell_view reader.seat) };
+    ghost view = { λ reader. cell_pass_of reader.seat };
 
     ghost invariant = { λ reader. IsSound (pass_view_of (knows reader.seat)) × ((knows reader.seat).number ≡ 0) × CellHasReported (knows reader.seat).own 0 };
 }
@@ -28,7 +28,7 @@ impl Model for CellReaderPass {
 impl CellReaderPass {
     /// The seat at the cell of its board, by which the pass acts: what contracts see of the pass is the view of this seat, as it is.
     pub fn seat(&self) -> &Seat
-        ensures { self.now ≡ cell_pass_of result.now.table_id (cell_view result.now) }
+        ensures { self.now ≡ cell_pass_of result.now }
     {
         &self.seat
     }
@@ -45,7 +45,7 @@ pub struct CellReporterPass {
 impl Model for CellReporterPass {
     ghost Value = { CellPass };
 
-    ghost view = { λ reporter. cell_pass_of reporter.seat.table_id (cell_view reporter.seat) };
+    ghost view = { λ reporter. cell_pass_of reporter.seat };
 
     ghost invariant = { λ reporter. IsSound (pass_view_of (knows reporter.seat)) × ((knows reporter.seat).number ≡ reporter.number) × (length (knows reporter.seat).mine ≡ reporter.accepted) };
 }
@@ -53,7 +53,7 @@ impl Model for CellReporterPass {
 impl CellReporterPass {
     /// The seat at the cell of its board, by which the pass acts: what contracts see of the pass is the view of this seat, as it is.
     pub fn seat(&self) -> &Seat
-        ensures { self.now ≡ cell_pass_of result.now.table_id (cell_view result.now) }
+        ensures { self.now ≡ cell_pass_of result.now }
     {
         &self.seat
     }

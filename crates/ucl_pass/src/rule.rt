@@ -18,62 +18,67 @@ impl Protocol<[u64; 13], CellView> for OneHistory {
     ghost first = { first_cell_pass };
 }
 
-/// The event that a report enters. Each call picks it.
+/// The event that a report enters, and the seat of the pass that takes a step. Each call picks them.
 pub trait Asking {
+    ghost use Rattle.std.specs.Prelude.{ℕ};
     ghost use Rattle.ucl_word.specs.declared.event.EventCall.{EventCall};
 
     ghost call: { EventCall };
+
+    ghost seat: { ℕ };
 }
 
 impl Asking for Brand {
     ghost use Rattle.ucl_pass.specs.CellSteps.{asks_nothing};
 
     ghost call = { asks_nothing };
+
+    ghost seat = { 0 };
 }
 
 /// A report's load.
 pub struct LooksAt<K>(PhantomData<K>);
 
 impl<K: Asking> Outcome<[u64; 13], CellView> for LooksAt<K> {
-    ghost use Rattle.ucl_pass.specs.CellSteps.{LookOfCell};
+    ghost use Rattle.ucl_pass.specs.CellSteps.{LookOfCell, TellsAndStands};
 
-    ghost then = { LookOfCell K.call };
+    ghost then = { TellsAndStands K.seat (LookOfCell K.call) };
 }
 
 /// A report's exchange, which stores one event, or nothing.
 pub struct Adds<K>(PhantomData<K>);
 
 impl<K: Asking> Outcome<[u64; 13], CellView> for Adds<K> {
-    ghost use Rattle.ucl_pass.specs.CellSteps.{AddOfCell};
+    ghost use Rattle.ucl_pass.specs.CellSteps.{AddOfCell, TellsAndStands};
 
-    ghost then = { AddOfCell K.call };
+    ghost then = { TellsAndStands K.seat (AddOfCell K.call) };
 }
 
 /// A reading's load, whose version is shown.
-pub struct Reads;
+pub struct Reads<K>(PhantomData<K>);
 
-impl Outcome<[u64; 13], CellView> for Reads {
-    ghost use Rattle.ucl_pass.specs.CellSteps.{ReadOfCell};
+impl<K: Asking> Outcome<[u64; 13], CellView> for Reads<K> {
+    ghost use Rattle.ucl_pass.specs.CellSteps.{ReadOfCell, TellsAndStands};
 
-    ghost then = { ReadOfCell };
+    ghost then = { TellsAndStands K.seat ReadOfCell };
 }
 
 /// The load of an enlistment or a meeting.
-pub struct Counts;
+pub struct Counts<K>(PhantomData<K>);
 
-impl Outcome<[u64; 13], CellView> for Counts {
-    ghost use Rattle.ucl_pass.specs.CellSteps.{CountOfCell};
+impl<K: Asking> Outcome<[u64; 13], CellView> for Counts<K> {
+    ghost use Rattle.ucl_pass.specs.CellSteps.{CountOfCell, TellsAndStands};
 
-    ghost then = { CountOfCell };
+    ghost then = { TellsAndStands K.seat CountOfCell };
 }
 
 /// The exchange of an enlistment, which stores it, or nothing.
-pub struct Enlists;
+pub struct Enlists<K>(PhantomData<K>);
 
-impl Outcome<[u64; 13], CellView> for Enlists {
-    ghost use Rattle.ucl_pass.specs.CellSteps.{EnlistOfCell};
+impl<K: Asking> Outcome<[u64; 13], CellView> for Enlists<K> {
+    ghost use Rattle.ucl_pass.specs.CellSteps.{EnlistOfCell, TellsAndStands};
 
-    ghost then = { EnlistOfCell };
+    ghost then = { TellsAndStands K.seat EnlistOfCell };
 }
 
 /// The split of a second reader's pass.

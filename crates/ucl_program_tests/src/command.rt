@@ -2,12 +2,12 @@
 
 use crate::joined;
 use std::alloc::Global;
-use std::io;
 use std::process::Abort;
 use std::sync::Wait;
 use std::test::Fail;
 use std::thread::Threads;
 use ucl_command::{Line, LineFault, feed, line_of, night_on, run, show};
+use ucl_devices::{Full, Out};
 use ucl_order::Profile;
 use ucl_pass::{CellBoard, LiveBoard};
 use ucl_runs::{OpenGate, RunFault};
@@ -68,29 +68,6 @@ GROUP A v00001 IN PLAY 1
 3   Delta                 0  0  0  0   0   0   +0   0
 4   Alpha                 0  0  0  0   0   0   +0   0
 ";
-
-/// A writer that takes at most `piece` bytes at a time, and none after `room` bytes.
-#[derive(Drop)]
-struct Full<'a> {
-    taken: &'a mut Vec<u8>,
-    piece: usize,
-    room: usize,
-}
-
-impl io::Write for Full<'_> {
-    fn write(&mut self, buf: &[u8]) -> io::Result<usize> {
-        let n = buf.len().min(self.piece).min(self.room);
-        if self.taken.extend_from_slice(&buf[..n]).is_err() {
-            return Ok(0);
-        }
-        self.room -= n;
-        Ok(n)
-    }
-
-    fn flush(&mut self) -> io::Result<()> {
-        Ok(())
-    }
-}
 
 fn words_of(alloc: Global, line: &str) -> Result<Vec<String>, Fail> {
     let mut words = Vec::new(alloc);
@@ -294,15 +271,17 @@ fn ran<R: Threads + Wait + Sync>(
     let mut errors = Vec::new(alloc);
     let status = {
         let mut source = FromRead::new(input);
-        let mut sink = ToWrite::new(Full {
+        let mut sink = ToWrite::new(Out {
             taken: &mut out,
             piece: 64,
             room,
+            full: Full::TakesNone,
         });
-        let mut told = ToWrite::new(Full {
+        let mut told = ToWrite::new(Out {
             taken: &mut errors,
             piece: 7,
             room: usize::MAX,
+            full: Full::TakesNone,
         });
         let asked = line_of(alloc, &words);
         run(rt, alloc, asked, &mut source, &mut sink, &mut told)
@@ -428,10 +407,11 @@ fn played_on<B: LiveBoard, R: Threads + Wait + Sync>(
     let night = read_night(alloc, &mut FromRead::new(SCRIPT.as_bytes()))?;
     let mut out = Vec::new(alloc);
     let played = {
-        let mut sink = ToWrite::new(Full {
+        let mut sink = ToWrite::new(Out {
             taken: &mut out,
             piece: 64,
             room,
+            full: Full::TakesNone,
         });
         night_on(
             rt,

@@ -5,10 +5,11 @@ mod nights;
 mod told;
 
 use crate::joined;
-use devices::{Cut, Full, fed, has_refused, has_stopped, has_written, shown};
+use devices::{fed, has_refused, has_stopped, has_written, shown};
 use std::alloc::{AllocError, Global};
 use std::process::Abort;
 use std::test::Fail;
+use ucl_devices::{Cut, Full};
 use ucl_order::Profile;
 use ucl_runs::{RunFault, status_of};
 use ucl_screen::{FromRead, InputFault, read_night, screen};
@@ -288,7 +289,8 @@ fn failing_devices(rt: HostRuntime) -> Result<(), Fail> {
     assert_feed_stops(&rt, alloc, text, Full::Fails);
     assert_feed_stops(&rt, alloc, text, Full::TakesNone);
     for room in [0, 1, 100, text.len()] {
-        let ran = fed(alloc, Cut { text, room }, usize::MAX, Full::Fails);
+        let piece = usize::MAX;
+        let ran = fed(alloc, Cut { text, piece, room }, usize::MAX, Full::Fails);
         let fault = InputFault::ReadFailed { bytes: room };
         assert!(rt; has_refused(&ran, fault), "at {room}");
     }

@@ -10,7 +10,7 @@ use Rattle.ucl_word.specs.declared.event.Accepted.{Accepted}
 use Rattle.ucl_word.specs.declared.refusal.Refusal.{Refusal}
 use Rattle.ucl_word.proofs.Sequences.{at_longer, at_below, at_end, at_either}
 use Rattle.ucl_board.specs.declared.entry.Entry.{Entry}
-use Rattle.ucl_board.specs.History.{followed_by, entry_of, sequential_reply}
+use Rattle.ucl_board.specs.History.{followed_by, attempted, entry_of, sequential_reply}
 use Rattle.ucl_screen.specs.declared.night.NightEvent.{NightEvent}
 use Rattle.ucl_board.proofs.Beginnings.{at_within, begins_length, begins_through}
 use Rattle.ucl_shared.specs.Passes.{PassView, IsSound, Continues, AcceptedReport, RefusedReport, entries_by}
@@ -29,8 +29,16 @@ entered_none k reporter sound none = record {
   entries = λ p e at is. absurd (none_by k.number k.seen p e (sym sound.own ∙ none) at is);
 }
 
-own_longer : (number reporter : ℕ) (rows : List NightEvent) (row : NightEvent) (point : ℕ → ℕ) (h : List Entry) (p : ℕ) → IsOwnRow number reporter rows point h p → IsOwnRow number reporter (rows ++ row ∷ []) point h p
-own_longer number reporter rows row point h p o = record { index = o.index; row = o.row; here = at_longer rows (row ∷ []) o.index o.row o.here; theirs = o.theirs; point_is = o.point_is; entered = o.entered }
+own_longer : (number reporter : ℕ) (rows : List NightEvent) (row : NightEvent) (point : ℕ → ℕ) (h : List Entry) (p : ℕ) → IsOwnRow number reporter rows point h p
+    → IsOwnRow number reporter (rows ++ row ∷ []) point h p
+own_longer number reporter rows row point h p o = record {
+  index = o.index;
+  row = o.row;
+  here = at_longer rows (row ∷ []) o.index o.row o.here;
+  theirs = o.theirs;
+  point_is = o.point_is;
+  entered = o.entered;
+}
 
 -- a row of the other reporter
 pub next_skipped : (k m : PassView) (reporter : ℕ) (rows : List NightEvent) (row : NightEvent) → HasEntered k m reporter rows → row.reporter ≢ reporter → HasEntered k m reporter (rows ++ row ∷ [])
@@ -50,7 +58,7 @@ next_skipped k m reporter rows row e other =
 
 -- one row more of a reporter, whose point q is past all that its pass m had seen
 module _ (k m z : PassView) (reporter : ℕ) (rows : List NightEvent) (row : NightEvent) (q : ℕ) (e : HasEntered k m reporter rows) (on : IsPrefix m.seen z.seen) (past : length m.seen ≤ q)
-    (place : TakesPlace z.seen (k.number, row.call) q) where
+    (place : TakesPlace z.seen (attempted k.number row.call) q) where
   abbrev points : ℕ → ℕ
   points i = if i == length rows then q else e.point i
 
@@ -60,37 +68,39 @@ module _ (k m z : PassView) (reporter : ℕ) (rows : List NightEvent) (row : Nig
   new_point : (i : ℕ) → i ≡ length rows → points i ≡ q
   new_point i is = ap (λ (b : Bool). cond b q (e.point i)) (eq-eqb i (length rows) is)
 
-  each_place : (i : ℕ) (x : NightEvent) → slice_get (rows ++ row ∷ []) i ≡ Some x → x.reporter ≡ reporter → TakesPlace z.seen (k.number, x.call) (points i)
+  each_place : (i : ℕ) (x : NightEvent) → slice_get (rows ++ row ∷ []) i ≡ Some x → x.reporter ≡ reporter → TakesPlace z.seen (attempted k.number x.call) (points i)
   each_place i x at is = elim (at_either rows row i x at) [
-    | inl old ↦ subst (TakesPlace z.seen (k.number, x.call)) (sym (old_point i old.0)) (place_on m.seen z.seen on (k.number, x.call) (e.point i) (e.each i x old.1 is))
-    | inr new ↦ subst (TakesPlace z.seen (k.number, x.call)) (sym (new_point i new.0)) (subst (λ (y : NightEvent). TakesPlace z.seen (k.number, y.call) q) new.1 place)
+    | inl old ↦ subst (TakesPlace z.seen (attempted k.number x.call)) (sym (old_point i old.0)) (place_on m.seen z.seen on (attempted k.number x.call) (e.point i) (e.each i x old.1 is))
+    | inr new ↦ subst (TakesPlace z.seen (attempted k.number x.call)) (sym (new_point i new.0)) (subst (λ (y : NightEvent). TakesPlace z.seen (attempted k.number y.call) q) new.1 place)
   ]
 
-  before_new : (i : ℕ) (x : NightEvent) → slice_get rows i ≡ Some x → x.reporter ≡ reporter → ComesFirst z.seen (k.number, x.call) (e.point i) q
+  before_new : (i : ℕ) (x : NightEvent) → slice_get rows i ≡ Some x → x.reporter ≡ reporter → ComesFirst z.seen (attempted k.number x.call) (e.point i) q
   before_new i x at is =
-      let low = place_within m.seen (k.number, x.call) (e.point i) (e.each i x at is) in
+      let low = place_within m.seen (attempted k.number x.call) (e.point i) (e.each i x at is) in
       record {
         never_falls = omega arith;
-        rises = λ entered. (let below = entered_within m.seen (k.number, x.call) (e.point i) (entered_before m.seen z.seen on (k.number, x.call) (e.point i) (e.each i x at is) entered) in omega arith);
+        rises = λ entered. (
+            let before = entered_before m.seen z.seen on (attempted k.number x.call) (e.point i) (e.each i x at is) entered in
+            let below = entered_within m.seen (attempted k.number x.call) (e.point i) before in omega arith);
       }
 
   each_order : (i j : ℕ) (x y : NightEvent) → slice_get (rows ++ row ∷ []) i ≡ Some x → slice_get (rows ++ row ∷ []) j ≡ Some y → i < j → x.reporter ≡ reporter → y.reporter ≡ reporter
-      → ComesFirst z.seen (k.number, x.call) (points i) (points j)
+      → ComesFirst z.seen (attempted k.number x.call) (points i) (points j)
   each_order i j x y at_x at_y below is_x is_y = elim (at_either rows row j y at_y) [
     | inl next ↦ (let l = next.0 in elim (at_either rows row i x at_x) [
-      | inl old ↦ same_first z.seen (k.number, x.call) (e.point i) (e.point j) (points i) (points j) (sym (old_point i old.0)) (sym (old_point j next.0))
-          (first_on m.seen z.seen on (k.number, x.call) (e.point i) (e.point j) (e.each i x old.1 is_x) (e.in_order i j x y old.1 next.1 below is_x is_y))
+      | inl old ↦ same_first z.seen (attempted k.number x.call) (e.point i) (e.point j) (points i) (points j) (sym (old_point i old.0)) (sym (old_point j next.0))
+          (first_on m.seen z.seen on (attempted k.number x.call) (e.point i) (e.point j) (e.each i x old.1 is_x) (e.in_order i j x y old.1 next.1 below is_x is_y))
       | inr new ↦ (let same = new.0 in absurd (omega arith))
     ])
     | inr next ↦ (let last = next.0 in elim (at_either rows row i x at_x) [
-      | inl old ↦ same_first z.seen (k.number, x.call) (e.point i) q (points i) (points j) (sym (old_point i old.0)) (sym (new_point j next.0)) (before_new i x old.1 is_x)
+      | inl old ↦ same_first z.seen (attempted k.number x.call) (e.point i) q (points i) (points j) (sym (old_point i old.0)) (sym (new_point j next.0)) (before_new i x old.1 is_x)
       | inr new ↦ (let same = new.0 in absurd (omega arith))
     ])
   ]
 
   -- each entry of the reporter stands in what m had seen, or is the new row's
   abbrev OldOrNew : ℕ → Type 0
-  OldOrNew p = (p < length m.seen) ⊎ ((p ≡ q) × IsEnteredAt z.seen (k.number, row.call) q)
+  OldOrNew p = (p < length m.seen) ⊎ ((p ≡ q) × IsEnteredAt z.seen (attempted k.number row.call) q)
 
   each_entry : row.reporter ≡ reporter → (p : ℕ) (x : Entry) → slice_get z.seen p ≡ Some x → x.reporter ≡ k.number → OldOrNew p → IsOwnRow k.number reporter (rows ++ row ∷ []) points z.seen p
   each_entry theirs p x at is (inl below) =
@@ -101,7 +111,7 @@ module _ (k m z : PassView) (reporter : ℕ) (rows : List NightEvent) (row : Nig
         here = at_longer rows (row ∷ []) o.index o.row o.here;
         theirs = o.theirs;
         point_is = old_point o.index (at_below rows o.index o.row o.here) ∙ o.point_is;
-        entered = entered_on m.seen z.seen on (k.number, o.row.call) p o.entered;
+        entered = entered_on m.seen z.seen on (attempted k.number o.row.call) p o.entered;
       }
   each_entry theirs p x at is (inr new) = record {
     index = length rows;
@@ -109,10 +119,11 @@ module _ (k m z : PassView) (reporter : ℕ) (rows : List NightEvent) (row : Nig
     here = at_end rows row;
     theirs = theirs;
     point_is = new_point (length rows) refl ∙ sym new.0;
-    entered = subst (IsEnteredAt z.seen (k.number, row.call)) (sym new.0) new.1;
+    entered = subst (IsEnteredAt z.seen (attempted k.number row.call)) (sym new.0) new.1;
   }
 
-  next_row : Continues k z → z.shown ≡ k.shown → row.reporter ≡ reporter → ((p : ℕ) (x : Entry) → slice_get z.seen p ≡ Some x → x.reporter ≡ k.number → OldOrNew p) → HasEntered k z reporter (rows ++ row ∷ [])
+  next_row : Continues k z → z.shown ≡ k.shown → row.reporter ≡ reporter → ((p : ℕ) (x : Entry) → slice_get z.seen p ≡ Some x → x.reporter ≡ k.number → OldOrNew p)
+      → HasEntered k z reporter (rows ++ row ∷ [])
   next_row always shown theirs either = record {
     always = always;
     shown = shown;
@@ -135,11 +146,11 @@ pub row_accepted : (k m z : PassView) (reporter : ℕ) (rows : List NightEvent) 
     → AcceptedReport m row.call reply z → HasEntered k z reporter (rows ++ row ∷ [])
 row_accepted k m z reporter rows row reply e theirs always a =
     let q : ℕ = length a.before in
-    let new : Entry = entry_of (m.number, row.call) in
+    let new : Entry = entry_of m.number row.call in
     let on : IsPrefix m.seen z.seen = begins_through m.seen a.before z.seen a.since (new ∷ [], sym a.last) in
     let front : take q z.seen ≡ a.before = ap (take q) a.last ∙ take-append_seam a.before (new ∷ []) in
-    let entered : IsEnteredAt z.seen (k.number, row.call) q = record {
-      entry = ap (λ (l : List Entry). slice_get l q) a.last ∙ (at_end a.before new ∙ ap (λ (n : ℕ). Some (entry_of (n, row.call))) e.always.number);
+    let entered : IsEnteredAt z.seen (attempted k.number row.call) q = record {
+      entry = ap (λ (l : List Entry). slice_get l q) a.last ∙ (at_end a.before new ∙ ap (λ (n : ℕ). Some (entry_of n row.call)) e.always.number);
       reply = ap (λ (l : List Entry). is_ok (sequential_reply l row.call)) front ∙ ap is_ok a.answer;
     } in
     let all : followed_by (entries_by m.number a.before) new ≡ followed_by m.mine new =
@@ -156,7 +167,7 @@ pub row_refused : (k m z : PassView) (reporter : ℕ) (rows : List NightEvent) (
     → RefusedReport m row.call refusal z → HasEntered k z reporter (rows ++ row ∷ [])
 row_refused k m z reporter rows row refusal e theirs always r =
     let q : ℕ = length z.seen in
-    let refused : IsRefusedAt z.seen (k.number, row.call) q = record {
+    let refused : IsRefusedAt z.seen (attempted k.number row.call) q = record {
       within = le_refl q;
       reply = ap (λ (l : List Entry). is_ok (sequential_reply l row.call)) (take-length z.seen) ∙ ap is_ok r.answer;
     } in
@@ -165,7 +176,8 @@ row_refused k m z reporter rows row refusal e theirs always r =
     (λ p x at is. inl (stands_before m.number m.seen z.seen always.on.seen none_more p x at (is ∙ sym e.always.number)))
 
 -- a row of the reporter, whatever the answer
-pub next_entered : (k m z : PassView) (reporter : ℕ) (rows : List NightEvent) (row : NightEvent) (answer : Result Accepted Refusal) → HasEntered k m reporter rows → row.reporter ≡ reporter → Continues m z
+pub next_entered : (k m z : PassView) (reporter : ℕ) (rows : List NightEvent) (row : NightEvent) (answer : Result Accepted Refusal) → HasEntered k m reporter rows
+    → row.reporter ≡ reporter → Continues m z
     → IfOk answer (λ reply. AcceptedReport m row.call reply z) → IfErr answer (λ refusal. RefusedReport m row.call refusal z) → HasEntered k z reporter (rows ++ row ∷ [])
 next_entered k m z reporter rows row (Ok reply) e theirs always accepted refused = row_accepted k m z reporter rows row reply e theirs always accepted
 next_entered k m z reporter rows row (Err refusal) e theirs always accepted refused = row_refused k m z reporter rows row refusal e theirs always refused

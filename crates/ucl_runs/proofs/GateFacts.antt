@@ -8,33 +8,36 @@ use Rattle.ucl_board.specs.declared.entry.Entry.{Entry}
 use Rattle.ucl_board.specs.declared.reading.Reading.{Reading}
 use Rattle.ucl_board.specs.History.{board_of, snapshot_at}
 use Rattle.ucl_board.proofs.Beginnings.{take_beginning}
-use Rattle.ucl_order.specs.declared.profile.Profile.{Profile}
-use Rattle.ucl_order.specs.Roster.{NamedClub}
 use Rattle.ucl_screen.specs.declared.night.NightEvent.{NightEvent}
-use Rattle.ucl_screen.specs.Screen.{screen_text}
 use Rattle.ucl_shared.specs.Passes.{PassView, Continues, SharedReading, ReportsMore}
 use Rattle.ucl_runs.specs.Gates.{CameTo, IsScreenOf, Showed, rows_by}
+use Rattle.ucl_runs.specs.Styles.{Style, styled_screen}
 
 -- a row of the reporter is one row more
-pub rows_own : (reporter : ℕ) (rows : List NightEvent) (row : NightEvent) → row.reporter ≡ reporter → rows_by reporter (rows ++ row ∷ []) ≡ rows_by reporter rows + 1
+pub rows_own : (reporter : ℕ) (rows : List NightEvent) (row : NightEvent) → row.reporter ≡ reporter
+    → rows_by reporter (rows ++ row ∷ []) ≡ rows_by reporter rows + 1
 rows_own reporter rows row is =
-    ap length (filter-append (λ (x : NightEvent). x.reporter == reporter) rows (row ∷ []) ∙ ap (λ (b : Bool). filter (λ (x : NightEvent). x.reporter == reporter) rows ++ cond b (row ∷ []) []) (eq-eqb row.reporter reporter is))
+    ap length (filter-append (λ (x : NightEvent). x.reporter == reporter) rows (row ∷ [])
+    ∙ ap (λ (b : Bool). filter (λ (x : NightEvent). x.reporter == reporter) rows ++ cond b (row ∷ []) []) (eq-eqb row.reporter reporter is))
     ∙ length-append (filter (λ (x : NightEvent). x.reporter == reporter) rows) (row ∷ [])
 
 -- a row of another is none
 pub rows_other : (reporter : ℕ) (rows : List NightEvent) (row : NightEvent) → row.reporter ≢ reporter → rows_by reporter (rows ++ row ∷ []) ≡ rows_by reporter rows
 rows_other reporter rows row other =
-    ap length (filter-append (λ (x : NightEvent). x.reporter == reporter) rows (row ∷ []) ∙ (ap (λ (b : Bool). filter (λ (x : NightEvent). x.reporter == reporter) rows ++ cond b (row ∷ []) []) (ne_eqb row.reporter reporter other)
+    ap length (filter-append (λ (x : NightEvent). x.reporter == reporter) rows (row ∷ [])
+    ∙ (ap (λ (b : Bool). filter (λ (x : NightEvent). x.reporter == reporter) rows ++ cond b (row ∷ []) []) (ne_eqb row.reporter reporter other)
     ∙ append-nil (filter (λ (x : NightEvent). x.reporter == reporter) rows)))
 
 -- the rows up to the next one
 next_rows : (i : ℕ) (rows : List NightEvent) (row : NightEvent) → i < length rows → row ≡ get_or rows i row → take (i + 1) rows ≡ take i rows ++ row ∷ []
 next_rows i rows row below is = take_more rows i row below ∙ ap (λ (x : NightEvent). take i rows ++ x ∷ []) (sym is)
 
-pub rows_own_next : (reporter i : ℕ) (rows : List NightEvent) (row : NightEvent) → i < length rows → row ≡ get_or rows i row → row.reporter ≡ reporter → rows_by reporter (take (i + 1) rows) ≡ rows_by reporter (take i rows) + 1
+pub rows_own_next : (reporter i : ℕ) (rows : List NightEvent) (row : NightEvent) → i < length rows → row ≡ get_or rows i row → row.reporter ≡ reporter
+    → rows_by reporter (take (i + 1) rows) ≡ rows_by reporter (take i rows) + 1
 rows_own_next reporter i rows row below is own = ap (rows_by reporter) (next_rows i rows row below is) ∙ rows_own reporter (take i rows) row own
 
-pub rows_other_next : (reporter i : ℕ) (rows : List NightEvent) (row : NightEvent) → i < length rows → row ≡ get_or rows i row → (row.reporter ≢ reporter) → rows_by reporter (take (i + 1) rows) ≡ rows_by reporter (take i rows)
+pub rows_other_next : (reporter i : ℕ) (rows : List NightEvent) (row : NightEvent) → i < length rows → row ≡ get_or rows i row → (row.reporter ≢ reporter)
+    → rows_by reporter (take (i + 1) rows) ≡ rows_by reporter (take i rows)
 rows_other_next reporter i rows row below is other = ap (rows_by reporter) (next_rows i rows row below is) ∙ rows_other reporter (take i rows) row other
 
 -- no call
@@ -79,29 +82,29 @@ none_twice A B C first second n before = subst C (nothing n) (second (n + 0) (fi
     nothing n = omega arith
 
 -- a screen is of each longer history, as a version within the first
-pub showed_on : (showed : ℕ → Reading → List ℕ → Type 0) (worker : ℕ) (profile : Profile) (seen history : List Entry) (versions : List ℕ) (roster : List NamedClub) (group : ℕ)
-    → IsPrefix seen history → All (λ v. v ≤ length seen) versions → Showed showed worker profile seen versions roster group → Showed showed worker profile history versions roster group
-showed_on showed worker profile seen history versions roster group on high before i d below =
-    subst (λ (h : List Entry). showed worker (record { board = board_of h; version = get_or versions i d }) (screen_text profile (board_of h) roster group)) (sym (take_beginning seen history (get_or versions i d) on (high i d below))) (before i d below)
+pub showed_on : (showed : ℕ → Reading → List ℕ → Type 0) (worker : ℕ) (style : Style) (seen history : List Entry) (versions : List ℕ)
+    → IsPrefix seen history → All (λ v. v ≤ length seen) versions → Showed showed worker style seen versions → Showed showed worker style history versions
+showed_on showed worker style seen history versions on high before i d below =
+    subst (λ (h : List Entry). showed worker (record { board = board_of h; version = get_or versions i d }) (styled_screen style (board_of h)))
+    (sym (take_beginning seen history (get_or versions i d) on (high i d below))) (before i d below)
 
 -- one screen more
-pub showed_more : (showed : ℕ → Reading → List ℕ → Type 0) (worker : ℕ) (profile : Profile) (m z : PassView) (reading : Reading) (text : List ℕ) (roster : List NamedClub) (group : ℕ)
-    → All (λ v. v ≤ length m.seen) m.shown → Showed showed worker profile m.seen m.shown roster group → Continues m z → SharedReading m reading z → text ≡ screen_text profile reading.board roster group → showed worker reading text
-    → Showed showed worker profile z.seen z.shown roster group
-showed_more showed worker profile m z reading text roster group high before on read is now =
-    let P : ℕ → Type 0 = λ v. showed worker (snapshot_at z.seen v) (screen_text profile (board_of (take v z.seen)) roster group) in
-    let last : P reading.version = subst (λ (r : Reading). showed worker r (screen_text profile r.board roster group)) read.snapshot (subst (showed worker reading) is now) in
-    subst (All P) (sym read.shown) (All-push P m.shown reading.version (showed_on showed worker profile m.seen z.seen m.shown roster group on.on.seen high before) last)
+pub showed_more : (showed : ℕ → Reading → List ℕ → Type 0) (worker : ℕ) (style : Style) (m z : PassView) (reading : Reading) (text : List ℕ)
+    → All (λ v. v ≤ length m.seen) m.shown → Showed showed worker style m.seen m.shown → Continues m z → SharedReading m reading z
+    → text ≡ styled_screen style reading.board → showed worker reading text → Showed showed worker style z.seen z.shown
+showed_more showed worker style m z reading text high before on read is now =
+    let P : ℕ → Type 0 = λ v. showed worker (snapshot_at z.seen v) (styled_screen style (board_of (take v z.seen))) in
+    let last : P reading.version = subst (λ (r : Reading). showed worker r (styled_screen style r.board)) read.snapshot (subst (showed worker reading) is now) in
+    subst (All P) (sym read.shown) (All-push P m.shown reading.version (showed_on showed worker style m.seen z.seen m.shown on.on.seen high before) last)
 
 -- what is told of a reading is the screen of a board after a legal history
-pub screen_told : (profile : Profile) (m z : PassView) (reading : Reading) (text : List ℕ) (roster : List NamedClub) (group : ℕ) → Continues m z → SharedReading m reading z → text ≡ screen_text profile reading.board roster group → IsScreenOf reading text
-screen_told profile m z reading text roster group on read is = record {
+pub screen_told : (style : Style) (m z : PassView) (reading : Reading) (text : List ℕ) → Continues m z → SharedReading m reading z
+    → text ≡ styled_screen style reading.board → IsScreenOf reading text
+screen_told style m z reading text on read is = record {
   history = z.seen;
   legal = on.sound.legal;
   within = read.high;
   snapshot = read.snapshot;
-  profile = profile;
-  roster = roster;
-  group = group;
+  style = style;
   text_is = is;
 }

@@ -7,7 +7,7 @@ use Rattle.std.proofs.lemmas.List.Elements.{All-get_or}
 use mathlib.Core.List.{IsPrefix}
 use Rattle.ucl_word.proofs.Sequences.{at_below}
 use Rattle.ucl_board.specs.declared.entry.Entry.{Entry}
-use Rattle.ucl_board.specs.History.{IsLegal, entry_of}
+use Rattle.ucl_board.specs.History.{IsLegal, attempted, entry_of}
 use Rattle.ucl_board.proofs.HistoryLaws.{legal_take}
 use Rattle.ucl_screen.specs.declared.night.NightEvent.{NightEvent}
 use Rattle.ucl_board.proofs.Beginnings.{at_within, begins_length, begins_take, begins_through}
@@ -52,26 +52,28 @@ module _ (k l m n : PassView) (rows : List NightEvent) (h : List Entry) (first :
   points_1 i row at is = ap (λ (o : Option NightEvent). point_of o (first.point i) (second.point i)) at ∙ ap (λ (b : Bool). cond b (first.point i) (second.point i)) (eq-eqb row.reporter 1 is)
 
   points_2 : (i : ℕ) (row : NightEvent) → slice_get rows i ≡ Some row → row.reporter ≡ 2 → points i ≡ second.point i
-  points_2 i row at is = ap (λ (o : Option NightEvent). point_of o (first.point i) (second.point i)) at ∙ ap (λ (b : Bool). cond b (first.point i) (second.point i)) (ne_eqb row.reporter 1 (λ same. omega arith))
+  points_2 i row at is = ap (λ (o : Option NightEvent). point_of o (first.point i) (second.point i)) at
+      ∙ ap (λ (b : Bool). cond b (first.point i) (second.point i)) (ne_eqb row.reporter 1 (λ same. omega arith))
 
   each_place : (i : ℕ) (row : NightEvent) → slice_get rows i ≡ Some row → TakesPlace h (attempt_by number row) (points i)
   each_place i row at = elim (duty i row at) [
-    | inl is ↦ subst (λ (x : ℕ). TakesPlace h (x, row.call) (points i)) (sym (number_1 row.reporter is))
-        (subst (TakesPlace h (k.number, row.call)) (sym (points_1 i row at is)) (place_on m.seen h on_first (k.number, row.call) (first.point i) (first.each i row at is)))
-    | inr is ↦ subst (λ (x : ℕ). TakesPlace h (x, row.call) (points i)) (sym (number_2 row.reporter is))
-        (subst (TakesPlace h (l.number, row.call)) (sym (points_2 i row at is)) (place_on n.seen h on_second (l.number, row.call) (second.point i) (second.each i row at is)))
+    | inl is ↦ subst (λ (x : ℕ). TakesPlace h (attempted x row.call) (points i)) (sym (number_1 row.reporter is))
+        (subst (TakesPlace h (attempted k.number row.call)) (sym (points_1 i row at is)) (place_on m.seen h on_first (attempted k.number row.call) (first.point i) (first.each i row at is)))
+    | inr is ↦ subst (λ (x : ℕ). TakesPlace h (attempted x row.call) (points i)) (sym (number_2 row.reporter is))
+        (subst (TakesPlace h (attempted l.number row.call)) (sym (points_2 i row at is)) (place_on n.seen h on_second (attempted l.number row.call) (second.point i) (second.each i row at is)))
   ]
 
-  each_order : (i j : ℕ) (row next : NightEvent) → slice_get rows i ≡ Some row → slice_get rows j ≡ Some next → i < j → row.reporter ≡ next.reporter → ComesFirst h (attempt_by number row) (points i) (points j)
+  each_order : (i j : ℕ) (row next : NightEvent) → slice_get rows i ≡ Some row → slice_get rows j ≡ Some next → i < j → row.reporter ≡ next.reporter
+      → ComesFirst h (attempt_by number row) (points i) (points j)
   each_order i j row next at_i at_j below same = elim (duty i row at_i) [
     | inl is ↦ (let is_next : next.reporter ≡ 1 = sym same ∙ is in
-        subst (λ (x : ℕ). ComesFirst h (x, row.call) (points i) (points j)) (sym (number_1 row.reporter is))
-        (same_first h (k.number, row.call) (first.point i) (first.point j) (points i) (points j) (sym (points_1 i row at_i is)) (sym (points_1 j next at_j is_next))
-        (first_on m.seen h on_first (k.number, row.call) (first.point i) (first.point j) (first.each i row at_i is) (first.in_order i j row next at_i at_j below is is_next))))
+        subst (λ (x : ℕ). ComesFirst h (attempted x row.call) (points i) (points j)) (sym (number_1 row.reporter is))
+        (same_first h (attempted k.number row.call) (first.point i) (first.point j) (points i) (points j) (sym (points_1 i row at_i is)) (sym (points_1 j next at_j is_next))
+        (first_on m.seen h on_first (attempted k.number row.call) (first.point i) (first.point j) (first.each i row at_i is) (first.in_order i j row next at_i at_j below is is_next))))
     | inr is ↦ (let is_next : next.reporter ≡ 2 = sym same ∙ is in
-        subst (λ (x : ℕ). ComesFirst h (x, row.call) (points i) (points j)) (sym (number_2 row.reporter is))
-        (same_first h (l.number, row.call) (second.point i) (second.point j) (points i) (points j) (sym (points_2 i row at_i is)) (sym (points_2 j next at_j is_next))
-        (first_on n.seen h on_second (l.number, row.call) (second.point i) (second.point j) (second.each i row at_i is) (second.in_order i j row next at_i at_j below is is_next))))
+        subst (λ (x : ℕ). ComesFirst h (attempted x row.call) (points i) (points j)) (sym (number_2 row.reporter is))
+        (same_first h (attempted l.number row.call) (second.point i) (second.point j) (points i) (points j) (sym (points_2 i row at_i is)) (sym (points_2 j next at_j is_next))
+        (first_on n.seen h on_second (attempted l.number row.call) (second.point i) (second.point j) (second.each i row at_i is) (second.in_order i j row next at_i at_j below is is_next))))
   ]
 
   -- reporters on duty with one number are one
@@ -87,7 +89,9 @@ module _ (k l m n : PassView) (rows : List NightEvent) (h : List Entry) (first :
   -- an entry is not that of an earlier row and of a later one
   not_both : (p i j : ℕ) → IsRowAt p i → IsRowAt p j → i < j → ⊥
   not_both p i j a b below =
-      let same : number a.row.reporter ≡ number b.row.reporter = ap (λ (e : Entry). e.reporter) (same_Some (entry_of (attempt_by number a.row)) (entry_of (attempt_by number b.row)) (sym a.entered.entry ∙ b.entered.entry)) in
+      let here = entry_of (number a.row.reporter) a.row.call in
+      let there = entry_of (number b.row.reporter) b.row.call in
+      let same : number a.row.reporter ≡ number b.row.reporter = ap (λ (e : Entry). e.reporter) (same_Some here there (sym a.entered.entry ∙ b.entered.entry)) in
       let one : a.row.reporter ≡ b.row.reporter = one_reporter a.row.reporter b.row.reporter (duty i a.row a.here) (duty j b.row b.here) same in
       let order = each_order i j a.row b.row a.here b.here below one in
       let rises = order.rises (subst (IsEnteredAt h (attempt_by number a.row)) (sym a.point_is) a.entered) in
@@ -107,7 +111,7 @@ module _ (k l m n : PassView) (rows : List NightEvent) (h : List Entry) (first :
           row = o.row;
           here = o.here;
           point_is = points_1 o.index o.row o.here o.theirs ∙ o.point_is;
-          entered = subst (λ (x : ℕ). IsEnteredAt h (x, o.row.call) p) (sym (number_1 o.row.reporter o.theirs)) (entered_on m.seen h on_first (k.number, o.row.call) p o.entered);
+          entered = subst (λ (x : ℕ). IsEnteredAt h (attempted x o.row.call) p) (sym (number_1 o.row.reporter o.theirs)) (entered_on m.seen h on_first (attempted k.number o.row.call) p o.entered);
         },
       )
 
@@ -120,7 +124,7 @@ module _ (k l m n : PassView) (rows : List NightEvent) (h : List Entry) (first :
           row = o.row;
           here = o.here;
           point_is = points_2 o.index o.row o.here o.theirs ∙ o.point_is;
-          entered = subst (λ (x : ℕ). IsEnteredAt h (x, o.row.call) p) (sym (number_2 o.row.reporter o.theirs)) (entered_on n.seen h on_second (l.number, o.row.call) p o.entered);
+          entered = subst (λ (x : ℕ). IsEnteredAt h (attempted x o.row.call) p) (sym (number_2 o.row.reporter o.theirs)) (entered_on n.seen h on_second (attempted l.number o.row.call) p o.entered);
         },
       )
 
@@ -147,7 +151,8 @@ merged_at_settling k l m n c d rows version first second apart duty s both = mer
     (begins_take m.seen d.seen version s.first s.low_first) (begins_take n.seen d.seen version s.second s.low_second) both
 
 -- the same by the numbers of the passes that settling left
-pub merged_by_settlers : (k l m n c d : PassView) (rows : List NightEvent) (version : ℕ) → HasEntered k m 1 rows → HasEntered l n 2 rows → Continues m c → Continues n d → m.number ≢ n.number → AllOnDuty rows
+pub merged_by_settlers : (k l m n c d : PassView) (rows : List NightEvent) (version : ℕ) → HasEntered k m 1 rows → HasEntered l n 2 rows → Continues m c
+    → Continues n d → m.number ≢ n.number → AllOnDuty rows
     → Settled m n c d version → IsOfBoth m n (take version d.seen) → IsMerge (number_of_two c.number d.number) rows (take version d.seen)
 merged_by_settlers k l m n c d rows version first second on_c on_d apart duty s both =
     subst (λ (x : ℕ). IsMerge (number_of_two x d.number) rows (take version d.seen)) (sym (on_c.number ∙ first.always.number))
@@ -175,7 +180,8 @@ module _ (b b1 : PassView) (on : Continues b b1) (mine : b1.mine ≡ b.mine) whe
     no_other = subst (λ (n : ℕ). All (λ (e : Entry). (e.reporter ≡ a.number) ⊎ (e.reporter ≡ n)) h) on.number both.no_other;
   }
 
-  pub merged_after_meetings : (k l m c d : PassView) (rows : List NightEvent) (version : ℕ) → HasEntered k m 1 rows → HasEntered l b 2 rows → Continues m c → Continues b1 d → m.number ≢ b1.number → AllOnDuty rows
+  pub merged_after_meetings : (k l m c d : PassView) (rows : List NightEvent) (version : ℕ) → HasEntered k m 1 rows → HasEntered l b 2 rows → Continues m c
+      → Continues b1 d → m.number ≢ b1.number → AllOnDuty rows
       → Settled m b1 c d version → IsOfBoth m b1 (take version d.seen) → IsMerge (number_of_two c.number d.number) rows (take version d.seen)
   merged_after_meetings k l m c d rows version first second on_c on_d apart duty s both =
       merged_by_settlers k l m b c d rows version first second on_c (goes_on b b1 d on on_d) (λ same. apart (same ∙ sym on.number)) duty (settled_before m c d version s)

@@ -53,7 +53,7 @@ module _ (number : ℕ → ℕ) (rows : List NightEvent) (h : List Entry) (merge
         index = i;
         row = o.row;
         here = o.here;
-        game = ap (λ (x : Entry). x.game) (same_Some (entry_of (attempt_by number o.row)) e (sym o.entered.entry ∙ at)) ∙ is;
+        game = ap (λ (x : Entry). x.game) (same_Some (entry_of (number o.row.reporter) o.row.call) e (sym o.entered.entry ∙ at)) ∙ is;
         entered = subst (IsEnteredAt h (attempt_by number o.row)) (sym o.point_is) o.entered;
         point_is = o.point_is;
       }
@@ -77,11 +77,12 @@ module _ (number : ℕ → ℕ) (rows : List NightEvent) (h : List Entry) (merge
   night_next i row at = ap (λ (xs : List NightEvent). accepted_of (map (attempt_by number) xs)) (take_one rows i row at)
       ∙ (ap (accepted_of) (map_push (attempt_by number) (take i rows) row) ∙ fold_push after_attempt [] (map (attempt_by number) (take i rows)) (attempt_by number row))
 
-  night_accepts : (i : ℕ) (row : NightEvent) → slice_get rows i ≡ Some row → is_ok (sequential_reply (night_at i) row.call) ≡ true → night_at (suc i) ≡ followed_by (night_at i) (entry_of (attempt_by number row))
-  night_accepts i row at ok = night_next i row at ∙ ap (λ (b : Bool). cond b (followed_by (night_at i) (entry_of (attempt_by number row))) (night_at i)) ok
+  night_accepts : (i : ℕ) (row : NightEvent) → slice_get rows i ≡ Some row → is_ok (sequential_reply (night_at i) row.call) ≡ true
+      → night_at (suc i) ≡ followed_by (night_at i) (entry_of (number row.reporter) row.call)
+  night_accepts i row at ok = night_next i row at ∙ ap (λ (b : Bool). cond b (followed_by (night_at i) (entry_of (number row.reporter) row.call)) (night_at i)) ok
 
   night_refuses : (i : ℕ) (row : NightEvent) → slice_get rows i ≡ Some row → is_ok (sequential_reply (night_at i) row.call) ≡ false → night_at (suc i) ≡ night_at i
-  night_refuses i row at not_ok = night_next i row at ∙ ap (λ (b : Bool). cond b (followed_by (night_at i) (entry_of (attempt_by number row))) (night_at i)) not_ok
+  night_refuses i row at not_ok = night_next i row at ∙ ap (λ (b : Bool). cond b (followed_by (night_at i) (entry_of (number row.reporter) row.call)) (night_at i)) not_ok
 
   either_way : (b : Bool) (x y : List Entry) → entries_of g x ≡ entries_of g y → entries_of g (cond b x y) ≡ entries_of g y
   either_way true x y same = same
@@ -90,7 +91,8 @@ module _ (number : ℕ → ℕ) (rows : List NightEvent) (h : List Entry) (merge
   -- a row of another match
   night_else : (i : ℕ) (row : NightEvent) → slice_get rows i ≡ Some row → row.call.game ≢ g → entries_of g (night_at (suc i)) ≡ entries_of g (night_at i)
   night_else i row at other = ap (entries_of g) (night_next i row at)
-      ∙ either_way (is_ok (sequential_reply (night_at i) row.call)) (followed_by (night_at i) (entry_of (attempt_by number row))) (night_at i) (entries_else (night_at i) (entry_of (attempt_by number row)) g other)
+      ∙ either_way (is_ok (sequential_reply (night_at i) row.call)) (followed_by (night_at i) (entry_of (number row.reporter) row.call)) (night_at i)
+      (entries_else (night_at i) (entry_of (number row.reporter) row.call) g other)
 
   -- the reply to an event of the match goes by the entries of the match
   same_reply : (x y : List Entry) (call : EventCall) → call.game ≡ g → entries_of g x ≡ entries_of g y → sequential_reply x call ≡ sequential_reply y call
@@ -135,11 +137,12 @@ module _ (number : ℕ → ℕ) (rows : List NightEvent) (h : List Entry) (merge
   Agrees i = (p : ℕ) → p ≤ length h → Fits i p → entries_at p ≡ entries_of g (night_at i)
 
   -- a row of the match that was entered
-  entered_agrees : (i : ℕ) (row : NightEvent) → slice_get rows i ≡ Some row → row.call.game ≡ g → entries_at (merge.point i) ≡ entries_of g (night_at i) → IsEnteredAt h (attempt_by number row) (merge.point i)
+  entered_agrees : (i : ℕ) (row : NightEvent) → slice_get rows i ≡ Some row → row.call.game ≡ g → entries_at (merge.point i) ≡ entries_of g (night_at i)
+      → IsEnteredAt h (attempt_by number row) (merge.point i)
       → Agrees (suc i)
   entered_agrees i row at is same there p within fits =
       let q : ℕ = merge.point i in
-      let new : Entry = entry_of (attempt_by number row) in
+      let new : Entry = entry_of (number row.reporter) row.call in
       let past = fits.below i row at is there (omega arith) in
       let ok : is_ok (sequential_reply (night_at i) row.call) ≡ true = ap is_ok (sym (same_reply (take q h) (night_at i) row.call is same)) ∙ there.reply in
       let more : entries_at (suc q) ≡ entered (entries_at q) new.reporter new.kind = ap (entries_of g) (take_one h q new there.entry) ∙ entries_same (take q h) new g is in
@@ -147,7 +150,8 @@ module _ (number : ℕ → ℕ) (rows : List NightEvent) (h : List Entry) (merge
       same_between (suc q) p past within (none_between i p row at is fits) ∙ (more ∙ (ap (λ (es : List MatchEntry). entered es new.reporter new.kind) same ∙ sym night))
 
   -- a row of the match that was refused
-  refused_agrees : (i : ℕ) (row : NightEvent) → slice_get rows i ≡ Some row → row.call.game ≡ g → entries_at (merge.point i) ≡ entries_of g (night_at i) → IsRefusedAt h (attempt_by number row) (merge.point i)
+  refused_agrees : (i : ℕ) (row : NightEvent) → slice_get rows i ≡ Some row → row.call.game ≡ g → entries_at (merge.point i) ≡ entries_of g (night_at i)
+      → IsRefusedAt h (attempt_by number row) (merge.point i)
       → Agrees i → Agrees (suc i)
   refused_agrees i row at is same there agrees p within fits =
       let not_ok : is_ok (sequential_reply (night_at i) row.call) ≡ false = ap is_ok (sym (same_reply (take (merge.point i) h) (night_at i) row.call is same)) ∙ there.reply in
@@ -175,7 +179,8 @@ module _ (number : ℕ → ℕ) (rows : List NightEvent) (h : List Entry) (merge
         below = λ j x at is entered less. entered_within h (attempt_by number x) (merge.point j) entered;
         above = λ j x at is entered least. (let below = at_below rows j x at in absurd (omega arith));
       } in
-      ap (entries_of g) (sym (take-length h)) ∙ (all_agree (length rows) (omega arith) (length h) (omega arith) fits ∙ ap (λ (xs : List NightEvent). entries_of g (accepted_of (map (attempt_by number) xs))) (take-length rows))
+      ap (entries_of g) (sym (take-length h)) ∙ (all_agree (length rows) (omega arith) (length h) (omega arith) fits
+      ∙ ap (λ (xs : List NightEvent). entries_of g (accepted_of (map (attempt_by number) xs))) (take-length rows))
 
 -- boards of histories in which each match has the same entries
 same_board : (x y : List Entry) → ((g : ℕ) → entries_of g x ≡ entries_of g y) → board_of x ≡ board_of y

@@ -9,11 +9,13 @@ use Rattle.ucl_runs.specs.Run.{IsStopped}
 
 -- in the first of two parts
 pub stopped_first : (before : ℕ) (failed : Bool) (old new : Option (List ℕ)) (a b : List ℕ) (f : RunFault) → IsStopped before failed old new a f → IsStopped before failed old new (a ++ b) f
-stopped_first before failed old new a b (WriteFailed written) s = let cut = s.cut in let long = length-append a b in record {
+stopped_first before failed old new a b (WriteFailed written) s = let cut = s.first.cut in let long = length-append a b in record {
   failed_is = s.failed_is;
   count = s.count;
-  cut = omega arith;
-  out = subst (Appends old new) (sym (take-append-le s.count a b (omega arith))) s.out;
+  first = record {
+    cut = omega arith;
+    out = subst (Appends old new) (sym (take-append-le s.count a b (omega arith))) s.first.out;
+  };
   told = s.told;
 }
 stopped_first before failed old new a b (Input e) s = s
@@ -33,11 +35,13 @@ told_past before total a n written total_is told = omega arith
 -- in the second of two parts, after the first went out
 pub stopped_second : (before total : ℕ) (failed : Bool) (old mid new : Option (List ℕ)) (a b : List ℕ) (f : RunFault) → Appends old mid a → total ≡ min (before + length a) (2 ^ 64 - 1)
     → IsStopped total failed mid new b f → IsStopped before failed old new (a ++ b) f
-stopped_second before total failed old mid new a b (WriteFailed written) out total_is s = let cut = s.cut in let long = length-append a b in record {
+stopped_second before total failed old mid new a b (WriteFailed written) out total_is s = let cut = s.first.cut in let long = length-append a b in record {
   failed_is = s.failed_is;
   count = length a + s.count;
-  cut = omega arith;
-  out = subst (Appends old new) (sym (take_past a b s.count)) (appends-then old mid new a (take s.count b) out s.out);
+  first = record {
+    cut = omega arith;
+    out = subst (Appends old new) (sym (take_past a b s.count)) (appends-then old mid new a (take s.count b) out s.first.out);
+  };
   told = told_past before total (length a) s.count written total_is s.told;
 }
 stopped_second before total failed old mid new a b (Input e) out total_is s = s

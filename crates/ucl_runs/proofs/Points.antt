@@ -20,10 +20,13 @@ module _ (s h : List Entry) (on : IsPrefix s h) where
   reply_on call p within = ap (λ (l : List Entry). is_ok (sequential_reply l call)) (take_beginning s h p on within)
 
   pub refused_on : (a : Attempt) (p : ℕ) → IsRefusedAt s a p → IsRefusedAt h a p
-  refused_on a p r = record { within = (let x = r.within in let y = begins_length s h on in omega arith); reply = reply_on a.1 p r.within ∙ r.reply }
+  refused_on a p r = record { within = (let x = r.within in let y = begins_length s h on in omega arith); reply = reply_on a.call p r.within ∙ r.reply }
 
   pub entered_on : (a : Attempt) (p : ℕ) → IsEnteredAt s a p → IsEnteredAt h a p
-  entered_on a p e = record { entry = at_beginning s h p (entry_of a) on e.entry; reply = (let x = at_below s p (entry_of a) e.entry in reply_on a.1 p (omega arith) ∙ e.reply) }
+  entered_on a p e = record {
+    entry = at_beginning s h p (entry_of a.reporter a.call) on e.entry;
+    reply = (let x = at_below s p (entry_of a.reporter a.call) e.entry in reply_on a.call p (omega arith) ∙ e.reply);
+  }
 
   pub place_on : (a : Attempt) (p : ℕ) → TakesPlace s a p → TakesPlace h a p
   place_on a p (inl r) = inl (refused_on a p r)
@@ -31,14 +34,14 @@ module _ (s h : List Entry) (on : IsPrefix s h) where
 
   -- what was refused is not entered later at the same point
   pub entered_before : (a : Attempt) (p : ℕ) → TakesPlace s a p → IsEnteredAt h a p → IsEnteredAt s a p
-  entered_before a p (inl r) is = absurd (false≢true (sym (reply_on a.1 p r.within ∙ r.reply) ∙ is.reply))
+  entered_before a p (inl r) is = absurd (false≢true (sym (reply_on a.call p r.within ∙ r.reply) ∙ is.reply))
   entered_before a p (inr e) is = e
 
   pub first_on : (a : Attempt) (p q : ℕ) → TakesPlace s a p → ComesFirst s a p q → ComesFirst h a p q
   first_on a p q place first = record { never_falls = first.never_falls; rises = λ is. first.rises (entered_before a p place is) }
 
 pub entered_within : (h : List Entry) (a : Attempt) (p : ℕ) → IsEnteredAt h a p → p < length h
-entered_within h a p is = at_below h p (entry_of a) is.entry
+entered_within h a p is = at_below h p (entry_of a.reporter a.call) is.entry
 
 pub place_within : (h : List Entry) (a : Attempt) (p : ℕ) → TakesPlace h a p → p ≤ length h
 place_within h a p (inl r) = r.within

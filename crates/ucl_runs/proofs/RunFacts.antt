@@ -12,14 +12,16 @@ use Rattle.ucl_runs.specs.Feed.{IsBoardAfter, IsFed, feed_text}
 use Rattle.ucl_runs.specs.Show.{IsShown}
 use Rattle.ucl_runs.specs.declared.fault.RunFault.{RunFault}
 use Rattle.ucl_runs.specs.declared.fault.RunFault.TheVariants.{Input, OutOfMemory, WriteFailed, NotOnDuty, NoThread, TooManyReporters, Strangers}
-use Rattle.ucl_runs.specs.Run.{IfWriteFailed, IsCutShort, TextHas, WroteFirst}
+use Rattle.ucl_screen.specs.Stream.{WroteFirst}
+use Rattle.ucl_runs.specs.Run.{IfWriteFailed, IsCutShort, TextHas}
 
 -- a script's text, and a sheet's screen
 pub fed : (known : Option (List ℕ)) (night : Script) (text : List ℕ) → IfSome known (λ bytes. MeansNight bytes (Ok night)) → text ≡ feed_text night.events → IfSome known (λ bytes. IsFed bytes text)
 fed None night text means is = tt
 fed (Some bytes) night text means is = record { night = night; means = means; text_is = is }
 
-pub shown : (profile : Profile) (known : Option (List ℕ)) (group : ℕ) (sheet : WrittenSheet) (text : List ℕ) → IfSome known (λ bytes. MeansSheet bytes (Ok sheet)) → text ≡ screen_text profile sheet.words sheet.clubs group
+pub shown : (profile : Profile) (known : Option (List ℕ)) (group : ℕ) (sheet : WrittenSheet) (text : List ℕ) → IfSome known (λ bytes. MeansSheet bytes (Ok sheet))
+    → text ≡ screen_text profile sheet.words sheet.clubs group
     → IfSome known (λ bytes. IsShown profile group bytes text)
 shown profile None group sheet text means is = tt
 shown profile (Some bytes) group sheet text means is = record { sheet = sheet; means = means; text_is = is }

@@ -80,7 +80,8 @@ module _ (number : ℕ → ℕ) where
   abbrev pub signed_match : MatchEntry → MatchEntry
   signed_match e = record { reporter = number e.reporter; kind = e.kind }
 
-  one_signed : (b : Bool) (e : Entry) (xs ys : List Entry) → map of_match ys ≡ map signed_match (map of_match xs) → map of_match (cond b (signed e ∷ ys) ys) ≡ map signed_match (map of_match (cond b (e ∷ xs) xs))
+  one_signed : (b : Bool) (e : Entry) (xs ys : List Entry) → map of_match ys ≡ map signed_match (map of_match xs)
+      → map of_match (cond b (signed e ∷ ys) ys) ≡ map signed_match (map of_match (cond b (e ∷ xs) xs))
   one_signed true e xs ys same = ap (λ (z : List MatchEntry). signed_match (of_match e) ∷ z) same
   one_signed false e xs ys same = same
 
@@ -122,8 +123,8 @@ module _ (number : ℕ → ℕ) where
 
   row_signed : (h : List Entry) (row : NightEvent) → after_attempt (map signed h) (attempt_by number row) ≡ map signed (after_attempt h (attempt_of row))
   row_signed h row =
-      ap (λ (b : Bool). cond b (followed_by (map signed h) (entry_of (attempt_by number row))) (map signed h)) (reply_signed h row.call)
-      ∙ one_entered (is_ok (sequential_reply h row.call)) h (entry_of (attempt_of row))
+      ap (λ (b : Bool). cond b (followed_by (map signed h) (entry_of (number row.reporter) row.call)) (map signed h)) (reply_signed h row.call)
+      ∙ one_entered (is_ok (sequential_reply h row.call)) h (entry_of row.reporter row.call)
 
   rows_signed : (h : List Entry) (rows : List NightEvent) → fold after_attempt (map signed h) (map (attempt_by number) rows) ≡ map signed (fold after_attempt h (map attempt_of rows))
   rows_signed h [] = refl
@@ -173,11 +174,12 @@ module _ (P : ℕ → Type 0) where
   entered_all true h e is all = All-push (λ (x : Entry). P x.reporter) h e all is
   entered_all false h e is all = all
 
-  rows_all : (h : List Entry) (rows : List NightEvent) → All (λ (row : NightEvent). P row.reporter) rows → All (λ (x : Entry). P x.reporter) h → All (λ (x : Entry). P x.reporter) (fold after_attempt h (map attempt_of rows))
+  rows_all : (h : List Entry) (rows : List NightEvent) → All (λ (row : NightEvent). P row.reporter) rows → All (λ (x : Entry). P x.reporter) h
+      → All (λ (x : Entry). P x.reporter) (fold after_attempt h (map attempt_of rows))
   rows_all h [] none all = all
   rows_all h (row ∷ rows) each all =
       rows_all (after_attempt h (attempt_of row)) rows (All-tail (λ (x : NightEvent). P x.reporter) row rows each)
-      (entered_all (is_ok (sequential_reply h row.call)) h (entry_of (attempt_of row)) (All-head (λ (x : NightEvent). P x.reporter) row rows each) all)
+      (entered_all (is_ok (sequential_reply h row.call)) h (entry_of row.reporter row.call) (All-head (λ (x : NightEvent). P x.reporter) row rows each) all)
 
   pub night_all : (rows : List NightEvent) → All (λ (row : NightEvent). P row.reporter) rows → All (λ (x : Entry). P x.reporter) (accepted_of (map attempt_of rows))
   night_all rows each = rows_all [] rows each (All-nil (λ (x : Entry). P x.reporter))

@@ -4,15 +4,15 @@ use Rattle.ucl_word.specs.declared.event.EventCall.{EventCall}
 use Rattle.ucl_word.specs.declared.event.Accepted.{Accepted}
 use Rattle.ucl_word.specs.declared.refusal.Refusal.{Refusal}
 use Rattle.ucl_board.specs.declared.entry.Entry.{Entry}
-use Rattle.ucl_board.specs.History.{IsLegal, Attempt, after_attempt, accepted_of, board_of, sequential_reply}
+use Rattle.ucl_board.specs.History.{IsLegal, Attempt, attempted, after_attempt, accepted_of, board_of, sequential_reply}
 use Rattle.ucl_screen.specs.declared.night.NightEvent.{NightEvent}
-use Rattle.ucl_screen.specs.Script.{Script}
+use Rattle.ucl_screen.specs.Script.{Script, first_event_row}
 use Rattle.ucl_screen.specs.Parsing.{MeansNight}
 use Rattle.ucl_runs.specs.Lines.{accepted_line, refused_line, word_line}
 
 -- who enters the event of a row, and the event
 abbrev pub attempt_of : NightEvent → Attempt
-attempt_of event = (event.reporter, event.call)
+attempt_of event = attempted event.reporter event.call
 
 -- the line of a reply, where so many events were accepted before: an accepted one raises the version by one
 abbrev pub line_of_reply : ℕ → ℕ → ℕ → Result Accepted Refusal → List ℕ
@@ -35,7 +35,7 @@ word_lines index (word ∷ words) = word_line index word ++ word_lines (index + 
 
 -- the events of a script begin in row 5
 abbrev pub feed_text : List NightEvent → List ℕ
-feed_text events = reply_lines 5 [] events ++ word_lines 1 (board_of (accepted_of (map attempt_of events)))
+feed_text events = reply_lines first_event_row [] events ++ word_lines 1 (board_of (accepted_of (map attempt_of events)))
 
 -- the input is a script, and this is the text of `feed`
 pub record IsFed (bytes text : List ℕ) : Type 0 where

@@ -3,21 +3,17 @@ use Rattle.std.specs.Prelude.{◌≡◌, ℕ, ◌==◌, ◌<◌, ◌≤◌, ◌%
 use Rattle.ucl_board.specs.declared.entry.Entry.{Entry}
 use Rattle.ucl_board.specs.declared.reading.Reading.{Reading}
 use Rattle.ucl_board.specs.History.{IsLegal, board_of, snapshot_at}
-use Rattle.ucl_order.specs.declared.profile.Profile.{Profile}
-use Rattle.ucl_order.specs.Roster.{NamedClub}
 use Rattle.ucl_screen.specs.declared.night.NightEvent.{NightEvent}
-use Rattle.ucl_screen.specs.Screen.{screen_text}
+use Rattle.ucl_runs.specs.Styles.{Style, styled_screen}
 
--- a reading is of a beginning of a legal history, and a text is the screen of its board
+-- a reading is of a beginning of a legal history, and a text is the screen of its board in some style
 pub record IsScreenOf (reading : Reading) (text : List ℕ) : Type 0 where
   pub history : List Entry
   pub legal : IsLegal history
   pub within : reading.version ≤ length history
   pub snapshot : reading ≡ snapshot_at history reading.version
-  pub profile : Profile
-  pub roster : List NamedClub
-  pub group : ℕ
-  pub text_is : text ≡ screen_text profile reading.board roster group
+  pub style : Style
+  pub text_is : text ≡ styled_screen style reading.board
 
 -- how many rows of a script are of a reporter
 abbrev pub rows_by : ℕ → List NightEvent → ℕ
@@ -28,8 +24,9 @@ abbrev pub CameTo : (ℕ → ℕ → Type 0) → ℕ → ℕ → Type 0
 CameTo came worker calls = (call : ℕ) → call < calls → came worker (call % 2 ^ 32)
 
 -- of a history each of these versions was shown by a worker, with the screen of its board
-abbrev pub Showed : (ℕ → Reading → List ℕ → Type 0) → ℕ → Profile → List Entry → List ℕ → List NamedClub → ℕ → Type 0
-Showed shown worker profile history versions roster group = All (λ version. shown worker (snapshot_at history version) (screen_text profile (board_of (take version history)) roster group)) versions
+abbrev pub Showed : (ℕ → Reading → List ℕ → Type 0) → ℕ → Style → List Entry → List ℕ → Type 0
+Showed showed worker style history versions =
+    All (λ version. showed worker (snapshot_at history version) (styled_screen style (board_of (take version history)))) versions
 
 -- each worker of a night came to all of its calls: the reporters, 1 and 2, to one for each of their rows, and the readers, 3 and 4, to one
 -- for each reading

@@ -1,6 +1,7 @@
 pub mod Faults
 pub mod Lines
 pub mod Feed
+pub mod Styles
 pub mod Nights
 pub mod Gates
 pub mod Workers

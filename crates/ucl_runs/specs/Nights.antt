@@ -4,15 +4,14 @@ use Rattle.std.specs.List.Sorted.{IsNonDecreasing}
 use Rattle.std.specs.Result.{is_ok}
 use mathlib.Core.List.{IsPrefix}
 use Rattle.ucl_board.specs.declared.entry.Entry.{Entry}
-use Rattle.ucl_board.specs.History.{IsLegal, Attempt, entry_of, sequential_reply, accepted_of, board_of}
-use Rattle.ucl_order.specs.declared.profile.Profile.{Profile}
-use Rattle.ucl_order.specs.Roster.{NamedClub}
+use Rattle.ucl_board.specs.History.{IsLegal, Attempt, attempted, entry_of, sequential_reply, accepted_of, board_of}
 use Rattle.ucl_screen.specs.declared.night.NightEvent.{NightEvent}
-use Rattle.ucl_screen.specs.Screen.{screen_text}
+use Rattle.ucl_screen.specs.Script.{first_event_row}
 use Rattle.ucl_shared.specs.Passes.{PassView, IsSound, SeesOn, Continues, kept_pass, split_pass}
 use Rattle.ucl_shared.specs.Shares.{first_half, second_half}
 use Rattle.ucl_runs.specs.declared.fault.RunFault.{RunFault}
 use Rattle.ucl_runs.specs.Run.{MatchDuty}
+use Rattle.ucl_runs.specs.Styles.{Style, styled_screen}
 
 -- the numbers on the board that stand for reporters 1 and 2 of the script
 abbrev pub number_of_two : ℕ → ℕ → ℕ → ℕ
@@ -20,7 +19,7 @@ number_of_two first second reporter = if reporter == 1 then first else second
 
 -- what a row attempts, by the number of its reporter
 abbrev pub attempt_by : (ℕ → ℕ) → NightEvent → Attempt
-attempt_by number row = (number row.reporter, row.call)
+attempt_by number row = attempted (number row.reporter) row.call
 
 -- a row of reporter 1 or 2
 abbrev pub IsOnDuty : NightEvent → Type 0
@@ -29,12 +28,12 @@ IsOnDuty row = (row.reporter ≡ 1) ⊎ (row.reporter ≡ 2)
 -- an attempt is refused after the first p entries of a history
 pub record IsRefusedAt (history : List Entry) (a : Attempt) (p : ℕ) : Type 0 where
   pub within : p ≤ length history
-  pub reply : is_ok (sequential_reply (take p history) a.1) ≡ false
+  pub reply : is_ok (sequential_reply (take p history) a.call) ≡ false
 
 -- an attempt is accepted after the first p entries of a history, and is entry p, counted from 0
 pub record IsEnteredAt (history : List Entry) (a : Attempt) (p : ℕ) : Type 0 where
-  pub entry : slice_get history p ≡ Some (entry_of a)
-  pub reply : is_ok (sequential_reply (take p history) a.1) ≡ true
+  pub entry : slice_get history p ≡ Some (entry_of a.reporter a.call)
+  pub reply : is_ok (sequential_reply (take p history) a.call) ≡ true
 
 -- an attempt has its point in a history
 abbrev pub TakesPlace : List Entry → Attempt → ℕ → Type 0
@@ -107,7 +106,7 @@ pub record IsOwnRow (number reporter : ℕ) (rows : List NightEvent) (point : �
   pub here : slice_get rows index ≡ Some row
   pub theirs : row.reporter ≡ reporter
   pub point_is : point index ≡ p
-  pub entered : IsEnteredAt history (number, row.call) p
+  pub entered : IsEnteredAt history (attempted number row.call) p
 
 -- the readers' passes as they were split off the lent one, which had given a pass to reporter 2 before
 abbrev pub pass_of_reader_1 : PassView → PassView
@@ -137,33 +136,32 @@ pub record HasEntered (k m : PassView) (reporter : ℕ) (rows : List NightEvent)
   pub always : Continues k m
   pub shown : m.shown ≡ k.shown
   pub point : ℕ → ℕ
-  pub each : (i : ℕ) (row : NightEvent) → slice_get rows i ≡ Some row → row.reporter ≡ reporter → TakesPlace m.seen (k.number, row.call) (point i)
+  pub each : (i : ℕ) (row : NightEvent) → slice_get rows i ≡ Some row → row.reporter ≡ reporter → TakesPlace m.seen (attempted k.number row.call) (point i)
   pub in_order : (i j : ℕ) (row next : NightEvent) → slice_get rows i ≡ Some row → slice_get rows j ≡ Some next → i < j → row.reporter ≡ reporter → next.reporter ≡ reporter
-      → ComesFirst m.seen (k.number, row.call) (point i) (point j)
+      → ComesFirst m.seen (attempted k.number row.call) (point i) (point j)
   pub entries : (p : ℕ) (e : Entry) → slice_get m.seen p ≡ Some e → e.reporter ≡ k.number → IsOwnRow k.number reporter rows point m.seen p
 
--- the last screen of a reader: none where no version was shown, else the screen of the board of the last version, in the order of the
--- profile
-pub record IsScreenOfLast (profile : Profile) (history : List Entry) (versions : List ℕ) (roster : List NamedClub) (group : ℕ) (text : List ℕ) : Type 0 where
+-- the last screen of a reader: none where no version was shown, else the screen of the board of the last version
+pub record IsScreenOfLast (style : Style) (history : List Entry) (versions text : List ℕ) : Type 0 where
   pub before : List ℕ
   pub version : ℕ
   pub last : versions ≡ before ++ version ∷ []
-  pub text_is : text ≡ screen_text profile (board_of (take version history)) roster group
+  pub text_is : text ≡ styled_screen style (board_of (take version history))
 
-abbrev pub IsLastScreen : Profile → List Entry → List ℕ → List NamedClub → ℕ → Option (List ℕ) → Type 0
-IsLastScreen profile history versions roster group None = versions ≡ []
-IsLastScreen profile history versions roster group (Some text) = IsScreenOfLast profile history versions roster group text
+abbrev pub IsLastScreen : Style → List Entry → List ℕ → Option (List ℕ) → Type 0
+IsLastScreen style history versions None = versions ≡ []
+IsLastScreen style history versions (Some text) = IsScreenOfLast style history versions text
 
 -- a reader's pass m, which came from k, has seen a beginning of a history and has shown so many of its versions, which never fall, none
 -- below what k had seen and none above what m has, and this is its last screen
-pub record HasShown (profile : Profile) (history : List Entry) (k m : PassView) (readings : ℕ) (roster : List NamedClub) (group : ℕ) (last : Option (List ℕ)) : Type 0 where
+pub record HasShown (style : Style) (history : List Entry) (k m : PassView) (readings : ℕ) (last : Option (List ℕ)) : Type 0 where
   pub on : SeesOn k m
   pub seen : IsPrefix m.seen history
   pub many : length m.shown ≡ readings
   pub rises : IsNonDecreasing m.shown
   pub low : All (λ version. length k.seen ≤ version) m.shown
   pub high : All (λ version. version ≤ length m.seen) m.shown
-  pub last_is : IsLastScreen profile history m.shown roster group last
+  pub last_is : IsLastScreen style history m.shown last
 
 -- a row is the first whose reporter is not on duty: event i, counted from 1, is row i + 4
 pub record IsFirstOffDuty (rows : List NightEvent) (row : ℕ) : Type 0 where
@@ -173,7 +171,7 @@ pub record IsFirstOffDuty (rows : List NightEvent) (row : ℕ) : Type 0 where
   pub rows_are : rows ≡ before ++ event ∷ after
   pub on_duty : All IsOnDuty before
   pub off_duty : IsOnDuty event → ⊥
-  pub row_is : row ≡ length before + 5
+  pub row_is : row ≡ length before + first_event_row
 
 -- a fault tells the first row whose reporter is not on duty where there is one, and where there is none it is another fault
 abbrev pub IsDutyTold : List NightEvent → RunFault → Type 0

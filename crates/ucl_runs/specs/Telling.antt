@@ -1,6 +1,7 @@
 -- What is told on an error sink.
-use Rattle.std.specs.Prelude.{◌≡◌, ◌⊎◌, ℕ, ◌+◌, ◌<◌, ◌≤◌, Bool, true, false, List, [], ◌++◌, length, take, Option, Some, None, codes, decimal}
+use Rattle.std.specs.Prelude.{◌≡◌, ◌⊎◌, ℕ, ◌+◌, ◌≤◌, Bool, true, false, List, [], ◌++◌, Option, Some, None, codes, decimal}
 use Rattle.std.specs.Io.KnownBytes.{Appends}
+use Rattle.ucl_screen.specs.Stream.{WroteFirst}
 use Rattle.ucl_runs.specs.declared.fault.RunFault.{RunFault}
 use Rattle.ucl_runs.specs.declared.telling.FaultLine.{FaultLine}
 use Rattle.ucl_runs.specs.Faults.{fault_text}
@@ -9,8 +10,7 @@ use Rattle.ucl_runs.specs.Faults.{fault_text}
 pub record BrokeOff (failed : Bool) (old new : Option (List ℕ)) (text : List ℕ) : Type 0 where
   pub failed_is : failed ≡ true
   pub count : ℕ
-  pub cut : count < length text
-  pub out : Appends old new (take count text)
+  pub first : WroteFirst old new count text
 
 -- a text was told on the error sink, as far as it took any
 abbrev pub Tells : Bool → Option (List ℕ) → Option (List ℕ) → List ℕ → Type 0

@@ -1,22 +1,22 @@
 //! Runs of `feed`.
 
-ghost use Rattle.std.specs.Prelude.{◌≡◌, ◌≤◌, ◌+◌, ◌++◌, List, [], map, length, IfOk, IfErr, IsErrOf, OnOk, true, string_bytes};
-ghost use Rattle.std.specs.Io.KnownBytes.{Appends};
+ghost use Rattle.std.specs.Prelude.{◌≡◌, ◌≤◌, ◌++◌, List, [], map, length, IfOk, IfErr, OnOk, string_bytes};
 ghost use Rattle.ucl_board.specs.declared.entry.Entry.{Entry};
 ghost use Rattle.ucl_board.specs.Words.{greatest_version};
 ghost use Rattle.ucl_board.specs.History.{after_attempt, accepted_of, board_of};
-ghost use Rattle.ucl_screen.specs.Input.{Reads};
+ghost use Rattle.ucl_screen.specs.Input.{most_bytes};
+ghost use Rattle.ucl_screen.specs.Script.{first_event_row};
 ghost use Rattle.ucl_screen.specs.Parsing.{MeansNight, night_seen};
 ghost use Rattle.ucl_runs.specs.Faults.{IsOfOneThread};
 ghost use Rattle.ucl_runs.specs.Feed.{IsBoardAfter, IsFed, attempt_of, feed_text, reply_line, reply_lines, word_lines};
-ghost use Rattle.ucl_runs.specs.Run.{IfInput, IfWriteFailed, TextHas, UnlessWriteFailed, WroteFirst, is_read_failed};
+ghost use Rattle.ucl_runs.specs.Run.{BlamesInput, BlamesOutput, CallsWithin, TellsMemoryApart, WritesAll, WritesFirst, WritesNothing, is_read_failed};
 
 use crate::RunFault;
 use crate::lines::{push_accepted, push_refused, push_word};
 use crate::output::put_text;
 use std::alloc::{AllocError, Global};
 use ucl_board::Board;
-use ucl_screen::{InputFault, NightEvent, Sink, Source, read_night};
+use ucl_screen::{FIRST_EVENT_ROW, InputFault, NightEvent, Sink, Source, read_night};
 
 /// Enters the event of a row on a board of this version, and writes its reply line. Gives the version afterwards.
 #[tactic(auto, unfolding(crate::specs::Feed::reply_line))]
@@ -28,8 +28,10 @@ fn push_reply(
     event: &NightEvent,
 ) -> Result<u16, AllocError>
     requires { version ≤ greatest_version }
-    ensures line { (h : List Entry) → IsBoardAfter h board.old version → OnOk result (string_bytes out.new ≡ string_bytes out.old ++ reply_line row h event.now.call) }
-    ensures after { (h : List Entry) → IsBoardAfter h board.old version → IfOk result (IsBoardAfter (after_attempt h (attempt_of event.now)) board.new) }
+    ensures line { (h : List Entry) → IsBoardAfter h board.old version → OnOk result
+        (string_bytes out.new ≡ string_bytes out.old ++ reply_line row h event.now.call) }
+    ensures after { (h : List Entry) → IsBoardAfter h board.old version → IfOk result
+        (IsBoardAfter (after_attempt h (attempt_of event.now)) board.new) }
 {
     match board.report(event.reporter, &event.call) {
         Ok(accepted) => {
@@ -46,13 +48,15 @@ fn push_reply(
 
 /// Enters the events in turn on a fresh board, and writes their reply lines. Gives the board afterwards.
 fn push_replies(out: &mut String, events: &[NightEvent]) -> Result<Board, AllocError>
-    requires { length events.now ≤ 4194304 }
-    ensures lines { OnOk result (string_bytes out.new ≡ string_bytes out.old ++ reply_lines 5 [] events.now) }
-    ensures after { IfOk result (λ board. board ≡ board_of (accepted_of (map attempt_of events.now))) }
+    requires { length events.now ≤ most_bytes }
+    ensures lines { OnOk result (string_bytes out.new
+        ≡ string_bytes out.old ++ reply_lines first_event_row [] events.now) }
+    ensures after { IfOk result (λ board.
+        board ≡ board_of (accepted_of (map attempt_of events.now))) }
 {
     let mut board = Board::fresh();
     let mut version: u16 = 0;
-    let mut row: u32 = 5;
+    let mut row = u32::from(FIRST_EVENT_ROW);
     for event in events {
         version = push_reply(out, &mut board, version, row, event)?;
         row += 1;
@@ -63,7 +67,8 @@ fn push_replies(out: &mut String, events: &[NightEvent]) -> Result<Board, AllocE
 /// Writes a line for each match word. The first has index 1.
 fn push_words(out: &mut String, words: &[u64]) -> Result<(), AllocError>
     requires { length words.now ≤ 12 }
-    ensures { OnOk result (string_bytes out.new ≡ string_bytes out.old ++ word_lines 1 words.now) }
+    ensures { OnOk result
+        (string_bytes out.new ≡ string_bytes out.old ++ word_lines 1 words.now) }
 {
     let mut index: u8 = 1;
     for word in words {
@@ -75,7 +80,7 @@ fn push_words(out: &mut String, words: &[u64]) -> Result<(), AllocError>
 
 /// The text that the events give.
 fn feed_text(alloc: Global, events: &[NightEvent]) -> Result<String, AllocError>
-    requires { length events.now ≤ 4194304 }
+    requires { length events.now ≤ most_bytes }
     ensures { IfOk result (λ text. string_bytes text ≡ feed_text events.now) }
 {
     let mut text = String::new(alloc);
@@ -98,24 +103,28 @@ pub fn feed_run<S: Source, W: Sink>(
     source: &mut S,
     sink: &mut W,
 ) -> Result<(), RunFault>
-    ensures text { OnOk result (TextHas IsFed (S.left source.old) (Appends (W.taken sink.old) (W.taken sink.new))) }
+    ensures text { WritesAll IsFed (S.left source.old)
+        (W.taken sink.old) (W.taken sink.new) result }
 
     // Only the input, memory and the output can fail.
     ensures kinds { IfErr result IsOfOneThread }
 
     // Why the input is refused, and that then, as where there is no memory, nothing is written.
-    ensures input { IfErr result (λ f. IfInput f (λ e. Reads MeansNight night_seen (S.left source.old) (S.left source.new) (S.failed source.new) (Err e))) }
-    ensures unwritten { IfErr result (λ f. UnlessWriteFailed f (sink.new ≡ sink.old)) }
+    ensures input { BlamesInput MeansNight night_seen (S.left source.old) (S.left source.new)
+        (S.failed source.new) result }
+    ensures unwritten { WritesNothing sink.old sink.new result }
 
     // Want of memory is not answered as an input fault.
-    ensures memory { IsErrOf result (RunFault.Input InputFault.OutOfMemory) → ⊥ }
+    ensures memory { TellsMemoryApart result }
 
     // A failed read is answered exactly where the source has failed, and a failed write only where the sink has.
     ensures read_failed { S.failed source.new ≡ is_read_failed result }
-    ensures write_failed { IfErr result (λ f. IfWriteFailed f (λ written. W.failed sink.new ≡ true)) }
-    ensures written { IfErr result (λ f. IfWriteFailed f (λ written. TextHas IsFed (S.left source.old) (WroteFirst (W.taken sink.old) (W.taken sink.new) written))) }
+    ensures write_failed { BlamesOutput (W.failed sink.new) result }
+    ensures written { WritesFirst IsFed (S.left source.old)
+        (W.taken sink.old) (W.taken sink.new) result }
 
-    ensures calls { S.calls source.new ≤ S.calls source.old + 4194306 }
+    // Each byte takes at most one call of the source.
+    ensures calls { CallsWithin (S.calls source.old) (S.calls source.new) }
 {
     let night = read_night(alloc, source)?;
     let text = feed_text(alloc, &night.events)?;

@@ -7,7 +7,7 @@ use ucl_board::Reading;
 /// What the workers of a night tell of their calls, in threads of their own. Workers 1 and 2 are the reporters, 3 and 4 the
 /// readers. What a night promises holds whatever a gate does: it may wait, count or write down what it is told. But it can hold workers up, and
 /// so decide which merge of the rows comes out, and whether the night ends. It may rely on what it is shown: no text is told to it but
-/// the screen of the reading beside it, which is the board after a beginning of a legal history.
+/// the screen of the reading beside it, which is the board after a prefix of a legal history.
 pub trait Gate: Sync {
     ghost use Rattle.std.specs.Prelude.{ℕ, List};
     ghost use Rattle.ucl_board.specs.declared.reading.Reading.{Reading};

@@ -14,14 +14,16 @@ pub fn push_accepted(
     number: u16,
     version: u16,
 ) -> Result<(), AllocError>
-    ensures { OnOk result (string_bytes out.new ≡ string_bytes out.old ++ accepted_line row game number version) }
+    ensures { OnOk result (string_bytes out.new
+        ≡ string_bytes out.old ++ accepted_line row game number version) }
 {
     write!(out, "{row} ok {game} {number} {version}\n")
 }
 
 /// Writes the line of an event that was refused.
 pub fn push_refused(out: &mut String, row: u32, refusal: Refusal) -> Result<(), AllocError>
-    ensures { OnOk result (string_bytes out.new ≡ string_bytes out.old ++ refused_line row refusal) }
+    ensures { OnOk result
+        (string_bytes out.new ≡ string_bytes out.old ++ refused_line row refusal) }
 {
     write!(out, "{row} refused {refusal}\n")
 }

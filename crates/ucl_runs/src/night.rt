@@ -10,21 +10,20 @@ ghost use Rattle.ucl_runs.specs.Faults.{IsOfNight};
 ghost use Rattle.ucl_runs.specs.Gates.{HaveCalled, Showed, rows_by};
 ghost use Rattle.ucl_runs.specs.Nights.{HasShown, HaveEnteredAll, HaveMerged, HaveNightBoard, HaveRead, HaveShares, IsDutyTold, IsFirstOffDuty, IsOnDuty, last_shown, night_history, night_output, pass_of_reader_1, pass_of_reader_2};
 ghost use Rattle.ucl_runs.specs.Run.{IsStopped, MatchDuty};
+ghost use Rattle.ucl_runs.specs.Styles.{styled};
 
 use crate::RunFault;
 use crate::gate::Gate;
 use crate::output::{put_lasts, put_under};
-use crate::threads::{Handed, work};
+use crate::threads::{Workers, work};
+use crate::workers::Plan;
 use std::alloc::Global;
 use std::sync::Wait;
 use std::thread::Threads;
 use ucl_board::Reading;
 use ucl_order::Profile;
-use ucl_screen::{Night, NightEvent, Sink, screen};
+use ucl_screen::{FIRST_EVENT_ROW, Night, NightEvent, Sink, screen};
 use ucl_shared::{LiveBoard, settle};
-
-/// The row of the first event of a script.
-const FIRST_EVENT_ROW: usize = 5;
 
 /// The reporters of a night are 1 and this one.
 const LAST_ON_DUTY: u8 = 2;
@@ -50,12 +49,13 @@ pub struct NightEnd<R, P> {
 
 /// Refuses a script with a row of a reporter who is not on duty, and tells the first such row.
 fn check_duty(rows: &[NightEvent]) -> Result<(), RunFault>
-    ensures { MatchResult result (λ _. All IsOnDuty rows.now) (λ f. MatchDuty f (IsFirstOffDuty rows.now) ⊥) }
+    ensures { MatchResult result (λ _. All IsOnDuty rows.now)
+        (λ f. MatchDuty f (IsFirstOffDuty rows.now) ⊥) }
 {
     for (index, event) in rows.iter().enumerate() {
         if event.reporter.get() > LAST_ON_DUTY {
             return Err(RunFault::NotOnDuty {
-                row: FIRST_EVENT_ROW + index,
+                row: usize::from(FIRST_EVENT_ROW) + index,
             });
         }
     }
@@ -67,9 +67,8 @@ fn check_duty(rows: &[NightEvent]) -> Result<(), RunFault>
 /// reporters settle: so what was shown is of the history that is settled.
 ///
 /// `pass` is a reader's pass of the board. It is split three times, and it and one of the others are enlisted, before any
-/// thread starts. `group` has to be the letter of a group. All screens are in the order of
-/// the profile. The gate is told of each call and each screen. Replies to reporters
-/// are not looked at. The call may wait, and what it promises holds where it returns.
+/// thread starts. `group` has to be the letter of a group. All screens are in the order of the profile. The gate is told of each
+/// call and each screen. Replies to reporters are not looked at. The call may wait, and what it promises holds where it returns.
 ///
 /// # Errors
 ///
@@ -96,79 +95,107 @@ pub fn night_run<B: LiveBoard, G: Gate, R: Threads + Wait + Sync>(
     ensures kinds { IfErr result IsOfNight }
 
     // A row of a reporter who is not on duty is told exactly where there is one, and the first is.
-    ensures duty { MatchResult result (λ _. All IsOnDuty night.entry.now.events.items) (IsDutyTold night.entry.now.events.items) }
+    ensures duty { MatchResult result (λ _. All IsOnDuty night.entry.now.events.items)
+        (IsDutyTold night.entry.now.events.items) }
 
     // The four passes are of the board that was lent, and the reporters' numbers differ.
-    ensures own_readers { IfOk result (λ end. B.is_reader board.entry.now end.reader_1 × B.is_reader board.entry.now end.reader_2) }
-    ensures own_reporters { IfOk result (λ end. B.is_reporter board.entry.now end.reporter_1 × B.is_reporter board.entry.now end.reporter_2) }
-    ensures apart { IfOk result (λ end. (B.reporter end.reporter_1).number ≢ (B.reporter end.reporter_2).number) }
+    ensures own_readers { IfOk result (λ end. B.is_reader board.entry.now end.reader_1
+        × B.is_reader board.entry.now end.reader_2) }
+    ensures own_reporters { IfOk result (λ end. B.is_reporter board.entry.now end.reporter_1
+        × B.is_reporter board.entry.now end.reporter_2) }
+    ensures apart { IfOk result (λ end.
+        (B.reporter end.reporter_1).number ≢ (B.reporter end.reporter_2).number) }
 
     // The history that was settled is a merge of the rows, the settled reading is of it, and the closing screen is of that.
-    ensures merge { IfOk result (λ end. HaveMerged (B.reporter end.reporter_1) (B.reporter end.reporter_2) night.entry.now.events.items end.settled.version) }
-    ensures settled { IfOk result (λ end. end.settled ≡ snapshot_at (B.reporter end.reporter_2).seen end.settled.version) }
-    ensures closing { IfOk result (λ end. string_bytes end.closing ≡ screen_text profile end.settled.board night.entry.now.roster group) }
+    ensures merge { IfOk result (λ end. HaveMerged (B.reporter end.reporter_1)
+        (B.reporter end.reporter_2) night.entry.now.events.items end.settled.version) }
+    ensures settled { IfOk result (λ end.
+        end.settled ≡ snapshot_at (B.reporter end.reporter_2).seen end.settled.version) }
+    ensures closing { IfOk result (λ end. string_bytes end.closing
+        ≡ screen_text profile end.settled.board night.entry.now.roster group) }
 
     // Reporter 2's pass has seen the settled history, and both reporters have entered just its events: none after it.
-    ensures count { IfOk result (λ end. HaveEnteredAll (B.reporter end.reporter_1) (B.reporter end.reporter_2) end.settled.version) }
+    ensures count { IfOk result (λ end. HaveEnteredAll (B.reporter end.reporter_1)
+        (B.reporter end.reporter_2) end.settled.version) }
 
     // Each row was entered once: the reporters' passes have reported as many events as they have rows.
-    ensures reports { IfOk result (λ end. B.has_reported end.reporter_1 (rows_by 1 night.entry.now.events.items) × B.has_reported end.reporter_2 (rows_by 2 night.entry.now.events.items)) }
+    ensures reports { IfOk result (λ end.
+        B.has_reported end.reporter_1 (rows_by 1 night.entry.now.events.items)
+        × B.has_reported end.reporter_2 (rows_by 2 night.entry.now.events.items)) }
 
     // Reporter 1's pass has seen a beginning of the settled history.
-    ensures beginning { IfOk result (λ end. IsPrefix (B.reporter end.reporter_1).seen (night_history (B.reporter end.reporter_2) end.settled.version)) }
+    ensures beginning { IfOk result (λ end. IsPrefix (B.reporter end.reporter_1).seen
+        (night_history (B.reporter end.reporter_2) end.settled.version)) }
 
     // Of the reporters' passes, that of reporter 1 has shown nothing, and that of reporter 2 the settled version alone.
-    ensures readings { IfOk result (λ end. HaveRead (B.reporter end.reporter_1) (B.reporter end.reporter_2) end.settled.version) }
+    ensures readings { IfOk result (λ end. HaveRead (B.reporter end.reporter_1)
+        (B.reporter end.reporter_2) end.settled.version) }
 
     // Where each match has one reporter, the schedule does not matter.
-    ensures board { IfOk result (λ end. HaveNightBoard (B.reporter end.reporter_1) (B.reporter end.reporter_2) night.entry.now.events.items end.settled.board) }
+    ensures board { IfOk result (λ end. HaveNightBoard (B.reporter end.reporter_1)
+        (B.reporter end.reporter_2) night.entry.now.events.items end.settled.board) }
 
     // The four passes have the whole share of the pass that was lent: it was halved three times.
-    ensures shares { IfOk result (λ end. HaveShares (B.reader pass) (B.reporter end.reporter_1) (B.reporter end.reporter_2) (B.reader end.reader_1) (B.reader end.reader_2)) }
+    ensures shares { IfOk result (λ end. HaveShares (B.reader pass) (B.reporter end.reporter_1)
+        (B.reporter end.reporter_2) (B.reader end.reader_1) (B.reader end.reader_2)) }
 
     // What the readers showed are versions of the history that was settled, which has all that they and the lent pass have seen.
-    ensures shown_1 { IfOk result (λ end. HasShown profile (night_history (B.reporter end.reporter_2) end.settled.version) (pass_of_reader_1 (B.reader pass)) (B.reader end.reader_1) readings night.entry.now.roster group (last_shown end.last 0)) }
-    ensures shown_2 { IfOk result (λ end. HasShown profile (night_history (B.reporter end.reporter_2) end.settled.version) (pass_of_reader_2 (B.reader pass)) (B.reader end.reader_2) readings night.entry.now.roster group (last_shown end.last 1)) }
+    ensures shown_1 { IfOk result (λ end. HasShown (styled profile night.entry.now.roster group)
+        (night_history (B.reporter end.reporter_2) end.settled.version)
+        (pass_of_reader_1 (B.reader pass)) (B.reader end.reader_1)
+        readings (last_shown end.last 0)) }
+    ensures shown_2 { IfOk result (λ end. HasShown (styled profile night.entry.now.roster group)
+        (night_history (B.reporter end.reporter_2) end.settled.version)
+        (pass_of_reader_2 (B.reader pass)) (B.reader end.reader_2)
+        readings (last_shown end.last 1)) }
 
     // The gate was told of each call of each worker, and of the screen of each reading, which is of a version of the settled history.
-    ensures called { IfOk result (λ _. HaveCalled (G.came gate.entry.now) night.entry.now.events.items readings) }
-    ensures showed_1 { IfOk result (λ end. Showed (G.showed gate.entry.now) 3 profile (night_history (B.reporter end.reporter_2) end.settled.version) (B.reader end.reader_1).shown night.entry.now.roster group) }
-    ensures showed_2 { IfOk result (λ end. Showed (G.showed gate.entry.now) 4 profile (night_history (B.reporter end.reporter_2) end.settled.version) (B.reader end.reader_2).shown night.entry.now.roster group) }
+    ensures called { IfOk result (λ _. HaveCalled (G.came gate.entry.now)
+        night.entry.now.events.items readings) }
+    ensures showed_1 { IfOk result (λ end. Showed (G.showed gate.entry.now) 3
+        (styled profile night.entry.now.roster group)
+        (night_history (B.reporter end.reporter_2) end.settled.version)
+        (B.reader end.reader_1).shown) }
+    ensures showed_2 { IfOk result (λ end. Showed (G.showed gate.entry.now) 4
+        (styled profile night.entry.now.roster group)
+        (night_history (B.reporter end.reporter_2) end.settled.version)
+        (B.reader end.reader_2).shown) }
 {
     check_duty(&night.events)?;
-    let second = board.split(rt, &mut pass);
-    let left = board.split(rt, &mut pass);
-    let right = board.split(rt, &mut pass);
-    let first = board.enlist(rt, pass)?;
-    let second = board.enlist(rt, second)?;
-    let Handed {
-        reporters: (mut reporter_1, mut reporter_2),
-        readers: (left, right),
-    } = work(
-        rt,
-        alloc,
-        board,
-        (first, second),
-        (left, right),
-        &night.events,
-        &night.roster,
+    let reporter_2 = board.split(rt, &mut pass);
+    let reader_1 = board.split(rt, &mut pass);
+    let reader_2 = board.split(rt, &mut pass);
+    let lent = Workers {
+        reporter_1: board.enlist(rt, pass)?,
+        reporter_2: board.enlist(rt, reporter_2)?,
+        reader_1,
+        reader_2,
+    };
+    let plan = Plan {
+        night,
         group,
         readings,
-        gate,
         profile,
-    )?;
-    let mut left = left?;
-    let mut right = right?;
-    board.meet_reader(rt, &mut left.pass, &mut reporter_2);
-    board.meet_reader(rt, &mut right.pass, &mut reporter_2);
+        gate,
+    };
+    let Workers {
+        mut reporter_1,
+        mut reporter_2,
+        reader_1,
+        reader_2,
+    } = work(rt, alloc, board, lent, &plan)?;
+    let mut reader_1 = reader_1?;
+    let mut reader_2 = reader_2?;
+    board.meet_reader(rt, &mut reader_1.pass, &mut reporter_2);
+    board.meet_reader(rt, &mut reader_2.pass, &mut reporter_2);
     let settled = settle(board, rt, &mut reporter_1, &mut reporter_2)?;
     let closing = screen(alloc, &settled.board, &night.roster, group, profile)?;
     Ok(NightEnd {
-        last: [left.last, right.last],
+        last: [reader_1.last, reader_2.last],
         settled,
         closing,
-        reader_1: left.pass,
-        reader_2: right.pass,
+        reader_1: reader_1.pass,
+        reader_2: reader_2.pass,
         reporter_1,
         reporter_2,
     })
@@ -182,8 +209,10 @@ pub fn night_run<B: LiveBoard, G: Gate, R: Threads + Wait + Sync>(
 /// `WriteFailed`, only where the sink has failed: exactly the first `written` bytes of the output went out. (Were they more
 /// than `usize::MAX`, that would be told.) A sink that has failed is not called again, and none is called with nothing.
 pub fn put_night<R, P, W: Sink>(end: &NightEnd<R, P>, sink: &mut W) -> Result<(), RunFault>
-    ensures all { OnOk result (Appends (W.taken sink.old) (W.taken sink.new) (night_output end.now.last end.now.closing)) }
-    ensures part { IfErr result (IsStopped 0 (W.failed sink.new) (W.taken sink.old) (W.taken sink.new) (night_output end.now.last end.now.closing)) }
+    ensures all { OnOk result (Appends (W.taken sink.old) (W.taken sink.new)
+        (night_output end.now.last end.now.closing)) }
+    ensures part { IfErr result (IsStopped 0 (W.failed sink.new) (W.taken sink.old)
+        (W.taken sink.new) (night_output end.now.last end.now.closing)) }
     ensures sound { OnOk result (W.failed sink.new ≡ W.failed sink.old) }
     ensures vain { VainlyGives (W.in_vain sink.old) (W.in_vain sink.new) result }
 {

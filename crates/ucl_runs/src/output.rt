@@ -12,7 +12,8 @@ use ucl_screen::{Sink, give_all};
 /// Writes a whole text. A sink that has failed is not called again, and none is called with nothing.
 pub fn put_text<W: Sink>(sink: &mut W, text: &str) -> Result<(), RunFault>
     ensures all { OnOk result (Appends (W.taken sink.old) (W.taken sink.new) text.now) }
-    ensures part { IfErr result (IsCutShort (W.failed sink.new) (W.taken sink.old) (W.taken sink.new) text.now) }
+    ensures part { IfErr result (IsCutShort (W.failed sink.new) (W.taken sink.old)
+        (W.taken sink.new) text.now) }
     ensures sound { OnOk result (W.failed sink.new ≡ W.failed sink.old) }
     ensures vain { VainlyGives (W.in_vain sink.old) (W.in_vain sink.new) result }
 {
@@ -27,7 +28,8 @@ pub fn put_text<W: Sink>(sink: &mut W, text: &str) -> Result<(), RunFault>
 pub fn put_part<W: Sink>(sink: &mut W, before: usize, part: &str) -> Result<usize, RunFault>
     ensures all { OnOk result (Appends (W.taken sink.old) (W.taken sink.new) part.now) }
     ensures count { IfOk result (λ after. after ≡ min (before + length part.now) (2 ^ 64 - 1)) }
-    ensures part { IfErr result (IsStopped before (W.failed sink.new) (W.taken sink.old) (W.taken sink.new) part.now) }
+    ensures part { IfErr result (IsStopped before (W.failed sink.new) (W.taken sink.old)
+        (W.taken sink.new) part.now) }
     ensures sound { OnOk result (W.failed sink.new ≡ W.failed sink.old) }
     ensures vain { VainlyGives (W.in_vain sink.old) (W.in_vain sink.new) result }
 {
@@ -47,9 +49,13 @@ pub fn put_under<W: Sink>(
     heading: &str,
     text: &str,
 ) -> Result<usize, RunFault>
-    ensures all { OnOk result (Appends (W.taken sink.old) (W.taken sink.new) (heading.now ++ text.now)) }
-    ensures count { IfOk result (λ after. after ≡ min (before + length (heading.now ++ text.now)) (2 ^ 64 - 1)) }
-    ensures part { IfErr result (IsStopped before (W.failed sink.new) (W.taken sink.old) (W.taken sink.new) (heading.now ++ text.now)) }
+    ensures all { OnOk result (Appends (W.taken sink.old) (W.taken sink.new)
+        (heading.now ++ text.now)) }
+    ensures count { IfOk result (λ after. after ≡ min (before + length
+        (heading.now ++ text.now)) (2 ^ 64 - 1)) }
+    ensures part { IfErr result (IsStopped before (W.failed sink.new)
+        (W.taken sink.old) (W.taken sink.new)
+        (heading.now ++ text.now)) }
     ensures sound { OnOk result (W.failed sink.new ≡ W.failed sink.old) }
     ensures vain { VainlyGives (W.in_vain sink.old) (W.in_vain sink.new) result }
 {
@@ -65,8 +71,11 @@ pub fn put_line<W: Sink>(
     number: &str,
     after: &str,
 ) -> Result<usize, RunFault>
-    ensures all { OnOk result (Appends (W.taken sink.old) (W.taken sink.new) ((before.now ++ number.now) ++ (after.now ++ codes "\n"))) }
-    ensures part { IfErr result (IsStopped 0 (W.failed sink.new) (W.taken sink.old) (W.taken sink.new) ((before.now ++ number.now) ++ (after.now ++ codes "\n"))) }
+    ensures all { OnOk result (Appends (W.taken sink.old) (W.taken sink.new)
+        ((before.now ++ number.now) ++ (after.now ++ codes "\n"))) }
+    ensures part { IfErr result (IsStopped 0 (W.failed sink.new)
+        (W.taken sink.old) (W.taken sink.new)
+        ((before.now ++ number.now) ++ (after.now ++ codes "\n"))) }
     ensures sound { OnOk result (W.failed sink.new ≡ W.failed sink.old) }
     ensures vain { VainlyGives (W.in_vain sink.old) (W.in_vain sink.new) result }
 {
@@ -81,9 +90,13 @@ pub fn put_last<W: Sink>(
     heading: &str,
     last: &Option<String>,
 ) -> Result<usize, RunFault>
-    ensures all { OnOk result (Appends (W.taken sink.old) (W.taken sink.new) (last_text heading.now (option_map string_bytes last.now))) }
-    ensures count { IfOk result (λ after. after ≡ min (before + length (last_text heading.now (option_map string_bytes last.now))) (2 ^ 64 - 1)) }
-    ensures part { IfErr result (IsStopped before (W.failed sink.new) (W.taken sink.old) (W.taken sink.new) (last_text heading.now (option_map string_bytes last.now))) }
+    ensures all { OnOk result (Appends (W.taken sink.old) (W.taken sink.new)
+        (last_text heading.now (option_map string_bytes last.now))) }
+    ensures count { IfOk result (λ after. after ≡ min (before + length
+        (last_text heading.now (option_map string_bytes last.now))) (2 ^ 64 - 1)) }
+    ensures part { IfErr result (IsStopped before (W.failed sink.new)
+        (W.taken sink.old) (W.taken sink.new)
+        (last_text heading.now (option_map string_bytes last.now))) }
     ensures sound { OnOk result (W.failed sink.new ≡ W.failed sink.old) }
     ensures vain { VainlyGives (W.in_vain sink.old) (W.in_vain sink.new) result }
 {
@@ -96,9 +109,13 @@ pub fn put_last<W: Sink>(
 /// Writes the last screens of both readers, where there are any, and tells how many bytes are out then.
 #[tactic(auto, using(crate::proofs::Parts::stopped_first, crate::proofs::Parts::stopped_second))]
 pub fn put_lasts<W: Sink>(sink: &mut W, last: &[Option<String>; 2]) -> Result<usize, RunFault>
-    ensures all { OnOk result (Appends (W.taken sink.old) (W.taken sink.new) (lasts_text (last_shown last.now 0) (last_shown last.now 1))) }
-    ensures count { IfOk result (λ after. after ≡ min (length (lasts_text (last_shown last.now 0) (last_shown last.now 1))) (2 ^ 64 - 1)) }
-    ensures part { IfErr result (IsStopped 0 (W.failed sink.new) (W.taken sink.old) (W.taken sink.new) (lasts_text (last_shown last.now 0) (last_shown last.now 1))) }
+    ensures all { OnOk result (Appends (W.taken sink.old) (W.taken sink.new)
+        (lasts_text (last_shown last.now 0) (last_shown last.now 1))) }
+    ensures count { IfOk result (λ after. after ≡ min (length
+        (lasts_text (last_shown last.now 0) (last_shown last.now 1))) (2 ^ 64 - 1)) }
+    ensures part { IfErr result (IsStopped 0 (W.failed sink.new)
+        (W.taken sink.old) (W.taken sink.new)
+        (lasts_text (last_shown last.now 0) (last_shown last.now 1))) }
     ensures sound { OnOk result (W.failed sink.new ≡ W.failed sink.old) }
     ensures vain { VainlyGives (W.in_vain sink.old) (W.in_vain sink.new) result }
 {

@@ -1,13 +1,11 @@
 //! Runs of `show`.
 
-ghost use Rattle.std.specs.Prelude.{◌≡◌, ◌≤◌, ◌+◌, IfErr, IsErrOf, OnOk, true};
-ghost use Rattle.std.specs.Io.KnownBytes.{Appends};
-ghost use Rattle.ucl_screen.specs.Input.{Reads};
+ghost use Rattle.std.specs.Prelude.{◌≡◌, IfErr};
 ghost use Rattle.ucl_screen.specs.Parsing.{MeansSheet, sheet_seen};
 ghost use Rattle.ucl_screen.specs.Screen.{IsGroup};
 ghost use Rattle.ucl_runs.specs.Faults.{IsOfOneThread};
 ghost use Rattle.ucl_runs.specs.Show.{IsShown};
-ghost use Rattle.ucl_runs.specs.Run.{IfInput, IfWriteFailed, TextHas, UnlessWriteFailed, WroteFirst, is_read_failed};
+ghost use Rattle.ucl_runs.specs.Run.{BlamesInput, BlamesOutput, CallsWithin, TellsMemoryApart, WritesAll, WritesFirst, WritesNothing, is_read_failed};
 
 use crate::RunFault;
 use crate::output::put_text;
@@ -32,24 +30,28 @@ pub fn show_run<S: Source, W: Sink>(
     profile: Profile,
 ) -> Result<(), RunFault>
     requires { IsGroup group }
-    ensures text { OnOk result (TextHas (IsShown profile group) (S.left source.old) (Appends (W.taken sink.old) (W.taken sink.new))) }
+    ensures text { WritesAll (IsShown profile group) (S.left source.old)
+        (W.taken sink.old) (W.taken sink.new) result }
 
     // Only the input, memory and the output can fail.
     ensures kinds { IfErr result IsOfOneThread }
 
     // Why the input is refused, and that then, as where there is no memory, nothing is written.
-    ensures input { IfErr result (λ f. IfInput f (λ e. Reads MeansSheet sheet_seen (S.left source.old) (S.left source.new) (S.failed source.new) (Err e))) }
-    ensures unwritten { IfErr result (λ f. UnlessWriteFailed f (sink.new ≡ sink.old)) }
+    ensures input { BlamesInput MeansSheet sheet_seen (S.left source.old) (S.left source.new)
+        (S.failed source.new) result }
+    ensures unwritten { WritesNothing sink.old sink.new result }
 
     // Want of memory is not answered as an input fault.
-    ensures memory { IsErrOf result (RunFault.Input InputFault.OutOfMemory) → ⊥ }
+    ensures memory { TellsMemoryApart result }
 
     // A failed read is answered exactly where the source has failed, and a failed write only where the sink has.
     ensures read_failed { S.failed source.new ≡ is_read_failed result }
-    ensures write_failed { IfErr result (λ f. IfWriteFailed f (λ written. W.failed sink.new ≡ true)) }
-    ensures written { IfErr result (λ f. IfWriteFailed f (λ written. TextHas (IsShown profile group) (S.left source.old) (WroteFirst (W.taken sink.old) (W.taken sink.new) written))) }
+    ensures write_failed { BlamesOutput (W.failed sink.new) result }
+    ensures written { WritesFirst (IsShown profile group) (S.left source.old)
+        (W.taken sink.old) (W.taken sink.new) result }
 
-    ensures calls { S.calls source.new ≤ S.calls source.old + 4194306 }
+    // Each byte takes at most one call of the source.
+    ensures calls { CallsWithin (S.calls source.old) (S.calls source.new) }
 {
     let sheet = read_words(alloc, source)?;
     let text = screen(alloc, &sheet.board, &sheet.roster, group, profile)?;

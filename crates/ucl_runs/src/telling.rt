@@ -98,7 +98,8 @@ impl FaultLine {
 /// that has failed is not called again, and none is called with nothing.
 pub fn tell<E: Sink>(errors: &mut E, fault: RunFault) -> u8
     ensures status { result ≡ status fault }
-    ensures told { Tells (E.failed errors.new) (E.taken errors.old) (E.taken errors.new) (fault_line fault) }
+    ensures told { Tells (E.failed errors.new) (E.taken errors.old) (E.taken errors.new)
+        (fault_line fault) }
     ensures vain { VainlyTells (E.failed errors.new) (E.in_vain errors.old) (E.in_vain errors.new) }
 {
     let line = FaultLine::of(&fault);

@@ -33,10 +33,13 @@ fn report_and_note<B: LiveBoard, R: Wait>(
     requires { B.is_reporter board.now reporter.old }
     ensures own { B.is_reporter board.now reporter.new × B.is_note board.now result.1 }
     ensures always { Continues (B.reporter reporter.old) (B.reporter reporter.new) }
-    ensures accepted { IfOk result.0 (λ reply. AcceptedReport (B.reporter reporter.old) call.now reply (B.reporter reporter.new)) }
-    ensures refused { IfErr result.0 (λ refusal. RefusedReport (B.reporter reporter.old) call.now refusal (B.reporter reporter.new)) }
+    ensures accepted { IfOk result.0 (λ reply. AcceptedReport (B.reporter reporter.old)
+        call.now reply (B.reporter reporter.new)) }
+    ensures refused { IfErr result.0 (λ refusal. RefusedReport (B.reporter reporter.old)
+        call.now refusal (B.reporter reporter.new)) }
     ensures reported { ReportsMore (B.has_reported reporter.old) 1 (B.has_reported reporter.new) }
-    ensures told { IfOk result.0 (λ _. IsTold (B.noted result.1) (entry_of ((B.reporter reporter.old).number, call.now))) }
+    ensures told { IfOk result.0 (λ _. IsTold (B.noted result.1)
+        (entry_of (B.reporter reporter.old).number call.now)) }
 {
     let reply = board.report(rt, reporter, call);
     let note = board.note_own(rt, reporter);
@@ -70,12 +73,18 @@ pub fn report_and_show<B: LiveBoard, R: Threads + Wait + Sync>(
 ) -> ToldScreen<B::ReaderPass>
     requires { B.is_reporter board.now reporter.old × B.is_reader board.now screen }
     ensures own { B.is_reporter board.now reporter.new × B.is_reader board.now result.screen }
-    ensures always { Continues (B.reporter reporter.old) (B.reporter reporter.new) × Continues (B.reader screen) (B.reader result.screen) }
-    ensures accepted { IfOk result.reply (λ reply. AcceptedReport (B.reporter reporter.old) call.now reply (B.reporter reporter.new)) }
-    ensures refused { IfErr result.reply (λ refusal. RefusedReport (B.reporter reporter.old) call.now refusal (B.reporter reporter.new)) }
+    ensures always { Continues (B.reporter reporter.old) (B.reporter reporter.new)
+        × Continues (B.reader screen) (B.reader result.screen) }
+    ensures accepted { IfOk result.reply (λ reply. AcceptedReport (B.reporter reporter.old)
+        call.now reply (B.reporter reporter.new)) }
+    ensures refused { IfErr result.reply (λ refusal. RefusedReport (B.reporter reporter.old)
+        call.now refusal (B.reporter reporter.new)) }
     ensures reported { ReportsMore (B.has_reported reporter.old) 1 (B.has_reported reporter.new) }
-    ensures snapshot { result.reading ≡ snapshot_at (B.reader result.screen).seen result.reading.version }
-    ensures shown { IfOk result.reply (λ _. IsAmongFirst (B.reader result.screen).seen result.reading.version (entry_of ((B.reporter reporter.old).number, call.now))) }
+    ensures snapshot { result.reading
+        ≡ snapshot_at (B.reader result.screen).seen result.reading.version }
+    ensures shown { IfOk result.reply (λ _. IsAmongFirst
+        (B.reader result.screen).seen result.reading.version
+        (entry_of (B.reporter reporter.old).number call.now)) }
 {
     let (reply, note) = report_and_note(board, rt, reporter, call);
     let ((screen, reading), ()) = thread::join(

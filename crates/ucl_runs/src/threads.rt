@@ -5,105 +5,83 @@ ghost use Rattle.ucl_screen.specs.Screen.{IsGroup};
 ghost use Rattle.ucl_runs.specs.Workers.{IsFreshOn, IsNewOn, HasEnteredOn, HasShownOn, HasToldCalls, HasToldScreens};
 
 use crate::gate::Gate;
-use crate::workers::{Shown, enter_rows, show_screens};
+use crate::workers::{Plan, Shown, enter_rows, show_screens};
 use std::alloc::Global;
 use std::snapshot::Snapshot;
 use std::sync::Wait;
 use std::thread;
 use std::thread::{Promise, PromisedHandle, Scope, Threads};
-use ucl_order::{Profile, Roster};
-use ucl_screen::NightEvent;
 use ucl_shared::LiveBoard;
 use ucl_word::OutOfMemory;
 
 /// What a reporter's thread promises of the pass that it hands back.
 #[derive(Drop)]
-pub struct Entering<B: LiveBoard, G: Gate> {
+pub struct Entering<'n, B: LiveBoard, G: Gate> {
     board: Snapshot<B>,
-    gate: Snapshot<G>,
+    plan: Snapshot<Plan<'n, G>>,
     before: Snapshot<B::ReporterPass>,
-    rows: Snapshot<Vec<NightEvent>>,
     reporter: u8,
 }
 
-impl<B: LiveBoard, G: Gate> Entering<B, G> {
+impl<'n, B: LiveBoard, G: Gate> Entering<'n, B, G> {
     /// The promise of a reporter who enters its rows with this pass.
     fn of(
         board: &B,
-        gate: &G,
+        plan: &Plan<'n, G>,
         before: &B::ReporterPass,
-        rows: &Vec<NightEvent>,
         reporter: u8,
-    ) -> Entering<B, G>
+    ) -> Entering<'n, B, G>
         ensures board { result.board.value ≡ board.now }
-        ensures gate { result.gate.value ≡ gate.now }
+        ensures plan { result.plan.value ≡ plan.now }
         ensures before { result.before.value ≡ before.now }
-        ensures rows { result.rows.value ≡ rows.now }
         ensures reporter { result.reporter ≡ reporter }
     {
         Entering {
             board: Snapshot::of(board),
-            gate: Snapshot::of(gate),
+            plan: Snapshot::of(plan),
             before: Snapshot::of(before),
-            rows: Snapshot::of(rows),
             reporter,
         }
     }
 }
 
-impl<B: LiveBoard, G: Gate> Promise<B::ReporterPass> for Entering<B, G> {
-    ghost kept_by = { λ p pass. HasEnteredOn B.LiveBoard p.board.value p.before.value p.reporter p.rows.value.items pass × HasToldCalls B.LiveBoard G.Gate p.gate.value p.reporter p.rows.value.items };
+impl<'n, B: LiveBoard, G: Gate> Promise<B::ReporterPass> for Entering<'n, B, G> {
+    ghost kept_by = { λ p pass.
+        HasEnteredOn B.LiveBoard p.board.value p.plan.value p.before.value p.reporter pass
+        × HasToldCalls B.LiveBoard G.Gate p.plan.value p.reporter };
 }
 
 /// What a reader's thread promises of what it hands back.
 #[derive(Drop)]
-pub struct Showing<B: LiveBoard, G: Gate> {
+pub struct Showing<'n, B: LiveBoard, G: Gate> {
     board: Snapshot<B>,
-    gate: Snapshot<G>,
-    worker: u8,
+    plan: Snapshot<Plan<'n, G>>,
     before: Snapshot<B::ReaderPass>,
-    roster: Snapshot<Roster>,
-    group: u8,
-    readings: u32,
-    profile: Profile,
+    worker: u8,
 }
 
-impl<B: LiveBoard, G: Gate> Showing<B, G> {
-    /// The promise of a reader who takes so many readings with this pass.
-    fn of(
-        board: &B,
-        gate: &G,
-        worker: u8,
-        before: &B::ReaderPass,
-        roster: &Roster,
-        group: u8,
-        readings: u32,
-        profile: Profile,
-    ) -> Showing<B, G>
+impl<'n, B: LiveBoard, G: Gate> Showing<'n, B, G> {
+    /// The promise of a reader who takes its readings with this pass.
+    fn of(board: &B, plan: &Plan<'n, G>, before: &B::ReaderPass, worker: u8) -> Showing<'n, B, G>
         ensures board { result.board.value ≡ board.now }
-        ensures gate { result.gate.value ≡ gate.now }
-        ensures worker { result.worker ≡ worker }
+        ensures plan { result.plan.value ≡ plan.now }
         ensures before { result.before.value ≡ before.now }
-        ensures roster { result.roster.value ≡ roster.now }
-        ensures group { result.group ≡ group }
-        ensures readings { result.readings ≡ readings }
-        ensures profile { result.profile ≡ profile }
+        ensures worker { result.worker ≡ worker }
     {
         Showing {
             board: Snapshot::of(board),
-            gate: Snapshot::of(gate),
-            worker,
+            plan: Snapshot::of(plan),
             before: Snapshot::of(before),
-            roster: Snapshot::of(roster),
-            group,
-            readings,
-            profile,
+            worker,
         }
     }
 }
 
-impl<B: LiveBoard, G: Gate> Promise<Result<Shown<B::ReaderPass>, OutOfMemory>> for Showing<B, G> {
-    ghost kept_by = { λ p end. IfOk end (HasShownOn B.LiveBoard p.board.value p.profile p.before.value p.readings p.roster.value p.group) × IfOk end (λ shown. HasToldScreens B.LiveBoard G.Gate p.gate.value p.worker p.profile p.readings p.roster.value p.group shown.pass) };
+impl<'n, B: LiveBoard, G: Gate> Promise<Result<Shown<B::ReaderPass>, OutOfMemory>>
+    for Showing<'n, B, G> {
+    ghost kept_by = { λ p end.
+        IfOk end (HasShownOn B.LiveBoard p.board.value p.plan.value p.before.value)
+        × IfOk end (λ shown. HasToldScreens B.LiveBoard G.Gate p.plan.value p.worker shown.pass) };
 }
 
 /// No thread could be had for a worker.
@@ -117,30 +95,29 @@ fn start_reporter<'s, E, B: LiveBoard, G: Gate, R: Wait + Sync>(
     board: &'s B,
     pass: B::ReporterPass,
     reporter: u8,
-    rows: &'s Vec<NightEvent>,
-    gate: &'s G,
-) -> Result<PromisedHandle<B::ReporterPass, Entering<B, G>>, NoThread>
+    plan: &'s Plan<'s, G>,
+) -> Result<PromisedHandle<B::ReporterPass, Entering<'s, B, G>>, NoThread>
 where
     B::ReporterPass: 's,
     requires fresh { IsFreshOn B.LiveBoard board.now pass }
     ensures board { IfOk result (λ worker. worker.promise.board.value ≡ board.now) }
-    ensures gate { IfOk result (λ worker. worker.promise.gate.value ≡ gate.now) }
+    ensures plan { IfOk result (λ worker. worker.promise.plan.value ≡ plan.now) }
     ensures before { IfOk result (λ worker. worker.promise.before.value ≡ pass) }
-    ensures rows { IfOk result (λ worker. worker.promise.rows.value ≡ rows.now) }
     ensures reporter { IfOk result (λ worker. worker.promise.reporter ≡ reporter) }
 {
-    let promise = Entering::of(board, gate, &pass, rows, reporter);
+    let promise = Entering::of(board, plan, &pass, reporter);
     let started = scope.spawn_with(
         promise,
         move || -> B::ReporterPass
             requires { IsFreshOn B.LiveBoard board.now pass }
-            ensures { HasEnteredOn B.LiveBoard board.entry.now pass reporter rows.entry.now.items result × HasToldCalls B.LiveBoard G.Gate gate.entry.now reporter rows.entry.now.items }
-        { enter_rows(rt, board, pass, reporter, rows, gate) },
+            ensures { HasEnteredOn B.LiveBoard board.entry.now plan.entry.now pass reporter result
+                × HasToldCalls B.LiveBoard G.Gate plan.entry.now reporter }
+        { enter_rows(rt, board, pass, reporter, &plan.night.events, plan.gate) },
     );
     started.map_err(|_| NoThread)
 }
 
-/// Starts the thread of a reader, who takes so many readings.
+/// Starts the thread of a reader, who takes its readings.
 fn start_reader<'s, E, B: LiveBoard, G: Gate, R: Wait + Sync>(
     scope: &Scope<'s, E>,
     rt: &'s R,
@@ -148,101 +125,105 @@ fn start_reader<'s, E, B: LiveBoard, G: Gate, R: Wait + Sync>(
     board: &'s B,
     pass: B::ReaderPass,
     worker: u8,
-    readings: u32,
-    roster: &'s Roster,
-    group: u8,
-    gate: &'s G,
-    profile: Profile,
-) -> Result<PromisedHandle<Result<Shown<B::ReaderPass>, OutOfMemory>, Showing<B, G>>, NoThread>
+    plan: &'s Plan<'s, G>,
+) -> Result<PromisedHandle<Result<Shown<B::ReaderPass>, OutOfMemory>, Showing<'s, B, G>>, NoThread>
 where
     B::ReaderPass: 's,
     requires new { IsNewOn B.LiveBoard board.now pass }
-    requires group { IsGroup group }
+    requires group { IsGroup plan.now.group }
     ensures board { IfOk result (λ worker. worker.promise.board.value ≡ board.now) }
-    ensures gate { IfOk result (λ worker. worker.promise.gate.value ≡ gate.now) }
-    ensures worker { IfOk result (λ started. started.promise.worker ≡ worker) }
+    ensures plan { IfOk result (λ worker. worker.promise.plan.value ≡ plan.now) }
     ensures before { IfOk result (λ worker. worker.promise.before.value ≡ pass) }
-    ensures roster { IfOk result (λ worker. worker.promise.roster.value ≡ roster.now) }
-    ensures group { IfOk result (λ worker. worker.promise.group ≡ group) }
-    ensures readings { IfOk result (λ worker. worker.promise.readings ≡ readings) }
-    ensures profile { IfOk result (λ worker. worker.promise.profile ≡ profile) }
+    ensures worker { IfOk result (λ started. started.promise.worker ≡ worker) }
 {
-    let promise = Showing::of(board, gate, worker, &pass, roster, group, readings, profile);
+    let promise = Showing::of(board, plan, &pass, worker);
     let started = scope.spawn_with(
         promise,
         move || -> Result<Shown<B::ReaderPass>, OutOfMemory>
-            requires { IsNewOn B.LiveBoard board.now pass × IsGroup group }
-            ensures { IfOk result (HasShownOn B.LiveBoard board.entry.now profile pass readings roster.entry.now group) × IfOk result (λ shown. HasToldScreens B.LiveBoard G.Gate gate.entry.now worker profile readings roster.entry.now group shown.pass) }
-        {
-            show_screens(
-                rt, alloc, board, pass, worker, readings, roster, group, gate, profile,
-            )
-        },
+            requires { IsNewOn B.LiveBoard board.now pass × IsGroup plan.now.group }
+            ensures { IfOk result (HasShownOn B.LiveBoard board.entry.now plan.entry.now pass)
+                × IfOk result (λ shown.
+                HasToldScreens B.LiveBoard G.Gate plan.entry.now worker shown.pass) }
+        { show_screens(rt, alloc, board, pass, worker, plan) },
     );
     started.map_err(|_| NoThread)
 }
 
-/// What the four workers hand back.
+/// The four workers of a night, each by what it is lent, or by what it hands back.
 #[derive(Drop)]
-pub struct Handed<R, P> {
-    pub reporters: (P, P),
-    pub readers: (Result<Shown<R>, OutOfMemory>, Result<Shown<R>, OutOfMemory>),
+pub struct Workers<P, R> {
+    pub reporter_1: P,
+    pub reporter_2: P,
+    pub reader_1: R,
+    pub reader_2: R,
 }
 
 /// Runs the four workers of a night, each in a thread of its own: the reporters enter the rows of reporters 1 and 2, and the
-/// readers take so many readings. Where a thread cannot be had, the workers that run go on to their end before this is told.
+/// readers take their readings. Where a thread cannot be had, the workers that run go on to their end before this is told.
 pub fn work<B: LiveBoard, G: Gate, R: Threads + Wait + Sync>(
     rt: &R,
     alloc: Global,
     board: &B,
-    reporters: (B::ReporterPass, B::ReporterPass),
-    readers: (B::ReaderPass, B::ReaderPass),
-    rows: &Vec<NightEvent>,
-    roster: &Roster,
-    group: u8,
-    readings: u32,
-    gate: &G,
-    profile: Profile,
-) -> Result<Handed<B::ReaderPass, B::ReporterPass>, NoThread>
-    requires reporters { IsFreshOn B.LiveBoard board.now reporters.0 × IsFreshOn B.LiveBoard board.now reporters.1 }
-    requires readers { IsNewOn B.LiveBoard board.now readers.0 × IsNewOn B.LiveBoard board.now readers.1 }
-    requires group { IsGroup group }
-    ensures first { IfOk result (λ h. HasEnteredOn B.LiveBoard board.entry.now reporters.0 1 rows.entry.now.items h.reporters.0) }
-    ensures second { IfOk result (λ h. HasEnteredOn B.LiveBoard board.entry.now reporters.1 2 rows.entry.now.items h.reporters.1) }
-    ensures left { IfOk result (λ h. IfOk h.readers.0 (HasShownOn B.LiveBoard board.entry.now profile readers.0 readings roster.entry.now group)) }
-    ensures right { IfOk result (λ h. IfOk h.readers.1 (HasShownOn B.LiveBoard board.entry.now profile readers.1 readings roster.entry.now group)) }
-    ensures calls { IfOk result (λ _. HasToldCalls B.LiveBoard G.Gate gate.entry.now 1 rows.entry.now.items × HasToldCalls B.LiveBoard G.Gate gate.entry.now 2 rows.entry.now.items) }
-    ensures left_told { IfOk result (λ h. IfOk h.readers.0 (λ shown. HasToldScreens B.LiveBoard G.Gate gate.entry.now 3 profile readings roster.entry.now group shown.pass)) }
-    ensures right_told { IfOk result (λ h. IfOk h.readers.1 (λ shown. HasToldScreens B.LiveBoard G.Gate gate.entry.now 4 profile readings roster.entry.now group shown.pass)) }
+    lent: Workers<B::ReporterPass, B::ReaderPass>,
+    plan: &Plan<'_, G>,
+) -> Result<Workers<B::ReporterPass, Result<Shown<B::ReaderPass>, OutOfMemory>>, NoThread>
+    requires reporters { IsFreshOn B.LiveBoard board.now lent.reporter_1
+        × IsFreshOn B.LiveBoard board.now lent.reporter_2 }
+    requires readers { IsNewOn B.LiveBoard board.now lent.reader_1
+        × IsNewOn B.LiveBoard board.now lent.reader_2 }
+    requires group { IsGroup plan.now.group }
+    ensures reporter_1 { IfOk result (λ w.
+        HasEnteredOn B.LiveBoard board.entry.now plan.entry.now lent.reporter_1 1 w.reporter_1) }
+    ensures reporter_2 { IfOk result (λ w.
+        HasEnteredOn B.LiveBoard board.entry.now plan.entry.now lent.reporter_2 2 w.reporter_2) }
+    ensures reader_1 { IfOk result (λ w. IfOk w.reader_1
+        (HasShownOn B.LiveBoard board.entry.now plan.entry.now lent.reader_1)) }
+    ensures reader_2 { IfOk result (λ w. IfOk w.reader_2
+        (HasShownOn B.LiveBoard board.entry.now plan.entry.now lent.reader_2)) }
+    ensures calls { IfOk result (λ _. HasToldCalls B.LiveBoard G.Gate plan.entry.now 1
+        × HasToldCalls B.LiveBoard G.Gate plan.entry.now 2) }
+    ensures told_1 { IfOk result (λ w. IfOk w.reader_1 (λ shown.
+        HasToldScreens B.LiveBoard G.Gate plan.entry.now 3 shown.pass)) }
+    ensures told_2 { IfOk result (λ w. IfOk w.reader_2 (λ shown.
+        HasToldScreens B.LiveBoard G.Gate plan.entry.now 4 shown.pass)) }
 {
-    let (first, second) = reporters;
-    let (left, right) = readers;
     thread::scope(
         thread::scope_env(),
         rt,
-        move |scope| -> Result<Handed<B::ReaderPass, B::ReporterPass>, NoThread>
-            requires reporters { IsFreshOn B.LiveBoard board.now first × IsFreshOn B.LiveBoard board.now second }
-            requires readers { IsNewOn B.LiveBoard board.now left × IsNewOn B.LiveBoard board.now right × IsGroup group }
-            ensures first { IfOk result (λ h. HasEnteredOn B.LiveBoard board.entry.now first 1 rows.entry.now.items h.reporters.0) }
-            ensures second { IfOk result (λ h. HasEnteredOn B.LiveBoard board.entry.now second 2 rows.entry.now.items h.reporters.1) }
-            ensures left { IfOk result (λ h. IfOk h.readers.0 (HasShownOn B.LiveBoard board.entry.now profile left readings roster.entry.now group)) }
-            ensures right { IfOk result (λ h. IfOk h.readers.1 (HasShownOn B.LiveBoard board.entry.now profile right readings roster.entry.now group)) }
-            ensures calls { IfOk result (λ _. HasToldCalls B.LiveBoard G.Gate gate.entry.now 1 rows.entry.now.items × HasToldCalls B.LiveBoard G.Gate gate.entry.now 2 rows.entry.now.items) }
-            ensures left_told { IfOk result (λ h. IfOk h.readers.0 (λ shown. HasToldScreens B.LiveBoard G.Gate gate.entry.now 3 profile readings roster.entry.now group shown.pass)) }
-            ensures right_told { IfOk result (λ h. IfOk h.readers.1 (λ shown. HasToldScreens B.LiveBoard G.Gate gate.entry.now 4 profile readings roster.entry.now group shown.pass)) }
+        move |scope| -> Result<
+            Workers<B::ReporterPass, Result<Shown<B::ReaderPass>, OutOfMemory>>,
+            NoThread,
+        >
+            requires reporters { IsFreshOn B.LiveBoard board.now lent.reporter_1
+                × IsFreshOn B.LiveBoard board.now lent.reporter_2 }
+            requires readers { IsNewOn B.LiveBoard board.now lent.reader_1
+                × IsNewOn B.LiveBoard board.now lent.reader_2 }
+            requires group { IsGroup plan.now.group }
+            ensures reporter_1 { IfOk result (λ w. HasEnteredOn B.LiveBoard board.entry.now
+                plan.entry.now lent.reporter_1 1 w.reporter_1) }
+            ensures reporter_2 { IfOk result (λ w. HasEnteredOn B.LiveBoard board.entry.now
+                plan.entry.now lent.reporter_2 2 w.reporter_2) }
+            ensures reader_1 { IfOk result (λ w. IfOk w.reader_1
+                (HasShownOn B.LiveBoard board.entry.now plan.entry.now lent.reader_1)) }
+            ensures reader_2 { IfOk result (λ w. IfOk w.reader_2
+                (HasShownOn B.LiveBoard board.entry.now plan.entry.now lent.reader_2)) }
+            ensures calls { IfOk result (λ _. HasToldCalls B.LiveBoard G.Gate plan.entry.now 1
+                × HasToldCalls B.LiveBoard G.Gate plan.entry.now 2) }
+            ensures told_1 { IfOk result (λ w. IfOk w.reader_1 (λ shown.
+                HasToldScreens B.LiveBoard G.Gate plan.entry.now 3 shown.pass)) }
+            ensures told_2 { IfOk result (λ w. IfOk w.reader_2 (λ shown.
+                HasToldScreens B.LiveBoard G.Gate plan.entry.now 4 shown.pass)) }
         {
-            let worker_1 = start_reporter(scope, rt, board, first, 1, rows, gate);
-            let worker_2 = start_reporter(scope, rt, board, second, 2, rows, gate);
-            let worker_3 = start_reader(
-                scope, rt, alloc, board, left, 3, readings, roster, group, gate, profile,
-            );
-            let worker_4 = start_reader(
-                scope, rt, alloc, board, right, 4, readings, roster, group, gate, profile,
-            );
-            match (worker_1, worker_2, worker_3, worker_4) {
-                (Ok(one), Ok(two), Ok(three), Ok(four)) => Ok(Handed {
-                    reporters: (one.join(rt), two.join(rt)),
-                    readers: (three.join(rt), four.join(rt)),
+            let reporter_1 = start_reporter(scope, rt, board, lent.reporter_1, 1, plan);
+            let reporter_2 = start_reporter(scope, rt, board, lent.reporter_2, 2, plan);
+            let reader_1 = start_reader(scope, rt, alloc, board, lent.reader_1, 3, plan);
+            let reader_2 = start_reader(scope, rt, alloc, board, lent.reader_2, 4, plan);
+            match (reporter_1, reporter_2, reader_1, reader_2) {
+                (Ok(reporter_1), Ok(reporter_2), Ok(reader_1), Ok(reader_2)) => Ok(Workers {
+                    reporter_1: reporter_1.join(rt),
+                    reporter_2: reporter_2.join(rt),
+                    reader_1: reader_1.join(rt),
+                    reader_2: reader_2.join(rt),
                 }),
                 _ => Err(NoThread),
             }

@@ -5,14 +5,31 @@ ghost use Rattle.ucl_screen.specs.Screen.{IsGroup};
 ghost use Rattle.ucl_shared.specs.Passes.{ReportsMore};
 ghost use Rattle.ucl_runs.specs.Gates.{CameTo, Showed, rows_by};
 ghost use Rattle.ucl_runs.specs.Nights.{IsFresh, IsNew, HasEntered, HasShown};
+ghost use Rattle.ucl_runs.specs.Workers.{style_of};
 
 use crate::gate::Gate;
 use std::alloc::Global;
 use std::sync::Wait;
-use ucl_order::{Profile, Roster};
-use ucl_screen::{NightEvent, screen};
+use ucl_order::Profile;
+use ucl_screen::{Night, NightEvent, screen};
 use ucl_shared::LiveBoard;
 use ucl_word::OutOfMemory;
+
+/// What the workers of a night have in common: the script, how often each reader reads, how it shows what it has read, and the
+/// gate that is told.
+#[derive(Drop)]
+pub struct Plan<'n, G> {
+    /// The clubs, and the events that the reporters enter.
+    pub night: &'n Night,
+    /// The letter of the group.
+    pub group: u8,
+    /// How many readings each reader takes.
+    pub readings: u32,
+    /// The order of the clubs in all screens.
+    pub profile: Profile,
+    /// Who looks on.
+    pub gate: &'n G,
+}
 
 /// Enters the rows of one reporter of the script in their order, on a pass that has entered nothing yet. Replies are not
 /// looked at.
@@ -28,7 +45,8 @@ pub fn enter_rows<B: LiveBoard, G: Gate, R: Wait>(
     requires fresh { IsFresh (B.reporter pass) }
     ensures own { B.is_reporter board.entry.now result }
     ensures entered { HasEntered (B.reporter pass) (B.reporter result) reporter rows.entry.now }
-    ensures reported { ReportsMore (B.has_reported pass) (rows_by reporter rows.entry.now) (B.has_reported result) }
+    ensures reported { ReportsMore (B.has_reported pass) (rows_by reporter rows.entry.now)
+        (B.has_reported result) }
     ensures came { CameTo (G.came gate.entry.now) reporter (rows_by reporter rows.entry.now) }
 {
     let mut call: u32 = 0;
@@ -49,33 +67,40 @@ pub struct Shown<P> {
     pub last: Option<String>,
 }
 
-/// Takes so many readings with a pass that has shown nothing yet, and renders each. Where there is no memory for a screen,
-/// no further reading is taken.
+/// Takes the readings of a reader with a pass that has shown nothing yet, and renders each. Where there is no memory for a
+/// screen, no further reading is taken.
 pub fn show_screens<B: LiveBoard, G: Gate, R: Wait>(
     rt: &R,
     alloc: Global,
     board: &B,
     mut pass: B::ReaderPass,
     worker: u8,
-    readings: u32,
-    roster: &Roster,
-    group: u8,
-    gate: &G,
-    profile: Profile,
+    plan: &Plan<'_, G>,
 ) -> Result<Shown<B::ReaderPass>, OutOfMemory>
     requires own { B.is_reader board.now pass }
     requires new { IsNew (B.reader pass) }
-    requires group { IsGroup group }
+    requires group { IsGroup plan.now.group }
     ensures own { IfOk result (λ end. B.is_reader board.entry.now end.pass) }
-    ensures shown { IfOk result (λ end. HasShown profile (B.reader end.pass).seen (B.reader pass) (B.reader end.pass) readings roster.entry.now group (option_map string_bytes end.last)) }
-    ensures came { IfOk result (λ _. CameTo (G.came gate.entry.now) worker readings) }
-    ensures showed { IfOk result (λ end. Showed (G.showed gate.entry.now) worker profile (B.reader end.pass).seen (B.reader end.pass).shown roster.entry.now group) }
+    ensures shown { IfOk result (λ end. HasShown (style_of plan.entry.now)
+        (B.reader end.pass).seen (B.reader pass) (B.reader end.pass)
+        plan.entry.now.readings (option_map string_bytes end.last)) }
+    ensures came { IfOk result (λ _. CameTo (G.came plan.entry.now.gate.now) worker
+        plan.entry.now.readings) }
+    ensures showed { IfOk result (λ end. Showed (G.showed plan.entry.now.gate.now) worker
+        (style_of plan.entry.now) (B.reader end.pass).seen (B.reader end.pass).shown) }
 {
+    let Plan {
+        night,
+        group,
+        readings,
+        profile,
+        gate,
+    } = *plan;
     let mut last = None;
     for call in 0..readings {
         gate.come(worker, call);
         let reading = board.read(rt, &mut pass);
-        let text = screen(alloc, &reading.board, roster, group, profile)?;
+        let text = screen(alloc, &reading.board, &night.roster, group, profile)?;
         gate.shown(worker, &reading, text.as_str());
         last = Some(text);
     }

@@ -2,9 +2,11 @@ pub mod Moves
 pub mod FourFacts
 pub mod RowFacts
 pub mod Digits
-pub mod Loop
+pub mod RowByRow
 pub mod HexDigits
-pub mod Sound
+pub mod RowFaults
 pub mod Pieces
 pub mod Names
 pub mod Columns
+pub mod ScriptFaults
+pub mod ReadWords

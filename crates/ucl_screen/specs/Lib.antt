@@ -10,3 +10,4 @@ pub mod Lines
 pub mod Screen
 pub mod Laws
 pub mod Texts
+pub mod WordsRead

@@ -1,9 +1,9 @@
 -- What the rows of an input say: a roster, and then events or words.
-use Rattle.std.specs.Prelude.{ℕ, zero, suc, ◌+◌, ◌==◌, ◌&&◌, if◌then◌else◌, List, [], ◌∷◌, length, codes, Option, Some, None, option_map, option_and_then, Result, Ok, Err}
+use Rattle.std.specs.Prelude.{⊤, ℕ, zero, suc, ◌+◌, ◌==◌, ◌&&◌, if◌then◌else◌, List, [], ◌∷◌, length, codes, Option, Some, None, option_map, option_and_then, Result, Ok, Err}
 use Rattle.std.specs.Str.{bytes_eq}
 use Rattle.ucl_order.specs.Roster.{NamedClub, bad_slot}
 use Rattle.ucl_screen.specs.declared.fault.InputFault.{InputFault}
-use Rattle.ucl_screen.specs.declared.fault.InputFault.TheVariants.{BadRow, BadRoster}
+use Rattle.ucl_screen.specs.declared.fault.InputFault.TheVariants.{BadRow, BadRoster, OutOfMemory, TooLong}
 use Rattle.ucl_screen.specs.declared.night.NightEvent.{NightEvent}
 use Rattle.ucl_screen.specs.Numbers.{number, is_number, hex_word}
 use Rattle.ucl_screen.specs.Rows.{Fields, FourFields, four_of, rows_of}
@@ -74,6 +74,10 @@ words_from (suc more) game (r ∷ rows) = do
   words ← words_from more (game + 1) rows
   Ok (word ∷ words)
 
+-- the row of the first event
+abbrev pub first_event_row : ℕ
+first_event_row = 5
+
 -- the clubs and the events of a night, wherever they lie in memory
 pub record Script : Type 0 where
   pub clubs : List NamedClub
@@ -82,7 +86,7 @@ pub record Script : Type 0 where
 unfoldable pub night_of_rows : List Fields → Result Script InputFault
 night_of_rows rows = do
   roster ← roster_at rows
-  events ← events_from 5 roster.1
+  events ← events_from first_event_row roster.1
   Ok (record { clubs = roster.0; events = events })
 
 -- the clubs of a sheet and the words of matches 1 to 12
@@ -103,3 +107,11 @@ night_of bytes = whole_input bytes >>= λ text. night_of_rows (rows_of text)
 -- the sheet that an input says before its words are read, or its first fault
 abbrev pub sheet_of : List ℕ → Result WrittenSheet InputFault
 sheet_of bytes = whole_input bytes >>= λ text. sheet_of_rows (rows_of text)
+
+-- the faults that a script can have, and want of memory
+abbrev pub IsFaultOfScript : InputFault → Type 0
+IsFaultOfScript (BadRow row) = ⊤
+IsFaultOfScript (BadRoster slot) = ⊤
+IsFaultOfScript TooLong = ⊤
+IsFaultOfScript OutOfMemory = ⊤
+IsFaultOfScript _ = ⊥

@@ -1,5 +1,5 @@
 -- What calls do to the bytes that a source has left and that a sink has taken, where those are known.
-use Rattle.std.specs.Prelude.{◌≡◌, ℕ, zero, suc, ◌+◌, ◌≤◌, List, length, take, Option, Some, None, Result, Ok, Err}
+use Rattle.std.specs.Prelude.{◌≡◌, ℕ, zero, suc, ◌+◌, ◌<◌, ◌≤◌, List, length, take, Option, Some, None, Result, Ok, Err}
 use Rattle.std.specs.Io.KnownBytes.{Keeps, Appends, Consumes}
 
 -- `Some(n)` moves the first n bytes into the buffer, and `None` moves nothing
@@ -11,6 +11,11 @@ Takes old new (Some n) buf = Consumes old new (take n buf)
 abbrev pub Gives : Option (List ℕ) → Option (List ℕ) → Option ℕ → List ℕ → Type 0
 Gives old new None text = Keeps old new
 Gives old new (Some n) text = Appends old new (take n text)
+
+-- the first n bytes of the text went out, and not all of them
+pub record WroteFirst (old new : Option (List ℕ)) (n : ℕ) (text : List ℕ) : Type 0 where
+  pub cut : n < length text
+  pub out : Appends old new (take n text)
 
 -- n bytes were moved, the first of those that were left
 abbrev pub MovesCount : Option (List ℕ) → Option (List ℕ) → ℕ → Type 0

@@ -4,7 +4,7 @@ ghost use Rattle.std.specs.Prelude.{◌≡◌, ◌<◌, ◌≤◌, IfSome};
 ghost use Rattle.ucl_screen.specs.Numbers.{number, in_range, hex_digit, hex_word};
 ghost use Rattle.ucl_screen.specs.Events.{kind_of};
 
-use ucl_word::{Kind, Side};
+use ucl_word::{Kind, MatchNo, ReporterNo, Side};
 
 /// The number of a text of decimal digits, at least one and at most so many.
 pub(crate) fn number(text: &[u8], most: usize) -> Option<u32>
@@ -24,17 +24,25 @@ pub(crate) fn number(text: &[u8], most: usize) -> Option<u32>
     Some(n)
 }
 
-/// The number, where it is in a range.
-pub(crate) fn number_within(text: &[u8], most: usize, low: u16, high: u16) -> Option<u16>
-    requires { most ≤ 9 }
-    ensures { result ≡ in_range low high (number most text.now) }
+/// The reporter of a number, where there is one.
+pub(crate) fn reporter_of(number: u32) -> Option<ReporterNo>
+    ensures { result ≡ in_range 1 255 (Some number) }
 {
-    let n = number(text, most)?;
-    if u32::from(low) <= n && n <= u32::from(high) {
-        Some(n as u16)
-    } else {
-        None
-    }
+    ReporterNo::new(u8::try_from(number).ok()?)
+}
+
+/// The match of a number, where there is one.
+pub(crate) fn match_of(number: u32) -> Option<MatchNo>
+    ensures { result ≡ in_range 1 12 (Some number) }
+{
+    MatchNo::new(u8::try_from(number).ok()?)
+}
+
+/// The number of an event, where a match can have it.
+pub(crate) fn number_of(number: u32) -> Option<u16>
+    ensures { result ≡ in_range 0 65535 (Some number) }
+{
+    u16::try_from(number).ok()
 }
 
 /// What a hexadecimal digit stands for.

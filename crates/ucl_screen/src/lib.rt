@@ -19,7 +19,10 @@ pub use devices::{FromRead, ToWrite};
 pub use fault::InputFault;
 pub use laws::lines_have_53_columns;
 pub use night::{Night, NightEvent};
-pub use reading::{club_of_fields, event_of_fields, read_night, read_words, word_of_fields};
+pub use reading::{
+    FIRST_EVENT_ROW, club_of_fields, event_of_fields, night_of_bytes, read_night, read_words,
+    word_of_fields,
+};
 pub use rows::Four;
 pub use sheet::Sheet;
 pub use stream::{Sink, Source};

@@ -1,26 +1,29 @@
 //! Reading scripts and sheets.
 
-ghost use Rattle.std.specs.Prelude.{◌≡◌, ◌+◌, ◌≤◌, length, Some, option_map, IfOk, OnOk};
+ghost use Rattle.std.specs.Prelude.{◌≡◌, ◌+◌, ◌≤◌, length, Some, option_map, IfErr, IfOk, OnOk};
 ghost use Rattle.csv.specs.Records.{fields_of};
 ghost use Rattle.ucl_order.specs.Roster.{club_seen};
-ghost use Rattle.ucl_screen.specs.Input.{Reads, CallsRead};
+ghost use Rattle.ucl_screen.specs.Input.{Reads, CallsRead, most_bytes};
 ghost use Rattle.ucl_screen.specs.Rows.{IsReading, four_seen, rows_left, rows_of};
 ghost use Rattle.ucl_screen.specs.Events.{event_of};
-ghost use Rattle.ucl_screen.specs.Script.{said_by, club_of, club_at, roster_at, events_from, word_of_row, words_from, night_of_rows, sheet_of_rows};
+ghost use Rattle.ucl_screen.specs.Script.{said_by, club_of, club_at, roster_at, events_from, first_event_row, word_of_row, words_from, night_of, night_of_rows, sheet_of_rows, IsFaultOfScript};
 ghost use Rattle.ucl_screen.specs.Parsing.{Gives, MeansNight, MeansSheet, night_seen, sheet_seen};
 
 use crate::fault::InputFault;
-use crate::fields::{hex_word, kind_of, number, number_within};
+use crate::fields::{hex_word, kind_of, match_of, number, number_of, reporter_of};
 use crate::night::{Night, NightEvent};
 use crate::rows::{Four, four_fields, next_row, open};
 use crate::sheet::Sheet;
 use crate::stream::Source;
-use crate::transfer::read_all;
+use crate::transfer::{MOST_BYTES, read_all};
 use csv::{ByteRecord, Reader};
 use std::alloc::{AllocError, Global};
 use ucl_board::Board;
 use ucl_order::{Club, Roster};
-use ucl_word::{EventCall, MatchNo, ReporterNo};
+use ucl_word::EventCall;
+
+/// The row of the first event of a script: rows 1 to 4 are its clubs.
+pub const FIRST_EVENT_ROW: u8 = 5;
 
 /// The club that four fields say, in a row with this number.
 pub fn club_of_fields(alloc: Global, row: u8, fields: &Four<'_>) -> Result<Option<Club>, AllocError>
@@ -86,9 +89,9 @@ fn roster_at(alloc: Global, rows: &mut Reader<&[u8]>) -> Result<Roster, InputFau
 pub fn event_of_fields(fields: &Four<'_>) -> Option<NightEvent>
     ensures { result ≡ event_of (four_seen fields.now) }
 {
-    let reporter = ReporterNo::new(number_within(fields.first, 3, 1, 255)? as u8)?;
-    let game = MatchNo::new(number_within(fields.second, 2, 1, 12)? as u8)?;
-    let expected = number_within(fields.third, 5, 0, u16::MAX)?;
+    let reporter = reporter_of(number(fields.first, 3)?)?;
+    let game = match_of(number(fields.second, 2)?)?;
+    let expected = number_of(number(fields.third, 5)?)?;
     let kind = kind_of(fields.fourth)?;
     Some(NightEvent {
         reporter,
@@ -107,16 +110,16 @@ fn event_of(row: &ByteRecord) -> Option<NightEvent>
     event_of_fields(&four_fields(row)?)
 }
 
-/// The events of the rows that are left, of which the first is row 5.
+/// The events of the rows that are left.
 fn events_at(alloc: Global, rows: &mut Reader<&[u8]>) -> Result<Vec<NightEvent>, InputFault>
     requires reading { IsReading rows.old }
-    requires few { length (rows_left rows.old) ≤ 4194304 }
-    ensures gives { Gives (λ v. v.items) result (events_from 5 (rows_left rows.old)) }
-    ensures few { IfOk result (λ v. length v.items ≤ 4194304) }
+    requires few { length (rows_left rows.old) ≤ most_bytes }
+    ensures gives { Gives (λ v. v.items) result (events_from first_event_row (rows_left rows.old)) }
+    ensures few { IfOk result (λ v. length v.items ≤ most_bytes) }
 {
     let mut row = ByteRecord::new(alloc);
     let mut events = Vec::new(alloc);
-    let mut number: u32 = 5;
+    let mut number = u32::from(FIRST_EVENT_ROW);
     'rows: while next_row(rows, &mut row)? {
         match event_of(&row) {
             None => return Err(InputFault::BadRow { row: number }),
@@ -130,14 +133,28 @@ fn events_at(alloc: Global, rows: &mut Reader<&[u8]>) -> Result<Vec<NightEvent>,
 /// The night that a text says.
 #[tactic(auto, unfolding(crate::specs::Script::night_of_rows))]
 fn night_of(alloc: Global, text: &[u8]) -> Result<Night, InputFault>
-    requires { length text.now ≤ 4194304 }
+    requires { length text.now ≤ most_bytes }
     ensures gives { Gives night_seen result (night_of_rows (rows_of text.now)) }
-    ensures few { IfOk result (λ night. length night.events.items ≤ 4194304) }
+    ensures few { IfOk result (λ night. length night.events.items ≤ most_bytes) }
 {
     let mut rows = open(alloc, text);
     let roster = roster_at(alloc, &mut rows)?;
     let events = events_at(alloc, &mut rows)?;
     Ok(Night { roster, events })
+}
+
+/// Reads a script that lies in memory: what it means, or its first fault, is what `read_night` answers of the same bytes of a source.
+///
+/// `OutOfMemory` can come in place of any answer.
+pub fn night_of_bytes(alloc: Global, bytes: &[u8]) -> Result<Night, InputFault>
+    ensures gives { Gives night_seen result (night_of bytes.now) }
+    ensures kinds { IfErr result IsFaultOfScript }
+    ensures few { IfOk result (λ night. length night.events.items ≤ 4194304) }
+{
+    if bytes.len() > MOST_BYTES {
+        return Err(InputFault::TooLong);
+    }
+    night_of(alloc, bytes)
 }
 
 /// Reads a script from a source to its end.
@@ -155,10 +172,10 @@ fn night_of(alloc: Global, text: &[u8]) -> Result<Night, InputFault>
 /// `OutOfMemory` can come in place of any answer. A refusal leaves nothing but a source that has given bytes.
 pub fn read_night<S: Source>(alloc: Global, source: &mut S) -> Result<Night, InputFault>
     ensures reads { Reads MeansNight night_seen (S.left source.old) (S.left source.new) (S.failed source.new) result }
-    ensures calls { S.calls source.new ≤ S.calls source.old + 4194306 }
+    ensures calls { S.calls source.new ≤ S.calls source.old + most_bytes + 2 }
     ensures each { CallsRead (S.left source.old) (S.calls source.old) (S.calls source.new) result }
     ensures vain { S.in_vain source.new ≤ S.in_vain source.old + 1 }
-    ensures few { IfOk result (λ night. length night.events.items ≤ 4194304) }
+    ensures few { IfOk result (λ night. length night.events.items ≤ most_bytes) }
 {
     let bytes = read_all(alloc, source)?;
     night_of(alloc, &bytes)
@@ -230,7 +247,7 @@ fn roster_and_words(alloc: Global, text: &[u8]) -> Result<(Roster, [u64; 12]), I
 /// `OutOfMemory` can come in place of any answer. A refusal leaves nothing but a source that has given bytes.
 pub fn read_words<S: Source>(alloc: Global, source: &mut S) -> Result<Sheet, InputFault>
     ensures reads { Reads MeansSheet sheet_seen (S.left source.old) (S.left source.new) (S.failed source.new) result }
-    ensures calls { S.calls source.new ≤ S.calls source.old + 4194306 }
+    ensures calls { S.calls source.new ≤ S.calls source.old + most_bytes + 2 }
     ensures each { CallsRead (S.left source.old) (S.calls source.old) (S.calls source.new) result }
     ensures vain { S.in_vain source.new ≤ S.in_vain source.old + 1 }
 {

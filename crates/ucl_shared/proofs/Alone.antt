@@ -6,7 +6,7 @@ use mathlib.Core.Option.{some, some-injective}
 use lib.ListN.{get_elem?}
 use native.Mathlib.Decide.{ℕ_discrete}
 use Rattle.ucl_board.specs.declared.entry.Entry.{Entry}
-use Rattle.ucl_board.specs.Log.{Taken, Log, taken_by, entry_list, added_by, history_of}
+use Rattle.ucl_board.specs.Log.{Taken, Logged, logged_by, Log, taken_by, entry_list, added_by, history_of}
 use Rattle.ucl_board.proofs.Logs.{taken_none}
 use Rattle.ucl_shared.specs.declared.view.View.{View}
 use Rattle.ucl_shared.specs.Shares.{Share, whole, Overlap}
@@ -15,24 +15,24 @@ use Rattle.ucl_shared.proofs.Halves.{in_whole}
 
 -- the first step of a log
 
-pub taken_here : (seat : ℕ) (t : Taken) (log : Log) → taken_by seat ((seat, t) ∷ log) ≡ t ∷ taken_by seat log
-taken_here seat t log = ap (λ (b : Bool). map (λ (x : ℕ × Taken). x.1) (cond b ((seat, t) ∷ filter (λ (x : ℕ × Taken). x.0 == seat) log) (filter (λ (x : ℕ × Taken). x.0 == seat) log))) (eq-eqb seat seat refl)
+pub taken_here : (seat : ℕ) (t : Taken) (log : Log) → taken_by seat (logged_by seat t ∷ log) ≡ t ∷ taken_by seat log
+taken_here seat t log = ap (λ (b : Bool). map (λ (x : Logged). x.step) (cond b (logged_by seat t ∷ filter (λ (x : Logged). x.seat == seat) log) (filter (λ (x : Logged). x.seat == seat) log))) (eq-eqb seat seat refl)
 
-pub taken_else : (seat other : ℕ) (t : Taken) (log : Log) → other ≢ seat → taken_by seat ((other, t) ∷ log) ≡ taken_by seat log
-taken_else seat other t log not = ap (λ (b : Bool). map (λ (x : ℕ × Taken). x.1) (cond b ((other, t) ∷ filter (λ (x : ℕ × Taken). x.0 == seat) log) (filter (λ (x : ℕ × Taken). x.0 == seat) log))) (ne_eqb other seat not)
+pub taken_else : (seat other : ℕ) (t : Taken) (log : Log) → other ≢ seat → taken_by seat (logged_by other t ∷ log) ≡ taken_by seat log
+taken_else seat other t log not = ap (λ (b : Bool). map (λ (x : Logged). x.step) (cond b (logged_by other t ∷ filter (λ (x : Logged). x.seat == seat) log) (filter (λ (x : Logged). x.seat == seat) log))) (ne_eqb other seat not)
 
 -- a step of its own is among a seat's steps
-pub some_here : (seat : ℕ) (t : Taken) (log : Log) → taken_by seat ((seat, t) ∷ log) ≢ []
+pub some_here : (seat : ℕ) (t : Taken) (log : Log) → taken_by seat (logged_by seat t ∷ log) ≢ []
 some_here seat t log none = let l = ap length (sym (taken_here seat t log) ∙ none) in omega arith
 
 -- only this seat took steps
-pub only_own : (seat : ℕ) (log : Log) → ((j : ℕ) → j ≢ seat → taken_by j log ≡ []) → log ≡ map (λ (x : Taken). (seat, x)) (taken_by seat log)
+pub only_own : (seat : ℕ) (log : Log) → ((j : ℕ) → j ≢ seat → taken_by j log ≡ []) → log ≡ map (logged_by seat) (taken_by seat log)
 only_own seat [] none = refl
-only_own seat ((j, t) ∷ log) none = dite (ℕ_discrete j seat)
+only_own seat (x ∷ log) none = dite (ℕ_discrete x.seat seat)
     (λ is.
-    let rest = only_own seat log (λ k not. sym (taken_else k j t log (λ e. not (sym e ∙ is))) ∙ none k not) in
-    (λ i. (is i, t) ∷ rest i) ∙ ap (map (λ (x : Taken). (seat, x))) (sym (ap (λ (k : ℕ). taken_by seat ((k, t) ∷ log)) is ∙ taken_here seat t log)))
-    (λ not. absurd (some_here j t log (none j not)))
+    let rest = only_own seat log (λ k not. sym (taken_else k x.seat x.step log (λ e. not (sym e ∙ is))) ∙ none k not) in
+    (λ i. logged_by (is i) x.step ∷ rest i) ∙ ap (map (logged_by seat)) (sym (ap (λ (k : ℕ). taken_by seat (logged_by k x.step ∷ log)) is ∙ taken_here seat x.step log)))
+    (λ not. absurd (some_here x.seat x.step log (none x.seat not)))
 
 -- each place below the number of views has one
 pub view_at : (views : List View) (j : ℕ) → j < length views → (u : View) × (get_elem? views j ≡ some u)
@@ -41,11 +41,11 @@ view_at (v ∷ views) zero below = (v, refl)
 view_at (v ∷ views) (suc j) below = view_at views j (omega arith)
 
 -- a seat that is not there took no step
-pub none_beyond : (n j : ℕ) (log : Log) → n ≤ j → All (λ (x : ℕ × Taken). x.0 < n) log → taken_by j log ≡ []
+pub none_beyond : (n j : ℕ) (log : Log) → n ≤ j → All (λ (x : Logged). x.seat < n) log → taken_by j log ≡ []
 none_beyond n j log le all = taken_none j log (λ k d lt. let b = all k d lt in omega arith)
 
 -- the history of the steps of one seat
-history_by : (seat : ℕ) (steps : List Taken) → history_of (map (λ (x : Taken). (seat, x)) steps) ≡ added_by steps
+history_by : (seat : ℕ) (steps : List Taken) → history_of (map (logged_by seat) steps) ≡ added_by steps
 history_by seat [] = refl
 history_by seat (t ∷ steps) = ap (λ (l : List Entry). entry_list t.entry ++ l) (history_by seat steps)
 

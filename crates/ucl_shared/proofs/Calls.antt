@@ -88,7 +88,7 @@ sound_kept v s = record { legal = s.legal; own = s.own; few = s.few; acts = half
 -- the count of accepted events has room for one more
 pub room : (k m : PassView) (call : EventCall) (r : Result Accepted Refusal) (n : ℕ) → IfOk r (λ reply. AcceptedReport k call reply m) → is_ok r ≡ true → IsSound m → length k.mine ≡ n → n + 1 ≤ greatest_version
 room k m call (Ok reply) n a is s len =
-    let l = ap length a.mine ∙ length-append k.mine (entry_of (k.number, call) ∷ []) in
+    let l = ap length a.mine ∙ length-append k.mine (entry_of k.number call ∷ []) in
     let f = few_mine m s in
     omega arith
 room k m call (Err why) n a is s len = absurd (true≢false (sym is))

@@ -10,7 +10,7 @@ use lib.ListN.{get_elem?}
 use native.Mathlib.Decide.{ℕ_discrete}
 use Rattle.atomic_table.proofs.Lists.{set_here, set_else}
 use Rattle.ucl_board.specs.declared.entry.Entry.{Entry}
-use Rattle.ucl_board.specs.Log.{Taken, Log, taken_by, history_of}
+use Rattle.ucl_board.specs.Log.{Taken, Logged, logged_by, Log, taken_by, history_of}
 use Rattle.ucl_board.proofs.Logs.{taken_append, taken_own}
 use Rattle.ucl_board.proofs.Beginnings.{begins_length, begins_none}
 use Rattle.ucl_shared.specs.declared.view.View.{View}
@@ -41,86 +41,86 @@ abbrev Knows : ℕ → Log → Log → Type 0
 Knows seat old new = (j : ℕ) → j ≢ seat → (known : Log) × IsPrefix known old × IsPrefix known new × (taken_by j known ≡ taken_by j old) × (taken_by j known ≡ taken_by j new)
 
 -- both logs have the same first step
-module _ (seat : ℕ) (x : ℕ × Taken) (old new : Log) where
+module _ (seat : ℕ) (x : Logged) (old new : Log) where
   cancel : (j : ℕ) (xs ys : Log) → taken_by j (x ∷ xs) ≡ taken_by j (x ∷ ys) → taken_by j xs ≡ taken_by j ys
-  cancel j xs ys same = dite (ℕ_discrete x.0 j)
-      (λ is. tail_same x.1 x.1 (taken_by j xs) (taken_by j ys)
-      (sym (taken_here j x.1 xs) ∙ (subst (λ (k : ℕ). taken_by j ((k, x.1) ∷ xs) ≡ taken_by j ((k, x.1) ∷ ys)) is same ∙ taken_here j x.1 ys)))
-      (λ not. sym (taken_else j x.0 x.1 xs not) ∙ (same ∙ taken_else j x.0 x.1 ys not))
+  cancel j xs ys same = dite (ℕ_discrete x.seat j)
+      (λ is. tail_same x.step x.step (taken_by j xs) (taken_by j ys)
+      (sym (taken_here j x.step xs) ∙ (subst (λ (k : ℕ). taken_by j (logged_by k x.step ∷ xs) ≡ taken_by j (logged_by k x.step ∷ ys)) is same ∙ taken_here j x.step ys)))
+      (λ not. sym (taken_else j x.seat x.step xs not) ∙ (same ∙ taken_else j x.seat x.step ys not))
 
   both_after : Knows seat (x ∷ old) (x ∷ new) → Knows seat old new
   both_after knows j not = go (knows j not).0 (knows j not).1 (knows j not).2 (knows j not).3 (knows j not).4
     where
       go : (known : Log) → IsPrefix known (x ∷ old) → IsPrefix known (x ∷ new) → taken_by j known ≡ taken_by j (x ∷ old) → taken_by j known ≡ taken_by j (x ∷ new)
           → (k : Log) × IsPrefix k old × IsPrefix k new × (taken_by j k ≡ taken_by j old) × (taken_by j k ≡ taken_by j new)
-      go [] p q a b = dite (ℕ_discrete x.0 j)
-          (λ is. absurd (some_here j x.1 old (sym (ap (λ (k : ℕ). taken_by j ((k, x.1) ∷ old)) is) ∙ sym a)))
-          (λ other. ([], begins_none old, begins_none new, a ∙ taken_else j x.0 x.1 old other, b ∙ taken_else j x.0 x.1 new other))
+      go [] p q a b = dite (ℕ_discrete x.seat j)
+          (λ is. absurd (some_here j x.step old (sym (ap (λ (k : ℕ). taken_by j (logged_by k x.step ∷ old)) is) ∙ sym a)))
+          (λ other. ([], begins_none old, begins_none new, a ∙ taken_else j x.seat x.step old other, b ∙ taken_else j x.seat x.step new other))
       go (y ∷ k) p q a b =
           let same : y ≡ x = head_same y x (k ++ p.0) old p.1 in (
             k,
             (p.0, tail_same y x (k ++ p.0) old p.1),
             (q.0, tail_same y x (k ++ q.0) new q.1),
-            cancel j k old (ap (λ (z : ℕ × Taken). taken_by j (z ∷ k)) (sym same) ∙ a),
-            cancel j k new (ap (λ (z : ℕ × Taken). taken_by j (z ∷ k)) (sym same) ∙ b),
+            cancel j k old (ap (λ (z : Logged). taken_by j (z ∷ k)) (sym same) ∙ a),
+            cancel j k new (ap (λ (z : Logged). taken_by j (z ∷ k)) (sym same) ∙ b),
           )
 
 -- a log that another seat knows something of has its first step
-starts_with : (j : ℕ) (known : Log) (y : ℕ × Taken) (old : Log) → IsPrefix known (y ∷ old) → taken_by j known ≢ [] → (rest : Log) × (known ≡ y ∷ rest)
+starts_with : (j : ℕ) (known : Log) (y : Logged) (old : Log) → IsPrefix known (y ∷ old) → taken_by j known ≢ [] → (rest : Log) × (known ≡ y ∷ rest)
 starts_with j [] y old p any = absurd (any refl)
-starts_with j (x ∷ known) y old p any = let same = head_same x y (known ++ p.0) old p.1 in (known, ap (λ (z : ℕ × Taken). z ∷ known) same)
+starts_with j (x ∷ known) y old p any = let same = head_same x y (known ++ p.0) old p.1 in (known, ap (λ (z : Logged). z ∷ known) same)
 
-first_of : (known : Log) (y : ℕ × Taken) (rest new : Log) → known ≡ y ∷ rest → IsPrefix known new → new ≡ y ∷ (drop 1 new)
+first_of : (known : Log) (y : Logged) (rest new : Log) → known ≡ y ∷ rest → IsPrefix known new → new ≡ y ∷ (drop 1 new)
 first_of known y rest new is p =
     let whole : new ≡ y ∷ (rest ++ p.0) = sym p.1 ∙ ap (λ (l : Log). l ++ p.0) is in
     whole ∙ ap (λ (l : Log). y ∷ l) (sym (ap (drop 1) whole))
 
 -- one step that both logs have, and what comes after it
-module _ (seat j : ℕ) (t : Taken) (steps : List Taken) (old new : Log) (onward_from : (rest : Log) → Knows seat old rest → taken_by seat rest ≡ taken_by seat old ++ steps → rest ≡ old ++ map (λ (x : Taken). (seat, x)) steps)
-    (knows : Knows seat ((j, t) ∷ old) new) (more : taken_by seat new ≡ taken_by seat ((j, t) ∷ old) ++ steps) where
-  onward : (rest : Log) → new ≡ (j, t) ∷ rest → new ≡ (j, t) ∷ (old ++ map (λ (x : Taken). (seat, x)) steps)
+module _ (seat j : ℕ) (t : Taken) (steps : List Taken) (old new : Log) (onward_from : (rest : Log) → Knows seat old rest → taken_by seat rest ≡ taken_by seat old ++ steps → rest ≡ old ++ map (logged_by seat) steps)
+    (knows : Knows seat (logged_by j t ∷ old) new) (more : taken_by seat new ≡ taken_by seat (logged_by j t ∷ old) ++ steps) where
+  onward : (rest : Log) → new ≡ logged_by j t ∷ rest → new ≡ logged_by j t ∷ (old ++ map (logged_by seat) steps)
   onward rest is =
-      let before : taken_by seat ((j, t) ∷ rest) ≡ taken_by seat ((j, t) ∷ old) ++ steps = sym (ap (taken_by seat) is) ∙ more in
+      let before : taken_by seat (logged_by j t ∷ rest) ≡ taken_by seat (logged_by j t ∷ old) ++ steps = sym (ap (taken_by seat) is) ∙ more in
       let after : taken_by seat rest ≡ taken_by seat old ++ steps = dite (ℕ_discrete j seat)
       (λ own. tail_same t t (taken_by seat rest) (taken_by seat old ++ steps)
-      (sym (taken_here seat t rest) ∙ (subst (λ (k : ℕ). taken_by seat ((k, t) ∷ rest) ≡ taken_by seat ((k, t) ∷ old) ++ steps) own before ∙ ap (λ (l : List Taken). l ++ steps) (taken_here seat t old))))
+      (sym (taken_here seat t rest) ∙ (subst (λ (k : ℕ). taken_by seat (logged_by k t ∷ rest) ≡ taken_by seat (logged_by k t ∷ old) ++ steps) own before ∙ ap (λ (l : List Taken). l ++ steps) (taken_here seat t old))))
       (λ not. sym (taken_else seat j t rest not) ∙ (before ∙ ap (λ (l : List Taken). l ++ steps) (taken_else seat j t old not))) in
-      is ∙ ap (λ (l : Log). (j, t) ∷ l) (onward_from rest (both_after seat (j, t) old rest (subst (Knows seat ((j, t) ∷ old)) is knows)) after)
+      is ∙ ap (λ (l : Log). logged_by j t ∷ l) (onward_from rest (both_after seat (logged_by j t) old rest (subst (Knows seat (logged_by j t ∷ old)) is knows)) after)
 
-  else_ : j ≢ seat → new ≡ (j, t) ∷ (old ++ map (λ (x : Taken). (seat, x)) steps)
+  else_ : j ≢ seat → new ≡ logged_by j t ∷ (old ++ map (logged_by seat) steps)
   else_ not =
       let k = knows j not in
-      let first = starts_with j k.0 (j, t) old k.1 (λ none. some_here j t old (sym k.3 ∙ none)) in
-      onward (drop 1 new) (first_of k.0 (j, t) first.0 new first.1 k.2)
+      let first = starts_with j k.0 (logged_by j t) old k.1 (λ none. some_here j t old (sym k.3 ∙ none)) in
+      onward (drop 1 new) (first_of k.0 (logged_by j t) first.0 new first.1 k.2)
 
-  own : j ≡ seat → new ≡ (j, t) ∷ (old ++ map (λ (x : Taken). (seat, x)) steps)
+  own : j ≡ seat → new ≡ logged_by j t ∷ (old ++ map (logged_by seat) steps)
   own is = go new refl
     where
       mine : taken_by seat new ≡ t ∷ (taken_by seat old ++ steps)
-      mine = more ∙ ap (λ (l : List Taken). l ++ steps) (ap (λ (k : ℕ). taken_by seat ((k, t) ∷ old)) is ∙ taken_here seat t old)
+      mine = more ∙ ap (λ (l : List Taken). l ++ steps) (ap (λ (k : ℕ). taken_by seat (logged_by k t ∷ old)) is ∙ taken_here seat t old)
 
-      go : (log : Log) → new ≡ log → new ≡ (j, t) ∷ (old ++ map (λ (x : Taken). (seat, x)) steps)
+      go : (log : Log) → new ≡ log → new ≡ logged_by j t ∷ (old ++ map (logged_by seat) steps)
       go [] empty = let l = ap length (sym (ap (taken_by seat) empty) ∙ mine) in absurd (omega arith)
-      go ((i, u) ∷ rest) full = dite (ℕ_discrete i seat)
+      go (y ∷ rest) full = dite (ℕ_discrete y.seat seat)
           (λ own_too.
-          let same : u ≡ t = head_same u t (taken_by seat rest) (taken_by seat old ++ steps)
-          (sym (ap (taken_by seat) full ∙ (ap (λ (k : ℕ). taken_by seat ((k, u) ∷ rest)) own_too ∙ taken_here seat u rest)) ∙ mine) in
-          onward rest (full ∙ (λ z. ((own_too ∙ sym is) z, same z) ∷ rest)))
+          let same : y.step ≡ t = head_same y.step t (taken_by seat rest) (taken_by seat old ++ steps)
+          (sym (ap (taken_by seat) full ∙ (ap (λ (k : ℕ). taken_by seat (logged_by k y.step ∷ rest)) own_too ∙ taken_here seat y.step rest)) ∙ mine) in
+          onward rest (full ∙ (λ z. logged_by ((own_too ∙ sym is) z) (same z) ∷ rest)))
           (λ not.
-          let k = knows i not in
-          let any : taken_by i k.0 ≢ [] = (λ none. some_here i u rest (ap (taken_by i) (sym full) ∙ (sym k.4 ∙ none))) in
-          let a = starts_with i k.0 (j, t) old k.1 any in
-          let b = starts_with i k.0 (i, u) rest (subst (IsPrefix k.0) full k.2) any in
-          absurd (not (sym (ap (λ (y : ℕ × Taken). y.0) (head_same (j, t) (i, u) a.0 b.0 (sym a.1 ∙ b.1))) ∙ is)))
+          let k = knows y.seat not in
+          let any : taken_by y.seat k.0 ≢ [] = (λ none. some_here y.seat y.step rest (ap (taken_by y.seat) (sym full) ∙ (sym k.4 ∙ none))) in
+          let a = starts_with y.seat k.0 (logged_by j t) old k.1 any in
+          let b = starts_with y.seat k.0 y rest (subst (IsPrefix k.0) full k.2) any in
+          absurd (not (sym (ap (λ (z : Logged). z.seat) (head_same (logged_by j t) y a.0 b.0 (sym a.1 ∙ b.1))) ∙ is)))
 
-  both_begin : new ≡ (j, t) ∷ (old ++ map (λ (x : Taken). (seat, x)) steps)
+  both_begin : new ≡ logged_by j t ∷ (old ++ map (logged_by seat) steps)
   both_begin = dite (ℕ_discrete j seat) own else_
 
 -- the longer log is the shorter one, and the new steps after it
-comes_last : (seat : ℕ) (steps : List Taken) (old new : Log) → Knows seat old new → taken_by seat new ≡ taken_by seat old ++ steps → new ≡ old ++ map (λ (x : Taken). (seat, x)) steps
+comes_last : (seat : ℕ) (steps : List Taken) (old new : Log) → Knows seat old new → taken_by seat new ≡ taken_by seat old ++ steps → new ≡ old ++ map (logged_by seat) steps
 comes_last seat steps [] new knows more =
-    only_own seat new (λ j not. let k = knows j not in sym k.4 ∙ ap (taken_by j) (nil_from_length k.0 (let l = begins_length k.0 [] k.1 in omega arith))) ∙ ap (map (λ (x : Taken). (seat, x))) more
-comes_last seat steps ((j, t) ∷ old) new knows more = both_begin seat j t steps old new (comes_last seat steps old) knows more
+    only_own seat new (λ j not. let k = knows j not in sym k.4 ∙ ap (taken_by j) (nil_from_length k.0 (let l = begins_length k.0 [] k.1 in omega arith))) ∙ ap (map (logged_by seat)) more
+comes_last seat steps (x ∷ old) new knows more = both_begin seat x.seat x.step steps old new (comes_last seat steps old) knows more
 
 pub steps_last : StepsComeLast
 steps_last words_after before after views r seat v w steps here s more =
@@ -139,7 +139,7 @@ steps_last words_after before after views r seat v w steps here s more =
       begins_none r.log,
       begins_none s.log,
       sym (none_beyond (length views) j r.log (omega (arith, over)) r.seated),
-      sym (none_beyond (length views) j s.log (omega (arith, over)) (subst (λ (n : ℕ). All (λ (x : ℕ × Taken). x.0 < n) s.log) (length-set views seat w) s.seated)),
+      sym (none_beyond (length views) j s.log (omega (arith, over)) (subst (λ (n : ℕ). All (λ (x : Logged). x.seat < n) s.log) (length-set views seat w) s.seated)),
     ))) in
     comes_last seat steps r.log s.log knows (sym g.own ∙ (more ∙ ap (λ (l : List Taken). l ++ steps) f.own))
 
@@ -162,18 +162,18 @@ last_sees_all words_after words views r before seat x v is here =
     let none : length (taken_by seat f.knows.0) ≡ 0 = omega (arith, ap length cut, length-append (taken_by seat v.log) (taken_by seat f.knows.0), ap length (f.all_own ∙ f.own)) in
     let whole : v.log ≡ r.log = ⊎_elim
     (λ empty. sym (append-nil v.log) ∙ (ap (λ (l : Log). v.log ++ l) (sym empty) ∙ f.knows.1))
-    (λ (t : (init : Log) × (f.knows.0 ≡ init ++ (seat, x) ∷ [])). let l = ap length (ap (taken_by seat) t.1 ∙ taken_own seat t.0 x) in absurd (omega (arith, none, l, length-append (taken_by seat t.0) (x ∷ []))))
-    (end_in v.log f.knows.0 before (seat, x) (f.knows.1 ∙ is)) in
+    (λ (t : (init : Log) × (f.knows.0 ≡ init ++ logged_by seat x ∷ [])). let l = ap length (ap (taken_by seat) t.1 ∙ taken_own seat t.0 x) in absurd (omega (arith, none, l, length-append (taken_by seat t.0) (x ∷ []))))
+    (end_in v.log f.knows.0 before (logged_by seat x) (f.knows.1 ∙ is)) in
     same_from_both v.seen (history_of r.log) f.seen (subst (λ (l : Log). IsPrefix (history_of l) v.seen) whole f.sees)
 
 -- a board opens with no step, and so with no event; and with no reporter
 
-no_steps : (log : Log) → All (λ (x : ℕ × Taken). x.0 < 1) log → taken_by 0 log ≡ [] → log ≡ []
+no_steps : (log : Log) → All (λ (x : Logged). x.seat < 1) log → taken_by 0 log ≡ [] → log ≡ []
 no_steps [] all none = refl
-no_steps ((j, t) ∷ log) all none =
-    let below = All-head (λ (x : ℕ × Taken). x.0 < 1) (j, t) log all in
-    let zero_is : j ≡ 0 = omega arith in
-    absurd (some_here 0 t log (ap (λ (k : ℕ). taken_by 0 ((k, t) ∷ log)) (sym zero_is) ∙ none))
+no_steps (x ∷ log) all none =
+    let below = All-head (λ (y : Logged). y.seat < 1) x log all in
+    let zero_is : x.seat ≡ 0 = omega arith in
+    absurd (some_here 0 x.step log (ap (λ (k : ℕ). taken_by 0 (logged_by k x.step ∷ log)) (sym zero_is) ∙ none))
 
 numberless : (seat : ℕ) (v : View) (n : ℕ) → get_elem? (opener ∷ []) seat ≡ some v → v.number ≡ n → 1 ≤ n → ⊥
 numberless zero v n here is low = let z : 0 ≡ v.number = ap (λ (q : View). q.number) (some-injective opener v here) in omega arith
@@ -193,12 +193,12 @@ opens_fresh words_after words r =
 -- who holds the whole did all
 
 -- each step is of a seat that took one
-all_of : (P : ℕ → Type 0) (log : Log) → ((j : ℕ) → taken_by j log ≢ [] → P j) → All (λ (x : ℕ × Taken). P x.0) log
-all_of P [] each = All-nil (λ (x : ℕ × Taken). P x.0)
-all_of P ((i, t) ∷ log) each = All-cons (λ (x : ℕ × Taken). P x.0) (i, t) log (each i (some_here i t log))
-    (all_of P log (λ j any. each j (λ none. dite (ℕ_discrete i j)
-    (λ is. some_here j t log (ap (λ (k : ℕ). taken_by j ((k, t) ∷ log)) (sym is) ∙ none))
-    (λ not. any (sym (taken_else j i t log not) ∙ none)))))
+all_of : (P : ℕ → Type 0) (log : Log) → ((j : ℕ) → taken_by j log ≢ [] → P j) → All (λ (x : Logged). P x.seat) log
+all_of P [] each = All-nil (λ (x : Logged). P x.seat)
+all_of P (x ∷ log) each = All-cons (λ (y : Logged). P y.seat) x log (each x.seat (some_here x.seat x.step log))
+    (all_of P log (λ j any. each j (λ none. dite (ℕ_discrete x.seat j)
+    (λ is. some_here j x.step log (ap (λ (k : ℕ). taken_by j (logged_by k x.step ∷ log)) (sym is) ∙ none))
+    (λ not. any (sym (taken_else j x.seat x.step log not) ∙ none)))))
 
 module _ (words_after : List Entry → ℕ → List ℕ) (words : List ℕ) (views : List View) (r : KeepsOneHistory words_after words views) (held : ℕ → Bool) where
   one_holds : (way : List Bool) → IsHeld views held way → (seat : ℕ) (u : View) → get_elem? views seat ≡ some u → Overlap u.share (Some way) → IsTrue (held seat)

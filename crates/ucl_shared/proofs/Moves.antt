@@ -13,7 +13,7 @@ use Rattle.atomic_table.proofs.Lists.{at_set, at_longer, set_again, set_here, se
 use Rattle.ucl_word.proofs.Sequences.{may_none}
 use Rattle.ucl_board.specs.declared.entry.Entry.{Entry}
 use Rattle.ucl_board.specs.History.{MayFollow, IsLegal, followed_by}
-use Rattle.ucl_board.specs.Log.{Target, Match, Enlisted, Swap, Taken, step_taken, Log, taken_by, entry_list, added_by, history_of, IsThere, IsLog}
+use Rattle.ucl_board.specs.Log.{Target, Match, Enlisted, Swap, Taken, step_taken, Logged, logged_by, Log, taken_by, entry_list, added_by, history_of, IsThere, IsLog}
 use Rattle.ucl_board.proofs.Logs.{log_none, log_more, history_more, history_same, taken_own, taken_other, taken_none, added_more}
 use Rattle.ucl_board.proofs.Beginnings.{begins_more, begins_none, begins_same, begins_take, begins_through}
 use Rattle.ucl_shared.specs.declared.view.View.{View}
@@ -53,12 +53,12 @@ at_last (x ∷ views) w u (suc j) e = ⊎_elim (λ was. inl was) (λ (t : (j ≡
 
 -- the log with one step more
 abbrev pub logged : Log → ℕ → Taken → Log
-logged log seat t = log ++ (seat, t) ∷ []
+logged log seat t = log ++ logged_by seat t ∷ []
 
 -- the view of a pass after a step of its own
 abbrev pub after_step : View → Log → ℕ → Taken → List Entry → ℕ → ℕ → List ℕ → View
 after_step v log seat t mine number listed shown = record {
-  seen = history_of (log ++ (seat, t) ∷ []);
+  seen = history_of (log ++ logged_by seat t ∷ []);
   told = [];
   mine = mine;
   number = number;
@@ -67,7 +67,7 @@ after_step v log seat t mine number listed shown = record {
   share = v.share;
   copied = v.copied;
   own = v.own ++ t ∷ [];
-  log = log ++ (seat, t) ∷ [];
+  log = log ++ logged_by seat t ∷ [];
 }
 
 -- another pass fits the longer log
@@ -85,7 +85,7 @@ other_fits log enlisted more seat t j u not le same f =
       number = omega arith;
       listed = omega arith;
       own = f.own ∙ sym (taken_other j seat log t (λ e. not (sym e)));
-      knows = begins_more u.log log (seat, t) f.knows;
+      knows = begins_more u.log log (logged_by seat t) f.knows;
       all_own = f.all_own;
       sees = f.sees;
       idle = f.idle;
@@ -130,7 +130,7 @@ module _ (words_after : List Entry → ℕ → List ℕ) where
 
   -- one pass gets the view w, and the others still fit
   stepped : (words after : List ℕ) (views : List View) (r : Rule words views) (seat : ℕ) (w : View) (log : Log) (enlisted : ℕ)
-      → after ≡ words_after (history_of log) enlisted → IsLog log → IsLegal (history_of log) → enlisted ≤ 255 → All (InRank enlisted) (history_of log) → All (λ (x : ℕ × Taken). x.0 < length views) log
+      → after ≡ words_after (history_of log) enlisted → IsLog log → IsLegal (history_of log) → enlisted ≤ 255 → All (InRank enlisted) (history_of log) → All (λ (x : Logged). x.seat < length views) log
       → ((j : ℕ) (u : View) → j ≢ seat → get_elem? views j ≡ some u → Fits log enlisted j u) → Fits log enlisted seat w
       → ((j : ℕ) (u : View) → j ≢ seat → get_elem? views j ≡ some u → 0 < w.number → w.number ≢ u.number)
       → ((j : ℕ) (u : View) → j ≢ seat → get_elem? views j ≡ some u → Overlap w.share u.share → ⊥)
@@ -144,7 +144,7 @@ module _ (words_after : List Entry → ℕ → List ℕ) where
     legal = legal;
     few = few;
     ranked = ranked;
-    seated = subst (λ (n : ℕ). All (λ (x : ℕ × Taken). x.0 < n) log) (sym (length-set views seat w)) seated;
+    seated = subst (λ (n : ℕ). All (λ (x : Logged). x.seat < n) log) (sym (length-set views seat w)) seated;
     fits = λ j u e. ⊎_elim
         (λ (t : (j ≡ seat) × (w ≡ u)). subst (λ (k : ℕ). Fits log enlisted k u) (sym t.0) (subst (Fits log enlisted seat) t.1 mine))
         (λ (t : (j ≢ seat) × (get_elem? views j ≡ some u)). others j u t.0 t.1)
@@ -201,8 +201,8 @@ module _ (words_after : List Entry → ℕ → List ℕ) where
     still_lone w is j u ne e over = ne (sym (r.shared seat j v u here e (subst (λ (s : Share). Overlap s u.share) is over)))
 
     module _ (t : Taken) where
-      all_seated : All (λ (x : ℕ × Taken). x.0 < length views) (logged r.log seat t)
-      all_seated = All-append (λ (x : ℕ × Taken). x.0 < length views) r.log ((seat, t) ∷ []) r.seated (All-cons (λ (x : ℕ × Taken). x.0 < length views) (seat, t) [] below (All-nil (λ (x : ℕ × Taken). x.0 < length views)))
+      all_seated : All (λ (x : Logged). x.seat < length views) (logged r.log seat t)
+      all_seated = All-append (λ (x : Logged). x.seat < length views) r.log (logged_by seat t ∷ []) r.seated (All-cons (λ (x : Logged). x.seat < length views) (logged_by seat t) [] below (All-nil (λ (x : Logged). x.seat < length views)))
 
       now : t.entry ≡ None → history_of (logged r.log seat t) ≡ history_of r.log
       now = history_same r.log seat t
@@ -224,7 +224,7 @@ module _ (words_after : List Entry → ℕ → List ℕ) where
           let h = same_history in
           stepped words words views r seat looked (logged r.log seat look) r.enlisted
           (r.words_are ∙ ap (λ (l : List Entry). words_after l r.enlisted) (sym h))
-          (log_more r.log (seat, look) r.is_log (record { place = refl; there = there; adds = tt }))
+          (log_more r.log (logged_by seat look) r.is_log (record { place = refl; there = there; adds = tt }))
           (subst IsLegal (sym h) r.legal)
           r.few
           (subst (All (InRank r.enlisted)) (sym h) r.ranked)
@@ -286,7 +286,7 @@ module _ (words_after : List Entry → ℕ → List ℕ) where
           let rank : e.reporter ≤ r.enlisted = (let a = f.number in omega arith) in
           stepped words after views r seat entered (logged r.log seat add) r.enlisted
           (are ∙ ap (λ (l : List Entry). words_after l r.enlisted) (sym h))
-          (log_more r.log (seat, add) r.is_log (record { place = refl; there = there; adds = (found, refl) }))
+          (log_more r.log (logged_by seat add) r.is_log (record { place = refl; there = there; adds = (found, refl) }))
           (subst IsLegal (sym h) legal)
           r.few
           (subst (All (InRank r.enlisted)) (sym h) (All-append (InRank r.enlisted) (history_of r.log) (e ∷ []) r.ranked (All-cons (InRank r.enlisted) e [] rank (All-nil (InRank r.enlisted)))))
@@ -365,7 +365,7 @@ module _ (words_after : List Entry → ℕ → List ℕ) where
           let h = unchanged_history in
           stepped words after views r seat enlisted_as (logged r.log seat count) (r.enlisted + 1)
           (are ∙ ap (λ (l : List Entry). words_after l (r.enlisted + 1)) (sym h))
-          (log_more r.log (seat, count) r.is_log (record { place = refl; there = tt; adds = tt }))
+          (log_more r.log (logged_by seat count) r.is_log (record { place = refl; there = tt; adds = tt }))
           (subst IsLegal (sym h) r.legal)
           (omega arith)
           (subst (All (InRank (r.enlisted + 1))) (sym h) (λ k d lt. let q = r.ranked k d lt in omega arith))
@@ -567,7 +567,7 @@ module _ (words_after : List Entry → ℕ → List ℕ) where
     legal = may_none MayFollow;
     few = omega arith;
     ranked = All-nil (InRank 0);
-    seated = All-nil (λ (x : ℕ × Taken). x.0 < 1);
+    seated = All-nil (λ (x : Logged). x.seat < 1);
     fits = one;
     apart = λ i j v w e f pos same. absurd (numberless i v e pos);
     shared = λ i j v w e f over. only i v e ∙ sym (only j w f);

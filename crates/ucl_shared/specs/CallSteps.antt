@@ -1,9 +1,25 @@
 -- Which steps a call on any shared board takes: the pass was v and is w.
-use Rattle.std.specs.Prelude.{◌≡◌, ℕ, List, [], ◌∷◌, ◌++◌, length, None}
+use Rattle.std.specs.Prelude.{◌≡◌, ℕ, List, [], ◌∷◌, ◌++◌, length, Option, Some, None, Result, Ok, Err}
 use Rattle.std.specs.List.{AllByRecursion}
-use Rattle.ucl_board.specs.Log.{Enlisted, Taken, step_taken}
+use Rattle.ucl_word.specs.declared.event.EventCall.{EventCall}
+use Rattle.ucl_word.specs.declared.event.Accepted.{Accepted}
+use Rattle.ucl_word.specs.declared.refusal.Refusal.{Refusal}
+use Rattle.ucl_board.specs.declared.entry.Entry.{Entry}
+use Rattle.ucl_board.specs.History.{entry_of}
+use Rattle.ucl_board.specs.Log.{Access, Match, Enlisted, Taken, step_taken}
 use Rattle.ucl_shared.specs.declared.view.View.{View}
 use Rattle.ucl_shared.specs.Views.{Takes}
+
+-- the steps of accesses, of which the last may have added an entry
+abbrev pub steps_with : Option Entry → List Access → List Taken
+steps_with entry [] = []
+steps_with entry (m ∷ []) = step_taken (Match m.kind m.game m.found) m.at entry ∷ []
+steps_with entry (m ∷ n ∷ ms) = step_taken (Match m.kind m.game m.found) m.at None ∷ steps_with entry (n ∷ ms)
+
+-- the entry of an accepted event
+abbrev pub entry_made : ℕ → EventCall → Result Accepted Refusal → Option Entry
+entry_made number call (Ok reply) = Some (entry_of number call)
+entry_made number call (Err refusal) = None
 
 -- a step on the number of enlisted reporters, which found so many
 abbrev pub FoundEnlisted : ℕ → Taken → Type 0

@@ -5,3 +5,4 @@ pub mod Views
 pub mod OneHistory
 pub mod Steps
 pub mod CallSteps
+pub mod Standing

@@ -5,7 +5,7 @@ use mathlib.Core.Option.{some}
 use lib.ListN.{get_elem?}
 use Rattle.ucl_board.specs.declared.entry.Entry.{Entry}
 use Rattle.ucl_board.specs.History.{IsLegal}
-use Rattle.ucl_board.specs.Log.{Taken, Log, taken_by, added_by, history_of, IsLog}
+use Rattle.ucl_board.specs.Log.{Taken, Logged, logged_by, Log, taken_by, added_by, history_of, IsLog}
 use Rattle.ucl_shared.specs.declared.view.View.{View}
 use Rattle.ucl_shared.specs.Shares.{whole, Overlap}
 use Rattle.ucl_shared.specs.Passes.{entries_by}
@@ -39,7 +39,7 @@ pub record KeepsOneHistory (words_after : List Entry → ℕ → List ℕ) (word
   pub legal : IsLegal (history_of log)
   pub few : enlisted ≤ 255
   pub ranked : All (λ (e : Entry). e.reporter ≤ enlisted) (history_of log)
-  pub seated : All (λ (x : ℕ × Taken). x.0 < length views) log
+  pub seated : All (λ (x : Logged). x.seat < length views) log
   pub fits : (seat : ℕ) (v : View) → get_elem? views seat ≡ some v → Fits log enlisted seat v
   pub apart : (i j : ℕ) (v w : View) → get_elem? views i ≡ some v → get_elem? views j ≡ some w → 0 < v.number → v.number ≡ w.number → i ≡ j
   pub shared : (i j : ℕ) (v w : View) → get_elem? views i ≡ some v → get_elem? views j ≡ some w → Overlap v.share w.share → i ≡ j
@@ -57,12 +57,12 @@ BoardsOpenFresh words_after = (words : List ℕ) (r : KeepsOneHistory words_afte
 -- whatever a step of a pass is, what it adds to the pass's own steps is the end of the log: one rule holds before it, with the view v of the pass, and after it, with w
 abbrev pub StepsComeLast : Type 0
 StepsComeLast = (words_after : List Entry → ℕ → List ℕ) (before after : List ℕ) (views : List View) (r : KeepsOneHistory words_after before views) (seat : ℕ) (v w : View) (steps : List Taken)
-    → get_elem? views seat ≡ some v → (s : KeepsOneHistory words_after after (slice_set views seat w)) → w.own ≡ v.own ++ steps → s.log ≡ r.log ++ map (λ x. (seat, x)) steps
+    → get_elem? views seat ≡ some v → (s : KeepsOneHistory words_after after (slice_set views seat w)) → w.own ≡ v.own ++ steps → s.log ≡ r.log ++ map (logged_by seat) steps
 
 -- the pass that took the last step has seen the whole history
 abbrev pub LastStepsSeeAll : Type 0
 LastStepsSeeAll = (words_after : List Entry → ℕ → List ℕ) (words : List ℕ) (views : List View) (r : KeepsOneHistory words_after words views) (before : Log) (seat : ℕ) (x : Taken) (v : View)
-    → r.log ≡ before ++ (seat, x) ∷ [] → get_elem? views seat ≡ some v → v.seen ≡ history_of r.log
+    → r.log ≡ before ++ logged_by seat x ∷ [] → get_elem? views seat ≡ some v → v.seen ≡ history_of r.log
 
 -- one of the seats that are held has the share at the end of this way
 pub record IsHeld (views : List View) (held : ℕ → Bool) (way : List Bool) : Type 0 where
@@ -79,7 +79,7 @@ MakeUp views held (suc n) way = IsHeld views held way ⊎ (MakeUp views held n (
 
 -- each step is by a seat that is held, and each number is that of one
 pub record DidAll (log : Log) (enlisted : ℕ) (views : List View) (held : ℕ → Bool) : Type 0 where
-  pub steps : All (λ (x : ℕ × Taken). IsTrue (held x.0)) log
+  pub steps : All (λ (x : Logged). IsTrue (held x.seat)) log
   pub numbers : (n : ℕ) → 1 ≤ n → n ≤ enlisted → (seat : ℕ) × (v : View) × IsTrue (held seat) × (get_elem? views seat ≡ some v) × (v.number ≡ n)
 
 -- seats whose shares make up the whole did all that was done

@@ -56,10 +56,10 @@ opening_pass = record { seen = []; mine = []; number = 0; listed = 0; shown = []
 -- an accepted event: its entry is the last that was seen, and it was accepted after the entries before, those that had been seen among them
 pub record AcceptedReport (k : PassView) (call : EventCall) (reply : Accepted) (m : PassView) : Type 0 where
   pub before : List Entry
-  pub last : m.seen ≡ followed_by before (entry_of (k.number, call))
+  pub last : m.seen ≡ followed_by before (entry_of k.number call)
   pub since : IsPrefix k.seen before
   pub answer : sequential_reply before call ≡ Ok reply
-  pub mine : m.mine ≡ followed_by k.mine (entry_of (k.number, call))
+  pub mine : m.mine ≡ followed_by k.mine (entry_of k.number call)
   pub shown : m.shown ≡ k.shown
 
 -- a refused event: the refusal is the reply after all that was seen

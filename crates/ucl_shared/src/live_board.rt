@@ -9,7 +9,7 @@ use std::sync::Wait;
 use ucl_board::Reading;
 use ucl_word::{Accepted, EventCall, Refusal, ReporterNo};
 
-/// A board that threads share. Each thread holds a pass, and what a call answers is said of what its pass has seen: a beginning
+/// A board that threads share. Each thread holds a pass, and what a call answers is said of what its pass has seen: a prefix
 /// of one history of accepted events, the same for all passes (Herlihy and Wing, Linearizability).
 ///
 /// A condition of every call is that its passes are of this board: they came, by `split` or `enlist`, from the pass that its
@@ -70,7 +70,7 @@ pub trait LiveBoard: Sync {
         ensures refused { IfErr result (λ refusal. RefusedReport (reporter pass.old) call.now refusal (reporter pass.new)) }
         ensures reported { ReportsMore (has_reported pass.old) 1 (has_reported pass.new) };
 
-    /// The board after a beginning of the history that has all that the pass had seen, and its version.
+    /// The board after a prefix of the history that has all that the pass had seen, and its version.
     ///
     /// ```rust
     /// let (board, mut reader) = CellBoard::open(&rt, rt.alloc())?;

@@ -20,7 +20,7 @@ use Rattle.ucl_board.proofs.HistoryLaws.{versions, same_number}
 use Rattle.ucl_board.proofs.Beginnings.{take_beginning}
 use Rattle.ucl_steps.proofs.Lists.{get_some}
 use Rattle.ucl_steps.proofs.Histories.{number_expected, is_stale, legal_beginning, read_back, squeezed, board_from}
-use Rattle.ucl_board.specs.Log.{AccessKind, Access}
+use Rattle.ucl_board.specs.Log.{AccessKind, Look, Swap, Access, access}
 use Rattle.ucl_steps.specs.Trails.{Does, IsFoundIn, Follows, IsCollect, IsUnclean, IsClean, accesses_of}
 use Rattle.ucl_steps.specs.Laws.{UncleanTriesSeeMore, UncleanTriesAreFew, ReadingsAreSnapshots, ReportsAreSequential}
 
@@ -207,26 +207,24 @@ found_record h m game legal found is = ap record_at (found ∙ ap (λ (z : ℕ).
 
 pub report_whole : ReportsAreSequential
 report_whole h low high now call (Ok reply) ms legal f won =
-    let t : Follows h low (won.looked ∷ won.swapped ∷ []) high = subst (λ (z : List Access). Follows h low z high) won.accesses f in
+    let swapped : Access = access Swap call.game won.looked won.before in
+    let t : Follows h low (access Look call.game won.looked won.at ∷ swapped ∷ []) high = subst (λ (z : List Access). Follows h low z high) won.accesses f in
     let last = won.last in
-    let place : now - 1 ≡ won.swapped.at = omega arith in
+    let place : now - 1 ≡ won.before = omega arith in
     ap (λ (z : ℕ). reply_of (match_after (take z h) call.game) call) place
-    ∙ (ap (λ (z : MatchRecord). reply_of z call) (sym (found_record h won.swapped call.game legal t.2.1 won.acts.1.1))
-    ∙ (ap (λ (z : ℕ). reply_of (record_at z) call) won.same ∙ won.answer))
+    ∙ (ap (λ (z : MatchRecord). reply_of z call) (sym (found_record h swapped call.game legal t.2.1 refl)) ∙ won.answer)
 report_whole h low high now call (Err refusal) ms legal f (inl refused) =
-    let t : Follows h low (refused.looked ∷ []) high = subst (λ (z : List Access). Follows h low z high) refused.accesses f in
-    ap (λ (z : ℕ). reply_of (match_after (take z h) call.game) call) (sym refused.last)
-    ∙ (ap (λ (z : MatchRecord). reply_of z call) (sym (found_record h refused.looked call.game legal t.1 refused.kind.1)) ∙ refused.answer)
+    let looked : Access = access Look call.game refused.looked now in
+    let t : Follows h low (looked ∷ []) high = subst (λ (z : List Access). Follows h low z high) refused.accesses f in
+    ap (λ (z : MatchRecord). reply_of z call) (sym (found_record h looked call.game legal t.1 refl)) ∙ refused.answer
 report_whole h low high now call (Err refusal) ms legal f (inr missed) =
-    let t : Follows h low (missed.looked ∷ missed.swapped ∷ []) high = subst (λ (z : List Access). Follows h low z high) missed.accesses f in
+    let a : Access = access Look call.game missed.looked missed.missed.at in
+    let b : Access = access Swap call.game missed.found now in
+    let t : Follows h low (a ∷ b ∷ []) high = subst (λ (z : List Access). Follows h low z high) missed.missed.accesses f in
     let g = call.game in
-    let a = missed.looked in
-    let b = missed.swapped in
-    let old = found_record h a g legal t.1 missed.acts.0.1 in
-    let new = found_record h b g legal t.2.1 missed.acts.1.1 in
-    let expected : call.expected ≡ (match_after (take a.at h) g).number = number_expected (record_at a.found) call.expected call.kind (none_of_ok (record_at a.found).number (refusal_of (record_at a.found) call.expected call.kind) missed.may) ∙ ap (λ (z : MatchRecord). z.number) old in
-    let stale : call.expected ≡ (match_after (take b.at h) g).number → ⊥ = λ is. missed.other
-    (t.2.1 ∙ (ap (λ (z : ℕ). word_of (match_after (take b.at h) z)) missed.acts.1.1 ∙ (sym (same_number h a.at b.at g (sym expected ∙ is)).1 ∙ (ap (λ (z : ℕ). word_of (match_after (take a.at h) z)) (sym missed.acts.0.1) ∙ sym t.1)))) in
-    ap (λ (z : ℕ). reply_of (match_after (take z h) g) call) (sym missed.last)
-    ∙ (ap (answer (match_after (take b.at h) g).number) (is_stale (match_after (take b.at h) g) call.expected call.kind stale)
-    ∙ (ap (λ (z : MatchRecord). Err (Stale z.number)) (sym new) ∙ ap Err (sym missed.answer)))
+    let old = found_record h a g legal t.1 refl in
+    let new = found_record h b g legal t.2.1 refl in
+    let expected : call.expected ≡ (match_after (take a.at h) g).number = number_expected (record_at a.found) call.expected call.kind (none_of_ok (record_at a.found).number (refusal_of (record_at a.found) call.expected call.kind) missed.missed.may) ∙ ap (λ (z : MatchRecord). z.number) old in
+    let stale : call.expected ≡ (match_after (take now h) g).number → ⊥ = λ is. missed.other (t.2.1 ∙ (sym (same_number h a.at now g (sym expected ∙ is)).1 ∙ sym t.1)) in
+    ap (answer (match_after (take now h) g).number) (is_stale (match_after (take now h) g) call.expected call.kind stale)
+    ∙ (ap (λ (z : MatchRecord). Err (Stale z.number)) (sym new) ∙ ap Err (sym missed.answer))

@@ -12,7 +12,7 @@ use Rattle.ucl_steps.specs.declared.trace.CallRecord.{CallRecord}
 
 -- what the board of one thread replies to a call of this caller after the first k entries, and the entry that it makes
 abbrev pub IsSequential : List Entry → ℕ → Caller → Call → Reply → Type 0
-IsSequential history k (Reporter r) (Event e) (Accepted a) = (sequential_reply (take k history) e ≡ Ok a) × (slice_get history k ≡ Some (entry_of (r, e)))
+IsSequential history k (Reporter r) (Event e) (Accepted a) = (sequential_reply (take k history) e ≡ Ok a) × (slice_get history k ≡ Some (entry_of r e))
 IsSequential history k (Reporter r) (Event e) (Refused refusal) = sequential_reply (take k history) e ≡ Err refusal
 IsSequential history k c Reading (Copied reading) = (reading.board ≡ board_of (take k history)) × (reading.version ≡ k)
 IsSequential history k c call reply = ⊥

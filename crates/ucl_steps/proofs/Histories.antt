@@ -10,7 +10,7 @@ use Rattle.ucl_word.specs.Record.{scheduled}
 use Rattle.ucl_word.specs.Rules.{refusal_of, after}
 use Rattle.ucl_word.specs.Counts.{counted_match}
 use Rattle.ucl_word.specs.Layout.{word_of, record_at}
-use Rattle.ucl_word.proofs.AcceptedEvents.{accepts}
+use Rattle.ucl_word.proofs.AcceptedEvents.{accepts, after_number}
 use Rattle.ucl_word.proofs.Sequences.{may_none, may_next, may_begin}
 use Rattle.ucl_word.proofs.EntryCounts.{legal_balanced, legal_case, record_next, number_of_count}
 use Rattle.ucl_word.proofs.Words.{record_back}
@@ -51,6 +51,13 @@ match_next h e legal may = ap counted_match (entries_same h e e.game refl)
 -- a word is of one record
 pub read_back : (h : List Entry) (g : ℕ) → IsLegal h → record_at (word_of (match_after h g)) ≡ match_after h g
 read_back h g legal = record_back (match_after h g) (match_valid g h legal)
+
+-- the word that an entry leaves has the next number
+pub number_next : (h : List Entry) (e : Entry) → IsLegal h → MayFollow h e → (record_at (word_of (after (match_after h e.game) e.reporter e.kind))).number ≡ (match_after h e.game).number + 1
+number_next h e legal may =
+    let next = match_next h e legal may in
+    ap (λ (m : MatchRecord). (record_at (word_of m)).number) (sym next)
+    ∙ (ap (λ (m : MatchRecord). m.number) (read_back (h ++ e ∷ []) e.game (legal_snoc h e legal may) ∙ next) ∙ after_number (match_after h e.game) e.reporter e.kind)
 
 numbers_rise : (g : ℕ) (h : List Entry) (a b : ℕ) → a ≤ b → length (entries_of g (take a h)) ≤ length (entries_of g (take b h))
 numbers_rise g h a b l =

@@ -8,7 +8,6 @@ use Rattle.std.proofs.lemmas.List.{length_push, get_or_append_left, get_or_push,
 use Rattle.std.proofs.Math.Seq.{take-append_seam, take-length}
 use Rattle.ucl_word.specs.declared.record.MatchRecord.{MatchRecord}
 use Rattle.ucl_word.specs.declared.event.EventCall.{EventCall}
-use Rattle.ucl_word.specs.declared.event.Kind.{Kind}
 use Rattle.ucl_word.specs.declared.refusal.Refusal.{Refusal}
 use Rattle.ucl_word.specs.declared.refusal.Refusal.TheVariants.{Stale}
 use Rattle.ucl_word.specs.Rules.{refusal_of, after}
@@ -16,11 +15,11 @@ use Rattle.ucl_word.specs.Layout.{word_of, record_at}
 use Rattle.ucl_board.specs.declared.entry.Entry.{Entry}
 use Rattle.ucl_board.specs.Words.{word_at, version_of}
 use Rattle.ucl_word.specs.Rules.{answer}
-use Rattle.ucl_board.specs.History.{match_after, board_of, MayFollow, sequential_reply}
+use Rattle.ucl_board.specs.History.{match_after, board_of, MayFollow, sequential_reply, attempted, reading_of}
 use Rattle.ucl_word.proofs.Sequences.{at_end}
-use Rattle.ucl_board.proofs.HistoryLaws.{same_number}
+use Rattle.ucl_board.proofs.HistoryLaws.{same_number, may_attempt}
 use Rattle.ucl_board.proofs.Beginnings.{begins_same}
-use Rattle.ucl_steps.proofs.Histories.{number_expected, is_stale, legal_snoc, legal_beginning, match_next, read_back, number_is, squeezed, board_at, board_get, board_next, board_from, version_is}
+use Rattle.ucl_steps.proofs.Histories.{number_expected, is_stale, legal_snoc, legal_beginning, read_back, number_next, squeezed, board_at, board_get, board_next, board_from, version_is}
 use Rattle.ucl_steps.specs.declared.step.Caller.{Caller}
 use Rattle.ucl_steps.specs.declared.step.Caller.TheVariants.{Reporter, Reader}
 use Rattle.ucl_steps.specs.declared.step.Call.{Call}
@@ -46,11 +45,6 @@ unended_none o P none = subst (λ (z : Option ℕ). IfSome z P) (sym none) tt
 
 same_reporter : (n m : ℕ) → Reporter n ≡ Reporter m → n ≡ m
 same_reporter n m e = cc
-
--- the number of the word that an accepted event leaves
-number_after : (m : MatchRecord) (r : ℕ) (k : Kind) → (after m r k).number ≡ m.number + 1
-unfolding after
-number_after m r k = refl
 
 sequential_reading : (h : List Entry) (k : ℕ) (c : Caller) (board : List ℕ) (version : ℕ) → board ≡ board_of (take k h) → version ≡ k → IsSequential h k c Reading (Copied (record { board = board; version = version }))
 sequential_reading h k (Reporter n) board version same is = (same, is)
@@ -127,9 +121,6 @@ module _ (steps : List Step) (w : MachineState) (kept : Keeps steps w) where
       abbrev sees_it : Offers w.history (kept.knows (Reporter n) (Within k (Holding e old new)) k holds refl).call e old new
       sees_it = (kept.knows (Reporter n) (Within k (Holding e old new)) k holds refl).sees
 
-      abbrev after_it : List Entry
-      after_it = w.history ++ entered e n ∷ []
-
       match_is : record_at old ≡ match_after w.history e.game
       match_is = ap record_at (sym (eqb-true (word_at w.words e.game) old same) ∙ word_now e.game sees_it.asks.game) ∙ read_back w.history e.game kept.legal
 
@@ -142,11 +133,7 @@ module _ (steps : List Step) (w : MachineState) (kept : Keeps steps w) where
           let r_is : sees_it.asks.reporter ≡ n = same_reporter sees_it.asks.reporter n (sym sees_it.asks.caller ∙ m.caller) in
           let low = sees_it.asks.low in
           let high = sees_it.asks.high in
-          let number = number_expected (match_after w.history e.game) e.expected e.kind accepted_now in
-          record {
-            game = sees_it.asks.game;
-            accepted = record { reporter = (omega arith, omega arith); accepted = ap (λ (z : ℕ). refusal_of (match_after w.history e.game) z e.kind) (sym (number_is w.history e.game) ∙ sym number) ∙ accepted_now };
-          }
+          may_attempt w.history (attempted n e) kept.legal ((omega arith, omega arith), sees_it.asks.game) accepted_now
 
       new_is : new ≡ word_of (after (match_after w.history e.game) n e.kind)
       new_is =
@@ -154,19 +141,10 @@ module _ (steps : List Step) (w : MachineState) (kept : Keeps steps w) where
           let r_is : sees_it.asks.reporter ≡ n = same_reporter sees_it.asks.reporter n (sym sees_it.asks.caller ∙ m.caller) in
           sees_it.next ∙ (ap (λ (z : ℕ). word_of (after (record_at old) z e.kind)) r_is ∙ ap (λ (z : MatchRecord). word_of (after z n e.kind)) match_is)
 
-      found_number : (record_at (word_at w.words e.game)).number ≡ (match_after w.history e.game).number
-      found_number = ap (λ (z : MatchRecord). z.number) (record_now e.game sees_it.asks.game)
+      new_number : (record_at new).number ≡ (match_after w.history e.game).number + 1
+      new_number = ap (λ (z : ℕ). (record_at z).number) new_is ∙ number_next w.history (entered e n) kept.legal may_follow
 
-      -- the next word has the next number
-      pub new_number : (record_at new).number ≡ (record_at (word_at w.words e.game)).number + 1
-      new_number =
-          let h = w.history in
-          let g = e.game in
-          let next = match_next h (entered e n) kept.legal may_follow in
-          ap (λ (z : ℕ). (record_at z).number) (new_is ∙ ap word_of (sym next))
-          ∙ (ap (λ (z : MatchRecord). z.number) (read_back after_it g (legal_snoc h (entered e n) kept.legal may_follow) ∙ next) ∙ (number_after (match_after h g) n e.kind ∙ ap (λ (z : ℕ). z + 1) (sym found_number)))
-
-      won : Keeps (steps ++ Swap (Reporter n) ∷ []) (after_reply (Reporter n) k now (Accepted (record { number = (record_at (word_at w.words e.game)).number + 1 })) (stored n e new w))
+      won : Keeps (steps ++ Swap (Reporter n) ∷ []) (after_reply (Reporter n) k now (Accepted (record { number = (record_at new).number })) (stored n e new w))
       won =
           let m = kept.knows (Reporter n) (Within k (Holding e old new)) k holds refl in
           let o = m.sees in
@@ -175,10 +153,10 @@ module _ (steps : List Step) (w : MachineState) (kept : Keeps steps w) where
           let h' = h ++ entered e n ∷ [] in
           let legal = legal_snoc h (entered e n) kept.legal may_follow in
           let words : slice_set w.words (g - 1) new ≡ board_of h' = ap (λ (z : List ℕ). slice_set z (g - 1) new) kept.words ∙ (ap (slice_set (board_of h) (g - 1)) new_is ∙ sym (board_next h (entered e n) kept.legal may_follow)) in
-          let reply = Accepted (record { number = (record_at (word_at w.words g)).number + 1 }) in
+          let reply = Accepted (record { number = (record_at new).number }) in
           let f = with_reply now reply in
           let base : IsSequential h' now (Reporter n) (Event e) reply =
-          (ap (λ (z : List Entry). sequential_reply z e) (take-append_seam h (entered e n ∷ [])) ∙ (ap (answer (match_after h g).number) accepted_now ∙ ap (λ (z : ℕ). Ok (record { number = z + 1 })) (sym found_number)), at_end h (entered e n)) in
+          (ap (λ (z : List Entry). sequential_reply z e) (take-append_seam h (entered e n ∷ [])) ∙ (ap (answer (match_after h g).number) accepted_now ∙ ap (λ (z : ℕ). Ok (record { number = z })) (sym new_number)), at_end h (entered e n)) in
           let is : IsSequential h' now m.call.caller m.call.call reply =
           subst (λ (z : Caller). IsSequential h' now z m.call.call reply) (sym m.caller) (subst (λ (z : Call). IsSequential h' now (Reporter n) z reply) (sym o.asks.call) base) in
           let long = length_push h (entered e n) in
@@ -188,7 +166,7 @@ module _ (steps : List Step) (w : MachineState) (kept : Keeps steps w) where
           (λ a at. (subst (λ (z : CallRecord). IsExplained h' (f z) (Some now) (Some reply)) (same_Some m.call a (sym m.at ∙ at)) told, refl)) refl
 
     swap_kept : (b : Bool) → (word_at w.words e.game == old) ≡ b → Keeps (steps ++ Swap (Reporter n) ∷ []) (after_reply (Reporter n) k now
-        (cond b (Accepted (record { number = (record_at (word_at w.words e.game)).number + 1 })) (Refused (Stale (record_at (word_at w.words e.game)).number))) (cond b (stored n e new w) w))
+        (cond b (Accepted (record { number = (record_at new).number })) (Refused (Stale (record_at (word_at w.words e.game)).number))) (cond b (stored n e new w) w))
     swap_kept true is = won is
     swap_kept false is = missed is
 
@@ -276,20 +254,20 @@ module _ (steps : List Step) (w : MachineState) (kept : Keeps steps w) where
           board_from (take point w.history) words o.twelve (λ i few. each i (omega arith))
 
       -- the sum of the numbers of the words is the noted length
-      pub copied_version : version_of words ≡ point
+      copied_version : version_of words ≡ point
       copied_version =
           let late = (kept.knows c (Within k (Checking words checked point)) k holds refl).sees.late in
           ap version_of copied_board ∙ (version_is (take point w.history) (legal_beginning w.history point kept.legal) ∙ length-take-le point w.history late)
 
-      copied : Keeps (steps ++ Second c ∷ []) (after_reply c k point (Copied (record { board = words; version = point })) w)
+      copied : Keeps (steps ++ Second c ∷ []) (after_reply c k point (Copied (reading_of words)) w)
       copied =
           let m = kept.knows c (Within k (Checking words checked point)) k holds refl in
           let o = m.sees in
           let h = w.history in
-          let r = Copied (record { board = words; version = point }) in
+          let r = Copied (reading_of words) in
           let f = with_reply point r in
           let is : IsSequential h point m.call.caller m.call.call r =
-          subst (λ (z : Call). IsSequential h point m.call.caller z r) (sym o.reads.call) (sequential_reading h point m.call.caller words point copied_board refl) in
+          subst (λ (z : Call). IsSequential h point m.call.caller z r) (sym o.reads.call) (sequential_reading h point m.call.caller words (version_of words) copied_board copied_version) in
           let late = o.late in
           let told : IsExplained h (f m.call) (Some point) (Some r) = ((o.early, o.late, unended_none m.call.ended (λ z. point ≤ z) m.unended), is) in
           moved steps w kept c (Within k (Checking words checked point)) holds k refl (Second c) (Answered k) h w.words f tt (begins_same h) kept.legal kept.words (λ a. refl)
@@ -297,7 +275,7 @@ module _ (steps : List Step) (w : MachineState) (kept : Keeps steps w) where
           (λ a at. (subst (λ (z : CallRecord). IsExplained h (f z) (Some point) (Some r)) (same_Some m.call a (sym m.at ∙ at)) told, refl)) refl
 
     second_kept : (a b : Bool) → (slice_index w.words checked == slice_index words checked) ≡ a → (checked == 11) ≡ b
-        → Keeps (steps ++ Second c ∷ []) (after_outcome c k point (cond a (cond b (Answers (Copied (record { board = words; version = point }))) (GoesOn (Checking words (checked + 1) point))) (GoesOn (Collecting []))) w)
+        → Keeps (steps ++ Second c ∷ []) (after_outcome c k point (cond a (cond b (Answers (Copied (reading_of words))) (GoesOn (Checking words (checked + 1) point))) (GoesOn (Collecting []))) w)
     second_kept true true same last = copied same last
     second_kept true false same last = goes_on same last
     second_kept false b same last = start_again

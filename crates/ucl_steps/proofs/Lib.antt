@@ -15,3 +15,7 @@ pub mod Accesses
 pub mod Reachable
 pub mod OneStep
 pub mod PassSteps
+pub mod Seats
+pub mod ActorRuns
+pub mod LongerRuns
+pub mod KeptRecords

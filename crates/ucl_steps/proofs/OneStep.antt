@@ -1,9 +1,10 @@
 -- One step of the machine on a match word: the word that it finds, what comes of it, the access that it leaves, and what it leaves as it was.
-use Rattle.std.proofs.Common.{◌≡◌, ◌≢◌, ℕ, zero, suc, ◌+◌, ◌-◌, ◌<◌, ◌≤◌, ◌==◌, ◌&&◌, nat_le, Bool, true, false, cond, List, [], ◌∷◌, ◌++◌, length, map, replicate, Option, Some, None, Result, Ok, Err, inl, inr, refl, sym, ap, ◌∙◌, arith, append_assoc, append-nil, length-append, eq-eqb, ne_eqb}
+use Rattle.std.proofs.Common.{◌≡◌, ◌≢◌, ℕ, zero, suc, ◌+◌, ◌-◌, ◌<◌, ◌≤◌, ◌==◌, ◌&&◌, nat_le, Bool, true, false, cond, List, [], ◌∷◌, ◌++◌, length, map, replicate, Option, Some, None, Result, Ok, Err, inl, inr, refl, sym, ap, ◌∙◌, arith, append_assoc, append-nil, eq-eqb, ne_eqb}
 use Rattle.std.specs.Prelude.{slice_get, slice_index, IsSome, is_some, is_ok, filter}
 use Rattle.std.specs.Option.{option_and_then}
 use Rattle.std.proofs.lemmas.Option.{same_Some, option_and_then_some}
 use Rattle.std.proofs.lemmas.Bool.{false≢true, cases_eq, le-leb, leb-true}
+use Rattle.std.proofs.lemmas.List.{map-append}
 use Rattle.std.proofs.lemmas.List.Elements.{filter-append}
 use Rattle.ucl_word.specs.declared.event.EventCall.{EventCall}
 use Rattle.ucl_word.specs.declared.event.Accepted as word
@@ -28,7 +29,8 @@ use Rattle.ucl_steps.specs.Protocol.{Holding, Collecting, Checking, Outcome, Goe
 use Rattle.ucl_steps.specs.Machine.{Holds, Idle, Wanting, Within, Answered, MachineState, initial_state, held_by, with_reply, may_begin, after_outcome, stored, after_step_holding, caller_of, after_step, after_steps}
 use Rattle.ucl_steps.specs.Trails.{Does}
 use Rattle.ucl_steps.specs.CallRuns.{step_of, access_in, accesses_holding, accesses_of_step, IsInCast}
-use Rattle.ucl_steps.specs.PassRuns.{caller_for, IsOf, is_of, callers_of}
+use Rattle.ucl_steps.specs.Linearizable.{caller_and_call}
+use Rattle.ucl_steps.specs.PassRuns.{caller_for, IsOf, is_of, calls_told, calls_by}
 use Rattle.ucl_steps.proofs.ChangedLists.{change_at_else, length-change_at, map_unseen}
 use Rattle.ucl_steps.proofs.Callers.{held_else}
 
@@ -123,10 +125,10 @@ module _ (w : MachineState) (m : Access) (words : w.words ≡ board_of w.history
       (ap (λ (z : ℕ). Some (after_outcome (Reporter r) k (length w.history) (looked r e z) w)) (found_at e.game does.1 match))
 
   pub made_swap : (r k : ℕ) (e : EventCall) (old new : ℕ) → held_by w.callers (Reporter r) ≡ Some (Within k (Holding e old new)) → IsMatch e.game → Does log.Swap e.game m
-      → Made (Reporter r) w m (after_outcome (Reporter r) k (length w.history) (swapped old m.found) (cond (m.found == old) (stored r e new w) w))
+      → Made (Reporter r) w m (after_outcome (Reporter r) k (length w.history) (swapped old new m.found) (cond (m.found == old) (stored r e new w) w))
   made_swap r k e old new held match does =
-      made (Reporter r) (Within k (Holding e old new)) (Swap (Reporter r)) log.Swap e.game (after_outcome (Reporter r) k (length w.history) (swapped old m.found) (cond (m.found == old) (stored r e new w) w)) held refl refl does match refl
-      (ap (λ (z : ℕ). Some (after_outcome (Reporter r) k (length w.history) (swapped old z) (cond (z == old) (stored r e new w) w))) (found_at e.game does.1 match))
+      made (Reporter r) (Within k (Holding e old new)) (Swap (Reporter r)) log.Swap e.game (after_outcome (Reporter r) k (length w.history) (swapped old new m.found) (cond (m.found == old) (stored r e new w) w)) held refl refl does match refl
+      (ap (λ (z : ℕ). Some (after_outcome (Reporter r) k (length w.history) (swapped old new z) (cond (z == old) (stored r e new w) w))) (found_at e.game does.1 match))
 
   pub made_first : (c : Caller) (k : ℕ) (ws : List ℕ) → held_by w.callers c ≡ Some (Within k (Collecting ws)) → length ws < 12 → Does log.First (length ws + 1) m
       → Made c w m (after_outcome c k (length w.history) (loaded ws m.found (length w.history)) w)
@@ -147,21 +149,25 @@ pub record Frame (c : Caller) (k : ℕ) (w w' : MachineState) : Type 0 where
   pub holds : (d : Caller) → d ≢ c → held_by w'.callers d ≡ held_by w.callers d
   pub calls : (i : ℕ) (a : CallRecord) → i ≢ k → slice_get w.calls i ≡ Some a → slice_get w'.calls i ≡ Some a
   pub count : length w.calls ≤ length w'.calls
-  pub callers : callers_of w' ≡ callers_of w
+  pub told : calls_told w' ≡ calls_told w
 
 pub frame_outcome : (c : Caller) (k : ℕ) (x : Holds) (w v : MachineState) (point : ℕ) (o : Outcome) → held_by w.callers c ≡ Some x → v.callers ≡ w.callers → v.calls ≡ w.calls → Frame c k w (after_outcome c k point o v)
 frame_outcome c k x w v point (GoesOn held) holds callers calls = record {
   holds = λ d not. held_else v.callers c d (Within k held) x (ap (λ z. held_by z c) callers ∙ holds) not ∙ ap (λ z. held_by z d) callers;
   calls = λ i a not at. ap (λ z. slice_get z i) calls ∙ at;
   count = omega (arith, ap length calls);
-  callers = ap (map (λ (z : CallRecord). z.caller)) calls;
+  told = ap (map caller_and_call) calls;
 }
 frame_outcome c k x w v point (Answers reply) holds callers calls = record {
   holds = λ d not. held_else v.callers c d (Answered k) x (ap (λ z. held_by z c) callers ∙ holds) not ∙ ap (λ z. held_by z d) callers;
   calls = λ i a not at. change_at_else k (with_reply point reply) v.calls i a not (ap (λ z. slice_get z i) calls ∙ at);
   count = omega (arith, length-change_at k (with_reply point reply) v.calls, ap length calls);
-  callers = map_unseen (λ (z : CallRecord). z.caller) k (with_reply point reply) (λ z. refl) v.calls ∙ ap (map (λ (z : CallRecord). z.caller)) calls;
+  told = map_unseen caller_and_call k (with_reply point reply) (λ z. refl) v.calls ∙ ap (map caller_and_call) calls;
 }
+
+-- calls of one caller
+abbrev pub all_by : Caller → List Call → List (Caller × Call)
+all_by c calls = map (λ (call : Call). (c, call)) calls
 
 -- steps of a caller leave what the others hold, their calls, and what has ended
 pub record Passes (c : Caller) (w w' : MachineState) : Type 0 where
@@ -169,12 +175,8 @@ pub record Passes (c : Caller) (w w' : MachineState) : Type 0 where
   pub calls : (i : ℕ) (a : CallRecord) → a.caller ≢ c → slice_get w.calls i ≡ Some a → slice_get w'.calls i ≡ Some a
   pub ended : (i : ℕ) (a : CallRecord) → IsSome a.ended → slice_get w.calls i ≡ Some a → slice_get w'.calls i ≡ Some a
   pub count : length w.calls ≤ length w'.calls
-  pub new : ℕ
-  pub callers : callers_of w' ≡ callers_of w ++ replicate new c
-
-replicate_on : {X : Type 0} (n m : ℕ) (x : X) → replicate n x ++ replicate m x ≡ replicate (n + m) x
-replicate_on zero m x = let e : 0 + m ≡ m = omega arith in sym (ap (λ k. replicate k x) e)
-replicate_on (suc n) m x = let e : suc n + m ≡ suc (n + m) = omega arith in ap (λ l. x ∷ l) (replicate_on n m x) ∙ sym (ap (λ k. replicate k x) e)
+  pub new : List Call
+  pub told : calls_told w' ≡ calls_told w ++ all_by c new
 
 pub passes_on : (c : Caller) (w v u : MachineState) → Passes c w v → Passes c v u → Passes c w u
 passes_on c w v u p q =
@@ -185,8 +187,10 @@ passes_on c w v u p q =
       calls = λ i a not at. q.calls i a not (p.calls i a not at);
       ended = λ i a some at. q.ended i a some (p.ended i a some at);
       count = omega arith;
-      new = p.new + q.new;
-      callers = q.callers ∙ (ap (λ (l : List Caller). l ++ replicate q.new c) p.callers ∙ (append_assoc (callers_of w) (replicate p.new c) (replicate q.new c) ∙ ap (λ (l : List Caller). callers_of w ++ l) (replicate_on p.new q.new c)));
+      new = p.new ++ q.new;
+      told = q.told
+          ∙ (ap (λ (l : List (Caller × Call)). l ++ all_by c q.new) p.told
+          ∙ (append_assoc (calls_told w) (all_by c p.new) (all_by c q.new) ∙ ap (λ (l : List (Caller × Call)). calls_told w ++ l) (sym (map-append (λ (call : Call). (c, call)) p.new q.new))));
     }
 
 pub passes_frame : (c : Caller) (k : ℕ) (w w' : MachineState) (b : CallRecord) → Frame c k w w' → slice_get w.calls k ≡ Some b → b.caller ≡ c → b.ended ≡ None → Passes c w w'
@@ -195,8 +199,8 @@ passes_frame c k w w' b frame at own unended = record {
   calls = λ i a not at_i. frame.calls i a (λ is. not (ap (λ (z : CallRecord). z.caller) (same_Some a b (sym at_i ∙ (ap (slice_get w.calls) is ∙ at))) ∙ own)) at_i;
   ended = λ i a some at_i. frame.calls i a (λ is. false≢true (sym (ap is_some (ap (λ (z : CallRecord). z.ended) (same_Some a b (sym at_i ∙ (ap (slice_get w.calls) is ∙ at))) ∙ unended)) ∙ some)) at_i;
   count = frame.count;
-  new = 0;
-  callers = frame.callers ∙ sym (append-nil (callers_of w));
+  new = [];
+  told = frame.told ∙ sym (append-nil (calls_told w));
 }
 
 -- whose calls they are
@@ -217,23 +221,33 @@ pub own_caller : (seat number : ℕ) (call : Call) → MayAsk number call → is
 own_caller seat number (Event e) may = and_true (number == number) (nat_le 1 number && nat_le number 255) (eq-eqb number number refl) (and_true (nat_le 1 number) (nat_le number 255) (le-leb 1 number may.0.0) (le-leb number 255 may.0.1))
 own_caller seat number Reading may = eq-eqb (seat + 1) (seat + 1) refl
 
-abbrev pub calls_by : ℕ → ℕ → List Caller → ℕ
-calls_by seat number cs = length (filter (is_of seat number) cs)
+abbrev snd : Caller × Call → Call
+snd x = x.1
 
-calls_append : (seat number : ℕ) (xs ys : List Caller) → calls_by seat number (xs ++ ys) ≡ calls_by seat number xs + calls_by seat number ys
-calls_append seat number xs ys = ap length (filter-append (is_of seat number) xs ys) ∙ length-append (filter (is_of seat number) xs) (filter (is_of seat number) ys)
+pub calls_append : (seat number : ℕ) (xs ys : List (Caller × Call)) → calls_by seat number (xs ++ ys) ≡ calls_by seat number xs ++ calls_by seat number ys
+calls_append seat number xs ys =
+    let p : Caller × Call → Bool = λ x. is_of seat number x.0 in
+    ap (map snd) (filter-append p xs ys) ∙ map-append snd (filter p xs) (filter p ys)
 
-none_new : (seat number : ℕ) (c : Caller) → is_of seat number c ≡ false → (n : ℕ) → calls_by seat number (replicate n c) ≡ 0
-none_new seat number c not zero = refl
-none_new seat number c not (suc n) = ap (λ (b : Bool). length (cond b (c ∷ filter (is_of seat number) (replicate n c)) (filter (is_of seat number) (replicate n c)))) not ∙ none_new seat number c not n
+-- a call of one of its own callers is the next
+pub calls_next : (seat number : ℕ) (c : Caller) (call : Call) (xs : List (Caller × Call)) → is_of seat number c ≡ true → calls_by seat number ((c, call) ∷ xs) ≡ call ∷ calls_by seat number xs
+calls_next seat number c call xs is =
+    let p : Caller × Call → Bool = λ x. is_of seat number x.0 in
+    ap (λ (b : Bool). map snd (cond b ((c, call) ∷ filter p xs) (filter p xs))) is
+
+none_new : (seat number : ℕ) (c : Caller) → is_of seat number c ≡ false → (calls : List Call) → calls_by seat number (all_by c calls) ≡ []
+none_new seat number c not [] = refl
+none_new seat number c not (call ∷ calls) =
+    let p : Caller × Call → Bool = λ x. is_of seat number x.0 in
+    ap (λ (b : Bool). map snd (cond b ((c, call) ∷ filter p (all_by c calls)) (filter p (all_by c calls)))) not ∙ none_new seat number c not calls
 
 -- a caller of another pass adds none
-pub calls_else : (seat number : ℕ) (c : Caller) (w w' : MachineState) → ((d : Caller) → IsOf seat number d → d ≢ c) → Passes c w w' → calls_by seat number (callers_of w') ≡ calls_by seat number (callers_of w)
+pub calls_else : (seat number : ℕ) (c : Caller) (w w' : MachineState) → ((d : Caller) → IsOf seat number d → d ≢ c) → Passes c w w' → calls_by seat number (calls_told w') ≡ calls_by seat number (calls_told w)
 calls_else seat number c w w' apart passes =
-    let none = none_new seat number c (not_of seat number c apart) passes.new in
-    let both = calls_append seat number (callers_of w) (replicate passes.new c) in
-    ap (calls_by seat number) passes.callers ∙ omega arith
+    ap (calls_by seat number) passes.told
+    ∙ (calls_append seat number (calls_told w) (all_by c passes.new)
+    ∙ (ap (λ (l : List Call). calls_by seat number (calls_told w) ++ l) (none_new seat number c (not_of seat number c apart) passes.new) ∙ append-nil (calls_by seat number (calls_told w))))
 
 -- one of its own adds one
-pub calls_one : (seat number : ℕ) (c : Caller) (xs : List Caller) → is_of seat number c ≡ true → calls_by seat number (xs ++ c ∷ []) ≡ calls_by seat number xs + 1
-calls_one seat number c xs is = calls_append seat number xs (c ∷ []) ∙ ap (λ (b : Bool). calls_by seat number xs + length (cond b (c ∷ []) [])) is
+pub calls_one : (seat number : ℕ) (c : Caller) (call : Call) (xs : List (Caller × Call)) → is_of seat number c ≡ true → calls_by seat number (xs ++ (c, call) ∷ []) ≡ calls_by seat number xs ++ call ∷ []
+calls_one seat number c call xs is = calls_append seat number xs ((c, call) ∷ []) ∙ ap (λ (l : List Call). calls_by seat number xs ++ l) (calls_next seat number c call [] is)

@@ -10,7 +10,7 @@ use Rattle.ucl_word.specs.Rules.{refusal_of, after}
 use Rattle.ucl_word.specs.Layout.{record_at}
 use Rattle.ucl_word.proofs.Sequences.{at_below, at_longer, at_end}
 use Rattle.ucl_board.specs.declared.entry.Entry.{Entry}
-use Rattle.ucl_board.specs.History.{board_of, entry_of}
+use Rattle.ucl_board.specs.History.{board_of, reading_of, entry_of}
 use Rattle.ucl_board.specs.Log as log
 use Rattle.ucl_board.specs.Log.{Access, access}
 use Rattle.ucl_steps.specs.declared.step.Cast.{Cast}
@@ -24,14 +24,15 @@ use Rattle.ucl_steps.specs.declared.trace.CallRecord.{CallRecord}
 use Rattle.ucl_steps.specs.declared.trace.Reply.{Reply}
 use Rattle.ucl_steps.specs.declared.trace.Reply.TheVariants.{Copied}
 use Rattle.ucl_steps.specs.Machine.{Holds, Idle, Wanting, Within, Answered, MachineState, initial_state, held_by, with_held, with_reply, with_end, may_begin, held_at_begin, after_begin, after_reply, after_end, after_outcome, stored, after_step_holding, caller_of, after_step, after_steps}
+use Rattle.ucl_steps.specs.Linearizable.{caller_and_call}
 use Rattle.ucl_steps.specs.CallRuns.{step_of, accesses_of_step}
 use Rattle.ucl_steps.specs.Trails.{Does}
 use Rattle.ucl_steps.specs.Protocol.{Held, Nothing, Holding, Collecting, Checking, Outcome, GoesOn, Answers, by_rules, looked, swapped, loaded, compared, Answer, Doing, goes, ends, done_by, IsNext, after_look, swaps_holding, after_swap, collected, firsts_holding, after_first, seconds_holding, after_second, MayAsk}
-use Rattle.ucl_steps.specs.PassRuns.{caller_for, IsOf, call_of, CanHold, IsRecordOf, AreRecordsOf, IsUnderWay, FitsHeld, pending, callers_of, left_by, FitsRun, Move, end_by, steps_of_move}
+use Rattle.ucl_steps.specs.PassRuns.{caller_for, IsOf, call_of, CanHold, IsRecordOf, AreRecordsOf, IsUnderWay, FitsHeld, call_under_way, calls_told, calls_by, left_by, FitsRun, Move, end_by, steps_of_move}
 use Rattle.ucl_steps.proofs.ChangedLists.{change_at_here, change_at_else, length-change_at, map_unseen}
 use Rattle.ucl_steps.proofs.Callers.{same_caller, held_here, held_else}
 use Rattle.ucl_steps.proofs.Runs.{words_of_run}
-use Rattle.ucl_steps.proofs.OneStep.{steps_on, may_ask_begin, began, IsNow, caller_of_kind, Made, made_look, made_swap, made_first, made_second, Frame, frame_outcome, Passes, passes_on, passes_frame, own_caller, calls_by, calls_else, calls_one}
+use Rattle.ucl_steps.proofs.OneStep.{steps_on, may_ask_begin, began, IsNow, caller_of_kind, Made, made_look, made_swap, made_first, made_second, Frame, frame_outcome, Passes, passes_on, passes_frame, own_caller, calls_else, calls_one}
 
 pub of_call : (seat number : ℕ) (call : Call) → MayAsk number call → IsOf seat number (caller_for seat number call)
 of_call seat number (Event e) may = inr (refl, may.0)
@@ -73,24 +74,22 @@ module _ (seat number : ℕ) (c : Caller) (w w' : MachineState) (apart : (d : Ca
   pub fits_else : (d : Doing) → FitsRun w seat number d → FitsRun w' seat number d
   fits_else d f = record { high = f.high; recorded = records_kept w.calls w'.calls seat number 0 d.calls f.high passes.ended f.recorded; held = held_else_by d.begun d.held f.high f.held; whole = calls_else seat number c w w' apart passes ∙ f.whole }
 
--- the machine's steps for one step of the pass
+-- the machine's move for one step of the pass
 pub record Turn (seat number : ℕ) (w : MachineState) (c : Caller) (m : Access) (d : Doing) (entries : List Entry) : Type 0 where
-  pub steps : List Step
+  pub move : Move
   pub last : MachineState
-  pub run : after_steps steps w ≡ Some last
-  pub left : left_by steps (Some w) ≡ (c, m) ∷ []
+  pub run : after_steps (steps_of_move move) w ≡ Some last
+  pub left : left_by (steps_of_move move) (Some w) ≡ (c, m) ∷ []
   pub history : last.history ≡ w.history ++ entries
   pub of : IsOf seat number c
   pub passes : Passes c w last
   pub fits : FitsRun last seat number d
-  pub move : Move
-  pub shape : steps ≡ steps_of_move move
 
 -- where the call was under way before
 record TurnOn (seat number : ℕ) (w : MachineState) (c : Caller) (m : Access) (d : Doing) (entries : List Entry) : Type 0 where
   turn : Turn seat number w c m d entries
   ends : Bool
-  access : turn.steps ≡ step_of c m.kind ∷ end_by c ends
+  move_is : turn.move ≡ record { caller = c; begins = None; kind = m.kind; ends = ends }
 
 abbrev with_caller : Step → List Access → List (Caller × Access)
 with_caller step ms = map (λ m. (caller_of step, m)) ms
@@ -120,15 +119,19 @@ record Under (seat number : ℕ) (w : MachineState) (fs : List Answer) (call : C
   at : slice_get w.calls place ≡ Some (began (caller_for seat number call) call begun)
   held : held_by w.callers (caller_for seat number call) ≡ Some (hold place)
   others : (d : Caller) → IsOf seat number d → d ≢ caller_for seat number call → held_by w.callers d ≡ Some Idle
-  whole : calls_by seat number (callers_of w) ≡ length fs + 1
+  whole : calls_by seat number (calls_told w) ≡ map (λ (f : Answer). f.call) fs ++ call ∷ []
 
 -- of a pass whose call is under way
 under_way : (seat number : ℕ) (w : MachineState) (fs : List Answer) (begun : ℕ) (held : Held) (high : ℕ) → MayAsk number (call_of held) → AreRecordsOf w.calls seat number 0 fs high → IsUnderWay w seat number begun held high
-    → calls_by seat number (callers_of w) ≡ length fs + 1 → Under seat number w fs (call_of held) begun (λ k. Within k held)
+    → calls_by seat number (calls_told w) ≡ map (λ (f : Answer). f.call) fs ++ call_of held ∷ [] → Under seat number w fs (call_of held) begun (λ k. Within k held)
 under_way seat number w fs begun held high may recorded u whole = record { may = may; high = high; recorded = recorded; place = u.place; low = u.low; at = u.record_is; held = u.holds; others = u.others; whole = whole }
 
-fits_under : (seat number : ℕ) (w : MachineState) (fs : List Answer) (begun : ℕ) (held : Held) → CanHold number held → pending held ≡ 1 → (u : Under seat number w fs (call_of held) begun (λ k. Within k held)) → FitsHeld w seat number begun held u.high
-fits_under seat number w fs begun Nothing can one u = absurd (omega (arith, one))
+abbrev has_call : List Call → Bool
+has_call [] = false
+has_call (call ∷ calls) = true
+
+fits_under : (seat number : ℕ) (w : MachineState) (fs : List Answer) (begun : ℕ) (held : Held) → CanHold number held → call_under_way held ≡ call_of held ∷ [] → (u : Under seat number w fs (call_of held) begun (λ k. Within k held)) → FitsHeld w seat number begun held u.high
+fits_under seat number w fs begun Nothing can one u = absurd (false≢true (ap has_call one))
 fits_under seat number w fs begun (Holding e old new) can one u = record { can = can; place = u.place; low = u.low; record_is = u.at; holds = u.held; others = u.others }
 fits_under seat number w fs begun (Collecting words) can one u = record { can = can; place = u.place; low = u.low; record_is = u.at; holds = u.held; others = u.others }
 fits_under seat number w fs begun (Checking words checked point) can one u = record { can = can; place = u.place; low = u.low; record_is = u.at; holds = u.held; others = u.others }
@@ -156,11 +159,11 @@ module _ (seat number : ℕ) (call : Call) (w : MachineState) (may : MayAsk numb
         calls = λ i b not at. at_longer w.calls (a ∷ []) i b at;
         ended = λ i b some at. at_longer w.calls (a ∷ []) i b at;
         count = omega arith;
-        new = 1;
-        callers = map-append (λ (z : CallRecord). z.caller) w.calls (a ∷ []);
+        new = call ∷ [];
+        told = map-append caller_and_call w.calls (a ∷ []);
       }
 
-  module _ (fs : List Answer) (high : ℕ) (recorded : AreRecordsOf w.calls seat number 0 fs high) (le : high ≤ length w.calls) (idle : (d : Caller) → IsOf seat number d → held_by w.callers d ≡ Some Idle) (whole : calls_by seat number (callers_of w) ≡ length fs + pending Nothing) where
+  module _ (fs : List Answer) (high : ℕ) (recorded : AreRecordsOf w.calls seat number 0 fs high) (le : high ≤ length w.calls) (idle : (d : Caller) → IsOf seat number d → held_by w.callers d ≡ Some Idle) (whole : calls_by seat number (calls_told w) ≡ map (λ (f : Answer). f.call) fs ++ call_under_way Nothing) where
     idle_now : held_by w.callers mine ≡ Some Idle
     idle_now = idle mine (of_call seat number call may)
 
@@ -176,14 +179,14 @@ module _ (seat number : ℕ) (call : Call) (w : MachineState) (may : MayAsk numb
           at = at_end w.calls (began mine call (length w.history));
           held = held_here w.callers mine Idle (held_at_begin call (length w.calls)) idle_now;
           others = λ d of not. passes.holds d not ∙ idle d of;
-          whole =
-              let one = calls_one seat number mine (callers_of w) (own_caller seat number call may) in
-              ap (calls_by seat number) (map-append (λ (z : CallRecord). z.caller) w.calls (began mine call (length w.history) ∷ [])) ∙ omega arith;
+          whole = ap (calls_by seat number) (map-append caller_and_call w.calls (began mine call (length w.history) ∷ []))
+              ∙ (calls_one seat number mine call (calls_told w) (own_caller seat number call may)
+              ∙ ap (λ (l : List Call). l ++ call ∷ []) (whole ∙ append-nil (map (λ (f : Answer). f.call) fs)));
         }
 
 -- what comes of a step can be held, by a pass that makes this call
 abbrev CanGo : ℕ → Call → Outcome → Type 0
-CanGo number call (GoesOn held) = CanHold number held × (pending held ≡ 1) × (call_of held ≡ call)
+CanGo number call (GoesOn held) = CanHold number held × (call_under_way held ≡ call ∷ []) × (call_of held ≡ call)
 CanGo number call (Answers reply) = Unit {0}
 
 -- a step of a call under way, from state w: v is the board after it
@@ -212,22 +215,25 @@ module _ (seat number : ℕ) (w : MachineState) (d : Doing) (call : Call) (begun
         at = ap (λ (cs : List CallRecord). slice_get cs u.place) same.1 ∙ u.at;
         held = held_here v.callers by (hold u.place) (Within u.place held) held_v;
         others = λ d of not. passes.holds d not ∙ u.others d of not;
-        whole = ap (λ (cs : List CallRecord). calls_by seat number (map (λ (z : CallRecord). z.caller) cs)) same.1 ∙ u.whole;
+        whole = ap (λ (cs : List CallRecord). calls_by seat number (map caller_and_call cs)) same.1 ∙ u.whole;
       } in
       let own = subst (λ (z : Call). Under seat number last d.calls z begun (λ k. Within k held)) (sym can.2) after in
       let turn : Turn seat number w by m (goes begun held d) entries = record {
-        steps = step_of by m.kind ∷ [];
+        move = record { caller = by; begins = None; kind = m.kind; ends = false };
         last = last;
         run = steps_on (step_of by m.kind) [] w last last made.done refl;
         left = append-nil (with_caller (step_of by m.kind) (accesses_of_step (step_of by m.kind) w)) ∙ one_left by m w made.left;
         history = history;
         of = of_call seat number call u.may;
         passes = passes;
-        fits = record { high = own.high; recorded = own.recorded; held = fits_under seat number last d.calls begun held can.0 can.1 own; whole = own.whole ∙ ap (λ (n : ℕ). length d.calls + n) (sym can.1) };
-        move = record { caller = by; begins = None; kind = m.kind; ends = false };
-        shape = refl;
+        fits = record {
+          high = own.high;
+          recorded = own.recorded;
+          held = fits_under seat number last d.calls begun held can.0 (can.1 ∙ ap (λ (z : Call). z ∷ []) (sym can.2)) own;
+          whole = after.whole ∙ ap (λ (l : List Call). map (λ (f : Answer). f.call) d.calls ++ l) (sym can.1);
+        };
       } in
-      record { turn = turn; ends = false; access = refl }
+      record { turn = turn; ends = false; move_is = refl }
 
   -- it is the call's last
   answered : (reply : Reply) → Made by w m (after_reply by u.place point reply v) → TurnOn seat number w by m (ends call reply begun now d) entries
@@ -246,15 +252,14 @@ module _ (seat number : ℕ) (w : MachineState) (d : Doing) (call : Call) (begun
         holds = λ d not. held_else z.callers by d Idle (Answered k) held_z not;
         calls = λ i b not at. change_at_else k (with_end n) z.calls i b not at;
         count = let long = length-change_at k (with_end n) z.calls in omega arith;
-        callers = map_unseen (λ (z : CallRecord). z.caller) k (with_end n) (λ z. refl) z.calls;
+        told = map_unseen caller_and_call k (with_end n) (λ z. refl) z.calls;
       } in
       let passes = passes_on by w z last (passes_step (Answers reply)) (passes_frame by k z last replied frame at_z refl refl) in
       let at_last : slice_get last.calls k ≡ Some (with_end n replied) = change_at_here k (with_end n) z.calls replied at_z in
       let count = at_below last.calls k (with_end n replied) at_last in
-      let more = length_push d.calls f in
-      let callers : callers_of last ≡ callers_of w = frame.callers ∙ (frame_outcome by k (hold k) w v point (Answers reply) u.held same.0 same.1).callers in
+      let told : calls_told last ≡ calls_told w = frame.told ∙ (frame_outcome by k (hold k) w v point (Answers reply) u.held same.0 same.1).told in
       let turn : Turn seat number w by m (ends call reply begun now d) entries = record {
-        steps = step_of by m.kind ∷ End by ∷ [];
+        move = record { caller = by; begins = None; kind = m.kind; ends = true };
         last = last;
         run = steps_on (step_of by m.kind) (End by ∷ []) w z last made.done (steps_on (End by) [] z last last one refl);
         left = ap (λ (o : Option MachineState). with_caller (step_of by m.kind) (accesses_of_step (step_of by m.kind) w) ++ left_by (End by ∷ []) o) made.done
@@ -273,12 +278,10 @@ module _ (seat number : ℕ) (w : MachineState) (d : Doing) (call : Call) (begun
               | inr not ↦ passes.holds d not ∙ u.others d of not
             ],
           );
-          whole = ap (calls_by seat number) callers ∙ (u.whole ∙ omega arith);
+          whole = ap (calls_by seat number) told ∙ (u.whole ∙ (sym (map-append (λ (f : Answer). f.call) d.calls (f ∷ [])) ∙ sym (append-nil (map (λ (f : Answer). f.call) (d.calls ++ f ∷ [])))));
         };
-        move = record { caller = by; begins = None; kind = m.kind; ends = true };
-        shape = refl;
       } in
-      record { turn = turn; ends = true; access = refl }
+      record { turn = turn; ends = true; move_is = refl }
 
   turn_by : (o : Outcome) → CanGo number call o → Made by w m (after_outcome by u.place point o v) → TurnOn seat number w by m (done_by call begun now o d) entries
   turn_by (GoesOn held) can made = going_on held can made
@@ -297,17 +300,16 @@ begins_turn seat number call w may m d entries idle on =
     let t = on.turn in
     let c = caller_for seat number call in
     let v = after_begin c call w in
+    let steps : List Step = step_of c m.kind ∷ end_by c on.ends in
     record {
-      steps = Begin c call ∷ t.steps;
+      move = record { caller = c; begins = Some call; kind = m.kind; ends = on.ends };
       last = t.last;
-      run = steps_on (Begin c call) t.steps w v t.last (begins_step seat number call w may idle) t.run;
-      left = ap (left_by t.steps) (begins_step seat number call w may idle) ∙ t.left;
+      run = steps_on (Begin c call) steps w v t.last (begins_step seat number call w may idle) (ap (λ (z : Move). after_steps (steps_of_move z) v) (sym on.move_is) ∙ t.run);
+      left = ap (left_by steps) (begins_step seat number call w may idle) ∙ (ap (λ (z : Move). left_by (steps_of_move z) (Some v)) (sym on.move_is) ∙ t.left);
       history = t.history;
       of = t.of;
       passes = passes_on c w v t.last (begins_passes seat number call w may idle) t.passes;
       fits = t.fits;
-      move = record { caller = c; begins = Some call; kind = m.kind; ends = on.ends };
-      shape = ap (λ (l : List Step). Begin c call ∷ l) on.access;
     }
 
 module _ (cast : Cast) (seat number : ℕ) (steps : List Step) (w : MachineState) (run : after_steps steps (initial_state cast) ≡ Some w) (d : Doing) (f : FitsRun w seat number d) (m : Access) (now : IsNow w m) where
@@ -317,8 +319,8 @@ module _ (cast : Cast) (seat number : ℕ) (steps : List Step) (w : MachineState
   idle_held : d.held ≡ Nothing → FitsHeld w seat number d.begun Nothing f.high
   idle_held none = subst (λ (h : Held). FitsHeld w seat number d.begun h f.high) none f.held
 
-  whole_held : (h : Held) → d.held ≡ h → calls_by seat number (callers_of w) ≡ length d.calls + pending h
-  whole_held h is = f.whole ∙ ap (λ (x : Held). length d.calls + pending x) is
+  whole_held : (h : Held) → d.held ≡ h → calls_by seat number (calls_told w) ≡ map (λ (f : Answer). f.call) d.calls ++ call_under_way h
+  whole_held h is = f.whole ∙ ap (λ (x : Held). map (λ (f : Answer). f.call) d.calls ++ call_under_way x) is
 
   -- a call that begins now
   module _ (call : Call) (may : MayAsk number call) (none : d.held ≡ Nothing) where
@@ -366,13 +368,13 @@ module _ (cast : Cast) (seat number : ℕ) (steps : List Step) (w : MachineState
     swap_by : (entries : List Entry) (after : ℕ) → (cond (m.found == old) (stored number e new w) w).history ≡ w.history ++ entries → length (w.history ++ entries) ≡ after → Turn seat number w (Reporter number) m (after_swap m.found after d) entries
     swap_by entries after history place =
         subst (λ (h : Held). Turn seat number w (Reporter number) m (swaps_holding h m.found after d) entries) (sym is_held)
-        (turn_by seat number w d (Event e) d.begun (λ k. Within k (Holding e old new)) swap_under m (cond (m.found == old) (stored number e new w) w) (keeps_calls (m.found == old)) entries history after place (length w.history) (swapped old m.found) tt
+        (turn_by seat number w d (Event e) d.begun (λ k. Within k (Holding e old new)) swap_under m (cond (m.found == old) (stored number e new w) w) (keeps_calls (m.found == old)) entries history after place (length w.history) (swapped old new m.found) tt
         (made_swap w m words_now now number swap_under.place e old new swap_under.held swapping.can.1 does)).turn
 
-    pub turn_swapped : m.found ≡ old → Turn seat number w (Reporter number) m (after_swap m.found (m.at + 1) d) (entry_of (number, e) ∷ [])
+    pub turn_swapped : m.found ≡ old → Turn seat number w (Reporter number) m (after_swap m.found (m.at + 1) d) (entry_of number e ∷ [])
     turn_swapped same =
-        swap_by (entry_of (number, e) ∷ []) (m.at + 1) (ap (λ (b : Bool). (cond b (stored number e new w) w).history) (eq-eqb m.found old same))
-        (length_push w.history (entry_of (number, e)) ∙ ap (λ (z : ℕ). z + 1) (sym now.place))
+        swap_by (entry_of number e ∷ []) (m.at + 1) (ap (λ (b : Bool). (cond b (stored number e new w) w).history) (eq-eqb m.found old same))
+        (length_push w.history (entry_of number e) ∙ ap (λ (z : ℕ). z + 1) (sym now.place))
 
     pub turn_kept_out : m.found ≢ old → Turn seat number w (Reporter number) m (after_swap m.found m.at d) []
     turn_kept_out other =
@@ -427,10 +429,10 @@ module _ (cast : Cast) (seat number : ℕ) (steps : List Step) (w : MachineState
     checking = subst (λ (h : Held). FitsHeld w seat number d.begun h f.high) is_held f.held
 
     abbrev compared_by : Bool → Bool → Outcome
-    compared_by same last = cond same (cond last (Answers (Copied (record { board = words; version = point }))) (GoesOn (Checking words (checked + 1) point))) (GoesOn (Collecting []))
+    compared_by same last = cond same (cond last (Answers (Copied (reading_of words))) (GoesOn (Checking words (checked + 1) point))) (GoesOn (Collecting []))
 
     can_compare : (same last : Bool) → (checked == 11) ≡ last
-        → CanGo number Reading (cond same (cond last (Answers (Copied (record { board = words; version = point }))) (GoesOn (Checking words (checked + 1) point))) (GoesOn (Collecting [])))
+        → CanGo number Reading (cond same (cond last (Answers (Copied (reading_of words))) (GoesOn (Checking words (checked + 1) point))) (GoesOn (Collecting [])))
     can_compare true true is = tt
     can_compare true false is = let few = checking.can in let not : checked ≢ 11 = λ z. false≢true (sym is ∙ eq-eqb checked 11 z) in (below not few, refl, refl)
       where
@@ -449,7 +451,7 @@ module _ (cast : Cast) (seat number : ℕ) (steps : List Step) (w : MachineState
     turn_again same not = subst (λ (b : Bool). Turn seat number w reader m (done_by Reading d.begun m.at (compared_by true b) d) []) (ne_eqb checked 11 not)
         (subst (λ (b : Bool). Turn seat number w reader m (done_by Reading d.begun m.at (compared_by b (checked == 11)) d) []) (eq-eqb m.found (slice_index words checked) same) turn_compared)
 
-    pub turn_clean : m.found ≡ slice_index words checked → checked ≡ 11 → Turn seat number w reader m (ends Reading (Copied (record { board = words; version = point })) d.begun m.at d) []
+    pub turn_clean : m.found ≡ slice_index words checked → checked ≡ 11 → Turn seat number w reader m (ends Reading (Copied (reading_of words)) d.begun m.at d) []
     turn_clean same eleven = subst (λ (b : Bool). Turn seat number w reader m (done_by Reading d.begun m.at (compared_by true b) d) []) (eq-eqb checked 11 eleven)
         (subst (λ (b : Bool). Turn seat number w reader m (done_by Reading d.begun m.at (compared_by b (checked == 11)) d) []) (eq-eqb m.found (slice_index words checked) same) turn_compared)
 

@@ -9,8 +9,8 @@ use Rattle.ucl_word.specs.declared.event.EventCall.{EventCall}
 use Rattle.ucl_word.specs.declared.refusal.Refusal.TheVariants.{Stale}
 use Rattle.ucl_word.specs.Layout.{word_of, record_at, IsWord}
 use Rattle.ucl_board.specs.Fixtures.{IsMatch}
-use Rattle.ucl_board.specs.Words.{AreWords, word_at, version_of, greatest_version}
-use Rattle.ucl_board.specs.History.{match_after, board_of}
+use Rattle.ucl_board.specs.Words.{AreWords, word_at, greatest_version}
+use Rattle.ucl_board.specs.History.{match_after, board_of, reading_of}
 use Rattle.ucl_board.proofs.Histories.{match_valid}
 use Rattle.ucl_board.proofs.HistoryLaws.{versions}
 use Rattle.ucl_steps.specs.declared.step.Cast.{Cast}
@@ -29,7 +29,7 @@ use Rattle.ucl_steps.specs.Running.{holds_of, IsReachable, Takes}
 use Rattle.ucl_word.proofs.Sequences.{at_below}
 use Rattle.ucl_steps.proofs.Invariant.{Keeps}
 use Rattle.ucl_steps.proofs.CallFacts.{in_call}
-use Rattle.ucl_steps.proofs.KeptBySteps.{word_now, new_number, copied_version}
+use Rattle.ucl_steps.proofs.KeptBySteps.{word_now}
 use Rattle.ucl_steps.proofs.Histories.{legal_beginning, board_none}
 use Rattle.ucl_word.specs.Record.{scheduled}
 use Rattle.ucl_steps.proofs.Runs.{kept_at_start, run_kept}
@@ -157,31 +157,28 @@ module _ (w : MachineState) (r : IsReachable w) (c : Caller) (o : Option Held) (
   pub wanted_word : (k : ℕ) (e : EventCall) → o ≡ Some (has.Wanting k e) → IsWord (word_at w.words e.game)
   wanted_word k e is = word_is w r e.game ((reached_kept w r).knows c (Wanting k e) k (holds (has.Wanting k e) is) refl).sees.game
 
-  -- a swap that is won: the next word has the next number
+  -- a swap that is won
   pub won_step : (n k : ℕ) (e : EventCall) (old new : ℕ) → c ≡ Reporter n → o ≡ Some (has.Holding k e old new) → word_at w.words e.game ≡ old
       → after_step w (Swap c) ≡ Some (after_reply c k (length w.history) (Accepted (record { number = (record_at new).number })) (stored n e new w))
   won_step n k e old new reporter is same =
       let me : Caller = Reporter n in
       let held : held_by w.callers me ≡ Some (Within k (Holding e old new)) = ap (held_by w.callers) (sym reporter) ∙ holds (has.Holding k e old new) is in
       let found = word_at w.words e.game in
-      let here = eq-eqb found old same in
       subst (λ (z : Caller). after_step w (Swap z) ≡ Some (after_reply z k (length w.history) (Accepted (record { number = (record_at new).number })) (stored n e new w))) (sym reporter)
       (step_is (Swap me) w (after_reply me k (length w.history) (Accepted (record { number = (record_at new).number })) (stored n e new w)) (Within k (Holding e old new)) held
-      (ap (λ (b : Bool). Some (after_reply me k (length w.history) (cond b (Accepted (record { number = (record_at found).number + 1 })) (Refused (Stale (record_at found).number))) (cond b (stored n e new w) w))) here
-      ∙ ap (λ (v : ℕ). Some (after_reply me k (length w.history) (Accepted (record { number = v })) (stored n e new w))) (sym (new_number r.1 w (reached_kept w r) n k e old new held here))))
+      (ap (λ (b : Bool). Some (after_reply me k (length w.history) (cond b (Accepted (record { number = (record_at new).number })) (Refused (Stale (record_at found).number))) (cond b (stored n e new w) w))) (eq-eqb found old same)))
 
-  -- a second collect that is clean: the sum of the numbers of its words is the noted length
+  -- a second collect that is clean
   pub clean_step : (k : ℕ) (ws : List ℕ) (n p : ℕ) → o ≡ Some (has.Checking k ws n p) → slice_index w.words n ≡ slice_index ws n → n ≡ 11
-      → after_step w (Second c) ≡ Some (after_reply c k p (Copied (record { board = ws; version = version_of ws })) w)
+      → after_step w (Second c) ≡ Some (after_reply c k p (Copied (reading_of ws)) w)
   clean_step k ws n p is same last =
       let held = holds (has.Checking k ws n p) is in
       let found = eq-eqb (slice_index w.words n) (slice_index ws n) same in
       let all = eq-eqb n 11 last in
-      let clean : Outcome = Answers (Copied (record { board = ws; version = p })) in
-      step_is (Second c) w (after_reply c k p (Copied (record { board = ws; version = version_of ws })) w) (Within k (Checking ws n p)) held
+      let clean : Outcome = Answers (Copied (reading_of ws)) in
+      step_is (Second c) w (after_reply c k p (Copied (reading_of ws)) w) (Within k (Checking ws n p)) held
       (ap (λ (b : Bool). Some (after_outcome c k p (cond b (cond (n == 11) clean (GoesOn (Checking ws (n + 1) p))) (GoesOn (Collecting []))) w)) found
-      ∙ (ap (λ (b : Bool). Some (after_outcome c k p (cond b clean (GoesOn (Checking ws (n + 1) p))) w)) all
-      ∙ ap (λ (v : ℕ). Some (after_reply c k p (Copied (record { board = ws; version = v })) w)) (sym (copied_version r.1 w (reached_kept w r) c k ws n p held found all))))
+      ∙ ap (λ (b : Bool). Some (after_outcome c k p (cond b clean (GoesOn (Checking ws (n + 1) p))) w)) all)
 
 -- a step that was taken was enabled
 pub taken_step : (old new : MachineState) (s : Step) (taken : Bool) → Takes old s taken new → taken ≡ true → after_step old s ≡ Some new

@@ -7,3 +7,5 @@ pub mod Laws
 pub mod Running
 pub mod Protocol
 pub mod PassRuns
+pub mod Actors
+pub mod Growing

@@ -63,7 +63,7 @@ pub record IsEntry (history : List Entry) (c : CallRecord) (k : ℕ) (accepted :
   pub reporter : ℕ
   pub event : EventCall
   pub entered : caller_and_call c ≡ (Reporter reporter, Event event)
-  pub entry : slice_get history k ≡ Some (entry_of (reporter, event))
+  pub entry : slice_get history k ≡ Some (entry_of reporter event)
   pub reply : sequential_reply (take k history) event ≡ Ok accepted
   pub before_end : IfSome c.ended (λ ended. k < ended)
 

@@ -104,7 +104,7 @@ after_outcome c call point (Answers reply) state = after_reply c call point repl
 
 -- a swap that is won: the new word takes the place of the one that was loaded, and the entry is added
 abbrev pub stored : ℕ → EventCall → ℕ → MachineState → MachineState
-stored r e new state = record state { words = slice_set state.words (e.game - 1) new; history = followed_by state.history (entry_of (r, e)) }
+stored r e new state = record state { words = slice_set state.words (e.game - 1) new; history = followed_by state.history (entry_of r e) }
 
 -- The four steps on match words. The point of a report is the length of the history before its last step;
 -- that of a reading, the length at the last load of its first collect.
@@ -113,7 +113,7 @@ state_after_look r call e state = after_outcome (Reporter r) call (length state.
 
 abbrev pub state_after_swap : ℕ → ℕ → EventCall → ℕ → ℕ → MachineState → MachineState
 state_after_swap r call e old new state = let found = word_at state.words e.game in
-    after_outcome (Reporter r) call (length state.history) (swapped old found) (if found == old then stored r e new state else state)
+    after_outcome (Reporter r) call (length state.history) (swapped old new found) (if found == old then stored r e new state else state)
 
 abbrev pub state_after_first : Caller → ℕ → List ℕ → MachineState → MachineState
 state_after_first c call words state = let now = length state.history in

@@ -14,6 +14,7 @@ use Rattle.ucl_steps.specs.declared.step.Step.{Step}
 use Rattle.ucl_steps.specs.declared.step.Step.TheVariants.{Begin, End}
 use Rattle.ucl_steps.specs.declared.trace.CallRecord.{CallRecord}
 use Rattle.ucl_steps.specs.Machine.{Idle, Within, MachineState, held_by, caller_of, after_step}
+use Rattle.ucl_steps.specs.Linearizable.{caller_and_call}
 use Rattle.ucl_steps.specs.CallRuns.{step_of, accesses_of_step}
 use Rattle.ucl_board.specs.Log.{AccessKind, Access}
 use Rattle.ucl_steps.specs.Protocol.{Held, Nothing, Holding, Collecting, Checking, Answer, Doing, MayAsk}
@@ -41,10 +42,16 @@ abbrev pub call_of : Held → Call
 call_of (Holding e old new) = Event e
 call_of _ = Reading
 
--- how many calls are under way
-abbrev pub pending : Held → ℕ
-pending Nothing = 0
-pending _ = 1
+-- the call under way, where there is one
+abbrev pub call_under_way : Held → List Call
+call_under_way Nothing = []
+call_under_way (Holding e old new) = Event e ∷ []
+call_under_way (Collecting words) = Reading ∷ []
+call_under_way (Checking words checked point) = Reading ∷ []
+
+-- what a pass has asked: its finished calls, and the one under way
+abbrev pub calls_asked : Doing → List Call
+calls_asked d = map (λ f. f.call) d.calls ++ call_under_way d.held
 
 -- what is held can be held
 abbrev pub CanHold : ℕ → Held → Type 0
@@ -86,17 +93,21 @@ left_by [] state = []
 left_by (step ∷ steps) None = []
 left_by (step ∷ steps) (Some state) = map (λ m. (caller_of step, m)) (accesses_of_step step state) ++ left_by steps (after_step state step)
 
--- the callers of the machine's calls, in the order of the calls
-abbrev pub callers_of : MachineState → List Caller
-callers_of state = map (λ a. a.caller) state.calls
+-- the machine's calls, each with its caller, in the order of their beginnings
+abbrev pub calls_told : MachineState → List (Caller × Call)
+calls_told state = map caller_and_call state.calls
+
+-- those of the callers of a pass
+abbrev pub calls_by : ℕ → ℕ → List (Caller × Call) → List Call
+calls_by seat number calls = map (λ x. x.1) (filter (λ x. is_of seat number x.0) calls)
 
 -- what a pass has done is what its callers have done
 pub record FitsRun (state : MachineState) (seat number : ℕ) (d : Doing) : Type 0 where
   pub high : ℕ
   pub recorded : AreRecordsOf state.calls seat number 0 d.calls high
   pub held : FitsHeld state seat number d.begun d.held high
-  -- and no more: they have as many calls as it has, the one under way among them
-  pub whole : length (filter (is_of seat number) (callers_of state)) ≡ length d.calls + pending d.held
+  -- and no more: they have begun just the calls that it has asked, in this order
+  pub whole : calls_by seat number (calls_told state) ≡ calls_asked d
 
 -- one access of a caller, with the beginning of its call just before it where it is the first, and the end just
 -- after it where it is the last
@@ -116,7 +127,7 @@ end_by c ends = if ends then End c ∷ [] else []
 abbrev pub steps_of_move : Move → List Step
 steps_of_move m = begin_by m.caller m.begins ++ step_of m.caller m.kind ∷ end_by m.caller m.ends
 
--- a call begins with its first access and ends with its last: no step of another comes between
-pub record IsTight (steps : List Step) : Type 0 where
-  pub moves : List Move
-  pub are : steps ≡ flat_map steps_of_move moves
+-- the steps of moves, one after another: a call begins with its first access and ends with its last, and no step of
+-- another comes between
+abbrev pub steps_of_moves : List Move → List Step
+steps_of_moves moves = flat_map steps_of_move moves

@@ -9,6 +9,7 @@ use Rattle.ucl_word.specs.Record.{IsReporter}
 use Rattle.ucl_word.specs.Rules.{refusal_of, after}
 use Rattle.ucl_word.specs.Layout.{word_of, record_at}
 use Rattle.ucl_board.specs.Fixtures.{IsMatch}
+use Rattle.ucl_board.specs.History.{reading_of}
 use Rattle.ucl_board.specs.declared.entry.Entry.{Entry}
 use Rattle.ucl_board.specs.Log.{AccessKind, Look, Swap, First, Second, Target, Match, Taken, entry_list}
 use Rattle.ucl_steps.specs.declared.step.Call.{Call}
@@ -39,11 +40,12 @@ by_rules number e found None = GoesOn (Holding e found (word_of (after (record_a
 abbrev pub looked : ℕ → EventCall → ℕ → Outcome
 looked number e found = by_rules number e found (refusal_of (record_at found) e.expected e.kind)
 
--- Swap, one compare and exchange: where the word that was loaded is still there, the event is accepted, with the
--- next number; else it is stale, with the number that is there.
-abbrev pub swapped : ℕ → ℕ → Outcome
-swapped old found = let number = (record_at found).number in
-    Answers (if found == old then Accepted (record { number = number + 1 }) else Refused (Stale number))
+-- Swap, one compare and exchange: where the word that was loaded is still there, the new one takes its place, and
+-- the event is accepted, with the number of the new word; else it is stale, with the number of the word that is there.
+abbrev pub swapped : ℕ → ℕ → ℕ → Outcome
+swapped old new found = Answers (if found == old
+    then Accepted (record { number = (record_at new).number })
+    else Refused (Stale (record_at found).number))
 
 -- First: one word more of the first collect; with the twelfth, how many entries there are is noted, and the
 -- second collect begins.
@@ -54,12 +56,12 @@ abbrev pub loaded : List ℕ → ℕ → ℕ → Outcome
 loaded words found now = GoesOn (collected (words ++ found ∷ []) now)
 
 -- Second: where the word is that of the first collect, the next one is to be compared, and with the twelfth the
--- words are the reply, with the noted number as their version; else the reading begins anew.
+-- words are the reply, with their version; else the reading begins anew.
 abbrev pub compared : List ℕ → ℕ → ℕ → ℕ → Outcome
 compared words checked point found =
     if found == slice_index words checked
     then (if checked == 11
-    then Answers (Copied (record { board = words; version = point }))
+    then Answers (Copied (reading_of words))
     else GoesOn (Checking words (checked + 1) point))
     else GoesOn (Collecting [])
 
@@ -114,7 +116,7 @@ abbrev pub after_look : ℕ → EventCall → ℕ → ℕ → Doing → Doing
 after_look number e found now d = done_by (Event e) now now (looked number e found) d
 
 abbrev pub swaps_holding : Held → ℕ → ℕ → Doing → Doing
-swaps_holding (Holding e old new) found now d = done_by (Event e) d.begun now (swapped old found) d
+swaps_holding (Holding e old new) found now d = done_by (Event e) d.begun now (swapped old new found) d
 swaps_holding _ found now d = d
 
 abbrev pub after_swap : ℕ → ℕ → Doing → Doing

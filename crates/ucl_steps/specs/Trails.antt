@@ -11,7 +11,7 @@ use Rattle.ucl_board.specs.declared.entry.Entry.{Entry}
 use Rattle.ucl_board.specs.declared.reading.Reading.{Reading}
 use Rattle.ucl_board.specs.Words.{greatest_version}
 use Rattle.ucl_board.specs.History.{match_after}
-use Rattle.ucl_board.specs.Log.{AccessKind, Look, Swap, First, Second, Access}
+use Rattle.ucl_board.specs.Log.{AccessKind, Look, Swap, First, Second, Access, access}
 
 abbrev pub Does : AccessKind → ℕ → Access → Type 0
 Does kind game m = (m.kind ≡ kind) × (m.game ≡ game)
@@ -29,34 +29,33 @@ Follows history low (m ∷ ms) high = (low ≤ m.at) × IsFoundIn history m × F
 
 -- one Look, on whose word the rules refuse: that refusal is the reply
 pub record LookRefused (call : EventCall) (refusal : Refusal) (ms : List Access) (now : ℕ) : Type 0 where
-  pub looked : Access
-  pub accesses : ms ≡ looked ∷ []
-  pub kind : Does Look call.game looked
-  pub answer : reply_of (record_at looked.found) call ≡ Err refusal
-  pub last : looked.at ≡ now
+  pub looked : ℕ
+  pub accesses : ms ≡ access Look call.game looked now ∷ []
+  pub answer : reply_of (record_at looked) call ≡ Err refusal
 
--- a Look, on whose word the rules accept, and a Swap that found another word: the reply is stale, with the number
--- of the word that the Swap found
+-- a Look, on whose word the rules accept, and a Swap that stored nothing
+pub record StoredNothing (call : EventCall) (looked found : ℕ) (ms : List Access) (now : ℕ) : Type 0 where
+  pub at : ℕ
+  pub accesses : ms ≡ access Look call.game looked at ∷ access Swap call.game found now ∷ []
+  pub may : IsOk (reply_of (record_at looked) call)
+
+-- a Swap that found another word than the Look: the reply is stale, with the number of the word that it found
 pub record SwapMissed (call : EventCall) (refusal : Refusal) (ms : List Access) (now : ℕ) : Type 0 where
-  pub looked : Access
-  pub swapped : Access
-  pub accesses : ms ≡ looked ∷ swapped ∷ []
-  pub acts : Does Look call.game looked × Does Swap call.game swapped
-  pub may : IsOk (reply_of (record_at looked.found) call)
-  pub other : swapped.found ≢ looked.found
-  pub answer : refusal ≡ Stale (record_at swapped.found).number
-  pub last : swapped.at ≡ now
+  pub looked : ℕ
+  pub found : ℕ
+  pub missed : StoredNothing call looked found ms now
+  pub other : found ≢ looked
+  pub answer : refusal ≡ Stale (record_at found).number
 
 -- a Look, on whose word the rules accept, and a Swap that found the same word: the event is accepted, and its
 -- entry is the last that was seen
 pub record SwapWon (call : EventCall) (reply : Accepted) (ms : List Access) (now : ℕ) : Type 0 where
-  pub looked : Access
-  pub swapped : Access
-  pub accesses : ms ≡ looked ∷ swapped ∷ []
-  pub acts : Does Look call.game looked × Does Swap call.game swapped
-  pub answer : reply_of (record_at looked.found) call ≡ Ok reply
-  pub same : swapped.found ≡ looked.found
-  pub last : swapped.at + 1 ≡ now
+  pub looked : ℕ
+  pub at : ℕ
+  pub before : ℕ
+  pub accesses : ms ≡ access Look call.game looked at ∷ access Swap call.game looked before ∷ []
+  pub answer : reply_of (record_at looked) call ≡ Ok reply
+  pub last : before + 1 ≡ now
 
 abbrev pub ReportAccesses : EventCall → Result Accepted Refusal → List Access → ℕ → Type 0
 ReportAccesses call (Ok reply) ms now = SwapWon call reply ms now

@@ -3,8 +3,8 @@
 ghost use Rattle.ucl_steps.specs.Laws.{RunsAreLinearizable, WordsAreOfTheHistory, UncleanTriesSeeMore, UncleanTriesAreFew, ReadingsAreSnapshots, ReportsAreSequential};
 
 /// Whatever steps the callers take, in whatever order, and wherever the list is cut: one legal history of the board of
-/// one thread holds each finished call once, with the reply that it got, between its beginning and its end; each
-/// reading is the board of a beginning of that history, and the versions that one caller reads never fall
+/// one thread holds each finished call once, with the reply that it got, between its invocation and its response; each
+/// reading is the board after a prefix of that history, and the versions that one caller reads never fall
 /// (linearizability: Herlihy and Wing).
 pub fn runs_are_linearizable()
     ensures { RunsAreLinearizable }

@@ -2,7 +2,6 @@
 
 ghost use Rattle.std.specs.Prelude.{◌≡◌, ◌<◌, [], length, IfOk, IsSome};
 ghost use Rattle.std.specs.Option.{option_map};
-ghost use Rattle.ucl_board.specs.Words.{AreWords, version_of};
 ghost use Rattle.ucl_steps.specs.declared.step.Step.TheVariants.{Begin, Look, Swap, First, Second, End};
 ghost use Rattle.ucl_steps.specs.Protocol.{Collecting};
 ghost use Rattle.ucl_steps.specs.Machine.{Within, initial_state, held_by, with_held, after_reply};
@@ -72,16 +71,6 @@ pub(crate) struct Machine {
     calls: Vec<CallRecord>,
     reporters: Vec<Held>,
     readers: Vec<Held>,
-}
-
-/// The reading of twelve words of valid records.
-fn reading_of(words: &[u64; 12]) -> Reading
-    requires { AreWords words.now }
-    ensures { result ≡ record { board = words.now; version = version_of words.now } }
-{
-    let board = Board::of_packed(words);
-    let version = board.version();
-    Reading { board, version }
 }
 
 impl Machine {
@@ -217,11 +206,7 @@ impl Machine {
         let at = usize::from(event.game.get() - 1);
         let point = self.now();
         if self.words[at] == *old {
-            self.history.push(Entry {
-                game: event.game,
-                reporter: *reporter,
-                kind: event.kind,
-            })?;
+            self.history.push(Entry::of(*reporter, event))?;
             self.words[at] = *new;
             let number = number_of(*new);
             self.reply(caller, *call, point, Reply::Accepted(Accepted { number }));
@@ -291,7 +276,7 @@ impl Machine {
         if self.words[*checked] != words[*checked] {
             self.hold(caller, Held::collecting(*call));
         } else if *checked == 11 {
-            let reading = reading_of(words);
+            let reading = Reading::of(&Board::of_packed(words));
             self.reply(caller, *call, *point, Reply::Copied(reading));
         } else {
             let next = Held::Checking {

@@ -1,25 +1,26 @@
--- A running board is one run of the machine.
+-- A running board is one run of the machine, and goes on with it.
 use Rattle.std.proofs.Common.{ℕ, List, ◌∷◌, length, sym, ap, ◌∙◌, subst, le_refl}
 use Rattle.ucl_board.specs.declared.entry.Entry.{Entry}
 use Rattle.ucl_board.specs.History.{board_of}
 use Rattle.ucl_steps.specs.Linearizable.{IsLinearizable}
-use Rattle.ucl_steps.specs.PassRuns.{cast_for}
+use Rattle.ucl_steps.specs.PassRuns.{cast_for, steps_of_moves}
 use Rattle.ucl_steps.proofs.Runs.{linearizable_run, words_of_run}
-use Rattle.ucl_words.specs.Laws.{BoardsAreRuns}
+use Rattle.ucl_steps.proofs.LongerRuns.{longer_runs}
+use Rattle.ucl_words.specs.WordRule.{word_actors}
+use Rattle.ucl_words.specs.Laws.{BoardsAreRuns, RunsGrow}
 
 pub boards_run : BoardsAreRuns
 boards_run s r =
     let cast = cast_for (length s.views) in
     let one = r.one_run (length s.views) (le_refl (length s.views)) in
+    let run = one.of_actors in
+    let steps = steps_of_moves run.moves in
     record {
-      steps = one.steps;
-      last = one.state;
-      run = one.run;
-      history = one.history_is;
-      words = r.shared.words_are ∙ ap (λ (ws : List ℕ). r.shared.enlisted ∷ ws) (sym (words_of_run cast one.steps one.state one.run ∙ ap board_of one.history_is));
-      accesses = one.accesses;
-      tight = one.tight;
-      calls = one.each;
-      only = one.only;
-      linearizable = subst (λ (h : List Entry). IsLinearizable one.steps h one.state.calls) one.history_is (linearizable_run cast one.steps one.state one.run);
+      one = one;
+      words = r.shared.words_are ∙ ap (λ (ws : List ℕ). r.shared.enlisted ∷ ws) (sym (words_of_run cast steps run.state run.run ∙ ap board_of run.history_is));
+      linearizable = subst (λ (h : List Entry). IsLinearizable steps h run.state.calls) run.history_is (linearizable_run cast steps run.state run.run);
     }
+
+pub runs_go_on : RunsGrow
+runs_go_on s t r q before on earlier later =
+    longer_runs (length s.views) (length t.views) r.shared.enlisted q.shared.enlisted r.shared.log q.shared.log (word_actors s.views) (word_actors t.views) earlier.one later.one before on

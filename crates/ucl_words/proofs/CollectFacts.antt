@@ -7,7 +7,7 @@ use Rattle.std.proofs.Math.Seq.{take-append_seam}
 use Rattle.ucl_word.proofs.Sequences.{at_longer, at_either}
 use Rattle.ucl_board.specs.declared.reading.Reading.{Reading}
 use Rattle.ucl_board.specs.Words.{AreWords, greatest_version, version_of}
-use Rattle.ucl_board.specs.History.{board_of}
+use Rattle.ucl_board.specs.History.{board_of, reading_of}
 use Rattle.ucl_board.proofs.Histories.{board_words}
 use Rattle.ucl_board.proofs.HistoryLaws.{versions}
 use Rattle.ucl_board.specs.Log.{AccessKind, First, Second, Access, access}
@@ -19,7 +19,7 @@ use Rattle.ucl_shared.specs.Passes.{Continues, SharedReading}
 use Rattle.ucl_shared.specs.declared.view.View.{View}
 use Rattle.ucl_shared.specs.Views.{pass_view_of, count_of, trail_of}
 use Rattle.ucl_words.specs.WordSteps.{Loads, LoadsLast, no_access, twelfth_first, version_shown}
-use Rattle.ucl_words.specs.Collects.{Walks, Collects, HasCollected, FindsAgain, FindsAnother}
+use Rattle.ucl_words.specs.Code.{Walks, Collects, HasCollected, FindsAgain, FindsAnother}
 use Rattle.ucl_words.specs.WordCalls.{IsSteady, ReadingSteps}
 use Rattle.ucl_words.proofs.StepRuns.{walks_none, walks_on, walks_load, walks_continue}
 
@@ -242,9 +242,6 @@ module _ (x u w : View) (words : List ℕ) (long : length words ≡ 12) (collect
   version_seen : version_of words ≡ length u.seen
   version_seen = ap version_of words_seen ∙ (versions u.seen collects.walks.steady.sound.legal).0
 
-  pub same_reading : (reading : Reading) → reading.board ≡ words → reading.version ≡ version_of words → record { board = words; version = length u.seen } ≡ reading
-  same_reading reading board version = λ i. record { board = sym board i; version = sym (version ∙ version_seen) i }
-
   module _ (v : View) (steady : IsSteady v) (tried : Tried v x) where
     abbrev all_accesses : List Access
     all_accesses = accesses_of tried.tries ++ (collects.accesses ++ again.accesses)
@@ -280,7 +277,7 @@ module _ (x u w : View) (words : List ℕ) (long : length words ≡ 12) (collect
           most = omega arith;
         }
 
-    pub reads : (reading : Reading) → reading.board ≡ words → reading.version ≡ version_of words → Reads v reading w
-    reads reading board version =
-        let same : clean_reading ≡ reading = λ i. record { board = sym board i; version = sym (version ∙ version_seen) i } in
+    pub reads : (reading : Reading) → reading ≡ reading_of words → Reads v reading w
+    reads reading is =
+        let same : clean_reading ≡ reading = ap (λ (k : ℕ). record { board = words; version = k }) (sym version_seen) ∙ sym is in
         subst (λ (r : Reading). Reads v r w) same reads_clean

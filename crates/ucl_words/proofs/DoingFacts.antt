@@ -3,14 +3,17 @@ use Rattle.std.proofs.Common.{◌≡◌, ◌≢◌, ◌⊎◌, inl, inr, ℕ, ze
 use Rattle.std.specs.Prelude.{slice_index}
 use Rattle.std.proofs.lemmas.List.{length-take-le}
 use Rattle.std.proofs.Math.Seq.{take-length}
+use Rattle.ucl_word.specs.declared.record.MatchRecord.{MatchRecord}
 use Rattle.ucl_word.specs.declared.event.EventCall.{EventCall}
 use Rattle.ucl_word.specs.declared.event.Accepted.{Accepted}
 use Rattle.ucl_word.specs.declared.refusal.Refusal.{Refusal}
 use Rattle.ucl_word.specs.declared.refusal.Refusal.TheVariants.{Stale}
 use Rattle.ucl_word.specs.Rules.{refusal_of, after, reply_of}
 use Rattle.ucl_word.specs.Layout.{word_of, record_at, IsWord}
+use Rattle.ucl_word.proofs.AcceptedEvents.{after_number}
 use Rattle.ucl_word.proofs.Words.{word_packed}
 use Rattle.ucl_board.specs.declared.reading.Reading.{Reading}
+use Rattle.ucl_board.specs.History.{reading_of}
 use Rattle.ucl_board.specs.Log.{First, Second}
 use Rattle.ucl_steps.specs.declared.step.Call.TheVariants as calls
 use Rattle.ucl_steps.specs.declared.trace.Reply.{Reply}
@@ -18,7 +21,8 @@ use Rattle.ucl_steps.specs.declared.trace.Reply.TheVariants as replies
 use Rattle.ucl_steps.specs.Protocol.{Held, Nothing, Holding, Collecting, Checking, Outcome, GoesOn, Answers, by_rules, Doing, goes, ends, done_by, IsNext, after_look, after_swap, collected, firsts_holding, after_first, after_second}
 use Rattle.ucl_steps.proofs.OneStep.{none_of}
 use Rattle.ucl_words.specs.declared.view.WordView.{WordView}
-use Rattle.ucl_words.specs.WordDoings.{HasAnswered, AnswersCall, IsHoldingFor, MayCollect, IsBegun, HasFirsts, has_copied, begins_anew}
+use Rattle.ucl_words.specs.WordDoings.{AnswersCall}
+use Rattle.ucl_words.specs.Code.{IsHoldingFor, MayCollect, IsBegun, HasFirsts, has_copied, begins_anew}
 
 -- a report
 
@@ -38,7 +42,7 @@ module _ (v u : WordView) (call : EventCall) (loaded number : ℕ) (is : v.pass.
 
     module _ (z : WordView) (found : ℕ) (swapped : z.doing ≡ after_swap found (length z.pass.seen) u.doing) where
       abbrev reply_by : Bool → Reply
-      reply_by b = cond b (replies.Accepted (record { number = (record_at found).number + 1 })) (replies.Refused (Stale (record_at found).number))
+      reply_by b = cond b (replies.Accepted (record { number = (record_at next).number })) (replies.Refused (Stale (record_at found).number))
 
       abbrev answer_by : Bool → Doing
       answer_by b = ends (calls.Event call) (reply_by b) (length u.pass.seen) (length z.pass.seen) v.doing
@@ -48,7 +52,8 @@ module _ (v u : WordView) (call : EventCall) (loaded number : ℕ) (is : v.pass.
 
       pub won_answers : found ≡ loaded → (reply : Accepted) → reply_of (record_at loaded) call ≡ Ok reply → AnswersCall v (calls.Event call) (replies.Accepted reply) z
       won_answers same reply accepted =
-          let told : record { number = (record_at found).number + 1 } ≡ reply = ap (λ (n : ℕ). record { number = (record_at n).number + 1 }) same ∙ sym (none_of (record_at loaded).number (refusal_of (record_at loaded) call.expected call.kind) reply accepted).1 in
+          let number_is : (record_at next).number ≡ (record_at loaded).number + 1 = ap (λ (m : MatchRecord). m.number) next_is ∙ after_number (record_at loaded) number call.kind in
+          let told : record { number = (record_at next).number } ≡ reply = ap (λ (n : ℕ). record { number = n }) number_is ∙ sym (none_of (record_at loaded).number (refusal_of (record_at loaded) call.expected call.kind) reply accepted).1 in
           record {
             begun = length u.pass.seen;
             after_seen = grown;
@@ -137,7 +142,7 @@ module _ (d : Doing) (words : List ℕ) (point i : ℕ) (f : Doing) (so_far : Se
     before = goes d.begun (Checking words i point) d
 
     abbrev compared_by : Bool → Bool → Outcome
-    compared_by same last = cond same (cond last (Answers (replies.Copied (record { board = words; version = point }))) (GoesOn (Checking words (i + 1) point))) (GoesOn (Collecting []))
+    compared_by same last = cond same (cond last (Answers (replies.Copied (reading_of words))) (GoesOn (Checking words (i + 1) point))) (GoesOn (Collecting []))
 
     step_is : g ≡ done_by calls.Reading d.begun now (compared_by (n == slice_index words i) (i == 11)) before
     step_is = is ∙ ap (after_second n now) so_far
@@ -151,7 +156,7 @@ module _ (d : Doing) (words : List ℕ) (point i : ℕ) (f : Doing) (so_far : Se
     pub second_other : n ≢ slice_index words i → g ≡ begins_anew d
     second_other other = step_is ∙ ap (λ (b : Bool). done_by calls.Reading d.begun now (compared_by b (i == 11)) before) (ne_eqb n (slice_index words i) other)
 
-    pub second_last : n ≡ slice_index words i → i ≡ 11 → g ≡ has_copied words point now d
+    pub second_last : n ≡ slice_index words i → i ≡ 11 → g ≡ has_copied words now d
     second_last same eleven = same_by same ∙ ap (λ (b : Bool). done_by calls.Reading d.begun now (compared_by true b) before) (eq-eqb i 11 eleven)
 
 -- tries of a reading
@@ -189,9 +194,6 @@ module _ (seen : ℕ) (d : Doing) (none : d.held ≡ Nothing) where
     pub tries_again : (w : Doing) → w ≡ begins_anew u → Tries seen d w
     tries_again w is = inr (collected_all.begun, is ∙ ap begins_anew collected_now, begun_since)
 
-    pub tries_clean : (w : Doing) (end : ℕ) (reading : Reading) → w ≡ has_copied words now end u → record { board = words; version = now } ≡ reading → HasAnswered seen d calls.Reading (replies.Copied reading) end w
-    tries_clean w end reading is same = record {
-      begun = collected_all.begun;
-      after_seen = begun_since;
-      does = is ∙ (ap (has_copied words now end) collected_now ∙ ap (λ (r : Reading). ends calls.Reading (replies.Copied r) collected_all.begun end d) same);
-    }
+    pub tries_clean : (w : Doing) (end : ℕ) (reading : Reading) → w ≡ has_copied words end u → reading_of words ≡ reading → (begun : ℕ) × (seen ≤ begun) × (w ≡ ends calls.Reading (replies.Copied reading) begun end d)
+    tries_clean w end reading is same =
+        (collected_all.begun, begun_since, is ∙ (ap (has_copied words end) collected_now ∙ ap (λ (r : Reading). ends calls.Reading (replies.Copied r) collected_all.begun end d) same))

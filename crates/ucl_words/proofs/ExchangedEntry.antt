@@ -1,5 +1,5 @@
 -- The entry of an exchange, from the match and the two words.
-use Rattle.std.proofs.Common.{◌≡◌, ℕ, ◌-◌, List, set, refl, sym, ap, ◌∙◌}
+use Rattle.std.proofs.Common.{ℕ, refl, sym, ap, ◌∙◌}
 use Rattle.ucl_board.specs.Words.{word_at}
 use Rattle.ucl_board.specs.History.{board_of, followed_by}
 use Rattle.ucl_board.proofs.HistoryLaws.{entry_known}
@@ -9,5 +9,4 @@ pub words_tell : WordsTellTheEntry
 words_tell history e f old new legal game word next_e next_f =
     let by_e = next_e history legal word in
     let by_f = next_f history legal (ap (λ (g : ℕ). word_at (board_of history) g) (sym game) ∙ word) in
-    let same : board_of (followed_by history e) ≡ board_of (followed_by history f) = sym by_e.0 ∙ (ap (λ (g : ℕ). set (board_of history) (g - 1) new) game ∙ by_f.0) in
-    entry_known history history e f by_e.1 by_f.1 game refl (ap (λ (b : List ℕ). word_at b e.game) same)
+    entry_known history history e f by_e.1 by_f.1 game refl (sym by_e.0 ∙ (by_f.0 ∙ ap (λ (g : ℕ). word_at (board_of (followed_by history f)) g) (sym game)))

@@ -1,9 +1,8 @@
 -- Each kind of atomic step on the table keeps the rule, and tells its pass what it says.
-use Rattle.std.proofs.Common.{◌≡◌, inl, inr, Some, ℕ, zero, suc, ◌+◌, ◌-◌, ◌==◌, ◌<◌, ◌≤◌, List, [], ◌∷◌, ◌++◌, length, set, get_or, refl, sym, ap, ◌∙◌, subst, arith, append-nil, length-append, length-set, le_refl}
+use Rattle.std.proofs.Common.{◌≡◌, Some, ℕ, zero, suc, ◌+◌, ◌-◌, ◌==◌, ◌<◌, ◌≤◌, List, [], ◌∷◌, ◌++◌, length, set, get_or, refl, sym, ap, ◌∙◌, subst, arith, append-nil, length-append, length-set}
 use Rattle.std.specs.Prelude.{IsSome}
 use Rattle.std.proofs.lemmas.List.{set-get_or}
-use Rattle.std.proofs.lemmas.List.Elements.{All-nil}
-use mathlib.Core.Option.{none, some, some-ne-none, some-injective}
+use mathlib.Core.Option.{none, some}
 use lib.ListN.{get_elem?}
 use prog.Atomic.{either}
 use Rattle.atomic_table.proofs.Lists.{at_longer, set_here}
@@ -17,7 +16,7 @@ use Rattle.ucl_board.specs.Fixtures.{IsMatch}
 use Rattle.ucl_board.specs.Words.{word_at}
 use Rattle.ucl_board.specs.History.{match_after, board_of, IsLegal, followed_by, entry_of}
 use Rattle.ucl_board.specs.Log.{AccessKind, Look, First, Second, Swap, Target, Match, Enlisted, history_of, Access, access, Taken, Log, IsThere}
-use Rattle.ucl_board.proofs.Histories.{word_after}
+use Rattle.ucl_board.proofs.Histories.{word_after, board_with}
 use Rattle.ucl_shared.specs.declared.view.View.{View}
 use Rattle.ucl_shared.specs.Views.{newcomer, opener, trail_of}
 use Rattle.ucl_shared.specs.OneHistory.{KeepsOneHistory}
@@ -28,17 +27,19 @@ use Rattle.ucl_steps.specs.declared.step.Caller.{Caller}
 use Rattle.ucl_steps.specs.declared.step.Caller.TheVariants.{Reporter, Reader}
 use Rattle.ucl_steps.specs.declared.step.Cast.{Cast}
 use Rattle.ucl_steps.specs.declared.step.Step as machine
-use Rattle.ucl_steps.specs.Machine.{Idle, initial_state, held_by, MachineState, after_steps}
+use Rattle.ucl_steps.specs.Machine.{initial_state, MachineState, after_steps}
 use Rattle.ucl_steps.specs.Protocol.{Nothing, Doing, nothing_done, IsNext, after_look, after_swap, after_first, after_second}
-use Rattle.ucl_steps.specs.PassRuns.{cast_for, IsOf, FitsRun}
-use Rattle.ucl_steps.proofs.OneStep.{idle_at_start, IsNow}
+use Rattle.ucl_steps.specs.PassRuns.{cast_for, FitsRun, steps_of_moves}
+use Rattle.ucl_steps.specs.Actors.{Actor, IsTakenBy, accesses_of_log, IsRunOfLog}
+use Rattle.ucl_steps.proofs.OneStep.{IsNow}
 use Rattle.ucl_steps.proofs.PassSteps.{Turn, turn_look, turn_firsts, turn_seconds, turn_swapped, turn_kept_out}
+use Rattle.ucl_steps.proofs.Seats.{map_at, map_there, map_set, map_more, map_long, set_same, place_below}
+use Rattle.ucl_steps.proofs.ActorRuns.{Apart, logged_accesses, log_kept, log_stepped, log_enlisted, log_more, log_begins}
 use Rattle.ucl_words.specs.declared.view.WordView.{WordView}
 use Rattle.ucl_words.specs.WordViews.{new_pass, first_pass, left_pass, second_pass, note_pass, told_pass}
-use Rattle.ucl_words.specs.WordDoings.{IsHoldingFor}
-use Rattle.ucl_words.specs.WordRule.{words_after, known, accesses_of_log, IsOfSome, IsOneRun, TableKeepsOneHistory, Stands}
+use Rattle.ucl_words.specs.Code.{IsHoldingFor}
+use Rattle.ucl_words.specs.WordRule.{words_after, known, word_actor, word_actors, TableKeepsOneHistory, Stands}
 use Rattle.ucl_words.specs.WordSteps.{LoadsMatch, version_shown, ExchangeWon, IsNextWord, LookStep, FirstStep, SecondStep, LastLoadStep, EnlistedStep, ExchangeStep, EnlistStep}
-use Rattle.ucl_words.proofs.OneRun.{known_at, known_set, known_more, place_below, Apart, run_stepped, run_kept, run_enlisted, run_more, logged_accesses}
 
 abbrev Position : Type 0
 Position = State Entry WordView
@@ -71,13 +72,48 @@ moved words words' views views' r a b =
 
 -- the rule of the table from its two parts
 both : (s : Position) (words : List ℕ) (views : List View) (q : KeepsOneHistory words_after words views) (n : ℕ) (l : Log) → words ≡ s.words → views ≡ known s.views → q.enlisted ≡ n → q.log ≡ l
-    → ((readers : ℕ) → length s.views ≤ readers → IsOneRun readers n l s.views) → TableKeepsOneHistory s
+    → ((readers : ℕ) → length s.views ≤ readers → IsRunOfLog readers n l (word_actors s.views)) → TableKeepsOneHistory s
 both s words views q n l a b c d run =
     let t = moved words s.words views (known s.views) q a b in
     record {
       shared = t.0;
-      one_run = λ readers all. subst (λ (z : Log). IsOneRun readers t.0.enlisted z s.views) (sym (t.2 ∙ d)) (subst (λ (k : ℕ). IsOneRun readers k l s.views) (sym (t.1 ∙ c)) (run readers all));
+      one_run = λ readers all. subst (λ (z : Log). IsRunOfLog readers t.0.enlisted z (word_actors s.views)) (sym (t.2 ∙ d)) (subst (λ (k : ℕ). IsRunOfLog readers k l (word_actors s.views)) (sym (t.1 ∙ c)) (run readers all));
     }
+
+-- views and actors
+
+pub known_at : (views : List WordView) (seat : ℕ) (v : WordView) → get_elem? views seat ≡ some v → get_elem? (known views) seat ≡ some v.pass
+known_at views seat v here = map_at (λ (z : WordView). z.pass) views seat v here
+
+known_set : (views : List WordView) (seat : ℕ) (w : WordView) → known (set views seat w) ≡ set (known views) seat w.pass
+known_set views seat w = map_set (λ (z : WordView). z.pass) views seat w
+
+-- the actors where one pass is another
+acted_by : (readers enlisted : ℕ) (log : Log) (views : List WordView) (seat : ℕ) (w : WordView) → IsRunOfLog readers enlisted log (set (word_actors views) seat (word_actor w)) → IsRunOfLog readers enlisted log (word_actors (set views seat w))
+acted_by readers enlisted log views seat w run = subst (λ (l : List Actor). IsRunOfLog readers enlisted log l) (sym (map_set word_actor views seat w)) run
+
+-- a step that is no access, of a pass that has done what it had done
+acted_still : (readers enlisted : ℕ) (log log' : Log) (views : List WordView) (seat : ℕ) (v w : WordView) → get_elem? views seat ≡ some v → w.pass.number ≡ v.pass.number → w.doing ≡ v.doing → history_of log' ≡ history_of log → accesses_of_log log' ≡ accesses_of_log log
+    → IsRunOfLog readers enlisted log (word_actors views) → IsRunOfLog readers enlisted log' (word_actors (set views seat w))
+acted_still readers enlisted log log' views seat v w here number doing is trace run =
+    let same : word_actor v ≡ word_actor w = λ i. record { number = sym number i; doing = sym doing i } in
+    acted_by readers enlisted log' views seat w
+    (subst (λ (l : List Actor). IsRunOfLog readers enlisted log' l) (sym (set_same (word_actors views) seat (word_actor w) (map_at word_actor views seat v here ∙ ap (λ (z : Actor). some z) same))) (log_kept readers enlisted log log' (word_actors views) run is trace))
+
+apart_actors : (s : Position) (r : TableKeepsOneHistory s) → Apart (word_actors s.views)
+apart_actors s r i j a b at bt pos same =
+    let v = map_there word_actor s.views i a at in
+    let w = map_there word_actor s.views j b bt in
+    let n : v.0.pass.number ≡ a.number = ap (λ (z : Actor). z.number) v.2 in
+    let m : w.0.pass.number ≡ b.number = ap (λ (z : Actor). z.number) w.2 in
+    r.shared.apart i j v.0.pass w.0.pass (known_at s.views i v.0 v.1) (known_at s.views j w.0 w.1) (omega arith) (n ∙ (same ∙ sym m))
+
+low_actors : (s : Position) (r : TableKeepsOneHistory s) (j : ℕ) (a : Actor) → get_elem? (word_actors s.views) j ≡ some a → a.number ≤ r.shared.enlisted
+low_actors s r j a at =
+    let v = map_there word_actor s.views j a at in
+    let n : v.0.pass.number ≡ a.number = ap (λ (z : Actor). z.number) v.2 in
+    let low = (r.shared.fits j v.0.pass (known_at s.views j v.0 v.1)).number in
+    omega arith
 
 module _ (s : Position) (r : TableKeepsOneHistory s) (seat : ℕ) (v : WordView) (here : get_elem? s.views seat ≡ some v) (acts : IsSome v.pass.share) where
   abbrev base : KeepsOneHistory words_after s.words (known s.views)
@@ -89,8 +125,8 @@ module _ (s : Position) (r : TableKeepsOneHistory s) (seat : ℕ) (v : WordView)
   abbrev history : List Entry
   history = history_of r.shared.log
 
-  apart : Apart s.views
-  apart i j u z a b pos same = r.shared.apart i j u.pass z.pass (known_at s.views i u a) (known_at s.views j z b) pos same
+  abbrev actor_is : get_elem? (word_actors s.views) seat ≡ some (word_actor v)
+  actor_is = map_at word_actor s.views seat v here
 
   abbrev looked_at : (target : Target) → IsThere history target → (listed : ℕ) → List ℕ → listed ≤ r.shared.enlisted → View
   looked_at target there listed shown le = looked words_after s.words (known s.views) r.shared seat v.pass there_is acts target there listed shown le
@@ -103,7 +139,7 @@ module _ (s : Position) (r : TableKeepsOneHistory s) (seat : ℕ) (v : WordView)
 
   -- a word that is loaded stays
   load_keeps : (i : ℕ) (cs : List (ℕ × Entry)) (target : Target) (there : IsThere history target) (listed : ℕ) (shown : List ℕ) (le : listed ≤ r.shared.enlisted) (doing : Doing)
-      → ((readers : ℕ) → length s.views ≤ readers → IsOneRun readers r.shared.enlisted (logged r.shared.log seat (taken_at target there listed shown le)) (set s.views seat (record { pass = looked_at target there listed shown le; doing = doing })))
+      → ((readers : ℕ) → length s.views ≤ readers → IsRunOfLog readers r.shared.enlisted (logged r.shared.log seat (taken_at target there listed shown le)) (word_actors (set s.views seat (record { pass = looked_at target there listed shown le; doing = doing }))))
       → TableKeepsOneHistory (stepped s i (get_or s.words i 0) seat cs (record { pass = looked_at target there listed shown le; doing = doing }) keeps)
   load_keeps i cs target there listed shown le doing run =
       let w : WordView = record { pass = looked_at target there listed shown le; doing = doing } in
@@ -113,10 +149,10 @@ module _ (s : Position) (r : TableKeepsOneHistory s) (seat : ℕ) (v : WordView)
       (λ readers all. let long = length-set s.views seat w in run readers (omega arith))
 
   -- the access of a step on a match word is at the machine's history, whose word it found
-  is_now : (kind : AccessKind) (game at readers : ℕ) → IsMatch game → at ≡ length history → (one : IsOneRun readers r.shared.enlisted r.shared.log s.views) → IsNow one.state (access kind game (get_or s.words game 0) at)
+  is_now : (kind : AccessKind) (game at readers : ℕ) → IsMatch game → at ≡ length history → (one : IsRunOfLog readers r.shared.enlisted r.shared.log (word_actors s.views)) → IsNow one.of_actors.state (access kind game (get_or s.words game 0) at)
   is_now kind game at readers is place one = record {
-    place = place ∙ ap length (sym one.history_is);
-    found = (there_now s r kind game is).1 ∙ ap (λ (h : List Entry). word_of (match_after h game)) (sym one.history_is);
+    place = place ∙ ap length (sym one.of_actors.history_is);
+    found = (there_now s r kind game is).1 ∙ ap (λ (h : List Entry). word_of (match_after h game)) (sym one.of_actors.history_is);
   }
 
   -- a step on a match word that stored nothing, by the turn that the machine takes
@@ -133,7 +169,8 @@ module _ (s : Position) (r : TableKeepsOneHistory s) (seat : ℕ) (v : WordView)
     place_is : length after_load.seen ≡ length history
     place_is = ap length (seen_same (Match kind game (get_or s.words game 0)) (there_now s r kind game is) v.pass.listed shown (r.shared.fits seat v.pass there_is).listed)
 
-    load_runs : (doing : Doing) → ((readers : ℕ) (one : IsOneRun readers r.shared.enlisted r.shared.log s.views) → IsNow one.state here_access → (c : Caller) × Turn seat v.pass.number one.state c here_access doing [])
+    load_runs : (doing : Doing) → ((readers : ℕ) (one : IsRunOfLog readers r.shared.enlisted r.shared.log (word_actors s.views)) → IsNow one.of_actors.state here_access
+        → (c : Caller) × IsTakenBy seat v.pass.number kind c × Turn seat v.pass.number one.of_actors.state c here_access doing [])
         → (cs : List (ℕ × Entry)) → TableKeepsOneHistory (stepped s game (get_or s.words game 0) seat cs (record { pass = after_load; doing = doing }) keeps)
     load_runs doing turn cs =
         let w : WordView = record { pass = after_load; doing = doing } in
@@ -141,15 +178,17 @@ module _ (s : Position) (r : TableKeepsOneHistory s) (seat : ℕ) (v : WordView)
         (λ readers all.
         let one = r.one_run readers all in
         let t = turn readers one (is_now kind game (length after_load.seen) readers is place_is one) in
-        run_stepped readers r.shared.enlisted r.shared.log s.views all one seat v here w (taken_at (Match kind game (get_or s.words game 0)) (there_now s r kind game is) v.pass.listed shown (r.shared.fits seat v.pass there_is).listed) [] t.0 here_access refl
-        (r.shared.fits seat v.pass there_is).number apart (ap (λ (k : ℕ). access kind game (get_or s.words game 0) k ∷ []) (sym place_is))
-        (seen_same (Match kind game (get_or s.words game 0)) (there_now s r kind game is) v.pass.listed shown (r.shared.fits seat v.pass there_is).listed ∙ sym (append-nil history)) t.1)
+        acted_by readers r.shared.enlisted (logged r.shared.log seat (taken_at (Match kind game (get_or s.words game 0)) (there_now s r kind game is) v.pass.listed shown (r.shared.fits seat v.pass there_is).listed)) s.views seat w
+        (log_stepped readers r.shared.enlisted r.shared.log (word_actors s.views) one seat (word_actor v) actor_is doing
+        (taken_at (Match kind game (get_or s.words game 0)) (there_now s r kind game is) v.pass.listed shown (r.shared.fits seat v.pass there_is).listed) [] t.0 here_access
+        (r.shared.fits seat v.pass there_is).number (apart_actors s r) (ap (λ (k : ℕ). access kind game (get_or s.words game 0) k ∷ []) (sym place_is))
+        (seen_same (Match kind game (get_or s.words game 0)) (there_now s r kind game is) v.pass.listed shown (r.shared.fits seat v.pass there_is).listed ∙ sym (append-nil history)) t.1 t.2))
 
   -- a step on the number of the enlisted that stored nothing
   count_runs : (found listed : ℕ) (shown : List ℕ) (le : listed ≤ r.shared.enlisted) (cs : List (ℕ × Entry)) → TableKeepsOneHistory (stepped s 0 (get_or s.words 0 0) seat cs (record { pass = looked_at (Enlisted found) tt listed shown le; doing = v.doing }) keeps)
   count_runs found listed shown le cs =
-      load_keeps 0 cs (Enlisted found) tt listed shown le v.doing (λ readers all. run_kept readers r.shared.enlisted r.shared.log s.views all (r.one_run readers all) seat v here (record { pass = looked_at (Enlisted found) tt listed shown le; doing = v.doing })
-      (logged r.shared.log seat (taken_at (Enlisted found) tt listed shown le)) refl refl (seen_same (Enlisted found) tt listed shown le) (logged_accesses r.shared.log seat (taken_at (Enlisted found) tt listed shown le) ∙ append-nil (accesses_of_log r.shared.log)))
+      load_keeps 0 cs (Enlisted found) tt listed shown le v.doing (λ readers all. acted_still readers r.shared.enlisted r.shared.log (logged r.shared.log seat (taken_at (Enlisted found) tt listed shown le)) s.views seat v (record { pass = looked_at (Enlisted found) tt listed shown le; doing = v.doing }) here
+      refl refl (seen_same (Enlisted found) tt listed shown le) (logged_accesses r.shared.log seat (taken_at (Enlisted found) tt listed shown le) ∙ append-nil (accesses_of_log r.shared.log)) (r.one_run readers all))
 
 -- after a step that keeps the rule its pass stands at its seat
 stands_after : (s : Position) (i n seat : ℕ) (cs : List (ℕ × Entry)) (v w : WordView) → get_elem? s.views seat ≡ some v → TableKeepsOneHistory (stepped s i n seat cs w keeps) → (place : ℕ) → place ≡ seat → Stands place w
@@ -158,7 +197,7 @@ stands_after s i n seat cs v w here rule place is = record { state = stepped s i
 -- a load of a match word keeps the rule, whichever turn of the machine it is
 loads_by : (slots seat game : ℕ) (m : Me Entry WordView) (kind : AccessKind) (doing : ℕ → ℕ → Doing) (shown : ℕ → List ℕ) → IsSome m.0.pass.share → IsMatch game
     → ((cast : Cast) (steps : List machine.Step) (w : MachineState) → after_steps steps (initial_state cast) ≡ Some w → FitsRun w seat m.0.pass.number m.0.doing → (a : Access) → IsNow w a → a.kind ≡ kind → a.game ≡ game
-    → (c : Caller) × Turn seat m.0.pass.number w c a (doing a.found a.at) [])
+    → (c : Caller) × IsTakenBy seat m.0.pass.number kind c × Turn seat m.0.pass.number w c a (doing a.found a.at) [])
     → (tells : ℕ → Me Entry WordView → Type 0)
     → ((n : ℕ) (w : View) → LoadsMatch kind game m.0.pass n w → w.shown ≡ shown n → ((place : ℕ) → place ≡ seat → Stands place (record { pass = w; doing = doing n (length w.seen) })) → tells n (record { pass = w; doing = doing n (length w.seen) }, carried_after m.1 keeps))
     → Allows TableKeepsOneHistory slots seat m game (λ n. n) tells
@@ -169,7 +208,7 @@ loads_by slots seat game m kind doing shown acts is turn tells tell s r _ here _
     let w = after_load s r seat v here acts kind game is (shown n) in
     let then : WordView = record { pass = w; doing = doing n (length w.seen) } in
     let kept = load_runs s r seat v here acts kind game is (shown n) (doing n (length w.seen))
-    (λ readers one now. turn (cast_for readers) one.steps one.state one.run (one.each seat v here) (here_access s r seat v here acts kind game is (shown n)) now refl refl)
+    (λ readers one now. turn (cast_for readers) (steps_of_moves one.of_actors.moves) one.of_actors.state one.of_actors.run (one.of_actors.each seat (word_actor v) (map_at word_actor s.views seat v here)) (here_access s r seat v here acts kind game is (shown n)) now refl refl)
     m.1 in
     let loads : LoadsMatch kind game v.pass n w = record { sees = look_tells words_after s.words (known s.views) r.shared seat v.pass (known_at s.views seat v here) acts (Match kind game n) (there_now s r kind game is) v.pass.listed (shown n) f.listed; listed = refl } in
     (then, keeps, tt, kept, tell n w loads refl (λ place is_seat. stands_after s game n seat m.1 v then here kept place is_seat))
@@ -178,22 +217,22 @@ pub looks : (slots seat game place : ℕ) (m : Me Entry WordView) (e : EventCall
 looks slots seat game place m e is_seat acts is of reporter nothing =
     let number = m.0.pass.number in
     loads_by slots seat game m Look (λ n now. after_look number e n now m.0.doing) (λ n. m.0.pass.shown) acts is
-    (λ cast steps w run fits a now kind at. (Reporter number, turn_look cast seat number steps w run m.0.doing fits a now e (reporter, subst IsMatch (sym of) is) nothing (kind, at ∙ sym of)))
+    (λ cast steps w run fits a now kind at. (Reporter number, (refl, reporter), turn_look cast seat number steps w run m.0.doing fits a now e (reporter, subst IsMatch (sym of) is) nothing (kind, at ∙ sym of)))
     (LookStep place e (step slots game 0 0 none) m)
     (λ n w loads shown stands. record { loads = record { loads = loads; shown = shown }; doing = refl; stands = stands place is_seat })
 
 pub firsts : (slots seat game : ℕ) (m : Me Entry WordView) → IsSome m.0.pass.share → IsMatch game → IsNext First game m.0.doing.held → Allows TableKeepsOneHistory slots seat m game (λ n. n) (FirstStep (step slots game 0 0 none) m)
 firsts slots seat game m acts is next =
     loads_by slots seat game m First (λ n now. after_first n now m.0.doing) (λ n. m.0.pass.shown) acts is
-    (λ cast steps w run fits a now kind at. (Reader (seat + 1), turn_firsts cast seat m.0.pass.number steps w run m.0.doing fits a now kind (subst (λ (g : ℕ). IsNext First g m.0.doing.held) (sym at) next)))
+    (λ cast steps w run fits a now kind at. (Reader (seat + 1), refl, turn_firsts cast seat m.0.pass.number steps w run m.0.doing fits a now kind (subst (λ (g : ℕ). IsNext First g m.0.doing.held) (sym at) next)))
     (FirstStep (step slots game 0 0 none) m)
     (λ n w loads shown stands. record { loads = record { loads = loads; shown = shown }; doing = refl })
 
 -- the machine's turn of a load of a second collect
 second_turn : (seat game : ℕ) (v : WordView) → IsNext Second game v.doing.held → (cast : Cast) (steps : List machine.Step) (w : MachineState) → after_steps steps (initial_state cast) ≡ Some w → FitsRun w seat v.pass.number v.doing
-    → (a : Access) → IsNow w a → a.kind ≡ Second → a.game ≡ game → (c : Caller) × Turn seat v.pass.number w c a (after_second a.found a.at v.doing) []
+    → (a : Access) → IsNow w a → a.kind ≡ Second → a.game ≡ game → (c : Caller) × IsTakenBy seat v.pass.number Second c × Turn seat v.pass.number w c a (after_second a.found a.at v.doing) []
 second_turn seat game v next cast steps w run fits a now kind at =
-    (Reader (seat + 1), turn_seconds cast seat v.pass.number steps w run v.doing fits a now kind (subst (λ (g : ℕ). IsNext Second g v.doing.held) (sym at) next))
+    (Reader (seat + 1), refl, turn_seconds cast seat v.pass.number steps w run v.doing fits a now kind (subst (λ (g : ℕ). IsNext Second g v.doing.held) (sym at) next))
 
 pub again : (slots seat game : ℕ) (m : Me Entry WordView) → IsSome m.0.pass.share → IsMatch game → IsNext Second game m.0.doing.held → Allows TableKeepsOneHistory slots seat m game (λ n. n) (SecondStep (step slots game 0 0 none) m)
 again slots seat game m acts is next =
@@ -217,6 +256,13 @@ counts slots seat place m is_seat acts s r _ here _ =
       record { word = refl; loads = record { found = get_or s.words 0 0; sees = look_tells words_after s.words (known s.views) r.shared seat v.pass at acts (Enlisted (get_or s.words 0 0)) tt v.pass.listed v.pass.shown f.listed; listed = refl; shown = refl }; found = refl; doing = refl; stands = stands_after s 0 (get_or s.words 0 0) seat m.1 v (record { pass = looked_at s r seat v here acts (Enlisted (get_or s.words 0 0)) tt v.pass.listed v.pass.shown f.listed; doing = v.doing }) here (count_runs s r seat v here acts (get_or s.words 0 0) v.pass.listed v.pass.shown f.listed m.1) place is_seat },
     )
 
+-- a pass with a number is a reporter's
+reporter_is : (s : Position) (r : TableKeepsOneHistory s) (seat : ℕ) (v : WordView) → get_elem? s.views seat ≡ some v → 0 < v.pass.number → IsReporter v.pass.number
+reporter_is s r seat v here pos =
+    let low = (r.shared.fits seat v.pass (known_at s.views seat v here)).number in
+    let few = r.shared.few in
+    (omega arith, omega arith)
+
 -- an exchange that adds an entry
 module _ (s : Position) (r : TableKeepsOneHistory s) (seat : ℕ) (v : WordView) (e : Entry) (old new : ℕ) (here : get_elem? s.views seat ≡ some v) (acts : IsSome v.pass.share) (is : IsMatch e.game) (pos : 0 < v.pass.number) (me : e.reporter ≡ v.pass.number) (next : IsNextWord e old new) (hit : get_or s.words e.game 0 ≡ old)
     (holds : IsHoldingFor v.doing.held e old new) where
@@ -224,7 +270,7 @@ module _ (s : Position) (r : TableKeepsOneHistory s) (seat : ℕ) (v : WordView)
   at_pass = known_at s.views seat v here
 
   next_is : (set (board_of (history_of r.shared.log)) (e.game - 1) new ≡ board_of (followed_by (history_of r.shared.log) e)) × IsLegal (followed_by (history_of r.shared.log) e)
-  next_is = next (history_of r.shared.log) r.shared.legal (sym (match_word s r e.game is.0) ∙ hit)
+  next_is = let gained = next (history_of r.shared.log) r.shared.legal (sym (match_word s r e.game is.0) ∙ hit) in (board_with (history_of r.shared.log) e new is gained.0, gained.1)
 
   abbrev added : View
   added = entered words_after s.words (known s.views) r.shared seat v.pass at_pass acts e (get_or s.words e.game 0) (there_now s r Swap e.game is) pos me next_is.1 v.pass.listed (r.shared.fits seat v.pass at_pass).listed
@@ -235,7 +281,7 @@ module _ (s : Position) (r : TableKeepsOneHistory s) (seat : ℕ) (v : WordView)
   longer : added.seen ≡ followed_by (history_of r.shared.log) e
   longer = longer_history words_after s.words (known s.views) r.shared seat v.pass at_pass acts e (get_or s.words e.game 0) (there_now s r Swap e.game is) pos me next_is.1 v.pass.listed (r.shared.fits seat v.pass at_pass).listed
 
-  entry_is : entry_of (v.pass.number, holds.e) ≡ e
+  entry_is : entry_of v.pass.number holds.e ≡ e
   entry_is = λ i. record { game = holds.game i; reporter = sym me i; kind = holds.kind i }
 
   swap_keeps : (cs : List (ℕ × Entry)) → TableKeepsOneHistory (stepped s e.game new seat cs after_won keeps)
@@ -255,11 +301,15 @@ module _ (s : Position) (r : TableKeepsOneHistory s) (seat : ℕ) (v : WordView)
       (λ readers all.
       let wide = length-set s.views seat after_won in
       let one = r.one_run readers (omega arith) in
+      let run = one.of_actors in
+      let there_is = map_at word_actor s.views seat v here in
       let now = is_now s r seat v here acts Swap e.game (length history) readers is refl one in
-      let turn = turn_swapped (cast_for readers) seat v.pass.number one.steps one.state one.run v.doing (one.each seat v here) (access Swap e.game n (length history)) now holds.e old new holds.holds (refl, sym holds.game) hit in
-      run_stepped readers r.shared.enlisted r.shared.log s.views (omega arith) one seat v here after_won taken (e ∷ []) (Reporter v.pass.number) (access Swap e.game n (length history)) refl f.number (apart s r seat v here acts) refl longer
-      (subst (λ (k : ℕ). Turn seat v.pass.number one.state (Reporter v.pass.number) (access Swap e.game n (length history)) (after_swap n k v.doing) (e ∷ [])) (sym long)
-      (subst (λ (x : Entry). Turn seat v.pass.number one.state (Reporter v.pass.number) (access Swap e.game n (length history)) (after_swap n (length history + 1) v.doing) (x ∷ [])) entry_is turn)))
+      let turn = turn_swapped (cast_for readers) seat v.pass.number (steps_of_moves run.moves) run.state run.run v.doing (run.each seat (word_actor v) there_is) (access Swap e.game n (length history)) now holds.e old new holds.holds (refl, sym holds.game) hit in
+      acted_by readers r.shared.enlisted (logged r.shared.log seat taken) s.views seat after_won
+      (log_stepped readers r.shared.enlisted r.shared.log (word_actors s.views) one seat (word_actor v) there_is after_won.doing taken (e ∷ []) (Reporter v.pass.number) (access Swap e.game n (length history)) f.number (apart_actors s r) refl longer
+      (refl, reporter_is s r seat v here pos)
+      (subst (λ (k : ℕ). Turn seat v.pass.number run.state (Reporter v.pass.number) (access Swap e.game n (length history)) (after_swap n k v.doing) (e ∷ [])) (sym long)
+      (subst (λ (x : Entry). Turn seat v.pass.number run.state (Reporter v.pass.number) (access Swap e.game n (length history)) (after_swap n (length history + 1) v.doing) (x ∷ [])) entry_is turn))))
 
   swap_tells : ExchangeWon e v.pass (get_or s.words e.game 0) added
   swap_tells = record {
@@ -293,7 +343,12 @@ swaps slots seat place m e old new is_seat acts is pos me next holds s r _ here 
       },
     ))
     (λ miss. let w = after_load s r seat v here acts Swap e.game is v.pass.shown in let kept = load_runs s r seat v here acts Swap e.game is v.pass.shown (after_swap n (length w.seen) v.doing)
-    (λ readers one now. (Reporter v.pass.number, turn_kept_out (cast_for readers) seat v.pass.number one.steps one.state one.run v.doing (one.each seat v here) (here_access s r seat v here acts Swap e.game is v.pass.shown) now holds.e old new holds.holds (refl, sym holds.game) miss))
+    (λ readers one now. (
+      Reporter v.pass.number,
+      (refl, reporter_is s r seat v here pos),
+      turn_kept_out (cast_for readers) seat v.pass.number (steps_of_moves one.of_actors.moves) one.of_actors.state one.of_actors.run v.doing
+          (one.of_actors.each seat (word_actor v) (map_at word_actor s.views seat v here)) (here_access s r seat v here acts Swap e.game is v.pass.shown) now holds.e old new holds.holds (refl, sym holds.game) miss,
+    ))
     m.1 in (
       record { pass = w; doing = after_swap n (length w.seen) v.doing },
       keeps,
@@ -328,8 +383,9 @@ enlists slots seat place m old is_seat acts reader nothing room s r _ here _ =
     (r.shared.enlisted + 1) (logged r.shared.log seat taken) refl (sym (known_set s.views seat w)) kept.0 kept.1
     (λ readers all.
     let wide = length-set s.views seat w in
-    run_enlisted readers r.shared.enlisted r.shared.log s.views (omega arith) (r.one_run readers (omega arith)) seat v here w (logged r.shared.log seat taken) reader refl left refl nothing (λ j u there. (r.shared.fits j u.pass (known_at s.views j u there)).number)
-    (unchanged_history words_after s.words (known s.views) r.shared seat v.pass at acts reader left) (logged_accesses r.shared.log seat taken ∙ append-nil (accesses_of_log r.shared.log))) in (
+    acted_by readers (r.shared.enlisted + 1) (logged r.shared.log seat taken) s.views seat w
+    (log_enlisted readers r.shared.enlisted r.shared.log (word_actors s.views) (r.one_run readers (omega arith)) seat (word_actor v) (map_at word_actor s.views seat v here) (logged r.shared.log seat taken) reader left nothing (low_actors s r)
+    (unchanged_history words_after s.words (known s.views) r.shared seat v.pass at acts reader left) (logged_accesses r.shared.log seat taken ∙ append-nil (accesses_of_log r.shared.log)))) in (
       w,
       keeps,
       tt,
@@ -361,12 +417,14 @@ module _ (seat : ℕ) (v : WordView) (s : Position) (r : TableKeepsOneHistory s)
   split_keeps : (q : KeepsOneHistory words_after s.words (set (known s.views) seat u.pass ++ w.pass ∷ [])) → q.enlisted ≡ r.shared.enlisted → q.log ≡ r.shared.log → TableKeepsOneHistory record { words = s.words; homes = s.homes; views = set s.views seat u ++ w ∷ [] }
   split_keeps q enlisted log =
       both record { words = s.words; homes = s.homes; views = set s.views seat u ++ w ∷ [] } s.words (set (known s.views) seat u.pass ++ w.pass ∷ []) q r.shared.enlisted r.shared.log refl
-      (sym (known_more (set s.views seat u) w ∙ ap (λ (l : List View). l ++ w.pass ∷ []) (known_set s.views seat u))) enlisted log
+      (sym (map_more (λ (z : WordView). z.pass) (set s.views seat u) w ∙ ap (λ (l : List View). l ++ w.pass ∷ []) (known_set s.views seat u))) enlisted log
       (λ readers all.
       let long = length-append (set s.views seat u) (w ∷ []) in
       let wide = length-set s.views seat u in
-      run_more readers r.shared.enlisted r.shared.log (set s.views seat u)
-      (run_kept readers r.shared.enlisted r.shared.log s.views (omega arith) (r.one_run readers (omega arith)) seat v here u r.shared.log same done refl refl) w (omega arith) number none)
+      let actors = map_long word_actor (set s.views seat u) in
+      let is : word_actor w ≡ record { number = 0; doing = nothing_done } = (λ i. record { number = number i; doing = none i }) in
+      subst (λ (l : List Actor). IsRunOfLog readers r.shared.enlisted r.shared.log l) (sym (map_more word_actor (set s.views seat u) w ∙ ap (λ (a : Actor). word_actors (set s.views seat u) ++ a ∷ []) is))
+      (log_more readers r.shared.enlisted r.shared.log (word_actors (set s.views seat u)) (acted_still readers r.shared.enlisted r.shared.log r.shared.log s.views seat v u here same done refl refl (r.one_run readers (omega arith))) (omega arith)))
 
 pub seconds : (seat : ℕ) (v : WordView) → Splits TableKeepsOneHistory seat v (left_pass v) (second_pass v)
 seconds seat v s r here =
@@ -403,34 +461,12 @@ joins seat v other a s r here apart there =
     (λ readers all.
     let wide = length-set s.views seat told in
     let wider = length-set views other new_pass in
-    let one = run_kept readers r.shared.enlisted r.shared.log s.views (omega arith) (r.one_run readers (omega arith)) seat v here told r.shared.log refl refl refl refl in
-    run_kept readers r.shared.enlisted r.shared.log views (omega arith) one other note there new_pass r.shared.log refl refl refl refl)
+    let one = acted_still readers r.shared.enlisted r.shared.log r.shared.log s.views seat v told here refl refl refl refl (r.one_run readers (omega arith)) in
+    acted_still readers r.shared.enlisted r.shared.log r.shared.log views other note new_pass there refl refl refl refl one)
 
 -- a board may open with the words of no event and no reporter
 pub opens : (words : List ℕ) → words ≡ words_after [] 0 → TableKeepsOneHistory (opening words [] first_pass)
-opens words are = let same = moves.opens_same words_after words are in both (opening words [] first_pass) words (opener ∷ []) (moves.opens words_after words are) 0 [] refl refl same.0 same.1 (λ readers all. first readers all)
-  where
-    first : (readers : ℕ) → 1 ≤ readers → IsOneRun readers 0 [] (first_pass ∷ [])
-    first readers all = record {
-      steps = [];
-      state = initial_state (cast_for readers);
-      run = refl;
-      history_is = refl;
-      accesses = tt;
-      tight = record { moves = []; are = refl };
-      each = each;
-      only = All-nil (IsOfSome (first_pass ∷ []));
-      unseated = λ seat over below. idle_at_start (cast_for readers) (Reader (seat + 1)) (omega arith, omega arith);
-      unnumbered = λ n above few. idle_at_start (cast_for readers) (Reporter n) (omega arith, omega arith);
-    }
-      where
-        callers : (d : Caller) → IsOf 0 0 d → held_by (initial_state (cast_for readers)).callers d ≡ Some Idle
-        callers d (inl a) = subst (λ (c : Caller). held_by (initial_state (cast_for readers)).callers c ≡ Some Idle) (sym a) (idle_at_start (cast_for readers) (Reader 1) (omega arith, omega arith))
-        callers d (inr b) = let low = b.1.0 in absurd (omega arith)
-
-        each : (seat : ℕ) (v : WordView) → get_elem? (first_pass ∷ []) seat ≡ some v → FitsRun (initial_state (cast_for readers)) seat v.pass.number v.doing
-        each zero v e = subst (λ (x : WordView). FitsRun (initial_state (cast_for readers)) 0 x.pass.number x.doing) (some-injective first_pass v e) (record { high = 0; recorded = le_refl 0; held = (omega arith, callers); whole = refl })
-        each (suc seat) v e = absurd (some-ne-none v (sym e))
+opens words are = let same = moves.opens_same words_after words are in both (opening words [] first_pass) words (opener ∷ []) (moves.opens words_after words are) 0 [] refl refl same.0 same.1 log_begins
 
 pub opened_stands : (words : List ℕ) → words ≡ words_after [] 0 → Stands 0 first_pass
 opened_stands words are = record { state = opening words [] first_pass; rule = opens words are; here = refl }

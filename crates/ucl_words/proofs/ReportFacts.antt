@@ -1,5 +1,5 @@
 -- What a report says: one load on whose word the rules refuse, or a load and an exchange.
-use Rattle.std.proofs.Common.{◌≡◌, ◌≢◌, inl, inr, ℕ, ◌+◌, ◌-◌, ◌<◌, ◌≤◌, List, [], ◌∷◌, ◌++◌, length, set, refl, sym, ap, ◌∙◌, subst, arith, le_refl, append_assoc, length-append}
+use Rattle.std.proofs.Common.{◌≡◌, ◌≢◌, inl, inr, ℕ, ◌+◌, ◌-◌, ◌<◌, ◌≤◌, List, [], ◌∷◌, ◌++◌, length, refl, sym, ap, ◌∙◌, subst, arith, le_refl, append_assoc, length-append, get_or-set_same}
 use Rattle.std.specs.Prelude.{Result, Ok, Err, Some, None, IsOk}
 use Rattle.std.proofs.Math.Seq.{take-length}
 use mathlib.Core.List.{IsPrefix}
@@ -10,7 +10,7 @@ use Rattle.ucl_word.specs.declared.event.Accepted.{Accepted}
 use Rattle.ucl_word.specs.declared.refusal.Refusal.{Refusal}
 use Rattle.ucl_word.specs.declared.refusal.Refusal.TheVariants.{Stale}
 use Rattle.ucl_word.specs.Rules.{refusal_of, after, reply_of}
-use Rattle.ucl_word.specs.Layout.{record_at, IsWord}
+use Rattle.ucl_word.specs.Layout.{word_of, record_at, IsWord}
 use Rattle.ucl_word.specs.Counts.{MatchEntry, counted_match, IsLegalMatch}
 use Rattle.ucl_word.proofs.EntryCounts.{entered}
 use Rattle.ucl_word.proofs.AcceptedEvents.{after_number}
@@ -20,7 +20,7 @@ use Rattle.ucl_board.specs.Fixtures.{IsMatch}
 use Rattle.ucl_board.specs.Words.{word_at}
 use Rattle.ucl_board.specs.History.{board_of, IsLegal, followed_by, entry_of, sequential_reply}
 use Rattle.ucl_board.proofs.HistoryLaws.{beginnings}
-use Rattle.ucl_board.proofs.Histories.{word_after, game_after, next_board, accepted_reply, refused_reply}
+use Rattle.ucl_board.proofs.Histories.{board_length, word_after, game_after, next_board, accepted_reply, refused_reply}
 use Rattle.ucl_board.specs.Log.{Look, Swap, Access, access, Match, Taken, step_taken}
 use Rattle.ucl_board.proofs.Beginnings.{begins_length, begins_more, begins_same, begins_through}
 use Rattle.ucl_steps.specs.Trails.{Follows, ReportAccesses}
@@ -30,8 +30,9 @@ use Rattle.ucl_shared.specs.declared.view.View.{View}
 use Rattle.ucl_shared.specs.Views.{pass_view_of, trail_of, Takes}
 use Rattle.ucl_shared.proofs.Calls.{takes_on, takes_count}
 use Rattle.ucl_words.specs.WordSteps.{Loads, ExchangeMissed, ExchangeWon, IsNextWord}
-use Rattle.ucl_words.specs.Collects.{Walks}
-use Rattle.ucl_words.specs.WordCalls.{HasTrail, IsSteady, steps_with, ReportSteps}
+use Rattle.ucl_words.specs.Code.{Walks}
+use Rattle.ucl_shared.specs.CallSteps.{steps_with}
+use Rattle.ucl_words.specs.WordCalls.{HasTrail, IsSteady, ReportSteps}
 use Rattle.ucl_words.proofs.StepRuns.{trail_on, takes_trail, walks_on, walks_load}
 
 -- the word with one event more, whatever the history is
@@ -41,7 +42,8 @@ pub next_after : (game reporter : ℕ) (kind : Kind) (loaded next : ℕ) → IsM
 next_after game reporter kind loaded next is valid counted h legal word =
     let there : record_at loaded ≡ record_at (word_at (board_of h) game) = ap record_at (sym word) in
     let made = next_board h (board_of h) game reporter kind (record_at next) legal refl is (λ es legal_es same. counted es legal_es (same ∙ sym there)) in
-    (ap (λ (x : ℕ). set (board_of h) (game - 1) x) (sym (word_packed next valid)) ∙ made.0, made.1)
+    let long = board_length h in
+    (sym (word_packed next valid) ∙ (sym (get_or-set_same (board_of h) (game - 1) (word_of (record_at next)) 0 (omega arith)) ∙ ap (λ (ws : List ℕ). word_at ws game) made.0), made.1)
 
 -- a load, for a report
 module _ (v u : View) (call : EventCall) (loaded : ℕ) (is : IsMatch call.game) (me : (0 < v.number) × (v.number ≤ 255)) (steady : IsSteady v) (looked : Loads Look call.game v loaded u) where
@@ -54,7 +56,7 @@ module _ (v u : View) (call : EventCall) (loaded : ℕ) (is : IsMatch call.game)
   -- on whose word the rules refuse
   module _ (refusal : Refusal) (refused : refusal_of (record_at loaded) call.expected call.kind ≡ Some refusal) where
     look_report : ReportAccesses call (Err refusal) (look_access ∷ []) (length u.seen)
-    look_report = inl (record { looked = look_access; accesses = refl; kind = (refl, refl); answer = sym (refused_reply (record_at loaded) (record_at loaded) call refusal refl refused); last = refl })
+    look_report = inl (record { looked = loaded; accesses = refl; answer = sym (refused_reply (record_at loaded) (record_at loaded) call refusal refl refused) })
 
     pub look_steps : ReportSteps v call (Err refusal) u
     look_steps = record { may = (me, is); accesses = look_access ∷ []; leaves = look_walks.leaves; report = look_report }
@@ -81,7 +83,7 @@ module _ (v u : View) (call : EventCall) (loaded : ℕ) (is : IsMatch call.game)
       miss_walks = walks_on v u z (look_access ∷ []) (swap_access ∷ []) look_walks (walks_load Swap call.game found u z look_walks.steady missed.loads)
 
       miss_report : (refusal : Refusal) → refusal ≡ Stale (record_at found).number → ReportAccesses call (Err refusal) (look_access ∷ swap_access ∷ []) (length z.seen)
-      miss_report refusal stale = inr (record { looked = look_access; swapped = swap_access; accesses = refl; acts = ((refl, refl), (refl, refl)); may = may; other = other; answer = stale; last = refl })
+      miss_report refusal stale = inr (record { looked = loaded; found = found; missed = record { at = length u.seen; accesses = refl; may = may }; other = other; answer = stale })
 
       pub miss_steps : (refusal : Refusal) → refusal ≡ Stale (record_at found).number → ReportSteps v call (Err refusal) z
       miss_steps refusal stale = record { may = (me, is); accesses = look_access ∷ swap_access ∷ []; leaves = miss_walks.leaves; report = miss_report refusal stale }
@@ -95,7 +97,7 @@ module _ (v u : View) (call : EventCall) (loaded : ℕ) (is : IsMatch call.game)
       }
 
     -- that was won
-    module _ (same : found ≡ loaded) (won : ExchangeWon (entry_of (v.number, call)) u found z) where
+    module _ (same : found ≡ loaded) (won : ExchangeWon (entry_of v.number call) u found z) where
       abbrev won_access : Access
       won_access = access Swap call.game found (length won.before)
 
@@ -103,10 +105,10 @@ module _ (v u : View) (call : EventCall) (loaded : ℕ) (is : IsMatch call.game)
       since = begins_through v.seen u.seen won.before look_walks.on.seen won.adds.since
 
       begun : IsPrefix won.before z.seen
-      begun = subst (λ (h : List Entry). IsPrefix won.before h) (sym won.adds.last) (begins_more won.before won.before (entry_of (v.number, call)) (begins_same won.before))
+      begun = subst (λ (h : List Entry). IsPrefix won.before h) (sym won.adds.last) (begins_more won.before won.before (entry_of v.number call) (begins_same won.before))
 
       one_more : length z.seen ≡ length won.before + 1
-      one_more = ap length won.adds.last ∙ length-append won.before (entry_of (v.number, call) ∷ [])
+      one_more = ap length won.adds.last ∙ length-append won.before (entry_of v.number call ∷ [])
 
       won_follows : Follows z.seen (length v.seen) (look_access ∷ won_access ∷ []) (length z.seen)
       won_follows =
@@ -120,12 +122,12 @@ module _ (v u : View) (call : EventCall) (loaded : ℕ) (is : IsMatch call.game)
           (follows_longer won.before z.seen (length v.seen) (length won.before) (look_access ∷ won_access ∷ []) begun (le_refl (length won.before)) both)
 
       abbrev won_step : Taken
-      won_step = step_taken (Match Swap call.game found) (length won.before) (Some (entry_of (v.number, call)))
+      won_step = step_taken (Match Swap call.game found) (length won.before) (Some (entry_of v.number call))
 
       won_trail : trail_of z ≡ trail_of v ++ look_access ∷ won_access ∷ []
       won_trail = takes_trail u z (won_step ∷ []) won.adds.takes ∙ (ap (λ (t : List Access). t ++ won_access ∷ []) look_walks.leaves.trail ∙ append_assoc (trail_of v) (look_access ∷ []) (won_access ∷ []))
 
-      won_takes : Takes v (steps_with (Some (entry_of (v.number, call))) (look_access ∷ won_access ∷ [])) z
+      won_takes : Takes v (steps_with (Some (entry_of v.number call)) (look_access ∷ won_access ∷ [])) z
       won_takes = takes_on v u z (steps_with None (look_access ∷ [])) (won_step ∷ []) look_walks.leaves.takes won.adds.takes
 
       won_whole : HasTrail z
@@ -147,20 +149,20 @@ module _ (v u : View) (call : EventCall) (loaded : ℕ) (is : IsMatch call.game)
       }
 
       before_legal : IsLegal won.before
-      before_legal = beginnings won.before (entry_of (v.number, call) ∷ []) (subst IsLegal won.adds.last won.adds.goes.legal)
+      before_legal = beginnings won.before (entry_of v.number call ∷ []) (subst IsLegal won.adds.last won.adds.goes.legal)
 
-      won_mine : z.mine ≡ followed_by v.mine (entry_of (v.number, call))
-      won_mine = won.adds.mine ∙ ap (λ (l : List Entry). followed_by l (entry_of (v.number, call))) look_walks.mine
+      won_mine : z.mine ≡ followed_by v.mine (entry_of v.number call)
+      won_mine = won.adds.mine ∙ ap (λ (l : List Entry). followed_by l (entry_of v.number call)) look_walks.mine
 
       won_report : ReportAccesses call (Ok reply) (look_access ∷ won_access ∷ []) (length z.seen)
-      won_report = record { looked = look_access; swapped = won_access; accesses = refl; acts = ((refl, refl), (refl, refl)); answer = accepts; same = same; last = sym one_more }
+      won_report = record { looked = loaded; at = length u.seen; before = length won.before; accesses = ap (λ (n : ℕ). look_access ∷ access Swap call.game n (length won.before) ∷ []) same; answer = accepts; last = sym one_more }
 
       pub won_steps : ReportSteps v call (Ok reply) z
       won_steps =
           record {
             may = (me, is);
             accesses = look_access ∷ won_access ∷ [];
-            leaves = record { takes = won_takes; trail = won_trail; taken = takes_count v z (steps_with (Some (entry_of (v.number, call))) (look_access ∷ won_access ∷ [])) won_takes; follows = won_follows; whole_trail = won_whole };
+            leaves = record { takes = won_takes; trail = won_trail; taken = takes_count v z (steps_with (Some (entry_of v.number call)) (look_access ∷ won_access ∷ [])) won_takes; follows = won_follows; whole_trail = won_whole };
             report = won_report;
           }
 
@@ -181,8 +183,11 @@ accepts_by word next number reporter call none is said =
     sym (accepted_reply (record_at word) (record_at word) call number refl none (said ∙ (ap (λ (x : MatchRecord). x.number) is ∙ after_number (record_at word) reporter call.kind)))
 
 -- the entry under the number of the pass
-pub as_entry : (v u z : View) (call : EventCall) (reporter found : ℕ) → v.number ≡ reporter → ExchangeWon (record { game = call.game; reporter = reporter; kind = call.kind }) u found z → ExchangeWon (entry_of (v.number, call)) u found z
-as_entry v u z call reporter found is won = subst (λ (n : ℕ). ExchangeWon (record { game = call.game; reporter = n; kind = call.kind }) u found z) (sym is) won
+pub as_entry : (v u z : View) (call : EventCall) (entry : Entry) (reporter found : ℕ) → entry ≡ entry_of reporter call → v.number ≡ reporter → ExchangeWon entry u found z → ExchangeWon (entry_of v.number call) u found z
+as_entry v u z call entry reporter found made is won = subst (λ (e : Entry). ExchangeWon e u found z) (made ∙ ap (λ (n : ℕ). entry_of n call) (sym is)) won
+
+pub as_missed : (u z : View) (call : EventCall) (entry : Entry) (reporter found : ℕ) → entry ≡ entry_of reporter call → ExchangeMissed entry.game u found z → ExchangeMissed call.game u found z
+as_missed u z call entry reporter found made missed = subst (λ (e : Entry). ExchangeMissed e.game u found z) made missed
 
 -- the number of a reporter's pass
 pub me_in : (v : View) (reporter : ℕ) → (0 < reporter) × (reporter ≤ 255) × (v.number ≡ reporter) → (0 < v.number) × (v.number ≤ 255)

@@ -17,8 +17,9 @@ use Rattle.ucl_shared.specs.Passes.{Continues}
 use Rattle.ucl_shared.specs.Views.{pass_view_of, count_of, trail_of, Takes}
 use Rattle.ucl_shared.proofs.Calls.{takes_none, takes_on, takes_count}
 use Rattle.ucl_words.specs.WordSteps.{LoadsMatch}
-use Rattle.ucl_words.specs.Collects.{Walks}
-use Rattle.ucl_words.specs.WordCalls.{HasTrail, IsSteady, steps_with}
+use Rattle.ucl_words.specs.Code.{Walks}
+use Rattle.ucl_shared.specs.CallSteps.{steps_with}
+use Rattle.ucl_words.specs.WordCalls.{HasTrail, IsSteady}
 
 -- accesses that follow what a trail has, over a history that is longer
 pub trail_on : (s h : List Entry) (old new : List Access) → IsPrefix s h → Follows s 0 old (length s) → Follows h (length s) new (length h) → Follows h 0 (old ++ new) (length h)

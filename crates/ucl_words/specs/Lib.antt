@@ -3,6 +3,6 @@ pub mod WordSteps
 pub mod Laws
 pub mod WordMachine
 pub mod WordCalls
-pub mod Collects
+pub mod Code
 pub mod WordViews
 pub mod WordDoings

@@ -1,19 +1,18 @@
 -- What a call of the word board says of the steps that it takes, one by one: the pass was v and is w.
-use Rattle.std.specs.Prelude.{◌≡◌, ◌≢◌, ◌⊎◌, ℕ, ◌+◌, ◌<◌, ◌≤◌, List, [], ◌∷◌, ◌++◌, length, Option, Some, None, Result, Ok, Err}
+use Rattle.std.specs.Prelude.{◌≡◌, ◌≢◌, ◌⊎◌, ℕ, ◌+◌, ◌<◌, ◌≤◌, List, [], ◌∷◌, ◌++◌, length, Option, Some, None, Result}
 use Rattle.ucl_word.specs.declared.event.EventCall.{EventCall}
 use Rattle.ucl_word.specs.declared.event.Accepted.{Accepted}
 use Rattle.ucl_word.specs.declared.refusal.Refusal.{Refusal}
 use Rattle.ucl_board.specs.declared.entry.Entry.{Entry}
 use Rattle.ucl_board.specs.declared.reading.Reading.{Reading}
-use Rattle.ucl_board.specs.Log.{Access, Match, Taken, step_taken}
+use Rattle.ucl_board.specs.Log.{Access, Taken}
 use Rattle.ucl_steps.specs.declared.step.Call.TheVariants as calls
 use Rattle.ucl_steps.specs.Protocol.{MayAsk}
-use Rattle.ucl_board.specs.History.{entry_of}
 use Rattle.ucl_steps.specs.Trails.{Follows, ReportAccesses, most_tries, ReadingAccesses}
 use Rattle.ucl_shared.specs.declared.view.View.{View}
 use Rattle.ucl_shared.specs.Passes.{IsSound}
 use Rattle.ucl_shared.specs.Views.{pass_view_of, count_of, trail_of, Takes}
-use Rattle.ucl_shared.specs.CallSteps.{FoundEnlisted, EnlistSteps}
+use Rattle.ucl_shared.specs.CallSteps.{steps_with, entry_made, FoundEnlisted, EnlistSteps}
 
 -- along the whole trail the places never fall, and each word that was found is that of its match at its place
 abbrev pub HasTrail : View → Type 0
@@ -24,17 +23,6 @@ pub record IsSteady (v : View) : Type 0 where
   pub sound : IsSound (pass_view_of v)
   pub told : v.told ≡ []
   pub trail : HasTrail v
-
--- the steps of accesses, of which the last may have added an entry
-abbrev pub steps_with : Option Entry → List Access → List Taken
-steps_with entry [] = []
-steps_with entry (m ∷ []) = step_taken (Match m.kind m.game m.found) m.at entry ∷ []
-steps_with entry (m ∷ n ∷ ms) = step_taken (Match m.kind m.game m.found) m.at None ∷ steps_with entry (n ∷ ms)
-
--- the entry of an accepted event
-abbrev pub entry_made : ℕ → EventCall → Result Accepted Refusal → Option Entry
-entry_made number call (Ok reply) = Some (entry_of (number, call))
-entry_made number call (Err refusal) = None
 
 -- the steps of a call are on match words alone: each leaves one access, these are between what was seen before and
 -- what is seen after, and

@@ -1,10 +1,11 @@
 -- What each kind of atomic step on the table tells its pass: v before and w after, and n the word that was found.
-use Rattle.std.specs.Prelude.{◌≡◌, ◌≢◌, ℕ, ◌+◌, ◌-◌, ◌==◌, ◌≤◌, List, [], ◌∷◌, ◌++◌, length, slice_set, slice_index_or, if◌then◌else◌}
+use Rattle.std.specs.Prelude.{◌≡◌, ◌≢◌, ℕ, ◌+◌, ◌-◌, ◌==◌, ◌≤◌, List, [], ◌∷◌, ◌++◌, length, slice_index_or, if◌then◌else◌}
 use mathlib.Core.Option.{Option, none, some}
 use Rattle.atomic_table.specs.Table.{Step, Me}
+use Rattle.ucl_word.specs.Sequence.{GainsOne}
 use Rattle.ucl_board.specs.declared.entry.Entry.{Entry}
 use Rattle.ucl_board.specs.Words.{word_at}
-use Rattle.ucl_board.specs.History.{board_of, IsLegal, followed_by}
+use Rattle.ucl_board.specs.History.{board_of, IsLegal}
 use Rattle.ucl_board.specs.Log.{AccessKind, Access, access, Look, First, Second, Swap, Match, Enlisted, Taken}
 use Rattle.ucl_shared.specs.declared.view.View.{View}
 use Rattle.ucl_shared.specs.Views.{Takes, trail_of}
@@ -53,8 +54,7 @@ pub record ExchangeWon (e : Entry) (v : View) (n : ℕ) (w : View) : Type 0 wher
 
 -- the word that takes the place of another where an entry is added, whatever the history is
 abbrev pub IsNextWord : Entry → ℕ → ℕ → Type 0
-IsNextWord e old new = (history : List Entry) → IsLegal history → word_at (board_of history) e.game ≡ old
-    → (slice_set (board_of history) (e.game - 1) new ≡ board_of (followed_by history e)) × IsLegal (followed_by history e)
+IsNextWord e old new = GainsOne IsLegal (λ history. word_at (board_of history) e.game) e old new
 
 -- a load of the enlist word
 pub record LoadsEnlisted (v w : View) : Type 0 where

@@ -3,7 +3,6 @@
 ghost use Rattle.std.specs.Prelude.{◌≡◌, ◌≢◌, ◌+◌, ◌<◌, ◌≤◌, [], length, IfOk, IfErr, IfSome, IfNone, IsSome, MatchResult, MatchBool, Some, None};
 ghost use Rattle.atomic_table.specs.Seated.{TableId};
 ghost use Rattle.ucl_board.specs.Fixtures.{IsMatch};
-ghost use Rattle.ucl_board.specs.Words.{AreWords, version_of};
 ghost use Rattle.ucl_board.specs.Log as trails;
 ghost use Rattle.ucl_steps.specs.Trails.{most_loads};
 ghost use Rattle.ucl_shared.specs.Passes.{IsSound, Continues, AcceptedReport, RefusedReport, SharedReading, Enlistment, FullBoard, Hearing, Meeting, opening_pass, split_pass};
@@ -12,11 +11,11 @@ ghost use Rattle.ucl_shared.specs.CallSteps.{MeetingSteps, HasCopyOf};
 ghost use Rattle.ucl_shared.specs.OneHistory.{BoardsOpenFresh};
 ghost use Rattle.ucl_words.specs.WordRule.{words_after, IsTheRule, Stands};
 ghost use Rattle.ucl_words.specs.WordSteps.{Loads, LoadsLast, LoadsEnlisted, ExchangeWon, ExchangeMissed, IsNextWord, EnlistWon, EnlistMissed};
-ghost use Rattle.ucl_words.specs.Collects.{Collects, HasCollected, FindsAgain, FindsAnother};
+ghost use Rattle.ucl_words.specs.Code.{Collects, HasCollected, FindsAgain, FindsAnother, IsHoldingFor, MayCollect, HasFirsts, has_copied, begins_anew};
 ghost use Rattle.ucl_words.specs.WordCalls.{IsSteady, ReportSteps, ReadingSteps, EnlistTries, KeepsTrail};
 ghost use Rattle.ucl_words.specs.WordViews.{left_pass, second_pass, note_pass, IsNotePass, view_of};
 ghost use Rattle.ucl_words.specs.WordMachine.{report_reply};
-ghost use Rattle.ucl_words.specs.WordDoings.{HasAnswered, AnswersCall, GoesAlong, IsHoldingFor, MayCollect, HasFirsts, has_copied, begins_anew, WordHasReported};
+ghost use Rattle.ucl_words.specs.WordDoings.{AnswersCall, GoesAlong, WordHasReported};
 ghost use Rattle.ucl_word.specs.Record.{IsReporter};
 ghost use Rattle.ucl_steps.specs.Protocol.{Nothing, Checking, IsNext, nothing_done, after_look, after_swap, after_second};
 ghost use Rattle.ucl_steps.specs.declared.step.Call.TheVariants as calls;
@@ -68,17 +67,6 @@ fn fresh_words() -> [u64; 13]
     let mut words = [0; 13];
     words[1..].copy_from_slice(&Board::fresh().words());
     words
-}
-
-/// The reading of twelve words, whose board they are.
-fn reading_of(words: &[u64; 12]) -> Reading
-    requires { AreWords words.now }
-    ensures board { result.board ≡ words.now }
-    ensures version { result.version ≡ version_of words.now }
-{
-    let board = Board::of_packed(words);
-    let version = board.version();
-    Reading { board, version }
 }
 
 impl WordBoard {
@@ -177,11 +165,7 @@ impl WordBoard {
     {
         let loaded = self.look::<Brand>(seat, call);
         let next = next_word(loaded, reporter, call.expected, call.kind)?;
-        let entry = Entry {
-            game: call.game,
-            reporter,
-            kind: call.kind,
-        };
+        let entry = Entry::of(reporter, call);
         let found = self.swap::<Brand>(seat, loaded, next, entry);
         if found == loaded {
             Ok(Accepted {
@@ -237,7 +221,7 @@ impl WordBoard {
         ensures own { seat.new.table_id ≡ seat.old.table_id }
         ensures seat { seat.new.id ≡ seat.old.id }
         ensures compared { MatchBool result (FindsAgain seat.old.me.0.pass words.now seat.new.me.0.pass) (FindsAnother seat.old.me.0.pass words.now seat.new.me.0.pass) }
-        ensures does { MatchBool result (seat.new.me.0.doing ≡ has_copied words.now (length seat.old.me.0.pass.seen) (length seat.new.me.0.pass.seen) seat.old.me.0.doing) (seat.new.me.0.doing ≡ begins_anew seat.old.me.0.doing) }
+        ensures does { MatchBool result (seat.new.me.0.doing ≡ has_copied words.now (length seat.new.me.0.pass.seen) seat.old.me.0.doing) (seat.new.me.0.doing ≡ begins_anew seat.old.me.0.doing) }
         ensures along { GoesAlong seat.old.me.0 calls.Reading seat.new.me.0 }
         ensures stands { MatchBool result (Stands seat.new.id seat.new.me.0) (Unit {0}) }
     {
@@ -272,7 +256,7 @@ impl WordBoard {
         'tries: loop {
             let words = self.collect(seat);
             if self.is_clean(seat, &words) {
-                return reading_of(&words);
+                return Reading::of(&Board::of_packed(&words));
             }
         }
     }
@@ -432,7 +416,7 @@ impl WordBoard {
         ensures accepted { IfOk result (λ reply. AcceptedReport (pass_view_of pass.old.view) call.now reply (pass_view_of pass.new.view)) }
         ensures refused { IfErr result (λ refusal. RefusedReport (pass_view_of pass.old.view) call.now refusal (pass_view_of pass.new.view)) }
         ensures steps { ReportSteps pass.old.view call.now result pass.new.view }
-        ensures answers { HasAnswered (length pass.old.view.seen) pass.old.doing (calls.Event call.now) (report_reply result) (length pass.new.view.seen) pass.new.doing }
+        ensures answers { AnswersCall (view_of pass.old) (calls.Event call.now) (report_reply result) (view_of pass.new) }
         ensures along { GoesAlong (view_of pass.old) (calls.Event call.now) (view_of pass.new) }
         ensures most { count_of pass.new.view ≤ count_of pass.old.view + 2 }
         ensures stands { Stands pass.new.seat (view_of pass.new) }
@@ -445,7 +429,7 @@ impl WordBoard {
         result
     }
 
-    /// The board after a beginning of the history that has all that the pass had seen, and its version: loads all match words, and loads
+    /// The board after a prefix of the history that has all that the pass had seen, and its version: loads all match words, and loads
     /// them again, anew from the first where one is another, in no more tries than a history can have lengths, of at most 24 loads.
     ///
     /// ```rust
@@ -461,7 +445,7 @@ impl WordBoard {
         ensures always { Continues (pass_view_of pass.old.view) (pass_view_of pass.new.view) }
         ensures reading { SharedReading (pass_view_of pass.old.view) result (pass_view_of pass.new.view) }
         ensures steps { ReadingSteps pass.old.view result pass.new.view }
-        ensures answers { HasAnswered (length pass.old.view.seen) pass.old.doing calls.Reading (replies.Copied result) (length pass.new.view.seen) pass.new.doing }
+        ensures answers { AnswersCall (view_of pass.old) calls.Reading (replies.Copied result) (view_of pass.new) }
         ensures along { GoesAlong (view_of pass.old) calls.Reading (view_of pass.new) }
         ensures least { count_of pass.old.view + 24 ≤ count_of pass.new.view }
         ensures most { count_of pass.new.view ≤ count_of pass.old.view + most_loads }
@@ -491,7 +475,7 @@ impl WordBoard {
         ensures always { Continues (pass_view_of pass.old.view) (pass_view_of pass.new.view) }
         ensures reading { SharedReading (pass_view_of pass.old.view) result (pass_view_of pass.new.view) }
         ensures steps { ReadingSteps pass.old.view result pass.new.view }
-        ensures answers { HasAnswered (length pass.old.view.seen) pass.old.doing calls.Reading (replies.Copied result) (length pass.new.view.seen) pass.new.doing }
+        ensures answers { AnswersCall (view_of pass.old) calls.Reading (replies.Copied result) (view_of pass.new) }
         ensures along { GoesAlong (view_of pass.old) calls.Reading (view_of pass.new) }
         ensures least { count_of pass.old.view + 24 ≤ count_of pass.new.view }
         ensures most { count_of pass.new.view ≤ count_of pass.old.view + most_loads }
@@ -656,7 +640,8 @@ impl WordBoard {
         ensures unchanged { pass.new ≡ pass.old }
         ensures seen { result.seen ≡ pass.old.view.seen }
     {
-        let seat = self.note_by(&mut pass.seat);
+        let noted = &mut pass.seat;
+        let seat = self.note_by(noted);
         WordNote { seat }
     }
 

@@ -10,6 +10,6 @@ pub mod rule;
 mod view;
 
 pub use board::WordBoard;
-pub use laws::{boards_are_runs, each_step_is_logged, words_tell_the_entry};
+pub use laws::{boards_are_runs, each_step_is_logged, runs_grow, words_tell_the_entry};
 pub use passes::{WordNote, WordReaderPass, WordReporterPass};
 pub use view::WordView;

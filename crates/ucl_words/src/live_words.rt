@@ -7,7 +7,7 @@ ghost use Rattle.ucl_shared.specs.Views.{pass_view_of, count_of, trail_of, kept_
 ghost use Rattle.ucl_shared.specs.CallSteps.{MeetingSteps, HasCopyOf};
 ghost use Rattle.ucl_words.specs.WordCalls.{ReportSteps, ReadingSteps, EnlistTries, KeepsTrail};
 ghost use Rattle.ucl_words.specs.WordMachine.{report_reply};
-ghost use Rattle.ucl_words.specs.WordDoings.{HasAnswered, GoesAlong, WordHasReported};
+ghost use Rattle.ucl_words.specs.WordDoings.{AnswersCall, GoesAlong, WordHasReported};
 ghost use Rattle.ucl_words.specs.WordRule.{Stands};
 ghost use Rattle.ucl_words.specs.WordViews.{view_of};
 ghost use Rattle.ucl_steps.specs.Protocol.{nothing_done};
@@ -57,7 +57,7 @@ impl LiveBoard for WordBoard {
         ensures refused { IfErr result (λ refusal. RefusedReport (pass_view_of pass.old.view) call.now refusal (pass_view_of pass.new.view)) }
         ensures reported { ReportsMore (WordHasReported pass.old.doing) 1 (WordHasReported pass.new.doing) }
         ensures steps { ReportSteps pass.old.view call.now result pass.new.view }
-        ensures answers { HasAnswered (length pass.old.view.seen) pass.old.doing (calls.Event call.now) (report_reply result) (length pass.new.view.seen) pass.new.doing }
+        ensures answers { AnswersCall (view_of pass.old) (calls.Event call.now) (report_reply result) (view_of pass.new) }
         ensures along { GoesAlong (view_of pass.old) (calls.Event call.now) (view_of pass.new) }
         ensures most { count_of pass.new.view ≤ count_of pass.old.view + 2 }
         ensures stands { Stands pass.new.seat (view_of pass.new) }
@@ -72,7 +72,7 @@ impl LiveBoard for WordBoard {
         ensures always { Continues (pass_view_of pass.old.view) (pass_view_of pass.new.view) }
         ensures reading { SharedReading (pass_view_of pass.old.view) result (pass_view_of pass.new.view) }
         ensures steps { ReadingSteps pass.old.view result pass.new.view }
-        ensures answers { HasAnswered (length pass.old.view.seen) pass.old.doing calls.Reading (replies.Copied result) (length pass.new.view.seen) pass.new.doing }
+        ensures answers { AnswersCall (view_of pass.old) calls.Reading (replies.Copied result) (view_of pass.new) }
         ensures along { GoesAlong (view_of pass.old) calls.Reading (view_of pass.new) }
         ensures least { count_of pass.old.view + 24 ≤ count_of pass.new.view }
         ensures most { count_of pass.new.view ≤ count_of pass.old.view + most_loads }
@@ -89,7 +89,7 @@ impl LiveBoard for WordBoard {
         ensures reading { SharedReading (pass_view_of pass.old.view) result (pass_view_of pass.new.view) }
         ensures reported { ReportsMore (WordHasReported pass.old.doing) 0 (WordHasReported pass.new.doing) }
         ensures steps { ReadingSteps pass.old.view result pass.new.view }
-        ensures answers { HasAnswered (length pass.old.view.seen) pass.old.doing calls.Reading (replies.Copied result) (length pass.new.view.seen) pass.new.doing }
+        ensures answers { AnswersCall (view_of pass.old) calls.Reading (replies.Copied result) (view_of pass.new) }
         ensures along { GoesAlong (view_of pass.old) calls.Reading (view_of pass.new) }
         ensures least { count_of pass.old.view + 24 ≤ count_of pass.new.view }
         ensures most { count_of pass.new.view ≤ count_of pass.old.view + most_loads }

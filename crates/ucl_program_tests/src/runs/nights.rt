@@ -1,6 +1,6 @@
 //! Nights: merges that are settled, gates that only threads get through, and what goes out.
 
-use super::devices::{Full, Out, Ran, has_stopped, has_written};
+use super::devices::{Ran, has_stopped, has_written};
 use super::{CLUBS, HEAD_TO_HEAD_SCREEN, head_to_head_script};
 use crate::joined;
 use std::alloc::Global;
@@ -9,6 +9,7 @@ use std::sync::atomic::{AtomicBool, AtomicU32, Ordering};
 use std::test::Fail;
 use std::thread::Threads;
 use ucl_board::{Board, Reading};
+use ucl_devices::{Full, Out};
 use ucl_order::{Profile, Roster};
 use ucl_pass::{CellBoard, CellReaderPass, LiveBoard};
 use ucl_runs::{Gate, NightEnd, OpenGate, RunFault, night_run, put_night};

@@ -3,7 +3,7 @@
 use super::{CLUB_ROWS, after_club_rows, joined, night_of};
 use std::alloc::{AllocError, Global};
 use std::test::Fail;
-use ucl_screen::{InputFault, Night, NightEvent};
+use ucl_screen::{InputFault, Night, NightEvent, night_of_bytes};
 use ucl_word::{EventCall, Kind, MatchNo, ReporterNo, Side};
 
 /// The rows of the head to head group: reporter 1 has the odd matches and reporter 2 the even ones.
@@ -135,6 +135,12 @@ fn events_of(alloc: Global, text: &[u8]) -> Result<usize, InputFault> {
     Ok(night.events.len())
 }
 
+/// The same of a text that lies in memory.
+fn events_in_memory(alloc: Global, text: &[u8]) -> Result<usize, InputFault> {
+    let night = night_of_bytes(alloc, text)?;
+    Ok(night.events.len())
+}
+
 /// Whole texts, and how many events they say.
 static TEXTS: [(&[u8], Result<usize, InputFault>); 5] = [
     (b"", Err(InputFault::BadRow { row: 1 })),
@@ -154,6 +160,7 @@ static TEXTS: [(&[u8], Result<usize, InputFault>); 5] = [
 fn whole_texts(rt: HostRuntime) {
     for &(text, events) in TEXTS.as_slice() {
         assert_eq!(rt; events_of(rt.alloc(), text), events);
+        assert_eq!(rt; events_in_memory(rt.alloc(), text), events);
     }
 }
 

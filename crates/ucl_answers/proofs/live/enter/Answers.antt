@@ -27,10 +27,10 @@ returns-in_err-evening-clause-fails g c =
     let s = rw so_far.moment at c.in_err-evening.ensures.fails in
     rw (p.1, p.2) (take-fails m c.loop-b.b-index c.args.bytes.now c.args.desk.now.page c.loop-b.desk.page c.enter_byte.new.desk.page _ _ _ _ _ c.loop-b-test.true so_far.put s)
 
-pub returns-in_err-evening-clause-fails_vainly : goal.returns-in_err-evening-clause-fails_vainly
-returns-in_err-evening-clause-fails_vainly g c =
+pub returns-in_err-evening-clause-sink_fails : goal.returns-in_err-evening-clause-sink_fails
+returns-in_err-evening-clause-sink_fails g c =
     let p = err_from_is_err_and c.from_residual.result c.from_residual.ensures.1 in
-    let s = rw c.loop-b.invariant.vain at c.in_err-evening.ensures.fails_vainly in
+    let s = rw (c.loop-b.invariant.vain, c.loop-b.invariant.sound) at c.in_err-evening.ensures.sink_fails in
     rw (p.1, p.2) s
 
 pub loop-b-preserved : goal.loop-b-preserved

@@ -1,4 +1,4 @@
-use Rattle.std.proofs.Common.{◌≡◌, ◌-◌, ◌^◌, ℕ, List}
+use Rattle.std.proofs.Common.{◌≡◌, ◌⊎◌, ◌-◌, ◌^◌, ℕ, List, false}
 use Rattle.std.specs.Io.KnownBytes.{Consumes}
 use Rattle.ucl_answers.specs.Stepping.{IsPrompt}
 use Rattle.ucl_answers.specs.Text.{start_of}
@@ -10,7 +10,8 @@ invariant-steps g l = record {
   bytes : List ℕ;
   consumed : Consumes (g.S.Source.left l.initial.wire.source) (g.S.Source.left l.wire.source) bytes;
   vain : g.S.Source.in_vain l.wire.source ≡ g.S.Source.in_vain l.initial.wire.source;
-  prompt : IsPrompt (start_of l.fn.options) (g.W.Sink.taken l.initial.wire.sink) l.live (g.W.Sink.taken l.wire.sink) bytes;
+  prompt : IsPrompt (record { start = start_of l.fn.options; first = g.W.Sink.taken l.initial.wire.sink; bytes = bytes }) l.live (g.W.Sink.taken l.wire.sink);
+  source_sound : (l.live.read ≡ 0) ⊎ (g.S.Source.failed l.wire.source ≡ false);
   sink_sound : g.W.Sink.failed l.wire.sink ≡ g.W.Sink.failed l.initial.wire.sink;
   sink_vain : g.W.Sink.in_vain l.wire.sink ≡ g.W.Sink.in_vain l.initial.wire.sink;
   asked : AskedMore l.initial.wire.asked.times l.wire.asked.times (g.S.Source.calls l.initial.wire.source) (g.S.Source.calls l.wire.source)

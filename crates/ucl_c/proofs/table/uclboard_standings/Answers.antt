@@ -1,11 +1,10 @@
-use Rattle.std.proofs.Common.{Some, ap, ◌∙◌}
-use Rattle.ucl_c.specs.Faults.{fault_code}
+use Rattle.std.proofs.Common.{map, sym, ◌∙◌}
+use Rattle.ucl_c.specs.Faults.{club_with}
+use Rattle.ucl_c.proofs.Boards.{coefficients-with, table-any}
 use Rattle.ucl_c.proofs.table.uclboard_standings.Goals as goal
 
-pub returns-in-Err-clause-told : goal.returns-in-Err-clause-told
-returns-in-Err-clause-told c = λ other. record {
-  fault = Some c.in-Err.fault;
-  is = c.in-Err.ensures.refused (λ e. other (c.tell.ensures.told ∙ ap fault_code e));
-  told = c.tell.ensures.told;
-  placed = c.tell.ensures.placed;
-}
+pub returns-in-Ok-clause-done : goal.returns-in-Ok-clause-done
+returns-in-Ok-clause-done c = λ clubs same _.
+    c.copy_from_slice.ensures.after
+    ∙ (c.in-Ok.ensures.rows
+    ∙ table-any c.args.profile c.args.words.now (map club_with c.args.coefficients.now) clubs (coefficients-with c.args.coefficients.now ∙ sym same))

@@ -4,7 +4,8 @@ use Rattle.clap.specs.Words.{App, Shape, app_of, new_app, with_rule, with_subcom
 use Rattle.clap.specs.Simple.{app_of_fields}
 use Rattle.clap.specs.declared.builder.command.Command.{Command}
 use Rattle.clap.specs.declared.builder.command.Command.TheOpen.{Command-F}
-use Rattle.ucl_command.specs.CommandLine.{Tables, group_option, order_option, readings_option, top_command}
+use Rattle.ucl_program.specs.Options.{group_option, order_option}
+use Rattle.ucl_command.specs.CommandLine.{Tables, readings_option, top_command}
 use Rattle.ucl_command.proofs.command_line.command.Goals as goal
 
 abbrev show_app : Tables → App

@@ -2,10 +2,10 @@ use Rattle.std.proofs.Common.{◌∙◌, ap, sym, subst, map, is_some, true≢fa
 use Rattle.std.specs.Prelude.{option_and_then, string_bytes}
 use Rattle.clap.specs.Words.{App, HasKind, Text, fault_of, is_simple, is_simple_and_free, subcommand_of, subcommand_rows_of, takes}
 use Rattle.ucl_command.specs.declared.command_line.Line.{Line}
-use Rattle.ucl_command.specs.CommandLine.{line_in}
+use Rattle.ucl_command.specs.CommandLine.{line_in, program}
 use Rattle.ucl_command.proofs.Lines.{is_line}
 use Rattle.ucl_command.proofs.Range.{is_in_range}
-use Rattle.ucl_command.proofs.ToldErrors.{tells_of}
+use Rattle.ucl_program.proofs.Told.{told_of}
 use Rattle.ucl_command.proofs.command_line.line_of.Goals as goal
 
 pub returns-in-Err-clause-taken : goal.returns-in-Err-clause-taken
@@ -17,7 +17,7 @@ pub returns-in-Err-clause-answers : goal.returns-in-Err-clause-answers
 returns-in-Err-clause-answers c =
     let words : List Text = map string_bytes c.args.words.now in
     let has = c.in-Err.ensures.kinds (ap is_simple_and_free c.in-Ok.ensures.1) in
-    tells_of words c.in-Ok.ensures.0 c.in-Err.error c.fault_of.result
+    told_of program words c.in-Ok.ensures.0 c.in-Err.error c.fault_of.result
     (subst (λ (a : App). HasKind (fault_of a words) c.in-Err.error) c.in-Ok.ensures.1 has) c.fault_of.ensures.memory c.fault_of.ensures.tells
 
 pub returns-clause-in_range : goal.returns-clause-in_range

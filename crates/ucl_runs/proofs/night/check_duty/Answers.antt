@@ -13,7 +13,7 @@ pub returns-then-get-gt-LAST_ON_DUTY : goal.returns-then-get-gt-LAST_ON_DUTY
 returns-then-get-gt-LAST_ON_DUTY c =
     let value = c.get.ensures.value in
     let high = c.if-get-gt-LAST_ON_DUTY.true in
-    first_off_duty c.loop-index.index c.args.rows.now c.index-rows-index.result c.loop-index-test.true c.index-rows-index.is c.loop-index.invariant (omega arith)
+    rw c.from.ensures (first_off_duty c.loop-index.index c.args.rows.now c.index-rows-index.result c.loop-index-test.true c.index-rows-index.is c.loop-index.invariant (omega arith))
 
 pub returns : goal.returns
 returns c = duty_all c.loop-index.index c.args.rows.now c.loop-index-test.false c.loop-index.invariant

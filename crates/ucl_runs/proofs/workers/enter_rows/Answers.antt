@@ -39,9 +39,11 @@ loop-row-preserved g c =
             own = subst (λ p. g.B.LiveBoard.is_reporter c.args.board.now p) (sym w.pass-is) w.report.ensures.own;
             entered = subst (λ p. HasEntered k (known p) c.args.reporter (take (i + 1) rows)) (sym w.pass-is) (rows_next k z c.args.reporter i rows row c.loop-row-test.true c.row-item.is e);
             reported = subst (λ p. ReportsMore (reports c.args.pass) (rows_by c.args.reporter (take (i + 1) rows)) (reports p)) (sym w.pass-is)
-                (subst (λ (n : ℕ). ReportsMore (reports c.args.pass) n (reports w.report.new.pass)) (sym more) (one_more (reports c.args.pass) (reports c.loop-row.pass) (reports w.report.new.pass) _ so_far.reported w.report.ensures.reported));
+                (subst (λ (n : ℕ). ReportsMore (reports c.args.pass) n (reports w.report.new.pass)) (sym more)
+                (one_more (reports c.args.pass) (reports c.loop-row.pass) (reports w.report.new.pass) _ so_far.reported w.report.ensures.reported));
             call = w.call-is ∙ (ap (λ (n : ℕ). (n + 1) % 2 ^ 32) so_far.call ∙ (mod-add-mod (rows_by c.args.reporter (take i rows)) (2 ^ 32) 1 ∙ ap (λ (n : ℕ). n % 2 ^ 32) (sym more)));
-            came = subst (CameTo came c.args.reporter) (sym more) (came_more came c.args.reporter (rows_by c.args.reporter (take i rows)) so_far.came (subst (came c.args.reporter) so_far.call w.come.ensures));
+            came = subst (CameTo came c.args.reporter) (sym more)
+                (came_more came c.args.reporter (rows_by c.args.reporter (take i rows)) so_far.came (subst (came c.args.reporter) so_far.call w.come.ensures));
           }
       | else-get-reporter w ↦
           let other : row.reporter ≢ c.args.reporter = λ same. w.if-get-reporter.false (c.get.ensures.value ∙ same) in

@@ -1,5 +1,5 @@
 use Rattle.ucl_screen.specs.Parsing.{MeansNight, night_seen}
-use Rattle.ucl_screen.proofs.Sound.{calls-read, night-reads}
+use Rattle.ucl_screen.proofs.RowFaults.{calls-read, night-reads}
 use Rattle.ucl_screen.proofs.reading.read_night.Goals as goal
 
 pub returns-clause-reads : goal.returns-clause-reads

@@ -1,6 +1,6 @@
 use Rattle.std.proofs.lemmas.Result.{err_from_is_err_and}
 use Rattle.ucl_screen.specs.Parsing.{MeansSheet, sheet_seen}
-use Rattle.ucl_screen.proofs.Sound.{calls-read, sheet-refused, sheet-taken, sheet-tested}
+use Rattle.ucl_screen.proofs.RowFaults.{calls-read, sheet-refused, sheet-taken, sheet-tested}
 use Rattle.ucl_screen.proofs.reading.read_words.Goals as goal
 
 pub returns-in_err-roster-clause-reads : goal.returns-in_err-roster-clause-reads

@@ -1,9 +1,10 @@
-use Rattle.std.proofs.Common.{rules, ℕ, ◌∙◌, sym, subst, ap}
+use Rattle.std.proofs.Common.{rules, ◌∙◌, sym, subst, ap}
 use Rattle.crossbeam_utils.specs.Seq.{cell_view}
 use Rattle.ucl_word.specs.declared.event.EventCall.{EventCall}
 use Rattle.ucl_board.specs.Fixtures.{IsMatch}
 use Rattle.ucl_pass.specs.CellSteps.{LookOfCell}
-use Rattle.ucl_pass.proofs.CellMoves.{looks}
+use Rattle.ucl_pass.proofs.CellMoves.{looks, stands_too}
+use Rattle.ucl_pass.proofs.Standing.{stands_on}
 use Rattle.ucl_pass.proofs.cell_board.CellBoard.look.Goals as goal
 
 pub load_as-requires : goal.load_as-requires
@@ -13,8 +14,8 @@ load_as-requires g c = (
     search rules,
     (
       search rules,
-      looks _ _ _ c.requires.acts c.requires.me
-          (subst IsMatch (c.get-number.ensures.value ∙ sym (ap (λ (e : EventCall). e.game) c.requires.asks)) c.get-number.ensures.within),
+      stands_too _ _ _ _ _ c.requires.place
+          (looks _ _ _ c.requires.acts c.requires.me (subst IsMatch (c.get-number.ensures.value ∙ sym (ap (λ (e : EventCall). e.game) c.requires.asks)) c.get-number.ensures.within)),
     ),
   ),
 )
@@ -23,7 +24,10 @@ pub returns-clause-game : goal.returns-clause-game
 returns-clause-game g c = subst IsMatch c.get-number.ensures.value c.get-number.ensures.within
 
 pub returns-clause-looks : goal.returns-clause-looks
-returns-clause-looks g c = (subst (λ (e : EventCall). LookOfCell e (cell_view c.args.seat.now) c.load_as.result c.load_as.result (cell_view c.load_as.new.pass)) c.requires.asks c.load_as.ensures.rule).looks
+returns-clause-looks g c = (subst (λ (e : EventCall). LookOfCell e (cell_view c.args.seat.now) c.load_as.result c.load_as.result (cell_view c.load_as.new.pass)) c.requires.asks c.load_as.ensures.rule.told).looks
 
 pub returns-clause-decides : goal.returns-clause-decides
-returns-clause-decides g c = subst (λ (e : EventCall). LookOfCell e (cell_view c.args.seat.now) c.load_as.result c.load_as.result (cell_view c.load_as.new.pass)) c.requires.asks c.load_as.ensures.rule
+returns-clause-decides g c = subst (λ (e : EventCall). LookOfCell e (cell_view c.args.seat.now) c.load_as.result c.load_as.result (cell_view c.load_as.new.pass)) c.requires.asks c.load_as.ensures.rule.told
+
+pub returns-clause-stands : goal.returns-clause-stands
+returns-clause-stands g c = stands_on _ c.args.seat.now.id c.load_as.new.pass.id (cell_view c.load_as.new.pass) c.requires.place c.load_as.ensures.cell.1 c.load_as.ensures.rule.stands

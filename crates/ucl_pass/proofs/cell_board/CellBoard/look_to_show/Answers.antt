@@ -1,12 +1,17 @@
 use Rattle.std.proofs.Common.{rules}
-use Rattle.ucl_pass.proofs.CellMoves.{reads}
+use Rattle.crossbeam_utils.specs.Seq.{cell_view}
+use Rattle.ucl_pass.proofs.CellMoves.{reads, stands_too}
+use Rattle.ucl_pass.proofs.Standing.{stands_on}
 use Rattle.ucl_pass.proofs.cell_board.CellBoard.look_to_show.Goals as goal
 
 pub load_as-requires : goal.load_as-requires
-load_as-requires g c = (search rules, (search rules, (search rules, reads _ _ c.requires.acts)))
+load_as-requires g c = (search rules, (search rules, (search rules, stands_too _ _ _ _ _ c.requires.place (reads _ _ c.requires.acts))))
 
 pub returns-clause-looks : goal.returns-clause-looks
-returns-clause-looks g c = c.load_as.ensures.rule.shows
+returns-clause-looks g c = c.load_as.ensures.rule.told.shows
 
 pub returns-clause-decides : goal.returns-clause-decides
-returns-clause-decides g c = c.load_as.ensures.rule
+returns-clause-decides g c = c.load_as.ensures.rule.told
+
+pub returns-clause-stands : goal.returns-clause-stands
+returns-clause-stands g c = stands_on _ c.args.seat.now.id c.load_as.new.pass.id (cell_view c.load_as.new.pass) c.requires.place c.load_as.ensures.cell.1 c.load_as.ensures.rule.stands

@@ -1,6 +1,5 @@
-use Rattle.std.proofs.Common.{◌≡◌, ap, refl, sym, subst}
+use Rattle.std.proofs.Common.{ap, refl, sym, subst}
 use Rattle.std.specs.Prelude.{List}
-use Rattle.crossbeam_utils.specs.Seq.{cell_view}
 use Rattle.ucl_board.specs.declared.entry.Entry.{Entry}
 use Rattle.ucl_shared.specs.Passes.{Hearing}
 use Rattle.ucl_shared.specs.Views.{pass_view_of}

@@ -1,7 +1,7 @@
-use Rattle.std.proofs.Common.{rules, List, ℕ, [], ◌∷◌, ◌++◌, ap, ◌∙◌}
-use Rattle.ucl_pass.specs.CellRule.{words_after}
+use Rattle.std.proofs.Common.{rules, List, ℕ, [], ◌∷◌, ◌++◌, sym, subst, ap, ◌∙◌}
+use Rattle.ucl_pass.specs.CellRule.{words_after, CellStands}
 use Rattle.ucl_shared.proofs.LogFacts.{opens_fresh}
-use Rattle.ucl_pass.proofs.CellMoves.{begins}
+use Rattle.ucl_pass.proofs.CellMoves.{begins, begins_stands}
 use Rattle.ucl_pass.proofs.cell_board.CellBoard.open.Goals as goal
 
 pub ruled-requires : goal.ruled-requires
@@ -12,3 +12,6 @@ returns-clause-rule g c = opens_fresh words_after
 
 pub returns-in_err-cell-clause-rule : goal.returns-in_err-cell-clause-rule
 returns-in_err-cell-clause-rule g c = opens_fresh words_after
+
+pub returns-clause-stands : goal.returns-clause-stands
+returns-clause-stands g c = (0, subst (CellStands 0) (sym c.in_ok-cell.ensures.1) begins_stands)

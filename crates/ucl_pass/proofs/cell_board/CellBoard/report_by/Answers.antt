@@ -41,8 +41,8 @@ pub store_event-stored-requires-clause-next : goal.store_event-stored-requires-c
 store_event-stored-requires-clause-next g c =
     let call = c.args.call.now in
     let me = looked_number call (cell_view c.args.seat.now) (cell_view c.retry.seat) (cell_view c.look-words.new.seat) c.look-words.result c.retry.invariant.tried c.retry.invariant.does c.look-words.ensures.decides ∙ c.requires.me.1 in
-    subst (λ (n : ℕ). IsNextBoard (entry_of (n, call)) c.look-words.result c.words_with-next.result) (sym me)
-    (next_words c.look-words.result c.report.new.self c.words_with-next.result (entry_of (c.args.reporter, call)) (λ h legal is. c.in-Ok.ensures.counted h legal (is ∙ sym c.board_at-board.ensures)) c.words_with-next.ensures)
+    subst (λ (n : ℕ). IsNextBoard (entry_of n call) c.look-words.result c.words_with-next.result) (sym me)
+    (next_words c.look-words.result c.report.new.self c.words_with-next.result (entry_of c.args.reporter call) (λ h legal is. c.in-Ok.ensures.counted h legal (is ∙ sym c.board_at-board.ensures)) c.words_with-next.ensures)
 
 pub store_event-stored-requires-clause-accepts : goal.store_event-stored-requires-clause-accepts
 store_event-stored-requires-clause-accepts g c =
@@ -69,7 +69,7 @@ retry-preserved g c =
     let z = knows c.store_event-stored.new.seat in
     let next = c.words_with-next.result in
     let looks = c.look-words.ensures.looks in
-    let e : Entry = entry_of (u.number, call) in
+    let e : Entry = entry_of u.number call in
     let twelve = ap (λ (ws : List ℕ). reply_of (game_at ws call.game) call) c.board_at-board.ensures in
     let one = ap (λ (n : ℕ). reply_of (record_at n) call) (same_word x (knows c.retry.seat) u looks.seen_all looks.sees.goes call.game c.look-words.ensures.game) in
     let may : IsOk (reply_of (record_at (word_at x call.game)) call) = subst (λ (r : Result Accepted Refusal). IsOk r) (c.in-Ok.ensures.reply ∙ (twelve ∙ one)) refl in
@@ -78,6 +78,7 @@ retry-preserved g c =
       can = tt;
       ends = tt;
       own = c.store_event-stored.ensures.own ∙ (c.look-words.ensures.own ∙ c.retry.invariant.own);
+      place = c.store_event-stored.ensures.seat ∙ (c.look-words.ensures.seat ∙ c.retry.invariant.place);
       acts = missed.1.1.sees.goes.acts;
       tried = missed_again call (knows c.args.seat.now) (knows c.retry.seat) u x c.retry.invariant.tried looks z missed.0 missed.1.0 may missed.1.1;
       does = still_finished call (cell_view c.args.seat.now) (cell_view c.retry.seat) (cell_view c.look-words.new.seat) x c.retry.invariant.tried c.retry.invariant.does c.look-words.ensures.decides c.in-Ok.accepted (sym (c.in-Ok.ensures.reply ∙ (twelve ∙ one))) (cell_view c.store_event-stored.new.seat)
@@ -92,8 +93,8 @@ returns-then-is_ok-clause-always g c =
     let u = knows c.look-words.new.seat in
     let z = knows c.store_event-stored.new.seat in
     let next = c.words_with-next.result in
-    let e : Entry = entry_of (u.number, call) in
-    let same : e ≡ entry_of (v.number, call) = ap (λ (n : ℕ). entry_of (n, call)) (looked_number call (cell_view c.args.seat.now) (cell_view c.retry.seat) (cell_view c.look-words.new.seat) x c.retry.invariant.tried c.retry.invariant.does c.look-words.ensures.decides) in
+    let e : Entry = entry_of u.number call in
+    let same : e ≡ entry_of v.number call = ap (λ (n : ℕ). entry_of n call) (looked_number call (cell_view c.args.seat.now) (cell_view c.retry.seat) (cell_view c.look-words.new.seat) x c.retry.invariant.tried c.retry.invariant.does c.look-words.ensures.decides) in
     let stored = won c.store_event-stored.result (λ found. (found ≡ x) × StoresEntry e u x next z) (λ found. (found ≢ x) × LooksOnly (word_looked_at Swap call.game found) u found found z) c.store_event-stored.ensures.stored (sym c.is_ok.ensures.value ∙ c.if-is_ok.true) in
     accepted_continues call v (knows c.retry.seat) u x c.retry.invariant.tried c.look-words.ensures.looks z next (subst (λ (e : Entry). StoresEntry e u x next z) same stored.1.1)
 
@@ -105,8 +106,8 @@ returns-then-is_ok-clause-accepted g c =
     let u = knows c.look-words.new.seat in
     let z = knows c.store_event-stored.new.seat in
     let next = c.words_with-next.result in
-    let e : Entry = entry_of (u.number, call) in
-    let same : e ≡ entry_of (v.number, call) = ap (λ (n : ℕ). entry_of (n, call)) (looked_number call (cell_view c.args.seat.now) (cell_view c.retry.seat) (cell_view c.look-words.new.seat) x c.retry.invariant.tried c.retry.invariant.does c.look-words.ensures.decides) in
+    let e : Entry = entry_of u.number call in
+    let same : e ≡ entry_of v.number call = ap (λ (n : ℕ). entry_of n call) (looked_number call (cell_view c.args.seat.now) (cell_view c.retry.seat) (cell_view c.look-words.new.seat) x c.retry.invariant.tried c.retry.invariant.does c.look-words.ensures.decides) in
     let stored = won c.store_event-stored.result (λ found. (found ≡ x) × StoresEntry e u x next z) (λ found. (found ≢ x) × LooksOnly (word_looked_at Swap call.game found) u found found z) c.store_event-stored.ensures.stored (sym c.is_ok.ensures.value ∙ c.if-is_ok.true) in
     accepts call v (knows c.retry.seat) u x c.retry.invariant.tried c.look-words.ensures.looks z next (subst (λ (e : Entry). StoresEntry e u x next z) same stored.1.1)
     c.in-Ok.accepted (λ h legal is. c.in-Ok.ensures.sequential h legal (is ∙ sym c.board_at-board.ensures))
@@ -120,8 +121,8 @@ returns-then-is_ok-clause-steps g c =
     let z = knows c.store_event-stored.new.seat in
     let next = c.words_with-next.result in
     let looks = c.look-words.ensures.looks in
-    let e : Entry = entry_of (u.number, call) in
-    let same : e ≡ entry_of (v.number, call) = ap (λ (n : ℕ). entry_of (n, call)) (looked_number call (cell_view c.args.seat.now) (cell_view c.retry.seat) (cell_view c.look-words.new.seat) x c.retry.invariant.tried c.retry.invariant.does c.look-words.ensures.decides) in
+    let e : Entry = entry_of u.number call in
+    let same : e ≡ entry_of v.number call = ap (λ (n : ℕ). entry_of n call) (looked_number call (cell_view c.args.seat.now) (cell_view c.retry.seat) (cell_view c.look-words.new.seat) x c.retry.invariant.tried c.retry.invariant.does c.look-words.ensures.decides) in
     let stored = won c.store_event-stored.result (λ found. (found ≡ x) × StoresEntry e u x next z) (λ found. (found ≢ x) × LooksOnly (word_looked_at Swap call.game found) u found found z) c.store_event-stored.ensures.stored (sym c.is_ok.ensures.value ∙ c.if-is_ok.true) in
     let twelve = ap (λ (ws : List ℕ). reply_of (game_at ws call.game) call) c.board_at-board.ensures in
     let one = ap (λ (n : ℕ). reply_of (record_at n) call) (same_word x (knows c.retry.seat) u looks.seen_all looks.sees.goes call.game c.look-words.ensures.game) in

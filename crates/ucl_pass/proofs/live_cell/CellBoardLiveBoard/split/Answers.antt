@@ -1,5 +1,6 @@
 use Rattle.std.proofs.Common.{◌≡◌, refl, sym, ap, subst}
 use Rattle.ucl_pass.specs.declared.view.CellView.{CellView}
+use Rattle.ucl_pass.specs.CellRule.{PassStands}
 use Rattle.ucl_pass.specs.CellViews.{knows}
 use Rattle.ucl_shared.specs.declared.view.View.{View}
 use Rattle.ucl_shared.specs.Passes.{IsSound}
@@ -16,3 +17,6 @@ invariant_of-result g c = subst IsReader (sym (ap (λ (z : CellView). z.pass) c.
 
 pub invariant_of-pass : goal.invariant_of-pass
 invariant_of-pass g c = subst IsReader (sym (ap (λ (z : CellView). z.pass) c.split_seat-seat.ensures.kept)) (sound_kept (knows c.pass.inside.seat) c.pass.invariant.0, c.pass.invariant.1, c.pass.invariant.2)
+
+pub returns-clause-stands : goal.returns-clause-stands
+returns-clause-stands g c was = c.split_seat-seat.ensures.stands (subst PassStands (sym c.pass.view_is) was)

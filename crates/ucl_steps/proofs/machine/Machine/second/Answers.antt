@@ -1,6 +1,7 @@
 use Rattle.std.proofs.Common.{◌≡◌, Some, refl, sym, ap, ◌∙◌, arith, rules}
 use Rattle.std.specs.Prelude.{slice_index}
 use Rattle.ucl_board.specs.declared.reading.Reading.{Reading}
+use Rattle.ucl_board.specs.History.{reading_of}
 use Rattle.ucl_steps.specs.declared.trace.Reply.TheVariants.{Copied}
 use Rattle.ucl_steps.specs.Machine.{after_reply}
 use Rattle.ucl_steps.specs.declared.machine.Held.TheVariants as has
@@ -38,8 +39,8 @@ overflow_add-next c =
     let is : c.held-held.result ≡ Some (has.Checking c.in-Some-Checking.call c.in-Some-Checking.words c.in-Some-Checking.checked c.in-Some-Checking.point) = search rules in
     let few = checked_few (state_of c.args.self.now) c.requires c.args.caller c.held-held.result c.held-held.ensures c.in-Some-Checking.call c.in-Some-Checking.words c.in-Some-Checking.checked c.in-Some-Checking.point is in omega arith
 
-pub reading_of-reading-requires : goal.reading_of-reading-requires
-reading_of-reading-requires c =
+pub of_packed-requires : goal.of_packed-requires
+of_packed-requires c =
     let is : c.held-held.result ≡ Some (has.Checking c.in-Some-Checking.call c.in-Some-Checking.words c.in-Some-Checking.checked c.in-Some-Checking.point) = search rules in
     collected_words (state_of c.args.self.now) c.requires c.args.caller c.held-held.result c.held-held.ensures c.in-Some-Checking.call c.in-Some-Checking.words c.in-Some-Checking.checked c.in-Some-Checking.point is
 
@@ -48,4 +49,4 @@ returns-then-checked-eq11 c =
     let is : c.held-held.result ≡ Some (has.Checking c.in-Some-Checking.call c.in-Some-Checking.words c.in-Some-Checking.checked c.in-Some-Checking.point) = search rules in
     let same : slice_index c.args.self.now.words c.in-Some-Checking.checked ≡ slice_index c.in-Some-Checking.words c.in-Some-Checking.checked = search rules in
     clean_step (state_of c.args.self.now) c.requires c.args.caller c.held-held.result c.held-held.ensures c.in-Some-Checking.call c.in-Some-Checking.words c.in-Some-Checking.checked c.in-Some-Checking.point is same c.if-checked-eq11.true
-    ∙ ap Some (sym (c.reply.ensures ∙ ap (λ (r : Reading). after_reply c.args.caller c.in-Some-Checking.call c.in-Some-Checking.point (Copied r) (state_of c.args.self.now)) c.reading_of-reading.ensures))
+    ∙ ap Some (sym (c.reply.ensures ∙ ap (λ (r : Reading). after_reply c.args.caller c.in-Some-Checking.call c.in-Some-Checking.point (Copied r) (state_of c.args.self.now)) (c.of-reading.ensures ∙ ap reading_of c.of_packed.ensures)))

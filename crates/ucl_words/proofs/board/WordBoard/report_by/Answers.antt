@@ -1,9 +1,12 @@
-use Rattle.std.proofs.Common.{◌≡◌, ℕ, Err, refl, ap, rules}
+use Rattle.std.proofs.Common.{◌≡◌, ℕ, Err, refl, sym, ap, ◌∙◌, subst, arith, rules}
 use Rattle.ucl_word.specs.Layout.{record_at}
 use Rattle.ucl_word.specs.declared.refusal.Refusal.TheVariants.{Stale}
 use Rattle.ucl_words.proofs.StepRuns.{found_valid, walks_continue}
-use Rattle.ucl_words.proofs.ReportFacts.{next_after, look_walks, look_steps, look_refuses, miss_walks, miss_steps, miss_refuses, won_steady, won_continues, won_steps, won_accepts, accepts_by, as_entry, me_in}
+use Rattle.ucl_words.proofs.ReportFacts.{next_after, look_walks, look_steps, look_refuses, miss_walks, miss_steps, miss_refuses, won_steady, won_continues, won_steps, won_accepts, accepts_by, as_entry, as_missed, me_in}
+use Rattle.ucl_board.specs.declared.entry.Entry.{Entry}
 use Rattle.ucl_board.proofs.Beginnings.{begins_length}
+use Rattle.ucl_words.specs.WordSteps.{IsNextWord}
+use Rattle.ucl_words.specs.Code.{IsHoldingFor}
 use Rattle.ucl_words.proofs.DoingFacts.{look_answers, holding_for, won_answers, miss_answers}
 use Rattle.ucl_steps.specs.declared.step.Call.TheVariants as calls
 use Rattle.ucl_words.proofs.AlongFacts.{along_on, along_look, along_swap}
@@ -41,13 +44,21 @@ look-loaded-requires-clause-me c = me_in c.args.seat.now.me.0.pass c.args.report
 
 pub swap-found-requires-clause-next : goal.swap-found-requires-clause-next
 swap-found-requires-clause-next c =
-    holding_for c.args.seat.now.me.0 c.look-loaded.new.seat.me.0 c.args.call.now c.look-loaded.result c.args.reporter c.requires.me.2 c.look-loaded.ensures.does (begins_length _ _ c.look-loaded.ensures.looks.loads.sees.goes.seen) c.in_ok-next.ensures.accepted.0 c.in_ok-next.next c.in_ok-next.ensures.valid
-    c.in_ok-next.ensures.record c.args.reporter
+    subst (λ (e : Entry). IsHoldingFor c.look-loaded.new.seat.me.0.doing.held e c.look-loaded.result c.in_ok-next.next) (sym c.of-entry.ensures)
+    (holding_for c.args.seat.now.me.0 c.look-loaded.new.seat.me.0 c.args.call.now c.look-loaded.result c.args.reporter c.requires.me.2 c.look-loaded.ensures.does (begins_length _ _ c.look-loaded.ensures.looks.loads.sees.goes.seen) c.in_ok-next.ensures.accepted.0 c.in_ok-next.next c.in_ok-next.ensures.valid
+    c.in_ok-next.ensures.record c.args.reporter)
+
+pub swap-found-requires-clause-me : goal.swap-found-requires-clause-me
+swap-found-requires-clause-me c =
+    let me = c.requires.me in
+    let kept = c.look-loaded.ensures.looks.loads.sees.number in
+    (omega arith, ap (λ (e : Entry). e.reporter) c.of-entry.ensures ∙ (sym me.2 ∙ sym kept))
 
 pub swap-found-requires-clause-word : goal.swap-found-requires-clause-word
 swap-found-requires-clause-word c =
     let call = c.args.call.now in
-    next_after call.game c.args.reporter call.kind c.look-loaded.result c.in_ok-next.next c.look-loaded.ensures.game c.in_ok-next.ensures.valid c.in_ok-next.ensures.counted
+    subst (λ (e : Entry). IsNextWord e c.look-loaded.result c.in_ok-next.next) (sym c.of-entry.ensures)
+    (next_after call.game c.args.reporter call.kind c.look-loaded.result c.in_ok-next.next c.look-loaded.ensures.game c.in_ok-next.ensures.valid c.in_ok-next.ensures.counted)
 
 pub returns-then-found-loaded-clause-steady : goal.returns-then-found-loaded-clause-steady
 returns-then-found-loaded-clause-steady c =
@@ -56,7 +67,7 @@ returns-then-found-loaded-clause-steady c =
     let z = c.swap-found.new.seat.me.0.pass in
     let call = c.args.call.now in
     let said = c.look-loaded.ensures in
-    let won = as_entry v u z call c.args.reporter c.swap-found.result c.requires.me.2 (c.swap-found.ensures.won c.if-found-loaded.true) in
+    let won = as_entry v u z call c.of-entry.result c.args.reporter c.swap-found.result c.of-entry.ensures c.requires.me.2 (c.swap-found.ensures.won c.if-found-loaded.true) in
     let accepts = accepts_by c.look-loaded.result c.in_ok-next.next c.number_of.result c.args.reporter call c.in_ok-next.ensures.accepted.0 c.in_ok-next.ensures.record c.number_of.ensures.value in
     won_steady v u call c.look-loaded.result said.game (me_in c.args.seat.now.me.0.pass c.args.reporter c.requires.me) c.requires.steady said.looks (record { number = c.number_of.result }) accepts z c.swap-found.result c.if-found-loaded.true won
 
@@ -67,7 +78,7 @@ returns-then-found-loaded-clause-always c =
     let z = c.swap-found.new.seat.me.0.pass in
     let call = c.args.call.now in
     let said = c.look-loaded.ensures in
-    let won = as_entry v u z call c.args.reporter c.swap-found.result c.requires.me.2 (c.swap-found.ensures.won c.if-found-loaded.true) in
+    let won = as_entry v u z call c.of-entry.result c.args.reporter c.swap-found.result c.of-entry.ensures c.requires.me.2 (c.swap-found.ensures.won c.if-found-loaded.true) in
     let accepts = accepts_by c.look-loaded.result c.in_ok-next.next c.number_of.result c.args.reporter call c.in_ok-next.ensures.accepted.0 c.in_ok-next.ensures.record c.number_of.ensures.value in
     won_continues v u call c.look-loaded.result said.game (me_in c.args.seat.now.me.0.pass c.args.reporter c.requires.me) c.requires.steady said.looks (record { number = c.number_of.result }) accepts z c.swap-found.result c.if-found-loaded.true won
 
@@ -78,7 +89,7 @@ returns-then-found-loaded-clause-accepted c =
     let z = c.swap-found.new.seat.me.0.pass in
     let call = c.args.call.now in
     let said = c.look-loaded.ensures in
-    let won = as_entry v u z call c.args.reporter c.swap-found.result c.requires.me.2 (c.swap-found.ensures.won c.if-found-loaded.true) in
+    let won = as_entry v u z call c.of-entry.result c.args.reporter c.swap-found.result c.of-entry.ensures c.requires.me.2 (c.swap-found.ensures.won c.if-found-loaded.true) in
     let accepts = accepts_by c.look-loaded.result c.in_ok-next.next c.number_of.result c.args.reporter call c.in_ok-next.ensures.accepted.0 c.in_ok-next.ensures.record c.number_of.ensures.value in
     won_accepts v u call c.look-loaded.result said.game (me_in c.args.seat.now.me.0.pass c.args.reporter c.requires.me) c.requires.steady said.looks (record { number = c.number_of.result }) accepts z c.swap-found.result c.if-found-loaded.true won
 
@@ -89,7 +100,7 @@ returns-then-found-loaded-clause-steps c =
     let z = c.swap-found.new.seat.me.0.pass in
     let call = c.args.call.now in
     let said = c.look-loaded.ensures in
-    let won = as_entry v u z call c.args.reporter c.swap-found.result c.requires.me.2 (c.swap-found.ensures.won c.if-found-loaded.true) in
+    let won = as_entry v u z call c.of-entry.result c.args.reporter c.swap-found.result c.of-entry.ensures c.requires.me.2 (c.swap-found.ensures.won c.if-found-loaded.true) in
     let accepts = accepts_by c.look-loaded.result c.in_ok-next.next c.number_of.result c.args.reporter call c.in_ok-next.ensures.accepted.0 c.in_ok-next.ensures.record c.number_of.ensures.value in
     won_steps v u call c.look-loaded.result said.game (me_in c.args.seat.now.me.0.pass c.args.reporter c.requires.me) c.requires.steady said.looks (record { number = c.number_of.result }) accepts z c.swap-found.result c.if-found-loaded.true won
 
@@ -102,7 +113,7 @@ returns-else-found-loaded-clause-steady c =
     let said = c.look-loaded.ensures in
     let other = c.if-found-loaded.false in
     let accepts = accepts_by c.look-loaded.result c.in_ok-next.next (record_at c.in_ok-next.next).number c.args.reporter call c.in_ok-next.ensures.accepted.0 c.in_ok-next.ensures.record refl in
-    (miss_walks v u call c.look-loaded.result said.game (me_in c.args.seat.now.me.0.pass c.args.reporter c.requires.me) c.requires.steady said.looks (record { number = (record_at c.in_ok-next.next).number }) accepts z c.swap-found.result other (c.swap-found.ensures.missed other)).steady
+    (miss_walks v u call c.look-loaded.result said.game (me_in c.args.seat.now.me.0.pass c.args.reporter c.requires.me) c.requires.steady said.looks (record { number = (record_at c.in_ok-next.next).number }) accepts z c.swap-found.result other (as_missed u z call c.of-entry.result c.args.reporter c.swap-found.result c.of-entry.ensures (c.swap-found.ensures.missed other))).steady
 
 pub returns-else-found-loaded-clause-always : goal.returns-else-found-loaded-clause-always
 returns-else-found-loaded-clause-always c =
@@ -113,7 +124,7 @@ returns-else-found-loaded-clause-always c =
     let said = c.look-loaded.ensures in
     let other = c.if-found-loaded.false in
     let accepts = accepts_by c.look-loaded.result c.in_ok-next.next (record_at c.in_ok-next.next).number c.args.reporter call c.in_ok-next.ensures.accepted.0 c.in_ok-next.ensures.record refl in
-    walks_continue v z _ (miss_walks v u call c.look-loaded.result said.game (me_in c.args.seat.now.me.0.pass c.args.reporter c.requires.me) c.requires.steady said.looks (record { number = (record_at c.in_ok-next.next).number }) accepts z c.swap-found.result other (c.swap-found.ensures.missed other))
+    walks_continue v z _ (miss_walks v u call c.look-loaded.result said.game (me_in c.args.seat.now.me.0.pass c.args.reporter c.requires.me) c.requires.steady said.looks (record { number = (record_at c.in_ok-next.next).number }) accepts z c.swap-found.result other (as_missed u z call c.of-entry.result c.args.reporter c.swap-found.result c.of-entry.ensures (c.swap-found.ensures.missed other)))
 
 pub returns-else-found-loaded-clause-refused : goal.returns-else-found-loaded-clause-refused
 returns-else-found-loaded-clause-refused c =
@@ -124,7 +135,7 @@ returns-else-found-loaded-clause-refused c =
     let said = c.look-loaded.ensures in
     let other = c.if-found-loaded.false in
     let accepts = accepts_by c.look-loaded.result c.in_ok-next.next (record_at c.in_ok-next.next).number c.args.reporter call c.in_ok-next.ensures.accepted.0 c.in_ok-next.ensures.record refl in
-    miss_refuses v u call c.look-loaded.result said.game (me_in c.args.seat.now.me.0.pass c.args.reporter c.requires.me) c.requires.steady said.looks (record { number = (record_at c.in_ok-next.next).number }) accepts z c.swap-found.result other (c.swap-found.ensures.missed other) _
+    miss_refuses v u call c.look-loaded.result said.game (me_in c.args.seat.now.me.0.pass c.args.reporter c.requires.me) c.requires.steady said.looks (record { number = (record_at c.in_ok-next.next).number }) accepts z c.swap-found.result other (as_missed u z call c.of-entry.result c.args.reporter c.swap-found.result c.of-entry.ensures (c.swap-found.ensures.missed other)) _
     (ap (λ (n : ℕ). Stale n) c.number_of-else-found-loaded.ensures.value)
 
 pub returns-else-found-loaded-clause-steps : goal.returns-else-found-loaded-clause-steps
@@ -136,7 +147,7 @@ returns-else-found-loaded-clause-steps c =
     let said = c.look-loaded.ensures in
     let other = c.if-found-loaded.false in
     let accepts = accepts_by c.look-loaded.result c.in_ok-next.next (record_at c.in_ok-next.next).number c.args.reporter call c.in_ok-next.ensures.accepted.0 c.in_ok-next.ensures.record refl in
-    miss_steps v u call c.look-loaded.result said.game (me_in c.args.seat.now.me.0.pass c.args.reporter c.requires.me) c.requires.steady said.looks (record { number = (record_at c.in_ok-next.next).number }) accepts z c.swap-found.result other (c.swap-found.ensures.missed other) _
+    miss_steps v u call c.look-loaded.result said.game (me_in c.args.seat.now.me.0.pass c.args.reporter c.requires.me) c.requires.steady said.looks (record { number = (record_at c.in_ok-next.next).number }) accepts z c.swap-found.result other (as_missed u z call c.of-entry.result c.args.reporter c.swap-found.result c.of-entry.ensures (c.swap-found.ensures.missed other)) _
     (ap (λ (n : ℕ). Stale n) c.number_of-else-found-loaded.ensures.value)
 
 pub look-loaded-requires-clause-acts : goal.look-loaded-requires-clause-acts
@@ -169,12 +180,12 @@ pub returns-then-found-loaded-clause-along : goal.returns-then-found-loaded-clau
 returns-then-found-loaded-clause-along c =
     along_on c.args.seat.now.me.0 c.look-loaded.new.seat.me.0 c.swap-found.new.seat.me.0 (calls.Event c.args.call.now) c.look-loaded.ensures.looks.loads.sees.number
     (along_look c.args.seat.now.me.0 c.look-loaded.new.seat.me.0 c.args.call.now.game c.look-loaded.result c.args.call.now c.look-loaded.ensures.looks.loads c.look-loaded.ensures.does)
-    (along_swap c.look-loaded.new.seat.me.0 c.swap-found.new.seat.me.0 c.args.call.now.game c.swap-found.result c.args.call.now (record { game = c.args.call.now.game; reporter = c.args.reporter; kind = c.args.call.now.kind }) c.look-loaded.result refl
+    (along_swap c.look-loaded.new.seat.me.0 c.swap-found.new.seat.me.0 c.of-entry.result.game c.swap-found.result c.args.call.now c.of-entry.result c.look-loaded.result refl
     c.swap-found.ensures.won c.swap-found.ensures.missed c.swap-found.ensures.does)
 
 pub returns-else-found-loaded-clause-along : goal.returns-else-found-loaded-clause-along
 returns-else-found-loaded-clause-along c =
     along_on c.args.seat.now.me.0 c.look-loaded.new.seat.me.0 c.swap-found.new.seat.me.0 (calls.Event c.args.call.now) c.look-loaded.ensures.looks.loads.sees.number
     (along_look c.args.seat.now.me.0 c.look-loaded.new.seat.me.0 c.args.call.now.game c.look-loaded.result c.args.call.now c.look-loaded.ensures.looks.loads c.look-loaded.ensures.does)
-    (along_swap c.look-loaded.new.seat.me.0 c.swap-found.new.seat.me.0 c.args.call.now.game c.swap-found.result c.args.call.now (record { game = c.args.call.now.game; reporter = c.args.reporter; kind = c.args.call.now.kind }) c.look-loaded.result refl
+    (along_swap c.look-loaded.new.seat.me.0 c.swap-found.new.seat.me.0 c.of-entry.result.game c.swap-found.result c.args.call.now c.of-entry.result c.look-loaded.result refl
     c.swap-found.ensures.won c.swap-found.ensures.missed c.swap-found.ensures.does)

@@ -1,0 +1,65 @@
+-- What an evening answers, as the board of one thread has it after a history.
+use Rattle.std.specs.Prelude.{ℕ, ◌+◌, List, [], ◌∷◌, ◌++◌}
+use Rattle.std.specs.List.{fold}
+use Rattle.ucl_board.specs.declared.entry.Entry.{Entry}
+use Rattle.ucl_board.specs.History.{Attempt, after_attempt, board_of, sequential_reply}
+use Rattle.ucl_order.specs.Roster.{NamedClub}
+use Rattle.ucl_screen.specs.declared.night.NightEvent.{NightEvent}
+use Rattle.ucl_runs.specs.Feed.{attempt_of, reply_line}
+use Rattle.ucl_json.specs.Lines.{json_line}
+use Rattle.ucl_json.specs.Values.{reply_value}
+use Rattle.ucl_answers.specs.declared.options.Format.{Format}
+use Rattle.ucl_answers.specs.declared.options.Format.TheVariants.{Text, Json}
+use Rattle.ucl_answers.specs.declared.options.Options.{Options}
+use Rattle.ucl_answers.specs.declared.request.Request.{Request}
+use Rattle.ucl_answers.specs.declared.request.Request.TheVariants.{Bad, Event, Screen, Words}
+use Rattle.ucl_answers.specs.Rows.{Said, Nothing, Garbled, Row, said_on}
+use Rattle.ucl_answers.specs.Requests.{request_of}
+use Rattle.ucl_answers.specs.Text.{bad_answer, screen_after, screen_answer, words_answer}
+
+-- ---- the events that lines ask for, with who enters them, where the first line has this number and the board is open
+
+abbrev pub attempts_of : Request → List Attempt
+attempts_of (Event event) = attempt_of event ∷ []
+attempts_of Bad = []
+attempts_of Screen = []
+attempts_of Words = []
+
+abbrev pub attempts_on : Said → List Attempt
+attempts_on Nothing = []
+attempts_on Garbled = []
+attempts_on (Row f) = attempts_of (request_of (Row f))
+
+unfoldable pub attempts_in : ℕ → List (List ℕ) → List Attempt
+attempts_in row [] = []
+attempts_in row (line ∷ lines) = attempts_on (said_on row line) ++ attempts_in (row + 1) lines
+
+-- ---- answers after a history
+
+-- the reply to an event: as text the line that `feed` writes; in JSON with the board after it
+abbrev pub reply_by_history : Format → Options → ℕ → List NamedClub → List Entry → NightEvent → List ℕ
+reply_by_history Text options row clubs history event = reply_line row history event.call
+reply_by_history Json options row clubs history event =
+    json_line (reply_value row event.call.game (sequential_reply history event.call) options.profile (board_of (after_attempt history (attempt_of event))) clubs options.group)
+
+-- the answer to a request: of an event its reply, and the screen of the board with it; the screen, or the words, of the board before
+abbrev pub answer_by_history : Options → ℕ → List NamedClub → List Entry → Request → List ℕ
+answer_by_history options row clubs history (Event event) =
+    reply_by_history options.format options row clubs history event
+    ++ screen_after options row clubs (sequential_reply history event.call) (board_of (after_attempt history (attempt_of event)))
+answer_by_history options row clubs history Bad = bad_answer options.format row
+answer_by_history options row clubs history Screen = screen_answer options row clubs (board_of history)
+answer_by_history options row clubs history Words = words_answer options.format row (board_of history)
+
+-- the answer to what a line says
+abbrev pub line_by_history : Options → ℕ → List NamedClub → List Entry → Said → List ℕ
+line_by_history options row clubs history Nothing = []
+line_by_history options row clubs history Garbled = answer_by_history options row clubs history Bad
+line_by_history options row clubs history (Row f) = answer_by_history options row clubs history (request_of (Row f))
+
+-- the answers to lines, each after the history of the events that were accepted before it
+unfoldable pub answers_by_history : Options → ℕ → List NamedClub → List Entry → List (List ℕ) → List ℕ
+answers_by_history options row clubs history [] = []
+answers_by_history options row clubs history (line ∷ lines) =
+    line_by_history options row clubs history (said_on row line)
+    ++ answers_by_history options (row + 1) clubs (fold after_attempt history (attempts_on (said_on row line))) lines

@@ -1,0 +1,80 @@
+-- Boards and rosters of inputs with no fault, and tables by coefficients.
+use Rattle.std.proofs.Common.{◌≡◌, ℕ, ◌+◌, ◌-◌, ◌<◌, ◌==◌, Bool, true, false, List, [], ◌∷◌, length, map, get_or, Option, Some, None, refl, sym, ap, ◌∙◌, subst, arith, All, inl, inr}
+use Rattle.std.specs.Prelude.{Result, Ok, Err}
+use Rattle.std.proofs.lemmas.Bool.{cases_Bool}
+use Rattle.std.proofs.lemmas.Bool.Decides.{nat_tests}
+use Rattle.std.proofs.lemmas.List.Elements.{All-cons, All-from_get_or, All-nil}
+use Rattle.ucl_word.specs.Layout.{IsWord}
+use Rattle.ucl_word.proofs.FirstWords.{read_valid}
+use Rattle.ucl_board.specs.Words.{AreReadAs, AreWords, IsFirstBad}
+use Rattle.ucl_order.specs.declared.profile.Profile.{Profile}
+use Rattle.ucl_order.specs.Roster.{NamedClub, IsClub, IsRoster, bad_slot, bad_slot_from, coefficients_in, is_club}
+use Rattle.ucl_order.proofs.Coefficients.{table-same}
+use Rattle.ucl_screen.specs.WordsRead.{read_words}
+use Rattle.ucl_screen.proofs.ReadWords.{are-read, first-bad}
+use Rattle.ucl_c.specs.declared.fault.Fault.{Fault}
+use Rattle.ucl_c.specs.declared.fault.Fault.TheVariants.{BadWord, NotFour}
+use Rattle.ucl_c.specs.Codes.{profile_with}
+use Rattle.ucl_c.specs.Faults.{club_with, fault_of_clubs, fault_of_group, fault_of_inputs, fault_of_profile, fault_of_words, fault_unless, first_fault, of_slot}
+use Rattle.ucl_c.specs.Tables.{row_seen, table_by, table_shown}
+
+pub board-read : (words twelve board : List ℕ) → length words ≡ 12 → twelve ≡ words → AreReadAs twelve board → (read_words 1 words ≡ Ok board) × (fault_of_words words ≡ None)
+board-read words twelve board long same read =
+    let is : read_words 1 words ≡ Ok board = are-read words board long (subst (λ (w : List ℕ). AreReadAs w board) same read) in
+    (is, rw (long, is))
+
+pub words-bad : (words twelve : List ℕ) (index : ℕ) → length words ≡ 12 → twelve ≡ words → IsFirstBad twelve index → fault_of_words words ≡ Some (BadWord index)
+words-bad words twelve index long same bad =
+    let is : read_words 1 words ≡ Err index = first-bad words index (subst (λ (w : List ℕ). IsFirstBad w index) same bad) in
+    rw (long, is)
+
+pub board-words : (words board : List ℕ) → AreReadAs words board → AreWords board
+board-words words board r =
+    let twelve : length board ≡ 12 = r.twelve in record {
+      twelve = r.twelve;
+      each = All-from_get_or IsWord board 0 (λ k less. let e : k + 1 - 1 ≡ k = omega arith in
+          read_valid (get_or words k 0) (get_or board k 0) (rw e at (r.each (k + 1) (omega arith, omega arith))));
+    }
+
+all-good : (slot : ℕ) (clubs : List NamedClub) → bad_slot_from slot clubs ≡ None → All IsClub clubs
+unfolding bad_slot_from
+all-good slot [] none = All-nil IsClub
+all-good slot (club ∷ clubs) none = elim (cases_Bool (is_club club)) [
+  | inl good ↦ All-cons IsClub club clubs good (all-good (slot + 1) clubs (rw good at none))
+  | inr bad ↦ absurd (let e = rw bad at none in grind (arith, e))
+]
+
+parts : (b : Bool) (slot : Option ℕ) → first_fault (fault_unless b NotFour ∷ of_slot slot ∷ []) ≡ None → (b ≡ true) × (slot ≡ None)
+parts true None e = (refl, refl)
+parts true (Some slot) e = absurd (grind (arith, e))
+parts false slot e = absurd (grind (arith, e))
+
+good-roster : (clubs : List NamedClub) → fault_of_clubs clubs ≡ None → IsRoster clubs
+good-roster clubs none =
+    let both_good = parts (length clubs == 4) (bad_slot clubs) none in
+    let four : (length clubs == 4) ≡ true = both_good.0 in record { four = grind (arith, nat_tests, four); each = all-good 1 clubs both_good.1 }
+
+last-none : (a b c d : Option Fault) → first_fault (a ∷ b ∷ c ∷ d ∷ []) ≡ None → d ≡ None
+last-none (Some f) b c d e = absurd (grind (arith, e))
+last-none None (Some f) c d e = absurd (grind (arith, e))
+last-none None None (Some f) d e = absurd (grind (arith, e))
+last-none None None None (Some f) e = absurd (grind (arith, e))
+last-none None None None None e = refl
+
+pub inputs-roster : (profile group : ℕ) (words : List ℕ) (clubs roster : List NamedClub) → fault_of_inputs profile group words clubs ≡ None → roster ≡ clubs → IsRoster roster
+inputs-roster profile group words clubs roster none same =
+    rw same (good-roster clubs (last-none (fault_of_profile profile) (fault_of_group group) (fault_of_words words) (fault_of_clubs clubs) none))
+
+pub coefficients-with : (coefficients : List ℕ) → coefficients_in (map club_with coefficients) ≡ coefficients
+coefficients-with [] = refl
+coefficients-with (coefficient ∷ coefficients) = ap (λ (later : List ℕ). coefficient ∷ later) (coefficients-with coefficients)
+
+-- the table goes by the coefficients of the clubs
+pub table-any : (code : ℕ) (words : List ℕ) (one other : List NamedClub) → coefficients_in one ≡ coefficients_in other → table_shown code words one ≡ table_shown code words other
+table-any code words one other same = by (profile_with code) (read_words 1 words)
+  where
+    by : (profile : Option Profile) (read : Result (List ℕ) ℕ) → table_by profile read one ≡ table_by profile read other
+    by (Some profile) (Ok board) = ap (map row_seen) (table-same profile board one other same)
+    by (Some profile) (Err index) = refl
+    by None (Ok board) = refl
+    by None (Err index) = refl

@@ -1,0 +1,42 @@
+-- The events of a script, entered one after the other.
+use Rattle.std.proofs.Common.{◌≡◌, ℕ, ◌+◌, ◌<◌, ◌≤◌, List, [], ◌∷◌, ◌++◌, length, take, drop, set, get_or, append_assoc, arith, refl, sym, ◌∙◌}
+use Rattle.std.proofs.lemmas.List.{append-nil, take_all}
+use Rattle.std.proofs.lemmas.Grind.{take-set_at}
+use Rattle.ucl_board.specs.declared.entry.Entry.{Entry}
+use Rattle.ucl_board.specs.History.{after_attempt}
+use Rattle.ucl_screen.specs.declared.night.NightEvent.{NightEvent}
+use Rattle.ucl_order.specs.Roster.{NamedClub, club_in}
+use Rattle.ucl_runs.specs.Feed.{attempt_of}
+use Rattle.ucl_runs.proofs.Texts.{first-event, past}
+use Rattle.ucl_c.specs.declared.script.ReplyOfC.{ReplyOfC}
+use Rattle.ucl_c.specs.Replies.{replies_from, reply_after}
+
+-- one reply more is written
+pub replies-more : (row i : ℕ) (events : List NightEvent) (e : NightEvent) (history : List Entry) (replies : List ReplyOfC) (reply : ReplyOfC) (whole : List ReplyOfC)
+    → i < length events → i < length replies → e ≡ get_or events i e
+    → take i replies ++ replies_from row history (drop i events) ≡ whole → reply ≡ reply_after row history e
+    → take (i + 1) (set replies i reply) ++ replies_from (row + 1) (after_attempt history (attempt_of e)) (drop (i + 1) events) ≡ whole
+unfolding replies_from
+replies-more row i events e history replies reply whole h room is so_far made =
+    rw (
+      take-set_at replies i (i + 1) reply refl room,
+      append_assoc (take i replies) (reply ∷ []) (replies_from (row + 1) (after_attempt history (attempt_of e)) (drop (i + 1) events)),
+      made,
+    )
+    (rw (first-event i events e h is) at so_far)
+
+pub replies-done : (row i : ℕ) (events : List NightEvent) (history : List Entry) (replies whole : List ReplyOfC)
+    → length events ≤ i → length replies ≤ i → take i replies ++ replies_from row history (drop i events) ≡ whole → replies ≡ whole
+unfolding replies_from
+replies-done row i events history replies whole h room so_far =
+    sym (take_all i replies room) ∙ (sym (append-nil (take i replies)) ∙ (rw (past i events h) at so_far))
+
+-- the clubs of a roster, slot by slot
+pub four-clubs : (roster : List NamedClub) (a b c d : NamedClub) → length roster ≡ 4 → a ≡ club_in roster 1 → b ≡ club_in roster 2 → c ≡ club_in roster 3 → d ≡ club_in roster 4
+    → a ∷ b ∷ c ∷ d ∷ [] ≡ roster
+four-clubs [] a b c d n p q r s = absurd (omega arith)
+four-clubs (w ∷ []) a b c d n p q r s = absurd (omega arith)
+four-clubs (w ∷ x ∷ []) a b c d n p q r s = absurd (omega arith)
+four-clubs (w ∷ x ∷ y ∷ []) a b c d n p q r s = absurd (omega arith)
+four-clubs (w ∷ x ∷ y ∷ z ∷ []) a b c d n p q r s = cc
+four-clubs (w ∷ x ∷ y ∷ z ∷ v ∷ vs) a b c d n p q r s = absurd (omega arith)

@@ -1,0 +1,19 @@
+-- What the code has of inputs with no fault.
+use Rattle.std.specs.Prelude.{◌≡◌, ℕ, List, None, Some, Ok}
+use Rattle.ucl_board.specs.Words.{AreWords}
+use Rattle.ucl_order.specs.Roster.{NamedClub}
+use Rattle.ucl_screen.specs.Screen.{IsGroup}
+use Rattle.ucl_screen.specs.WordsRead.{read_words}
+use Rattle.ucl_c.specs.declared.group.Group.{Group}
+use Rattle.ucl_c.specs.Codes.{profile_with}
+use Rattle.ucl_c.specs.Faults.{fault_of_inputs}
+
+-- the group of inputs with no fault
+pub record IsGroupOf (code letter : ℕ) (words : List ℕ) (clubs : List NamedClub) (group : Group) : Type 0 where
+  pub profile : profile_with code ≡ Some group.profile
+  pub letter_is : group.letter ≡ letter
+  pub is_letter : IsGroup letter
+  pub board : read_words 1 words ≡ Ok group.board
+  pub are_words : AreWords group.board
+  pub roster : group.roster ≡ clubs
+  pub sound : fault_of_inputs code letter words clubs ≡ None

@@ -1,0 +1,206 @@
+//! A board that threads share: handles, each of which holds a pass and a share of its board.
+
+ghost use Rattle.std.specs.Prelude.{◌≡◌, ◌≢◌, ◌↔◌, IsSome, IfSome, IfOk, IfErr, None, Some, length};
+ghost use Rattle.ucl_board.specs.Fixtures.{IsMatch};
+ghost use Rattle.ucl_c_boards.specs.declared.board_pass.AnyPass.TheVariants.{Nobody};
+ghost use Rattle.ucl_c_boards.specs.declared.board_pass.WhyNot.{WhyNot};
+ghost use Rattle.ucl_c_boards.specs.BoardPasses.{IsOpened, IsSplit, IsEnlisted, IsRead, cause_of, fault_of_split};
+ghost use Rattle.ucl_c_boards.specs.Handles.{pass_held, first_cause, fault_of_room, IsNotEnlistedIn};
+ghost use Rattle.ucl_c.specs.declared.fault.Fault.{Fault};
+ghost use Rattle.ucl_c.specs.Faults.{fault_code};
+ghost use Rattle.ucl_c.specs.PassCalls.{IsCallOf, IsReply, fault_because, fault_of_call, fault_of_event, fault_of_reading, expected_told, number_after, status_of_reply};
+
+use crate::codes::{kind_with, refusal_code};
+use crate::fault::{Fault, fault_code};
+use std::alloc::Global;
+use ucl_c_boards::{Handle, WhyNot};
+use ucl_word::{Accepted, EventCall, MatchNo, Refusal};
+
+/// The fault that a cause is for C.
+fn fault_because(cause: WhyNot) -> Fault
+    ensures { result ≡ fault_because cause }
+{
+    match cause {
+        WhyNot::InUse => Fault::InUse,
+        WhyNot::NoPass => Fault::NoPass,
+        WhyNot::NotAReader => Fault::NotAReader,
+        WhyNot::NotAReporter => Fault::NotAReporter,
+        WhyNot::FullBoard => Fault::FullBoard,
+        WhyNot::OutOfMemory => Fault::OutOfMemory,
+    }
+}
+
+/// The status of a call: 0 where it was done, and else that of its cause.
+fn status_of(done: Result<(), WhyNot>) -> u32
+    ensures done { IfOk done (λ _. result ≡ 0) }
+    ensures refused { IfErr done (λ why. result ≡ fault_code (fault_because why)) }
+    ensures told { IfErr done (λ why. result ≢ 0) }
+{
+    match done {
+        Ok(()) => 0,
+        Err(why) => fault_code(fault_because(why)),
+    }
+}
+
+/// A fresh board: a handle that is null is given its first pass, a reader's.
+#[unsafe(no_mangle)]
+pub extern "C" fn uclboard_open(alloc: Global, pass: &mut Handle) -> u32
+    ensures opened { result ≡ 0 →
+        IsOpened (pass_held pass.new) × (fault_of_room pass.old ≡ None) }
+    ensures refused { result ≢ 0 → (pass.new ≡ pass.old)
+        × (result ≡ fault_code (fault_because (cause_of (fault_of_room pass.old)))) }
+{
+    status_of(pass.open(alloc))
+}
+
+/// A second reader's pass of the same board, for a handle that is null. Without memory for it nothing is split.
+#[unsafe(no_mangle)]
+pub extern "C" fn uclboard_pass_split(alloc: Global, pass: &mut Handle, other: &mut Handle) -> u32
+    ensures given { result ≡ 0 →
+        IsSplit (pass_held pass.old) (pass_held pass.new) (pass_held other.new)
+        × (fault_of_room other.old ≡ None) }
+    ensures refused { result ≢ 0 → (pass_held pass.new ≡ pass_held pass.old)
+        × (other.new ≡ other.old)
+        × (result ≡ fault_code (fault_because (cause_of
+        (first_cause (fault_of_room other.old) (fault_of_split (pass_held pass.old)))))) }
+{
+    status_of(pass.split(alloc, other))
+}
+
+/// A reporter's pass of the same board, under a number of its own, for a handle that is null. Without memory for it no number is spent.
+#[unsafe(no_mangle)]
+pub extern "C" fn uclboard_pass_enlist(alloc: Global, pass: &mut Handle, other: &mut Handle) -> u32
+    ensures given { result ≡ 0 →
+        IsEnlisted (pass_held pass.old) (pass_held pass.new) (pass_held other.new)
+        × (fault_of_room other.old ≡ None) }
+    ensures refused { result ≢ 0 → (other.new ≡ other.old)
+        × ((cause : WhyNot) × (result ≡ fault_code (fault_because cause))
+        × IsNotEnlistedIn (fault_of_room other.old) cause
+        (pass_held pass.old) (pass_held pass.new)) }
+{
+    status_of(pass.enlist(alloc, other))
+}
+
+/// The match with this number, where the number is 1 to 12.
+fn match_with(number: u32) -> Option<MatchNo>
+    ensures exists { IsSome result ↔ IsMatch number }
+    ensures value { IfSome result (λ game. game ≡ number) }
+{
+    match u8::try_from(number) {
+        Ok(number) => MatchNo::new(number),
+        Err(_) => None,
+    }
+}
+
+/// An expected number as it is told to the board: a number that no match can have stays one.
+fn expected_told(expected: u32) -> u16
+    ensures { result ≡ expected_told expected }
+{
+    match u16::try_from(expected) {
+        Ok(expected) => expected,
+        Err(_) => 65535,
+    }
+}
+
+/// The event of these numbers. The kind is judged first, then the match.
+fn call_of(game: u32, expected: u32, kind: u32) -> Result<EventCall, Fault>
+    ensures call { IfOk result (λ call. IsCallOf game expected kind call) }
+    ensures sound { IfOk result (λ _. fault_of_call game kind ≡ None) }
+    ensures refused { IfErr result (λ fault. fault_of_call game kind ≡ Some fault) }
+{
+    let Some(kind) = kind_with(kind) else {
+        return Err(Fault::NoKind);
+    };
+    let Some(game) = match_with(game) else {
+        return Err(Fault::NoMatch);
+    };
+    Ok(EventCall {
+        game,
+        expected: expected_told(expected),
+        kind,
+    })
+}
+
+/// Answers a reply by its status; an accepted event and a stale one tell a number.
+fn answer(reply: Result<Accepted, Refusal>, number: &mut u32) -> u32
+    ensures status { result ≡ status_of_reply reply }
+    ensures number { number.new ≡ number_after reply number.old }
+{
+    match reply {
+        Ok(accepted) => {
+            *number = u32::from(accepted.number);
+            0
+        }
+        Err(Refusal::Stale { found }) => {
+            *number = u32::from(found);
+            1
+        }
+        Err(refusal) => refusal_code(refusal),
+    }
+}
+
+/// Enters an event of a match under the number of a reporter's pass. The kind is judged first, then the match, then the pass, and then the
+/// rules. Only an accepted event and a stale one write to `number`.
+#[unsafe(no_mangle)]
+pub extern "C" fn uclboard_pass_report(
+    alloc: Global,
+    pass: &mut Handle,
+    game: u32,
+    expected: u32,
+    kind: u32,
+    number: &mut u32,
+) -> u32
+    ensures judged { fault_of_event (pass_held pass.old) game kind ≡ None →
+        IsReply game expected kind (pass_held pass.old) (pass_held pass.new)
+        result number.old number.new }
+    ensures refused { (fault : Fault) → fault_of_event (pass_held pass.old) game kind ≡ Some fault →
+        (result ≡ fault_code fault) × (pass_held pass.new ≡ pass_held pass.old)
+        × (number.new ≡ number.old) }
+{
+    let call = match call_of(game, expected, kind) {
+        Ok(call) => call,
+        Err(fault) => return fault_code(fault),
+    };
+    match pass.report(alloc, &call) {
+        Ok(reply) => answer(reply, number),
+        Err(why) => fault_code(fault_because(why)),
+    }
+}
+
+/// Reads the board: its twelve words, and its version. The room for words is judged first, then the pass.
+#[unsafe(no_mangle)]
+pub extern "C" fn uclboard_pass_read(
+    alloc: Global,
+    pass: &mut Handle,
+    words: &mut [u64],
+    version: &mut u32,
+) -> u32
+    ensures read { fault_of_reading (pass_held pass.old) (length words.old) ≡ None →
+        (result ≡ 0) × IsRead (pass_held pass.old)
+        (record { board = words.new; version = version.new }) (pass_held pass.new) }
+    ensures refused { (fault : Fault) →
+        fault_of_reading (pass_held pass.old) (length words.old) ≡ Some fault →
+        (result ≡ fault_code fault) × (pass_held pass.new ≡ pass_held pass.old)
+        × (words.new ≡ words.old) × (version.new ≡ version.old) }
+{
+    if words.len() != 12 {
+        return fault_code(Fault::NotTwelve);
+    }
+    match pass.read(alloc) {
+        Ok(reading) => {
+            words.copy_from_slice(&reading.board.words());
+            *version = u32::from(reading.version);
+            0
+        }
+        Err(why) => fault_code(fault_because(why)),
+    }
+}
+
+/// Lets the pass of a handle go, and with the last pass of a board the board. The handle is null then; one that was null stays so.
+#[unsafe(no_mangle)]
+pub extern "C" fn uclboard_pass_drop(alloc: Global, pass: &mut Handle)
+    ensures null { fault_of_room pass.new ≡ None }
+    ensures nobody { pass_held pass.new ≡ Nobody }
+{
+    pass.let_go(alloc);
+}

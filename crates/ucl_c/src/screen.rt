@@ -1,0 +1,103 @@
+//! Twelve words as a screen.
+
+ghost use Rattle.std.specs.Prelude.{◌≡◌, ◌≢◌, ◌≤◌, ◌⊎◌, length, None, Some, IfOk, IfErr, string_bytes};
+ghost use Rattle.ucl_c.specs.declared.fault.Fault.TheVariants.{OutOfMemory};
+ghost use Rattle.ucl_c.specs.Faults.{fault_of_inputs, fault_of_shown, place_with, status_with};
+ghost use Rattle.ucl_c.specs.Tables.{IsWritten, clubs_handed, screen_shown};
+
+use crate::fault::{Fault, tell};
+use crate::group::{ClubOfC, group_of};
+use crate::text::hand_over;
+use std::alloc::Global;
+use ucl_screen::screen;
+
+/// The text of a screen.
+fn screen_of(
+    alloc: Global,
+    words: &[u64],
+    clubs: &[ClubOfC],
+    group: u32,
+    profile: u32,
+) -> Result<String, Fault>
+    ensures text { IfOk result (λ text.
+        string_bytes text ≡ screen_shown profile group words.now (clubs_handed clubs.now)) }
+    ensures sound { IfOk result (λ _.
+        fault_of_inputs profile group words.now (clubs_handed clubs.now) ≡ None) }
+    ensures short { IfOk result (λ text. length (string_bytes text) ≤ 296) }
+    ensures refused { IfErr result (λ fault. fault ≢ OutOfMemory →
+        fault_of_inputs profile group words.now (clubs_handed clubs.now) ≡ Some fault) }
+{
+    let shown = group_of(words, clubs, group, profile)?;
+    Ok(screen(
+        alloc,
+        &shown.board,
+        &shown.roster,
+        shown.letter,
+        shown.profile,
+    )?)
+}
+
+/// The screen of twelve words and four clubs. Its bytes and a zero go to the front of `out`, and their number without the zero to
+/// `long`, also where the room is too small. What is beyond them stays as it was, and all of `out` where the call is not done.
+#[unsafe(no_mangle)]
+pub extern "C" fn uclboard_screen(
+    alloc: Global,
+    words: &[u64],
+    clubs: &[ClubOfC],
+    group: u32,
+    profile: u32,
+    out: &mut [u8],
+    long: &mut usize,
+    at: &mut u32,
+) -> u32
+    ensures told { let clubs_are = clubs_handed clubs.now in
+        result ≢ 23 → result ≡ status_with (fault_of_shown profile group words.now clubs_are
+        (screen_shown profile group words.now clubs_are) (length out.old)) }
+    ensures placed { let clubs_are = clubs_handed clubs.now in
+        result ≢ 23 → at.new ≡ place_with (fault_of_shown profile group words.now clubs_are
+        (screen_shown profile group words.now clubs_are) (length out.old)) at.old }
+    ensures done { result ≡ 0 →
+        IsWritten (screen_shown profile group words.now (clubs_handed clubs.now)) out.old out.new }
+    ensures measured { (result ≡ 0) ⊎ (result ≡ 56) →
+        long.new ≡ length (screen_shown profile group words.now (clubs_handed clubs.now)) }
+    ensures room { 297 ≤ length out.old → result ≢ 56 }
+    ensures unchanged { result ≢ 0 → out.new ≡ out.old }
+    ensures unmeasured { result ≢ 0 → result ≢ 56 → long.new ≡ long.old }
+    ensures no_place { result ≡ 23 → at.new ≡ at.old }
+{
+    let made = screen_of(alloc, words, clubs, group, profile);
+    match made {
+        Ok(text) => hand_over(text.as_bytes(), out, long),
+        Err(fault) => tell(fault, at),
+    }
+}
+
+/// How many bytes the screen of twelve words and four clubs has, without a zero, written to `long`.
+#[unsafe(no_mangle)]
+pub extern "C" fn uclboard_screen_length(
+    alloc: Global,
+    words: &[u64],
+    clubs: &[ClubOfC],
+    group: u32,
+    profile: u32,
+    long: &mut usize,
+    at: &mut u32,
+) -> u32
+    ensures told { result ≢ 23 → result ≡
+        status_with (fault_of_inputs profile group words.now (clubs_handed clubs.now)) }
+    ensures placed { result ≢ 23 → at.new ≡
+        place_with (fault_of_inputs profile group words.now (clubs_handed clubs.now)) at.old }
+    ensures done { result ≡ 0 →
+        long.new ≡ length (screen_shown profile group words.now (clubs_handed clubs.now)) }
+    ensures short { result ≡ 0 → long.new ≤ 296 }
+    ensures unchanged { result ≢ 0 → long.new ≡ long.old }
+    ensures no_place { result ≡ 23 → at.new ≡ at.old }
+{
+    match screen_of(alloc, words, clubs, group, profile) {
+        Ok(text) => {
+            *long = text.len();
+            0
+        }
+        Err(fault) => tell(fault, at),
+    }
+}

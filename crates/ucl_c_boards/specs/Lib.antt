@@ -1,0 +1,3 @@
+pub mod BoardPasses
+pub mod OwnedAt
+pub mod Handles

@@ -1,0 +1,3 @@
+pub mod Shapes
+pub mod AskedShapes
+pub mod Lines

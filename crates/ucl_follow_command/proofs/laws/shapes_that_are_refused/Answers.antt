@@ -1,0 +1,5 @@
+use Rattle.ucl_follow_command.proofs.Lines.{refused_lines}
+use Rattle.ucl_follow_command.proofs.laws.shapes_that_are_refused.Goals as goal
+
+pub returns : goal.returns
+returns c = refused_lines

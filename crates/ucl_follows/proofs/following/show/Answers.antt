@@ -1,0 +1,1 @@
+use Rattle.ucl_follows.proofs.following.show.Goals as goal

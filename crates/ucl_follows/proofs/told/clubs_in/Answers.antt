@@ -1,0 +1,1 @@
+use Rattle.ucl_follows.proofs.told.clubs_in.Goals as goal

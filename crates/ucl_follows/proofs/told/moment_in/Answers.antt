@@ -1,0 +1,1 @@
+use Rattle.ucl_follows.proofs.told.moment_in.Goals as goal

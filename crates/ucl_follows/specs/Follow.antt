@@ -1,0 +1,92 @@
+-- What a follower writes.
+use Rattle.std.specs.Prelude.{ℕ, ◌+◌, ◌-◌, ◌^◌, ◌==◌, min, nat_lt, if◌then◌else◌, Bool, true, List, [], ◌∷◌, ◌++◌, codes, decimal, flat_map, Option, Some, None}
+use Rattle.ucl_board.specs.Words.{version_of}
+use Rattle.ucl_order.specs.Roster.{NamedClub, coefficient_of, name_of}
+use Rattle.ucl_runs.specs.Feed.{word_lines}
+use Rattle.ucl_screen.specs.Screen.{screen_text}
+use Rattle.ucl_json.specs.Lines.{json_line}
+use Rattle.ucl_json.specs.Values.{screen_value}
+use Rattle.ucl_follows.specs.declared.moment.Moment.{Moment}
+use Rattle.ucl_follows.specs.declared.following.Following.{Following}
+use Rattle.ucl_follows.specs.declared.shape.Shape.{Shape}
+use Rattle.ucl_follows.specs.declared.shape.Shape.TheVariants.{Text, Json, Rows}
+use Rattle.ucl_follows.specs.Heard.{whole_lines}
+use Rattle.ucl_follows.specs.Told.{moment_on}
+
+abbrev pub version_at : Moment → ℕ
+version_at moment = version_of moment.board
+
+-- ---- the rows by which an evening goes on from a moment
+
+-- a byte in a field between quotes, where a quote stands twice
+abbrev pub in_quotes : ℕ → List ℕ
+in_quotes b = if b == 34 then 34 ∷ 34 ∷ [] else b ∷ []
+
+abbrev pub club_row : List NamedClub → ℕ → List ℕ
+club_row clubs slot =
+    codes "club," ++ decimal slot ++ codes ",\"" ++ flat_map in_quotes (name_of clubs slot) ++ codes "\"," ++ decimal (coefficient_of clubs slot) ++ codes "\n"
+
+-- the rows of the four clubs, and of the twelve words
+abbrev pub resuming_rows : Moment → List ℕ
+resuming_rows moment =
+    (club_row moment.roster 1 ++ club_row moment.roster 2 ++ club_row moment.roster 3 ++ club_row moment.roster 4) ++ word_lines 1 moment.board
+
+-- ---- what is shown
+
+-- the screen of a moment, worked out from its words, where the line of this number told it. A follower that resumes shows none
+abbrev pub sight_text : Shape → ℕ → Moment → List ℕ
+sight_text Text row moment = screen_text moment.profile moment.board moment.roster moment.group
+sight_text Json row moment = json_line (screen_value row moment.profile moment.board moment.roster moment.group)
+sight_text Rows row moment = []
+
+-- whether a moment is newer than the newest that was shown
+abbrev pub is_newer : Option Moment → Moment → Bool
+is_newer None moment = true
+is_newer (Some newest) moment = nat_lt (version_at newest) (version_at moment)
+
+-- one more; a number past the greatest of 64 bits is told as that
+abbrev pub one_more : ℕ → ℕ
+one_more n = min (n + 1) (2 ^ 64 - 1)
+
+-- before the first line
+abbrev pub unseen : Following
+unseen = record { newest = None; lines = 0; shown = 0 }
+
+-- after a line: it told no moment, or one that is no newer, or a newer one
+abbrev pub passed_over : Following → Following
+passed_over f = record { newest = f.newest; lines = one_more f.lines; shown = f.shown }
+
+abbrev pub shown_too : Following → Moment → Following
+shown_too f moment = record { newest = Some moment; lines = one_more f.lines; shown = one_more f.shown }
+
+abbrev pub after_told : Following → Option Moment → Following
+after_told f None = passed_over f
+after_told f (Some moment) = if is_newer f.newest moment then shown_too f moment else passed_over f
+
+abbrev pub told_text : Shape → Following → Option Moment → List ℕ
+told_text shape f None = []
+told_text shape f (Some moment) = if is_newer f.newest moment then sight_text shape (one_more f.lines) moment else []
+
+-- after lines, and what they made it write
+unfoldable pub followed : Following → List (List ℕ) → Following
+followed f [] = f
+followed f (line ∷ lines) = followed (after_told f (moment_on line)) lines
+
+unfoldable pub sights : Shape → Following → List (List ℕ) → List ℕ
+sights shape f [] = []
+sights shape f (line ∷ lines) = told_text shape f (moment_on line) ++ sights shape (after_told f (moment_on line)) lines
+
+-- a follower that resumes writes the rows of the newest moment, once its input has ended
+abbrev pub resuming_text : Shape → Option Moment → List ℕ
+resuming_text Rows (Some moment) = resuming_rows moment
+resuming_text Rows None = []
+resuming_text Text newest = []
+resuming_text Json newest = []
+
+-- the text of a follower that has this whole input
+abbrev pub follow_text : Shape → List ℕ → List ℕ
+follow_text shape bytes = sights shape unseen (whole_lines [] bytes) ++ resuming_text shape (followed unseen (whole_lines [] bytes)).newest
+
+-- what it has followed by then
+abbrev pub follow_end : List ℕ → Following
+follow_end bytes = followed unseen (whole_lines [] bytes)

@@ -1,0 +1,6 @@
+pub mod Heard
+pub mod Told
+pub mod Follow
+pub mod Hearing
+pub mod Latest
+pub mod Answered

@@ -1,0 +1,26 @@
+//! What holds of all that is followed. The functions do nothing: they are there for their contracts.
+
+ghost use Rattle.ucl_follows.specs.Answered.{AnswersTellTheirMoment};
+ghost use Rattle.ucl_follows.specs.Latest.{LatestIsShownLast, OthersDoNotMatter, ShownVersionsRise};
+
+/// What is shown are moments that lines told, each newer than all before, in the order of their lines; as text, each by its screen.
+pub fn versions_rise()
+    ensures { ShownVersionsRise }
+{}
+
+/// The last moment that is shown is the latest that any line told.
+pub fn latest_is_shown_last()
+    ensures { LatestIsShownLast }
+{}
+
+/// What an evening answers to an accepted event, and by a screen, is the text of a value that tells just the moment after it: the group, its
+/// order, the clubs and the board.
+pub fn answers_tell_their_moment()
+    ensures { AnswersTellTheirMoment }
+{}
+
+/// Lines that come in another order, twice, or not at all do not matter, as long as one comes that tells the latest moment: the last
+/// moment that is shown is the same.
+pub fn others_do_not_matter()
+    ensures { OthersDoNotMatter }
+{}

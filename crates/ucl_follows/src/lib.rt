@@ -1,0 +1,18 @@
+//! Follows the lines of an evening in JSON, over any source of bytes and any sink: lines come in any order, doubled, cut, or with others
+//! between, and what goes out are screens of ever newer moments.
+#![tactic(auto)]
+
+mod follower;
+mod following;
+mod laws;
+mod moment;
+mod rows;
+mod run;
+mod shape;
+mod told;
+
+pub use laws::{
+    answers_tell_their_moment, latest_is_shown_last, others_do_not_matter, versions_rise,
+};
+pub use run::{Followed, follow_run};
+pub use shape::Shape;

@@ -1,0 +1,185 @@
+//! Answers of an evening in JSON: each is one object on one line, its members in the order of their names.
+
+use crate::held::{has_stopped, has_written, held, held_with};
+use crate::{CLUBS, joined};
+use std::alloc::Global;
+use std::process::Abort;
+use std::test::Fail;
+use ucl_answers::Format;
+use ucl_devices::Full;
+
+const ROWS: &str =
+    "1,1,0,kickoff\n1,1,0,kickoff\n1,1,0\n2,2,0,goal-home\n\n1,1,1,goal-home\n1,1,2,disallow-away\nwords,,,\nscreen,,,\n";
+
+/// The answers to these rows, but those that tell a moment.
+const REFUSALS: &str = "\
+{\"code\":1,\"name\":\"stale\",\"number\":1,\"reply\":\"refused\",\"row\":6}
+{\"code\":20,\"name\":\"bad-row\",\"reply\":\"refused\",\"row\":7}
+{\"code\":3,\"name\":\"not-started\",\"reply\":\"refused\",\"row\":8}
+";
+
+const NO_GOAL: &str = "{\"code\":6,\"name\":\"no-goal\",\"reply\":\"refused\",\"row\":11}\n";
+
+/// The words of all matches but the first, and the end of their array.
+const OTHER_WORDS: &str =
+    ",\"2000000000000000\",\"2000000000000000\",\"2000000000000000\",\"2000000000000000\",\"2000000000000000\",\"2000000000000000\",\"2000000000000000\",\"2000000000000000\",\"2000000000000000\",\"2000000000000000\",\"2000000000000000\"]}\n";
+
+/// The words of the first match after a kick-off, and after a goal besides.
+const KICKED_OFF: &str = "2001000000001001";
+
+const ONE_GOAL: &str = "2001000000005002";
+
+/// The clubs, from the name of the second on, and the group.
+const OTHER_CLUBS: &str =
+    ",\"coefficient\":60000},{\"club\":\"Bravo\",\"coefficient\":95000},{\"club\":\"Charlie\",\"coefficient\":60000},{\"club\":\"Delta\",\"coefficient\":81500}],\"group\":\"A\"";
+
+/// The places of the table after them, in two parts.
+const FIRST_PLACES: &str =
+    "{\"club\":\"Bravo\",\"drawn\":0,\"goal_difference\":1,\"goals_against\":0,\"goals_for\":1,\"lost\":0,\"mark\":\"\",\"place\":1,\"played\":1,\"points\":3,\"slot\":2,\"won\":1},{\"club\":\"Delta\",\"drawn\":0,\"goal_difference\":0,\"goals_against\":0,\"goals_for\":0,\"lost\":0,\"mark\":\"\",\"place\":2,\"played\":0,\"points\":0,\"slot\":4,\"won\":0}";
+
+const LAST_PLACES: &str =
+    ",\"drawn\":0,\"goal_difference\":0,\"goals_against\":0,\"goals_for\":0,\"lost\":0,\"mark\":\"\",\"place\":3,\"played\":0,\"points\":0,\"slot\":1,\"won\":0},{\"club\":\"Charlie\",\"drawn\":0,\"goal_difference\":-1,\"goals_against\":1,\"goals_for\":0,\"lost\":1,\"mark\":\"\",\"place\":4,\"played\":1,\"points\":0,\"slot\":3,\"won\":0}";
+
+/// The screen at a row, with the name of the club of slot 1 as it stands in JSON.
+fn screen_at(alloc: Global, row: &str, name: &str) -> Result<String, Fail> {
+    let text = joined(
+        alloc,
+        &[
+            "{\"clubs\":[{\"club\":",
+            name,
+            OTHER_CLUBS,
+            ",\"in_play\":1,\"order\":\"uefa\",\"reply\":\"screen\",\"row\":",
+            row,
+            ",\"table\":[",
+            FIRST_PLACES,
+            ",{\"club\":",
+            name,
+            LAST_PLACES,
+            "],\"version\":2,\"words\":[\"",
+            ONE_GOAL,
+            "\"",
+            OTHER_WORDS,
+        ],
+    )?;
+    Ok(text)
+}
+
+/// The reply to an accepted event of match 1 at a row, which is its event of this number, and the word after it.
+fn accepted(
+    alloc: Global,
+    row: &str,
+    name: &str,
+    number: &str,
+    word: &str,
+) -> Result<String, Fail> {
+    let text = joined(
+        alloc,
+        &[
+            "{\"clubs\":[{\"club\":",
+            name,
+            OTHER_CLUBS,
+            ",\"match\":1,\"number\":",
+            number,
+            ",\"order\":\"uefa\",\"reply\":\"ok\",\"row\":",
+            row,
+            ",\"version\":",
+            number,
+            ",\"words\":[\"",
+            word,
+            "\"",
+            OTHER_WORDS,
+        ],
+    )?;
+    Ok(text)
+}
+
+/// The line of the words at row 12.
+fn words_line(alloc: Global) -> Result<String, Fail> {
+    let text = joined(
+        alloc,
+        &[
+            "{\"reply\":\"words\",\"row\":12,\"words\":[\"",
+            ONE_GOAL,
+            "\"",
+            OTHER_WORDS,
+        ],
+    )?;
+    Ok(text)
+}
+
+#[test]
+fn answers_in_json(rt: HostRuntime) -> Result<(), Fail> {
+    let alloc = rt.alloc();
+    let text = joined(alloc, &[CLUBS, ROWS])?;
+    let first = accepted(alloc, "5", "\"Alpha\"", "1", KICKED_OFF)?;
+    let second = accepted(alloc, "10", "\"Alpha\"", "2", ONE_GOAL)?;
+    let words = words_line(alloc)?;
+    let screen = screen_at(alloc, "13", "\"Alpha\"")?;
+    let wanted = joined(
+        alloc,
+        &[
+            first.as_str(),
+            REFUSALS,
+            second.as_str(),
+            NO_GOAL,
+            words.as_str(),
+            screen.as_str(),
+        ],
+    )?;
+    for piece in [1, 17, usize::MAX] {
+        let evening = held(alloc, Format::Json, text.as_bytes(), piece);
+        assert!(rt; has_written(&evening, wanted.as_str()), "by {piece}");
+    }
+    Ok(())
+}
+
+/// Names with quotes and backslashes, as they stand in a row and in JSON.
+static NAMES: [(&str, &str); 3] = [
+    ("\"Al\"\"p\\h/a\"", "\"Al\\\"p\\\\h/a\""),
+    ("\"\"\"\"\"\"", "\"\\\"\\\"\""),
+    ("\\n{}[]:\u{7e}", "\"\\\\n{}[]:\u{7e}\""),
+];
+
+#[test]
+fn names_are_escaped(rt: HostRuntime) -> Result<(), Fail> {
+    let alloc = rt.alloc();
+    for (field, name) in NAMES.as_slice() {
+        let clubs = CLUBS.replace(alloc, "Alpha", field)?;
+        let text = joined(
+            alloc,
+            &[
+                clubs.as_str(),
+                "1,1,0,kickoff\n1,1,1,goal-home\nscreen,,,\n",
+            ],
+        )?;
+        let first = accepted(alloc, "5", name, "1", KICKED_OFF)?;
+        let second = accepted(alloc, "6", name, "2", ONE_GOAL)?;
+        let screen = screen_at(alloc, "7", name)?;
+        let wanted = joined(alloc, &[first.as_str(), second.as_str(), screen.as_str()])?;
+        let evening = held(alloc, Format::Json, text.as_bytes(), usize::MAX);
+        assert!(rt; has_written(&evening, wanted.as_str()), "at {field}");
+    }
+    Ok(())
+}
+
+/// Asserts that an evening in JSON, with the screen after each accepted event, writes just the front of its text that fits.
+fn assert_stops(rt: &impl Abort, alloc: Global, text: &str, wanted: &str, full: Full) {
+    for room in 0..wanted.len() {
+        let evening = held_with(alloc, (Format::Json, true), text.as_bytes(), room, full);
+        assert!(rt; has_stopped(&evening, wanted, room), "{full:?} at {room}");
+    }
+}
+
+#[test]
+fn full_outputs_of_json(rt: HostRuntime) -> Result<(), Fail> {
+    let alloc = rt.alloc();
+    let words =
+        "word,1,2001000000001001,\nword,2,2000000000000000,\nword,3,2000000000000000,\nword,4,2000000000000000,\nword,5,2000000000000000,\nword,6,2000000000000000,\nword,7,2000000000000000,\nword,8,2000000000000000,\nword,9,2000000000000000,\nword,10,2000000000000000,\nword,11,2000000000000000,\nword,12,2000000000000000,\n";
+    let text = joined(alloc, &[CLUBS, words, "1,1,1,goal-home\n"])?;
+    let screen = screen_at(alloc, "17", "\"Alpha\"")?;
+    let reply = accepted(alloc, "17", "\"Alpha\"", "2", ONE_GOAL)?;
+    let wanted = joined(alloc, &[reply.as_str(), screen.as_str()])?;
+    assert_stops(&rt, alloc, text.as_str(), wanted.as_str(), Full::Fails);
+    assert_stops(&rt, alloc, text.as_str(), wanted.as_str(), Full::TakesNone);
+    Ok(())
+}

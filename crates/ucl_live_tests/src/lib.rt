@@ -1,0 +1,31 @@
+//! What no clause says of evenings: their texts and statuses, what words ask for, and each call once with ample memory.
+#![tactic(auto)]
+
+#[cfg(test)]
+mod beginnings;
+#[cfg(test)]
+mod command;
+#[cfg(test)]
+mod held;
+#[cfg(test)]
+mod json;
+#[cfg(test)]
+mod rows;
+
+#[cfg(test)]
+use std::alloc::{AllocError, Global};
+
+/// The rows of the clubs.
+#[cfg(test)]
+const CLUBS: &str =
+    "club,1,Alpha,60000\nclub,2,Bravo,95000\nclub,3,Charlie,60000\nclub,4,Delta,81500\n";
+
+/// Texts, one after the other.
+#[cfg(test)]
+fn joined(alloc: Global, texts: &[&str]) -> Result<String, AllocError> {
+    let mut whole = String::new(alloc);
+    for text in texts {
+        whole.push_str(text)?;
+    }
+    Ok(whole)
+}

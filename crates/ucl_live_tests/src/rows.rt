@@ -1,0 +1,250 @@
+//! Rows of an evening, each answered as text, and evenings that are cut short.
+
+use crate::held::{Held, has_stopped, has_written, held, held_with};
+use crate::{CLUBS, joined};
+use std::alloc::Global;
+use std::process::Abort;
+use std::test::Fail;
+use ucl_answers::Format;
+use ucl_devices::{Cut, Full};
+use ucl_runs::RunFault;
+use ucl_screen::InputFault;
+
+/// The rows of the stored run, after those of the clubs.
+const STORED: &str =
+    "1,1,0,kickoff\n1,1,1,goal-home\n2,1,1,goal-away\n2,2,0,goal-home\n2,2,0,kickoff\n1,1,2,yellow-away\n1,1,3,second-yellow-away\n1,1,4,disallow-home\n1,1,5,disallow-home\n1,1,5,fulltime\n";
+
+/// The answers to them.
+const STORED_OUT: &str =
+    "5 ok 1 1 1\n6 ok 1 2 2\n7 refused 1 stale 2\n8 refused 3 not-started\n9 ok 2 1 3\n10 ok 1 3 4\n11 ok 1 4 5\n12 ok 1 5 6\n13 refused 6 no-goal\n14 ok 1 6 7\n";
+
+/// The words after them.
+const STORED_WORDS: &str =
+    "word,1,2001080000002006,\nword,2,2002000000001001,\nword,3,2000000000000000,\nword,4,2000000000000000,\nword,5,2000000000000000,\nword,6,2000000000000000,\nword,7,2000000000000000,\nword,8,2000000000000000,\nword,9,2000000000000000,\nword,10,2000000000000000,\nword,11,2000000000000000,\nword,12,2000000000000000,\n";
+
+/// The screen after them.
+const STORED_SCREEN: &str = "\
+GROUP A v00007 IN PLAY 1
+    Club                  P  W  D  L  GF  GA   GD Pts
+1   Bravo                 1  0  1  0   0   0   +0   1
+2   Delta                 1  0  1  0   0   0   +0   1
+3   Alpha                 1  0  1  0   0   0   +0   1
+4   Charlie               1  0  1  0   0   0   +0   1
+";
+
+/// The stored run, and then the screen and the words that it leaves, however the input comes.
+#[test]
+fn stored_run(rt: HostRuntime) -> Result<(), Fail> {
+    let alloc = rt.alloc();
+    let text = joined(alloc, &[CLUBS, STORED, "screen,,,\nwords,,,\n"])?;
+    let wanted = joined(alloc, &[STORED_OUT, STORED_SCREEN, STORED_WORDS])?;
+    for piece in [1, 2, 13, 64, usize::MAX] {
+        let evening = held(alloc, Format::Text, text.as_bytes(), piece);
+        assert!(rt; has_written(&evening, wanted.as_str()), "by {piece}");
+    }
+    Ok(())
+}
+
+/// The screen after a match has kicked off.
+const KICKED_OFF: &str = "\
+GROUP A v00001 IN PLAY 1
+    Club                  P  W  D  L  GF  GA   GD Pts
+1   Bravo                 1  0  1  0   0   0   +0   1
+2   Charlie               1  0  1  0   0   0   +0   1
+3   Delta                 0  0  0  0   0   0   +0   0
+4   Alpha                 0  0  0  0   0   0   +0   0
+";
+
+/// Where screens are wanted, one follows each accepted event, and no other row.
+#[test]
+fn screens_after_accepted_events(rt: HostRuntime) -> Result<(), Fail> {
+    let alloc = rt.alloc();
+    let text = joined(
+        alloc,
+        &[
+            CLUBS,
+            "1,1,0,goal-home\n1,1,0,kickoff\n1,1,0,kickoff\nscreen\n",
+        ],
+    )?;
+    let front = "5 refused 3 not-started\n6 ok 1 1 1\n";
+    let rest = "7 refused 1 stale 1\n8 refused 20 bad-row\n";
+    let wanted = joined(alloc, &[front, KICKED_OFF, rest])?;
+    let evening = held_with(
+        alloc,
+        (Format::Text, true),
+        text.as_bytes(),
+        usize::MAX,
+        Full::Fails,
+    );
+    assert!(rt; has_written(&evening, wanted.as_str()));
+    Ok(())
+}
+
+/// Rows that are bad, without the ends of their lines: each breaks one rule of rows.
+static BAD_ROWS: [&str; 33] = [
+    "0,1,0,kickoff",
+    "256,1,0,kickoff",
+    "0001,1,0,kickoff",
+    "1,0,0,kickoff",
+    "1,13,0,kickoff",
+    "1,001,0,kickoff",
+    "1,1,65536,kickoff",
+    "1,1,000000,kickoff",
+    "1,1,-1,kickoff",
+    "1,1,+0,kickoff",
+    "1, 1,0,kickoff",
+    ",1,0,kickoff",
+    "1,1,0,kick-off",
+    "1,1,0,Kickoff",
+    "1,1,0,",
+    "1,1,0",
+    "1,1,0,kickoff,",
+    "kickoff",
+    ",",
+    " ",
+    "club,1,Alpha,60000",
+    "club,5,Echo,1",
+    "screen",
+    "screen,,",
+    "screen,,,,",
+    "screen,1,,",
+    "words,,,1",
+    "Screen,,,",
+    "1,1,0,\"kickoff",
+    "1,1,0,kickoff\"",
+    "1,1,0,kickoff\r2,2,0,kickoff",
+    "\u{feff}1,1,0,kickoff",
+    "\01,1,0,kickoff",
+];
+
+/// A bad row is answered, and the next row is entered as if it had not been.
+#[test]
+fn bad_rows(rt: HostRuntime) -> Result<(), Fail> {
+    let alloc = rt.alloc();
+    for row in BAD_ROWS.as_slice() {
+        let text = joined(alloc, &[CLUBS, row, "\n1,1,0,kickoff\n"])?;
+        let evening = held(alloc, Format::Text, text.as_bytes(), usize::MAX);
+        let wanted = "5 refused 20 bad-row\n6 ok 1 1 1\n";
+        assert!(rt; has_written(&evening, wanted), "at {row}");
+    }
+    Ok(())
+}
+
+/// Rows that kick off a match, and their answers.
+static GOOD_ROWS: [(&str, &str); 10] = [
+    ("001,01,00000,kickoff\n", "5 ok 1 1 1\n"),
+    ("255,12,0,kickoff\n", "5 ok 12 1 1\n"),
+    ("\"1\",\"1\",\"0\",\"kickoff\"\n", "5 ok 1 1 1\n"),
+    ("1,1,0,\"kick\"off\n", "5 ok 1 1 1\n"),
+    ("1,1,0,\"\"kickoff\n", "5 ok 1 1 1\n"),
+    ("1,1,0,kickoff\r\n", "5 ok 1 1 1\n"),
+    ("1,1,0,kickoff", "5 ok 1 1 1\n"),
+    ("\n\r\n\n1,1,0,kickoff\n", "8 ok 1 1 1\n"),
+    ("1,1,0,kickoff\n\n\n", "5 ok 1 1 1\n"),
+    ("", ""),
+];
+
+#[test]
+fn good_rows(rt: HostRuntime) -> Result<(), Fail> {
+    let alloc = rt.alloc();
+    for (rows, wanted) in GOOD_ROWS.as_slice() {
+        let text = joined(alloc, &[CLUBS, rows])?;
+        let evening = held(alloc, Format::Text, text.as_bytes(), usize::MAX);
+        assert!(rt; has_written(&evening, wanted), "at {rows}");
+    }
+    Ok(())
+}
+
+/// A row whose event word is in quotes, so that the row has so many bytes, and then a kick-off.
+fn long_row(alloc: Global, length: usize, end: &str) -> Result<String, Fail> {
+    let mut text = joined(alloc, &[CLUBS, "1,1,0,\""])?;
+    for _ in 8..length {
+        text.push('x')?;
+    }
+    text.push('"')?;
+    text.push_str(end)?;
+    text.push_str("2,2,0,kickoff")?;
+    text.push_str(end)?;
+    Ok(text)
+}
+
+/// A line of more bytes than a line may have is one bad row, whatever its length.
+#[test]
+fn long_lines(rt: HostRuntime) -> Result<(), Fail> {
+    let alloc = rt.alloc();
+    for length in [255, 256, 257, 258, 259, 40_000] {
+        for end in ["\n", "\r\n"] {
+            let text = long_row(alloc, length, end)?;
+            let evening = held(alloc, Format::Text, text.as_bytes(), usize::MAX);
+            let wanted = "5 refused 20 bad-row\n6 ok 2 1 1\n";
+            assert!(rt; has_written(&evening, wanted), "at {length}");
+        }
+    }
+    Ok(())
+}
+
+/// The answers to the rows that have an end within so many bytes of the stored run.
+fn answers_within(text: &str, bytes: usize) -> usize {
+    let mut lines = 0usize;
+    for b in text.as_bytes().iter().take(bytes) {
+        if *b == b'\n' {
+            lines = lines.saturating_add(1);
+        }
+    }
+    let mut answered = 4usize;
+    let mut length = 0usize;
+    for b in STORED_OUT.as_bytes() {
+        if answered >= lines {
+            return length;
+        }
+        length = length.saturating_add(1);
+        if *b == b'\n' {
+            answered = answered.saturating_add(1);
+        }
+    }
+    length
+}
+
+/// Whether an evening failed in reading after so many bytes, and wrote just the first so many of the stored answers.
+fn has_broken_off(evening: &Held, bytes: usize, written: usize) -> bool {
+    let (answer, out) = evening;
+    let fault = InputFault::ReadFailed { bytes };
+    *answer == Err(RunFault::Input(fault))
+        && Some(out.as_slice()) == STORED_OUT.as_bytes().get(..written)
+}
+
+/// An evening whose input fails after each byte: all rows that have an end are answered, and nothing else is written.
+#[test]
+fn cut_after_each_byte(rt: HostRuntime) -> Result<(), Fail> {
+    let alloc = rt.alloc();
+    let text = joined(alloc, &[CLUBS, STORED])?;
+    for room in 0..=text.len() {
+        let input = Cut {
+            text: text.as_bytes(),
+            piece: usize::MAX,
+            room,
+        };
+        let evening = held_with(alloc, (Format::Text, false), input, usize::MAX, Full::Fails);
+        let written = answers_within(text.as_str(), room);
+        assert!(rt; has_broken_off(&evening, room, written), "at {room}");
+    }
+    Ok(())
+}
+
+/// Asserts that an evening writes just the front of its text that fits wherever its output is full.
+fn assert_stops(rt: &impl Abort, alloc: Global, text: &str, wanted: &str, full: Full) {
+    for room in 0..wanted.len() {
+        let evening = held_with(alloc, (Format::Text, false), text.as_bytes(), room, full);
+        assert!(rt; has_stopped(&evening, wanted, room), "{full:?} at {room}");
+    }
+}
+
+#[test]
+fn full_outputs(rt: HostRuntime) -> Result<(), Fail> {
+    let alloc = rt.alloc();
+    let text = joined(alloc, &[CLUBS, STORED, "screen,,,\nwords,,,\n"])?;
+    let wanted = joined(alloc, &[STORED_OUT, STORED_SCREEN, STORED_WORDS])?;
+    assert_stops(&rt, alloc, text.as_str(), wanted.as_str(), Full::Fails);
+    assert_stops(&rt, alloc, text.as_str(), wanted.as_str(), Full::TakesNone);
+    Ok(())
+}

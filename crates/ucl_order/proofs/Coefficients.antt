@@ -1,0 +1,54 @@
+-- The table goes by the coefficients of the clubs.
+use Rattle.std.proofs.Common.{◌≡◌, ℕ, zero, suc, ◌-◌, Bool, if◌then◌else◌, List, [], ◌∷◌, length, map, get_or, flat_map, slice_index, refl, sym, ap, ◌∙◌}
+use Rattle.std.proofs.Math.Path.{fun_ext}
+use Rattle.std.proofs.Math.ListN.{get_or-map}
+use Rattle.ucl_order.specs.declared.game.Match.{Match}
+use Rattle.ucl_order.specs.declared.profile.Profile.{Profile}
+use Rattle.ucl_order.specs.declared.table.Row.{Row}
+use Rattle.ucl_order.specs.Roster.{NamedClub, coefficient_of, coefficients_in}
+use Rattle.ucl_order.specs.Matches.{matches_of, started}
+use Rattle.ucl_order.specs.Order.{Ranking, all_clubs, by_points, head_to_head, is_one_class, order_by, order_of, overall, settled_within, split}
+use Rattle.ucl_order.specs.Marks.{mark_by, mark_of}
+use Rattle.ucl_order.specs.Rows.{row_of, row_with}
+use Rattle.ucl_order.specs.Laws.{TableGoesByCoefficients}
+
+coefficient-is : (clubs : List NamedClub) (slot : ℕ) → coefficient_of clubs slot ≡ get_or (coefficients_in clubs) (slot - 1) 0
+coefficient-is clubs slot = sym (get_or-map (λ (club : NamedClub). club.coefficient) clubs (slot - 1) (record { name = []; coefficient = 0 }))
+
+-- a class that is settled one way or the other
+either : (one_class : Bool) (f g : Ranking) (p q : List ℕ → List ℕ) (tied : List ℕ) (classes : List (List ℕ)) → f ≡ g → p ≡ q
+    → (if one_class then flat_map (λ class. class) (split f tied) else flat_map p classes) ≡ (if one_class then flat_map (λ class. class) (split g tied) else flat_map q classes)
+either one_class f g p q tied classes e d =
+    ap (λ (h : Ranking). if one_class then flat_map (λ class. class) (split h tied) else flat_map p classes) e
+    ∙ ap (λ (r : List ℕ → List ℕ). if one_class then flat_map (λ class. class) (split g tied) else flat_map r classes) d
+
+module _ (one other : List NamedClub) (same : coefficients_in one ≡ coefficients_in other) where
+  coefficient-same : (slot : ℕ) → coefficient_of one slot ≡ coefficient_of other slot
+  coefficient-same slot = coefficient-is one slot ∙ (ap (λ (cs : List ℕ). get_or cs (slot - 1) 0) same ∙ sym (coefficient-is other slot))
+
+  overall-same : (ms : List Match) → overall ms one ≡ overall ms other
+  overall-same ms = fun_ext (λ a. fun_ext (λ b. rw (coefficient-same a, coefficient-same b)))
+
+  settled-same : (profile : Profile) (most : ℕ) (ms : List Match) (tied : List ℕ) → settled_within profile most ms one tied ≡ settled_within profile most ms other tied
+  settled-same profile most ms [] = refl
+  settled-same profile most ms (club ∷ []) = refl
+  settled-same profile zero ms (a ∷ b ∷ clubs) = refl
+  settled-same profile (suc most) ms (a ∷ b ∷ clubs) =
+      let tied : List ℕ = a ∷ b ∷ clubs in
+      either (is_one_class (head_to_head profile ms tied) tied) (overall ms one) (overall ms other) (settled_within profile most ms one) (settled_within profile most ms other)
+      tied (split (head_to_head profile ms tied) tied) (overall-same ms) (fun_ext (settled-same profile most ms))
+
+  order-same : (profile : Profile) (board : List ℕ) → order_of profile board one ≡ order_of profile board other
+  unfolding order_of order_by
+  order-same profile board =
+      ap (λ (settle : List ℕ → List ℕ). flat_map settle (split (by_points (started (matches_of board))) all_clubs))
+      (fun_ext (λ tied. settled-same profile (length tied) (started (matches_of board)) tied))
+
+  row-same : (profile : Profile) (board : List ℕ) (place : ℕ) → row_of profile board one place ≡ row_of profile board other place
+  unfolding row_of mark_of
+  row-same profile board place =
+      ap (λ (order : List ℕ). row_with place (slice_index order (place - 1)) (mark_by (matches_of board) order (slice_index order (place - 1))) (started (matches_of board)))
+      (order-same profile board)
+
+pub table-same : TableGoesByCoefficients
+table-same profile board one other same = ap (λ (row : ℕ → Row). map row (1 ∷ 2 ∷ 3 ∷ 4 ∷ [])) (fun_ext (row-same one other same profile board))

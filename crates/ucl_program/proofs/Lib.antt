@@ -1,0 +1,6 @@
+pub mod WalkFacts
+pub mod Values
+pub mod Named
+pub mod Taken
+pub mod Places
+pub mod Told

@@ -1,0 +1,4 @@
+pub mod Ending
+pub mod Lines
+pub mod Options
+pub mod Written

@@ -1,0 +1,44 @@
+-- What words ask of a program. Its command is known but for where its tables of names lie in memory: a T for each such place.
+use Rattle.std.specs.Prelude.{◌≡◌, ◌<◌, ◌⊎◌, ⊤, true, List, [], length, string_bytes, Option, Some}
+use Rattle.clap.specs.Words.{App, IsAmong, Kinds, Text, fault_of, takes}
+use Rattle.clap.specs.declared.error.kind.ErrorKind.{ErrorKind}
+use Rattle.clap.specs.declared.error.kind.ErrorKind.TheVariants.{DisplayHelp, DisplayVersion}
+use Rattle.ucl_program.specs.declared.fault.LineFault.{LineFault}
+use Rattle.ucl_program.specs.declared.fault.LineFault.TheVariants.{Help, Refused, OutOfMemory}
+
+-- help and the version go with these kinds of error
+abbrev pub IsHelp : ErrorKind → Type 0
+IsHelp kind = (kind ≡ DisplayHelp) ⊎ (kind ≡ DisplayVersion)
+
+-- help is told where help or the version was asked for, and a refusal where neither was; both with a text that is not empty
+abbrev pub Tells : LineFault → ErrorKind → Type 0
+Tells (Help text) kind = IsHelp kind × (0 < length (string_bytes text))
+Tells (Refused text) kind = (IsHelp kind → ⊥) × (0 < length (string_bytes text))
+Tells OutOfMemory kind = ⊤
+
+module _ {T : Type 0} (program : T → App) where
+  -- `clap` takes the words, wherever the tables lie
+  abbrev pub IsTaking : List Text → Type 0
+  IsTaking words = (t : T) → takes (program t) words ≡ true
+
+  -- a parse of the words may fail by this kind
+  abbrev pub MayFailBy : List Text → ErrorKind → Type 0
+  MayFailBy words kind = (t : T) × IsAmong kind (fault_of (program t) words)
+
+  -- the fault tells of an error that the words give
+  abbrev pub ToldOf : List Text → LineFault → Type 0
+  ToldOf words OutOfMemory = ⊤
+  ToldOf words fault = (kind : ErrorKind) × MayFailBy words kind × Tells fault kind
+
+  -- `clap` refuses the words, by one of these kinds of error
+  abbrev pub IsRefusing : List Text → Kinds → Type 0
+  IsRefusing words kinds = (t : T) → fault_of (program t) words ≡ kinds
+
+  module _ {L : Type 0} (named : T → List Text → Option L) where
+    -- the words have no fault, and ask for the line
+    abbrev pub IsAskedFor : List Text → L → Type 0
+    IsAskedFor words line = (t : T) × (fault_of (program t) words ≡ []) × (named t words ≡ Some line)
+
+    -- `clap` takes the words and reads the line from them
+    abbrev pub IsReading : List Text → L → Type 0
+    IsReading words line = (t : T) → (takes (program t) words ≡ true) × (named t words ≡ Some line)

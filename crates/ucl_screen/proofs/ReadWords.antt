@@ -1,0 +1,164 @@
+-- What twelve words are read as.
+use Rattle.std.proofs.Common.{◌≡◌, ℕ, zero, suc, ◌+◌, ◌-◌, ◌<◌, ◌≤◌, ◌==◌, ◌&&◌, Bool, true, false, List, [], ◌∷◌, length, get_or, Option, Some, None, refl, sym, ap, ◌∙◌, inl, inr, arith}
+use Rattle.std.specs.Prelude.{nat_le, Result, Ok, Err}
+use Rattle.std.proofs.lemmas.Bool.{cases_Bool}
+use Rattle.std.proofs.lemmas.Bool.Decides.{nat_tests}
+use Rattle.ucl_word.specs.declared.record.MatchRecord.{MatchRecord}
+use Rattle.ucl_word.specs.declared.record.State.{State}
+use Rattle.ucl_word.specs.declared.record.State.TheVariants.{Scheduled, InPlay, Finished}
+use Rattle.ucl_word.specs.Record.{IsValid, IsWithinLimits, SuitsState, scheduled}
+use Rattle.ucl_word.specs.Layout.{IsWord, first_layout, record_at, word_of}
+use Rattle.ucl_word.specs.Migration.{IsFirstWord, IsReadAs, IsReadable, first_word_of, most_in_first}
+use Rattle.ucl_word.proofs.Words.{record_told, word_packed, word_valid}
+use Rattle.ucl_word.proofs.FirstWords.{first_back, layouts_apart}
+use Rattle.ucl_board.specs.Words.{AreReadAs, IsFirstBad}
+use Rattle.ucl_screen.specs.WordsRead.{before_words, first_record_at, is_first_word, is_untouched, is_valid, is_within_limits, is_word, read_word, read_words, suits}
+
+-- which records are valid
+
+within-is : (m : MatchRecord) → is_within_limits m ≡ true → IsWithinLimits m
+within-is m h = record {
+  home_goals = grind (arith, nat_tests);
+  away_goals = grind (arith, nat_tests);
+  home_yellows = grind (arith, nat_tests);
+  away_yellows = grind (arith, nat_tests);
+  home_expulsions = grind (arith, nat_tests);
+  away_expulsions = grind (arith, nat_tests);
+}
+
+is-within : (m : MatchRecord) → IsWithinLimits m → is_within_limits m ≡ true
+is-within m w =
+    let a = w.home_goals in let b = w.away_goals in let c = w.home_yellows in let d = w.away_yellows in let e = w.home_expulsions in let f = w.away_expulsions in
+    grind (arith, nat_tests)
+
+zeros : (s : State) (n hg ag hy ay he ae r : ℕ) → s ≡ Scheduled → n ≡ 0 → hg ≡ 0 → ag ≡ 0 → hy ≡ 0 → ay ≡ 0 → he ≡ 0 → ae ≡ 0 → r ≡ 0
+    → record { number = n; state = s; home_goals = hg; away_goals = ag; home_yellows = hy; away_yellows = ay; home_expulsions = he; away_expulsions = ae; reporter = r } ≡ scheduled
+zeros s n hg ag hy ay he ae r e0 e1 e2 e3 e4 e5 e6 e7 e8 = cc
+
+untouched-is : (m : MatchRecord) → m.state ≡ Scheduled → is_untouched m ≡ true → m ≡ scheduled
+untouched-is m s h =
+    zeros m.state m.number m.home_goals m.away_goals m.home_yellows m.away_yellows m.home_expulsions m.away_expulsions m.reporter s
+    (grind (arith, nat_tests)) (grind (arith, nat_tests)) (grind (arith, nat_tests)) (grind (arith, nat_tests))
+    (grind (arith, nat_tests)) (grind (arith, nat_tests)) (grind (arith, nat_tests)) (grind (arith, nat_tests))
+
+suits-is : (s : State) (m : MatchRecord) → m.state ≡ s → suits s m ≡ true → SuitsState s m
+suits-is Scheduled m e h = untouched-is m e h
+suits-is InPlay m e h = (grind (arith, nat_tests), grind (arith, nat_tests), (grind (arith, nat_tests), grind (arith, nat_tests)))
+suits-is Finished m e h = (grind (arith, nat_tests), grind (arith, nat_tests), (grind (arith, nat_tests), grind (arith, nat_tests)))
+
+is-suited : (s : State) (m : MatchRecord) → SuitsState s m → suits s m ≡ true
+is-suited Scheduled m h = rw h refl
+is-suited InPlay m h = let a = h.0 in let b = h.1 in let c = h.2.0 in let d = h.2.1 in grind (arith, nat_tests)
+is-suited Finished m h = let a = h.0 in let b = h.1 in let c = h.2.0 in let d = h.2.1 in grind (arith, nat_tests)
+
+both : (a b : Bool) → (a && b) ≡ true → (a ≡ true) × (b ≡ true)
+both true b h = (refl, h)
+both false b h = cc
+
+pub valid-is : (m : MatchRecord) → is_valid m ≡ true → IsValid m
+unfolding is_valid
+valid-is m h = let p = both (is_within_limits m) (suits m.state m) h in record { within = within-is m p.0; suits = suits-is m.state m refl p.1 }
+
+pub is-valid : (m : MatchRecord) → IsValid m → is_valid m ≡ true
+unfolding is_valid
+is-valid m v = rw (is-within m v.within, is-suited m.state m v.suits) refl
+
+-- what a word is read as
+
+same-test : (a b : ℕ) → a ≡ b → (a == b) ≡ true
+same-test a b e = grind (arith, nat_tests)
+
+test-same : (a b : ℕ) → (a == b) ≡ true → a ≡ b
+test-same a b e = grind (arith, nat_tests)
+
+test-below : (a b : ℕ) → nat_le a b ≡ true → a ≤ b
+test-below a b e = grind (arith, nat_tests)
+
+word-is : (word : ℕ) → is_word word ≡ true → IsWord word
+word-is word h =
+    let p = both (is_valid (record_at word)) (word_of (record_at word) == word) h in
+    record { of = record_at word; valid = valid-is (record_at word) p.0; packed = test-same (word_of (record_at word)) word p.1 }
+
+is-word : (word : ℕ) → IsWord word → is_word word ≡ true
+is-word word w = rw (is-valid (record_at word) (word_valid word w), same-test (word_of (record_at word)) word (word_packed word w)) refl
+
+first-told : (word : ℕ) → first_record_at word ≡ record_told first_layout.number.width word
+unfolding first_record_at
+first-told word = refl
+
+first-is : (word : ℕ) → is_first_word word ≡ true → IsFirstWord word
+first-is word h =
+    let m = first_record_at word in
+    let p = both (is_valid m && nat_le m.number (most_in_first m.state)) (first_word_of m == word) h in
+    let q = both (is_valid m) (nat_le m.number (most_in_first m.state)) p.0 in
+    record { of = m; valid = record { valid = valid-is m q.0; number = test-below m.number (most_in_first m.state) q.1 }; packed = test-same (first_word_of m) word p.1 }
+
+first-of : (word : ℕ) (w : IsFirstWord word) → first_record_at word ≡ w.of
+first-of word w = first-told word ∙ ap (record_told first_layout.number.width) (sym w.packed) ∙ first_back w.of w.valid
+
+is-first : (word : ℕ) → IsFirstWord word → is_first_word word ≡ true
+is-first word w =
+    let e = first-of word w in
+    let a = is-valid w.of w.valid.valid in
+    let b : nat_le w.of.number (most_in_first w.of.state) ≡ true = let k = w.valid.number in grind (arith, nat_tests) in
+    let c = same-test (first_word_of w.of) word w.packed in rw (e, a, b, c) refl
+
+not-word : (word : ℕ) → (IsWord word → ⊥) → is_word word ≡ false
+not-word word h = elim (cases_Bool (is_word word)) [ inl y ↦ absurd (h (word-is word y)) | inr n ↦ n ]
+
+not-first : (word : ℕ) → (IsFirstWord word → ⊥) → is_first_word word ≡ false
+not-first word h = elim (cases_Bool (is_first_word word)) [ inl y ↦ absurd (h (first-is word y)) | inr n ↦ n ]
+
+pub read-as : (word new : ℕ) → IsReadAs word new → read_word word ≡ Some new
+unfolding read_word
+read-as word new (inl kept) = rw (is-word word kept.0, kept.1) refl
+read-as word new (inr moved) =
+    let w : IsFirstWord word = record { of = moved.of; valid = moved.valid; packed = moved.packed } in
+    let a = not-word word (λ is. layouts_apart word is w) in
+    let b = is-first word w in
+    let c : word_of (first_record_at word) ≡ new = ap word_of (first-of word w) ∙ sym moved.moved in rw (a, b, c) refl
+
+pub not-read : (word : ℕ) → (IsReadable word → ⊥) → read_word word ≡ None
+unfolding read_word
+not-read word h = rw (not-word word (λ w. h (inl w)), not-first word (λ w. h (inr w))) refl
+
+pub readable-read : (word : ℕ) → IsReadable word → (new : ℕ) × (read_word word ≡ Some new)
+unfolding read_word
+readable-read word (inl w) = (word, rw (is-word word w) refl)
+readable-read word (inr w) = (word_of (first_record_at word), rw (not-word word (λ is. layouts_apart word is w), is-first word w) refl)
+
+-- twelve words
+
+abbrev pub EachRead : List ℕ → List ℕ → Type 0
+EachRead words board = (k : ℕ) → k < length words → IsReadAs (get_or words k 0) (get_or board k 0)
+
+pub all-read : (index : ℕ) (words board : List ℕ) → length board ≡ length words → EachRead words board → read_words index words ≡ Ok board
+unfolding read_words
+all-read index [] [] e h = refl
+all-read index [] (b ∷ board) e h = absurd (omega arith)
+all-read index (w ∷ words) [] e h = absurd (omega arith)
+all-read index (w ∷ words) (b ∷ board) e h =
+    let first = read-as w b (h 0 (omega arith)) in
+    let rest = all-read (index + 1) words board (omega arith) (λ k less. h (suc k) (omega arith)) in rw (first, rest) refl
+
+pub are-read : (words board : List ℕ) → length words ≡ 12 → AreReadAs words board → read_words 1 words ≡ Ok board
+are-read words board long r = all-read 1 words board (let t = r.twelve in omega arith) (λ k less. let e : k + 1 - 1 ≡ k = omega arith in rw e at (r.each (k + 1) (omega arith, omega arith)))
+
+err-before : (o : Option ℕ) (new index bad : ℕ) (r : Result (List ℕ) ℕ) → o ≡ Some new → r ≡ Err bad → before_words o index r ≡ Err bad
+err-before o new index bad r e f = rw (e, f) refl
+
+pub bad-at : (index k : ℕ) (words : List ℕ) → k < length words → (IsReadable (get_or words k 0) → ⊥) → ((j : ℕ) → j < k → IsReadable (get_or words j 0))
+    → read_words index words ≡ Err (index + k)
+unfolding read_words
+bad-at index k [] less bad before = absurd (omega arith)
+bad-at index zero (w ∷ words) less bad before = rw (not-read w bad) (ap (λ (n : ℕ). Err n) (omega arith))
+bad-at index (suc k) (w ∷ words) less bad before =
+    let first = readable-read w (before 0 (omega arith)) in
+    let rest = bad-at (index + 1) k words (omega arith) bad (λ j h. before (suc j) (omega arith)) in
+    err-before (read_word w) first.0 index (index + suc k) (read_words (index + 1) words) first.1 (rest ∙ ap (λ (n : ℕ). Err n) (omega arith))
+
+pub first-bad : (words : List ℕ) (index : ℕ) → IsFirstBad words index → read_words 1 words ≡ Err index
+first-bad words index r =
+    let a = r.within.0 in
+    let b = r.within.1 in
+    bad-at 1 (index - 1) words (omega arith) r.bad (λ j h. let e : j + 1 - 1 ≡ j = omega arith in rw e at (r.before (j + 1) (omega arith) (omega arith))) ∙ ap (λ (n : ℕ). Err n) (omega arith)

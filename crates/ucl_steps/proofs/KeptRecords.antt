@@ -1,0 +1,127 @@
+-- The calls of a pass that has no call under way are just its finished calls: so a later run keeps what an earlier one has of it.
+use Rattle.std.proofs.Common.{◌≡◌, ℕ, zero, suc, ◌+◌, ◌≤◌, Bool, true, false, cond, List, [], ◌∷◌, ◌++◌, length, drop, map, Some, None, refl, sym, ap, ◌∙◌, subst, arith, append-nil, length-append}
+use Rattle.std.specs.Prelude.{slice_get, filter}
+use Rattle.std.proofs.lemmas.Option.{none-some, same_Some}
+use Rattle.std.proofs.lemmas.List.{map-append, length-map}
+use Rattle.std.proofs.lemmas.List.Elements.{filter-append}
+use mathlib.Core.Option.{some, some-injective}
+use mathlib.Core.List.{IsPrefix}
+use lib.ListN.{get_elem?}
+use Rattle.ucl_steps.specs.declared.step.Caller.{Caller}
+use Rattle.ucl_steps.specs.declared.step.Call.{Call}
+use Rattle.ucl_steps.specs.declared.step.Call.TheVariants.{Event, Reading}
+use Rattle.ucl_steps.specs.declared.trace.CallRecord.{CallRecord}
+use Rattle.ucl_steps.specs.Linearizable.{caller_and_call}
+use Rattle.ucl_steps.specs.Machine.{MachineState}
+use Rattle.ucl_steps.specs.Protocol.{Held, Nothing, Answer, MayAsk}
+use Rattle.ucl_steps.specs.PassRuns.{caller_for, is_of, call_under_way, calls_by, AreRecordsOf, FitsRun}
+use Rattle.ucl_steps.specs.Actors.{Actor}
+use Rattle.ucl_steps.specs.Growing.{HasGoneOn, HaveGoneOn, records_by}
+use Rattle.ucl_steps.proofs.OneStep.{own_caller}
+
+-- what stands before a place, and at it
+drop_split : {X : Type 0} (xs : List X) (low k : ℕ) (x : X) → low ≤ k → slice_get xs k ≡ Some x → (front : List X) × (drop low xs ≡ front ++ x ∷ drop (suc k) xs)
+drop_split [] low k x le at = absurd (none-some x at)
+drop_split {X} (y ∷ xs) zero zero x le at = ([], ap (λ (z : X). z ∷ xs) (same_Some y x at))
+drop_split {X} (y ∷ xs) zero (suc k) x le at = let t = drop_split xs 0 k x (omega arith) at in (y ∷ t.0, ap (λ (l : List X). y ∷ l) t.1)
+drop_split (y ∷ xs) (suc low) zero x le at = absurd (omega arith)
+drop_split (y ∷ xs) (suc low) (suc k) x le at = drop_split xs low k x (omega arith) at
+
+none_long : {X : Type 0} (xs : List X) → length xs ≡ 0 → xs ≡ []
+none_long [] e = refl
+none_long (x ∷ xs) e = absurd (omega (arith, e))
+
+module _ (seat number : ℕ) where
+  abbrev own : CallRecord → Bool
+  own c = is_of seat number c.caller
+
+  abbrev plain : CallRecord → CallRecord
+  plain c = record c { point = None }
+
+  -- the record of a finished call
+  abbrev recorded : Answer → CallRecord
+  recorded f = record { caller = caller_for seat number f.call; call = f.call; begun = f.begun; point = None; reply = Some f.reply; ended = Some f.ended }
+
+  -- the calls from a place on, where a finished call is the next
+  next_own : (calls : List CallRecord) (low high : ℕ) (f : Answer) (fs : List Answer) (r : AreRecordsOf calls seat number low (f ∷ fs) high)
+      → (front : List CallRecord) × (filter own (drop low calls) ≡ filter own front ++ r.1 ∷ filter own (drop (r.0 + 1) calls))
+  next_own calls low high f fs r =
+      let t = drop_split calls low r.0 r.1 r.2 r.3 in
+      let is : own r.1 ≡ true = ap (is_of seat number) r.4.caller ∙ own_caller seat number f.call r.4.may in
+      let next : suc r.0 ≡ r.0 + 1 = omega arith in (
+        t.0,
+        ap (filter own) (t.1 ∙ ap (λ (k : ℕ). t.0 ++ r.1 ∷ drop k calls) next)
+            ∙ (filter-append own t.0 (r.1 ∷ drop (r.0 + 1) calls)
+            ∙ ap (λ (b : Bool). filter own t.0 ++ cond b (r.1 ∷ filter own (drop (r.0 + 1) calls)) (filter own (drop (r.0 + 1) calls))) is),
+      )
+
+  at_least : (calls : List CallRecord) (low high : ℕ) (fs : List Answer) → AreRecordsOf calls seat number low fs high → length fs ≤ length (filter own (drop low calls))
+  at_least calls low high [] r = omega arith
+  at_least calls low high (f ∷ fs) r =
+      let t = next_own calls low high f fs r in
+      let rest = filter own (drop (r.0 + 1) calls) in
+      let more = at_least calls (r.0 + 1) high fs r.5 in
+      let long : length (filter own (drop low calls)) ≡ length (filter own t.0) + suc (length rest) = ap length t.1 ∙ length-append (filter own t.0) (r.1 ∷ rest) in
+      omega arith
+
+  just_these : (calls : List CallRecord) (low high : ℕ) (fs : List Answer) → AreRecordsOf calls seat number low fs high → length (filter own (drop low calls)) ≡ length fs → map plain (filter own (drop low calls)) ≡ map recorded fs
+  just_these calls low high [] r e = ap (map plain) (none_long (filter own (drop low calls)) e)
+  just_these calls low high (f ∷ fs) r e =
+      let t = next_own calls low high f fs r in
+      let rest = filter own (drop (r.0 + 1) calls) in
+      let more = at_least calls (r.0 + 1) high fs r.5 in
+      let long : length (filter own (drop low calls)) ≡ length (filter own t.0) + suc (length rest) = ap length t.1 ∙ length-append (filter own t.0) (r.1 ∷ rest) in
+      let count : length (filter own (drop low calls)) ≡ suc (length fs) = e in
+      let first : filter own t.0 ≡ [] = none_long (filter own t.0) (omega arith) in
+      let is : plain r.1 ≡ recorded f = λ i. record { caller = r.4.caller i; call = r.4.call i; begun = r.4.begun i; point = None; reply = r.4.reply i; ended = r.4.ended i } in
+      let others = just_these calls (r.0 + 1) high fs r.5 (omega arith) in
+      ap (map plain) (t.1 ∙ ap (λ (l : List CallRecord). l ++ r.1 ∷ rest) first) ∙ (λ i. is i ∷ others i)
+
+  abbrev told : Caller × Call → Bool
+  told x = is_of seat number x.0
+
+  -- the calls that a pass has asked are as many
+  as_many : (calls : List CallRecord) → length (calls_by seat number (map caller_and_call calls)) ≡ length (filter own calls)
+  as_many [] = refl
+  as_many (c ∷ calls) = by_test (is_of seat number c.caller) (as_many calls)
+    where
+      by_test : (b : Bool) → length (calls_by seat number (map caller_and_call calls)) ≡ length (filter own calls) → length (map (λ (x : Caller × Call). x.1) (cond b ((c.caller, c.call) ∷ filter told (map caller_and_call calls)) (filter told (map caller_and_call calls)))) ≡ length (cond b (c ∷ filter own calls) (filter own calls))
+      by_test true rest = ap suc rest
+      by_test false rest = rest
+
+  pub records_are : (state : MachineState) (a : Actor) → FitsRun state seat number a.doing → a.doing.held ≡ Nothing → records_by seat number state ≡ map recorded a.doing.calls
+  records_are state a f none =
+      let count : length (filter own state.calls) ≡ length a.doing.calls =
+      sym (as_many state.calls)
+      ∙ (ap length (f.whole ∙ (ap (λ (h : Held). map (λ (x : Answer). x.call) a.doing.calls ++ call_under_way h) none ∙ append-nil (map (λ (x : Answer). x.call) a.doing.calls)))
+      ∙ length-map a.doing.calls (λ (x : Answer). x.call)) in
+      just_these state.calls 0 f.high a.doing.calls f.recorded count
+
+-- the finished calls of a pass that got a number since are by the same callers
+same_callers : (seat : ℕ) (was is : Actor) → HasGoneOn was is → (calls : List CallRecord) (low high : ℕ) (fs : List Answer) → AreRecordsOf calls seat was.number low fs high → map (recorded seat was.number) fs ≡ map (recorded seat is.number) fs
+same_callers seat was is on calls low high [] r = refl
+same_callers seat was is on calls low high (f ∷ fs) r =
+    let callers : caller_for seat was.number f.call ≡ caller_for seat is.number f.call = by_call f.call r.4.may in
+    let rest = same_callers seat was is on calls (r.0 + 1) high fs r.5 in
+    λ i. record { caller = callers i; call = f.call; begun = f.begun; point = None; reply = Some f.reply; ended = Some f.ended } ∷ rest i
+  where
+    by_call : (call : Call) → MayAsk was.number call → caller_for seat was.number call ≡ caller_for seat is.number call
+    by_call (Event e) may = let low = may.0.0 in let same : was.number ≡ is.number = sym (on.number (omega arith)) in ap (λ (n : ℕ). caller_for seat n (Event e)) same
+    by_call Reading may = refl
+
+-- where no actor has a call under way
+pub kept_records : (actors later : List Actor) (last last' : MachineState) → HaveGoneOn actors later
+    → ((seat : ℕ) (a : Actor) → get_elem? actors seat ≡ some a → FitsRun last seat a.number a.doing × (a.doing.held ≡ Nothing)) → ((seat : ℕ) (a : Actor) → get_elem? later seat ≡ some a → FitsRun last' seat a.number a.doing × (a.doing.held ≡ Nothing))
+    → (seat : ℕ) (a b : Actor) → get_elem? actors seat ≡ some a → get_elem? later seat ≡ some b → IsPrefix (records_by seat a.number last) (records_by seat b.number last')
+kept_records actors later last last' on each each' seat a b at bt =
+    let goes = on seat a at in
+    let gone : HasGoneOn a b = subst (HasGoneOn a) (some-injective goes.0 b (sym goes.1 ∙ bt)) goes.2 in
+    let f = each seat a at in
+    let g = each' seat b bt in
+    let more : List Answer = gone.finished.0 in
+    let first = records_are seat a.number last a f.0 f.1 ∙ same_callers seat a b gone last.calls 0 f.0.high a.doing.calls f.0.recorded in
+    let all = records_are seat b.number last' b g.0 g.1 in
+    let put = recorded seat b.number in (
+      map put more,
+      ap (λ (l : List CallRecord). l ++ map put more) first ∙ (sym (map-append put a.doing.calls more) ∙ (ap (map put) gone.finished.1 ∙ sym all)),
+    )

@@ -1,0 +1,535 @@
+-- A run is told by the log and by what the actors have asked: so runs of later states are longer runs.
+use Rattle.std.proofs.Common.{◌≡◌, ◌≢◌, ◌⊎◌, inl, inr, ℕ, zero, suc, ◌+◌, ◌==◌, ◌&&◌, nat_le, Bool, true, false, cond, List, [], ◌∷◌, ◌++◌, length, map, replicate, Option, Some, None, refl, sym, ap, ◌∙◌, subst, arith, append_assoc, eq-eqb}
+use Rattle.std.specs.Prelude.{slice_get}
+use Rattle.std.proofs.lemmas.Option.{none-some, same_Some, option_and_then_some}
+use Rattle.std.proofs.lemmas.Bool.{le-leb}
+use Rattle.std.proofs.lemmas.List.Concat.{flat_map-append}
+use mathlib.Core.Option.{some, some-injective}
+use mathlib.Core.List.{IsPrefix}
+use lib.ListN.{get_elem?}
+use Rattle.ucl_word.specs.declared.event.EventCall.{EventCall}
+use Rattle.ucl_word.specs.Record.{IsReporter}
+use Rattle.ucl_board.specs.Words.{word_at}
+use Rattle.ucl_board.specs.Log as kinds
+use Rattle.ucl_board.specs.Log.{AccessKind, Access, Logged, Log, access_list}
+use Rattle.std.specs.Prelude.{slice_index}
+use Rattle.ucl_steps.specs.declared.step.Cast.{Cast}
+use Rattle.ucl_steps.specs.declared.step.Caller.{Caller}
+use Rattle.ucl_steps.specs.declared.step.Caller.TheVariants.{Reporter, Reader}
+use Rattle.ucl_steps.specs.declared.step.Call.{Call}
+use Rattle.ucl_steps.specs.declared.step.Call.TheVariants.{Event, Reading}
+use Rattle.ucl_steps.specs.declared.step.Step.{Step}
+use Rattle.ucl_steps.specs.declared.step.Step.TheVariants.{Begin, Look, Swap, First, Second, End}
+use Rattle.ucl_steps.specs.Protocol.{Held, Nothing, Holding, Collecting, Checking, Outcome, GoesOn, Answers, looked, swapped, loaded, compared}
+use Rattle.ucl_steps.specs.Machine.{Holds, Idle, Wanting, Within, Answered, Callers, MachineState, initial_state, held_by, set_held, may_begin, held_at_begin, after_begin, after_end, after_outcome, stored, state_after_look, state_after_swap, state_after_first, state_after_second, after_step_holding, caller_of, after_step, after_steps}
+use Rattle.ucl_steps.specs.CallRuns.{step_of, access_in, accesses_holding, accesses_of_step}
+use Rattle.ucl_steps.specs.Linearizable.{begun_in}
+use Rattle.ucl_steps.specs.PassRuns.{cast_for, caller_for, IsOf, is_of, call_of, IsUnderWay, FitsHeld, calls_told, calls_by, left_by, FitsRun, Move, end_by, steps_of_move, steps_of_moves}
+use Rattle.ucl_steps.specs.Actors.{Actor, IsTakenBy, accesses_of_log, AreStepsOf, IsRunOfLog}
+use Rattle.ucl_steps.specs.Growing.{HasGoneOn, HaveGoneOn}
+use Rattle.ucl_steps.proofs.Callers.{same_caller, held_here, held_else}
+use Rattle.ucl_steps.proofs.Runs.{linearizable_run}
+use Rattle.ucl_steps.proofs.OneStep.{and_true, caller_of_kind, calls_append, calls_next}
+
+-- one step of two machines, which may differ in how many readers they have
+
+-- a step that was taken: what its caller held and holds, and the same step where the others are other callers
+record Stepped (s : Step) (a a' : MachineState) : Type 0 where
+  holds : Holds
+  held : held_by a.callers (caller_of s) ≡ Some holds
+  then : Holds
+  callers : a'.callers ≡ set_held then (caller_of s) a.callers
+  other : (cs : Callers) → held_by cs (caller_of s) ≡ Some holds → after_step (record a { callers = cs }) s ≡ Some (record a' { callers = set_held then (caller_of s) cs })
+
+-- a step by what its caller holds
+stepped_to : (s : Step) (x : Holds) (a : MachineState) (f : MachineState → MachineState) (v : Holds) → ((st : MachineState) → after_step_holding s (Some x) st ≡ Some (f st)) → ((cs : Callers) → f (record a { callers = cs }) ≡ record (f a) { callers = set_held v (caller_of s) cs })
+    → held_by a.callers (caller_of s) ≡ Some x → (a' : MachineState) → after_step_holding s (Some x) a ≡ Some a' → Stepped s a a'
+stepped_to s x a f v does alike held a' e =
+    subst (Stepped s a) (same_Some (f a) a' (sym (does a) ∙ e)) (record {
+      holds = x;
+      held = held;
+      then = v;
+      callers = ap (λ (st : MachineState). st.callers) (alike a.callers);
+      other = λ cs h. ap (λ (o : Option Holds). after_step_holding s o (record a { callers = cs })) h ∙ (does (record a { callers = cs }) ∙ ap (λ (z : MachineState). Some z) (alike cs));
+    })
+
+abbrev held_after : ℕ → Outcome → Holds
+held_after k (GoesOn held) = Within k held
+held_after k (Answers reply) = Answered k
+
+outcome_alike : (c : Caller) (k point : ℕ) (o : Outcome) (st : MachineState) (cs : Callers) → after_outcome c k point o (record st { callers = cs }) ≡ record (after_outcome c k point o st) { callers = set_held (held_after k o) c cs }
+outcome_alike c k point (GoesOn held) st cs = refl
+outcome_alike c k point (Answers reply) st cs = refl
+
+swap_alike : (r k : ℕ) (e : EventCall) (new point : ℕ) (o : Outcome) (a : MachineState) (cs : Callers) (b : Bool)
+    → after_outcome (Reporter r) k point o (cond b (stored r e new (record a { callers = cs })) (record a { callers = cs })) ≡ record (after_outcome (Reporter r) k point o (cond b (stored r e new a) a)) { callers = set_held (held_after k o) (Reporter r) cs }
+swap_alike r k e new point o a cs true = outcome_alike (Reporter r) k point o (stored r e new a) cs
+swap_alike r k e new point o a cs false = outcome_alike (Reporter r) k point o a cs
+
+begun_to : (c : Caller) (call : Call) (a a' : MachineState) → held_by a.callers c ≡ Some Idle → (b : Bool) → may_begin c call ≡ b → cond b (Some (after_begin c call a)) None ≡ Some a' → Stepped (Begin c call) a a'
+begun_to c call a a' held false may e = absurd (none-some a' e)
+begun_to c call a a' held true may e =
+    stepped_to (Begin c call) Idle a (after_begin c call) (held_at_begin call (length a.calls)) (λ st. ap (λ (b : Bool). cond b (Some (after_begin c call st)) None) may) (λ cs. refl) held a'
+    (ap (λ (b : Bool). cond b (Some (after_begin c call a)) None) may ∙ e)
+
+stepped_by : (s : Step) (a a' : MachineState) (o : Option Holds) → held_by a.callers (caller_of s) ≡ o → after_step_holding s o a ≡ Some a' → Stepped s a a'
+stepped_by (Begin c call) a a' (Some Idle) held e = begun_to c call a a' held (may_begin c call) refl e
+stepped_by (Look (Reporter r)) a a' (Some (Wanting call e)) held is =
+    stepped_to (Look (Reporter r)) (Wanting call e) a (state_after_look r call e) (held_after call (looked r e (word_at a.words e.game))) (λ st. refl)
+    (λ cs. outcome_alike (Reporter r) call (length a.history) (looked r e (word_at a.words e.game)) a cs) held a' is
+stepped_by (Swap (Reporter r)) a a' (Some (Within call (Holding e old new))) held is =
+    stepped_to (Swap (Reporter r)) (Within call (Holding e old new)) a (state_after_swap r call e old new) (held_after call (swapped old new (word_at a.words e.game))) (λ st. refl)
+    (λ cs. swap_alike r call e new (length a.history) (swapped old new (word_at a.words e.game)) a cs (word_at a.words e.game == old)) held a' is
+stepped_by (First c) a a' (Some (Within call (Collecting words))) held is =
+    stepped_to (First c) (Within call (Collecting words)) a (state_after_first c call words) (held_after call (loaded words (slice_index a.words (length words)) (length a.history))) (λ st. refl)
+    (λ cs. outcome_alike c call (length a.history) (loaded words (slice_index a.words (length words)) (length a.history)) a cs) held a' is
+stepped_by (Second c) a a' (Some (Within call (Checking words checked point))) held is =
+    stepped_to (Second c) (Within call (Checking words checked point)) a (state_after_second c call words checked point) (held_after call (compared words checked point (slice_index a.words checked))) (λ st. refl)
+    (λ cs. outcome_alike c call point (compared words checked point (slice_index a.words checked)) a cs) held a' is
+stepped_by (End c) a a' (Some (Answered call)) held is = stepped_to (End c) (Answered call) a (after_end c call) Idle (λ st. refl) (λ cs. refl) held a' is
+stepped_by s a a' o held is = absurd (none-some a' is)
+
+stepped : (s : Step) (a a' : MachineState) → after_step a s ≡ Some a' → Stepped s a a'
+stepped s a a' is = stepped_by s a a' (held_by a.callers (caller_of s)) refl is
+
+-- the same in each cast that has the caller
+abbrev HoldAlike : Callers → Callers → Type 0
+HoldAlike cs ds = (c : Caller) (x y : Holds) → held_by cs c ≡ Some x → held_by ds c ≡ Some y → x ≡ y
+
+set_alike : (cs ds : Callers) (c : Caller) (y x z : Holds) → held_by cs c ≡ Some x → held_by ds c ≡ Some z → HoldAlike cs ds → HoldAlike (set_held y c cs) (set_held y c ds)
+set_alike cs ds c y x z at bt alike d u v p q = elim (same_caller d c) [
+  | inl is ↦ sym (same_Some y u (sym (held_here cs c x y at) ∙ (ap (held_by (set_held y c cs)) (sym is) ∙ p))) ∙ same_Some y v (sym (held_here ds c z y bt) ∙ (ap (held_by (set_held y c ds)) (sym is) ∙ q))
+  | inr not ↦ alike d u v (sym (held_else cs c d y x at not) ∙ p) (sym (held_else ds c d y z bt not) ∙ q)
+]
+
+-- the second state is the first one, with other callers
+record Alike (a b : MachineState) : Type 0 where
+  is : b ≡ record a { callers = b.callers }
+  holds : HoldAlike a.callers b.callers
+
+step_alike : (s : Step) (a b a' b' : MachineState) → Alike a b → after_step a s ≡ Some a' → after_step b s ≡ Some b' → Alike a' b'
+step_alike s a b a' b' alike ea eb =
+    let p = stepped s a a' ea in
+    let q = stepped s b b' eb in
+    let c = caller_of s in
+    let held_b : held_by b.callers c ≡ Some p.holds = q.held ∙ ap (λ (z : Holds). Some z) (sym (alike.holds c p.holds q.holds p.held q.held)) in
+    let there : MachineState = record a' { callers = set_held p.then c b.callers } in
+    let done : there ≡ b' = same_Some there b' (sym (p.other b.callers held_b) ∙ (ap (λ (st : MachineState). after_step st s) (sym alike.is) ∙ eb)) in
+    subst (Alike a') done (record { is = refl; holds = subst (λ (cs : Callers). HoldAlike cs (set_held p.then c b.callers)) (sym p.callers) (set_alike a.callers b.callers c p.then p.holds p.holds p.held held_b alike.holds) })
+
+-- what others hold, and what the caller then holds
+step_keeps : (s : Step) (a a' : MachineState) (d : Caller) → after_step a s ≡ Some a' → d ≢ caller_of s → held_by a'.callers d ≡ held_by a.callers d
+step_keeps s a a' d e not = let p = stepped s a a' e in ap (λ (cs : Callers). held_by cs d) p.callers ∙ held_else a.callers (caller_of s) d p.then p.holds p.held not
+
+step_holds : (s : Step) (a a' : MachineState) → after_step a s ≡ Some a' → (y : Holds) × (held_by a'.callers (caller_of s) ≡ Some y)
+step_holds s a a' e = let p = stepped s a a' e in (p.then, ap (λ (cs : Callers). held_by cs (caller_of s)) p.callers ∙ held_here a.callers (caller_of s) p.holds p.then p.held)
+
+idle_only : (n k : ℕ) (x : Holds) → slice_get (replicate n Idle) k ≡ Some x → x ≡ Idle
+idle_only zero k x e = absurd (none-some x e)
+idle_only (suc n) zero x e = sym (same_Some Idle x e)
+idle_only (suc n) (suc k) x e = idle_only n k x e
+
+held_at_start : (cast : Cast) (c : Caller) (x : Holds) → held_by (initial_state cast).callers c ≡ Some x → x ≡ Idle
+held_at_start cast (Reporter zero) x e = absurd (none-some x e)
+held_at_start cast (Reporter (suc k)) x e = idle_only cast.reporters k x e
+held_at_start cast (Reader zero) x e = absurd (none-some x e)
+held_at_start cast (Reader (suc k)) x e = idle_only cast.readers k x e
+
+-- the parts of a move
+
+abbrev AfterBegin : Caller → Option Call → MachineState → MachineState → Type 0
+AfterBegin c None a w = a ≡ w
+AfterBegin c (Some call) a w = after_step a (Begin c call) ≡ Some w
+
+abbrev AfterEnd : Caller → Bool → MachineState → MachineState → Type 0
+AfterEnd c false v z = v ≡ z
+AfterEnd c true v z = after_step v (End c) ≡ Some z
+
+abbrev move_of : Caller → Option Call → AccessKind → Bool → Move
+move_of c begins kind ends = record { caller = c; begins = begins; kind = kind; ends = ends }
+
+record Moved (m : Move) (a z : MachineState) : Type 0 where
+  begun : MachineState
+  made : MachineState
+  begins : AfterBegin m.caller m.begins a begun
+  makes : after_step begun (step_of m.caller m.kind) ≡ Some made
+  ends : AfterEnd m.caller m.ends made z
+
+-- a move, and the steps after it
+record Moving (m : Move) (rest : List Step) (a last : MachineState) : Type 0 where
+  after : MachineState
+  moved : Moved m a after
+  then : after_steps rest after ≡ Some last
+  access : Access
+  kind : access.kind ≡ m.kind
+  left : left_by (steps_of_move m ++ rest) (Some a) ≡ (m.caller, access) ∷ left_by rest (Some after)
+
+look_left : (c : Caller) (o : Option Holds) (a v : MachineState) → after_step_holding (Look c) o a ≡ Some v → (m : Access) × (accesses_holding (Look c) o a ≡ m ∷ []) × (m.kind ≡ kinds.Look)
+look_left (Reporter r) (Some (Wanting call e)) a v is = (access_in a kinds.Look e.game, refl, refl)
+look_left c o a v is = absurd (none-some v is)
+
+swap_left : (c : Caller) (o : Option Holds) (a v : MachineState) → after_step_holding (Swap c) o a ≡ Some v → (m : Access) × (accesses_holding (Swap c) o a ≡ m ∷ []) × (m.kind ≡ kinds.Swap)
+swap_left (Reporter r) (Some (Within call (Holding e old new))) a v is = (access_in a kinds.Swap e.game, refl, refl)
+swap_left c o a v is = absurd (none-some v is)
+
+first_left : (c : Caller) (o : Option Holds) (a v : MachineState) → after_step_holding (First c) o a ≡ Some v → (m : Access) × (accesses_holding (First c) o a ≡ m ∷ []) × (m.kind ≡ kinds.First)
+first_left c (Some (Within call (Collecting words))) a v is = (access_in a kinds.First (length words + 1), refl, refl)
+first_left c o a v is = absurd (none-some v is)
+
+second_left : (c : Caller) (o : Option Holds) (a v : MachineState) → after_step_holding (Second c) o a ≡ Some v → (m : Access) × (accesses_holding (Second c) o a ≡ m ∷ []) × (m.kind ≡ kinds.Second)
+second_left c (Some (Within call (Checking words checked point))) a v is = (access_in a kinds.Second (checked + 1), refl, refl)
+second_left c o a v is = absurd (none-some v is)
+
+step_left : (c : Caller) (kind : AccessKind) (a v : MachineState) → after_step a (step_of c kind) ≡ Some v → (m : Access) × (accesses_of_step (step_of c kind) a ≡ m ∷ []) × (m.kind ≡ kind)
+step_left c kinds.Look a v is = look_left c (held_by a.callers c) a v is
+step_left c kinds.Swap a v is = swap_left c (held_by a.callers c) a v is
+step_left c kinds.First a v is = first_left c (held_by a.callers c) a v is
+step_left c kinds.Second a v is = second_left c (held_by a.callers c) a v is
+
+-- the end of a move, and the steps after it
+record Ending (c : Caller) (ends : Bool) (rest : List Step) (v last : MachineState) : Type 0 where
+  after : MachineState
+  is : AfterEnd c ends v after
+  then : after_steps rest after ≡ Some last
+  left : left_by (end_by c ends ++ rest) (Some v) ≡ left_by rest (Some after)
+
+ending : (c : Caller) (ends : Bool) (rest : List Step) (v last : MachineState) → after_steps (end_by c ends ++ rest) v ≡ Some last → Ending c ends rest v last
+ending c false rest v last e = record { after = v; is = refl; then = e; left = refl }
+ending c true rest v last e = option_and_then_some (after_steps rest) (after_step v (End c)) last e (λ z is then. record { after = z; is = is; then = then; left = ap (left_by rest) is })
+
+-- the access and the end of a move
+record Accessing (c : Caller) (kind : AccessKind) (ends : Bool) (rest : List Step) (w last : MachineState) : Type 0 where
+  made : MachineState
+  makes : after_step w (step_of c kind) ≡ Some made
+  ended : Ending c ends rest made last
+  access : Access
+  kind_is : access.kind ≡ kind
+  left : left_by (step_of c kind ∷ end_by c ends ++ rest) (Some w) ≡ (c, access) ∷ left_by rest (Some ended.after)
+
+accessing : (c : Caller) (kind : AccessKind) (ends : Bool) (rest : List Step) (w last : MachineState) → after_steps (step_of c kind ∷ end_by c ends ++ rest) w ≡ Some last → Accessing c kind ends rest w last
+accessing c kind ends rest w last e =
+    option_and_then_some (after_steps (end_by c ends ++ rest)) (after_step w (step_of c kind)) last e (λ v is then.
+    let t = ending c ends rest v last then in
+    let l = step_left c kind w v is in
+    let after : List (Caller × Access) = left_by (end_by c ends ++ rest) (after_step w (step_of c kind)) in
+    record {
+      made = v;
+      makes = is;
+      ended = t;
+      access = l.0;
+      kind_is = l.2;
+      left = ap (λ (ms : List Access). map (λ (m : Access). (caller_of (step_of c kind), m)) ms ++ after) l.1
+          ∙ (ap (λ (d : Caller). (d, l.0) ∷ after) (caller_of_kind c kind)
+          ∙ ap (λ (z : List (Caller × Access)). (c, l.0) ∷ z) (ap (left_by (end_by c ends ++ rest)) is ∙ t.left));
+    })
+
+moving_by : (c : Caller) (begins : Option Call) (kind : AccessKind) (ends : Bool) (rest : List Step) (a last : MachineState) → after_steps (steps_of_move (move_of c begins kind ends) ++ rest) a ≡ Some last
+    → Moving (move_of c begins kind ends) rest a last
+moving_by c None kind ends rest a last e =
+    let t = accessing c kind ends rest a last e in
+    record { after = t.ended.after; moved = record { begun = a; made = t.made; begins = refl; makes = t.makes; ends = t.ended.is }; then = t.ended.then; access = t.access; kind = t.kind_is; left = t.left }
+moving_by c (Some call) kind ends rest a last e = option_and_then_some (after_steps (step_of c kind ∷ end_by c ends ++ rest)) (after_step a (Begin c call)) last e (λ w is then.
+    let t = accessing c kind ends rest w last then in
+    record { after = t.ended.after; moved = record { begun = w; made = t.made; begins = is; makes = t.makes; ends = t.ended.is }; then = t.ended.then; access = t.access; kind = t.kind_is; left = ap (left_by (step_of c kind ∷ end_by c ends ++ rest)) is ∙ t.left })
+
+moving : (m : Move) (rest : List Step) (a last : MachineState) → after_steps (steps_of_move m ++ rest) a ≡ Some last → Moving m rest a last
+moving m rest a last e = moving_by m.caller m.begins m.kind m.ends rest a last e
+
+-- who can take no step
+
+takes_none : (c : Caller) (kind : AccessKind) (x : Holds) (a v : MachineState) → held_by a.callers c ≡ Some x → after_step_holding (step_of c kind) (Some x) a ≡ None → after_step a (step_of c kind) ≡ Some v → ⊥
+takes_none c kind x a v held none e = none-some v (sym none ∙ (sym (ap (λ (o : Option Holds). after_step_holding (step_of c kind) o a) (ap (held_by a.callers) (caller_of_kind c kind) ∙ held)) ∙ e))
+
+idle_takes : (c : Caller) (kind : AccessKind) (a : MachineState) → after_step_holding (step_of c kind) (Some Idle) a ≡ None
+idle_takes (Reporter r) kinds.Look a = refl
+idle_takes (Reader r) kinds.Look a = refl
+idle_takes (Reporter r) kinds.Swap a = refl
+idle_takes (Reader r) kinds.Swap a = refl
+idle_takes c kinds.First a = refl
+idle_takes c kinds.Second a = refl
+
+answered_takes : (c : Caller) (kind : AccessKind) (k : ℕ) (a : MachineState) → after_step_holding (step_of c kind) (Some (Answered k)) a ≡ None
+answered_takes (Reporter r) kinds.Look k a = refl
+answered_takes (Reader r) kinds.Look k a = refl
+answered_takes (Reporter r) kinds.Swap k a = refl
+answered_takes (Reader r) kinds.Swap k a = refl
+answered_takes c kinds.First k a = refl
+answered_takes c kinds.Second k a = refl
+
+-- a call begins where its caller is idle, and then it holds what its call begins with
+begin_holds : (c : Caller) (call : Call) (a w : MachineState) (o : Option Holds) → held_by a.callers c ≡ o → after_step_holding (Begin c call) o a ≡ Some w → (o ≡ Some Idle) × (held_by w.callers c ≡ Some (held_at_begin call (length a.calls)))
+begin_holds c call a w (Some Idle) held e = (refl, by_right (may_begin c call) e)
+  where
+    by_right : (b : Bool) → cond b (Some (after_begin c call a)) None ≡ Some w → held_by w.callers c ≡ Some (held_at_begin call (length a.calls))
+    by_right false e = absurd (none-some w e)
+    by_right true e = subst (λ (z : MachineState). held_by z.callers c ≡ Some (held_at_begin call (length a.calls))) (same_Some (after_begin c call a) w e) (held_here a.callers c Idle (held_at_begin call (length a.calls)) held)
+begin_holds c call a w o held e = absurd (none-some w e)
+
+begin_made : (c : Caller) (call : Call) (a w : MachineState) → after_step a (Begin c call) ≡ Some w → (held_by a.callers c ≡ Some Idle) × (held_by w.callers c ≡ Some (held_at_begin call (length a.calls)))
+begin_made c call a w e = begin_holds c call a w (held_by a.callers c) refl e
+
+end_holds : (c : Caller) (v z : MachineState) (o : Option Holds) → after_step_holding (End c) o v ≡ Some z → (k : ℕ) × (o ≡ Some (Answered k))
+end_holds c v z (Some (Answered k)) e = (k, refl)
+end_holds c v z o e = absurd (none-some z e)
+
+-- what moves leave to others
+
+begun_keeps : (c d : Caller) (o : Option Call) (a w : MachineState) → AfterBegin c o a w → d ≢ c → held_by w.callers d ≡ held_by a.callers d
+begun_keeps c d None a w is not = ap (λ (z : MachineState). held_by z.callers d) (sym is)
+begun_keeps c d (Some call) a w is not = step_keeps (Begin c call) a w d is not
+
+ended_keeps : (c d : Caller) (b : Bool) (v z : MachineState) → AfterEnd c b v z → d ≢ c → held_by z.callers d ≡ held_by v.callers d
+ended_keeps c d false v z is not = ap (λ (y : MachineState). held_by y.callers d) (sym is)
+ended_keeps c d true v z is not = step_keeps (End c) v z d is not
+
+moved_keeps : (m : Move) (a z : MachineState) (d : Caller) → Moved m a z → d ≢ m.caller → held_by z.callers d ≡ held_by a.callers d
+moved_keeps m a z d t not =
+    ended_keeps m.caller d m.ends t.made z t.ends not
+    ∙ (step_keeps (step_of m.caller m.kind) t.begun t.made d t.makes (λ is. not (is ∙ caller_of_kind m.caller m.kind)) ∙ begun_keeps m.caller d m.begins a t.begun t.begins not)
+
+-- a caller whose call has its reply makes no move
+none_answered : (c : Caller) (o : Option Call) (kind : AccessKind) (a w v : MachineState) (k : ℕ) → AfterBegin c o a w → after_step w (step_of c kind) ≡ Some v → held_by a.callers c ≡ Some (Answered k) → ⊥
+none_answered c None kind a w v k is makes held = takes_none c kind (Answered k) w v (ap (λ (z : MachineState). held_by z.callers c) (sym is) ∙ held) (answered_takes c kind k w) makes
+none_answered c (Some call) kind a w v k is makes held = let e : Answered k ≡ Idle = same_Some (Answered k) Idle (sym held ∙ (begin_made c call a w is).0) in absurd cc
+
+answered_stays : (ms : List Move) (a last : MachineState) (c : Caller) (k : ℕ) → held_by a.callers c ≡ Some (Answered k) → after_steps (steps_of_moves ms) a ≡ Some last → held_by last.callers c ≡ Some (Answered k)
+answered_stays [] a last c k held e = ap (λ (z : MachineState). held_by z.callers c) (sym (same_Some a last e)) ∙ held
+answered_stays (m ∷ ms) a last c k held e =
+    let t = moving m (steps_of_moves ms) a last e in
+    elim (same_caller c m.caller) [
+      | inl is ↦ absurd (none_answered m.caller m.begins m.kind a t.moved.begun t.moved.made k t.moved.begins t.moved.makes (ap (held_by a.callers) (sym is) ∙ held))
+      | inr not ↦ answered_stays ms t.after last c k (moved_keeps m a t.after c t.moved not ∙ held) t.then
+    ]
+
+-- and no actor's call stays so
+answered_ends : (state : MachineState) (seat number begun : ℕ) (held : Held) (high : ℕ) (c : Caller) (k : ℕ) → IsOf seat number c → FitsHeld state seat number begun held high → held_by state.callers c ≡ Some (Answered k) → ⊥
+answered_ends state seat number begun held high c k of f is = under held f
+  where
+    within : (held : Held) → IsUnderWay state seat number begun held high → ⊥
+    within held u = elim (same_caller c (caller_for seat number (call_of held))) [
+      | inl same ↦ let e : Answered k ≡ Within u.place held = same_Some (Answered k) (Within u.place held) (sym is ∙ (ap (held_by state.callers) same ∙ u.holds)) in absurd cc
+      | inr not ↦ let e : Answered k ≡ Idle = same_Some (Answered k) Idle (sym is ∙ u.others c of not) in absurd cc
+    ]
+
+    under : (held : Held) → FitsHeld state seat number begun held high → ⊥
+    under Nothing f = let e : Answered k ≡ Idle = same_Some (Answered k) Idle (sym is ∙ f.1 c of) in absurd cc
+    under (Holding e old new) u = within (Holding e old new) u
+    under (Collecting words) u = within (Collecting words) u
+    under (Checking words checked point) u = within (Checking words checked point) u
+
+-- two moves of one caller, of one kind, from states that are alike
+
+-- a call begins in both or in neither
+begin_both : (c : Caller) (kind : AccessKind) (call : Call) (a b w v : MachineState) → HoldAlike a.callers b.callers → after_step a (step_of c kind) ≡ Some v → after_step b (Begin c call) ≡ Some w → ⊥
+begin_both c kind call a b w v alike makes begins =
+    let p = stepped (step_of c kind) a v makes in
+    let held : held_by a.callers c ≡ Some p.holds = ap (held_by a.callers) (sym (caller_of_kind c kind)) ∙ p.held in
+    let idle : p.holds ≡ Idle = alike c p.holds Idle held (begin_made c call b w begins).0 in
+    takes_none c kind Idle a v (held ∙ ap (λ (z : Holds). Some z) idle) (idle_takes c kind a) makes
+
+same_begins : (c : Caller) (kind : AccessKind) (o p : Option Call) (a b wa wb va vb : MachineState) → Alike a b → AfterBegin c o a wa → AfterBegin c p b wb → after_step wa (step_of c kind) ≡ Some va → after_step wb (step_of c kind) ≡ Some vb
+    → ((f g : Call) → o ≡ Some f → p ≡ Some g → f ≡ g) → o ≡ p
+same_begins c kind None None a b wa wb va vb alike ba bb ma mb calls = refl
+same_begins c kind None (Some g) a b wa wb va vb alike ba bb ma mb calls = absurd (begin_both c kind g a b wb va alike.holds (ap (λ (z : MachineState). after_step z (step_of c kind)) ba ∙ ma) bb)
+same_begins c kind (Some f) None a b wa wb va vb alike ba bb ma mb calls =
+    absurd (begin_both c kind f b a wa vb (λ d x y p q. sym (alike.holds d y x q p)) (ap (λ (z : MachineState). after_step z (step_of c kind)) bb ∙ mb) ba)
+same_begins c kind (Some f) (Some g) a b wa wb va vb alike ba bb ma mb calls = ap (λ (z : Call). Some z) (calls f g refl refl)
+
+begin_alike : (c : Caller) (o : Option Call) (a b wa wb : MachineState) → Alike a b → AfterBegin c o a wa → AfterBegin c o b wb → Alike wa wb
+begin_alike c None a b wa wb alike ba bb = subst (λ (z : MachineState). Alike z wb) ba (subst (Alike a) bb alike)
+begin_alike c (Some call) a b wa wb alike ba bb = step_alike (Begin c call) a b wa wb alike ba bb
+
+-- a call ends in both or in neither
+end_both : (c : Caller) (va vb zb : MachineState) (y : Holds) → HoldAlike va.callers vb.callers → (za : MachineState) → after_step va (End c) ≡ Some za → held_by vb.callers c ≡ Some y → (k : ℕ) × (held_by vb.callers c ≡ Some (Answered k))
+end_both c va vb zb y alike za ends held =
+    let t = end_holds c va za (held_by va.callers c) ends in
+    (t.0, held ∙ ap (λ (z : Holds). Some z) (sym (alike c (Answered t.0) y t.1 held)))
+
+same_ends : (c : Caller) (x y : Bool) (va vb za zb : MachineState) (ha hb : Holds) → Alike va vb → held_by va.callers c ≡ Some ha → held_by vb.callers c ≡ Some hb → AfterEnd c x va za → AfterEnd c y vb zb
+    → ((k : ℕ) → held_by za.callers c ≢ Some (Answered k)) → ((k : ℕ) → held_by zb.callers c ≢ Some (Answered k)) → x ≡ y
+same_ends c false false va vb za zb ha hb alike held_a held_b ea eb na nb = refl
+same_ends c true true va vb za zb ha hb alike held_a held_b ea eb na nb = refl
+same_ends c true false va vb za zb ha hb alike held_a held_b ea eb na nb = let t = end_both c va vb zb hb alike.holds za ea held_b in absurd (nb t.0 (ap (λ (z : MachineState). held_by z.callers c) (sym eb) ∙ t.1))
+same_ends c false true va vb za zb ha hb alike held_a held_b ea eb na nb =
+    let t = end_both c vb va za ha (λ d u v p q. sym (alike.holds d v u q p)) zb eb held_a in
+    absurd (na t.0 (ap (λ (z : MachineState). held_by z.callers c) (sym ea) ∙ t.1))
+
+end_alike : (c : Caller) (x : Bool) (va vb za zb : MachineState) → Alike va vb → AfterEnd c x va za → AfterEnd c x vb zb → Alike za zb
+end_alike c false va vb za zb alike ea eb = subst (λ (z : MachineState). Alike z zb) ea (subst (Alike va) eb alike)
+end_alike c true va vb za zb alike ea eb = step_alike (End c) va vb za zb alike ea eb
+
+module _ (c : Caller) (kind : AccessKind) (o p : Option Call) (x y : Bool) (a b za zb : MachineState) (alike : Alike a b) (t : Moved (move_of c o kind x) a za) (u : Moved (move_of c p kind y) b zb)
+    (calls : (f g : Call) → o ≡ Some f → p ≡ Some g → f ≡ g) (not_a : (k : ℕ) → held_by za.callers c ≢ Some (Answered k)) (not_b : (k : ℕ) → held_by zb.callers c ≢ Some (Answered k)) where
+  same_begin : o ≡ p
+  same_begin = same_begins c kind o p a b t.begun u.begun t.made u.made alike t.begins u.begins t.makes u.makes calls
+
+  made_alike : Alike t.made u.made
+  made_alike =
+      let begun = begin_alike c o a b t.begun u.begun alike t.begins (subst (λ (q : Option Call). AfterBegin c q b u.begun) (sym same_begin) u.begins) in
+      step_alike (step_of c kind) t.begun u.begun t.made u.made begun t.makes u.makes
+
+  same_end : x ≡ y
+  same_end =
+      let h = step_holds (step_of c kind) t.begun t.made t.makes in
+      let g = step_holds (step_of c kind) u.begun u.made u.makes in
+      same_ends c x y t.made u.made za zb h.0 g.0 made_alike (ap (held_by t.made.callers) (sym (caller_of_kind c kind)) ∙ h.1) (ap (held_by u.made.callers) (sym (caller_of_kind c kind)) ∙ g.1) t.ends u.ends not_a not_b
+
+  moved_alike : Alike za zb
+  moved_alike = end_alike c x t.made u.made za zb made_alike t.ends (subst (λ (q : Bool). AfterEnd c q u.made zb) (sym same_end) u.ends)
+
+  same_move : move_of c o kind x ≡ move_of c p kind y
+  same_move = λ i. record { caller = c; begins = same_begin i; kind = kind; ends = same_end i }
+
+-- what the actors have asked
+
+-- a reading begins with a load of its first collect; and no call with one of its second
+begins_reading : (c : Caller) (call : Call) (a w v : MachineState) → after_step a (Begin c call) ≡ Some w → (after_step w (First c) ≡ Some v) ⊎ (after_step w (Second c) ≡ Some v) → call ≡ Reading
+begins_reading c Reading a w v begins makes = refl
+begins_reading c (Event e) a w v begins (inl makes) = absurd (takes_none c kinds.First (Wanting (length a.calls) e) w v (begin_made c (Event e) a w begins).1 refl makes)
+begins_reading c (Event e) a w v begins (inr makes) = absurd (takes_none c kinds.Second (Wanting (length a.calls) e) w v (begin_made c (Event e) a w begins).1 refl makes)
+
+abbrev first_of : Call → List Call → Call
+first_of call [] = call
+first_of call (x ∷ xs) = x
+
+abbrev rest_of : List Call → List Call
+rest_of [] = []
+rest_of (x ∷ xs) = xs
+
+next_same : (ks : List Call) (x y : Call) (xs ys rest : List Call) → (ks ++ x ∷ xs) ++ rest ≡ ks ++ y ∷ ys → x ≡ y
+next_same [] x y xs ys rest e = ap (first_of x) e
+next_same (k ∷ ks) x y xs ys rest e = next_same ks x y xs ys rest (ap rest_of e)
+
+next_asked : (seat number : ℕ) (c : Caller) (f g : Call) (told xs ys : List (Caller × Call)) → is_of seat number c ≡ true → IsPrefix (calls_by seat number (told ++ (c, f) ∷ xs)) (calls_by seat number (told ++ (c, g) ∷ ys)) → f ≡ g
+next_asked seat number c f g told xs ys is p =
+    let by : List (Caller × Call) → List Call = calls_by seat number in
+    let split : (h : Call) (zs : List (Caller × Call)) → by (told ++ (c, h) ∷ zs) ≡ by told ++ h ∷ by zs =
+    (λ h zs. calls_append seat number told ((c, h) ∷ zs) ∙ ap (λ (l : List Call). by told ++ l) (calls_next seat number c h zs is)) in
+    next_same (by told) f g (by xs) (by ys) p.0 (ap (λ (l : List Call). l ++ p.0) (sym (split f xs)) ∙ (p.1 ∙ split g ys))
+
+-- the calls that a move begins
+
+abbrev begun_by : Caller → Option Call → List (Caller × Call)
+begun_by c None = []
+begun_by c (Some call) = (c, call) ∷ []
+
+begun_after : (c : Caller) (kind : AccessKind) (ends : Bool) (rest : List Step) → begun_in (step_of c kind ∷ end_by c ends ++ rest) ≡ begun_in rest
+begun_after c kind ends rest = by_kind kind ∙ by_end ends
+  where
+    by_kind : (kind : AccessKind) → begun_in (step_of c kind ∷ end_by c ends ++ rest) ≡ begun_in (end_by c ends ++ rest)
+    by_kind kinds.Look = refl
+    by_kind kinds.Swap = refl
+    by_kind kinds.First = refl
+    by_kind kinds.Second = refl
+
+    by_end : (ends : Bool) → begun_in (end_by c ends ++ rest) ≡ begun_in rest
+    by_end false = refl
+    by_end true = refl
+
+begun_move : (c : Caller) (o : Option Call) (kind : AccessKind) (ends : Bool) (rest : List Step) → begun_in (steps_of_move (move_of c o kind ends) ++ rest) ≡ begun_by c o ++ begun_in rest
+begun_move c None kind ends rest = begun_after c kind ends rest
+begun_move c (Some call) kind ends rest = ap (λ (l : List (Caller × Call)). (c, call) ∷ l) (begun_after c kind ends rest)
+
+-- the reporter of a number, as a test
+is_reporter : (seat number : ℕ) → IsReporter number → is_of seat number (Reporter number) ≡ true
+is_reporter seat number is = and_true (number == number) (nat_le 1 number && nat_le number 255) (eq-eqb number number refl) (and_true (nat_le 1 number) (nat_le number 255) (le-leb 1 number is.0) (le-leb number 255 is.1))
+
+taken_of : (seat number : ℕ) (kind : AccessKind) (c : Caller) → IsTakenBy seat number kind c → IsOf seat number c
+taken_of seat number kinds.Look c by = inr by
+taken_of seat number kinds.Swap c by = inr by
+taken_of seat number kinds.First c by = inl by
+taken_of seat number kinds.Second c by = inl by
+
+-- an actor that has gone on takes its steps by the same callers
+same_taker : (seat : ℕ) (was is : Actor) (kind : AccessKind) (c d : Caller) → HasGoneOn was is → IsTakenBy seat was.number kind c → IsTakenBy seat is.number kind d → c ≡ d
+same_taker seat was is kinds.Look c d on by then = let low = by.1.0 in by.0 ∙ (ap Reporter (sym (on.number (omega arith))) ∙ sym then.0)
+same_taker seat was is kinds.Swap c d on by then = let low = by.1.0 in by.0 ∙ (ap Reporter (sym (on.number (omega arith))) ∙ sym then.0)
+same_taker seat was is kinds.First c d on by then = by ∙ sym then
+same_taker seat was is kinds.Second c d on by then = by ∙ sym then
+
+module _ (actors later : List Actor) (on : HaveGoneOn actors later) (last last' : MachineState)
+    (each : (seat : ℕ) (a : Actor) → get_elem? actors seat ≡ some a → FitsRun last seat a.number a.doing) (each' : (seat : ℕ) (a : Actor) → get_elem? later seat ≡ some a → FitsRun last' seat a.number a.doing) where
+  -- where both begin a call, it is one call
+  same_call : (seat : ℕ) (was is : Actor) (kind : AccessKind) (c : Caller) (f g : Call) (told xs ys : List (Caller × Call)) (a b w v w' v' : MachineState) → get_elem? actors seat ≡ some was → get_elem? later seat ≡ some is → HasGoneOn was is → IsTakenBy seat was.number kind c
+      → told ++ (c, f) ∷ xs ≡ calls_told last → told ++ (c, g) ∷ ys ≡ calls_told last' → after_step a (Begin c f) ≡ Some w → after_step w (step_of c kind) ≡ Some v → after_step b (Begin c g) ≡ Some w' → after_step w' (step_of c kind) ≡ Some v' → f ≡ g
+  same_call seat was is kind c f g told xs ys a b w v w' v' at bt gone by told_is told_is' begins makes begins' makes' = by_kind kind by makes makes'
+    where
+      asked : (number : IsReporter was.number) → c ≡ Reporter was.number → f ≡ g
+      asked number reporter =
+          let low = number.0 in
+          let same : is.number ≡ was.number = gone.number (omega arith) in
+          let p : IsPrefix (calls_by seat was.number (calls_told last)) (calls_by seat was.number (calls_told last')) =
+          (gone.asked.0, ap (λ (l : List Call). l ++ gone.asked.0) (each seat was at).whole ∙ (gone.asked.1 ∙ (sym (each' seat is bt).whole ∙ ap (λ (n : ℕ). calls_by seat n (calls_told last')) same))) in
+          next_asked seat was.number c f g told xs ys (ap (is_of seat was.number) reporter ∙ is_reporter seat was.number number) (
+            p.0,
+            ap (λ (l : List (Caller × Call)). calls_by seat was.number l ++ p.0) told_is ∙ (p.1 ∙ ap (calls_by seat was.number) (sym told_is')),
+          )
+
+      by_kind : (kind : AccessKind) → IsTakenBy seat was.number kind c → after_step w (step_of c kind) ≡ Some v → after_step w' (step_of c kind) ≡ Some v' → f ≡ g
+      by_kind kinds.Look by makes makes' = asked by.1 by.0
+      by_kind kinds.Swap by makes makes' = asked by.1 by.0
+      by_kind kinds.First by makes makes' = begins_reading c f a w v begins (inl makes) ∙ sym (begins_reading c g b w' v' begins' (inl makes'))
+      by_kind kinds.Second by makes makes' = begins_reading c f a w v begins (inr makes) ∙ sym (begins_reading c g b w' v' begins' (inr makes'))
+
+  -- one move after another
+  grows : (ms ns : List Move) (a b : MachineState) (told : List (Caller × Call)) → Alike a b → after_steps (steps_of_moves ms) a ≡ Some last → after_steps (steps_of_moves ns) b ≡ Some last' → told ++ begun_in (steps_of_moves ms) ≡ calls_told last → told ++ begun_in (steps_of_moves ns) ≡ calls_told last'
+      → (xs ys : List (ℕ × Access)) → AreStepsOf actors (left_by (steps_of_moves ms) (Some a)) xs → AreStepsOf later (left_by (steps_of_moves ns) (Some b)) (xs ++ ys) → IsPrefix ms ns
+  grows [] ns a b told alike run run' told_is told_is' xs ys is is' = (ns, refl)
+  grows (m ∷ ms) ns a b told alike run run' told_is told_is' [] ys is is' = absurd (subst (λ (l : List (Caller × Access)). AreStepsOf actors l []) (moving m (steps_of_moves ms) a last run).left is)
+  grows (m ∷ ms) [] a b told alike run run' told_is told_is' (x ∷ xs) ys is is' = absurd is'
+  grows (m ∷ ms) (n ∷ ns) a b told alike run run' told_is told_is' (x ∷ xs) ys is is' =
+      let p = moving m (steps_of_moves ms) a last run in
+      let q = moving n (steps_of_moves ns) b last' run' in
+      let s = subst (λ (l : List (Caller × Access)). AreStepsOf actors l (x ∷ xs)) p.left is in
+      let t = subst (λ (l : List (Caller × Access)). AreStepsOf later l (x ∷ xs ++ ys)) q.left is' in
+      let was : Actor = s.1.0 in
+      let now : Actor = t.1.0 in
+      let goes = on x.0 was s.1.1 in
+      let gone : HasGoneOn was now = subst (HasGoneOn was) (some-injective goes.0 now (sym goes.1 ∙ t.1.1)) goes.2 in
+      let kind : m.kind ≡ n.kind = sym p.kind ∙ (ap (λ (z : Access). z.kind) (s.0 ∙ sym t.0) ∙ q.kind) in
+      let taken : IsTakenBy x.0 was.number m.kind m.caller = subst (λ (k : AccessKind). IsTakenBy x.0 was.number k m.caller) (sym (ap (λ (z : Access). z.kind) s.0) ∙ p.kind) s.1.2 in
+      let caller : m.caller ≡ n.caller = same_taker x.0 was now x.1.kind m.caller n.caller gone s.1.2 t.1.2 in
+      let of_caller : move_of m.caller n.begins m.kind n.ends ≡ n = λ i. record { caller = caller i; begins = n.begins; kind = kind i; ends = n.ends } in
+      let moved' : Moved (move_of m.caller n.begins m.kind n.ends) b q.after =
+      subst (λ (z : Move). Moved z b q.after) (sym of_caller) q.moved in
+      let c : Caller = m.caller in
+      let told_m : told ++ (begun_by c m.begins ++ begun_in (steps_of_moves ms)) ≡ calls_told last =
+      ap (λ (l : List (Caller × Call)). told ++ l) (sym (begun_move m.caller m.begins m.kind m.ends (steps_of_moves ms))) ∙ told_is in
+      let told_n : told ++ (begun_by c n.begins ++ begun_in (steps_of_moves ns)) ≡ calls_told last' =
+      ap (λ (d : Caller). told ++ (begun_by d n.begins ++ begun_in (steps_of_moves ns))) caller
+      ∙ (ap (λ (l : List (Caller × Call)). told ++ l) (sym (begun_move n.caller n.begins n.kind n.ends (steps_of_moves ns))) ∙ told_is') in
+      let calls : (f g : Call) → m.begins ≡ Some f → n.begins ≡ Some g → f ≡ g =
+      (λ f g is_f is_g. same_call x.0 was now m.kind c f g told (begun_in (steps_of_moves ms)) (begun_in (steps_of_moves ns)) a b p.moved.begun p.moved.made moved'.begun moved'.made s.1.1 t.1.1 gone taken
+      (subst (λ (o : Option Call). told ++ (begun_by c o ++ begun_in (steps_of_moves ms)) ≡ calls_told last) is_f told_m)
+      (subst (λ (o : Option Call). told ++ (begun_by c o ++ begun_in (steps_of_moves ns)) ≡ calls_told last') is_g told_n)
+      (subst (λ (o : Option Call). AfterBegin c o a p.moved.begun) is_f p.moved.begins) p.moved.makes
+      (subst (λ (o : Option Call). AfterBegin c o b moved'.begun) is_g moved'.begins) moved'.makes) in
+      let f = each x.0 was s.1.1 in
+      let f' = each' x.0 now t.1.1 in
+      let ends : (k : ℕ) → held_by p.after.callers c ≢ Some (Answered k) =
+      (λ k held. answered_ends last x.0 was.number was.doing.begun was.doing.held f.high c k (taken_of x.0 was.number m.kind c taken) f.held (answered_stays ms p.after last c k held p.then)) in
+      let ends' : (k : ℕ) → held_by q.after.callers c ≢ Some (Answered k) =
+      (λ k held. answered_ends last' x.0 now.number now.doing.begun now.doing.held f'.high c k (subst (IsOf x.0 now.number) (sym caller) (taken_of x.0 now.number x.1.kind n.caller t.1.2)) f'.held
+      (answered_stays ns q.after last' c k held q.then)) in
+      let begins = same_begin c m.kind m.begins n.begins m.ends n.ends a b p.after q.after alike p.moved moved' calls ends ends' in
+      let next = moved_alike c m.kind m.begins n.begins m.ends n.ends a b p.after q.after alike p.moved moved' calls ends ends' in
+      let move : m ≡ n = same_move c m.kind m.begins n.begins m.ends n.ends a b p.after q.after alike p.moved moved' calls ends ends' ∙ of_caller in
+      let rest = grows ms ns p.after q.after (told ++ begun_by c m.begins) next p.then q.then (append_assoc told (begun_by c m.begins) (begun_in (steps_of_moves ms)) ∙ told_m)
+      (append_assoc told (begun_by c m.begins) (begun_in (steps_of_moves ns)) ∙ subst (λ (o : Option Call). told ++ (begun_by c o ++ begun_in (steps_of_moves ns)) ≡ calls_told last') (sym begins) told_n) xs ys s.2 t.2 in
+      (rest.0, λ i. move i ∷ rest.1 i)
+
+-- the accesses of a longer log
+accesses_more : (log more : Log) → accesses_of_log (log ++ more) ≡ accesses_of_log log ++ accesses_of_log more
+accesses_more log more = flat_map-append (λ (x : Logged). map (λ (m : Access). (x.seat, m)) (access_list x.step.target x.step.at)) log more
+
+pub longer_runs : (readers readers' enlisted enlisted' : ℕ) (log log' : Log) (actors later : List Actor) (r : IsRunOfLog readers enlisted log actors) (q : IsRunOfLog readers' enlisted' log' later) → IsPrefix log log' → HaveGoneOn actors later → IsPrefix r.of_actors.moves q.of_actors.moves
+longer_runs readers readers' enlisted enlisted' log log' actors later r q before on =
+    let one = r.of_actors in
+    let other = q.of_actors in
+    let first = initial_state (cast_for readers) in
+    let first' = initial_state (cast_for readers') in
+    let begun = (linearizable_run (cast_for readers) (steps_of_moves one.moves) one.state one.run).calls_begun in
+    let begun' = (linearizable_run (cast_for readers') (steps_of_moves other.moves) other.state other.run).calls_begun in
+    let start : Alike (initial_state (cast_for readers)) (initial_state (cast_for readers')) = record { is = refl; holds = λ c x y p q. held_at_start (cast_for readers) c x p ∙ sym (held_at_start (cast_for readers') c y q) } in
+    grows actors later on one.state other.state one.each other.each one.moves other.moves first first' [] start one.run other.run (sym begun) (sym begun') (accesses_of_log log) (accesses_of_log before.0) r.accesses
+    (subst (λ (l : List (ℕ × Access)). AreStepsOf later (left_by (steps_of_moves other.moves) (Some first')) l) (ap accesses_of_log (sym before.1) ∙ accesses_more log before.0) q.accesses)
