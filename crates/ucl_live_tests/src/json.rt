@@ -25,7 +25,7 @@ const OTHER_WORDS: &str =
     ",\"2000000000000000\",\"2000000000000000\",\"2000000000000000\",\"2000000000000000\",\"2000000000000000\",\"2000000000000000\",\"2000000000000000\",\"2000000000000000\",\"2000000000000000\",\"2000000000000000\",\"2000000000000000\"]}\n";
 
 /// The words of the first match after a kick-off, and after a goal besides.
-const KICKED_OFF: &str = "2001000000001001";
+pub(crate) const KICKED_OFF: &str = "2001000000001001";
 
 const ONE_GOAL: &str = "2001000000005002";
 
@@ -65,7 +65,7 @@ fn screen_at(alloc: Global, row: &str, name: &str) -> Result<String, Fail> {
 }
 
 /// The reply to an accepted event of match 1 at a row, which is its event of this number, and the word after it.
-fn accepted(
+pub(crate) fn accepted(
     alloc: Global,
     row: &str,
     name: &str,
