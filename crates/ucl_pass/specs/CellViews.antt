@@ -23,6 +23,10 @@ cell_pass_of p = record { board = p.table_id; seat = p.id; view = (cell_view p).
 abbrev pub known_of : CellPass → CellView
 known_of p = record { pass = p.view; calls = p.calls }
 
+-- a pass that has copied nothing, has taken no step, and has finished no call
+abbrev pub HasDoneNothing : CellPass → Type 0
+HasDoneNothing p = (p.view.copied ≡ []) × (p.view.own ≡ []) × (p.calls ≡ [])
+
 -- a call that is none of the protocol leaves the finished calls as they were
 abbrev pub KeepsCalls : CellPass → CellPass → Type 0
 KeepsCalls p q = q.calls ≡ p.calls

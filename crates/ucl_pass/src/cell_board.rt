@@ -9,7 +9,7 @@ ghost use Rattle.ucl_shared.specs.Passes.{Continues, AcceptedReport, RefusedRepo
 ghost use Rattle.ucl_shared.specs.Views.{pass_view_of, count_of};
 ghost use Rattle.ucl_shared.specs.OneHistory.{BoardsOpenFresh};
 ghost use Rattle.ucl_pass.specs.CellRule.{words_after, IsTheRule, IsUpToDate, CellStands, SeatStands};
-ghost use Rattle.ucl_pass.specs.CellViews.{knows, known_of, calls_at, left_cell_pass, second_cell_pass, note_cell_pass, IsCellNote};
+ghost use Rattle.ucl_pass.specs.CellViews.{HasDoneNothing, knows, known_of, calls_at, left_cell_pass, second_cell_pass, note_cell_pass, IsCellNote};
 ghost use Rattle.ucl_pass.specs.CellSteps.{ExchangesReporter, IsNextBoard, AreAccepting, entry_at, exchange, StoresOrLooks, DecidesReport, with_one_more, LooksAtMatch, LooksAtEnlisted, LooksAndShows, LookOfCell, ReadOfCell};
 ghost use Rattle.ucl_shared.specs.CallSteps.{MeetingSteps};
 ghost use Rattle.ucl_pass.specs.CellCalls.{CellReport, CellEnlistment, CellReading, FinishesReport, FinishesReading};
@@ -84,7 +84,7 @@ impl CellBoard {
     pub fn open<R>(_rt: &R, alloc: Global) -> Result<(CellBoard, CellReaderPass), OutOfMemory>
         ensures own { IfOk result (λ opened. opened.1.board ≡ opened.0) }
         ensures fresh { IfOk result (λ opened. pass_view_of opened.1.view ≡ opening_pass) }
-        ensures acts { IfOk result (λ opened. (opened.1.view.copied ≡ []) × (opened.1.view.own ≡ [])) }
+        ensures untaken { IfOk result (λ opened. HasDoneNothing opened.1) }
         ensures rule { BoardsOpenFresh words_after }
         ensures tied { IsTheRule ⟦<OneHistory as Protocol<[u64; 13], CellView>>⟧.holds }
         ensures stands { IfOk result (λ opened. (seat : ℕ) × CellStands seat (known_of opened.1)) }
