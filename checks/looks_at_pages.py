@@ -6,6 +6,7 @@ import shutil
 import subprocess
 import sys
 
+import closures
 import edits
 import looks_tried
 import other_cases
@@ -108,7 +109,9 @@ def crates_are_listed(top):
 
 
 def counts_of(top):
-    """What the table of gate times counts: how a count reads there, and how it reads by what there is."""
+    """What the page of the architecture counts: how a count reads there, and how it reads by what there is."""
+    definitions = closures.Definitions(top)
+    headline = definitions.below(["BoardsHaveOneHistory"])
     gate, further = (len(edits.edits_of(top, pattern)) for pattern in (edits.OF_THE_GATE, edits.FURTHER))
     plain = plain_cases.cases(top)
     faults = sum(map(len, looks_tried.FAULTS.values()))
@@ -118,18 +121,19 @@ def counts_of(top):
         (r"on what is built \| \d+ cases", f"on what is built | {len(plain) + len(other_cases.CASES)} cases"),
         (r"on busy cores \| \d+ cases", f"on busy cores | {sum(case.is_small for case in plain)} cases"),
         (r"\d+ wrong bodies, as many controls", f"{gate + further} wrong bodies, as many controls"),
+        (r"\d+ definitions of \d+ lines", f"{len(headline)} definitions of {definitions.lines_of(headline)} lines"),
     ]
 
 
 def counts_are_right(top):
-    """The table of gate times counts what there is."""
+    """The page of the architecture counts what there is."""
     text = (top / COUNTING).read_text()
     told = [(re.findall(pattern, text), right) for pattern, right in counts_of(top)]
     return [f"{COUNTING}: tells {', '.join(found) or 'no count'}, and there are: {right} (checks/looks --shrink)" for found, right in told if found != [right]]
 
 
 def write_counts(top):
-    """Writes into the table of gate times what there is."""
+    """Writes into the page of the architecture what there is."""
     path = top / COUNTING
     text = path.read_text()
     for pattern, right in counts_of(top):
@@ -175,7 +179,7 @@ LOOKS = [
     ("each name in backticks is there", names_exist),
     ("the table of definitions is that of the files", definitions_are_listed),
     ("the table of crates is that of crates.txt", crates_are_listed),
-    ("the table of gate times counts what there is", counts_are_right),
+    ("docs/ARCHITECTURE.md counts what there is", counts_are_right),
     ("the README and --version tell the kit", kit_is_told),
     ("the examples at the calls and the program of the README are tested", examples_are_tests),
     ("each block of docs/READING.md stands in its file", reading_quotes),

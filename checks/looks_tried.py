@@ -118,9 +118,10 @@ FAULTS = {
         ("docs/ARCHITECTURE.md", "| `ucl_example` | ", "| `ucl_instance` | "),
         ("crates.txt", None, "ucl_fault: ucl_word\n"),
     ],
-    "the table of gate times counts what there is": [
+    "docs/ARCHITECTURE.md counts what there is": [
         ("docs/ARCHITECTURE.md", " looks, ", " glances, "),
         ("checks/wrong/ucl_word/fault.edit", None, "file: src/rules.rt\n"),
+        ("crates/ucl_claims/specs/Headline.antt", None, "  pub other : ℕ\n"),
     ],
     "the README and --version tell the kit": [
         ("README.md", "rattle-kit-", "rattle-kit-0"),
