@@ -56,7 +56,8 @@ def holds_one_history(crate):
         names = HOLDS.findall((top / "crates" / crate / "src/rule.rt").read_text())
         spec = (top / "crates" / crate / f"specs/{SPEC_OF_RULE[crate]}.antt").read_text()
         meant = [name for name in names if re.search(MEANT % name, spec, re.M)]
-        return [] if len(names) == 1 and meant == names else [f"rule.rt holds {', '.join(names) or 'nothing'}, and not KeepsOneHistory with a run of the machine"]
+        told = f"rule.rt holds {', '.join(names) or 'nothing'}, and not KeepsOneHistory with a run of the machine"
+        return [] if len(names) == 1 and meant == names else [told]
 
     return look
 

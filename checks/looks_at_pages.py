@@ -129,7 +129,11 @@ def counts_are_right(top):
     """The page of the architecture counts what there is."""
     text = (top / COUNTING).read_text()
     told = [(re.findall(pattern, text), right) for pattern, right in counts_of(top)]
-    return [f"{COUNTING}: tells {', '.join(found) or 'no count'}, and there are: {right} (checks/looks --shrink)" for found, right in told if found != [right]]
+    return [
+        f"{COUNTING}: tells {', '.join(found) or 'no count'}, and there are: {right} (checks/looks --shrink)"
+        for found, right in told
+        if found != [right]
+    ]
 
 
 def write_counts(top):
