@@ -108,6 +108,18 @@ def crates_are_listed(top):
     ]
 
 
+def longest_chain(top):
+    """The longest list of crates of which each stands on the one before."""
+    uses, chains = crates_of(top), {}
+
+    def chain_to(crate):
+        if crate not in chains:
+            chains[crate] = [*max((chain_to(used) for used in uses[crate] if used in uses), key=len, default=[]), crate]
+        return chains[crate]
+
+    return max(map(chain_to, uses), key=len)
+
+
 def counts_of(top):
     """What the page of the architecture counts: how a count reads there, and how it reads by what there is."""
     definitions = closures.Definitions(top)
@@ -115,12 +127,14 @@ def counts_of(top):
     gate, further = (len(edits.edits_of(top, pattern)) for pattern in (edits.OF_THE_GATE, edits.FURTHER))
     plain = plain_cases.cases(top)
     faults = sum(map(len, looks_tried.FAULTS.values()))
+    chain = longest_chain(top)
     return [
         (r"it has \d+ crates and \d+ wrong bodies now", f"it has {len(crates_of(top))} crates and {gate} wrong bodies now"),
         (r"\d+ looks, \d+ faults", f"{len(looks_tried.FAULTS)} looks, {faults} faults"),
         (r"on what is built \| \d+ cases", f"on what is built | {len(plain) + len(other_cases.CASES)} cases"),
         (r"on busy cores \| \d+ cases", f"on busy cores | {sum(case.is_small for case in plain)} cases"),
         (r"\d+ wrong bodies, as many controls", f"{gate + further} wrong bodies, as many controls"),
+        (r"It is of \d+ crates, from\s`\w+` to `\w+`", f"It is of {len(chain)} crates, from\n`{chain[0]}` to `{chain[-1]}`"),
         (r"\d+ definitions of \d+ lines", f"{len(headline)} definitions of {definitions.lines_of(headline)} lines"),
     ]
 

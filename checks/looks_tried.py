@@ -122,6 +122,7 @@ FAULTS = {
         ("docs/ARCHITECTURE.md", " looks, ", " glances, "),
         ("checks/wrong/ucl_word/fault.edit", None, "file: src/rules.rt\n"),
         ("crates/ucl_claims/specs/Headline.antt", None, "  pub other : ℕ\n"),
+        ("crates.txt", "ucl_live: ", "ucl_live: ucl_follow "),
     ],
     "the README and --version tell the kit": [
         ("README.md", "rattle-kit-", "rattle-kit-0"),
