@@ -1,4 +1,4 @@
-"""The clauses that a wrong body has to break: those of each public function, and the fields of the rule of shared boards.
+"""The clauses that a wrong body has to break: those of each public function, and the fields of the rules of shared boards.
 
 A clause is named by its function and its own name, as in `Board::report reply`; of a function whose clauses have no name it is the function
 alone. A method is named by its type, also where the clauses are those of its trait. A function with an empty body is a law: no body of it is
@@ -14,7 +14,8 @@ FUNCTION = re.compile(r'^(    )?(?:(pub )|pub\(\w+\) )?(?:const )?(?:unsafe )?(?
 CLAUSE = re.compile(r"^\s*ensures\s+(?:(\w+)\s+)?\{")
 DISPLAY = "Display"
 EXPORT = "C"
-RULE = "KeepsOneHistory"
+# What every shared board keeps, and the rules of the two boards, which add the run of the machine.
+RULES = "KeepsOneHistory", "TableKeepsOneHistory", "CellKeepsOneHistory"
 FIELD = re.compile(r"^  pub (\w+) : ", re.M)
 
 
@@ -107,11 +108,16 @@ def crates_with_definitions(top):
     ]
 
 
-def fields_of_the_rule(top):
-    """The fields of the rule of shared boards."""
-    texts = [path.read_text() for path in sorted(top.glob("crates/*/specs/*.antt"))]
-    records = [re.search(rf"^pub record {RULE} .*\n((?:  .*\n)*)", text, re.M) for text in texts]
-    return [f"{RULE} {field}" for record in records if record for field in FIELD.findall(record[1])]
+def fields_of_the_rules(top):
+    """The fields of the rules of shared boards."""
+    text = "\n".join(path.read_text() for path in sorted(top.glob("crates/*/specs/*.antt")))
+    records = [(rule, re.search(rf"^pub record {rule} .*\n((?:  .*\n)*)", text, re.M)) for rule in RULES]
+    return [f"{rule} {field}" for rule, record in records if record for field in FIELD.findall(record[1])]
+
+
+def is_field(clause):
+    """The clause is a field of a rule."""
+    return clause.split(" ")[0] in RULES
 
 
 def clauses_of(top):
@@ -119,7 +125,7 @@ def clauses_of(top):
     crates = crates_with_definitions(top)
     traits = traits_of(crates)
     found = [clause for _, (names, modules), functions in crates for clause in clauses_of_crate(names, modules, functions, traits)]
-    return list(dict.fromkeys(found + fields_of_the_rule(top)))
+    return list(dict.fromkeys(found + fields_of_the_rules(top)))
 
 
 def all_clauses(top):

@@ -1,4 +1,4 @@
-"""Of which wrong bodies the gate has to be made, so that each function of which any breaks a clause, and each field of the rule of shared
+"""Of which wrong bodies the gate has to be made, so that each function of which any breaks a clause, and each field of the rules of shared
 boards, is broken in it: those that checks/lists/kept_in_the_gate names, and else as few as are found greedily."""
 
 import clauses
@@ -8,15 +8,15 @@ KEPT = "checks/lists/kept_in_the_gate"
 
 
 def breaking(top):
-    """The clauses of public functions, and fields of the rule, that each wrong body breaks, by its lines."""
+    """The clauses of public functions, and fields of the rules, that each wrong body breaks, by its lines."""
     known = set(clauses.clauses_of(top))
     both = edits.edits_of(top, edits.OF_THE_GATE) + edits.edits_of(top, edits.FURTHER)
     return {edit: known & set(edits.broken_by(edit)) for _, edit in both}
 
 
 def part_of(clause):
-    """What a clause is of: its function, or the field of the rule that it is."""
-    return clause if clause.startswith(f"{clauses.RULE} ") else clause.split(" ")[0]
+    """What a clause is of: its function, or the field of a rule that it is."""
+    return clause if clauses.is_field(clause) else clause.split(" ")[0]
 
 
 def kept(top, broken):

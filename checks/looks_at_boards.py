@@ -15,8 +15,8 @@ KINDS = {
     "ucl_pass": "Outcome LooksAt, Outcome Adds, Outcome Reads, Outcome Counts, Outcome Enlists, Split SecondPass, Split Note, Join Note",
 }
 SPEC_OF_RULE = {"ucl_words": "WordRule", "ucl_pass": "CellRule"}
-# A definition that is `KeepsOneHistory` over the board's words, or a record of it and more.
-MEANT = r"^%s\b[^=\n]* = KeepsOneHistory words_after\b|^pub record %s .*\n  pub shared : KeepsOneHistory words_after\b"
+# A record of `KeepsOneHistory` over the board's words, and of the run of the machine.
+MEANT = r"^pub record %s .*\n  pub shared : KeepsOneHistory words_after\b.*\n  pub one_run : .*→ IsRunOf(?:Log|Actors) readers shared\.enlisted\b"
 
 
 def lines_of(top, crate):
@@ -49,13 +49,15 @@ def kinds_of_step(crate):
 
 
 def holds_one_history(crate):
-    """The file of a board's rule names as what it holds the definition `KeepsOneHistory` over the board's own words, or one that has it as its part `shared`."""
+    """The file of a board's rule names as what it holds a record that has `KeepsOneHistory` over the board's own words as its part `shared`, and as
+    its part `one_run` that what is shared is of one run of the machine."""
 
     def look(top):
         names = HOLDS.findall((top / "crates" / crate / "src/rule.rt").read_text())
         spec = (top / "crates" / crate / f"specs/{SPEC_OF_RULE[crate]}.antt").read_text()
-        meant = [name for name in names if re.search(MEANT % (name, name), spec, re.M)]
-        return [] if len(names) == 1 and meant == names else [f"rule.rt holds {', '.join(names) or 'nothing'}, and not KeepsOneHistory"]
+        meant = [name for name in names if re.search(MEANT % name, spec, re.M)]
+        told = f"rule.rt holds {', '.join(names) or 'nothing'}, and not KeepsOneHistory with a run of the machine"
+        return [] if len(names) == 1 and meant == names else [told]
 
     return look
 

@@ -56,13 +56,13 @@ def broken_by_all(top, patterns):
 
 
 def unbroken(top):
-    """The clauses of public functions, and the fields of the rule, that no wrong body of either tier breaks."""
+    """The clauses of public functions, and the fields of the rules, that no wrong body of either tier breaks."""
     broken = broken_by_all(top, (edits.OF_THE_GATE, edits.FURTHER))
     return {clause: "no wrong body breaks it" for clause in clauses.clauses_of(top) if clause not in broken}
 
 
 def each_clause_is_broken(top):
-    """Each wrong body of the gate tells what it breaks, and each clause of a public function, and each field of the rule, has one of either
+    """Each wrong body of the gate tells what it breaks, and each clause of a public function, and each field of the rules, has one of either
     tier that breaks it; one may also tell what it breaks of a function that is not public."""
     known = clauses.all_clauses(top)
     told = [(edit.relative_to(top), edits.broken_by(edit)) for _, edit in edits.edits_of(top, edits.OF_THE_GATE)]
@@ -74,7 +74,7 @@ def each_clause_is_broken(top):
 
 
 def each_function_is_broken_in_the_gate(top):
-    """Each public function of which any wrong body breaks a clause, and each such field of the rule, has one in the gate."""
+    """Each public function of which any wrong body breaks a clause, and each such field of the rules, has one in the gate."""
     known = set(clauses.clauses_of(top))
     gate, either = (
         {covers.part_of(clause) for clause in broken_by_all(top, patterns) & known}

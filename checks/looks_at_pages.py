@@ -6,6 +6,11 @@ import shutil
 import subprocess
 import sys
 
+import closures
+import edits
+import looks_tried
+import other_cases
+import plain_cases
 from looks_at_crates import crates_of
 
 BLOCK = re.compile(r"^```.*?^```$", re.M | re.S)
@@ -23,6 +28,7 @@ SOURCES = [
     "crates/*/*.h",
     "examples/python/*.py",
 ]
+COUNTING = "docs/ARCHITECTURE.md"
 
 
 def pages(top):
@@ -102,6 +108,57 @@ def crates_are_listed(top):
     ]
 
 
+def longest_chain(top):
+    """The longest list of crates of which each stands on the one before."""
+    uses, chains = crates_of(top), {}
+
+    def chain_to(crate):
+        if crate not in chains:
+            chains[crate] = [*max((chain_to(used) for used in uses[crate] if used in uses), key=len, default=[]), crate]
+        return chains[crate]
+
+    return max(map(chain_to, uses), key=len)
+
+
+def counts_of(top):
+    """What the page of the architecture counts: how a count reads there, and how it reads by what there is."""
+    definitions = closures.Definitions(top)
+    headline = definitions.below(["BoardsHaveOneHistory"])
+    gate, further = (len(edits.edits_of(top, pattern)) for pattern in (edits.OF_THE_GATE, edits.FURTHER))
+    plain = plain_cases.cases(top)
+    faults = sum(map(len, looks_tried.FAULTS.values()))
+    chain = longest_chain(top)
+    return [
+        (r"it has \d+ crates and \d+ wrong bodies now", f"it has {len(crates_of(top))} crates and {gate} wrong bodies now"),
+        (r"\d+ looks, \d+ faults", f"{len(looks_tried.FAULTS)} looks, {faults} faults"),
+        (r"on what is built \| \d+ cases", f"on what is built | {len(plain) + len(other_cases.CASES)} cases"),
+        (r"on busy cores \| \d+ cases", f"on busy cores | {sum(case.is_small for case in plain)} cases"),
+        (r"\d+ wrong bodies, as many controls", f"{gate + further} wrong bodies, as many controls"),
+        (r"It is of \d+ crates, from\s`\w+` to `\w+`", f"It is of {len(chain)} crates, from\n`{chain[0]}` to `{chain[-1]}`"),
+        (r"\d+ definitions of \d+ lines", f"{len(headline)} definitions of {definitions.lines_of(headline)} lines"),
+    ]
+
+
+def counts_are_right(top):
+    """The page of the architecture counts what there is."""
+    text = (top / COUNTING).read_text()
+    told = [(re.findall(pattern, text), right) for pattern, right in counts_of(top)]
+    return [
+        f"{COUNTING}: tells {', '.join(found) or 'no count'}, and there are: {right} (checks/looks --shrink)"
+        for found, right in told
+        if found != [right]
+    ]
+
+
+def write_counts(top):
+    """Writes into the page of the architecture what there is."""
+    path = top / COUNTING
+    text = path.read_text()
+    for pattern, right in counts_of(top):
+        text = re.sub(pattern, right, text)
+    path.write_text(text)
+
+
 @functools.lru_cache(maxsize=None)
 def kit():
     """The line of the kit that is installed."""
@@ -140,6 +197,7 @@ LOOKS = [
     ("each name in backticks is there", names_exist),
     ("the table of definitions is that of the files", definitions_are_listed),
     ("the table of crates is that of crates.txt", crates_are_listed),
+    ("docs/ARCHITECTURE.md counts what there is", counts_are_right),
     ("the README and --version tell the kit", kit_is_told),
     ("the examples at the calls and the program of the README are tested", examples_are_tests),
     ("each block of docs/READING.md stands in its file", reading_quotes),

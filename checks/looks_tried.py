@@ -30,10 +30,12 @@ FAULTS = {
     "the rule of the word board is that of one history": [
         ("crates/ucl_words/src/rule.rt", "ghost holds = { λ _. TableKeepsOneHistory };", "ghost holds = { λ _ _. Unit };"),
         ("crates/ucl_words/specs/WordRule.antt", "shared : KeepsOneHistory words_after", "shared : KeepsOther words_after"),
+        ("crates/ucl_words/specs/WordRule.antt", "→ IsRunOfLog readers", "→ IsSomeLog readers"),
     ],
     "the rule of the cell board is that of one history": [
         ("crates/ucl_pass/src/rule.rt", "ghost holds = { CellKeepsOneHistory };", "ghost holds = { HoldsNothing };"),
         ("crates/ucl_pass/specs/CellRule.antt", "shared : KeepsOneHistory words_after", "shared : KeepsOther words_after"),
+        ("crates/ucl_pass/specs/CellRule.antt", "pub one_run : ", "pub many_runs : "),
     ],
     "a night of the program is on the word board": [
         ("crates/ucl_command/src/program.rt", "WordBoard::open", "OtherBoard::open"),
@@ -54,6 +56,7 @@ FAULTS = {
         ("crates/ucl_word/src/word.rt", "pub fn pack(", "pub fn pack_anew("),
         ("crates/ucl_board/src/board.rt", "ensures unchanged {", "ensures unmoved {"),
         ("checks/lists/clauses_without_a_wrong_body", None, "Board::of_packed: not so\n"),
+        ("crates/ucl_words/specs/WordRule.antt", "  pub one_run : ", "  pub other : ℕ\n  pub one_run : "),
     ],
     "each function has a wrong body in the gate": [
         ("crates/ucl_word/must-fail/match_12_taken_for_11.edit", "", None),
@@ -71,6 +74,14 @@ FAULTS = {
         ("crates/ucl_words/src/board.rt", None, "    ensures wide { " + "wide × " * 20 + "}\n"),
         ("crates/ucl_bench_tally/src/lib.rt", None, "    ensures wide { " + "wide × " * 20 + "}\n"),
         ("checks/lists/wide_lines", None, "crates/ucl_bench_tally/src/lib.rt: 1\n"),
+    ],
+    "lines of proofs have at most 200 columns": [
+        ("crates/ucl_words/proofs/Moves.antt", None, "-- " + "wide " * 40 + "\n"),
+        ("checks/lists/wide_lines_of_proofs", None, "ucl_night: 1\n"),
+    ],
+    "lemmas have at most 60 lines": [
+        ("crates/ucl_words/proofs/Moves.antt", None, "\npub long : ⊤\nlong =\n" + "    tt\n" * 59),
+        ("checks/lists/long_lemmas", None, "ucl_words/Moves long: not so\n"),
     ],
     "each name in backticks is there": [
         ("docs/PROMISES.md", "`whole_is_alone`", "`whole_is_lonely`"),
@@ -106,6 +117,12 @@ FAULTS = {
     "the table of crates is that of crates.txt": [
         ("docs/ARCHITECTURE.md", "| `ucl_example` | ", "| `ucl_instance` | "),
         ("crates.txt", None, "ucl_fault: ucl_word\n"),
+    ],
+    "docs/ARCHITECTURE.md counts what there is": [
+        ("docs/ARCHITECTURE.md", " looks, ", " glances, "),
+        ("checks/wrong/ucl_word/fault.edit", None, "file: src/rules.rt\n"),
+        ("crates/ucl_claims/specs/Headline.antt", None, "  pub other : ℕ\n"),
+        ("crates.txt", "ucl_live: ", "ucl_live: ucl_follow "),
     ],
     "the README and --version tell the kit": [
         ("README.md", "rattle-kit-", "rattle-kit-0"),

@@ -19,9 +19,9 @@ class Verdict(typing.NamedTuple):
 
     def told(self, said):
         """What the lines of a wrong body have to tell, where they tell this now: a clause in doubt where they do, or where no other is known; and
-        the fields of the rule of shared boards that they tell, which are in no goal's name."""
+        the fields of the rules of shared boards that they tell, which are in no goal's name."""
         doubtful = [clause for clause in self.in_doubt if clause in said or not self.broken]
-        fields = [clause for clause in said if clause.split()[0] == clauses.RULE]
+        fields = [clause for clause in said if clauses.is_field(clause)]
         return self.broken + doubtful + fields if self.broken + doubtful else []
 
 

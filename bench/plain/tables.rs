@@ -88,20 +88,11 @@ pub fn measure_screens(boards: &[Words], millis: u64) -> Rounds {
 /// The rows of each board, a line each: place, mark (`.` for none), slot, played, wins, draws, losses, goals for and against, points.
 pub fn print_standings(boards: &[Words]) {
     for row in boards.iter().flat_map(|words| standings(words, &CLUBS)) {
-        let Row {
-            place,
-            mark,
-            slot,
-            played,
-            wins,
-            draws,
-            losses,
-            goals_for,
-            goals_against,
-            points,
-        } = row;
-        let sign = if mark.sign() == ' ' { '.' } else { mark.sign() };
-        println!("{place} {sign} {slot} {played} {wins} {draws} {losses} {goals_for} {goals_against} {points}");
+        let sign = if row.mark.sign() == ' ' { '.' } else { row.mark.sign() };
+        println!(
+            "{} {sign} {} {} {} {} {} {} {} {}",
+            row.place, row.slot, row.played, row.wins, row.draws, row.losses, row.goals_for, row.goals_against, row.points
+        );
     }
 }
 
