@@ -3,9 +3,9 @@
  * Every call but uclboard_version answers a status: 0 (UCLBOARD_DONE) where it was done, and else why not. At any other status whatever a call
  * writes to is as it was, but for what the call says that it tells then.
  *
- * What a caller owes: a pointer points to as many elements as are passed beside it, one where no number stands beside it; it is not null, not
- * even where that number is 0; and what a call writes to overlaps nothing else that it is given. Any other input has its status. All memory is
- * the caller's, and no call keeps a pointer to it; but for the boards behind handles, which are the library's (below).
+ * What a caller owes: a pointer points to as many elements as are passed beside it, one where no number stands beside it, and is aligned as their
+ * type is; it is not null, not even where that number is 0; and what a call writes to overlaps nothing else that it is given. Any other input has
+ * its status. All memory is the caller's, and no call keeps a pointer to it; but for the boards behind handles, which are the library's (below).
  *
  * Any thread may make any call at any time: no call knows of another, but those on handles, of which each handle is in one call at a time. No
  * call may be made in a signal handler, or in the forked child of a process with threads. Stacks need a few kilobytes. The calls for screens and
