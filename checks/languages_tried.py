@@ -163,8 +163,8 @@ def packaged(top, work):
 
 
 def on_small_stacks(top, work):
-    """Each call in a thread whose stack is as small as the system allows."""
-    title = "each call in a thread with the smallest stack that there is"
+    """Each call in a thread whose stack is as small as the header allows."""
+    title = "each call in a thread with no more stack than the header says"
     folder = top / "library"
     command = ["cc", "-std=gnu11", "-O2", "-Wall", "-Wextra", "-Werror", "-pthread", "-I", str(folder), str(top / "checks/library_stack.c")]
     verdict = compiled("C", [*command, str(folder / "libuclboard.a"), "-o", f"{work}/stack"])

@@ -206,13 +206,16 @@ def compiles(top, command):
 
 
 def version_differs(top):
-    """Whether the number of the header is that of the definition and of the file for pkg-config."""
+    """Whether the number of the header is that of the definition and of the file for pkg-config, and its first part that of the soname."""
     code = (top / "crates/ucl_c/src/text.rt").read_text()
     number = int(re.search(r"fn uclboard_version\(\) -> u32\n    ensures \{ result ≡ (\d+) \}", code).group(1))
     version = re.search(r"^Version: (\d+)\.(\d+)\.(\d+)$", (top / "library/uclboard.pc").read_text(), re.M)
     parts = sum(int(part) * weight for part, weight in zip(version.groups(), (1_000_000, 1000, 1)))
     found = told_by_c(top, ["UCLBOARD_VERSION_NUMBER"])["UCLBOARD_VERSION_NUMBER"]
-    return [] if number == parts == found else [f"the header has {found}, the code {number}, pkg-config {parts}"]
+    told = subprocess.run(["readelf", "-d", str(top / "library/libuclboard.so")], stdout=subprocess.PIPE, universal_newlines=True, check=True).stdout
+    soname = re.search(r"\(SONAME\).*\[libuclboard\.so\.(\d+)\]", told)
+    differs = [] if number == parts == found else [f"the header has {found}, the code {number}, pkg-config {parts}"]
+    return differs if soname and int(soname[1]) == number // 1_000_000 else [*differs, f"the soname is {soname and soname[0]}"]
 
 
 def cases(top):
@@ -227,7 +230,7 @@ def cases(top):
         ("each name of the header has its prefix", lambda: names_without_prefix(top)),
         ("a compiler warns where a status is thrown away", lambda: unwarned(top)),
         ("header, code, archive and shared library have the same calls", lambda: names_differ(top)),
-        ("header, code and pkg-config have one version", lambda: version_differs(top)),
+        ("header, code, soname and pkg-config have one version", lambda: version_differs(top)),
     ]
     for name, look in tried:
         try:

@@ -1,5 +1,5 @@
-/* Each call of the library in a thread whose stack is as small as the system allows, 16 KiB with what a thread itself takes of it. Ends with 0
-   where each call was done. */
+/* Each call of the library in a thread whose stack is as small as the header allows: uclboard_script in one of 64 KiB and what a thread takes, the others in the smallest
+   that the system has, 16 KiB with what a thread itself takes of it. Ends with 0 where each call was done. */
 #include "uclboard.h"
 #include <limits.h>
 #include <pthread.h>
@@ -23,9 +23,13 @@ static void need(uclboard_status status, const char *what) {
     if (status != UCLBOARD_DONE && failed == NULL) failed = what;
 }
 
+static void *call_script(void *unused) {
+    need(uclboard_script(script, sizeof script - 1, clubs, UCLBOARD_CLUBS, words, UCLBOARD_WORDS, replies, 2, &length, &at), "script");
+    return unused;
+}
+
 static void *call_pure(void *unused) {
     static const uint32_t coefficients[UCLBOARD_CLUBS] = {60000, 95000, 60000, 81500};
-    need(uclboard_script(script, sizeof script - 1, clubs, UCLBOARD_CLUBS, words, UCLBOARD_WORDS, replies, 2, &length, &at), "script");
     need(uclboard_next_word(words[6], 1, 2, UCLBOARD_SECOND_YELLOW_HOME, &word, &at) == UCLBOARD_NO_CAUTION ? UCLBOARD_DONE : 1, "next_word");
     need(uclboard_next_word(words[6], 1, 2, UCLBOARD_RED_AWAY, &word, &at), "next_word");
     need(uclboard_read_word(words[6], &word), "read_word");
@@ -52,12 +56,14 @@ static void *call_handles(void *unused) {
 }
 
 int main(void) {
-    void *(*const work[])(void *) = {call_pure, call_handles};
+    void *(*const work[])(void *) = {call_script, call_pure, call_handles};
     pthread_attr_t attributes;
     pthread_t thread;
-    if (pthread_attr_init(&attributes) || pthread_attr_setstacksize(&attributes, PTHREAD_STACK_MIN)) return 2;
-    for (size_t i = 0; i < sizeof work / sizeof *work; i++)
-        if (pthread_create(&thread, &attributes, work[i], NULL) || pthread_join(thread, NULL)) return 3;
+    if (pthread_attr_init(&attributes)) return 2;
+    for (size_t i = 0; i < sizeof work / sizeof *work; i++) {
+        const size_t room = i == 0 ? 65536 + PTHREAD_STACK_MIN : PTHREAD_STACK_MIN;
+        if (pthread_attr_setstacksize(&attributes, room) || pthread_create(&thread, &attributes, work[i], NULL) || pthread_join(thread, NULL)) return 3;
+    }
     if (failed != NULL) printf("%s is not done\n", failed);
     return failed != NULL;
 }

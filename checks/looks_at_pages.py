@@ -22,6 +22,7 @@ SOURCES = [
     "examples/*.expected",
     "crates/*/*.h",
     "examples/python/*.py",
+    "examples/rust/*.rs",
 ]
 
 
