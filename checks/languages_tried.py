@@ -7,6 +7,8 @@ import shutil
 import subprocess
 import tempfile
 
+from library_calls import module_of
+
 NEEDED = {"C", "Python"}
 SANITIZED = ["-fsanitize=address,undefined", "-fno-sanitize-recover"]
 
@@ -36,32 +38,35 @@ def languages(top, work):
     c = ["cc", "-std=c11", "-O2", "-Wall", "-Wextra", "-pedantic", "-Werror", "-pthread", str(examples / "c/night.c"), "-I", str(folder)]
     shared = [str(examples / "c/shared.c") if word == str(examples / "c/night.c") else word for word in c]
     cpp = ["c++", "-std=c++17", "-O2", "-Wall", "-Wextra", "-pedantic", "-Werror", str(examples / "cpp/night.cpp"), "-I", str(folder)]
-    rust = ["rustc", "--edition", "2021", "-D", "warnings", "-L", str(folder), "-o", f"{work}/rust", str(examples / "rust/night.rs")]
+    rustc = ["rustc", "--edition", "2021", "-O", "-D", "warnings", "-L", str(folder), "--out-dir", str(work)]
+    crate = [*rustc, "--crate-type", "rlib", "--crate-name", "uclboard", str(examples / "rust/uclboard.rs")]
+    rust = [*rustc, "--crate-name", "in_rust", "--extern", f"uclboard={work}/libuclboard.rlib", str(examples / "rust/night.rs")]
+    cargo = ["cargo", "build", "--quiet", "--offline", "--manifest-path", str(examples / "rust/Cargo.toml"), "--target-dir", f"{work}/cargo"]
     archive = str(folder / "libuclboard.a")
     return [
-        ("C", [*c, archive, "-o", f"{work}/c"], [f"{work}/c"], {}),
-        ("C, with the address sanitizer", [*c, *SANITIZED, archive, "-o", f"{work}/sanitized"], [f"{work}/sanitized"], {}),
-        ("C, with the shared library", [*c, "-L", str(folder), "-luclboard", "-o", f"{work}/shared"], [f"{work}/shared"], {"LD_LIBRARY_PATH": str(folder)}),
-        ("C, by handles", [*shared, archive, "-o", f"{work}/by_handles"], [f"{work}/by_handles"], {}),
-        ("C, by handles, with the address sanitizer", [*shared, *SANITIZED, archive, "-o", f"{work}/handles_sanitized"], [f"{work}/handles_sanitized"], {}),
-        ("C++", [*cpp, archive, "-o", f"{work}/cpp"], [f"{work}/cpp"], {}),
-        ("Python", None, ["python3", str(examples / "python/night.py")], {"UCLBOARD_LIBRARY": str(folder / "libuclboard.so"), "PYTHONDONTWRITEBYTECODE": "1"}),
-        ("Rust", rust, [f"{work}/rust"], {}),
+        ("C", [[*c, archive, "-o", f"{work}/c"]], [f"{work}/c"], {}),
+        ("C, with the address sanitizer", [[*c, *SANITIZED, archive, "-o", f"{work}/sanitized"]], [f"{work}/sanitized"], {}),
+        ("C, with the shared library", [[*c, "-L", str(folder), "-luclboard", "-o", f"{work}/shared"]], [f"{work}/shared"], {"LD_LIBRARY_PATH": str(folder)}),
+        ("C, by handles", [[*shared, archive, "-o", f"{work}/by_handles"]], [f"{work}/by_handles"], {}),
+        ("C, by handles, with the address sanitizer", [[*shared, *SANITIZED, archive, "-o", f"{work}/handles_sanitized"]], [f"{work}/handles_sanitized"], {}),
+        ("C++", [[*cpp, archive, "-o", f"{work}/cpp"]], [f"{work}/cpp"], {}),
+        ("Python", [], ["python3", str(examples / "python/night.py")], {"UCLBOARD_LIBRARY": str(folder / "libuclboard.so"), "PYTHONDONTWRITEBYTECODE": "1"}),
+        ("Rust", [crate, rust], [f"{work}/in_rust"], {}),
+        ("Rust, by cargo", [cargo], [f"{work}/cargo/debug/night"], {}),
     ]
 
 
-def compiled(name, command):
+def compiled(name, *commands):
     """The verdict on a compilation: None where it went well."""
-    if command is None:
-        return None
-    if shutil.which(command[0]) is None:
-        return f"FAILED: no {command[0]}" if name in NEEDED else f"not run: no {command[0]}"
-    ran = subprocess.run(command, stdout=subprocess.PIPE, stderr=subprocess.STDOUT, universal_newlines=True, timeout=300)
-    if ran.returncode == 0:
-        return None
-    if "-fsanitize" in " ".join(command) and "asan" in ran.stdout:
-        return "not run: the compiler has no address sanitizer"
-    return f"FAILED: {ran.stdout.strip()[:400]}"
+    for command in commands:
+        if shutil.which(command[0]) is None:
+            return f"FAILED: no {command[0]}" if name in NEEDED else f"not run: no {command[0]}"
+        ran = subprocess.run(command, stdout=subprocess.PIPE, stderr=subprocess.STDOUT, universal_newlines=True, timeout=300)
+        if ran.returncode != 0 and "-fsanitize" in " ".join(command) and "asan" in ran.stdout:
+            return "not run: the compiler has no address sanitizer"
+        if ran.returncode != 0:
+            return f"FAILED: {ran.stdout.strip()[:400]}"
+    return None
 
 
 def played(top, command, variables):
@@ -79,21 +84,25 @@ def played(top, command, variables):
 def cases(top):
     """A verdict and a name for each language."""
     with tempfile.TemporaryDirectory() as work:
-        for name, command, run, variables in languages(top, pathlib.Path(work)):
+        for name, commands, run, variables in languages(top, pathlib.Path(work)):
             title = f"the example in {name}: the closing screens of {len(scripts(top))} scripts"
-            verdict = compiled(name, command)
+            verdict = compiled(name, *commands)
             found = [] if verdict else played(top, run, variables)
             yield verdict or (f"FAILED: {'; '.join(found)}" if found else "ok"), title
-        yield from fed(top, work)
+        yield from fed(top, work, "", [])
+        yield from fed(top, work, ", with the address sanitizer", SANITIZED)
+        yield from typed(top, pathlib.Path(work))
+        yield from packaged(top, work)
         yield from refused_memory(top, work)
+        yield from on_small_stacks(top, work)
         yield from raced(top, work)
 
 
-def fed(top, work):
+def fed(top, work, how, options):
     """The example that feeds a whole script: its replies and words are those that stand beside the script, and faults are told as there."""
-    title = "the example in C that feeds scripts, against what `ucl_night feed` writes"
+    title = f"the example in C that feeds scripts{how}, against what `ucl_night feed` writes"
     folder = top / "library"
-    command = ["cc", "-std=c11", "-O2", "-Wall", "-Wextra", "-pedantic", "-Werror", str(top / "examples/c/feed.c"), "-I", str(folder)]
+    command = ["cc", "-std=c11", "-O2", "-Wall", "-Wextra", "-pedantic", "-Werror", *options, str(top / "examples/c/feed.c"), "-I", str(folder)]
     verdict = compiled("C", [*command, str(folder / "libuclboard.a"), "-o", f"{work}/feed"])
     if verdict is None:
         found = []
@@ -107,6 +116,61 @@ def fed(top, work):
             if [ran.returncode, ran.stdout, ran.stderr] != wanted:
                 found.append(f"{given[:60]}: status {ran.returncode} {ran.stderr.decode(errors='replace')[:200]}")
         verdict = f"FAILED: {'; '.join(found)}" if found else "ok"
+    yield verdict, title
+
+
+def typed(top, work):
+    """The programs of the README in C and Python, compiled and run as it says: both print the screen of a board with one kick-off."""
+    title = "the programs of the README in C and Python, typed as they stand there"
+    page = (top / "README.md").read_text()
+    blocks = {name: re.search(rf"^```{name}\n(.*?)^```$", page, re.M | re.S) for name in ("c", "python")}
+    line = re.search(r"^    (cc board\.c .*) && \./board$", page, re.M)
+    if line is None or None in blocks.values():
+        yield "FAILED: the README has no such programs", title
+        return
+    (work / "board.c").write_text(blocks["c"][1])
+    (work / "board.py").write_text(blocks["python"][1])
+    (work / "library").symlink_to(top / "library")
+    shutil.copy(top / "examples/python/uclboard.py", work)
+    shutil.copy(top / "library/libuclboard.so", work)
+    verdict = None
+    for command in [*line[1].split(), "-Wall", "-Wextra", "-Werror"], ["./board"], ["python3", "-B", "board.py"]:
+        ran = subprocess.run(command, cwd=work, stdout=subprocess.PIPE, stderr=subprocess.STDOUT, universal_newlines=True, timeout=60)
+        wanted = "" if command[0] == "cc" else kicked_off(top)
+        verdict = verdict or (None if ran.returncode == 0 and ran.stdout == wanted else f"FAILED: {command[0]}: {ran.stdout.strip()[:400]}")
+    yield verdict or "ok", title
+
+
+def kicked_off(top):
+    """The screen of a board with one kick-off, in match 1, by the rules in plain Python that the soak has."""
+    rules = module_of("soak", top / "checks/soak")
+    matches = [rules.Match() for _ in range(12)]
+    matches[0].enter(1, "kickoff")
+    return rules.screen(matches, [("Alpha", 60000), ("Bravo", 95000), ("Charlie", 60000), ("Delta", 81500)], "A", False)
+
+
+def packaged(top, work):
+    """An example with what pkg-config says of the library."""
+    title = "the example in C, with what pkg-config says"
+    variables = {**os.environ, "PKG_CONFIG_PATH": str(top / "library")}
+    if shutil.which("pkg-config") is None:
+        yield "not run: no pkg-config", title
+        return
+    told = subprocess.run(["pkg-config", "--cflags", "--libs", "uclboard"], env=variables, stdout=subprocess.PIPE, universal_newlines=True)
+    verdict = compiled("C", ["cc", "-std=c11", "-pthread", str(top / "examples/c/shared.c"), *told.stdout.split(), "-o", f"{work}/packaged"])
+    found = [] if verdict else played(top, [f"{work}/packaged"], {"LD_LIBRARY_PATH": str(top / "library")})
+    yield verdict or (f"FAILED: {'; '.join(found)}" if found else "ok"), title
+
+
+def on_small_stacks(top, work):
+    """Each call in a thread whose stack is as small as the header allows."""
+    title = "each call in a thread with no more stack than the header says"
+    folder = top / "library"
+    command = ["cc", "-std=gnu11", "-O2", "-Wall", "-Wextra", "-Werror", "-pthread", "-I", str(folder), str(top / "checks/library_stack.c")]
+    verdict = compiled("C", [*command, str(folder / "libuclboard.a"), "-o", f"{work}/stack"])
+    if verdict is None:
+        ran = subprocess.run([f"{work}/stack"], stdout=subprocess.PIPE, stderr=subprocess.STDOUT, universal_newlines=True, timeout=60)
+        verdict = "ok" if ran.returncode == 0 else f"FAILED: status {ran.returncode} {ran.stdout.strip()[:400]}"
     yield verdict, title
 
 

@@ -282,6 +282,39 @@ class Trial:
         self.same("a bad word", told, (10, True, 10, 77))
 
 
+def by_handles(top, count, seed):
+    """What differs of so many events by three reporters' handles of one board, of events by other handles, and of readings, from the rules."""
+    os.environ["UCLBOARD_LIBRARY"] = str(top / "library/libuclboard.so")
+    board, rules = module_of("uclboard", top / "examples/python/uclboard.py"), module_of("soak", top / "checks/soak")
+    chance, c, found = random.Random(seed), board.c, []
+    for i in range(count):
+        if i % 5000 == 0:
+            first = board.Pass.open()
+            passes = [first, *(first.enlist() for _ in range(3)), board.Pass.open()]
+            passes[4].drop()
+            matches = [rules.Match() for _ in range(12)]
+        who, game = chance.choice([0, 1, 1, 1, 2, 2, 2, 3, 3, 4]), chance.choice([*range(1, 13)] * 3 + [0, 13, 257, 2**32 - 1])
+        m = matches[game - 1] if 1 <= game <= 12 else None
+        likely = {0: [0], 1: list(range(1, 12)), 2: [12]}[m.state if m else 0]
+        kind = chance.choice(likely) if chance.random() < 0.8 else chance.choice(list(range(13)) + WRONG)
+        expected = m.number if m and chance.random() < 0.9 else chance.choice(WRONG)
+        told = c.c_uint32(77)
+        status = board.pass_report(passes[who].handle, game, expected, kind, told)
+        fault = 51 if kind > 12 else 62 if m is None else 60 if who == 4 else 63 if who == 0 else None
+        refusal = None if fault else m.refusal(expected, WORD_OF_KIND[kind])
+        code = fault or int(refusal.split()[0] if refusal else 0)
+        if code == 0:
+            m.enter(who, WORD_OF_KIND[kind])
+        if (status, told.value) != (code, m.number if code in (0, 1) and m else 77):
+            found.append(f"report {who} {game} {expected} {kind}: {status}, {told.value}, and by the rules {code}")
+        if i % 10 == 0:
+            words, version = (c.c_uint64 * 12)(*[78] * 12), c.c_uint32(79)
+            status = board.pass_read(passes[chance.randrange(4)].handle, words, 12, version)
+            if (status, version.value, [f"{word:016x}" for word in words]) != (0, sum(m.number for m in matches), [m.word() for m in matches]):
+                found.append(f"reading {i}: {status}, {version.value}")
+    return found
+
+
 def differ(top, count, seed):
     """What differs over so many events, over a sheet after each tenth, and over a script after each fiftieth."""
     os.environ["UCLBOARD_LIBRARY"] = str(top / "library/libuclboard.so")
@@ -312,6 +345,7 @@ def cases(top, count, seed):
     """A verdict and a name for each."""
     for name, look in (
         (f"{count} random events by Python, {count // 10} sheets and {count // 50} scripts, of seed {seed}", lambda: differ(top, count, seed)),
+        (f"{count} random events by Python on a board behind handles, of seed {seed}", lambda: by_handles(top, count, seed)),
         ("the names of statuses", lambda: names_differ(top)),
     ):
         try:

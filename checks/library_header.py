@@ -90,6 +90,67 @@ def numbers_differ(top):
     ]
 
 
+def rooms_differ(top):
+    """The sizes and rooms of the header that are not those of the code and its clauses."""
+    src = top / "crates/ucl_c/src"
+    bound = re.search(r"ensures room \{ (\d+) ≤ length out\.old → result ≢ 56 \}", (src / "screen.rt").read_text())
+    name = re.search(r"pub name: \[u8; (\d+)\],", (src / "group.rt").read_text())
+    names = re.findall(r"\(\d+, codes \"(.*?)\"\)", (top / "crates/ucl_c/specs/Codes.antt").read_text())
+    limits = {
+        "UCLBOARD_WORDS": (12, 12),
+        "UCLBOARD_CLUBS": (4, 4),
+        "UCLBOARD_NAME": (int(name[1]), int(name[1])),
+        "UCLBOARD_SCREEN_ROOM": (int(bound[1]), 400),
+        "UCLBOARD_NAME_ROOM": (1 + max(map(len, names)), 40),
+    }
+    found = told_by_c(top, list(limits))
+    return [f"{what} is {found[what]}, and has to be from {low} to {high}" for what, (low, high) in limits.items() if not low <= found[what] <= high]
+
+
+def others_differ(top):
+    """The numbers of the modules in Python and Rust that are not those of the header."""
+    python, rust = ((top / "examples" / path).read_text() for path in ("python/uclboard.py", "rust/uclboard.rs"))
+    names = re.search(r"^(SCHEDULED_WORD = .*)\n^WORDS, CLUBS, NAME, SCREEN_ROOM, NAME_ROOM, JSON_ROOM = (\d+), (\d+), (\d+), (\d+), (\d+)", python, re.M)
+    told = {"UCLBOARD_" + name: number for name, number in zip("WORDS CLUBS NAME SCREEN_ROOM NAME_ROOM".split(), map(int, names.groups()[1:]))}
+    told["UCLBOARD_SCHEDULED_WORD"] = int(names[1].split(" = ")[1], 16)
+    told["UCLBOARD_VERSION_NUMBER"] = int(re.search(r"^VERSION_NUMBER = (\d+)$", python, re.M)[1])
+    wanted = [(name, told[name], "Python") for name in told]
+    for name, number in re.findall(r"^(?:pub )?const ([A-Z_]+): \w+ = ([0-9x_]+);$", rust, re.M):
+        wanted.append(("UCLBOARD_" + name, int(number, 0), "Rust"))
+    kinds = re.search(r"pub enum Kind \{\n(.*?)\}", rust, re.S)[1]
+    wanted += [("UCLBOARD_" + shouted(name.strip()), number, "Rust") for number, name in enumerate(kinds.split(",")) if name.strip()]
+    found = told_by_c(top, sorted({name for name, _, _ in wanted}))
+    return [f"{name} is {found[name]}, and in {where} {number}" for name, number, where in wanted if found[name] != number] + (
+        [] if len([name for _, _, name in wanted if name == "Rust"]) == 21 else ["numbers of the crate in Rust were not found"]
+    )
+
+
+def names_without_prefix(top):
+    """The names that the header declares and that do not begin as its names do."""
+    text = re.sub(r"/\*.*?\*/", "", (top / HEADER).read_text(), flags=re.S)
+    declared = re.findall(r"^#define (\w+)", text, re.M) + re.findall(r"^\s*([A-Z_0-9]+) = ", text, re.M)
+    declared += re.findall(r"^typedef [^;{]*?(\w+);", text, re.M) + re.findall(r"\bstruct (\w+)", text)
+    declared += re.findall(r"^\} (\w+);", text, re.M) + re.findall(r"\b(\w+)\(", text)
+    own = {"uint32_t", "UINT64_C", "__attribute__", "defined"}
+    return [f"{name} has not the prefix" for name in sorted(set(declared) - own) if not name.lower().startswith("uclboard_")]
+
+
+def unwarned(top):
+    """The calls whose status a compiler lets a program throw away without a warning."""
+    calls = [name for name in calls_of_header(top) if name not in ("uclboard_version", "uclboard_pass_drop")]
+    lines = "".join(f"    {name}({', '.join('0' for _ in range(arguments_of(top, name)))});\n" for name in calls)
+    program = f'#include "uclboard.h"\nvoid thrown_away(void);\nvoid thrown_away(void) {{\n{lines}}}\n'
+    command = ["cc", "-std=c99", "-Wunused-result", "-S", "-o", "/dev/null", "-x", "c", "-", "-I", str((top / HEADER).parent)]
+    ran = subprocess.run(command, input=program, stdout=subprocess.PIPE, stderr=subprocess.STDOUT, universal_newlines=True)
+    return [f"{name} may be thrown away" for name in calls if not re.search(rf"ignoring return value of .{name}\W", ran.stdout)]
+
+
+def arguments_of(top, name):
+    """How many arguments a call takes."""
+    text = re.search(rf"\b{name}\(([^)]*)\);", (top / HEADER).read_text())[1]
+    return 0 if text.strip() == "void" else text.count(",") + 1
+
+
 def structs_differ(top):
     """The sizes and offsets that C has otherwise than the code."""
     wanted = laid_out(top)
@@ -145,13 +206,16 @@ def compiles(top, command):
 
 
 def version_differs(top):
-    """Whether the number of the header is that of the definition and of the file for pkg-config."""
+    """Whether the number of the header is that of the definition and of the file for pkg-config, and its first part that of the soname."""
     code = (top / "crates/ucl_c/src/text.rt").read_text()
     number = int(re.search(r"fn uclboard_version\(\) -> u32\n    ensures \{ result ≡ (\d+) \}", code).group(1))
     version = re.search(r"^Version: (\d+)\.(\d+)\.(\d+)$", (top / "library/uclboard.pc").read_text(), re.M)
     parts = sum(int(part) * weight for part, weight in zip(version.groups(), (1_000_000, 1000, 1)))
     found = told_by_c(top, ["UCLBOARD_VERSION_NUMBER"])["UCLBOARD_VERSION_NUMBER"]
-    return [] if number == parts == found else [f"the header has {found}, the code {number}, pkg-config {parts}"]
+    told = subprocess.run(["readelf", "-d", str(top / "library/libuclboard.so")], stdout=subprocess.PIPE, universal_newlines=True, check=True).stdout
+    soname = re.search(r"\(SONAME\).*\[libuclboard\.so\.(\d+)\]", told)
+    differs = [] if number == parts == found else [f"the header has {found}, the code {number}, pkg-config {parts}"]
+    return differs if soname and int(soname[1]) == number // 1_000_000 else [*differs, f"the soname is {soname and soname[0]}"]
 
 
 def cases(top):
@@ -161,8 +225,12 @@ def cases(top):
         ("the numbers of the header are those of the definitions", lambda: numbers_differ(top)),
         ("the structs of the header are those of the code", lambda: structs_differ(top)),
         ("the handle of the header is that of the code", lambda: handle_differs(top)),
+        ("the rooms of the header are those of the clauses", lambda: rooms_differ(top)),
+        ("Python and Rust have the numbers of the header", lambda: others_differ(top)),
+        ("each name of the header has its prefix", lambda: names_without_prefix(top)),
+        ("a compiler warns where a status is thrown away", lambda: unwarned(top)),
         ("header, code, archive and shared library have the same calls", lambda: names_differ(top)),
-        ("header, code and pkg-config have one version", lambda: version_differs(top)),
+        ("header, code, soname and pkg-config have one version", lambda: version_differs(top)),
     ]
     for name, look in tried:
         try:

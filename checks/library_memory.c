@@ -194,7 +194,8 @@ static int handles(int last) {
     found += gives("enlist", uclboard_pass_enlist, &passes[0], &passes[2]);
     requests = 0;
     found += refuses(&passes[1], &passes[2]);
-    if (requests != 0) found += differs("calls that are refused", "ask for memory", 0);
+    if (kicks_off(&passes[2], &passes[1], 4) != 1) found += differs("report", "has not entered a kick-off", 4);
+    if (requests != 0) found += differs("reports, readings and calls that are refused", "ask for memory", 0);
     for (int i = 0; i < 3; i++)
         if (i != last) uclboard_pass_drop(&passes[i]);
     if (held == 0) found += differs("drop", "has let the board go too early", last);

@@ -27,6 +27,7 @@ SOURCES = [
     "examples/*.expected",
     "crates/*/*.h",
     "examples/python/*.py",
+    "examples/rust/*.rs",
 ]
 COUNTING = "docs/ARCHITECTURE.md"
 

@@ -3,15 +3,17 @@
  * Every call but uclboard_version answers a status: 0 (UCLBOARD_DONE) where it was done, and else why not. At any other status whatever a call
  * writes to is as it was, but for what the call says that it tells then.
  *
- * What a caller owes: a pointer points to as many elements as are passed beside it, one where no number stands beside it; it is not null, not
- * even where that number is 0; and what a call writes to overlaps nothing else that it is given. Any other input has its status. All memory is
- * the caller's, and no call keeps a pointer to it; but for the boards behind handles, which are the library's (below).
+ * What a caller owes: a pointer points to as many elements as are passed beside it, one where no number stands beside it, and is aligned as their
+ * type is; it is not null, not even where that number is 0; and what a call writes to overlaps nothing else that it is given. Any other input has
+ * its status. All memory is the caller's, and no call keeps a pointer to it; but for the boards behind handles, which are the library's (below).
  *
  * Any thread may make any call at any time: no call knows of another, but those on handles, of which each handle is in one call at a time. No
- * call may be made in a signal handler, or in the forked child of a process with threads. Stacks need a few kilobytes. The calls for screens and
- * for scripts (uclboard_screen, uclboard_screen_length, uclboard_screen_json, uclboard_script) ask malloc for memory, of which nothing is left when
- * they return; uclboard_open, uclboard_pass_split and uclboard_pass_enlist ask for what a board and a pass take, which uclboard_pass_drop gives
- * back. malloc, realloc and free have to be of one allocator that aligns to 16. No other call asks for any.
+ * call may be made in a signal handler, or in the forked child of a process with threads. uclboard_script takes up to 64 KiB of stack, each other
+ * call less than 8.
+ *
+ * The calls for screens and for scripts (uclboard_screen, uclboard_screen_length, uclboard_screen_json, uclboard_script) ask malloc for memory, of
+ * which nothing is left when they return; uclboard_open, uclboard_pass_split and uclboard_pass_enlist ask for what a board and a pass take, which
+ * uclboard_pass_drop gives back. malloc, realloc and free have to be of one allocator that aligns to 16. No other call asks for any.
  *
  * The library is for Linux on x86-64 processors of level x86-64-v2 or later.
  */
@@ -190,8 +192,9 @@ UCLBOARD_NEEDS_LOOK uclboard_status uclboard_screen_json(uint64_t row, const uin
                                                          size_t clubs_length, uint32_t group, uint32_t profile, char *out, size_t out_length,
                                                          size_t *length, uint32_t *at);
 
-/* Plays a whole script, the bytes of rows as docs/RULES.md has them: enters its events in turn on a new board. The four clubs go to `clubs`, the
-   twelve words after the last event to `words`, what became of each event to the front of `replies`, and how many events there are to `count`.
+/* Plays a whole script, the bytes of rows as docs/RULES.md has them: enters its events in turn on a new board. The four clubs go to `clubs`, with
+   zeros behind a name of fewer than 20 bytes, the twelve words after the last event to `words`, what became of each event to the front of
+   `replies`, and how many events there are to `count`.
    Judged in this order: UCLBOARD_NOT_TWELVE and UCLBOARD_NOT_FOUR, the room for words and for clubs; UCLBOARD_TOO_LONG; UCLBOARD_BAD_ROW of
    rows 1 to 4; UCLBOARD_BAD_ROSTER; UCLBOARD_BAD_ROW of rows from 5 on; and last UCLBOARD_NO_ROOM, which tells in `count` how many replies there
    are. A bad row and a bad roster tell the row or the slot in `at`, and no other status writes there. Or UCLBOARD_OUT_OF_MEMORY. */

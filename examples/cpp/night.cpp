@@ -31,7 +31,7 @@ private:
 // A script that was played: its clubs, the twelve matches after its events, and what became of each event.
 class Night {
 public:
-    explicit Night(const std::string &script) : replies(1 + static_cast<std::size_t>(std::count(script.begin(), script.end(), '\n'))) {
+    explicit Night(const std::string &script) : replies(1 + static_cast<std::size_t>(std::count_if(script.begin(), script.end(), ends_row))) {
         std::size_t count = 0;
         uint32_t at = 0;
         const uclboard_status status = uclboard_script(script.data(), script.size(), clubs.data(), clubs.size(), words.data(), words.size(),
@@ -61,6 +61,7 @@ public:
     }
 
 private:
+    static bool ends_row(char byte) { return byte == '\n' || byte == '\r'; }
     static void need(uclboard_status status, uint32_t told) {
         if (status != UCLBOARD_DONE) throw Refused(status, told);
     }

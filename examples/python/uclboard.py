@@ -7,6 +7,11 @@
 
     board, clubs, replies = uclboard.play(open("first_night.csv", "rb").read())
 
+    screen = uclboard.Pass.open()       # a board that threads share
+    reporter = screen.enlist()          # for a thread that reports
+    reporter.report(match=1, expected=0, kind="kickoff")
+    board = screen.read()
+
 The library is libuclboard.so beside this file, or what the variable UCLBOARD_LIBRARY names. What the library does not do it answers by an
 exception: `Stale`, `Finished` and the others by their names, each of them a `Refused` with its `status`.
 """
@@ -14,6 +19,7 @@ exception: `Stale`, `Finished` and the others by their names, each of them a `Re
 import ctypes as c
 import os
 import pathlib
+import threading
 
 VERSION_NUMBER = 1000000
 KINDS = {
@@ -103,6 +109,14 @@ screen_json = declared("screen_json", c.c_uint64, *SHOWN)
 script = declared("script", c.c_char_p, c.c_size_t, CLUB_ROOM, c.c_size_t, NUMBERS, c.c_size_t, REPLY_ROOM, c.c_size_t, SIZE, ONE)
 screen_length = declared("screen_length", NUMBERS, c.c_size_t, CLUB_ROOM, c.c_size_t, c.c_uint32, c.c_uint32, SIZE, ONE)
 text_of_status = declared("text_of_status", c.c_uint32, c.c_char_p, c.c_size_t, SIZE)
+HANDLE = c.POINTER(c.c_void_p)
+new_board = declared("open", HANDLE)
+pass_split = declared("pass_split", HANDLE, HANDLE)
+pass_enlist = declared("pass_enlist", HANDLE, HANDLE)
+pass_report = declared("pass_report", HANDLE, c.c_uint32, c.c_uint32, c.c_uint32, ONE)
+pass_read = declared("pass_read", HANDLE, NUMBERS, c.c_size_t, ONE)
+pass_drop = declared("pass_drop", HANDLE)
+pass_drop.restype = None
 
 if version() // 1000000 != VERSION_NUMBER // 1000000:
     raise ImportError(f"libuclboard of version {version()}, and this file is for {VERSION_NUMBER}")
@@ -158,7 +172,7 @@ class Board:
     def word(self, match):
         """The word of a match, 1 to 12."""
         if not 1 <= match <= WORDS:
-            raise IndexError(f"no match has the number {match}")
+            raise EXCEPTIONS[62](name_of(62), match)
         return self.words[match - 1]
 
     def match(self, match):
@@ -197,6 +211,55 @@ class Board:
             return self.text(call, clubs, group, order, length.value + 1)
         need(status, at.value or None)
         return text.raw[: length.value].decode("ascii")
+
+
+class Pass:
+    """A pass of a board that threads share, a reader's or a reporter's. The board is there as long as one of its passes is, and no pass waits for
+    another; each is in one call at a time."""
+
+    def __init__(self, *given):
+        """What `open`, `split` and `enlist` make: the pass that this call gives."""
+        self.handle, self.one_at_a_time = c.c_void_p(), threading.Lock()
+        call, *before = given
+        need(call(*before, self.handle))
+
+    @classmethod
+    def open(cls):
+        """A new board, by its first pass, a reader's."""
+        return cls(new_board)
+
+    def split(self):
+        """A second reader's pass of the same board."""
+        with self.one_at_a_time:
+            return Pass(pass_split, self.handle)
+
+    def enlist(self):
+        """A reporter's pass of the same board, under a number of its own."""
+        with self.one_at_a_time:
+            return Pass(pass_enlist, self.handle)
+
+    def report(self, match, expected, kind):
+        """Enters an event of a match, 1 to 12. Returns the match's event number after it; a stale event tells the number found."""
+        told = c.c_uint32()
+        with self.one_at_a_time:
+            status = pass_report(self.handle, number(match), number(expected), KINDS.get(kind, NO_CODE), told)
+        need(status, told.value if status == EXCEPTIONS[1].status else None)
+        return told.value
+
+    def read(self):
+        """The board as it stood at one moment of the call."""
+        words, version = (c.c_uint64 * WORDS)(), c.c_uint32()
+        with self.one_at_a_time:
+            need(pass_read(self.handle, words, WORDS, version))
+        return Board(words)
+
+    def drop(self):
+        """Lets the pass go; afterwards it is none."""
+        with self.one_at_a_time:
+            pass_drop(self.handle)
+
+    def __del__(self):
+        pass_drop(self.handle)
 
 
 def play(text):

@@ -1,132 +1,94 @@
-//! A night in Rust: a script is entered row by row, and the closing screen written as `ucl_night night` writes it.
+//! A night in Rust: two reporters and two screens in threads, each with a pass of one board. The closing screen is that of `ucl_night night`.
 //!
-//!     rustc --edition 2021 -L FOLDER night.rs && ./night A < ../first_night.csv
-//!
-//! `board` is a module of safe functions over the library: all that is `unsafe` stands in it.
+//!     cargo run --manifest-path examples/rust/Cargo.toml -- A < examples/first_night.csv
 
-mod board {
-    use std::fmt;
-    use std::os::raw::c_char;
-
-    pub const SCHEDULED_WORD: u64 = 0x2000_0000_0000_0000;
-    const SCREEN_ROOM: usize = 320;
-    const NAME_ROOM: usize = 32;
-
-    /// A club as the library takes it: the name in its first bytes, and how many they are.
-    #[repr(C)]
-    #[derive(Clone, Copy, Default)]
-    pub struct Club {
-        name: [u8; 20],
-        length: u32,
-        coefficient: u32,
-    }
-
-    impl Club {
-        /// A name that is too long is kept as too long, so that the library refuses it.
-        pub fn new(name: &str, coefficient: u32) -> Club {
-            let mut club = Club { length: name.len() as u32, coefficient, ..Club::default() };
-            let kept = name.len().min(club.name.len());
-            club.name[..kept].copy_from_slice(&name.as_bytes()[..kept]);
-            club
-        }
-    }
-
-    /// A status that is not 0, and the number found, the word or the slot where the status has one.
-    #[derive(Debug, Clone, Copy)]
-    pub struct Refused {
-        pub status: u32,
-        pub told: u32,
-    }
-
-    impl fmt::Display for Refused {
-        fn fmt(&self, f: &mut fmt::Formatter<'_>) -> fmt::Result {
-            write!(f, "{} {}, {}", self.status, name_of(self.status), self.told)
-        }
-    }
-
-    impl std::error::Error for Refused {}
-
-    #[link(name = "uclboard", kind = "static")]
-    extern "C" {
-        fn uclboard_next_word(word: u64, reporter: u32, expected: u32, kind: u32, next: *mut u64, found: *mut u32) -> u32;
-        fn uclboard_screen(
-            words: *const u64,
-            words_length: usize,
-            clubs: *const Club,
-            clubs_length: usize,
-            group: u32,
-            profile: u32,
-            out: *mut c_char,
-            out_length: usize,
-            length: *mut usize,
-            at: *mut u32,
-        ) -> u32;
-        fn uclboard_text_of_status(status: u32, out: *mut c_char, out_length: usize, length: *mut usize) -> u32;
-    }
-
-    fn done(status: u32, told: u32) -> Result<(), Refused> {
-        if status == 0 { Ok(()) } else { Err(Refused { status, told }) }
-    }
-
-    /// The word of a match after an event.
-    pub fn next_word(word: u64, reporter: u32, expected: u32, kind: u32) -> Result<u64, Refused> {
-        let (mut next, mut found) = (0, 0);
-        // SAFETY: each pointer is that of a value of its own.
-        let status = unsafe { uclboard_next_word(word, reporter, expected, kind, &mut next, &mut found) };
-        done(status, found).map(|()| next)
-    }
-
-    /// The screen of twelve words and four clubs.
-    pub fn screen(words: &[u64], clubs: &[Club], group: char, profile: u32) -> Result<String, Refused> {
-        let (mut out, mut length, mut at) = ([0u8; SCREEN_ROOM], 0, 0);
-        // SAFETY: each pointer is that of a value of its own, with its length beside it.
-        let status = unsafe {
-            uclboard_screen(
-                words.as_ptr(), words.len(), clubs.as_ptr(), clubs.len(), group as u32, profile,
-                out.as_mut_ptr().cast(), out.len(), &mut length, &mut at,
-            )
-        };
-        done(status, at).map(|()| String::from_utf8_lossy(&out[..length]).into_owned())
-    }
-
-    /// The name of a status.
-    pub fn name_of(status: u32) -> String {
-        let (mut out, mut length) = ([0u8; NAME_ROOM], 0);
-        // SAFETY: each pointer is that of a value of its own, with its length beside it.
-        let told = unsafe { uclboard_text_of_status(status, out.as_mut_ptr().cast(), out.len(), &mut length) };
-        if told == 0 { String::from_utf8_lossy(&out[..length]).into_owned() } else { "no status".to_owned() }
-    }
-}
-
-use board::Club;
 use std::error::Error;
 use std::io::Read;
+use std::thread;
+use uclboard::{Club, Kind, Pass, Profile, Refused};
 
-const KINDS: [&str; 13] = [
-    "kickoff", "goal-home", "goal-away", "disallow-home", "disallow-away", "yellow-home", "yellow-away", "second-yellow-home",
-    "second-yellow-away", "red-home", "red-away", "fulltime", "reopen",
-];
+const READINGS: u32 = 50;
+
+/// A row of a script.
+struct Event {
+    reporter: usize,
+    game: u32,
+    expected: u32,
+    kind: Kind,
+}
+
+/// The clubs and the events of a script.
+fn read(script: &str) -> Result<(Vec<Club>, Vec<Event>), Box<dyn Error>> {
+    let (mut clubs, mut events) = (Vec::new(), Vec::new());
+    for row in script.lines() {
+        let fields: Vec<&str> = row.split(',').collect();
+        match fields[..] {
+            ["club", _, name, coefficient] => clubs.push(Club::new(name, coefficient.parse()?)),
+            [reporter, game, expected, kind] => events.push(Event {
+                reporter: reporter.parse()?,
+                game: game.parse()?,
+                expected: expected.parse()?,
+                kind: Kind::named(kind).ok_or("no kind of event")?,
+            }),
+            _ => return Err("no row of a script".into()),
+        }
+    }
+    Ok((clubs, events))
+}
+
+/// Enters the events of one reporter, in turn. One that the rules refuse is not entered again.
+fn report(mut pass: Pass, number: usize, events: &[Event]) -> Result<(), Refused> {
+    for event in events.iter().filter(|event| event.reporter == number) {
+        match pass.report(event.game, event.expected, event.kind) {
+            Err(refused) if refused.status > 9 => return Err(refused),
+            _ => {}
+        }
+    }
+    Ok(())
+}
+
+/// Reads the board, and sees that its versions never fall.
+fn watch(mut pass: Pass) -> Result<bool, Refused> {
+    let (mut seen, mut is_whole) = (0, true);
+    for _ in 0..READINGS {
+        let reading = pass.read()?;
+        is_whole &= reading.version >= seen && uclboard::board_version(&reading.words)? == reading.version;
+        seen = reading.version;
+    }
+    Ok(is_whole)
+}
 
 fn main() -> Result<(), Box<dyn Error>> {
     let options: Vec<String> = std::env::args().skip(1).collect();
     let group = options.first().and_then(|word| word.chars().next()).unwrap_or('A');
-    let profile = options.get(1).map_or(0, |word| u32::from(word == "away-in-tie"));
-    let (mut words, mut clubs, mut script) = ([board::SCHEDULED_WORD; 12], Vec::new(), String::new());
-    std::io::stdin().read_to_string(&mut script)?;
-    for row in script.lines() {
-        let fields: Vec<&str> = row.split(',').collect();
-        if fields[0] == "club" {
-            clubs.push(Club::new(fields[2], fields[3].parse()?));
-            continue;
-        }
-        let at = fields[1].parse::<usize>()? - 1;
-        let kind = KINDS.iter().position(|name| *name == fields[3]).map_or(u32::MAX, |code| code as u32);
-        match board::next_word(words[at], fields[0].parse()?, fields[2].parse()?, kind) {
-            Ok(next) => words[at] = next,
-            Err(refused) if refused.status <= 9 => {}
-            Err(refused) => return Err(refused.into()),
-        }
+    let profile = if options.get(1).is_some_and(|word| word == "away-in-tie") { Profile::AwayInTie } else { Profile::Uefa };
+    if uclboard::version() / 1_000_000 != uclboard::VERSION_NUMBER / 1_000_000 {
+        return Err("another version of the library".into());
     }
-    print!("FINAL\n{}", board::screen(&words, &clubs, group, profile)?);
+    let mut script = String::new();
+    std::io::stdin().read_to_string(&mut script)?;
+    let (clubs, events) = read(&script)?;
+    let events = &events[..];
+    let mut first = Pass::open()?;
+    let (reporters, screens) = ([first.enlist()?, first.enlist()?], [first.split()?, first.split()?]);
+    thread::scope(|threads| -> Result<(), Box<dyn Error>> {
+        let watching = screens.map(|pass| threads.spawn(move || watch(pass)));
+        let mut number = 0;
+        let reporting = reporters.map(|pass| {
+            number += 1;
+            let number = number;
+            threads.spawn(move || report(pass, number, events))
+        });
+        for thread in reporting {
+            thread.join().map_err(|_| "a reporter has failed")??;
+        }
+        for thread in watching {
+            if !thread.join().map_err(|_| "a screen has failed")?? {
+                return Err("words of no one moment, or a version that has fallen".into());
+            }
+        }
+        Ok(())
+    })?;
+    print!("FINAL\n{}", uclboard::screen(&first.read()?.words, &clubs, group, profile)?);
     Ok(())
 }

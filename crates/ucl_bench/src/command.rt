@@ -1,5 +1,6 @@
 //! What the words of the command line ask for.
 
+use crate::library::measure_library;
 use crate::live_subject::LiveSubject;
 use crate::nights::{Plan, Style};
 use crate::one_thread::{Chunks, measure_read, measure_report};
@@ -26,6 +27,7 @@ cell_board read report mix-R-W paced-R-W night
 plain_words read report mix-R-W paced-R-W night
 table standings screen
 read_table standings screen
+library next_word read_word match_of board_version standings screen screen_json script
 ";
 
 /// What words there are.
@@ -187,6 +189,11 @@ fn run_workload<R: Print + Files + AllocGlobal + Threads + Wait + Clock + Copy +
         "read_table" => {
             let boards = boards_in(&rt, alloc, word_at(words, 5))?;
             let rounds = measure_table::<ReadTable, R>(&rt, alloc, name, millis, &boards)?;
+            println!(&rt; "{head}{rounds}}}")?;
+        }
+        "library" => {
+            let text = fs::read_to_string(&rt, word_at(words, 5))?;
+            let rounds = measure_library(&rt, alloc, name, millis, text.as_str())?;
             println!(&rt; "{head}{rounds}}}")?;
         }
         _ => match workload_of(name).context("no such workload")? {

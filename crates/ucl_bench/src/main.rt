@@ -5,6 +5,7 @@
 
 mod clock;
 mod command;
+mod library;
 mod live_subject;
 mod nights;
 mod one_thread;

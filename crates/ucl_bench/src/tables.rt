@@ -9,6 +9,7 @@ use std::fmt;
 use std::sync::Wait;
 use std::time::Clock;
 use ucl_board::Board;
+use ucl_json::screen_json;
 use ucl_order::{Club, LentClub, Mark, Profile, Roster, Row, standings};
 use ucl_screen::screen;
 use ucl_word::OutOfMemory;
@@ -179,7 +180,7 @@ fn compare_screens<T: Table>(alloc: Global, boards: &[Board], roster: &Roster) -
 }
 
 /// Takes an answer of all boards, again and again, for so many milliseconds. The answers are added up, so that none is left out.
-fn measure<R: Wait + Clock, F: Fn(&Board) -> Result<u64>>(
+pub fn measure<R: Wait + Clock, F: Fn(&Board) -> Result<u64>>(
     rt: &R,
     boards: &[Board],
     millis: u64,
@@ -238,6 +239,30 @@ pub fn measure_screens<T: Table, R: Wait + Clock>(
     measure(rt, boards, millis, |board| {
         let text = screen_once::<T>(alloc, board, &roster)?;
         Ok(text.len() as u64)
+    })
+}
+
+/// The screen of group A as a line of JSON, of words and clubs that are read anew.
+#[inline(never)]
+fn json_once(alloc: Global, board: &Board, roster: &Roster) -> Result<String, OutOfMemory> {
+    let (board, roster) = read_anew(board, roster).ok_or(OutOfMemory)?;
+    match screen_json(alloc, 9, &board, &roster, b'A', Profile::Uefa) {
+        Ok(line) => Ok(line),
+        Err(_) => Err(OutOfMemory),
+    }
+}
+
+/// Makes the screen of all boards as lines of JSON for so many milliseconds.
+pub fn measure_json<R: Wait + Clock>(
+    rt: &R,
+    alloc: Global,
+    boards: &[Board],
+    millis: u64,
+) -> Result<Rounds> {
+    let roster = roster(alloc)?;
+    measure(rt, boards, millis, |board| {
+        let line = json_once(alloc, board, &roster)?;
+        Ok(line.len() as u64)
     })
 }
 

@@ -1,6 +1,6 @@
 -- The events of a script, entered one after the other.
-use Rattle.std.proofs.Common.{◌≡◌, ℕ, ◌+◌, ◌<◌, ◌≤◌, List, [], ◌∷◌, ◌++◌, length, take, drop, set, get_or, append_assoc, arith, refl, sym, ◌∙◌}
-use Rattle.std.proofs.lemmas.List.{append-nil, take_all}
+use Rattle.std.proofs.Common.{◌≡◌, ℕ, ◌+◌, ◌-◌, ◌<◌, ◌≤◌, List, [], ◌∷◌, ◌++◌, length, take, drop, replicate, set, get_or, map, append_assoc, arith, refl, sym, ◌∙◌}
+use Rattle.std.proofs.lemmas.List.{append-nil, drop-replicate, take_all}
 use Rattle.std.proofs.lemmas.Grind.{take-set_at}
 use Rattle.ucl_board.specs.declared.entry.Entry.{Entry}
 use Rattle.ucl_board.specs.History.{after_attempt}
@@ -9,7 +9,8 @@ use Rattle.ucl_order.specs.Roster.{NamedClub, club_in}
 use Rattle.ucl_runs.specs.Feed.{attempt_of}
 use Rattle.ucl_runs.proofs.Texts.{first-event, past}
 use Rattle.ucl_c.specs.declared.script.ReplyOfC.{ReplyOfC}
-use Rattle.ucl_c.specs.Replies.{replies_from, reply_after}
+use Rattle.ucl_c.specs.declared.group.ClubOfC.{ClubOfC}
+use Rattle.ucl_c.specs.Replies.{club_written, replies_from, reply_after}
 
 -- one reply more is written
 pub replies-more : (row i : ℕ) (events : List NightEvent) (e : NightEvent) (history : List Entry) (replies : List ReplyOfC) (reply : ReplyOfC) (whole : List ReplyOfC)
@@ -32,11 +33,16 @@ replies-done row i events history replies whole h room so_far =
     sym (take_all i replies room) ∙ (sym (append-nil (take i replies)) ∙ (rw (past i events h) at so_far))
 
 -- the clubs of a roster, slot by slot
-pub four-clubs : (roster : List NamedClub) (a b c d : NamedClub) → length roster ≡ 4 → a ≡ club_in roster 1 → b ≡ club_in roster 2 → c ≡ club_in roster 3 → d ≡ club_in roster 4
-    → a ∷ b ∷ c ∷ d ∷ [] ≡ roster
+pub four-clubs : (roster : List NamedClub) (a b c d : ClubOfC) → length roster ≡ 4 → a ≡ club_written (club_in roster 1) → b ≡ club_written (club_in roster 2)
+    → c ≡ club_written (club_in roster 3) → d ≡ club_written (club_in roster 4) → a ∷ b ∷ c ∷ d ∷ [] ≡ map club_written roster
 four-clubs [] a b c d n p q r s = absurd (omega arith)
 four-clubs (w ∷ []) a b c d n p q r s = absurd (omega arith)
 four-clubs (w ∷ x ∷ []) a b c d n p q r s = absurd (omega arith)
 four-clubs (w ∷ x ∷ y ∷ []) a b c d n p q r s = absurd (omega arith)
 four-clubs (w ∷ x ∷ y ∷ z ∷ []) a b c d n p q r s = cc
 four-clubs (w ∷ x ∷ y ∷ z ∷ v ∷ vs) a b c d n p q r s = absurd (omega arith)
+
+-- a club with the bytes of a name at the front of twenty zeros
+pub club-written : (club : NamedClub) (name text : List ℕ) (coefficient : ℕ) → name ≡ text → text ≡ club.name → coefficient ≡ club.coefficient
+    → record { name = name ++ drop (length text) (replicate 20 0); length = length text; coefficient = coefficient } ≡ club_written club
+club-written club name text coefficient copied is of = rw (copied, drop-replicate {X = ℕ} (length text) 20 0, is, of) refl

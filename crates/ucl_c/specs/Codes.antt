@@ -60,7 +60,7 @@ names_of_statuses =
     (0, codes "done")
     ∷ (1, codes "stale") ∷ (2, codes "finished") ∷ (3, codes "not-started") ∷ (4, codes "already-started") ∷ (5, codes "number-full")
     ∷ (6, codes "no-goal") ∷ (7, codes "no-caution") ∷ (8, codes "limit-reached") ∷ (9, codes "not-finished")
-    ∷ (10, codes "bad word") ∷ (20, codes "bad row") ∷ (21, codes "bad roster") ∷ (23, codes "out of memory") ∷ (24, codes "too long")
+    ∷ (10, codes "bad word") ∷ (20, codes "bad-row") ∷ (21, codes "bad roster") ∷ (23, codes "out of memory") ∷ (24, codes "too long")
     ∷ (30, codes "full board")
     ∷ (50, codes "no reporter") ∷ (51, codes "no kind") ∷ (52, codes "no profile") ∷ (53, codes "no group")
     ∷ (54, codes "not twelve words") ∷ (55, codes "not four clubs") ∷ (56, codes "no room") ∷ (57, codes "not four rows")

@@ -1,7 +1,17 @@
--- What holds of all words.
-use Rattle.std.specs.Prelude.{◌≡◌, ℕ, List, length, Ok, Err}
+-- What holds of all words, and of the numbers of faults.
+use Rattle.std.specs.Prelude.{◌≡◌, ℕ, ◌++◌, List, length, Option, None, Some, Ok, Err, codes, decimal}
 use Rattle.ucl_board.specs.Words.{AreReadAs, IsFirstBad}
+use Rattle.ucl_screen.specs.declared.fault.InputFault.{InputFault}
+use Rattle.ucl_screen.specs.declared.fault.InputFault.TheVariants as input
+use Rattle.ucl_screen.specs.Texts.{input_fault_text}
 use Rattle.ucl_screen.specs.WordsRead.{read_words}
+use Rattle.ucl_runs.specs.declared.fault.RunFault.TheVariants.{TooManyReporters}
+use Rattle.ucl_runs.specs.Faults.{fault_text}
+use Rattle.ucl_json.specs.Values.{bad_row_value, coded_value}
+use Rattle.ucl_c.specs.declared.fault.Fault.{Fault}
+use Rattle.ucl_c.specs.declared.fault.Fault.TheVariants.{BadWord, BadRow, BadRoster, OutOfMemory, TooLong, FullBoard}
+use Rattle.ucl_c.specs.Codes.{name_of_status}
+use Rattle.ucl_c.specs.Faults.{fault_code}
 
 -- the words that calls judge are read as the board that the definitions of a board say, or their first bad word is told
 pub record AreJudged (words : List ℕ) : Type 0 where
@@ -10,3 +20,34 @@ pub record AreJudged (words : List ℕ) : Type 0 where
 
 abbrev pub WordsAreJudged : Type 0
 WordsAreJudged = (words : List ℕ) → length words ≡ 12 → AreJudged words
+
+-- the faults of an input that calls tell too
+abbrev pub told_as : InputFault → Option Fault
+told_as (input.BadWordAt index) = Some (BadWord index)
+told_as (input.BadRow row) = Some (BadRow row)
+told_as (input.BadRoster slot) = Some (BadRoster slot)
+told_as input.TooLong = Some TooLong
+told_as _ = None
+
+-- the command line writes this fault of an input by the number of this one
+pub record IsWrittenByNumber (fault : InputFault) (told : Fault) : Type 0 where
+  pub place : List ℕ
+  pub written : input_fault_text fault ≡ codes "input refused " ++ decimal (fault_code told) ++ codes ": " ++ place
+
+-- the same, where this one is told at all
+abbrev pub IsWrittenAs : Option Fault → InputFault → Type 0
+IsWrittenAs (Some told) fault = IsWrittenByNumber fault told
+IsWrittenAs None fault = Unit {0}
+
+-- an evening answers a bad row by the number and the name of its status
+pub record IsAnsweredByName (row : ℕ) : Type 0 where
+  pub name : List ℕ
+  pub named : name_of_status (fault_code (BadRow row)) ≡ Some name
+  pub answered : bad_row_value row ≡ coded_value row (fault_code (BadRow row)) name
+
+-- the programs write each fault that calls tell too by its number
+pub record FaultsAreWrittenByNumber : Type 0 where
+  pub inputs : (fault : InputFault) → IsWrittenAs (told_as fault) fault
+  pub memory : input_fault_text input.OutOfMemory ≡ codes "out of memory " ++ decimal (fault_code OutOfMemory)
+  pub full : fault_text TooManyReporters ≡ codes "board refused " ++ decimal (fault_code FullBoard)
+  pub rows : (row : ℕ) → IsAnsweredByName row

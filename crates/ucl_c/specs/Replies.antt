@@ -1,17 +1,17 @@
 -- What becomes of the events of a script, as C sees it.
-use Rattle.std.specs.Prelude.{◌≡◌, ℕ, ◌+◌, ◌++◌, List, [], ◌∷◌, length, map, take, drop, Result, Ok, Err}
+use Rattle.std.specs.Prelude.{◌≡◌, ℕ, ◌+◌, ◌-◌, ◌++◌, List, [], ◌∷◌, length, map, take, drop, replicate, Result, Ok, Err}
 use Rattle.ucl_word.specs.declared.event.Accepted.{Accepted}
 use Rattle.ucl_word.specs.declared.refusal.Refusal.{Refusal}
 use Rattle.ucl_word.specs.declared.refusal.Refusal.TheVariants.{Stale}
 use Rattle.ucl_board.specs.declared.entry.Entry.{Entry}
 use Rattle.ucl_board.specs.History.{after_attempt, accepted_of, board_of, sequential_reply}
+use Rattle.ucl_order.specs.Roster.{NamedClub}
 use Rattle.ucl_screen.specs.declared.night.NightEvent.{NightEvent}
 use Rattle.ucl_screen.specs.Script.{Script, night_of}
 use Rattle.ucl_runs.specs.Feed.{attempt_of}
 use Rattle.ucl_c.specs.declared.script.ReplyOfC.{ReplyOfC}
 use Rattle.ucl_c.specs.declared.group.ClubOfC.{ClubOfC}
 use Rattle.ucl_c.specs.Codes.{refusal_code}
-use Rattle.ucl_c.specs.Tables.{clubs_handed}
 
 -- the number that a refusal tells: that found where the event is stale, and else 0
 abbrev pub number_told : Refusal → ℕ
@@ -40,6 +40,10 @@ replies_to events = replies_from 5 [] events
 abbrev pub words_after : List NightEvent → List ℕ
 words_after events = board_of (accepted_of (map attempt_of events))
 
+-- a club as it is written: behind its name there are zeros
+abbrev pub club_written : NamedClub → ClubOfC
+club_written club = record { name = club.name ++ replicate (20 - length club.name) 0; length = length club.name; coefficient = club.coefficient }
+
 -- these stand at the front of what was there before, and the rest is as it was
 pub record AreWritten (replies before after : List ReplyOfC) : Type 0 where
   pub front : take (length replies) after ≡ replies
@@ -49,7 +53,7 @@ pub record AreWritten (replies before after : List ReplyOfC) : Type 0 where
 pub record IsWholeScript (bytes : List ℕ) (clubs : List ClubOfC) (words : List ℕ) (before after : List ReplyOfC) : Type 0 where
   pub script : Script
   pub said : night_of bytes ≡ Ok script
-  pub clubs_are : clubs_handed clubs ≡ script.clubs
+  pub clubs_are : clubs ≡ map club_written script.clubs
   pub words_are : words ≡ words_after script.events
   pub replies_are : AreWritten (replies_to script.events) before after
 

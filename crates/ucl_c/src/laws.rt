@@ -1,9 +1,14 @@
-//! What holds of all words. The function does nothing: it is there for its contract.
+//! What holds of all words, and of the numbers of faults. The functions do nothing: they are there for their contracts.
 
-ghost use Rattle.ucl_c.specs.Laws.{WordsAreJudged};
+ghost use Rattle.ucl_c.specs.Laws.{FaultsAreWrittenByNumber, WordsAreJudged};
 
 /// Twelve words are read, or the first bad one is told, as the definitions of a board say: the function by which the contracts of calls tell
 /// the fault of words and the board that is shown agrees with them.
 pub fn words_are_judged()
     ensures { WordsAreJudged }
+{}
+
+/// The programs write each fault that calls tell too by its number, and answer a bad row by the number and the name of its status.
+pub fn faults_are_written_by_number()
+    ensures { FaultsAreWrittenByNumber }
 {}

@@ -1,6 +1,6 @@
 //! A script that is played: its clubs, what becomes of its events, and the words after them.
 
-ghost use Rattle.std.specs.Prelude.{◌≡◌, ◌≢◌, ◌≤◌, ◌⊎◌, List, [], ◌∷◌, length, Ok, Some, IfOk, IfErr};
+ghost use Rattle.std.specs.Prelude.{◌≡◌, ◌≢◌, ◌≤◌, ◌⊎◌, List, [], ◌∷◌, length, map, Ok, Some, IfOk, IfErr};
 ghost use Rattle.ucl_board.specs.Fixtures.{IsSlot};
 ghost use Rattle.ucl_board.specs.Words.{greatest_version};
 ghost use Rattle.ucl_board.specs.declared.entry.Entry.{Entry};
@@ -12,8 +12,7 @@ ghost use Rattle.ucl_screen.specs.Parsing.{night_seen};
 ghost use Rattle.ucl_runs.specs.Feed.{IsBoardAfter, attempt_of};
 ghost use Rattle.ucl_c.specs.declared.fault.Fault.TheVariants.{OutOfMemory};
 ghost use Rattle.ucl_c.specs.Faults.{fault_of_four, fault_of_play, fault_of_script, fault_of_twelve, first_fault, of_input, place_with, status_with};
-ghost use Rattle.ucl_c.specs.Tables.{club_handed, clubs_handed};
-ghost use Rattle.ucl_c.specs.Replies.{CountsEvents, IsWholeScript, number_told, replies_to, reply_after, words_after};
+ghost use Rattle.ucl_c.specs.Replies.{CountsEvents, IsWholeScript, club_written, number_told, replies_to, reply_after, words_after};
 
 use crate::codes::refusal_code;
 use crate::fault::{Fault, fault_code, tell};
@@ -99,7 +98,7 @@ fn play(events: &[NightEvent], replies: &mut [ReplyOfC]) -> Board
 /// The club in a slot.
 fn club_of(roster: &Roster, slot: u8) -> ClubOfC
     requires { IsSlot slot }
-    ensures { club_handed result ≡ club_in roster.now slot }
+    ensures { result ≡ club_written (club_in roster.now slot) }
 {
     let text = roster.name(slot);
     let mut name = [0; 20];
@@ -114,7 +113,7 @@ fn club_of(roster: &Roster, slot: u8) -> ClubOfC
 /// The clubs of a roster.
 fn clubs_of(roster: &Roster) -> [ClubOfC; 4]
     requires { length roster.now ≡ 4 }
-    ensures { clubs_handed result ≡ roster.now }
+    ensures { result ≡ map club_written roster.now }
 {
     [
         club_of(roster, 1),
@@ -161,9 +160,9 @@ fn script_of(alloc: Global, script: &[u8], clubs: usize, words: usize) -> Result
     }
 }
 
-/// Plays a whole script: enters its events in turn on a board before any event. Its clubs go to `clubs`, what became of each event to the
-/// front of `replies`, the twelve words after the last to `words`, and how many events there are to `count`, also where `replies` has no
-/// room for as many.
+/// Plays a whole script: enters its events in turn on a board before any event. Its clubs go to `clubs`, with zeros behind their names,
+/// what became of each event to the front of `replies`, the twelve words after the last to `words`, and how many events there are to
+/// `count`, also where `replies` has no room for as many.
 #[unsafe(no_mangle)]
 pub extern "C" fn uclboard_script(
     alloc: Global,

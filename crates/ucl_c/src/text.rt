@@ -37,7 +37,7 @@ fn name_of_status(status: u32) -> Option<&'static str>
         8 => Some("limit-reached"),
         9 => Some("not-finished"),
         10 => Some("bad word"),
-        20 => Some("bad row"),
+        20 => Some("bad-row"),
         21 => Some("bad roster"),
         23 => Some("out of memory"),
         24 => Some("too long"),

@@ -1,5 +1,5 @@
 -- A pass of a board or none, and what becomes of it in each call.
-use Rattle.std.specs.Prelude.{◌≡◌, Option, None, Some, Result, IfOk, IfErr}
+use Rattle.std.specs.Prelude.{◌≡◌, ◌≤◌, ◌+◌, [], Option, None, Some, Result, IfOk, IfErr}
 use Rattle.atomic_table.specs.Seated.{TableId}
 use Rattle.ucl_word.specs.declared.event.EventCall.{EventCall}
 use Rattle.ucl_word.specs.declared.event.Accepted.{Accepted}
@@ -8,10 +8,12 @@ use Rattle.ucl_board.specs.declared.reading.Reading.{Reading}
 use Rattle.ucl_steps.specs.declared.step.Call.TheVariants as calls
 use Rattle.ucl_steps.specs.declared.trace.Reply.TheVariants as replies
 use Rattle.ucl_steps.specs.Protocol.{nothing_done}
-use Rattle.ucl_shared.specs.Passes.{PassView, Continues, AcceptedReport, RefusedReport, SharedReading, Enlistment, FullBoard, opening_pass, split_pass}
-use Rattle.ucl_shared.specs.Views.{pass_view_of, kept_of}
-use Rattle.ucl_words.specs.WordCalls.{ReportSteps, ReadingSteps}
-use Rattle.ucl_words.specs.WordDoings.{AnswersCall, GoesAlong}
+use Rattle.ucl_steps.specs.Trails.{most_loads}
+use Rattle.ucl_shared.specs.Passes.{Continues, AcceptedReport, RefusedReport, SharedReading, Enlistment, FullBoard, opening_pass, split_pass}
+use Rattle.ucl_shared.specs.Views.{count_of, kept_of, pass_view_of, trail_of}
+use Rattle.ucl_shared.specs.CallSteps.{HasCopyOf}
+use Rattle.ucl_words.specs.WordCalls.{EnlistTries, KeepsTrail, ReportSteps, ReadingSteps}
+use Rattle.ucl_words.specs.WordDoings.{AnswersCall, GoesAlong, WordHasReported}
 use Rattle.ucl_words.specs.WordMachine.{report_reply}
 use Rattle.ucl_words.specs.WordRule.{Stands}
 use Rattle.ucl_words.specs.WordViews.{WordPass, view_of}
@@ -31,9 +33,16 @@ IsPassOf board Nobody = Unit {0}
 IsPassOf board (Reader k) = k.board ≡ board
 IsPassOf board (Reporter k) = k.board ≡ board
 
--- the pass of a board that was just opened
+-- the first pass of a board that was just opened
+pub record IsFirst (k : WordPass) : Type 0 where
+  pub fresh : pass_view_of k.view ≡ opening_pass
+  pub uncopied : k.view.copied ≡ []
+  pub unowned : k.view.own ≡ []
+  pub nothing : k.doing ≡ nothing_done
+  pub stands : Stands k.seat (view_of k)
+
 abbrev pub IsOpened : AnyPass → Type 0
-IsOpened (Reader k) = pass_view_of k.view ≡ opening_pass
+IsOpened (Reader k) = IsFirst k
 IsOpened _ = ⊥
 
 -- a pass k from which another was split off is m: it has the first half of its share, and is else as it was
@@ -42,11 +51,15 @@ pub record HasGivenHalf (k m : WordPass) : Type 0 where
   pub seat : m.seat ≡ k.seat
   pub kept : m.view ≡ kept_of k.view
   pub does : m.doing ≡ k.doing
+  pub stands : Stands k.seat (view_of k) → Stands m.seat (view_of m)
 
 -- and the pass n that was split off
 pub record GivesSecond (k n : WordPass) : Type 0 where
   pub own : n.board ≡ k.board
   pub given : pass_view_of n.view ≡ split_pass (pass_view_of k.view)
+  pub taken : count_of n.view ≡ count_of k.view
+  pub trail : trail_of n.view ≡ trail_of k.view
+  pub copy : HasCopyOf n.view k.view
   pub nothing : n.doing ≡ nothing_done
 
 -- a reader's pass was split
@@ -54,28 +67,49 @@ abbrev pub IsSplit : AnyPass → AnyPass → AnyPass → Type 0
 IsSplit (Reader k) (Reader m) (Reader n) = HasGivenHalf k m × GivesSecond k n
 IsSplit _ _ _ = ⊥
 
--- a reader's pass k became this reporter's
+-- a reader's pass k became a reporter's n
+pub record BecomesReporter (k n : WordPass) : Type 0 where
+  pub own : n.board ≡ k.board
+  pub seat : n.seat ≡ k.seat
+  pub enlisted : Enlistment (pass_view_of k.view) (pass_view_of n.view)
+  pub trail : KeepsTrail k.view n.view
+  pub tries : EnlistTries k.view (Some n.view.number) n.view
+  pub does : n.doing ≡ k.doing
+  pub reported : WordHasReported n.doing 0
+  pub stands : Stands n.seat (view_of n)
+
 abbrev pub IsEnlistedFrom : WordPass → AnyPass → Type 0
-IsEnlistedFrom k (Reporter n) = (n.board ≡ k.board) × Enlistment (pass_view_of k.view) (pass_view_of n.view) × (n.doing ≡ k.doing) × Stands n.seat (view_of n)
+IsEnlistedFrom k (Reporter n) = BecomesReporter k n
 IsEnlistedFrom _ _ = ⊥
 
 -- a pass n that was enlisted as soon as it was split off a pass k
-pub record GivesReporter (k n : WordPass) : Type 0 where
-  pub own : n.board ≡ k.board
-  pub enlisted : Enlistment (split_pass (pass_view_of k.view)) (pass_view_of n.view)
-  pub nothing : n.doing ≡ nothing_done
-  pub stands : Stands n.seat (view_of n)
+pub record GivesReporter (k : WordPass) (n : AnyPass) : Type 0 where
+  pub second : WordPass
+  pub given : GivesSecond k second
+  pub enlisted : IsEnlistedFrom second n
 
 -- a reader's pass was split, and the second enlisted
 abbrev pub IsEnlisted : AnyPass → AnyPass → AnyPass → Type 0
-IsEnlisted (Reader k) (Reader m) (Reporter n) = HasGivenHalf k m × GivesReporter k n
+IsEnlisted (Reader k) (Reader m) n = HasGivenHalf k m × GivesReporter k n
 IsEnlisted _ _ _ = ⊥
 
--- a pass that was to be enlisted found that as many reporters are enlisted as there are numbers
-pub record FoundFull (k : PassView) : Type 0 where
-  pub found : PassView
-  pub always : Continues k found
-  pub full : FullBoard k found
+-- a pass k that was to be enlisted found that as many reporters are enlisted as there are numbers
+pub record FoundFull (k : WordPass) : Type 0 where
+  pub found : WordPass
+  pub own : found.board ≡ k.board
+  pub seat : found.seat ≡ k.seat
+  pub always : Continues (pass_view_of k.view) (pass_view_of found.view)
+  pub full : FullBoard (pass_view_of k.view) (pass_view_of found.view)
+  pub trail : KeepsTrail k.view found.view
+  pub tries : EnlistTries k.view None found.view
+  pub does : found.doing ≡ k.doing
+  pub stands : Stands found.seat (view_of found)
+
+-- and it was one that had been split off a pass k
+pub record GaveToFull (k : WordPass) : Type 0 where
+  pub second : WordPass
+  pub given : GivesSecond k second
+  pub full : FoundFull second
 
 -- the event was entered or refused under this pass, k before and m after
 pub record HasReported (k : WordPass) (call : EventCall) (reply : Result Accepted Refusal) (m : WordPass) : Type 0 where
@@ -85,6 +119,7 @@ pub record HasReported (k : WordPass) (call : EventCall) (reply : Result Accepte
   pub accepted : IfOk reply (λ a. AcceptedReport (pass_view_of k.view) call a (pass_view_of m.view))
   pub refused : IfErr reply (λ r. RefusedReport (pass_view_of k.view) call r (pass_view_of m.view))
   pub steps : ReportSteps k.view call reply m.view
+  pub most : count_of m.view ≤ count_of k.view + 2
   pub answers : AnswersCall (view_of k) (calls.Event call) (report_reply reply) (view_of m)
   pub along : GoesAlong (view_of k) (calls.Event call) (view_of m)
   pub stands : Stands m.seat (view_of m)
@@ -100,6 +135,8 @@ pub record HasRead (k : WordPass) (reading : Reading) (m : WordPass) : Type 0 wh
   pub always : Continues (pass_view_of k.view) (pass_view_of m.view)
   pub reads : SharedReading (pass_view_of k.view) reading (pass_view_of m.view)
   pub steps : ReadingSteps k.view reading m.view
+  pub least : count_of k.view + 24 ≤ count_of m.view
+  pub most : count_of m.view ≤ count_of k.view + most_loads
   pub answers : AnswersCall (view_of k) calls.Reading (replies.Copied reading) (view_of m)
   pub along : GoesAlong (view_of k) calls.Reading (view_of m)
   pub stands : Stands m.seat (view_of m)
@@ -134,6 +171,6 @@ cause_of (Some fault) = fault
 
 -- why nobody was enlisted, and what became of the pass: a full board has cost it half of its share, and else it is as it was
 abbrev pub IsNotEnlisted : WhyNot → AnyPass → AnyPass → Type 0
-IsNotEnlisted why.FullBoard (Reader k) (Reader m) = HasGivenHalf k m × FoundFull (split_pass (pass_view_of k.view))
+IsNotEnlisted why.FullBoard (Reader k) (Reader m) = HasGivenHalf k m × GaveToFull k
 IsNotEnlisted why.FullBoard _ _ = ⊥
 IsNotEnlisted cause before after = (after ≡ before) × (cause ≡ cause_of (fault_of_split before))

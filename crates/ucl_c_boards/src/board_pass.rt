@@ -2,7 +2,6 @@
 
 ghost use Rattle.std.specs.Prelude.{◌≡◌, IfOk, IfErr, IfSome, IfNone, None, Some};
 ghost use Rattle.std.specs.Arc.{arc_value};
-ghost use Rattle.ucl_shared.specs.Views.{pass_view_of};
 ghost use Rattle.ucl_c_boards.specs.declared.board_pass.AnyPass.TheVariants.{Nobody};
 ghost use Rattle.ucl_c_boards.specs.BoardPasses.{FoundFull, IsPassOf, IsOpened, IsSplit, IsEnlisted, IsEnlistedFrom, IsNotEnlisted, IsReported, IsRead, cause_of, fault_of_split, fault_of_report, fault_of_read};
 
@@ -131,7 +130,7 @@ impl BoardPass {
         requires { (pass.board ≡ arc_value board.now)
             × (room.value.board ≡ arc_value board.now) }
         ensures enlisted { IfSome result (λ second. IsEnlistedFrom pass second.value.pass) }
-        ensures full { IfNone result (FoundFull (pass_view_of pass.view)) }
+        ensures full { IfNone result (FoundFull pass) }
     {
         match board.enlist_now(pass) {
             Ok(reporter) => {

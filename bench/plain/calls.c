@@ -1,0 +1,164 @@
+/* What a call of the library takes: the least time of a board, over the boards of a file, or of a script, again and again.
+ *
+ *     calls boards              prints 1,000 boards, one a line, by a fixed generator
+ *     calls NAME MS FILE        prints the nanoseconds of a board, or of the script, the least of all rounds; NAME is that of the call
+ */
+#define _POSIX_C_SOURCE 199309L
+#include "uclboard.h"
+#include <inttypes.h>
+#include <stdio.h>
+#include <stdlib.h>
+#include <string.h>
+#include <time.h>
+
+enum { BOARDS = 1000 };
+
+static uint64_t boards[BOARDS][UCLBOARD_WORDS];
+static const uclboard_club clubs[UCLBOARD_CLUBS] = {{"Alpha", 5, 60000}, {"Bravo", 5, 95000}, {"Charlie", 7, 60000}, {"Delta", 5, 81500}};
+
+static void need(uclboard_status status) {
+    if (status == UCLBOARD_DONE) return;
+    fprintf(stderr, "calls: status %" PRIu32 "\n", status);
+    exit(1);
+}
+
+static uint32_t random_below(uint64_t *chance, uint32_t bound) {
+    *chance = *chance * UINT64_C(6364136223846793005) + UINT64_C(1442695040888963407);
+    return (uint32_t)(*chance >> 33) % bound;
+}
+
+/* Enters so many random events in each match; those that the rules refuse change nothing. */
+static void fill_board(uint64_t *chance, uint64_t *words) {
+    for (size_t i = 0; i < UCLBOARD_WORDS; i++) {
+        words[i] = UCLBOARD_SCHEDULED_WORD;
+        for (uint32_t left = random_below(chance, 9); left > 0; left--) {
+            uint32_t kind = words[i] == UCLBOARD_SCHEDULED_WORD ? UCLBOARD_KICK_OFF : random_below(chance, 12), found;
+            uclboard_status status = uclboard_next_word(words[i], 1, (uint32_t)(words[i] & 4095), kind, &words[i], &found);
+            if (status > UCLBOARD_NOT_FINISHED) need(status);
+        }
+    }
+}
+
+static void print_boards(void) {
+    uint64_t chance = 1;
+    for (size_t i = 0; i < BOARDS; i++) {
+        fill_board(&chance, boards[i]);
+        for (size_t j = 0; j < UCLBOARD_WORDS; j++) printf("%016" PRIx64 "%c", boards[i][j], j + 1 < UCLBOARD_WORDS ? ' ' : '\n');
+    }
+}
+
+static void read_boards(const char *path) {
+    FILE *file = fopen(path, "r");
+    for (size_t i = 0; i < BOARDS * UCLBOARD_WORDS; i++)
+        if (file == NULL || fscanf(file, "%" SCNx64, &boards[i / UCLBOARD_WORDS][i % UCLBOARD_WORDS]) != 1) exit(1);
+    fclose(file);
+}
+
+static uint64_t nanoseconds(void) {
+    struct timespec now;
+    clock_gettime(CLOCK_MONOTONIC, &now);
+    return (uint64_t)now.tv_sec * UINT64_C(1000000000) + (uint64_t)now.tv_nsec;
+}
+
+static char text[4096], *script;
+static size_t length, script_length;
+static uint32_t at;
+
+/* Tries an event in each match of a board, each from the number that is there. */
+static uint64_t next_words(const uint64_t *words) {
+    uint64_t sum = 0, next = 0;
+    uint32_t found;
+    for (size_t i = 0; i < UCLBOARD_WORDS; i++)
+        if (uclboard_next_word(words[i], 1, (uint32_t)(words[i] & 4095), (uint32_t)i, &next, &found) == UCLBOARD_DONE) sum += next;
+    return sum;
+}
+
+static uint64_t read_words(const uint64_t *words) {
+    uint64_t sum = 0, read = 0;
+    for (size_t i = 0; i < UCLBOARD_WORDS; i++)
+        if (uclboard_read_word(words[i], &read) == UCLBOARD_DONE) sum += read;
+    return sum;
+}
+
+static uint64_t records(const uint64_t *words) {
+    uint64_t sum = 0;
+    uclboard_match match;
+    for (size_t i = 0; i < UCLBOARD_WORDS; i++)
+        if (uclboard_match_of(words[i], &match) == UCLBOARD_DONE) sum += match.number;
+    return sum;
+}
+
+static uint64_t version_of(const uint64_t *words) {
+    uint32_t version;
+    need(uclboard_board_version(words, UCLBOARD_WORDS, &version, &at));
+    return version;
+}
+
+static uint64_t table_of(const uint64_t *words) {
+    static const uint32_t coefficients[UCLBOARD_CLUBS] = {60000, 95000, 60000, 81500};
+    uclboard_row rows[UCLBOARD_CLUBS];
+    need(uclboard_standings(words, UCLBOARD_WORDS, coefficients, UCLBOARD_CLUBS, UCLBOARD_UEFA, rows, UCLBOARD_CLUBS, &at));
+    return rows[0].slot;
+}
+
+static uint64_t screen_of(const uint64_t *words) {
+    need(uclboard_screen(words, UCLBOARD_WORDS, clubs, UCLBOARD_CLUBS, 'A', UCLBOARD_UEFA, text, sizeof text, &length, &at));
+    return length;
+}
+
+static uint64_t length_of(const uint64_t *words) {
+    need(uclboard_screen_length(words, UCLBOARD_WORDS, clubs, UCLBOARD_CLUBS, 'A', UCLBOARD_UEFA, &length, &at));
+    return length;
+}
+
+static uint64_t json_of(const uint64_t *words) {
+    need(uclboard_screen_json(9, words, UCLBOARD_WORDS, clubs, UCLBOARD_CLUBS, 'A', UCLBOARD_UEFA, text, sizeof text, &length, &at));
+    return length;
+}
+
+/* Plays the script, whatever the board. */
+static uint64_t played(const uint64_t *unused) {
+    static uclboard_reply replies[1 << 16];
+    uclboard_club named[UCLBOARD_CLUBS];
+    uint64_t words[UCLBOARD_WORDS];
+    need(uclboard_script(script, script_length, named, UCLBOARD_CLUBS, words, UCLBOARD_WORDS, replies, sizeof replies / sizeof *replies, &length, &at));
+    return length + words[0] + (unused == NULL);
+}
+
+static const struct {
+    const char *name;
+    uint64_t (*call)(const uint64_t *);
+} calls[] = {{"next_word", next_words}, {"read_word", read_words},       {"match_of", records},     {"board_version", version_of}, {"standings", table_of},
+             {"screen", screen_of},     {"screen_length", length_of}, {"screen_json", json_of}, {"script", played}};
+
+static void read_script(const char *path) {
+    static char bytes[1 << 20];
+    FILE *file = fopen(path, "r");
+    if (file == NULL) exit(1);
+    script = bytes;
+    script_length = fread(bytes, 1, sizeof bytes, file);
+    fclose(file);
+}
+
+/* The least time of a round over so many boards, in so many milliseconds. */
+static void measure(uint64_t (*call)(const uint64_t *), size_t count, uint64_t millis) {
+    uint64_t least = UINT64_MAX, sum = 0, end = nanoseconds() + millis * UINT64_C(1000000);
+    do {
+        uint64_t begun = nanoseconds(), took;
+        for (size_t i = 0; i < count; i++) sum += call(boards[i]);
+        took = nanoseconds() - begun;
+        if (took < least) least = took;
+    } while (nanoseconds() < end);
+    printf("%.1f\n", (double)least / (double)count);
+    if (sum == 0) exit(1);
+}
+
+int main(int argc, char **argv) {
+    if (argc == 2 && strcmp(argv[1], "boards") == 0) return print_boards(), 0;
+    if (argc != 4) return 2;
+    int is_script = strcmp(argv[1], "script") == 0;
+    (is_script ? read_script : read_boards)(argv[3]);
+    for (size_t i = 0; i < sizeof calls / sizeof *calls; i++)
+        if (strcmp(calls[i].name, argv[1]) == 0) return measure(calls[i].call, is_script ? 1 : BOARDS, strtoull(argv[2], NULL, 10)), 0;
+    return 2;
+}
