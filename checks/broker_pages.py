@@ -7,6 +7,7 @@ import subprocess
 
 from broker_parts import free_port, is_reached, lacking, typed_lines, until
 
+IN_THE_README = ["The beginning of an evening", "The board", "The desk", "A screen"]
 CERTIFICATE = "openssl req -x509 -newkey rsa:2048 -nodes -days 1 -subj /CN=localhost -addext subjectAltName=DNS:localhost -keyout broker.key -out ca.crt"
 
 
@@ -16,13 +17,13 @@ def in_one_line(text):
 
 
 def lines_of_the_evening(room, rules, rows):
-    """The lines that one types are those that the evening starts; only the port of the page is another."""
-    evening = in_one_line((room.top / "examples/broker/evening").read_text())
-    lines = {name: in_one_line(line).replace("8080", '"$1"') for name, line in typed_lines(room.top).items()}
-    lines["The beginning of an evening"] = lines["The beginning of an evening"].replace("one_goal", "two_matches")
-    known = {name: line for name, line in lines.items() if name != "A reporter"}
-    other = [name for name, line in known.items() if line not in evening]
-    yield "the lines of the page are those of the evening", f"other lines: {', '.join(other)}" if other or len(known) < 6 else None
+    """The lines that one types are those that the evening starts, but for the port of the page and the clubs; four of them are the README's too."""
+    lines = {name: in_one_line(line) for name, line in typed_lines(room.top).items()}
+    evening = in_one_line((room.top / "examples/broker/evening").read_text()).replace('"$1"', "8080").replace("two_matches.csv; echo", "one_goal.csv; echo")
+    readme = in_one_line((room.top / "README.md").read_text().split("\n## Beyond one machine\n")[1].split("\n## ")[0])
+    other = [f"the evening has another line for: {name}" for name, line in lines.items() if line not in evening and name != "A reporter"]
+    other += [f"the README has another line for: {name}" for name in IN_THE_README if lines[name] not in readme]
+    yield "the lines of the page are those of the evening", ", ".join(other) or (None if len(lines) == 7 else f"there are {len(lines)} lines")
 
 
 def users_of(folder):
@@ -83,7 +84,8 @@ def encrypted(room, rules, rows):
     until("the encrypted port", lambda: is_reached(port))
     room.done("openssl req -x509 -newkey rsa:2048 -nodes -days 1 -subj /CN=localhost -keyout other.key -out other.crt")
     send = f"mosquitto_pub -h localhost -p {port} -t ucl/a/rows -m row"
-    told = [room.done(f"{send} {more} >/dev/null 2>&1 && echo taken || echo refused").decode().strip() for more in ("--cafile ca.crt", "--cafile other.crt", "")]
+    sent = lambda more: room.done(f"{send} {more} >/dev/null 2>&1 && echo taken || echo refused").decode().strip()
+    told = [sent(more) for more in ("--cafile ca.crt", "--cafile other.crt", "")]
     yield name, None if told == ["taken", "refused", "refused"] else f"with the certificate, with another and with none: {told}"
 
 
