@@ -8,6 +8,7 @@ import random
 import re
 import sys
 import threading
+import time
 
 from broker_parts import LIMIT, Room, Trouble, typed_lines, until
 
@@ -206,12 +207,13 @@ def broker_killed(room, rules, count):
 
 
 def board_killed(room, rules, count):
-    """The board is killed six times: alone, with its whole line, with a line of the journal that is cut, and with one that lacks its end alone."""
+    """The board is killed six times: alone, and its line after it; with its line, and the journal's last line is cut, or lacks its end alone."""
     evening = Evening(room, rules, count, 2)
 
     def trouble(number):
         if number % 3 == 0:
             evening.board.kill_one("ucl_live")
+            time.sleep(0.1)
         evening.board.kill()
         if number % 3 == 1:
             with open(evening.journal, "ab") as journal:
@@ -250,7 +252,6 @@ def doubled(room, rules, count):
     before = evening.journal.read_bytes().count(b"\n")
     (room.path / "rows").write_text("".join(sent))
     room.done("mosquitto_pub -l -q 1 -t ucl/a/rows <rows", LONG)
-    last = b'"version":%d,' % len(evening.rows)
     until("all answers", lambda: evening.journal.read_bytes().count(b"\n") >= before + len(sent) + len(evening.rows) or None, LONG)
     start = room.done("./ucl_follow --resume <evening.jsonl | head -n 4").decode().replace('"', "")
     fresh = [rules.Match() for _ in range(12)]

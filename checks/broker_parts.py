@@ -19,6 +19,7 @@ SBIN = os.pathsep + "/usr/sbin" + os.pathsep + "/usr/local/sbin"
 CLIENTS = ["mosquitto", "mosquitto_sub", "mosquitto_pub"]
 LIMIT = 30
 WINDOW = 100
+PORTS = 20_000, 32_000
 
 
 class Trouble(Exception):
@@ -43,10 +44,16 @@ def until(what, holds, limit=LIMIT):
 
 
 def free_port():
-    """A port of the loopback interface that is free."""
-    with socket.socket() as one:
-        one.bind(("127.0.0.1", 0))
-        return one.getsockname()[1]
+    """A port of the loopback interface that is free, below those that the system hands out: a client that looks for a broker which is down could
+    else be handed its port, and reach itself."""
+    while True:
+        port = random.randint(*PORTS)
+        with socket.socket() as one:
+            try:
+                one.bind(("127.0.0.1", port))
+                return port
+            except OSError:
+                continue
 
 
 def is_reached(port):
