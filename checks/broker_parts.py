@@ -17,6 +17,7 @@ import time
 
 SBIN = os.pathsep + "/usr/sbin" + os.pathsep + "/usr/local/sbin"
 CLIENTS = ["mosquitto", "mosquitto_sub", "mosquitto_pub"]
+PROGRAMS = ["ucl_live", "ucl_follow"]
 LIMIT = 30
 WINDOW = 100
 PORTS = 20_000, 32_000
@@ -29,6 +30,33 @@ class Trouble(Exception):
 def lacking(programs):
     """Those of these programs that are not installed."""
     return [program for program in programs if shutil.which(program, path=os.environ["PATH"] + SBIN) is None]
+
+
+def not_tried(top, programs):
+    """The verdict on what cannot be tried: where one of these programs is not installed, or the repository's own are not built; else None."""
+    missing = lacking(programs)
+    if missing:
+        return f"not run: no {', '.join(missing)}"
+    built = subprocess.run([str(top / "build"), "--built", *PROGRAMS], stdout=subprocess.PIPE, universal_newlines=True)
+    unbuilt = " ".join(built.stdout.split())
+    return f"FAILED: not built: {unbuilt}; './build {unbuilt}' proves and builds it" if unbuilt else None
+
+
+def verdict_of(wrong):
+    """The verdict where this is wrong, or was not run."""
+    return "ok" if not wrong else wrong if wrong.startswith("not run: ") else f"FAILED: {wrong}"
+
+
+def tell(verdicts):
+    """Prints a line for each verdict as it comes, and last the sums. Gives how many failed. Whoever ends this has all processes ended."""
+    signal.signal(signal.SIGTERM, lambda *_: sys.exit(1))
+    counts = {"ok": 0, "FAILED": 0, "not run": 0}
+    for name, verdict in verdicts:
+        word, colon, why = verdict.partition(":")
+        counts[word] += 1
+        print(f"{word:8}{name}{colon}{why}", flush=True)
+    print(f"{counts['ok']} passed, {counts['FAILED']} failed")
+    return counts["FAILED"]
 
 
 def until(what, holds, limit=LIMIT):
@@ -107,13 +135,13 @@ class Line:
 class Room:
     """A folder of its own with a broker, where lines are typed; at the end all of it is gone."""
 
-    def __init__(self, top, programs):
-        self.top, self.programs, self.lines = top, programs, []
+    def __init__(self, top):
+        self.top, self.lines = top, []
 
     def __enter__(self):
         self.path = pathlib.Path(tempfile.mkdtemp(prefix="broker-"))
-        for name, program in self.programs.items():
-            (self.path / name).symlink_to(program)
+        for name in PROGRAMS:
+            (self.path / name).symlink_to(self.top / "crates" / name / "out" / name)
         (self.path / "examples").symlink_to(self.top / "examples")
         (self.path / "kept").mkdir()
         self.environment = {**os.environ, "PATH": os.environ["PATH"] + SBIN, "XDG_CONFIG_HOME": str(self.path)}
