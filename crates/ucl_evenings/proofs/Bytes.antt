@@ -3,9 +3,8 @@ use Rattle.std.proofs.Common.{◌≡◌, ℕ, ◌+◌, ◌<◌, Bool, List, [], 
 use Rattle.ucl_shared.specs.Passes.{PassView}
 use Rattle.ucl_runs.specs.declared.fault.RunFault.{RunFault}
 use Rattle.ucl_answers.specs.Lines.{begun_line, ended_lines}
-use Rattle.ucl_evenings.specs.declared.went.Went.{Went}
 use Rattle.ucl_evenings.specs.Rows.{AreAnswered, AreAnsweredSo, FailsToAnswer}
-use Rattle.ucl_evenings.proofs.ByteLines.{begun_next, ended_all, ended_next}
+use Rattle.ucl_evenings.proofs.ByteLines.{ended_all, ended_next}
 use Rattle.ucl_evenings.proofs.Lines.{answered_then, fails_more, fails_then}
 
 -- a byte more, where the line that has begun and the number of lines are those after the bytes before

@@ -1,5 +1,5 @@
 -- The events of a reporter's pass, one after the other.
-use Rattle.std.proofs.Common.{◌≡◌, ℕ, ◌+◌, ◌<◌, ◌≤◌, List, [], ◌∷◌, ◌++◌, length, take, slice_get, Some, refl, sym, ap, ◌∙◌, subst, append_assoc, append-nil, arith, length-append, le_refl}
+use Rattle.std.proofs.Common.{◌≡◌, ℕ, ◌+◌, ◌≤◌, List, [], ◌∷◌, ◌++◌, length, take, slice_get, refl, sym, ap, ◌∙◌, subst, append_assoc, append-nil, arith, length-append, le_refl}
 use Rattle.std.proofs.Math.Seq.{take-append_seam, take-length}
 use mathlib.Core.List.{IsPrefix}
 use Rattle.ucl_word.specs.declared.event.EventCall.{EventCall}
@@ -15,7 +15,7 @@ use Rattle.ucl_shared.proofs.Lists.{unchanged}
 use Rattle.ucl_runs.proofs.EnteredRows.{goes_on}
 use Rattle.ucl_evenings.specs.declared.went.Went.{Went}
 use Rattle.ucl_evenings.specs.declared.went.Went.TheVariants.{Entered, Refused}
-use Rattle.ucl_evenings.specs.Reporting.{IsNextAt, WentAt, past_point, GoThrough, entered_by, entered_in, HasReportedRows}
+use Rattle.ucl_evenings.specs.Reporting.{WentAt, past_point, GoThrough, entered_by, entered_in, HasReportedRows}
 
 -- no event
 pub rows_none : (k : PassView) → IsSound k → HasReportedRows k k [] []

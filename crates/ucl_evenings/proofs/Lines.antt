@@ -1,5 +1,5 @@
 -- Lines that a reporter's pass has answered, one after the other.
-use Rattle.std.proofs.Common.{◌≡◌, ℕ, ◌+◌, ◌-◌, ◌^◌, ◌≤◌, min, Bool, List, [], ◌∷◌, ◌++◌, length, Option, refl, sym, ap, ◌∙◌, subst, append-nil, arith, length-append}
+use Rattle.std.proofs.Common.{◌≡◌, ℕ, ◌+◌, ◌-◌, ◌^◌, ◌≤◌, min, Bool, List, [], ◌∷◌, ◌++◌, length, Option, sym, ap, ◌∙◌, subst, arith, length-append}
 use Rattle.std.specs.Io.KnownBytes.{Appends}
 use mathlib.Core.List.{IsPrefix}
 use Rattle.ucl_word.specs.declared.event.EventCall.{EventCall}
@@ -15,7 +15,7 @@ use Rattle.ucl_evenings.specs.declared.went.Went.{Went}
 use Rattle.ucl_evenings.specs.Typing.{typed_on}
 use Rattle.ucl_evenings.specs.Answering.{calls_of_typed, calls_typed, typed_answer, typed_answers}
 use Rattle.ucl_evenings.specs.Reporting.{HasReportedRows}
-use Rattle.ucl_evenings.specs.Rows.{AnswersStop, AreAnsweredSo, FailsToAnswer, HasReportedLines}
+use Rattle.ucl_evenings.specs.Rows.{AreAnsweredSo, FailsToAnswer, HasReportedLines}
 use Rattle.ucl_evenings.proofs.Events.{rows_count, rows_none, rows_then}
 use Rattle.ucl_evenings.proofs.LineAnswers.{answers_none, answers_one, answers_then, calls_none, calls_one, calls_then}
 

@@ -1,5 +1,5 @@
 -- What a reporter's run comes to.
-use Rattle.std.proofs.Common.{◌≡◌, ◌⊎◌, ℕ, ◌+◌, ◌-◌, ◌^◌, ◌<◌, Bool, List, [], ◌∷◌, ◌++◌, length, Option, Some, None, refl, sym, ap, ◌∙◌, subst, inl, inr, append-nil, arith, length-append}
+use Rattle.std.proofs.Common.{◌≡◌, ◌⊎◌, ℕ, ◌+◌, List, [], ◌∷◌, ◌++◌, length, Option, refl, sym, subst, inl, inr, append-nil}
 use Rattle.std.specs.Prelude.{⊤, Result, Ok, Err, IfErr, OnOk}
 use Rattle.std.specs.Io.KnownBytes.{Appends, Consumes, IsAtEnd, Keeps}
 use mathlib.Core.List.{IsPrefix}
@@ -15,8 +15,8 @@ use Rattle.ucl_answers.specs.Wires.{AskedMore}
 use Rattle.ucl_answers.proofs.Moments.{ended-append}
 use Rattle.ucl_answers.proofs.Wires.{asked-then}
 use Rattle.ucl_evenings.specs.declared.went.Went.{Went}
-use Rattle.ucl_evenings.specs.Answering.{calls_typed, typed_answers}
-use Rattle.ucl_evenings.specs.Rows.{AnswersStop, AreAnswered, AreAnsweredSo, EndsAfter, FailsToAnswer, HasReportedLines, IsAnsweredUpTo, SinkStops, TookRows}
+use Rattle.ucl_evenings.specs.Answering.{typed_answers}
+use Rattle.ucl_evenings.specs.Rows.{AnswersStop, AreAnswered, AreAnsweredSo, FailsToAnswer, IsAnsweredUpTo, TookRows}
 use Rattle.ucl_evenings.proofs.Lines.{answered_then, begins_behind, lines_count, reported_then, stopped_then}
 
 -- ---- each time that the source was asked

@@ -1,5 +1,5 @@
 -- What a line of a reporter of an evening says: `MATCH,EXPECTED,EVENT`, with no field in quotes. Its reporter is whose line it is.
-use Rattle.std.specs.Prelude.{ℕ, ◌+◌, ◌-◌, ◌==◌, nat_le, if◌then◌else◌, List, [], ◌∷◌, length, take, drop, get_or, codes, Option, Some, None, option_map}
+use Rattle.std.specs.Prelude.{ℕ, ◌-◌, ◌==◌, nat_le, if◌then◌else◌, List, [], ◌∷◌, length, take, get_or, codes, Option, Some, None, option_map}
 use Rattle.ucl_word.specs.declared.event.EventCall.{EventCall}
 use Rattle.ucl_screen.specs.Events.{◌>>=◌, event_of}
 use Rattle.ucl_evenings.specs.declared.typed.Typed.{Typed}

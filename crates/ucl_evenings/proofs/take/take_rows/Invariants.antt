@@ -1,4 +1,4 @@
-use Rattle.std.proofs.Common.{◌≡◌, ◌⊎◌, ◌≤◌, ◌-◌, ◌+◌, ◌^◌, ℕ, List, [], length, false}
+use Rattle.std.proofs.Common.{◌≡◌, ◌⊎◌, ◌-◌, ◌+◌, ◌^◌, ℕ, List, [], length, false}
 use Rattle.std.specs.Io.KnownBytes.{Consumes}
 use Rattle.ucl_answers.specs.Lines.{begun_line, ended_lines}
 use Rattle.ucl_answers.specs.Wires.{AskedMore}

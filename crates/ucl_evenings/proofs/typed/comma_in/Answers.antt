@@ -1,4 +1,4 @@
-use Rattle.std.proofs.Common.{◌≤◌, arith, length}
+use Rattle.std.proofs.Common.{arith}
 use Rattle.ucl_evenings.proofs.Commas.{comma_first, comma_none}
 use Rattle.ucl_evenings.proofs.typed.comma_in.Goals as goal
 

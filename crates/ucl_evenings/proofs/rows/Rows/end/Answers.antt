@@ -1,6 +1,5 @@
-use Rattle.std.proofs.Common.{[], List, ℕ, ap, subst, sym}
-use Rattle.ucl_answers.specs.Lines.{last_lines}
-use Rattle.ucl_answers.proofs.RowEnds.{empty-list, full-list}
+use Rattle.std.proofs.Common.{[], List, ℕ, subst, sym}
+use Rattle.ucl_answers.proofs.RowEnds.{empty-list}
 use Rattle.ucl_evenings.specs.Rows.{AreAnswered}
 use Rattle.ucl_evenings.proofs.ByteLines.{last_none}
 use Rattle.ucl_evenings.proofs.Lines.{answered_none}
