@@ -1,0 +1,143 @@
+-- The events of a reporter's pass, one after the other.
+use Rattle.std.proofs.Common.{◌≡◌, ℕ, ◌+◌, ◌≤◌, List, [], ◌∷◌, ◌++◌, length, take, slice_get, refl, sym, ap, ◌∙◌, subst, append_assoc, append-nil, arith, length-append, le_refl}
+use Rattle.std.proofs.Math.Seq.{take-append_seam, take-length}
+use mathlib.Core.List.{IsPrefix}
+use Rattle.ucl_word.specs.declared.event.EventCall.{EventCall}
+use Rattle.ucl_word.specs.declared.event.Accepted.{Accepted}
+use Rattle.ucl_word.specs.declared.refusal.Refusal.{Refusal}
+use Rattle.ucl_word.proofs.Sequences.{at_end}
+use Rattle.ucl_board.specs.declared.entry.Entry.{Entry}
+use Rattle.ucl_board.specs.declared.reading.Reading.{Reading}
+use Rattle.ucl_board.specs.History.{entry_of, sequential_reply}
+use Rattle.ucl_board.proofs.Beginnings.{at_beginning, begins_length, take_beginning}
+use Rattle.ucl_shared.specs.Passes.{PassView, IsSound, Continues, AcceptedReport, RefusedReport, SharedReading}
+use Rattle.ucl_shared.proofs.Lists.{unchanged}
+use Rattle.ucl_runs.proofs.EnteredRows.{goes_on}
+use Rattle.ucl_evenings.specs.declared.went.Went.{Went}
+use Rattle.ucl_evenings.specs.declared.went.Went.TheVariants.{Entered, Refused}
+use Rattle.ucl_evenings.specs.Reporting.{WentAt, past_point, GoThrough, entered_by, entered_in, HasReportedRows}
+
+-- no event
+pub rows_none : (k : PassView) → IsSound k → HasReportedRows k k [] []
+unfolding GoThrough entered_in
+rows_none k sound = record { always = unchanged k k sound refl; through = le_refl (length k.seen); mine = sym (append-nil k.mine) }
+
+-- an event that was accepted, and a reading after it
+pub row_accepted : (k m z : PassView) (call : EventCall) (reply : Accepted) (reading : Reading) → Continues k m → AcceptedReport k call reply m → Continues m z → SharedReading m reading z
+    → HasReportedRows k z (call ∷ []) (Entered reply.number reading.version ∷ [])
+unfolding GoThrough entered_in
+row_accepted k m z call reply reading first a then read =
+    let p : ℕ = length a.before in
+    let e : Entry = entry_of k.number call in
+    let long : length m.seen ≡ p + 1 = ap length a.last ∙ length-append a.before (e ∷ []) in
+    let on = then.on.seen in
+    let longer = begins_length m.seen z.seen on in
+    let low = read.low in
+    let front : take p z.seen ≡ a.before = take_beginning m.seen z.seen p on (omega arith) ∙ (ap (take p) a.last ∙ take-append_seam a.before (e ∷ [])) in
+    record {
+      always = goes_on k m z first then;
+      through = (
+        p,
+        begins_length k.seen a.before a.since,
+        record {
+          reply = ap (λ (l : List Entry). sequential_reply l call) front ∙ a.answer;
+          entry = at_beginning m.seen z.seen p e on (ap (λ (l : List Entry). slice_get l p) a.last ∙ at_end a.before e);
+          read = omega arith;
+          within = read.high;
+        },
+        omega arith,
+      );
+      mine = read.mine ∙ a.mine;
+    }
+
+-- an event that was refused
+pub row_refused : (k m : PassView) (call : EventCall) (refusal : Refusal) → Continues k m → RefusedReport k call refusal m → HasReportedRows k m (call ∷ []) (Refused refusal ∷ [])
+unfolding GoThrough entered_in
+row_refused k m call refusal on r = record {
+  always = on;
+  through = (
+    length m.seen,
+    begins_length k.seen m.seen on.on.seen,
+    (le_refl (length m.seen), ap (λ (l : List Entry). sequential_reply l call) (take-length m.seen) ∙ r.answer),
+    le_refl (length m.seen),
+  );
+  mine = r.mine ∙ sym (append-nil k.mine);
+}
+
+-- ---- events after events
+
+module _ (reporter : ℕ) (s h : List Entry) (on : IsPrefix s h) where
+  at_on : (point : ℕ) (call : EventCall) (w : Went) → WentAt reporter s point call w → WentAt reporter h point call w
+  at_on point call (Entered number version) r =
+      let read = r.read in
+      let within = r.within in
+      let longer = begins_length s h on in
+      record {
+        reply = ap (λ (l : List Entry). sequential_reply l call) (take_beginning s h point on (omega arith)) ∙ r.reply;
+        entry = at_beginning s h point (entry_of reporter call) on r.entry;
+        read = r.read;
+        within = omega arith;
+      }
+  at_on point call (Refused refusal) r =
+      let within = r.0 in
+      let longer = begins_length s h on in
+      (omega arith, ap (λ (l : List Entry). sequential_reply l call) (take_beginning s h point on r.0) ∙ r.1)
+
+  through_on : (low high : ℕ) (calls : List EventCall) (went : List Went) → GoThrough reporter s low high calls went → GoThrough reporter h low high calls went
+  unfolding GoThrough
+  through_on low high [] [] g = g
+  through_on low high [] (w ∷ went) g = absurd g
+  through_on low high (call ∷ calls) [] g = absurd g
+  through_on low high (call ∷ calls) (w ∷ went) g = (g.0, g.1, at_on g.0 call w g.2, through_on (past_point g.0 w) high calls went g.3)
+
+module _ (reporter : ℕ) (h : List Entry) where
+  through_lower : (low low2 high : ℕ) (calls : List EventCall) (went : List Went) → low ≤ low2 → GoThrough reporter h low2 high calls went → GoThrough reporter h low high calls went
+  unfolding GoThrough
+  through_lower low low2 high [] [] le g = omega arith
+  through_lower low low2 high [] (w ∷ went) le g = absurd g
+  through_lower low low2 high (call ∷ calls) [] le g = absurd g
+  through_lower low low2 high (call ∷ calls) (w ∷ went) le g = let x = g.1 in (g.0, omega arith, g.2, g.3)
+
+  through_then : (low mid high : ℕ) (calls more : List EventCall) (went later : List Went) → GoThrough reporter h low mid calls went → GoThrough reporter h mid high more later
+      → GoThrough reporter h low high (calls ++ more) (went ++ later)
+  unfolding GoThrough
+  through_then low mid high [] more [] later g k = through_lower low mid high more later g k
+  through_then low mid high [] more (w ∷ went) later g k = absurd g
+  through_then low mid high (call ∷ calls) more [] later g k = absurd g
+  through_then low mid high (call ∷ calls) more (w ∷ went) later g k = (g.0, g.1, g.2, through_then (past_point g.0 w) mid high calls more went later g.3 k)
+
+  through_count : (low high : ℕ) (calls : List EventCall) (went : List Went) → GoThrough reporter h low high calls went → length went ≡ length calls
+  unfolding GoThrough
+  through_count low high [] [] g = refl
+  through_count low high [] (w ∷ went) g = absurd g
+  through_count low high (call ∷ calls) [] g = absurd g
+  through_count low high (call ∷ calls) (w ∷ went) g = let n = through_count (past_point g.0 w) high calls went g.3 in omega arith
+
+entered_then : (reporter : ℕ) (calls more : List EventCall) (went later : List Went) → length went ≡ length calls
+    → entered_in reporter (calls ++ more) (went ++ later) ≡ entered_in reporter calls went ++ entered_in reporter more later
+unfolding entered_in
+entered_then reporter [] more [] later same = refl
+entered_then reporter [] more (w ∷ went) later same = absurd (omega arith)
+entered_then reporter (call ∷ calls) more [] later same = absurd (omega arith)
+entered_then reporter (call ∷ calls) more (w ∷ went) later same =
+    ap (λ (l : List Entry). entered_by reporter call w ++ l) (entered_then reporter calls more went later (omega arith))
+    ∙ sym (append_assoc (entered_by reporter call w) (entered_in reporter calls went) (entered_in reporter more later))
+
+pub rows_count : (k m : PassView) (calls : List EventCall) (went : List Went) → HasReportedRows k m calls went → length went ≡ length calls
+rows_count k m calls went r = through_count k.number m.seen (length k.seen) (length m.seen) calls went r.through
+
+-- what a pass did, and then did more
+pub rows_then : (k m z : PassView) (calls more : List EventCall) (went later : List Went) → HasReportedRows k m calls went → HasReportedRows m z more later
+    → HasReportedRows k z (calls ++ more) (went ++ later)
+rows_then k m z calls more went later a b =
+    let same : m.number ≡ k.number = a.always.number in
+    record {
+      always = goes_on k m z a.always b.always;
+      through = through_then k.number z.seen (length k.seen) (length m.seen) (length z.seen) calls more went later
+          (through_on k.number m.seen z.seen b.always.on.seen (length k.seen) (length m.seen) calls went a.through)
+          (subst (λ (n : ℕ). GoThrough n z.seen (length m.seen) (length z.seen) more later) same b.through);
+      mine = b.mine ∙ ap (λ (l : List Entry). l ++ entered_in m.number more later) a.mine
+          ∙ ap (λ (n : ℕ). (k.mine ++ entered_in k.number calls went) ++ entered_in n more later) same
+          ∙ append_assoc k.mine (entered_in k.number calls went) (entered_in k.number more later)
+          ∙ ap (λ (l : List Entry). k.mine ++ l) (sym (entered_then k.number calls more went later (rows_count k m calls went a)));
+    }

@@ -1,0 +1,13 @@
+use Rattle.ucl_evenings.proofs.Events.{row_accepted, row_refused}
+use Rattle.ucl_evenings.proofs.went.enter.Goals as goal
+
+pub returns-in-Ok-clause-went : goal.returns-in-Ok-clause-went
+returns-in-Ok-clause-went g c =
+    let known = g.B.LiveBoard.reporter in
+    row_accepted (known c.args.pass.now) (known c.report.new.pass) (known c.read_own-reading.new.pass) c.args.call.now c.in-Ok.accepted c.read_own-reading.result
+    c.in-Ok.ensures.always c.in-Ok.ensures.accepted c.read_own-reading.ensures.always c.read_own-reading.ensures.reading
+
+pub returns-in-Err-clause-went : goal.returns-in-Err-clause-went
+returns-in-Err-clause-went g c =
+    let known = g.B.LiveBoard.reporter in
+    row_refused (known c.args.pass.now) (known c.report.new.pass) c.args.call.now c.in-Err.refusal c.in-Err.ensures.always c.in-Err.ensures.refused

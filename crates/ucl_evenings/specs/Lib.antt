@@ -1,0 +1,4 @@
+pub mod Typing
+pub mod Answering
+pub mod Reporting
+pub mod Rows

@@ -1,0 +1,50 @@
+-- What a reporter's pass of a live board has done, event by event, and how each went in the history of the board.
+use Rattle.std.specs.Prelude.{◌≡◌, ℕ, ◌+◌, ◌<◌, ◌≤◌, List, [], ◌∷◌, ◌++◌, length, take, slice_get, Some, Ok, Err}
+use Rattle.ucl_word.specs.declared.event.EventCall.{EventCall}
+use Rattle.ucl_board.specs.declared.entry.Entry.{Entry}
+use Rattle.ucl_board.specs.History.{entry_of, sequential_reply}
+use Rattle.ucl_shared.specs.Passes.{PassView, Continues}
+use Rattle.ucl_evenings.specs.declared.went.Went.{Went}
+use Rattle.ucl_evenings.specs.declared.went.Went.TheVariants.{Entered, Refused}
+
+-- an event of this reporter was accepted after the first so many entries of a history, and is the next; a reading of so many entries came after it
+pub record IsNextAt (reporter : ℕ) (history : List Entry) (point : ℕ) (call : EventCall) (number version : ℕ) : Type 0 where
+  pub reply : sequential_reply (take point history) call ≡ Ok (record { number = number })
+  pub entry : slice_get history point ≡ Some (entry_of reporter call)
+  pub read : point < version
+  pub within : version ≤ length history
+
+-- an event went so at this point of a history: it is the next entry, or was refused there
+abbrev pub WentAt : ℕ → List Entry → ℕ → EventCall → Went → Type 0
+WentAt reporter history point call (Entered number version) = IsNextAt reporter history point call number version
+WentAt reporter history point call (Refused refusal) = (point ≤ length history) × (sequential_reply (take point history) call ≡ Err refusal)
+
+-- the least point of what comes after an event
+abbrev pub past_point : ℕ → Went → ℕ
+past_point point (Entered number version) = point + 1
+past_point point (Refused refusal) = point
+
+-- the events of a reporter went so, one after the other, at points from one of a history to another: these never fall, and rise after an accepted one
+unfoldable pub GoThrough : ℕ → List Entry → ℕ → ℕ → List EventCall → List Went → Type 0
+GoThrough reporter history low high [] [] = low ≤ high
+GoThrough reporter history low high (call ∷ calls) (w ∷ went) =
+    (point : ℕ) × (low ≤ point) × WentAt reporter history point call w × GoThrough reporter history (past_point point w) high calls went
+GoThrough reporter history low high [] (w ∷ went) = ⊥
+GoThrough reporter history low high (call ∷ calls) [] = ⊥
+
+-- the entries of the events that were accepted
+abbrev pub entered_by : ℕ → EventCall → Went → List Entry
+entered_by reporter call (Entered number version) = entry_of reporter call ∷ []
+entered_by reporter call (Refused refusal) = []
+
+unfoldable pub entered_in : ℕ → List EventCall → List Went → List Entry
+entered_in reporter [] went = []
+entered_in reporter (call ∷ calls) [] = []
+entered_in reporter (call ∷ calls) (w ∷ went) = entered_by reporter call w ++ entered_in reporter calls went
+
+-- a reporter's pass, k before and m after, has reported these events, each of which went so: every one in the history that it has then
+-- seen, after all that it had seen before; and of its own entries there just the accepted ones are new
+pub record HasReportedRows (k m : PassView) (calls : List EventCall) (went : List Went) : Type 0 where
+  pub always : Continues k m
+  pub through : GoThrough k.number m.seen (length k.seen) (length m.seen) calls went
+  pub mine : m.mine ≡ k.mine ++ entered_in k.number calls went
