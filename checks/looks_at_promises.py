@@ -159,8 +159,39 @@ def waiting_is_told(top):
     return table_is_of_signatures(top, "Calls that may wait", may_wait)
 
 
+# A struct or an enum with its parts; what a part is of; and the types of other crates and of the language that have a fixed size. A roster
+# and a club hold names, each of which came on one line.
+TYPE = re.compile(r"^(?:pub(?:\(crate\))? )?(?:struct|enum) (\w+)(?:<[^>]*>)? \{\n(.*?)^\}", re.M | re.S)
+PART = re.compile(r"^ *(?:pub(?:\(crate\))? )?\w+: (.*),$|^ *\w+\((.*)\),$", re.M)
+FIXED = {"u8", "u16", "u32", "u64", "usize", "bool", "ArrayVec", "Board", "Club", "Profile", "Roster"}
+
+
+def parts_of(top, crate):
+    """The types of a crate, each with the names of types that its parts are of."""
+    text = "\n".join(path.read_text() for path in sorted((top / "crates" / crate / "src").glob("*.rt")))
+    return {
+        name: {word for part in PART.findall(body) for word in re.findall(r"[A-Za-z]\w*", "".join(part)) if not word.isupper()}
+        for name, body in TYPE.findall(text)
+    }
+
+
+def evenings_are_of_fixed_size(top):
+    """What an evening keeps from one step to the next has a fixed size by its types."""
+    parts, waiting, seen, found = parts_of(top, "ucl_answers"), ["Live"], set(), []
+    while waiting:
+        name = waiting.pop()
+        seen.add(name)
+        for word in sorted(parts.get(name, set()) - FIXED - seen):
+            if word in parts:
+                waiting.append(word)
+            else:
+                found.append(f"ucl_answers: `{name}` has a part of type `{word}`")
+    return found + ([] if {"Desk", "Page", "Stage", "Table"} <= seen else [f"only these were found of an evening: {', '.join(sorted(seen))}"])
+
+
 LOOKS = [
     ("each promise names its function and its clause", promises_are_carried),
     ("the calls that are given an allocator are those of the signatures", memory_is_told),
     ("the calls that may wait are those of the signatures", waiting_is_told),
+    ("what an evening keeps is of fixed size", evenings_are_of_fixed_size),
 ]

@@ -110,6 +110,11 @@ FAULTS = {
         ("docs/PROMISES.md", "`night_run`, `report_and_show`", "`night_run`"),
         ("crates/ucl_command/src/program.rt", "pub fn feed<S: Source, W: Sink>(", "pub fn feed<S: Source, W: Sink, R: Wait>("),
     ],
+    "what an evening keeps is of fixed size": [
+        ("crates/ucl_answers/src/desk.rt", "    pub(crate) page: Page,\n", "    pub(crate) page: Page,\n    pub(crate) lines: Vec<u8>,\n"),
+        ("crates/ucl_answers/src/stage.rt", "    Open(Table),\n", "    Open(Box<Table>),\n"),
+        ("crates/ucl_answers/src/live.rt", "pub struct Live {", "pub struct Alive {"),
+    ],
     "the table of definitions is that of the files": [
         ("docs/ARCHITECTURE.md", "`ucl_word`: `Migration`", "`ucl_word`: `Migrations`"),
         ("crates/ucl_word/specs/Fault.antt", None, "abbrev pub fault : ℕ\n"),

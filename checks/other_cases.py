@@ -292,7 +292,8 @@ def measures_no():
 CALLS = ["screen", "read_night", "read_words", "run_steps", "CellBoard::open", "WordBoard::open", "feed_run", "show_run", "night_run"]
 CALLS += ["night_run_in_a_cell"]
 RUNS = ["help", "feed", "show", "show_stored", "show_in_order", "night", "refused_words"]
-EVENINGS = ["evening", "evening_with_screens", "evening_in_json", "help_of_evenings", "refused_words_of_evenings"]
+EVENINGS = ["evening", "evening_with_screens", "evening_in_json", "evening_from_words", "evening_from_words_in_json"]
+EVENINGS += ["help_of_evenings", "refused_words_of_evenings"]
 SWEEPS = {**dict.fromkeys(CALLS, "ucl_hostile"), **dict.fromkeys(RUNS, "ucl_night"), **dict.fromkeys(EVENINGS, "ucl_live")}
 
 CASES = [

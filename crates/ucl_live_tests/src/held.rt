@@ -67,6 +67,13 @@ pub fn has_stopped(held: &Held, text: &str, room: usize) -> bool {
         && Some(out.as_slice()) == text.as_bytes().get(..room)
 }
 
+/// Whether an evening failed in reading after so many bytes, and wrote just the first `written` bytes of a text.
+pub fn has_broken_off(held: &Held, text: &str, bytes: usize, written: usize) -> bool {
+    let (answer, out) = held;
+    let fault = InputFault::ReadFailed { bytes };
+    *answer == Err(RunFault::Input(fault)) && Some(out.as_slice()) == text.as_bytes().get(..written)
+}
+
 /// Whether the clubs or the words of an evening were refused by this fault, and nothing was written.
 pub fn has_refused(held: &Held, fault: InputFault) -> bool {
     let (answer, out) = held;

@@ -27,7 +27,7 @@ const OTHER_WORDS: &str =
 /// The words of the first match after a kick-off, and after a goal besides.
 pub(crate) const KICKED_OFF: &str = "2001000000001001";
 
-const ONE_GOAL: &str = "2001000000005002";
+pub(crate) const ONE_GOAL: &str = "2001000000005002";
 
 /// The clubs, from the name of the second on, and the group.
 const OTHER_CLUBS: &str =
@@ -41,7 +41,7 @@ const LAST_PLACES: &str =
     ",\"drawn\":0,\"goal_difference\":0,\"goals_against\":0,\"goals_for\":0,\"lost\":0,\"mark\":\"\",\"place\":3,\"played\":0,\"points\":0,\"slot\":1,\"won\":0},{\"club\":\"Charlie\",\"drawn\":0,\"goal_difference\":-1,\"goals_against\":1,\"goals_for\":0,\"lost\":1,\"mark\":\"\",\"place\":4,\"played\":1,\"points\":0,\"slot\":3,\"won\":0}";
 
 /// The screen at a row, with the name of the club of slot 1 as it stands in JSON.
-fn screen_at(alloc: Global, row: &str, name: &str) -> Result<String, Fail> {
+pub(crate) fn screen_at(alloc: Global, row: &str, name: &str) -> Result<String, Fail> {
     let text = joined(
         alloc,
         &[

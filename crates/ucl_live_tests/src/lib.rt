@@ -6,6 +6,8 @@ mod beginnings;
 #[cfg(test)]
 mod command;
 #[cfg(test)]
+mod cuts;
+#[cfg(test)]
 mod held;
 #[cfg(test)]
 mod json;

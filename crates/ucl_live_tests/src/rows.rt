@@ -1,14 +1,12 @@
 //! Rows of an evening, each answered as text, and evenings that are cut short.
 
-use crate::held::{Held, has_stopped, has_written, held, held_with};
+use crate::held::{has_broken_off, has_stopped, has_written, held, held_with};
 use crate::{CLUBS, joined};
 use std::alloc::Global;
 use std::process::Abort;
 use std::test::Fail;
 use ucl_answers::Format;
 use ucl_devices::{Cut, Full};
-use ucl_runs::RunFault;
-use ucl_screen::InputFault;
 
 /// The rows of the stored run, after those of the clubs.
 const STORED: &str =
@@ -46,7 +44,7 @@ fn stored_run(rt: HostRuntime) -> Result<(), Fail> {
 }
 
 /// The screen after a match has kicked off.
-const KICKED_OFF: &str = "\
+pub(crate) const KICKED_OFF: &str = "\
 GROUP A v00001 IN PLAY 1
     Club                  P  W  D  L  GF  GA   GD Pts
 1   Bravo                 1  0  1  0   0   0   +0   1
@@ -81,7 +79,7 @@ fn screens_after_accepted_events(rt: HostRuntime) -> Result<(), Fail> {
 }
 
 /// Rows that are bad, without the ends of their lines: each breaks one rule of rows.
-static BAD_ROWS: [&str; 33] = [
+static BAD_ROWS: [&str; 34] = [
     "0,1,0,kickoff",
     "256,1,0,kickoff",
     "0001,1,0,kickoff",
@@ -94,6 +92,7 @@ static BAD_ROWS: [&str; 33] = [
     "1,1,+0,kickoff",
     "1, 1,0,kickoff",
     ",1,0,kickoff",
+    "1,1,0,kick",
     "1,1,0,kick-off",
     "1,1,0,Kickoff",
     "1,1,0,",
@@ -183,6 +182,43 @@ fn long_lines(rt: HostRuntime) -> Result<(), Fail> {
     Ok(())
 }
 
+/// A kick-off on a line of so many bytes, which begins with carriage returns, and then another.
+fn padded_row(alloc: Global, length: usize, end: &str) -> Result<String, Fail> {
+    let mut text = joined(alloc, &[CLUBS])?;
+    for _ in 13..length {
+        text.push('\r')?;
+    }
+    text.push_str("1,1,0,kickoff")?;
+    text.push_str(end)?;
+    text.push_str("2,2,0,kickoff")?;
+    text.push_str(end)?;
+    Ok(text)
+}
+
+/// How many bytes a line has before its end, and how it and the next are answered.
+static LENGTHS: [(usize, &str); 6] = [
+    (13, "5 ok 1 1 1\n6 ok 2 1 2\n"),
+    (255, "5 ok 1 1 1\n6 ok 2 1 2\n"),
+    (256, "5 ok 1 1 1\n6 ok 2 1 2\n"),
+    (257, "5 refused 20 bad-row\n6 ok 2 1 1\n"),
+    (258, "5 refused 20 bad-row\n6 ok 2 1 1\n"),
+    (259, "5 refused 20 bad-row\n6 ok 2 1 1\n"),
+];
+
+/// A line may have 256 bytes before its end and no more, whichever its end is.
+#[test]
+fn longest_lines(rt: HostRuntime) -> Result<(), Fail> {
+    let alloc = rt.alloc();
+    for &(length, wanted) in LENGTHS.as_slice() {
+        for end in ["\n", "\r\n"] {
+            let text = padded_row(alloc, length, end)?;
+            let evening = held(alloc, Format::Text, text.as_bytes(), usize::MAX);
+            assert!(rt; has_written(&evening, wanted), "at {length}");
+        }
+    }
+    Ok(())
+}
+
 /// The answers to the rows that have an end within so many bytes of the stored run.
 fn answers_within(text: &str, bytes: usize) -> usize {
     let mut lines = 0usize;
@@ -205,14 +241,6 @@ fn answers_within(text: &str, bytes: usize) -> usize {
     length
 }
 
-/// Whether an evening failed in reading after so many bytes, and wrote just the first so many of the stored answers.
-fn has_broken_off(evening: &Held, bytes: usize, written: usize) -> bool {
-    let (answer, out) = evening;
-    let fault = InputFault::ReadFailed { bytes };
-    *answer == Err(RunFault::Input(fault))
-        && Some(out.as_slice()) == STORED_OUT.as_bytes().get(..written)
-}
-
 /// An evening whose input fails after each byte: all rows that have an end are answered, and nothing else is written.
 #[test]
 fn cut_after_each_byte(rt: HostRuntime) -> Result<(), Fail> {
@@ -226,7 +254,10 @@ fn cut_after_each_byte(rt: HostRuntime) -> Result<(), Fail> {
         };
         let evening = held_with(alloc, (Format::Text, false), input, usize::MAX, Full::Fails);
         let written = answers_within(text.as_str(), room);
-        assert!(rt; has_broken_off(&evening, room, written), "at {room}");
+        assert!(rt;
+            has_broken_off(&evening, STORED_OUT, room, written),
+            "at {room}"
+        );
     }
     Ok(())
 }
