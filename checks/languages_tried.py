@@ -120,13 +120,13 @@ def fed(top, work, how, options):
 
 
 def typed(top, work):
-    """The programs of the README in C and Python, compiled and run as it says: both print the screen of a board with one kick-off."""
-    title = "the programs of the README in C and Python, typed as they stand there"
-    page = (top / "README.md").read_text()
-    blocks = {name: re.search(rf"^```{name}\n(.*?)^```$", page, re.M | re.S) for name in ("c", "python")}
-    line = re.search(r"^    (cc board\.c .*) && \./board$", page, re.M)
+    """The program of the README in C and that of docs/C.md in Python, run as they say: both print the screen of a board with one kick-off."""
+    title = "the program of the README in C, and that of docs/C.md in Python, typed as they stand there"
+    pages = {"c": (top / "README.md").read_text(), "python": (top / "docs/C.md").read_text()}
+    blocks = {name: re.search(rf"^```{name}\n(.*?)^```$", page, re.M | re.S) for name, page in pages.items()}
+    line = re.search(r"`(cc board\.c [^`]*) && \./board`", pages["c"])
     if line is None or None in blocks.values():
-        yield "FAILED: the README has no such programs", title
+        yield "FAILED: the pages have no such programs", title
         return
     (work / "board.c").write_text(blocks["c"][1])
     (work / "board.py").write_text(blocks["python"][1])
