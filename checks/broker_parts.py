@@ -195,7 +195,7 @@ class Room:
 
     def told(self):
         """The end of what standard error was told."""
-        return (self.path / "errors").read_text(errors="replace")[-300:]
+        return " / ".join((self.path / "errors").read_text(errors="replace")[-300:].split("\n"))
 
 
 def turned_round(chance, lines):
