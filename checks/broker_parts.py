@@ -18,7 +18,7 @@ import time
 SBIN = os.pathsep + "/usr/sbin" + os.pathsep + "/usr/local/sbin"
 CLIENTS = ["mosquitto", "mosquitto_sub", "mosquitto_pub"]
 PROGRAMS = ["ucl_live", "ucl_follow"]
-LIMIT = 30
+LIMIT = 60
 WINDOW = 100
 PORTS = 20_000, 32_000
 
