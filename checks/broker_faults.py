@@ -16,7 +16,7 @@ BEGIN, BOARD, DESK, SCREEN = "The beginning of an evening", "The board", "The de
 CLUBS = [("Alpha", 60000), ("Bravo", 95000), ("Charlie", 60000), ("Delta", 81500)]
 SCREEN_LINES = 6
 # How long reporters may take, in seconds, and after how many they send a row again.
-LONG, AGAIN = 100, 1
+LONG, AGAIN = 200, 1
 SMALL_PIPE = 4096
 
 

@@ -48,6 +48,24 @@ def whole_evening(room, rules, rows):
     yield "an evening that is started leaves nothing behind", wrong or (f"there is still {left}" if left else None)
 
 
+def reporting(room, rules, rows):
+    """A reporter whose row is refused, or is another's, is told so; rows that are given again change nothing."""
+    lines = typed_lines(room.top)
+    room.open_broker()
+    room.done(lines["The beginning of an evening"])
+    for name in "The board", "The desk":
+        room.line(lines[name])
+    report = lambda rows: room.done(f"printf '{rows}' | examples/broker/reporter 0.3 2 2>&1; echo $?").decode().splitlines()
+    told = [report("1,1,0,kickoff\\n1,2,0,goal-home\\n"), report("2,1,0,kickoff\\n"), report("1,1,0,kickoff\\n"), report("1,1,1,goal-home\\n1,1,0,kickoff\\n")]
+    told.append(report("1,13,0,kickoff\\n"))
+    wanted = [["1,1,0,kickoff", "reporter: 1,2,0,goal-home: no answer in 2 seconds", "1"]]
+    wanted += [["reporter: 2,1,0,kickoff: another reporter has entered an event of this match", "1"], ["1,1,0,kickoff", "0"]]
+    wanted += [["1,1,1,goal-home", "1,1,0,kickoff", "0"], ["reporter: 1,13,0,kickoff: no row of an event", "1"]]
+    last = room.done("./ucl_follow <evening.jsonl | tail -n 6 | head -n 1").decode()
+    differs = next((f"{got}, and {right} is wanted" for got, right in zip(told, wanted) if got != right), None)
+    yield "a reporter whose rows are refused, another's, or given again", differs or (None if last.startswith("GROUP A v00002 ") else last)
+
+
 def access(room, rules, rows):
     """Rows are taken of reporters, answers of the board, and everyone may look at the desk alone."""
     examples = room.top / "examples/broker"
@@ -91,6 +109,7 @@ def encrypted(room, rules, rows):
 
 lines_of_the_evening.names = ["the lines of the page are those of the evening"]
 whole_evening.names = ["an evening that is started leaves nothing behind"]
+reporting.names = ["a reporter whose rows are refused, another's, or given again"]
 access.names = ["who may do what by the access lists"]
 encrypted.names = ["connections that are encrypted"]
-CASES = [lines_of_the_evening, whole_evening, access, encrypted]
+CASES = [lines_of_the_evening, whole_evening, reporting, access, encrypted]

@@ -18,7 +18,7 @@ import time
 SBIN = os.pathsep + "/usr/sbin" + os.pathsep + "/usr/local/sbin"
 CLIENTS = ["mosquitto", "mosquitto_sub", "mosquitto_pub"]
 PROGRAMS = ["ucl_live", "ucl_follow"]
-LIMIT = 30
+LIMIT = 60
 WINDOW = 100
 PORTS = 20_000, 32_000
 
@@ -195,7 +195,7 @@ class Room:
 
     def told(self):
         """The end of what standard error was told."""
-        return (self.path / "errors").read_text(errors="replace")[-300:]
+        return " / ".join((self.path / "errors").read_text(errors="replace")[-300:].split("\n"))
 
 
 def turned_round(chance, lines):
