@@ -77,7 +77,7 @@ event-is_attempt f e h =
 
 -- of all requests
 
-abbrev AreAttempts : Request → Type 0
+abbrev pub AreAttempts : Request → Type 0
 AreAttempts r = All IsAttempt (attempts_of r)
 
 none : All IsAttempt []
@@ -94,7 +94,7 @@ either : (b : Bool) (x y : Request) → AreAttempts x → AreAttempts y → AreA
 either true x y p q = p
 either false x y p q = q
 
-asked : (f : FourFields) → AreAttempts (asked_by f)
+pub asked : (f : FourFields) → AreAttempts (asked_by f)
 unfolding asked_by
 asked f =
     let words = if bytes_eq f.first (codes "words") then Words else Bad in

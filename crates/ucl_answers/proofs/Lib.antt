@@ -12,3 +12,7 @@ pub mod Boards
 pub mod Walks
 pub mod Wires
 pub mod JsonLines
+pub mod Uncut
+pub mod Told
+pub mod GoodBoards
+pub mod SameText

@@ -1,23 +1,31 @@
 -- What holds of all evenings.
-use Rattle.std.specs.Prelude.{◌≡◌, ⊤, ℕ, false, List, [], ◌∷◌, ◌++◌}
+use Rattle.std.specs.Prelude.{◌≡◌, ⊤, ℕ, ◌+◌, false, List, [], ◌∷◌, ◌++◌, All, flat_map, Some, Result, Ok, Err}
 use Rattle.std.specs.List.{fold}
+use Rattle.serde_json.specs.Data.{Data}
 use Rattle.ucl_board.specs.declared.entry.Entry.{Entry}
 use Rattle.ucl_board.specs.History.{IsLegal, after_attempt, board_after, board_of}
+use Rattle.ucl_order.specs.declared.profile.Profile.{Profile}
 use Rattle.ucl_order.specs.Roster.{NamedClub}
-use Rattle.ucl_runs.specs.Feed.{reply_line}
+use Rattle.ucl_runs.specs.Feed.{line_of_reply, reply_line, word_lines}
 use Rattle.ucl_screen.specs.declared.fault.InputFault.{InputFault}
 use Rattle.ucl_screen.specs.declared.night.NightEvent.{NightEvent}
+use Rattle.ucl_screen.specs.Screen.{screen_text}
+use Rattle.ucl_word.specs.declared.event.Accepted.{Accepted}
+use Rattle.ucl_word.specs.declared.refusal.Refusal.{Refusal}
 use Rattle.ucl_word.specs.Rules.{reply_of}
 use Rattle.ucl_board.specs.Fixtures.{IsMatch}
 use Rattle.ucl_board.specs.Words.{game_at, version_of}
-use Rattle.ucl_json.specs.Lines.{AreLinesOfValues}
+use Rattle.ucl_json.specs.Lines.{AreLinesOfValues, IsOneLine, json_line}
+use Rattle.ucl_json.specs.Values.{bad_row_value, reply_value, screen_value, words_value}
 use Rattle.ucl_answers.specs.declared.options.Format.TheVariants.{Text, Json}
 use Rattle.ucl_answers.specs.declared.options.Options.{Options}
 use Rattle.ucl_answers.specs.ByHistory.{answers_by_history, attempts_in}
 use Rattle.ucl_answers.specs.Lines.{lines_of}
+use Rattle.ucl_answers.specs.Members.{text_told, texts_told}
+use Rattle.ucl_answers.specs.UncutLines.{uncut_lines}
 use Rattle.ucl_answers.specs.Rows.{Said, Nothing, Garbled, Row, said_on}
 use Rattle.ucl_answers.specs.Stages.{Open, Refused, Restoring, is_word_row}
-use Rattle.ucl_answers.specs.Text.{Evening, after_lines, answers, live_text, reply_in}
+use Rattle.ucl_answers.specs.Text.{Evening, after_lines, answers, bad_line, live_text, reply_in, start_of}
 
 -- some bytes and the end of a line
 abbrev pub ended : List ℕ → List ℕ
@@ -73,3 +81,42 @@ JsonAnswersAreLines = (e : Evening) (lines : List (List ℕ)) → e.options.form
 -- where the clubs or the words have a fault, nothing was answered
 abbrev pub RefusedEveningsAreSilent : Type 0
 RefusedEveningsAreSilent = (e : Evening) (lines : List (List ℕ)) (fault : InputFault) → (after_lines e lines).stage ≡ Refused fault → answers e lines ≡ []
+
+-- the lines as they are read end with their 258th byte: the answers, and the evening after them, are those of the lines as they came
+pub record IsOfUncutLines (e : Evening) (bytes : List ℕ) : Type 0 where
+  pub text : live_text e bytes ≡ answers e (uncut_lines bytes)
+  pub after : after_lines e (lines_of bytes) ≡ after_lines e (uncut_lines bytes)
+
+abbrev pub LinesAreReadWhole : Type 0
+LinesAreReadWhole = (e : Evening) (bytes : List ℕ) → IsOfUncutLines e bytes
+
+-- an accepted event raised the version by one
+abbrev pub RaisesVersion : Result Accepted Refusal → ℕ → List ℕ → Type 0
+RaisesVersion (Ok accepted) before board = version_of board ≡ before + 1
+RaisesVersion (Err refusal) before board = ⊤
+
+-- the members of each answer in JSON say just what the answer says as text: its numbers, the name of a refusal, and all columns of the screen
+pub record SaysTheSame (row : ℕ) (profile : Profile) (board : List ℕ) (clubs : List NamedClub) (group : ℕ) : Type 0 where
+  pub reply : (game before : ℕ) (reply : Result Accepted Refusal) → RaisesVersion reply before board
+      → text_told (reply_value row game reply profile board clubs group) ≡ Some (line_of_reply row game before reply)
+  pub bad : text_told (bad_row_value row) ≡ Some (bad_line row)
+  pub words : text_told (words_value row board) ≡ Some (word_lines 1 board)
+  pub screen : text_told (screen_value row profile board clubs group) ≡ Some (screen_text profile board clubs group)
+
+abbrev pub JsonSaysTheSame : Type 0
+JsonSaysTheSame = (row : ℕ) (profile : Profile) (board : List ℕ) (clubs : List NamedClub) (group : ℕ) → SaysTheSame row profile board clubs group
+
+-- lines of values, each one line, whose members say this text
+pub record AreLinesSaying (text json : List ℕ) : Type 0 where
+  pub values : List Data
+  pub whole : json ≡ flat_map json_line values
+  pub each : All (λ value. IsOneLine (json_line value)) values
+  pub said : texts_told values ≡ Some text
+
+-- the same options, with answers as text
+abbrev pub as_text : Options → Options
+as_text options = record options { format = Text }
+
+-- an evening in JSON says just what it says as text
+abbrev pub EveningsSayTheSame : Type 0
+EveningsSayTheSame = (options : Options) (bytes : List ℕ) → options.format ≡ Json → AreLinesSaying (live_text (start_of (as_text options)) bytes) (live_text (start_of options) bytes)

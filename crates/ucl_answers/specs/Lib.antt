@@ -10,4 +10,6 @@ pub mod Stepping
 pub mod Taking
 pub mod Wires
 pub mod ByHistory
+pub mod UncutLines
+pub mod Members
 pub mod Laws

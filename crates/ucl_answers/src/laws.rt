@@ -1,6 +1,6 @@
 //! What holds of all evenings. The functions do nothing: they are there for their contracts.
 
-ghost use Rattle.ucl_answers.specs.Laws.{BeginningsAreAnswered, BoardsTakeEvents, EveningsAreSequential, FirstRowsOpenTheBoard, JsonAnswersAreLines, RefusedEveningsAreSilent, RepliesAreThoseOfFeed};
+ghost use Rattle.ucl_answers.specs.Laws.{BeginningsAreAnswered, BoardsTakeEvents, EveningsAreSequential, EveningsSayTheSame, FirstRowsOpenTheBoard, JsonAnswersAreLines, JsonSaysTheSame, LinesAreReadWhole, RefusedEveningsAreSilent, RepliesAreThoseOfFeed};
 
 /// The text of a longer input begins with the text of any beginning of it that ends with a line, and goes on as the text of the rest, from
 /// where the evening stood.
@@ -21,6 +21,12 @@ pub fn evenings_are_sequential()
     ensures { EveningsAreSequential }
 {}
 
+/// In JSON the answers of an evening are the lines of values, each one line, whose members say, one after the other, just the text of the same
+/// evening with answers as text.
+pub fn evenings_say_the_same()
+    ensures { EveningsSayTheSame }
+{}
+
 /// The first row after the clubs that is not that of a word is answered on the open board of no event, and so is all that comes after it.
 pub fn first_rows_open_the_board()
     ensures { FirstRowsOpenTheBoard }
@@ -29,6 +35,17 @@ pub fn first_rows_open_the_board()
 /// In JSON the answers are the lines of values, and none of these has a line feed but its last byte.
 pub fn json_answers_are_lines()
     ensures { JsonAnswersAreLines }
+{}
+
+/// What the members of an answer in JSON say is what the answer says as text: the row, the match, the numbers and the version of a reply, the
+/// number and the name of a refusal and the number that was found, the words, and each column of the screen.
+pub fn json_says_the_same()
+    ensures { JsonSaysTheSame }
+{}
+
+/// An evening answers the lines as they came, though it keeps no more than 258 bytes of one.
+pub fn lines_are_read_whole()
+    ensures { LinesAreReadWhole }
 {}
 
 /// On the board of a legal history each reply is the line that `feed` writes after this history.

@@ -20,9 +20,9 @@ mod words;
 
 pub use asked::Asked;
 pub use laws::{
-    beginnings_are_answered, boards_take_events, evenings_are_sequential,
-    first_rows_open_the_board, json_answers_are_lines, refused_evenings_are_silent,
-    replies_are_those_of_feed,
+    beginnings_are_answered, boards_take_events, evenings_are_sequential, evenings_say_the_same,
+    first_rows_open_the_board, json_answers_are_lines, json_says_the_same, lines_are_read_whole,
+    refused_evenings_are_silent, replies_are_those_of_feed,
 };
 pub use live::{Live, Progress, live_run};
 pub use options::{Format, Options};

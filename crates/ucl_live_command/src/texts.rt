@@ -20,7 +20,8 @@ bytes; a line with nothing on it is passed over and counted
                                  enters the event, 1 to 255; the match, 1 to 12;
                                  the event number last seen of it; the event
   screen,,,                      the table as it stands
-  words,,,                       the twelve words as they stand
+  words,,,                       the twelve words as they stand; the club rows
+                                 and these begin the next evening
 
 Events:
   kickoff, goal-home, goal-away, disallow-home, disallow-away, yellow-home,
@@ -33,7 +34,8 @@ Output: each row is answered before the next is read
   LINE refused 20 bad-row        the line asks for nothing that there is
   the screen, or the word lines  where they are asked for
 
-With --format json each answer is one object on one line.
+With --format json each answer is one object on one line, whose member reply is
+ok, refused, words or screen.
 
 Exit status, with a text on standard error where it is not 0:
   0  the input has ended, or help or the version was asked for
@@ -44,7 +46,8 @@ Exit status, with a text on standard error where it is not 0:
 
 Examples:
   ucl_live < examples/one_goal.csv
-  mkfifo rows; ucl_live --screens < rows
+  mkfifo rows; ucl_live --screens < rows    in one terminal, and in another
+  cat > rows                                to type rows, up to Ctrl-D
 
 docs/RULES.md has the rules of the board, of its input and of its answers.";
 

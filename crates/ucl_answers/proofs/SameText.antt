@@ -1,0 +1,223 @@
+-- An evening in JSON says what it says as text.
+use Rattle.std.proofs.Common.{◌≡◌, ◌∙◌, ℕ, ◌+◌, ◌==◌, Bool, true, false, List, [], ◌∷◌, ◌++◌, length, Option, Some, None, refl, sym, ap, inl, inr, append_assoc, append-nil, arith}
+use Rattle.std.specs.Prelude.{⊤, All, flat_map, if◌then◌else◌, Result, Ok, Err}
+use Rattle.std.specs.Result.{is_ok}
+use Rattle.std.proofs.lemmas.Bool.{cases_Bool}
+use Rattle.std.proofs.lemmas.Bool.Decides.{nat_tests}
+use Rattle.std.proofs.lemmas.Grind.{flat_map-append}
+use Rattle.std.proofs.lemmas.List.Elements.{All-append, All-cons, All-head, All-nil}
+use Rattle.serde_json.specs.Data.{Data}
+use Rattle.ucl_word.specs.declared.event.Accepted.{Accepted}
+use Rattle.ucl_word.specs.declared.refusal.Refusal.{Refusal}
+use Rattle.ucl_word.specs.Rules.{refusal_of, reply_of}
+use Rattle.ucl_board.specs.Words.{AreWords, game_at, version_of}
+use Rattle.ucl_board.specs.History.{Attempt, IsAttempt, board_after, board_of}
+use Rattle.ucl_board.proofs.Repeats.{no_refusal}
+use Rattle.ucl_order.specs.Roster.{NamedClub, bad_slot}
+use Rattle.ucl_runs.specs.Feed.{attempt_of, line_of_reply, word_lines}
+use Rattle.ucl_screen.specs.Events.{◌>>=◌}
+use Rattle.ucl_screen.specs.Screen.{screen_text}
+use Rattle.ucl_screen.specs.WordsRead.{read_words}
+use Rattle.ucl_screen.specs.declared.night.NightEvent.{NightEvent}
+use Rattle.ucl_json.specs.Lines.{IsOneLine, json_line}
+use Rattle.ucl_json.specs.Values.{bad_row_value, reply_value, screen_value, words_value}
+use Rattle.ucl_json.proofs.OneLine.{one_line}
+use Rattle.ucl_answers.specs.declared.options.Format.TheVariants.{Json}
+use Rattle.ucl_answers.specs.declared.options.Options.{Options}
+use Rattle.ucl_answers.specs.declared.request.Request.{Request}
+use Rattle.ucl_answers.specs.declared.request.Request.TheVariants.{Bad, Event, Screen, Words}
+use Rattle.ucl_answers.specs.ByHistory.{attempts_of}
+use Rattle.ucl_answers.specs.Lines.{lines_of}
+use Rattle.ucl_answers.specs.Members.{text_told, texts_told}
+use Rattle.ucl_answers.specs.Requests.{request_of}
+use Rattle.ucl_answers.specs.Rows.{Said, Nothing, Garbled, Row, said_on}
+use Rattle.ucl_answers.specs.Stages.{Stage, Naming, Restoring, Open, Refused, after_club, after_row, after_word, club_said, is_word_row, next_board, next_stage, opened, restored, with_clubs, with_roster, with_words, word_said}
+use Rattle.ucl_answers.specs.Text.{Evening, answer_at, answer_of, answer_said, answers, bad_line, next, reply_answer, screen_after, screen_answer, start_of}
+use Rattle.ucl_answers.specs.Laws.{AreLinesSaying, EveningsSayTheSame, RaisesVersion, as_text}
+use Rattle.ucl_answers.proofs.Boards.{AreAttempts, asked}
+use Rattle.ucl_answers.proofs.GoodBoards.{fresh-good, good-after, read-good, version-after}
+use Rattle.ucl_answers.proofs.Told.{same}
+
+abbrev Ends : Data → Type 0
+Ends value = IsOneLine (json_line value)
+
+-- ---- lines of values, one after the other
+
+no-lines : AreLinesSaying [] []
+unfolding texts_told
+no-lines = record { values = []; whole = refl; each = All-nil Ends; said = refl }
+
+value-line : (value : Data) (text : List ℕ) → text_told value ≡ Some text → AreLinesSaying text (json_line value)
+unfolding texts_told
+value-line value text h = record {
+  values = value ∷ [];
+  whole = sym (append-nil (json_line value));
+  each = All-cons Ends value [] (one_line value) (All-nil Ends);
+  said = rw h (ap (λ (l : List ℕ). Some l) (append-nil text));
+}
+
+some-same : (x y : List ℕ) → ◌≡◌ {A = Option (List ℕ)} (Some x) (Some y) → x ≡ y
+some-same x y e = cc
+
+pub record InParts (o p : Option (List ℕ)) (t : List ℕ) : Type 0 where
+  pub first : List ℕ
+  pub more : List ℕ
+  pub first_is : o ≡ Some first
+  pub more_is : p ≡ Some more
+  pub whole : first ++ more ≡ t
+
+in-parts : (o p : Option (List ℕ)) (t : List ℕ) → (o >>= λ a. p >>= λ b. Some (a ++ b)) ≡ Some t → InParts o p t
+in-parts None p t e = cc
+in-parts (Some a) None t e = cc
+in-parts (Some a) (Some b) t e = record { first = a; more = b; first_is = refl; more_is = refl; whole = some-same (a ++ b) t e }
+
+said-both : (xs ys : List Data) (t u : List ℕ) → texts_told xs ≡ Some t → texts_told ys ≡ Some u → texts_told (xs ++ ys) ≡ Some (t ++ u)
+unfolding texts_told
+said-both [] ys t u e f = f ∙ ap (λ (l : List ℕ). Some (l ++ u)) (some-same [] t e)
+said-both (x ∷ xs) ys t u e f =
+    let p = in-parts (text_told x) (texts_told xs) t e in
+    let rest = said-both xs ys p.more u p.more_is f in
+    rw (p.first_is, rest) (ap (λ (l : List ℕ). Some l) (sym (append_assoc p.first p.more u)) ∙ ap (λ (l : List ℕ). Some (l ++ u)) p.whole)
+
+both-lines : (t u j k : List ℕ) → AreLinesSaying t j → AreLinesSaying u k → AreLinesSaying (t ++ u) (j ++ k)
+both-lines t u j k p q = record {
+  values = p.values ++ q.values;
+  whole = rw (flat_map-append json_line p.values q.values, p.whole, q.whole) refl;
+  each = All-append Ends p.values q.values p.each q.each;
+  said = said-both p.values q.values t u p.said q.said;
+}
+
+-- ---- single answers
+
+screen-line : (options : Options) (row : ℕ) (clubs : List NamedClub) (board : List ℕ) → options.format ≡ Json
+    → AreLinesSaying (screen_answer (as_text options) row clubs board) (screen_answer options row clubs board)
+screen-line options row clubs board h =
+    rw h (value-line (screen_value row options.profile board clubs options.group) (screen_text options.profile board clubs options.group) (same row options.profile board clubs options.group).screen)
+
+wanted : (b : Bool) (t j : List ℕ) → AreLinesSaying t j → AreLinesSaying (if b then t else []) (if b then j else [])
+wanted true t j p = p
+wanted false t j p = no-lines
+
+after-line : (options : Options) (row : ℕ) (clubs : List NamedClub) (reply : Result Accepted Refusal) (board : List ℕ) → options.format ≡ Json
+    → AreLinesSaying (screen_after (as_text options) row clubs reply board) (screen_after options row clubs reply board)
+after-line options row clubs (Ok accepted) board h = wanted options.screens (screen_answer (as_text options) row clubs board) (screen_answer options row clubs board) (screen-line options row clubs board h)
+after-line options row clubs (Err refusal) board h = no-lines
+
+reply-line : (options : Options) (row : ℕ) (clubs : List NamedClub) (game before : ℕ) (reply : Result Accepted Refusal) (board : List ℕ) → options.format ≡ Json → RaisesVersion reply before board
+    → AreLinesSaying (reply_answer (as_text options) row clubs game before reply board) (reply_answer options row clubs game before reply board)
+reply-line options row clubs game before reply board h k =
+    rw h (value-line (reply_value row game reply options.profile board clubs options.group) (line_of_reply row game before reply) ((same row options.profile board clubs options.group).reply game before reply k))
+
+raised : (reply : Result Accepted Refusal) (before : ℕ) (board : List ℕ) → (is_ok reply ≡ true → version_of board ≡ before + 1) → RaisesVersion reply before board
+raised (Ok accepted) before board h = h refl
+raised (Err refusal) before board h = tt
+
+event-lines : (options : Options) (row : ℕ) (clubs : List NamedClub) (board : List ℕ) (event : NightEvent) → options.format ≡ Json → AreWords board → IsAttempt (attempt_of event)
+    → AreLinesSaying (answer_of (as_text options) row clubs board (Event event)) (answer_of options row clubs board (Event event))
+event-lines options row clubs board event h w is =
+    let call = event.call in
+    let m = game_at board call.game in
+    let reply = reply_of m call in
+    let after = next_board board (Event event) in
+    let raises = raised reply (version_of board) after (λ ok. version-after board (attempt_of event) w is (no_refusal m.number (refusal_of m call.expected call.kind) ok)) in
+    both-lines (reply_answer (as_text options) row clubs call.game (version_of board) reply after) (screen_after (as_text options) row clubs reply after)
+    (reply_answer options row clubs call.game (version_of board) reply after) (screen_after options row clubs reply after)
+    (reply-line options row clubs call.game (version_of board) reply after h raises) (after-line options row clubs reply after h)
+
+request-lines : (options : Options) (row : ℕ) (clubs : List NamedClub) (board : List ℕ) (request : Request) → options.format ≡ Json → AreWords board → AreAttempts request
+    → AreLinesSaying (answer_of (as_text options) row clubs board request) (answer_of options row clubs board request)
+request-lines options row clubs board (Event event) h w all = event-lines options row clubs board event h w (All-head IsAttempt (attempt_of event) [] all)
+request-lines options row clubs board Bad h w all = rw h (value-line (bad_row_value row) (bad_line row) (same row options.profile board clubs options.group).bad)
+request-lines options row clubs board Screen h w all = screen-line options row clubs board h
+request-lines options row clubs board Words h w all = rw h (value-line (words_value row board) (word_lines 1 board) (same row options.profile board clubs options.group).words)
+
+-- ---- lines of an evening
+
+-- a board that is open is of valid words
+abbrev Good : Stage → Type 0
+Good (Open clubs board) = AreWords board
+Good (Naming clubs) = ⊤
+Good (Restoring clubs words) = ⊤
+Good (Refused fault) = ⊤
+
+good-roster : (clubs : List NamedClub) (slot : Option ℕ) → Good (with_roster clubs slot)
+good-roster clubs None = tt
+good-roster clubs (Some slot) = tt
+
+either : (b : Bool) (s r : Stage) → Good s → Good r → Good (if b then s else r)
+either true s r p q = p
+either false s r p q = q
+
+good-club : (row : ℕ) (clubs : List NamedClub) (club : Option NamedClub) → Good (after_club row clubs club)
+good-club row clubs None = tt
+good-club row clubs (Some club) =
+    let all = clubs ++ club ∷ [] in either (length all == 4) (with_roster all (bad_slot all)) (Naming all) (good-roster all (bad_slot all)) tt
+
+good-restored : (clubs : List NamedClub) (words : List ℕ) (r : Result (List ℕ) ℕ) → length words ≡ 12 → read_words 1 words ≡ r → Good (restored clubs r)
+good-restored clubs words (Ok board) long e = read-good words board long e
+good-restored clubs words (Err index) long e = tt
+
+good-words : (clubs : List NamedClub) (words : List ℕ) → Good (with_words clubs words)
+good-words clubs words = elim (cases_Bool (length words == 12)) [
+  | inl y ↦ rw y (good-restored clubs words (read_words 1 words) (grind (arith, nat_tests)) refl)
+  | inr n ↦ rw n tt
+]
+
+good-word : (row : ℕ) (clubs : List NamedClub) (words : List ℕ) (word : Option ℕ) → Good (after_word row clubs words word)
+good-word row clubs words None = tt
+good-word row clubs words (Some word) = good-words clubs (words ++ word ∷ [])
+
+good-opened : (s : Stage) (r : Said) → Good s → Good (opened s r)
+good-opened (Restoring clubs []) r g = either (is_word_row r) (Restoring clubs []) (Open clubs (board_of [])) tt fresh-good
+good-opened (Restoring clubs (word ∷ words)) r g = tt
+good-opened (Naming clubs) r g = tt
+good-opened (Open clubs board) r g = g
+good-opened (Refused fault) r g = tt
+
+good-board : (board : List ℕ) (request : Request) → AreWords board → AreAttempts request → AreWords (next_board board request)
+good-board board (Event event) w all = good-after board (attempt_of event) w (All-head IsAttempt (attempt_of event) [] all)
+good-board board Bad w all = w
+good-board board Screen w all = w
+good-board board Words w all = w
+
+of-request : (r : Said) → AreAttempts (request_of r)
+of-request Nothing = All-nil IsAttempt
+of-request Garbled = All-nil IsAttempt
+of-request (Row f) = asked f
+
+good-row : (row : ℕ) (s : Stage) (r : Said) → Good s → Good (after_row row s r)
+good-row row (Naming clubs) r g = good-club row clubs (club_said (length clubs + 1) r)
+good-row row (Restoring clubs words) r g = good-word row clubs words (word_said (length words + 1) r)
+good-row row (Open clubs board) r g = good-board board (request_of r) g (of-request r)
+good-row row (Refused fault) r g = tt
+
+good-next : (row : ℕ) (s : Stage) (r : Said) → Good s → Good (next_stage row s r)
+good-next row s Nothing g = g
+good-next row s Garbled g = good-row row (opened s Garbled) Garbled (good-opened s Garbled g)
+good-next row s (Row f) g = good-row row (opened s (Row f)) (Row f) (good-opened s (Row f) g)
+
+stage-lines : (options : Options) (row : ℕ) (s : Stage) (r : Said) → options.format ≡ Json → Good s
+    → AreLinesSaying (answer_at (as_text options) row s (request_of r)) (answer_at options row s (request_of r))
+stage-lines options row (Naming clubs) r h g = no-lines
+stage-lines options row (Restoring clubs words) r h g = no-lines
+stage-lines options row (Open clubs board) r h g = request-lines options row clubs board (request_of r) h g (of-request r)
+stage-lines options row (Refused fault) r h g = no-lines
+
+abbrev text_of : Evening → Evening
+text_of e = record { options = as_text e.options; row = e.row; stage = e.stage }
+
+said-lines : (e : Evening) (r : Said) → e.options.format ≡ Json → Good e.stage → AreLinesSaying (answer_said (text_of e) r) (answer_said e r)
+said-lines e Nothing h g = no-lines
+said-lines e Garbled h g = stage-lines e.options e.row (opened e.stage Garbled) Garbled h (good-opened e.stage Garbled g)
+said-lines e (Row f) h g = stage-lines e.options e.row (opened e.stage (Row f)) (Row f) h (good-opened e.stage (Row f) g)
+
+all-lines : (e : Evening) (lines : List (List ℕ)) → e.options.format ≡ Json → Good e.stage → AreLinesSaying (answers (text_of e) lines) (answers e lines)
+unfolding answers
+all-lines e [] h g = no-lines
+all-lines e (line ∷ lines) h g =
+    let r = said_on e.row line in
+    both-lines (answer_said (text_of e) r) (answers (text_of (next e r)) lines) (answer_said e r) (answers (next e r) lines)
+    (said-lines e r h g) (all-lines (next e r) lines h (good-next e.row e.stage r g))
+
+pub evenings : EveningsSayTheSame
+evenings options bytes h = all-lines (start_of options) (lines_of bytes) h tt

@@ -1,0 +1,141 @@
+-- The members of an answer in JSON say what it says as text.
+use Rattle.std.proofs.Common.{◌≡◌, ℕ, zero, suc, ◌+◌, ◌-◌, ◌≤◌, ◌<◌, ℤ, pos, negsuc, ◌-ℤ◌, Bool, true, false, List, [], ◌∷◌, ◌++◌, codes, Option, Some, None, refl, sym, ap, ◌∙◌, append-nil, inl, inr, arith, cond, le-leb, ltb}
+use Rattle.std.specs.Prelude.{Result, Ok, Err, decimal, flat_map, nat_le, option_and_then}
+use Rattle.std.proofs.lemmas.Fmt.{decimal_digit}
+use Rattle.std.proofs.lemmas.List.{append_assoc}
+use Rattle.itoa.proofs.Decimal.{decimal_two, pair}
+use Rattle.std.proofs.lemmas.Bool.{cases_Bool, ltb-false, ltb-true}
+use Rattle.std.proofs.lemmas.Bool.Decides.{nat_tests}
+use Rattle.serde_json.specs.Data.{Data, Items, number}
+use Rattle.serde_json.specs.Find.{as_integer, as_number, of_integer}
+use Rattle.serde_json.proofs.OnLiterals.{serde_json_on_literals}
+use Rattle.ucl_word.specs.declared.event.Accepted.{Accepted}
+use Rattle.ucl_word.specs.declared.refusal.Refusal.{Refusal}
+use Rattle.ucl_word.specs.declared.refusal.Refusal.TheVariants.{Stale, Finished, NotFinished, NotStarted, AlreadyStarted, NumberFull, NoGoal, NoCaution, LimitReached}
+use Rattle.ucl_board.specs.Words.{version_of}
+use Rattle.ucl_order.specs.declared.mark.Mark.{Mark}
+use Rattle.ucl_order.specs.declared.mark.Mark.TheVariants.{Plus, Minus, Blank}
+use Rattle.ucl_order.specs.declared.profile.Profile.{Profile}
+use Rattle.ucl_order.specs.declared.table.Row.{Row}
+use Rattle.ucl_order.specs.Roster.{NamedClub, name_of}
+use Rattle.ucl_order.specs.Rows.{rows_of}
+use Rattle.ucl_runs.specs.Feed.{line_of_reply, word_lines}
+use Rattle.ucl_runs.specs.Lines.{accepted_line, hex_digits}
+use Rattle.ucl_screen.specs.Lines.{difference_text, mark_text, place_line}
+use Rattle.ucl_screen.specs.Screen.{in_play, row_line, screen_text}
+use Rattle.ucl_json.specs.Values.{accepted_value, bad_row_value, coded_value, mark_name, place_items, place_value, refused_value, reply_value, screen_value, stale_value, word_items, words_value}
+use Rattle.ucl_answers.specs.Members.{mark_column, place_line_of, place_lines_of, signed_text, text_told, word_lines_of}
+use Rattle.ucl_answers.specs.Text.{bad_line}
+use Rattle.ucl_answers.specs.Laws.{JsonSaysTheSame, RaisesVersion, SaysTheSame}
+
+-- ---- replies
+
+accepted : (row game event_number : ℕ) (profile : Profile) (board : List ℕ) (clubs : List NamedClub) (group : ℕ)
+    → text_told (accepted_value row game event_number profile board clubs group) ≡ Some (accepted_line row game event_number (version_of board))
+unfolding accepted_value text_told serde_json_on_literals
+accepted row game event_number profile board clubs group = refl
+
+-- three parts after a first one, together
+together : (front a b c : List ℕ) → front ++ a ++ b ++ c ≡ front ++ (a ++ b ++ c)
+together front a b c = ap (λ (l : List ℕ). l ++ c) (append_assoc front a b) ∙ append_assoc front (a ++ b) c
+
+coded : (row code : ℕ) (name spelt : List ℕ) → decimal code ≡ spelt
+    → text_told (coded_value row code name) ≡ Some (decimal row ++ codes " refused " ++ (spelt ++ codes " " ++ name) ++ codes "\n")
+unfolding text_told serde_json_on_literals
+coded row code name spelt e =
+    ap (λ (l : List ℕ). Some (decimal row ++ codes " refused " ++ l ++ codes " " ++ name ++ [] ++ codes "\n")) e
+    ∙ ap (λ (l : List ℕ). Some (l ++ codes "\n"))
+    (append-nil (decimal row ++ codes " refused " ++ spelt ++ codes " " ++ name) ∙ together (decimal row ++ codes " refused ") spelt (codes " ") name)
+
+-- a name and a number after it, as parts of a line
+stale-parts : (front spelt found : List ℕ) → front ++ spelt ++ codes " " ++ codes "stale" ++ (codes " " ++ found) ≡ front ++ (spelt ++ codes " stale " ++ found)
+stale-parts front spelt found =
+    sym (append_assoc (front ++ spelt ++ codes " " ++ codes "stale") (codes " ") found)
+    ∙ ap (λ (l : List ℕ). l ++ found)
+    (append_assoc (front ++ spelt ++ codes " ") (codes "stale") (codes " ") ∙ append_assoc (front ++ spelt) (codes " ") (codes "stale" ++ codes " "))
+    ∙ together front spelt (codes " stale ") found
+
+stale : (row found : ℕ) (spelt : List ℕ) → decimal 1 ≡ spelt
+    → text_told (stale_value row found) ≡ Some (decimal row ++ codes " refused " ++ (spelt ++ codes " stale " ++ decimal found) ++ codes "\n")
+unfolding text_told serde_json_on_literals
+stale row found spelt e =
+    ap (λ (l : List ℕ). Some (decimal row ++ codes " refused " ++ l ++ codes " " ++ codes "stale" ++ (codes " " ++ decimal found) ++ codes "\n")) e
+    ∙ ap (λ (l : List ℕ). Some (l ++ codes "\n")) (stale-parts (decimal row ++ codes " refused ") spelt (decimal found))
+
+refused : (row game before : ℕ) (refusal : Refusal) → text_told (refused_value row refusal) ≡ Some (line_of_reply row game before (Err refusal))
+refused row game before (Stale found) = stale row found (49 ∷ []) (decimal_digit 1 (omega arith))
+refused row game before Finished = coded row 2 (codes "finished") (50 ∷ []) (decimal_digit 2 (omega arith))
+refused row game before NotStarted = coded row 3 (codes "not-started") (51 ∷ []) (decimal_digit 3 (omega arith))
+refused row game before AlreadyStarted = coded row 4 (codes "already-started") (52 ∷ []) (decimal_digit 4 (omega arith))
+refused row game before NumberFull = coded row 5 (codes "number-full") (53 ∷ []) (decimal_digit 5 (omega arith))
+refused row game before NoGoal = coded row 6 (codes "no-goal") (54 ∷ []) (decimal_digit 6 (omega arith))
+refused row game before NoCaution = coded row 7 (codes "no-caution") (55 ∷ []) (decimal_digit 7 (omega arith))
+refused row game before LimitReached = coded row 8 (codes "limit-reached") (56 ∷ []) (decimal_digit 8 (omega arith))
+refused row game before NotFinished = coded row 9 (codes "not-finished") (57 ∷ []) (decimal_digit 9 (omega arith))
+
+replied : (row : ℕ) (profile : Profile) (board : List ℕ) (clubs : List NamedClub) (group game before : ℕ) (reply : Result Accepted Refusal) → RaisesVersion reply before board
+    → text_told (reply_value row game reply profile board clubs group) ≡ Some (line_of_reply row game before reply)
+replied row profile board clubs group game before (Ok a) h =
+    accepted row game a.number profile board clubs group ∙ ap (λ (version : ℕ). Some (accepted_line row game a.number version)) h
+replied row profile board clubs group game before (Err refusal) h = refused row game before refusal
+
+bad : (row : ℕ) → text_told (bad_row_value row) ≡ Some (bad_line row)
+bad row =
+    coded row 20 (codes "bad-row") (pair 20) (decimal_two 20 (omega arith) (omega arith))
+    ∙ ap Some (append_assoc (decimal row ++ codes " refused ") (codes "20 bad-row") (codes "\n") ∙ append_assoc (decimal row) (codes " refused ") (codes "20 bad-row\n"))
+
+-- ---- words
+
+lines-told : (index : ℕ) (words : List ℕ) → word_lines_of index (word_items words) ≡ Some (word_lines index words)
+unfolding word_lines_of word_lines
+lines-told index [] = refl
+lines-told index (word ∷ words) = rw (lines-told (index + 1) words) refl
+
+words-told : (row : ℕ) (board : List ℕ) → text_told (words_value row board) ≡ word_lines_of 1 (word_items board)
+unfolding text_told serde_json_on_literals
+words-told row board = refl
+
+-- ---- the screen
+
+integer-back : (z : ℤ) → as_integer (of_integer z) ≡ Some z
+integer-back (pos n) = refl
+integer-back (negsuc n) = refl
+
+above : (n m : ℕ) → m < n → nat_le n m ≡ false
+above n m h = elim (cases_Bool (nat_le n m)) [ inl y ↦ absurd (grind (arith, nat_tests)) | inr other ↦ other ]
+
+marked : (mark : Mark) → mark_column (mark_name mark) ≡ mark_text mark
+marked Plus = refl
+marked Minus = refl
+marked Blank = refl
+
+signs : (f a : ℕ) (t : Bool) → ltb f (suc a) ≡ t → signed_text (cond t (negsuc (suc a - suc f)) (pos (f - suc a))) ≡ difference_text f (suc a)
+signs f a true e =
+    let h : f < suc a = ltb-true f (suc a) e in
+    rw (above (suc a) f h) (ap (λ (n : ℕ). codes "-" ++ decimal n) (omega (arith, h)))
+signs f a false e = rw (le-leb (suc a) f (ltb-false f (suc a) e)) refl
+
+difference : (f a : ℕ) → signed_text (pos f -ℤ pos a) ≡ difference_text f a
+difference f zero = rw (le-leb 0 f (omega arith)) (ap (λ (n : ℕ). codes "+" ++ decimal n) (omega arith))
+difference f (suc a) = signs f a (ltb f (suc a)) refl
+
+place-told : (clubs : List NamedClub) (row : Row) → place_line_of (place_value clubs row) ≡ Some (row_line clubs row)
+unfolding place_value place_line serde_json_on_literals
+place-told clubs row = rw (integer-back (pos row.goals_for -ℤ pos row.goals_against), difference row.goals_for row.goals_against, marked row.mark) refl
+
+places-told : (clubs : List NamedClub) (rows : List Row) → place_lines_of (place_items clubs rows) ≡ Some (flat_map (row_line clubs) rows)
+unfolding place_lines_of
+places-told clubs [] = refl
+places-told clubs (row ∷ rows) = rw (place-told clubs row, places-told clubs rows) refl
+
+screen-told : (row : ℕ) (profile : Profile) (board : List ℕ) (clubs : List NamedClub) (group : ℕ) → text_told (screen_value row profile board clubs group) ≡ Some (screen_text profile board clubs group)
+unfolding screen_value screen_text text_told serde_json_on_literals
+screen-told row profile board clubs group = rw (places-told clubs (rows_of profile board clubs)) refl
+
+pub same : JsonSaysTheSame
+same row profile board clubs group = record {
+  reply = replied row profile board clubs group;
+  bad = bad row;
+  words = words-told row board ∙ lines-told 1 board;
+  screen = screen-told row profile board clubs group;
+}
