@@ -15,7 +15,9 @@ from broker_parts import LIMIT, Room, Trouble, typed_lines, until
 BEGIN, BOARD, DESK, SCREEN = "The beginning of an evening", "The board", "The desk", "A screen"
 CLUBS = [("Alpha", 60000), ("Bravo", 95000), ("Charlie", 60000), ("Delta", 81500)]
 SCREEN_LINES = 6
-# How long reporters may take, in seconds, and after how many they send a row again.
+# The number of the first row after four clubs, twelve words, and the screen that the board's line asks for.
+FIRST_ROW = 18
+# How long a client may take for all rows, in seconds, and after how many seconds a reporter sends a row again.
 LONG, AGAIN = 200, 1
 SMALL_PIPE = 4096
 
@@ -105,7 +107,14 @@ class Follower:
 
     def shows(self, screen):
         """Whether the last screen is this."""
-        return self.files[-1].read_bytes().endswith(screen)
+        return end_of(self.files[-1]).endswith(screen)
+
+
+def end_of(path):
+    """The end of a file: more than a screen has."""
+    with open(path, "rb") as file:
+        file.seek(max(0, path.stat().st_size - 1000))
+        return file.read()
 
 
 def screens_of(text):
@@ -161,9 +170,9 @@ class Evening:
         ended = lambda: all(line.shell.poll() is not None for line in reporters)
         places = sorted(self.chance.sample(range(len(self.rows) // 20, len(self.rows) * 19 // 20), steps))
         for number, place in enumerate(places):
-            until(f"{place} rows", lambda: entered() >= place or ended(), LONG)
+            until(f"{place} rows", lambda: entered() >= place or ended(), progress=entered)
             trouble(number)
-        until("the reporters to end", ended, LONG)
+        until("the reporters to end", ended, progress=entered)
         if any(line.shell.returncode for line in reporters):
             raise Trouble(f"a reporter has ended after {entered()} of {len(self.rows)} rows: {self.room.told()}")
 
@@ -180,7 +189,8 @@ class Evening:
         self.room.done(ask)
         last = b"v%05d " % len(self.rows)
         for follower in self.followers:
-            until(f"the {follower.name} follower to show the last screen", lambda: last in follower.files[-1].read_bytes()[-400:])
+            path = follower.files[-1]
+            until(f"the {follower.name} follower to show the last screen", lambda: last in end_of(path), progress=lambda: path.stat().st_size)
         lives = {follower.name: follower.lives() for follower in self.followers}
         wanted = {version_of(screen) for shown in lives.values() for life in shown for screen in life}
         journal = history.faults(self.journal.read_bytes(), wanted)
@@ -249,10 +259,10 @@ def doubled(room, rules, count):
         if evening.chance.random() < 0.01:
             sent.append(evening.chance.choice(["x\n", "1,1,0,goal-hoem\n", "1,13,0,kickoff\n"]))
         again.append(row)
-    before = evening.journal.read_bytes().count(b"\n")
     (room.path / "rows").write_text("".join(sent))
     room.done("mosquitto_pub -l -q 1 -t ucl/a/rows <rows", LONG)
-    until("all answers", lambda: evening.journal.read_bytes().count(b"\n") >= before + len(sent) + len(evening.rows) or None, LONG)
+    last = b'"row":%d}\n' % (FIRST_ROW + len(sent) - 1)
+    until("all answers", lambda: end_of(evening.journal).endswith(last), progress=lambda: evening.journal.stat().st_size)
     start = room.done("./ucl_follow --resume <evening.jsonl | head -n 4").decode().replace('"', "")
     fresh = [rules.Match() for _ in range(12)]
     text = start + rules.sheet(fresh) + "screen,,,\n" + "".join(sent)

@@ -8,7 +8,7 @@ import subprocess
 from broker_parts import free_port, is_reached, lacking, typed_lines, until
 
 IN_THE_README = ["The beginning of an evening", "The board", "The desk", "A screen"]
-CERTIFICATE = "openssl req -x509 -newkey rsa:2048 -nodes -days 1 -subj /CN=localhost -addext subjectAltName=DNS:localhost -keyout broker.key -out ca.crt"
+CERTIFICATE = "openssl req -x509 -newkey ec -pkeyopt ec_paramgen_curve:prime256v1 -nodes -days 1 -subj /CN=localhost -addext subjectAltName=DNS:localhost"
 
 
 def in_one_line(text):
@@ -96,11 +96,11 @@ def encrypted(room, rules, rows):
     if lacking(["openssl"]):
         yield name, "not run: no openssl"
         return
-    room.done(CERTIFICATE + " && cp ca.crt broker.crt && chmod 644 broker.key")
+    room.done(CERTIFICATE + " -keyout broker.key -out ca.crt && cp ca.crt broker.crt && chmod 644 broker.key")
     port = free_port()
     room.open_broker(re.sub(r"listener \d+", f"listener {port} 127.0.0.1", (room.top / "examples/broker/tls.conf").read_text()))
     until("the encrypted port", lambda: is_reached(port))
-    room.done("openssl req -x509 -newkey rsa:2048 -nodes -days 1 -subj /CN=localhost -keyout other.key -out other.crt")
+    room.done(CERTIFICATE + " -keyout other.key -out other.crt")
     send = f"mosquitto_pub -h localhost -p {port} -t ucl/a/rows -m row"
     sent = lambda more: room.done(f"{send} {more} >/dev/null 2>&1 && echo taken || echo refused").decode().strip()
     told = [sent(more) for more in ("--cafile ca.crt", "--cafile other.crt", "")]

@@ -59,13 +59,16 @@ def tell(verdicts):
     return counts["FAILED"]
 
 
-def until(what, holds, limit=LIMIT):
-    """Waits until something holds, and gives what it is; an error after so many seconds."""
-    end = time.monotonic() + limit
+def until(what, holds, limit=LIMIT, progress=None):
+    """Waits until something holds, and gives what it is; an error after so many seconds, or after so many without progress."""
+    end, last = time.monotonic() + limit, None
     while True:
         got = holds()
         if got:
             return got
+        now = progress() if progress else None
+        if now != last:
+            end, last = time.monotonic() + limit, now
         if time.monotonic() > end:
             raise Trouble(f"waited {limit} seconds for {what}")
         time.sleep(0.02)
