@@ -92,6 +92,7 @@ def cases(top):
         yield from fed(top, work, "", [])
         yield from fed(top, work, ", with the address sanitizer", SANITIZED)
         yield from typed(top, pathlib.Path(work))
+        yield from documented(top, pathlib.Path(work))
         yield from packaged(top, work)
         yield from refused_memory(top, work)
         yield from on_small_stacks(top, work)
@@ -139,6 +140,24 @@ def typed(top, work):
         wanted = "" if command[0] == "cc" else kicked_off(top)
         verdict = verdict or (None if ran.returncode == 0 and ran.stdout == wanted else f"FAILED: {command[0]}: {ran.stdout.strip()[:400]}")
     yield verdict or "ok", title
+
+
+def documented(top, work):
+    """The commands under the examples of docs/C.md, typed at the top of a repository: each writes what stands beside its script."""
+    lines = re.findall(r"^    (\S.*) < (examples/\w+\.csv)$", (top / "docs/C.md").read_text().split("\n## Examples\n")[-1], re.M)
+    there = [line for line in lines if not line[0].startswith("cargo ") or shutil.which("cargo")]
+    title = f"{len(there)} commands of docs/C.md, typed as they stand there"
+    place = work / "typed"
+    place.mkdir()
+    for name in "library", "examples":
+        (place / name).symlink_to(top / name)
+    found = [] if len(lines) >= 6 else [f"{len(lines)} commands were found"]
+    for command, script in there:
+        variables = {**os.environ, "CARGO_TARGET_DIR": f"{work}/cargo", "CARGO_NET_OFFLINE": "true", "PYTHONDONTWRITEBYTECODE": "1"}
+        ran = subprocess.run(f"{command} < {script}", shell=True, cwd=place, env=variables, stdout=subprocess.PIPE, stderr=subprocess.PIPE, timeout=300)
+        if ran.returncode != 0 or ran.stdout != (top / script).with_suffix(".expected").read_bytes():
+            found.append(f"{command}: status {ran.returncode} {ran.stderr.decode(errors='replace')[-200:]}")
+    yield f"FAILED: {'; '.join(found)}" if found else "ok", title
 
 
 def kicked_off(top):
