@@ -1,5 +1,6 @@
 -- Boards of valid words, through an evening.
-use Rattle.std.proofs.Common.{◌≡◌, ℕ, zero, suc, ◌+◌, ◌-◌, ◌<◌, ◌≤◌, ◌==◌, ◌&&◌, Bool, true, false, List, [], ◌∷◌, ◌++◌, length, get_or, set, Option, Some, None, refl, sym, ap, ◌∙◌, subst, inl, inr, arith}
+use Rattle.std.proofs.Common.{◌≡◌, ℕ, zero, suc, ◌+◌, ◌-◌, ◌<◌, ◌≤◌, ◌==◌, ◌&&◌, Bool, true, false, List, [], ◌∷◌, ◌++◌, length, get_or, set, Option, Some, None}
+use Rattle.std.proofs.Common.{refl, sym, ap, ◌∙◌, subst, inl, inr, arith}
 use Rattle.std.specs.Prelude.{⊤, All, if◌then◌else◌, Result, Ok, Err}
 use Rattle.std.specs.List.{sum_by}
 use Rattle.std.proofs.lemmas.Bool.{cases_Bool}
@@ -52,7 +53,9 @@ module _ (words : List ℕ) (a : Attempt) (w : AreWords words) (is : IsAttempt a
   valid-after e = after_valid (game_at words a.call.game) a.reporter a.call.expected a.call.kind is-valid is.0 (accepts (game_at words a.call.game) a.call.expected a.call.kind e)
 
   after-by : (o : Option Refusal) → refusal_of (game_at words a.call.game) a.call.expected a.call.kind ≡ o → AreWords (board_after words a)
-  after-by None e = rw e (set-words words (a.call.game - 1) (word_of (after (game_at words a.call.game) a.reporter a.call.kind)) within w (packed (after (game_at words a.call.game) a.reporter a.call.kind) (valid-after e)))
+  after-by None e =
+      rw e (set-words words (a.call.game - 1) (word_of (after (game_at words a.call.game) a.reporter a.call.kind)) within w
+      (packed (after (game_at words a.call.game) a.reporter a.call.kind) (valid-after e)))
   after-by (Some r) e = rw e w
 
   pub good-after : AreWords (board_after words a)

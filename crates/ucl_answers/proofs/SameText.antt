@@ -31,7 +31,8 @@ use Rattle.ucl_answers.specs.Lines.{lines_of}
 use Rattle.ucl_answers.specs.Members.{text_told, texts_told}
 use Rattle.ucl_answers.specs.Requests.{request_of}
 use Rattle.ucl_answers.specs.Rows.{Said, Nothing, Garbled, Row, said_on}
-use Rattle.ucl_answers.specs.Stages.{Stage, Naming, Restoring, Open, Refused, after_club, after_row, after_word, club_said, is_word_row, next_board, next_stage, opened, restored, with_clubs, with_roster, with_words, word_said}
+use Rattle.ucl_answers.specs.Stages.{Stage, Naming, Restoring, Open, Refused}
+use Rattle.ucl_answers.specs.Stages.{after_club, after_row, after_word, club_said, is_word_row, next_board, next_stage, opened, restored, with_clubs, with_roster, with_words, word_said}
 use Rattle.ucl_answers.specs.Text.{Evening, answer_at, answer_of, answer_said, answers, bad_line, next, reply_answer, screen_after, screen_answer, start_of}
 use Rattle.ucl_answers.specs.Laws.{AreLinesSaying, EveningsSayTheSame, RaisesVersion, as_text}
 use Rattle.ucl_answers.proofs.Boards.{AreAttempts, asked}
@@ -100,13 +101,16 @@ wanted false t j p = no-lines
 
 after-line : (options : Options) (row : ℕ) (clubs : List NamedClub) (reply : Result Accepted Refusal) (board : List ℕ) → options.format ≡ Json
     → AreLinesSaying (screen_after (as_text options) row clubs reply board) (screen_after options row clubs reply board)
-after-line options row clubs (Ok accepted) board h = wanted options.screens (screen_answer (as_text options) row clubs board) (screen_answer options row clubs board) (screen-line options row clubs board h)
+after-line options row clubs (Ok accepted) board h =
+    wanted options.screens (screen_answer (as_text options) row clubs board) (screen_answer options row clubs board) (screen-line options row clubs board h)
 after-line options row clubs (Err refusal) board h = no-lines
 
-reply-line : (options : Options) (row : ℕ) (clubs : List NamedClub) (game before : ℕ) (reply : Result Accepted Refusal) (board : List ℕ) → options.format ≡ Json → RaisesVersion reply before board
+reply-line : (options : Options) (row : ℕ) (clubs : List NamedClub) (game before : ℕ) (reply : Result Accepted Refusal) (board : List ℕ) → options.format ≡ Json
+    → RaisesVersion reply before board
     → AreLinesSaying (reply_answer (as_text options) row clubs game before reply board) (reply_answer options row clubs game before reply board)
 reply-line options row clubs game before reply board h k =
-    rw h (value-line (reply_value row game reply options.profile board clubs options.group) (line_of_reply row game before reply) ((same row options.profile board clubs options.group).reply game before reply k))
+    rw h (value-line (reply_value row game reply options.profile board clubs options.group) (line_of_reply row game before reply)
+    ((same row options.profile board clubs options.group).reply game before reply k))
 
 raised : (reply : Result Accepted Refusal) (before : ℕ) (board : List ℕ) → (is_ok reply ≡ true → version_of board ≡ before + 1) → RaisesVersion reply before board
 raised (Ok accepted) before board h = h refl

@@ -1,5 +1,6 @@
 -- The members of an answer in JSON say what it says as text.
-use Rattle.std.proofs.Common.{◌≡◌, ℕ, zero, suc, ◌+◌, ◌-◌, ◌≤◌, ◌<◌, ℤ, pos, negsuc, ◌-ℤ◌, Bool, true, false, List, [], ◌∷◌, ◌++◌, codes, Option, Some, None, refl, sym, ap, ◌∙◌, append-nil, inl, inr, arith, cond, le-leb, ltb}
+use Rattle.std.proofs.Common.{◌≡◌, ℕ, zero, suc, ◌+◌, ◌-◌, ◌≤◌, ◌<◌, ℤ, pos, negsuc, ◌-ℤ◌, Bool, true, false, List, [], ◌∷◌, ◌++◌, codes, Option, Some, None}
+use Rattle.std.proofs.Common.{refl, sym, ap, ◌∙◌, append-nil, inl, inr, arith, cond, le-leb, ltb}
 use Rattle.std.specs.Prelude.{Result, Ok, Err, decimal, flat_map, nat_le, option_and_then}
 use Rattle.std.proofs.lemmas.Fmt.{decimal_digit}
 use Rattle.std.proofs.lemmas.List.{append_assoc}
@@ -128,7 +129,8 @@ unfolding place_lines_of
 places-told clubs [] = refl
 places-told clubs (row ∷ rows) = rw (place-told clubs row, places-told clubs rows) refl
 
-screen-told : (row : ℕ) (profile : Profile) (board : List ℕ) (clubs : List NamedClub) (group : ℕ) → text_told (screen_value row profile board clubs group) ≡ Some (screen_text profile board clubs group)
+screen-told : (row : ℕ) (profile : Profile) (board : List ℕ) (clubs : List NamedClub) (group : ℕ)
+    → text_told (screen_value row profile board clubs group) ≡ Some (screen_text profile board clubs group)
 unfolding screen_value screen_text text_told serde_json_on_literals
 screen-told row profile board clubs group = rw (places-told clubs (rows_of profile board clubs)) refl
 

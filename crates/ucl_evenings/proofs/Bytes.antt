@@ -20,7 +20,8 @@ module _ (k m z : PassView) (a b c : ℕ → Type 0) (row i : ℕ) (line bytes :
   abbrev rest : List (List ℕ)
   rest = ended_lines (begun_line line (take (i + 1) bytes)) (drop (i + 1) bytes)
 
-  pub byte_answered : (out2 : ℕ) → AreAnswered m z b c now (ended_lines begun (get_or bytes i 0 ∷ [])) mid out2 x y → AreAnswered k z a c row (ended_lines line (take (i + 1) bytes)) out out2 w y
+  pub byte_answered : (out2 : ℕ) → AreAnswered m z b c now (ended_lines begun (get_or bytes i 0 ∷ [])) mid out2 x y
+      → AreAnswered k z a c row (ended_lines line (take (i + 1) bytes)) out out2 w y
   byte_answered out2 q =
       let here = subst (λ (l : List ℕ). AreAnsweredSo m z b c now (ended_lines l (get_or bytes i 0 ∷ [])) q.0 mid out2 x y) begun_is q.1 in
       let there = subst (λ (n : ℕ). AreAnsweredSo m z b c n next q.0 mid out2 x y) now_is here in (
@@ -29,7 +30,8 @@ module _ (k m z : PassView) (a b c : ℕ → Type 0) (row i : ℕ) (line bytes :
             (answered_then k m z a b c row first next p.0 q.0 out mid w x y p.1 out2 there),
       )
 
-  pub byte_fails : (failed : Bool) (f : RunFault) → FailsToAnswer m z b c now (ended_lines begun (get_or bytes i 0 ∷ [])) mid failed x y f → FailsToAnswer k z a c row (ended_lines line bytes) out failed w y f
+  pub byte_fails : (failed : Bool) (f : RunFault) → FailsToAnswer m z b c now (ended_lines begun (get_or bytes i 0 ∷ [])) mid failed x y f
+      → FailsToAnswer k z a c row (ended_lines line bytes) out failed w y f
   byte_fails failed f q =
       let here = subst (λ (l : List ℕ). FailsToAnswer m z b c now (ended_lines l (get_or bytes i 0 ∷ [])) mid failed x y f) begun_is q in
       let there = subst (λ (n : ℕ). FailsToAnswer m z b c n next mid failed x y f) now_is here in

@@ -42,7 +42,8 @@ returns-in-None-clause-took g c =
     let old = device g.S.Source.left g.S.Source.failed g.W.Sink.taken g.W.Sink.failed c.args.wire.now in
     let mid = device g.S.Source.left g.S.Source.failed g.W.Sink.taken g.W.Sink.failed c.pieces.wire in
     let now = up_to_now _ _ _ _ so_far.bytes so_far.went _ _ _ _ _ _ so_far.consumed so_far.answered in
-    run_read_failed (known c.args.pass.now) (known c.pieces.pass) (known c.pieces.pass) (reports c.args.pass.now) (reports c.pieces.pass) (reports c.pieces.pass) old mid _ so_far.bytes so_far.went _ so_far.consumed so_far.answered _
+    run_read_failed (known c.args.pass.now) (known c.pieces.pass) (known c.pieces.pass) (reports c.args.pass.now) (reports c.pieces.pass) (reports c.pieces.pass)
+    old mid _ so_far.bytes so_far.went _ so_far.consumed so_far.answered _
     _ c.in-None.ensures.moves (ap g.W.Sink.taken c.take.ensures.sink) so_far.read
     (asked-then _ _ _ _ _ _ _ (c.pieces.wire.source, c.pieces.wire.sink) so_far.asked c.take.ensures.asked c.take.ensures.counts now)
 
@@ -71,7 +72,8 @@ returns-in-Some-eq0-clause-took g c =
     let moved = rw c.in-Some-eq0.field-0-test at c.in-Some-eq0.ensures.moves in
     let answered = rw (c.take.ensures.sink, so_far.row, so_far.begun) at c.end.ensures.answered in
     let fails = rw (c.take.ensures.sink, so_far.row, so_far.begun) at c.end.ensures.fails in
-    run_ended (known c.args.pass.now) (known c.pieces.pass) (known c.end.new.pass) (reports c.args.pass.now) (reports c.pieces.pass) (reports c.end.new.pass) old mid _ so_far.bytes so_far.went _ so_far.consumed so_far.answered _
+    run_ended (known c.args.pass.now) (known c.pieces.pass) (known c.end.new.pass) (reports c.args.pass.now) (reports c.pieces.pass) (reports c.end.new.pass)
+    old mid _ so_far.bytes so_far.went _ so_far.consumed so_far.answered _
     _ c.end.result (c.in-Some-eq0.ensures.end c.in-Some-eq0.field-0-test (omega arith)) moved answered fails
     (λ later. asked_again g.S.Source.left g.W.Sink.taken _ _ _ _ _ _ _ _ so_far.went later (c.pieces.wire.source, c.pieces.wire.sink) so_far.asked c.take.ensures.asked c.take.ensures.counts now)
 
@@ -105,7 +107,8 @@ returns-in_err-enter-in-Some-clause-took g c =
     let mid = device g.S.Source.left g.S.Source.failed g.W.Sink.taken g.W.Sink.failed c.pieces.wire in
     let now = up_to_now _ _ _ _ so_far.bytes so_far.went _ _ _ _ _ _ so_far.consumed so_far.answered in
     let fails = rw (c.take.ensures.sink, so_far.row, so_far.begun) at c.in_err-enter-in-Some.ensures.fails in
-    rw (e.1, e.2) (run_stopped (known c.args.pass.now) (known c.pieces.pass) (known c.enter.new.pass) (reports c.args.pass.now) (reports c.pieces.pass) (reports c.enter.new.pass) old mid _ so_far.bytes so_far.went _ so_far.consumed so_far.answered _
+    rw (e.1, e.2) (run_stopped (known c.args.pass.now) (known c.pieces.pass) (known c.enter.new.pass) (reports c.args.pass.now) (reports c.pieces.pass) (reports c.enter.new.pass)
+    old mid _ so_far.bytes so_far.went _ so_far.consumed so_far.answered _
     (take c.in-Some.n c.take.new.buf) _ c.in-Some.ensures.moves fails
     (λ later. asked_again g.S.Source.left g.W.Sink.taken _ _ _ _ _ _ _ _ so_far.went later (c.pieces.wire.source, c.pieces.wire.sink) so_far.asked c.take.ensures.asked c.take.ensures.counts now))
 

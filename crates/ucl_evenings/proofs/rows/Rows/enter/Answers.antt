@@ -50,7 +50,8 @@ returns-in_err-enter_byte-clause-fails g c =
     let reports = g.B.LiveBoard.has_reported in
     let taken = g.W.Sink.taken in
     rw (p.1, p.2) (byte_fails (known c.args.pass.now) (known c.loop-b.pass) (known c.enter_byte.new.pass) (reports c.args.pass.now) (reports c.loop-b.pass) (reports c.enter_byte.new.pass)
-    c.args.self.now.row c.loop-b.b-index c.args.self.now.begun.items c.args.bytes.now c.args.self.now.written c.loop-b.self.written (taken c.args.sink.now) (taken c.loop-b.sink) (taken c.enter_byte.new.sink)
+    c.args.self.now.row c.loop-b.b-index c.args.self.now.begun.items c.args.bytes.now c.args.self.now.written c.loop-b.self.written
+    (taken c.args.sink.now) (taken c.loop-b.sink) (taken c.enter_byte.new.sink)
     c.loop-b-test.true so_far.answered c.loop-b.self.begun.items c.loop-b.self.row so_far.begun so_far.row (g.W.Sink.failed c.enter_byte.new.sink) _ c.in_err-enter_byte.ensures.fails)
 
 pub returns-in_err-enter_byte-clause-vain : goal.returns-in_err-enter_byte-clause-vain
