@@ -28,7 +28,7 @@ Events:
   yellow-away, second-yellow-home, second-yellow-away, red-home, red-away,
   fulltime, reopen
 
-Output: each row is answered before the next is read
+Output: once the clubs are named, each row is answered before the next is read
   LINE ok MATCH NUMBER VERSION   the event of this line is accepted
   LINE refused CODE NAME         it is refused, for the reason of this name
   LINE refused 20 bad-row        the line asks for nothing that there is
