@@ -182,7 +182,7 @@ module _ (options : Options) (clubs : List NamedClub) (k m z : PassView) (s : Sc
         → StoppedShort 0 failed old new2 (screens_shown options clubs z.seen 1 (versions ++ reading.version ∷ [])) count
     stopped_more failed new2 count stop =
         subst (λ (l : List ℕ). StoppedShort 0 failed old new2 l count) (sym more_text)
-        (stopped_second 0 s.written failed old new new2 (screens_shown options clubs m.seen 1 versions) (screen_answer options s.number clubs reading.board) (WriteFailed count) p.out p.told stop)
+        (stopped_second 0 s.written failed old new new2 (screens_shown options clubs m.seen 1 versions) (screen_answer options s.number clubs reading.board) (WriteFailed count) p.out (let told = p.told in omega arith) stop)
 
 -- where the pass heard nothing it is as it was
 pub so_far_stays : (options : Options) (clubs : List NamedClub) (k m z : PassView) (s : Screening) (old new : Option (List ℕ)) (versions : List ℕ) → SoFar options clubs k m s old new versions

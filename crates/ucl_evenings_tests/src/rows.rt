@@ -67,8 +67,7 @@ const NORTH_OUT: &str =
 const SOUTH: &str = "1,0,kickoff\n1,3,reopen\n2,1,goal-away\n3,0,yellow-home\n";
 
 /// The answers to them on the board that the first has left.
-const SOUTH_OUT: &str =
-    "1 refused 1 stale 3\n2 ok 1 4 5\n3 ok 2 2 6\n4 refused 3 not-started\n";
+const SOUTH_OUT: &str = "1 refused 1 stale 3\n2 ok 1 4 5\n3 ok 2 2 6\n4 refused 3 not-started\n";
 
 /// Whether a run ended well, and wrote just this text.
 fn has_written(told: &Option<Told>, text: &str) -> bool {
@@ -84,8 +83,24 @@ fn two_reporters_on_one_board(rt: HostRuntime) -> Result<(), Fail> {
     let alloc = rt.alloc();
     for piece in [1, 5, 64] {
         let (board, mut reader) = WordBoard::open(&rt, alloc)?;
-        let north = told_on(&rt, alloc, &board, &mut reader, NORTH.as_bytes(), piece, AMPLE);
-        let south = told_on(&rt, alloc, &board, &mut reader, SOUTH.as_bytes(), piece, AMPLE);
+        let north = told_on(
+            &rt,
+            alloc,
+            &board,
+            &mut reader,
+            NORTH.as_bytes(),
+            piece,
+            AMPLE,
+        );
+        let south = told_on(
+            &rt,
+            alloc,
+            &board,
+            &mut reader,
+            SOUTH.as_bytes(),
+            piece,
+            AMPLE,
+        );
         assert!(rt; has_written(&north, NORTH_OUT), "north by {piece}");
         assert!(rt; has_written(&south, SOUTH_OUT), "south by {piece}");
     }
@@ -105,10 +120,26 @@ fn has_failed(told: &Option<Told>, fault: RunFault, text: &str) -> bool {
 fn devices_that_fail(rt: HostRuntime) -> Result<(), Fail> {
     let alloc = rt.alloc();
     let (board, mut reader) = WordBoard::open(&rt, alloc)?;
-    let cut = told_on(&rt, alloc, &board, &mut reader, NORTH.as_bytes(), 5, (20, usize::MAX));
+    let cut = told_on(
+        &rt,
+        alloc,
+        &board,
+        &mut reader,
+        NORTH.as_bytes(),
+        5,
+        (20, usize::MAX),
+    );
     let read_failed = RunFault::Input(InputFault::ReadFailed { bytes: 20 });
     assert!(rt; has_failed(&cut, read_failed, "1 ok 1 1 1\n"));
-    let full = told_on(&rt, alloc, &board, &mut reader, SOUTH.as_bytes(), 64, (usize::MAX, 3));
+    let full = told_on(
+        &rt,
+        alloc,
+        &board,
+        &mut reader,
+        SOUTH.as_bytes(),
+        64,
+        (usize::MAX, 3),
+    );
     assert!(rt; has_failed(&full, RunFault::WriteFailed { written: 3 }, "1 r"));
     assert_eq!(rt; board.read(&rt, &mut reader).version, 1);
     Ok(())

@@ -17,14 +17,14 @@ loop-init g c = record {
 }
 
 pub show-requires : goal.show-requires
-show-requires g c κs within =
+show-requires g c =
     let known = g.B.LiveBoard.reader in
     let so_far = c.loop.invariant in
     let few = few_shown c.args.options.now c.args.roster.now (known c.args.pass.now) (known c.loop.pass) (known c.read-reading.new.pass) c.loop.screens _ _ so_far.versions so_far.so_far c.read-reading.ensures.always in
     omega arith
 
-pub wait_for-requires-clause-notes : goal.wait_for-requires-clause-notes
-wait_for-requires-clause-notes g c κs within = λ note h. c.requires.notes note (c.loop.invariant.notes note h)
+pub wait_for-is_over-requires-clause-notes : goal.wait_for-is_over-requires-clause-notes
+wait_for-is_over-requires-clause-notes g c κs within = λ note h. c.requires.notes note (c.loop.invariant.notes note h)
 
 pub returns-then-is_over-clause-shows : goal.returns-then-is_over-clause-shows
 returns-then-is_over-clause-shows g c =
@@ -65,7 +65,7 @@ loop-preserved g c =
     let k = known c.args.pass.now in
     let m = known c.loop.pass in
     let z = known c.read-reading.new.pass in
-    let y = known c.wait_for.new.pass in
+    let y = known c.wait_for-is_over.new.pass in
     let told = g.Q.Bell.told c.args.bell.now in
     let told2 = g.Q.Bell.told c.loop.bell in
     let old = taken c.args.sink.now in
@@ -74,13 +74,13 @@ loop-preserved g c =
     let read = c.read-reading.ensures in
     let after = after_reading noted c.args.options.now c.args.roster.now k m z c.loop.screens old new so_far.versions told told2 so_far.so_far read.always c.read-reading.result read.reading so_far.gave
         c.show.new.self new2 c.in_ok-show.ensures.shown c.in_ok-show.ensures.kept in
-    let on = begins_through m.seen z.seen y.seen read.always.on.seen (stays_prefix z y c.wait_for.ensures.always) in
+    let on = begins_through m.seen z.seen y.seen read.always.on.seen (stays_prefix z y c.wait_for-is_over.ensures.always) in
     record {
       versions = after.versions2;
-      own = c.wait_for.ensures.own;
-      so_far = so_far_stays c.args.options.now c.args.roster.now k z y c.show.new.self old new2 after.versions2 after.so_far c.wait_for.ensures.always;
-      gave = gave_then noted told told2 (g.Q.Bell.told c.wait_for.new.bell) y.seen (gave_on noted told told2 m.seen y.seen on so_far.gave) c.wait_for.ensures.gave;
-      notes = λ note h. so_far.notes note (c.wait_for.ensures.notes note h);
+      own = c.wait_for-is_over.ensures.own;
+      so_far = so_far_stays c.args.options.now c.args.roster.now k z y c.show.new.self old new2 after.versions2 after.so_far c.wait_for-is_over.ensures.always;
+      gave = gave_then noted told told2 (g.Q.Bell.told c.wait_for-is_over.new.bell) y.seen (gave_on noted told told2 m.seen y.seen on so_far.gave) c.wait_for-is_over.ensures.gave;
+      notes = λ note h. so_far.notes note (c.wait_for-is_over.ensures.notes note h);
       sink_sound = c.in_ok-show.ensures.sink_sound ∙ so_far.sink_sound;
       sink_vain = c.in_ok-show.ensures.sink_vain ∙ so_far.sink_vain;
     }
