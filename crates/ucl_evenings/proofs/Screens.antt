@@ -1,5 +1,6 @@
 -- The screens of a reader's pass, one after the other.
-use Rattle.std.proofs.Common.{◌≡◌, ◌⊎◌, inl, inr, ℕ, ◌+◌, ◌-◌, ◌^◌, ◌<◌, ◌≤◌, min, Bool, List, [], ◌∷◌, ◌++◌, All, length, take, Option, refl, sym, ap, ◌∙◌, subst, append_assoc, append-nil, arith, length-append}
+use Rattle.std.proofs.Common.{◌≡◌, ◌⊎◌, inl, inr, ℕ, ◌+◌, ◌-◌, ◌^◌, ◌<◌, ◌≤◌, min, Bool, List, [], ◌∷◌, ◌++◌, All, length, take, Option, refl, sym, ap, ◌∙◌, subst, append-nil, arith}
+use Rattle.std.proofs.Common.{append_assoc, length-append}
 use Rattle.std.specs.Io.KnownBytes.{Appends}
 use Rattle.std.proofs.lemmas.List.Elements.{All-append, All-nil, All-push}
 use mathlib.Core.List.{IsPrefix}
@@ -14,7 +15,7 @@ use Rattle.ucl_runs.specs.declared.fault.RunFault.TheVariants.{WriteFailed}
 use Rattle.ucl_runs.specs.Run.{StoppedShort}
 use Rattle.ucl_runs.proofs.EnteredRows.{goes_on}
 use Rattle.ucl_runs.proofs.Parts.{stopped_second}
-use Rattle.ucl_shared.specs.Passes.{PassView, Continues, Hearing, SharedReading}
+use Rattle.ucl_shared.specs.Passes.{PassView, Continues, SharedReading}
 use Rattle.ucl_answers.specs.declared.options.Options.{Options}
 use Rattle.ucl_answers.specs.Text.{screen_answer}
 use Rattle.ucl_evenings.specs.Showing.{EndsWithLatest, GaveNotes, GoesOnOrStays, HasRisen, HasShownReading, RiseWithin, Screening, screens_shown}
@@ -46,7 +47,8 @@ module _ (options : Options) (clubs : List NamedClub) where
       ∙ ap (λ (l : List ℕ). screen_answer options number clubs (board_of (take v s)) ++ l) (screens_on s h (number + 1) (v + 1) high versions on r.1 le)
 
   screens_more : (h : List Entry) (number version : ℕ) (versions : List ℕ)
-      → screens_shown options clubs h number (versions ++ version ∷ []) ≡ screens_shown options clubs h number versions ++ screen_answer options (number + length versions) clubs (board_of (take version h))
+      → screens_shown options clubs h number (versions ++ version ∷ [])
+      ≡ screens_shown options clubs h number versions ++ screen_answer options (number + length versions) clubs (board_of (take version h))
   unfolding screens_shown
   screens_more h number version [] =
       append-nil (screen_answer options number clubs (board_of (take version h))) ∙ ap (λ (n : ℕ). screen_answer options n clubs (board_of (take version h))) (omega arith)
@@ -173,7 +175,8 @@ module _ (options : Options) (clubs : List NamedClub) (k m z : PassView) (s : Sc
           low = (let h = read.high in omega arith);
           few = omega arith;
           count = (let c = p.count in let d = shown.number_is in let n = length-append versions (reading.version ∷ []) in omega arith);
-          out = subst (Appends old new2) (sym more_text) (appends-then old new new2 (screens_shown options clubs m.seen 1 versions) (screen_answer options s.number clubs reading.board) p.out shown.given);
+          out = subst (Appends old new2) (sym more_text)
+              (appends-then old new new2 (screens_shown options clubs m.seen 1 versions) (screen_answer options s.number clubs reading.board) p.out shown.given);
           told = omega arith;
           last = inr (record { version = reading.version; before = versions; next_is = next; last = refl });
         }
@@ -182,7 +185,8 @@ module _ (options : Options) (clubs : List NamedClub) (k m z : PassView) (s : Sc
         → StoppedShort 0 failed old new2 (screens_shown options clubs z.seen 1 (versions ++ reading.version ∷ [])) count
     stopped_more failed new2 count stop =
         subst (λ (l : List ℕ). StoppedShort 0 failed old new2 l count) (sym more_text)
-        (stopped_second 0 s.written failed old new new2 (screens_shown options clubs m.seen 1 versions) (screen_answer options s.number clubs reading.board) (WriteFailed count) p.out (let told = p.told in omega arith) stop)
+        (stopped_second 0 s.written failed old new new2 (screens_shown options clubs m.seen 1 versions) (screen_answer options s.number clubs reading.board)
+        (WriteFailed count) p.out (let told = p.told in omega arith) stop)
 
 -- where the pass heard nothing it is as it was
 pub so_far_stays : (options : Options) (clubs : List NamedClub) (k m z : PassView) (s : Screening) (old new : Option (List ℕ)) (versions : List ℕ) → SoFar options clubs k m s old new versions

@@ -50,14 +50,7 @@ fn screen_of(
 {
     let text = match options.format {
         Format::Text => screen(alloc, board, roster, options.group, options.profile)?,
-        Format::Json => screen_json(
-            alloc,
-            number,
-            board,
-            roster,
-            options.group,
-            options.profile,
-        )?,
+        Format::Json => screen_json(alloc, number, board, roster, options.group, options.profile)?,
     };
     Ok(text)
 }

@@ -1,4 +1,4 @@
-use Rattle.std.proofs.Common.{[], refl, sym, ap, ◌∙◌, arith}
+use Rattle.std.proofs.Common.{[], refl, ◌∙◌, arith}
 use Rattle.std.proofs.lemmas.Result.{err_from_is_err_and}
 use Rattle.ucl_board.proofs.Beginnings.{begins_through}
 use Rattle.ucl_evenings.proofs.ScreenRuns.{after_reading, run_failed, run_over}
@@ -20,7 +20,8 @@ pub show-requires : goal.show-requires
 show-requires g c =
     let known = g.B.LiveBoard.reader in
     let so_far = c.loop.invariant in
-    let few = few_shown c.args.options.now c.args.roster.now (known c.args.pass.now) (known c.loop.pass) (known c.read-reading.new.pass) c.loop.screens _ _ so_far.versions so_far.so_far c.read-reading.ensures.always in
+    let few = few_shown c.args.options.now c.args.roster.now (known c.args.pass.now) (known c.loop.pass) (known c.read-reading.new.pass) c.loop.screens _ _
+    so_far.versions so_far.so_far c.read-reading.ensures.always in
     omega arith
 
 pub wait_for-is_over-requires-clause-notes : goal.wait_for-is_over-requires-clause-notes
@@ -42,8 +43,8 @@ returns-then-is_over-clause-shows g c =
     let read = c.read-reading.ensures in
     run_over g.B.LiveBoard.noted c.args.options.now c.args.roster.now k m z c.loop.screens old new so_far.versions told told2 so_far.so_far read.always c.read-reading.result read.reading so_far.gave
     c.show.new.self new2 _
-    (after_reading g.B.LiveBoard.noted c.args.options.now c.args.roster.now k m z c.loop.screens old new so_far.versions told told2 so_far.so_far read.always c.read-reading.result read.reading so_far.gave
-        c.show.new.self new2 c.in_ok-show.ensures.shown c.in_ok-show.ensures.kept)
+    (after_reading g.B.LiveBoard.noted c.args.options.now c.args.roster.now k m z c.loop.screens old new so_far.versions told told2
+    so_far.so_far read.always c.read-reading.result read.reading so_far.gave c.show.new.self new2 c.in_ok-show.ensures.shown c.in_ok-show.ensures.kept)
 
 pub returns-in_err-show-clause-shows : goal.returns-in_err-show-clause-shows
 returns-in_err-show-clause-shows g c =
@@ -52,9 +53,10 @@ returns-in_err-show-clause-shows g c =
     let taken = g.W.Sink.taken in
     let so_far = c.loop.invariant in
     let read = c.read-reading.ensures in
-    rw (e.1, e.2) (run_failed g.B.LiveBoard.noted c.args.options.now c.args.roster.now (known c.args.pass.now) (known c.loop.pass) (known c.read-reading.new.pass) c.loop.screens (taken c.args.sink.now) (taken c.loop.sink)
-        so_far.versions (g.Q.Bell.told c.args.bell.now) (g.Q.Bell.told c.loop.bell) so_far.so_far read.always c.read-reading.result read.reading so_far.gave
-        (taken c.show.new.sink) (g.W.Sink.failed c.show.new.sink) _ c.in_err-show.ensures.rises c.in_err-show.ensures.fails)
+    rw (e.1, e.2) (run_failed g.B.LiveBoard.noted c.args.options.now c.args.roster.now (known c.args.pass.now) (known c.loop.pass) (known c.read-reading.new.pass)
+    c.loop.screens (taken c.args.sink.now) (taken c.loop.sink)
+    so_far.versions (g.Q.Bell.told c.args.bell.now) (g.Q.Bell.told c.loop.bell) so_far.so_far read.always c.read-reading.result read.reading so_far.gave
+    (taken c.show.new.sink) (g.W.Sink.failed c.show.new.sink) _ c.in_err-show.ensures.rises c.in_err-show.ensures.fails)
 
 pub loop-preserved : goal.loop-preserved
 loop-preserved g c =
@@ -72,8 +74,8 @@ loop-preserved g c =
     let new = taken c.loop.sink in
     let new2 = taken c.show.new.sink in
     let read = c.read-reading.ensures in
-    let after = after_reading noted c.args.options.now c.args.roster.now k m z c.loop.screens old new so_far.versions told told2 so_far.so_far read.always c.read-reading.result read.reading so_far.gave
-        c.show.new.self new2 c.in_ok-show.ensures.shown c.in_ok-show.ensures.kept in
+    let after = after_reading noted c.args.options.now c.args.roster.now k m z c.loop.screens old new so_far.versions told told2
+    so_far.so_far read.always c.read-reading.result read.reading so_far.gave c.show.new.self new2 c.in_ok-show.ensures.shown c.in_ok-show.ensures.kept in
     let on = begins_through m.seen z.seen y.seen read.always.on.seen (stays_prefix z y c.wait_for-is_over.ensures.always) in
     record {
       versions = after.versions2;

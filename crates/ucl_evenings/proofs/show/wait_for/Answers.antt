@@ -1,4 +1,3 @@
-use Rattle.std.proofs.Common.{inl, inr, refl}
 use Rattle.ucl_evenings.proofs.Screens.{gave_none, gave_one}
 use Rattle.ucl_evenings.proofs.show.wait_for.Goals as goal
 
