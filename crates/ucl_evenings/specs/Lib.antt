@@ -2,3 +2,4 @@ pub mod Typing
 pub mod Answering
 pub mod Reporting
 pub mod Rows
+pub mod Showing

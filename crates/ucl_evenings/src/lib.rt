@@ -1,11 +1,15 @@
-//! What each thread of an evening does over any live board: a reporter takes rows from a source of its own, and answers each as it comes.
+//! What each thread of an evening does over any live board: a reporter takes rows from a source of its own, and answers each as it
+//! comes; a screen shows the board to a sink of its own, whenever its version has risen.
 #![tactic(auto)]
 
 mod answer;
+mod give;
 mod rows;
+mod show;
 mod take;
 mod typed;
 mod went;
 
+pub use show::{Bell, show_boards};
 pub use take::take_rows;
 pub use went::Went;

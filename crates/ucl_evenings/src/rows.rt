@@ -9,33 +9,17 @@ ghost use Rattle.ucl_answers.specs.Lines.{begun_line, ended_lines, last_lines, l
 ghost use Rattle.ucl_evenings.specs.Rows.{AreAnswered, FailsToAnswer};
 
 use crate::answer::{bad_line, went_line};
+use crate::give::give;
 use crate::typed::{Typed, typed_on};
 use crate::went::enter;
 use arrayvec::ArrayVec;
 use std::sync::Wait;
 use ucl_runs::RunFault;
-use ucl_screen::{Sink, give_all};
+use ucl_screen::Sink;
 use ucl_shared::LiveBoard;
 
 /// The most bytes of a line that are kept. What comes after them is passed over.
 const LINE: usize = 258;
-
-/// Gives a text to the sink after so many bytes, and says how many are out then.
-fn give<W: Sink>(before: usize, sink: &mut W, text: &[u8]) -> Result<usize, RunFault>
-    ensures all { OnOk result (Appends (W.taken sink.old) (W.taken sink.new) text.now) }
-    ensures count { IfOk result (λ after. after ≡ min (before + length text.now) (2 ^ 64 - 1)) }
-    ensures stopped { IfErr result (IsStopped before (W.failed sink.new)
-        (W.taken sink.old) (W.taken sink.new) text.now) }
-    ensures sound { OnOk result (W.failed sink.new ≡ W.failed sink.old) }
-    ensures vain { VainlyGives (W.in_vain sink.old) (W.in_vain sink.new) result }
-{
-    match give_all(sink, text) {
-        Ok(()) => Ok(before.saturating_add(text.len())),
-        Err(more) => Err(RunFault::WriteFailed {
-            written: before.saturating_add(more),
-        }),
-    }
-}
 
 /// Enters the event of a line, if it has one, and answers the line after so many bytes. Says how many bytes are out then.
 fn answer_line<B: LiveBoard, R: Wait, W: Sink>(

@@ -1,0 +1,94 @@
+-- What a screen of an evening has shown: boards of ever higher versions, of one history.
+use Rattle.std.specs.Prelude.{◌≡◌, ◌⊎◌, ⊤, ℕ, ◌+◌, ◌-◌, ◌^◌, ◌≤◌, min, Bool, List, [], ◌∷◌, ◌++◌, All, length, take, Option, Some, None, Result, Ok, Err}
+use Rattle.std.specs.Io.KnownBytes.{Appends}
+use mathlib.Core.List.{IsPrefix}
+use Rattle.ucl_board.specs.declared.entry.Entry.{Entry}
+use Rattle.ucl_board.specs.declared.reading.Reading.{Reading}
+use Rattle.ucl_board.specs.History.{board_of}
+use Rattle.ucl_order.specs.Roster.{NamedClub}
+use Rattle.ucl_runs.specs.declared.fault.RunFault.{RunFault}
+use Rattle.ucl_runs.specs.declared.fault.RunFault.TheVariants.{OutOfMemory, WriteFailed}
+use Rattle.ucl_runs.specs.Run.{StoppedShort}
+use Rattle.ucl_shared.specs.Passes.{PassView, Continues}
+use Rattle.ucl_answers.specs.declared.options.Options.{Options}
+use Rattle.ucl_answers.specs.Text.{screen_answer}
+
+-- versions rise strictly, from one that is no lower than the first bound to one that is lower than the second
+unfoldable pub RiseWithin : ℕ → ℕ → List ℕ → Type 0
+RiseWithin low high [] = low ≤ high
+RiseWithin low high (version ∷ versions) = (low ≤ version) × RiseWithin (version + 1) high versions
+
+-- the screens of the boards after so many first entries of a history, one after the other, counted from this number
+unfoldable pub screens_shown : Options → List NamedClub → List Entry → ℕ → List ℕ → List ℕ
+screens_shown options clubs history number [] = []
+screens_shown options clubs history number (version ∷ versions) =
+    screen_answer options number clubs (board_of (take version history)) ++ screens_shown options clubs history (number + 1) versions
+
+-- a reader's pass, k before and m after, has read, and these versions of its readings came to a screen: they rise strictly, none is below
+-- what k had seen, and each is of the history that m has seen
+pub record HasRisen (k m : PassView) (versions : List ℕ) : Type 0 where
+  pub always : Continues k m
+  pub rise : RiseWithin (length k.seen) (length m.seen + 1) versions
+
+-- a bell gave these notes more, and P holds of each
+pub record GaveNotes {N : Type 0} (old new : List N) (P : N → Type 0) : Type 0 where
+  pub notes : List N
+  pub more : new ≡ old ++ notes
+  pub each : All P notes
+
+-- the notes that a bell has given, once it gave one more or none
+abbrev pub notes_and : {N : Type 0} → List N → Option N → List N
+notes_and notes None = notes
+notes_and notes (Some note) = notes ++ note ∷ []
+
+-- whatever is given is one of these
+abbrev pub OnlyGives : {N : Type 0} → (N → Type 0) → (N → Type 0) → Type 0
+OnlyGives {N} Gives P = (note : N) → Gives note → P note
+
+-- the last version that was shown is that of the last reading, and it has all that the notes of a bell tell
+pub record EndsWithLatest {N : Type 0} (noted : N → List Entry) (told told2 : List N) (m : PassView) (versions : List ℕ) : Type 0 where
+  pub version : ℕ
+  pub read_before : List ℕ
+  pub shown_before : List ℕ
+  pub read_last : m.shown ≡ read_before ++ version ∷ []
+  pub shown_last : versions ≡ shown_before ++ version ∷ []
+  pub has_all : GaveNotes told told2 (λ note. IsPrefix (noted note) (take version m.seen))
+
+-- what is out where a screen ends whose text this is, or would have been
+abbrev pub ScreensEnd : Bool → Option (List ℕ) → Option (List ℕ) → List ℕ → Type 0 → Result ⊤ RunFault → Type 0
+ScreensEnd failed old new text Latest (Ok done) = Appends old new text × Latest
+ScreensEnd failed old new text Latest (Err OutOfMemory) = Appends old new text
+ScreensEnd failed old new text Latest (Err (WriteFailed count)) = StoppedShort 0 failed old new text count
+ScreensEnd failed old new text Latest (Err _) = ⊥
+
+-- a screen's run, whatever it came to: which versions it showed, and how it ended
+pub record ShowsBoards {N : Type 0} (noted : N → List Entry) (options : Options) (clubs : List NamedClub) (k m : PassView) (told told2 : List N) (failed : Bool) (old new : Option (List ℕ)) (result : Result ⊤ RunFault) : Type 0 where
+  pub versions : List ℕ
+  pub risen : HasRisen k m versions
+  pub ends : ScreensEnd failed old new (screens_shown options clubs m.seen 1 versions) (EndsWithLatest noted told told2 m versions) result
+
+-- ---- one reading
+
+-- a screen between two readings: the least version that it shows, the number of the next screen, and how many bytes are out
+pub record Screening : Type 0 where
+  pub next : ℕ
+  pub number : ℕ
+  pub written : ℕ
+
+-- a reading was shown
+pub record HasShownReading (options : Options) (clubs : List NamedClub) (reading : Reading) (before after : Screening) (old new : Option (List ℕ)) : Type 0 where
+  pub given : Appends old new (screen_answer options before.number clubs reading.board)
+  pub next_is : after.next ≡ reading.version + 1
+  pub number_is : after.number ≡ before.number + 1
+  pub told : after.written ≡ min (before.written + length (screen_answer options before.number clubs reading.board)) (2 ^ 64 - 1)
+
+-- it was not, for want of memory or since the sink failed
+abbrev pub FailsToShowReading : Options → List NamedClub → Reading → Screening → Bool → Option (List ℕ) → Option (List ℕ) → RunFault → Type 0
+FailsToShowReading options clubs reading before failed old new OutOfMemory = new ≡ old
+FailsToShowReading options clubs reading before failed old new (WriteFailed count) =
+    StoppedShort before.written failed old new (screen_answer options before.number clubs reading.board) count
+FailsToShowReading options clubs reading before failed old new _ = ⊥
+
+-- a pass went on, or is as it was
+abbrev pub GoesOnOrStays : PassView → PassView → Type 0
+GoesOnOrStays k m = Continues k m ⊎ (m ≡ k)

@@ -1,0 +1,197 @@
+//! A screen of an evening, in a thread of its own.
+
+ghost use Rattle.std.specs.Prelude.{◌≡◌, ◌-◌, ◌^◌, ◌<◌, ◌≤◌, IfErr, IfOk, OnOk, string_bytes};
+ghost use mathlib.Core.List.{IsPrefix};
+ghost use Rattle.ucl_answers.specs.Output.{SinkFails};
+ghost use Rattle.ucl_answers.specs.Text.{screen_answer};
+ghost use Rattle.ucl_evenings.specs.Showing.{GaveNotes, GoesOnOrStays, FailsToShowReading, HasShownReading, OnlyGives, ShowsBoards};
+
+use crate::give::give;
+use std::alloc::Global;
+use std::marker::Model;
+use std::sync::Wait;
+use ucl_answers::{Format, Options};
+use ucl_board::{Board, Reading};
+use ucl_json::screen_json;
+use ucl_order::Roster;
+use ucl_runs::RunFault;
+use ucl_screen::{Sink, screen};
+use ucl_shared::LiveBoard;
+
+/// What a screen waits for between two readings.
+pub trait Bell<N> {
+    ghost use Rattle.std.specs.Prelude.{◌≡◌, IfSome, List};
+    ghost use Rattle.ucl_evenings.specs.Showing.{OnlyGives, notes_and};
+
+    /// The notes that it has given, in their order.
+    ghost told: { Self → List N };
+
+    /// What holds of each note that it gives.
+    ghost gives: { Self → N → Type 0 };
+
+    /// Waits until there may be something new, and gives a note of it; or nothing, and then the evening is over.
+    fn next<R: Wait>(&mut self, rt: &R) -> Option<N>
+        ensures gives { IfSome result (gives self.old) }
+        ensures still { OnlyGives (gives self.new) (gives self.old) }
+        ensures told { told self.new ≡ notes_and (told self.old) result };
+}
+
+/// The text of a screen, which has this number.
+fn screen_of(
+    alloc: Global,
+    options: &Options,
+    roster: &Roster,
+    number: u64,
+    board: &Board,
+) -> Result<String, RunFault>
+    ensures text { IfOk result (λ text. string_bytes text
+        ≡ screen_answer options.now number roster.now board.now) }
+    ensures memory { IfErr result (λ f. f ≡ RunFault.OutOfMemory) }
+{
+    let text = match options.format {
+        Format::Text => screen(alloc, board, roster, options.group, options.profile)?,
+        Format::Json => screen_json(alloc, number, board, roster, options.group, options.profile)?,
+    };
+    Ok(text)
+}
+
+/// A screen between two readings.
+#[derive(Drop)]
+struct Screens {
+    /// The least version that it shows.
+    next: u32,
+    /// The number of the next screen, from 1.
+    number: u64,
+    /// How many bytes are out. A number past `usize::MAX` is told as that.
+    written: usize,
+}
+
+impl Model for Screens {
+    ghost use Rattle.ucl_evenings.specs.Showing.{Screening};
+
+    ghost Value = { Screening };
+
+    ghost view = { λ s. record { next = s.next; number = s.number; written = s.written } };
+}
+
+impl Screens {
+    /// Before the first reading.
+    fn new() -> Screens
+        ensures { result ≡ record { next = 0; number = 1; written = 0 } }
+    {
+        Screens {
+            next: 0,
+            number: 1,
+            written: 0,
+        }
+    }
+
+    /// Shows a reading, where its version is no lower than the least that is shown.
+    fn show<W: Sink>(
+        &mut self,
+        alloc: Global,
+        options: &Options,
+        roster: &Roster,
+        reading: &Reading,
+        sink: &mut W,
+    ) -> Result<(), RunFault>
+        requires { self.old.number < 2 ^ 64 - 1 }
+        ensures shown { self.old.next ≤ reading.now.version → OnOk result (HasShownReading
+            options.now roster.now reading.now self.old self.new
+            (W.taken sink.old) (W.taken sink.new)) }
+        ensures kept { reading.now.version < self.old.next
+            → OnOk result ((self.new ≡ self.old) × (W.taken sink.new ≡ W.taken sink.old)) }
+        ensures fails { IfErr result (FailsToShowReading options.now roster.now reading.now self.old
+            (W.failed sink.new) (W.taken sink.old) (W.taken sink.new)) }
+        ensures rises { IfErr result (λ _. self.old.next ≤ reading.now.version) }
+        ensures sink_sound { OnOk result (W.failed sink.new ≡ W.failed sink.old) }
+        ensures sink_vain { OnOk result (W.in_vain sink.new ≡ W.in_vain sink.old) }
+        ensures sink_fails { IfErr result (SinkFails
+            (W.in_vain sink.old) (W.in_vain sink.new)
+            (W.failed sink.old) (W.failed sink.new)) }
+    {
+        let version = u32::from(reading.version);
+        if version < self.next {
+            return Ok(());
+        }
+        let text = screen_of(alloc, options, roster, self.number, &reading.board)?;
+        self.written = give(self.written, sink, text.as_str().as_bytes())?;
+        self.next = version + 1;
+        self.number += 1;
+        Ok(())
+    }
+}
+
+/// Waits for the bell, and hears its note. Says whether the evening goes on.
+fn wait_for<B: LiveBoard, Q: Bell<B::Note>, R: Wait>(
+    rt: &R,
+    board: &B,
+    pass: &mut B::ReaderPass,
+    bell: &mut Q,
+) -> bool
+    requires own { B.is_reader board.now pass.old }
+    requires notes { OnlyGives (Q.gives bell.old) (B.is_note board.now) }
+    ensures own { B.is_reader board.now pass.new }
+    ensures always { GoesOnOrStays (B.reader pass.old) (B.reader pass.new) }
+    ensures gave { GaveNotes (Q.told bell.old) (Q.told bell.new)
+        (λ note. IsPrefix (B.noted note) (B.reader pass.new).seen) }
+    ensures notes { OnlyGives (Q.gives bell.new) (Q.gives bell.old) }
+{
+    match bell.next(rt) {
+        Some(note) => {
+            board.hear(rt, pass, note);
+            true
+        }
+        None => false,
+    }
+}
+
+/// Shows the board of a live board to a sink: at once, and each time that the bell rings and the version has risen since; and once more
+/// when the bell tells that the evening is over, where the version has risen since.
+///
+/// Screens are counted from 1; in JSON their number is the `row`. What a note of the bell tells is in the next reading. Between two
+/// readings the call waits for the bell, and for nothing else.
+///
+/// # Errors
+///
+/// `OutOfMemory` where there was none for a screen, and all before are out; `WriteFailed` where the sink failed. The pass is as good as
+/// before.
+pub fn show_boards<B: LiveBoard, Q: Bell<B::Note>, W: Sink, R: Wait>(
+    rt: &R,
+    alloc: Global,
+    board: &B,
+    pass: &mut B::ReaderPass,
+    bell: &mut Q,
+    options: &Options,
+    roster: &Roster,
+    sink: &mut W,
+) -> Result<(), RunFault>
+    requires own { B.is_reader board.now pass.old }
+    requires notes { OnlyGives (Q.gives bell.old) (B.is_note board.now) }
+    ensures own { B.is_reader board.now pass.new }
+
+    // Which versions it showed, and what is out. Where it ends well, the last is that of its last reading, which was taken after the
+    // bell told the end, and has all that the bell's notes tell.
+    ensures shows { ShowsBoards B.noted options.now roster.now
+        (B.reader pass.old) (B.reader pass.new) (Q.told bell.old) (Q.told bell.new)
+        (W.failed sink.new) (W.taken sink.old) (W.taken sink.new) result }
+
+    // A failed write is answered exactly where the sink has failed, which is not called again then; and it is not called with nothing.
+    ensures sink_sound { OnOk result (W.failed sink.new ≡ W.failed sink.old) }
+    ensures sink_vain { OnOk result (W.in_vain sink.new ≡ W.in_vain sink.old) }
+    ensures sink_fails { IfErr result (SinkFails
+        (W.in_vain sink.old) (W.in_vain sink.new)
+        (W.failed sink.old) (W.failed sink.new)) }
+{
+    let mut screens = Screens::new();
+    let mut is_over = false;
+    for _ in rt.forever() {
+        let reading = board.read(rt, pass);
+        screens.show(alloc, options, roster, &reading, sink)?;
+        if is_over {
+            return Ok(());
+        }
+        is_over = !wait_for(rt, board, pass, bell);
+    }
+    unreachable!()
+}
