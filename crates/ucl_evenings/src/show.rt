@@ -170,8 +170,8 @@ pub fn show_boards<B: LiveBoard, Q: Bell<B::Note>, W: Sink, R: Wait>(
     requires notes { OnlyGives (Q.gives bell.old) (B.is_note board.now) }
     ensures own { B.is_reader board.now pass.new }
 
-    // Which versions it showed, and what is out. Where it ends well, the last is that of its last reading, which was taken after the
-    // bell told the end, and has all that the bell's notes tell.
+    // Which versions it showed, and what is out. Where it ends well, the last is that of its last reading, and has all that the
+    // bell's notes tell. That the bell told the end before it, no clause says.
     ensures shows { ShowsBoards B.noted options.now roster.now
         (B.reader pass.old) (B.reader pass.new) (Q.told bell.old) (Q.told bell.new)
         (W.failed sink.new) (W.taken sink.old) (W.taken sink.new) result }
