@@ -52,9 +52,8 @@ def function_at(lines, start, indent):
     return clauses, True
 
 
-def functions_of(path):
-    """Each function of a file: its trait and type, if any, whether it says `pub` or is an export, its name, its clauses, and whether its
-    body is empty."""
+def starts_of(path):
+    """Where each function of a file begins: the lines of the file, the one that it begins on, its trait and type, if any, and what FUNCTION found."""
     lines = path.read_text().split("\n")
     trait = owner = None
     for at, line in enumerate(lines):
@@ -64,8 +63,15 @@ def functions_of(path):
             trait = owner = None
         found = FUNCTION.match(line)
         if found and bool(found[1]) == bool(owner):
-            is_pub = EXPORT if f'extern "{EXPORT}"' in line else bool(found[2])
-            yield (trait, owner, is_pub, found[3], *function_at(lines, at, found[1] or ""))
+            yield lines, at, trait, owner, found
+
+
+def functions_of(path):
+    """Each function of a file: its trait and type, if any, whether it says `pub` or is an export, its name, its clauses, and whether its
+    body is empty."""
+    for lines, at, trait, owner, found in starts_of(path):
+        is_pub = EXPORT if f'extern "{EXPORT}"' in lines[at] else bool(found[2])
+        yield (trait, owner, is_pub, found[3], *function_at(lines, at, found[1] or ""))
 
 
 def named(owner, function, clauses):

@@ -9,7 +9,7 @@ field of a record that the contract names. A function whose clauses have labels 
 
 import re
 
-from clauses import BLOCK, FUNCTION, block_of, exported
+from clauses import exported, starts_of
 
 PAGE = "docs/PROMISES.md"
 LABEL = re.compile(r"^\s*ensures\s+(?:(\w+)\s+)?\{", re.M)
@@ -23,18 +23,10 @@ UNPROVED = re.compile(r"_tests$|_bench|_hostile|_example$")
 
 def texts_of(path):
     """Each function of a file: the names of its trait and its type, if any, its own name, whether it says `pub`, and the text before its body."""
-    lines = path.read_text().split("\n")
-    trait = owner = None
-    for at, line in enumerate(lines):
-        if BLOCK.match(line):
-            trait, owner = block_of(lines, at)
-        elif line == "}":
-            trait = owner = None
-        found = FUNCTION.match(line)
-        if found and bool(found[1]) == bool(owner):
-            ends = (found[1] or "") + "{", (found[1] or "") + "{}"
-            end = next((i for i in range(at, len(lines)) if lines[i] in ends or re.search(r"(;|\{\}|[)>\w] \{)$", lines[i])), at)
-            yield trait, owner, found[3], bool(found[2]), "\n".join(lines[at : end + 1])
+    for lines, at, trait, owner, found in starts_of(path):
+        ends = (found[1] or "") + "{", (found[1] or "") + "{}"
+        end = next((i for i in range(at, len(lines)) if lines[i] in ends or re.search(r"(;|\{\}|[)>\w] \{)$", lines[i])), at)
+        yield trait, owner, found[3], bool(found[2]), "\n".join(lines[at : end + 1])
 
 
 def callable_in(crate):
