@@ -407,6 +407,7 @@ module _ (e : EventCall) (v w u : CellView) (x : List ℕ) (tried : TriedReport 
   finishes_refused refusal is = record {
     begun = length u.pass.seen;
     after_seen = looked_on;
+    at_once = omega arith;
     does = looked.calls ∙ (ap at_found (refuses_some (record_at found).number (refusal_of (record_at found) e.expected e.kind) refusal is)
         ∙ ap (finished_too (calls.Event e) (replies.Refused refusal) (length u.pass.seen) (length u.pass.seen)) same);
   }
@@ -425,6 +426,7 @@ module _ (e : EventCall) (v w u : CellView) (x : List ℕ) (tried : TriedReport 
     finishes_accepted z h = record {
       begun = h.begun;
       after_seen = (let a = looked_on in let b = h.since in omega arith);
+      at_once = h.last;
       does = h.calls ∙ (ap (λ (a : Accepted). finished_too (calls.Event e) (replies.Accepted a) h.begun (length z.pass.seen) u.calls) (sym (accepts_number (record_at found).number (refusal_of (record_at found) e.expected e.kind) reply is))
           ∙ ap (finished_too (calls.Event e) (replies.Accepted reply) h.begun (length z.pass.seen)) none_finished);
     }
@@ -434,5 +436,6 @@ pub finishes_reading : (v w : CellView) (x : List ℕ) (reading : Reading) → R
 finishes_reading v w x reading shows is = record {
   begun = length w.pass.seen;
   after_seen = begins_length v.pass.seen w.pass.seen shows.shows.sees.goes.seen;
+  at_once = omega arith;
   does = shows.calls ∙ ap (λ (r : Reading). finished_too calls.Reading (replies.Copied r) (length w.pass.seen) (length w.pass.seen) v.calls) (sym is);
 }
