@@ -8,6 +8,7 @@ use Rattle.ucl_board.specs.declared.reading.Reading.{Reading}
 use Rattle.ucl_board.specs.declared.entry.Entry.{Entry}
 use Rattle.ucl_board.specs.Log.{Look, Swap, Target, Match, Enlisted, Whole, Access, Taken, step_taken}
 use Rattle.ucl_steps.specs.Trails.{LookRefused, StoredNothing, SwapWon}
+use Rattle.ucl_steps.specs.Protocol.{report_reply}
 use Rattle.ucl_steps.specs.declared.step.Call.{Call}
 use Rattle.ucl_steps.specs.declared.step.Call.TheVariants as calls
 use Rattle.ucl_steps.specs.declared.trace.Reply.{Reply}
@@ -110,13 +111,8 @@ pub record FinishesCall (v : CellView) (call : Call) (reply : Reply) (w : CellVi
   pub at_once : begun + entries_added reply ≡ length w.pass.seen
   pub does : w.calls ≡ finished_too call reply begun (length w.pass.seen) v.calls
 
--- the answer of a report, as the machine's reply
-abbrev pub reply_to_report : Result Accepted Refusal → Reply
-reply_to_report (Ok reply) = replies.Accepted reply
-reply_to_report (Err refusal) = replies.Refused refusal
-
 abbrev pub FinishesReport : CellView → EventCall → Result Accepted Refusal → CellView → Type 0
-FinishesReport v e answer w = FinishesCall v (calls.Event e) (reply_to_report answer) w
+FinishesReport v e answer w = FinishesCall v (calls.Event e) (report_reply answer) w
 
 abbrev pub FinishesReading : CellView → Reading → CellView → Type 0
 FinishesReading v reading w = FinishesCall v calls.Reading (replies.Copied reading) w

@@ -22,6 +22,7 @@ use Rattle.ucl_steps.specs.Protocol.{Held, Nothing, Holding, Collecting, Checkin
 use Rattle.ucl_steps.proofs.OneStep.{none_of}
 use Rattle.ucl_words.specs.declared.view.WordView.{WordView}
 use Rattle.ucl_words.specs.WordDoings.{AnswersCall}
+use Rattle.ucl_words.specs.WordSteps.{point_shown}
 use Rattle.ucl_words.specs.Code.{IsHoldingFor, MayCollect, IsBegun, HasFirsts, has_copied, begins_anew}
 
 -- a report
@@ -136,6 +137,26 @@ seconds_none d words point is = λ i. record { calls = d.calls; held = is i; beg
 module _ (d : Doing) (words : List ℕ) (point i : ℕ) (f : Doing) (so_far : Seconds d words point i f) where
   pub second_next : IsNext Second (i + 1) f.held
   second_next = subst (λ (x : Doing). IsNext Second (i + 1) x.held) (sym so_far) refl
+
+  -- what a load then shows
+  module _ (n : ℕ) where
+    abbrev shown_if : Bool → Bool → List ℕ
+    shown_if same last = cond same (cond last (point ∷ []) []) []
+
+    shows : point_shown f.held n ≡ shown_if (n == slice_index words i) (i == 11)
+    shows = ap (λ (x : Doing). point_shown x.held n) so_far
+
+    shows_same : n ≡ slice_index words i → point_shown f.held n ≡ shown_if true (i == 11)
+    shows_same same = shows ∙ ap (λ (b : Bool). shown_if b (i == 11)) (eq-eqb n (slice_index words i) same)
+
+    pub shows_none : n ≡ slice_index words i → i < 11 → point_shown f.held n ≡ []
+    shows_none same less = shows_same same ∙ ap (shown_if true) (ne_eqb i 11 (λ z. omega arith))
+
+    pub shows_none_of_another : n ≢ slice_index words i → point_shown f.held n ≡ []
+    shows_none_of_another other = shows ∙ ap (λ (b : Bool). shown_if b (i == 11)) (ne_eqb n (slice_index words i) other)
+
+    pub shows_point : n ≡ slice_index words i → i ≡ 11 → point_shown f.held n ≡ point ∷ []
+    shows_point same eleven = shows_same same ∙ ap (shown_if true) (eq-eqb i 11 eleven)
 
   module _ (n now : ℕ) (g : Doing) (is : g ≡ after_second n now f) where
     abbrev before : Doing

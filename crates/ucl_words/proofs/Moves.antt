@@ -18,7 +18,7 @@ use Rattle.ucl_board.specs.History.{match_after, board_of, IsLegal, followed_by,
 use Rattle.ucl_board.specs.Log.{AccessKind, Look, First, Second, Swap, Target, Match, Enlisted, history_of, Access, access, Taken, Log, IsThere}
 use Rattle.ucl_board.proofs.Histories.{word_after, board_with}
 use Rattle.ucl_shared.specs.declared.view.View.{View}
-use Rattle.ucl_shared.specs.Views.{newcomer, opener, trail_of}
+use Rattle.ucl_shared.specs.Views.{newcomer, opener}
 use Rattle.ucl_shared.specs.OneHistory.{KeepsOneHistory}
 use Rattle.ucl_shared.specs.Steps.{Enlists}
 use Rattle.ucl_shared.proofs.Moves.{logged, look, looked, same_history, look_keeps, look_same, look_tells, add, entered, longer_history, add_keeps, add_same, add_tells, count, enlisted_as, unchanged_history, enlist_keeps, enlist_same, enlist_tells, second_added, second_same, note_added, note_same, note_joined, joined_same}
@@ -39,7 +39,7 @@ use Rattle.ucl_words.specs.declared.view.WordView.{WordView}
 use Rattle.ucl_words.specs.WordViews.{new_pass, first_pass, left_pass, second_pass, note_pass, told_pass}
 use Rattle.ucl_words.specs.Code.{IsHoldingFor}
 use Rattle.ucl_words.specs.WordRule.{words_after, known, word_actor, word_actors, TableKeepsOneHistory, Stands}
-use Rattle.ucl_words.specs.WordSteps.{LoadsMatch, version_shown, ExchangeWon, IsNextWord, LookStep, FirstStep, SecondStep, LastLoadStep, EnlistedStep, ExchangeStep, EnlistStep}
+use Rattle.ucl_words.specs.WordSteps.{LoadsMatch, point_shown, ExchangeWon, IsNextWord, LookStep, FirstStep, SecondStep, EnlistedStep, ExchangeStep, EnlistStep}
 
 abbrev Position : Type 0
 Position = State Entry WordView
@@ -228,21 +228,14 @@ firsts slots seat game m acts is next =
     (FirstStep (step slots game 0 0 none) m)
     (λ n w loads shown stands. record { loads = record { loads = loads; shown = shown }; doing = refl })
 
--- the machine's turn of a load of a second collect
-second_turn : (seat game : ℕ) (v : WordView) → IsNext Second game v.doing.held → (cast : Cast) (steps : List machine.Step) (w : MachineState) → after_steps steps (initial_state cast) ≡ Some w → FitsRun w seat v.pass.number v.doing
-    → (a : Access) → IsNow w a → a.kind ≡ Second → a.game ≡ game → (c : Caller) × IsTakenBy seat v.pass.number Second c × Turn seat v.pass.number w c a (after_second a.found a.at v.doing) []
-second_turn seat game v next cast steps w run fits a now kind at =
-    (Reader (seat + 1), refl, turn_seconds cast seat v.pass.number steps w run v.doing fits a now kind (subst (λ (g : ℕ). IsNext Second g v.doing.held) (sym at) next))
-
-pub again : (slots seat game : ℕ) (m : Me Entry WordView) → IsSome m.0.pass.share → IsMatch game → IsNext Second game m.0.doing.held → Allows TableKeepsOneHistory slots seat m game (λ n. n) (SecondStep (step slots game 0 0 none) m)
-again slots seat game m acts is next =
-    loads_by slots seat game m Second (λ n now. after_second n now m.0.doing) (λ n. m.0.pass.shown) acts is (second_turn seat game m.0 next) (SecondStep (step slots game 0 0 none) m)
-    (λ n w loads shown stands. record { loads = record { loads = loads; shown = shown }; doing = refl })
-
-pub loads_last : (slots seat game place : ℕ) (m : Me Entry WordView) → place ≡ seat → IsSome m.0.pass.share → IsMatch game → IsNext Second game m.0.doing.held → Allows TableKeepsOneHistory slots seat m game (λ n. n) (LastLoadStep place (step slots game 0 0 none) m)
-loads_last slots seat game place m is_seat acts is next =
-    loads_by slots seat game m Second (λ n now. after_second n now m.0.doing) (λ n. m.0.pass.shown ++ version_shown (trail_of m.0.pass) n) acts is (second_turn seat game m.0 next) (LastLoadStep place (step slots game 0 0 none) m)
-    (λ n w loads shown stands. record { loads = record { loads = loads; shown = shown }; doing = refl; stands = stands place is_seat })
+pub again : (slots seat game place : ℕ) (m : Me Entry WordView) → place ≡ seat → IsSome m.0.pass.share → IsMatch game → IsNext Second game m.0.doing.held
+    → Allows TableKeepsOneHistory slots seat m game (λ n. n) (SecondStep place (step slots game 0 0 none) m)
+again slots seat game place m is_seat acts is next =
+    loads_by slots seat game m Second (λ n now. after_second n now m.0.doing) (λ n. m.0.pass.shown ++ point_shown m.0.doing.held n) acts is
+    (λ cast steps w run fits a now kind at.
+    (Reader (seat + 1), refl, turn_seconds cast seat m.0.pass.number steps w run m.0.doing fits a now kind (subst (λ (g : ℕ). IsNext Second g m.0.doing.held) (sym at) next)))
+    (SecondStep place (step slots game 0 0 none) m)
+    (λ n w loads shown stands. record { loads = loads; shown = shown; doing = refl; stands = stands place is_seat })
 
 pub counts : (slots seat place : ℕ) (m : Me Entry WordView) → place ≡ seat → IsSome m.0.pass.share → Allows TableKeepsOneHistory slots seat m 0 (λ n. n) (EnlistedStep place (step slots 0 0 0 none) m)
 counts slots seat place m is_seat acts s r _ here _ =

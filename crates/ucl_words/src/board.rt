@@ -1,6 +1,6 @@
 //! The board over thirteen atomic words, and its calls.
 
-ghost use Rattle.std.specs.Prelude.{◌≡◌, ◌≢◌, ◌+◌, ◌<◌, ◌≤◌, [], length, IfOk, IfErr, IfSome, IfNone, IsSome, MatchResult, MatchBool, Some, None};
+ghost use Rattle.std.specs.Prelude.{◌≡◌, ◌≢◌, ◌+◌, ◌<◌, ◌≤◌, [], ◌++◌, length, IfOk, IfErr, IfSome, IfNone, IsSome, MatchResult, MatchBool, Some, None};
 ghost use Rattle.atomic_table.specs.Seated.{TableId};
 ghost use Rattle.ucl_board.specs.Fixtures.{IsMatch};
 ghost use Rattle.ucl_board.specs.Log as trails;
@@ -10,35 +10,31 @@ ghost use Rattle.ucl_shared.specs.Views.{pass_view_of, count_of, trail_of, kept_
 ghost use Rattle.ucl_shared.specs.CallSteps.{MeetingSteps, HasCopyOf};
 ghost use Rattle.ucl_shared.specs.OneHistory.{BoardsOpenFresh};
 ghost use Rattle.ucl_words.specs.WordRule.{words_after, IsTheRule, Stands};
-ghost use Rattle.ucl_words.specs.WordSteps.{Loads, LoadsLast, LoadsEnlisted, ExchangeWon, ExchangeMissed, IsNextWord, EnlistWon, EnlistMissed};
-ghost use Rattle.ucl_words.specs.Code.{Collects, HasCollected, FindsAgain, FindsAnother, IsHoldingFor, MayCollect, HasFirsts, has_copied, begins_anew};
+ghost use Rattle.ucl_words.specs.WordSteps.{Loads, LoadsMatch, LoadsEnlisted, point_shown, ExchangeWon, ExchangeMissed, IsNextWord, EnlistWon, EnlistMissed};
+ghost use Rattle.ucl_words.specs.Code.{Collects, FindsAgain, FindsAnother, IsHoldingFor, MayCollect, HasFirsts, has_copied, begins_anew};
 ghost use Rattle.ucl_words.specs.WordCalls.{IsSteady, ReportSteps, ReadingSteps, EnlistTries, KeepsTrail};
 ghost use Rattle.ucl_words.specs.WordViews.{left_pass, second_pass, note_pass, IsNotePass, view_of};
-ghost use Rattle.ucl_words.specs.WordMachine.{report_reply};
 ghost use Rattle.ucl_words.specs.WordDoings.{AnswersCall, GoesAlong, WordHasReported};
 ghost use Rattle.ucl_word.specs.Record.{IsReporter};
-ghost use Rattle.ucl_steps.specs.Protocol.{Nothing, Checking, IsNext, nothing_done, after_look, after_swap, after_second};
+ghost use Rattle.ucl_steps.specs.Protocol.{Nothing, Checking, IsNext, nothing_done, after_look, after_swap, after_second, report_reply};
 ghost use Rattle.ucl_steps.specs.declared.step.Call.TheVariants as calls;
 ghost use Rattle.ucl_steps.specs.declared.trace.Reply.TheVariants as replies;
 
 use crate::passes::{WordNote, WordReaderPass, WordReporterPass};
 use crate::rule::{
-    Asking, CountEnlisted, Enlist, First, LastSecond, Look, Note, OneHistory, Seat, Second,
-    SecondPass, Swap, Table,
+    Asking, CountEnlisted, Enlist, First, Look, Note, OneHistory, Seat, Second, SecondPass, Swap,
+    Table,
 };
 use crate::view::WordView;
 use atomic_table::TableRule;
 use std::alloc::Global;
 use std::marker::{Brand, Model};
 use ucl_board::{Board, Entry, Reading};
-use ucl_shared::TooManyReporters;
+use ucl_shared::{MOST_REPORTERS, TooManyReporters};
 use ucl_word::{Accepted, EventCall, OutOfMemory, Refusal, ReporterNo, next_word, number_of};
 
 /// Which word of the table is the number of enlisted reporters; words 1 to 12 are the matches.
 const ENLISTED: usize = 0;
-
-/// How many reporters a board can have.
-const MOST_REPORTERS: u64 = 255;
 
 /// A board of thirteen words that are loaded and exchanged one at a time: the number of enlisted reporters, and the twelve matches.
 /// Contracts see which table it is.
@@ -197,26 +193,28 @@ impl WordBoard {
         words
     }
 
-    /// The twelfth load of the second collect.
-    fn twelfth<K: Asking>(&self, seat: &mut Seat) -> u64
+    /// A load of the second collect.
+    fn load_again<K: Asking>(&self, seat: &mut Seat, word: usize) -> u64
         requires table { seat.old.table_id ≡ self.now }
         requires acts { IsSome seat.old.me.0.pass.share }
         requires place { K.seat ≡ seat.old.id }
-        requires next { IsNext trails.Second 12 seat.old.me.0.doing.held }
+        requires word { IsMatch word }
+        requires next { IsNext trails.Second word seat.old.me.0.doing.held }
         ensures own { seat.new.table_id ≡ seat.old.table_id }
         ensures seat { seat.new.id ≡ seat.old.id }
-        ensures loads { LoadsLast 12 seat.old.me.0.pass result seat.new.me.0.pass }
+        ensures loads { LoadsMatch trails.Second word seat.old.me.0.pass result seat.new.me.0.pass }
+        ensures shown { seat.new.me.0.pass.shown
+            ≡ seat.old.me.0.pass.shown ++ point_shown seat.old.me.0.doing.held result }
         ensures does { seat.new.me.0.doing ≡ after_second result (length seat.new.me.0.pass.seen) seat.old.me.0.doing }
         ensures stands { Stands seat.new.id seat.new.me.0 }
     {
-        self.table.shared.load::<LastSecond<K>>(seat, 12)
+        self.table.shared.load::<Second<K>>(seat, word)
     }
 
     /// The second collect: loads words 1 to 12 again, up to the first that is another.
     fn is_clean(&self, seat: &mut Seat, words: &[u64; 12]) -> bool
         requires table { seat.old.table_id ≡ self.now }
         requires steady { IsSteady seat.old.me.0.pass }
-        requires collected { HasCollected words.now seat.old.me.0.pass }
         requires next { seat.old.me.0.doing.held ≡ Checking words.now 0 (length seat.old.me.0.pass.seen) }
         ensures own { seat.new.table_id ≡ seat.old.table_id }
         ensures seat { seat.new.id ≡ seat.old.id }
@@ -225,13 +223,10 @@ impl WordBoard {
         ensures along { GoesAlong seat.old.me.0 calls.Reading seat.new.me.0 }
         ensures stands { MatchBool result (Stands seat.new.id seat.new.me.0) (Unit {0}) }
     {
-        for i in 0..11 {
-            if self.table.shared.load::<Second>(seat, i + 1) != words[i] {
+        for checked in 0..12 {
+            if self.load_again::<Brand>(seat, checked + 1) != words[checked] {
                 return false;
             }
-        }
-        if self.twelfth::<Brand>(seat) != words[11] {
-            return false;
         }
         true
     }

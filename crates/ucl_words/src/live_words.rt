@@ -6,11 +6,10 @@ ghost use Rattle.ucl_shared.specs.Passes.{IsSound, Continues, ReportsMore, Accep
 ghost use Rattle.ucl_shared.specs.Views.{pass_view_of, count_of, trail_of, kept_of};
 ghost use Rattle.ucl_shared.specs.CallSteps.{MeetingSteps, HasCopyOf};
 ghost use Rattle.ucl_words.specs.WordCalls.{ReportSteps, ReadingSteps, EnlistTries, KeepsTrail};
-ghost use Rattle.ucl_words.specs.WordMachine.{report_reply};
 ghost use Rattle.ucl_words.specs.WordDoings.{AnswersCall, GoesAlong, WordHasReported};
 ghost use Rattle.ucl_words.specs.WordRule.{Stands};
 ghost use Rattle.ucl_words.specs.WordViews.{view_of};
-ghost use Rattle.ucl_steps.specs.Protocol.{nothing_done};
+ghost use Rattle.ucl_steps.specs.Protocol.{nothing_done, report_reply};
 ghost use Rattle.ucl_steps.specs.declared.step.Call.TheVariants as calls;
 ghost use Rattle.ucl_steps.specs.declared.trace.Reply.TheVariants as replies;
 

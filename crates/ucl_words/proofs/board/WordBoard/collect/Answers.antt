@@ -27,7 +27,7 @@ loop-i-preserved c =
       same = c.load.ensures.0 ∙ was.same;
       place = c.load.ensures.1 ∙ was.place;
       long = length-set c.loop-i.words i n ∙ was.long;
-      collected = collected_set First c.args.seat.now.me.0.pass c.loop-i.seat.me.0.pass c.load.new.seat.me.0.pass c.loop-i.words i n (omega arith) was.collected c.load.ensures.2.loads was.long;
+      collected = collected_set First c.args.seat.now.me.0.pass c.loop-i.seat.me.0.pass c.load.new.seat.me.0.pass c.loop-i.words i n (omega arith) was.collected c.load.ensures.2.loads.loads was.long c.load.ensures.2.loads.shown;
       does = first_on (length c.args.seat.now.me.0.pass.seen) c.args.seat.now.me.0.doing c.loop-i.words i _ c.loop-i.seat.me.0.doing (omega arith) was.long c.requires.next n _ c.load.new.seat.me.0.doing
           (begins_length _ _ (begins_through _ _ _ was.collected.walks.on.seen c.load.ensures.2.loads.loads.sees.goes.seen)) c.load.ensures.2.doing was.does;
       along = along_on c.args.seat.now.me.0 c.loop-i.seat.me.0 c.load.new.seat.me.0 calls.Reading was.collected.walks.number was.along (along_first c.loop-i.seat.me.0 c.load.new.seat.me.0 (i + 1) n calls.Reading c.load.ensures.2.loads.loads c.load.ensures.2.doing);

@@ -1,7 +1,7 @@
 use Rattle.std.proofs.Common.{length, inl, ◌∙◌, refl, sym, ap, arith}
 use Rattle.ucl_board.specs.History.{reading_of}
 use Rattle.ucl_board.proofs.Beginnings.{begins_length}
-use Rattle.ucl_words.proofs.CollectFacts.{has_collected, tried_none, tried_longer, tried_again, are_words, reads}
+use Rattle.ucl_words.proofs.CollectFacts.{tried_none, tried_longer, tried_again, are_words, reads}
 use Rattle.ucl_words.proofs.DoingFacts.{tries_may, tries_held, tries_again, tries_clean}
 use Rattle.ucl_steps.specs.declared.step.Call.TheVariants as calls
 use Rattle.ucl_words.proofs.AlongFacts.{along_none, along_on}
@@ -15,9 +15,6 @@ collect-words-requires-clause-steady c = c.tries.invariant.tried.walks.steady
 
 pub is_clean-requires-clause-steady : goal.is_clean-requires-clause-steady
 is_clean-requires-clause-steady c = c.collect-words.ensures.collects.walks.steady
-
-pub is_clean-requires-clause-collected : goal.is_clean-requires-clause-collected
-is_clean-requires-clause-collected c = has_collected c.tries.seat.me.0.pass c.collect-words.new.seat.me.0.pass c.collect-words.result c.collect-words.ensures.collects
 
 pub of_packed-requires : goal.of_packed-requires
 of_packed-requires c = are_words c.tries.seat.me.0.pass c.collect-words.new.seat.me.0.pass c.is_clean.new.seat.me.0.pass c.collect-words.result c.collect-words.ensures.long c.collect-words.ensures.collects c.if-is_clean.ensures.compared
