@@ -92,7 +92,7 @@ module _ (a b a1 b1 d : PassView) (reading : Reading) (same : a1 ≡ a) (met : M
       let len : length t ≡ reading.version = length-take-le reading.version d.seen read.high in
       record { more_a = entries_by a.number q.0; more_b = entries_by b.number p.0; first = first; second = second; all = omega arith }
 
-  pub all_theirs : IsSound a → a.number ≢ b.number → reading.version ≡ both_accepted a b → IsOfBoth a b (take reading.version d.seen)
+  all_theirs : IsSound a → a.number ≢ b.number → reading.version ≡ both_accepted a b → IsOfBoth a b (take reading.version d.seen)
   all_theirs sound ne sum =
       let c = counts sound ne in
       let all = c.all in
@@ -105,5 +105,23 @@ module _ (a b a1 b1 d : PassView) (reading : Reading) (same : a1 ≡ a) (met : M
         no_other = no_others a.number b.number (take reading.version d.seen) zo;
       }
 
-  pub above : IsSound a → a.number ≢ b.number → reading.version ≢ both_accepted a b → both_accepted a b < reading.version
+  above : IsSound a → a.number ≢ b.number → reading.version ≢ both_accepted a b → both_accepted a b < reading.version
   above sound ne other = let c = counts sound ne in let all = c.all in omega arith
+
+  -- by the numbers n and m of both afterwards, and how many events of each were accepted
+  module _ (sound : IsSound a) (n m i j : ℕ) (n_is : n ≡ a1.number) (m_is : m ≡ d.number) (i_is : i ≡ length a1.mine) (j_is : j ≡ length d.mine) where
+    numbers : (n ≡ m → a.number ≡ b.number) × (a.number ≡ b.number → n ≡ m)
+    numbers =
+        let first : n ≡ a.number = n_is ∙ ap (λ (k : PassView). k.number) same in
+        let second : m ≡ b.number = m_is ∙ (later.number ∙ on.number) in
+        (λ is. sym first ∙ (is ∙ second), λ is. first ∙ (is ∙ sym second))
+
+    sum_is : i + j ≡ both_accepted a b
+    sum_is = let first = i_is ∙ ap (λ (k : PassView). length k.mine) same in let second = j_is ∙ ap length (read.mine ∙ met.mine) in omega arith
+
+    pub of_both : n ≢ m → reading.version ≡ i + j → IsOfBoth a b (take reading.version d.seen)
+    of_both apart sum = all_theirs sound (λ is. apart (numbers.1 is)) (sum ∙ sum_is)
+
+    pub strangers : (n ≡ m) ⊎ (reading.version ≢ i + j) → a.number ≢ b.number → both_accepted a b < reading.version
+    strangers (inl is) other = absurd (other (numbers.0 is))
+    strangers (inr not) other = above sound other (λ sum. not (sum ∙ sym sum_is))
