@@ -25,10 +25,8 @@ use std::alloc::Global;
 use std::marker::{Brand, Model};
 use std::sync::Wait;
 use ucl_board::{Board, Reading};
+use ucl_shared::MOST_REPORTERS;
 use ucl_word::{Accepted, EventCall, OutOfMemory, Refusal, ReporterNo};
-
-/// How many reporters a board can have.
-const MOST_REPORTERS: u64 = 255;
 
 /// A board in one sequence cell of thirteen words: the twelve matches, and the number of enlisted reporters. Contracts see which
 /// cell it is.

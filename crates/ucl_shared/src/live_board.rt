@@ -9,6 +9,9 @@ use std::sync::Wait;
 use ucl_board::Reading;
 use ucl_word::{Accepted, EventCall, Refusal, ReporterNo};
 
+/// How many reporters a board can have: as many as there are numbers of a `ReporterNo`.
+pub const MOST_REPORTERS: u64 = 255;
+
 /// A board that threads share. Each thread holds a pass, and what a call answers is said of what its pass has seen: a prefix
 /// of one history of accepted events, the same for all passes (Herlihy and Wing, Linearizability).
 ///
