@@ -1,5 +1,5 @@
 -- A report on the cell as a whole, by each way in which a try ends.
-use Rattle.std.proofs.Common.{◌≡◌, ◌≢◌, ℕ, List, Bool, true, false, refl, sym, ap, ◌∙◌, subst, take}
+use Rattle.std.proofs.Common.{◌≡◌, ◌≢◌, ℕ, List, true, false, refl, sym, ap, ◌∙◌, subst, take}
 use Rattle.std.specs.Prelude.{Result, Ok, Err, IsOk, IfOk, IfErr, IsSome, MatchResult, is_ok}
 use Rattle.ucl_word.specs.declared.event.EventCall.{EventCall}
 use Rattle.ucl_word.specs.declared.event.Accepted.{Accepted}
@@ -17,7 +17,8 @@ use Rattle.ucl_pass.specs.declared.view.CellView.{CellView}
 use Rattle.ucl_pass.specs.CellRule.{IsUpToDate}
 use Rattle.ucl_pass.specs.CellSteps.{word_looked_at, LooksOnly, StoresEntry, HasAccepted, AreAccepting, DecidesReport, LookOfCell}
 use Rattle.ucl_pass.specs.CellCalls.{CellReport, FinishesReport}
-use Rattle.ucl_pass.proofs.Calls.{won, lost, same_word, TriedReport, look_continues, refuses, refused_steps, missed_again, accepts, accepted_continues, accepted_steps, looked_number, finishes_refused, are_accepting, still_finished, finishes_accepted}
+use Rattle.ucl_pass.proofs.Calls.{won, lost, same_word, TriedReport, look_continues, refuses, refused_steps, missed_again, accepts, accepted_continues, accepted_steps, looked_number, finishes_refused}
+use Rattle.ucl_pass.proofs.Calls.{are_accepting, still_finished, finishes_accepted}
 
 -- what a report says
 pub record CellReported (v : CellView) (call : EventCall) (reply : Result Accepted Refusal) (w : CellView) : Type 0 where
@@ -35,9 +36,11 @@ pub record TriesAgain (v : CellView) (call : EventCall) (w : CellView) : Type 0 
   pub does : w.calls ≡ v.calls
 
 -- a load of the words x, and the board of the first twelve
-module _ (call : EventCall) (v w u : CellView) (x : List ℕ) (tried : TriedReport call v.pass w.pass) (kept : w.calls ≡ v.calls) (looked : LookOfCell call w x x u) (game : IsMatch call.game) (board : List ℕ) (twelve : board ≡ take 12 x) where
+module _ (call : EventCall) (v w u : CellView) (x : List ℕ) (tried : TriedReport call v.pass w.pass) (kept : w.calls ≡ v.calls) (looked : LookOfCell call w x x u) (game : IsMatch call.game)
+    (board : List ℕ) (twelve : board ≡ take 12 x) where
   same_reply : reply_of (game_at board call.game) call ≡ reply_of (record_at (word_at x call.game)) call
-  same_reply = ap (λ (ws : List ℕ). reply_of (game_at ws call.game) call) twelve ∙ ap (λ (n : ℕ). reply_of (record_at n) call) (same_word x w.pass u.pass looked.looks.seen_all looked.looks.sees.goes call.game game)
+  same_reply = ap (λ (ws : List ℕ). reply_of (game_at ws call.game) call) twelve
+      ∙ ap (λ (n : ℕ). reply_of (record_at n) call) (same_word x w.pass u.pass looked.looks.seen_all looked.looks.sees.goes call.game game)
 
   by_word : (reply : Result Accepted Refusal) → reply ≡ reply_of (game_at board call.game) call → reply_of (record_at (word_at x call.game)) call ≡ reply
   by_word reply is = sym (is ∙ same_reply)

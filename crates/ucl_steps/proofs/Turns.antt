@@ -156,7 +156,8 @@ abbrev pub ended_at : ℕ → Time → Time
 ended_at n t = record t { ended = Some n }
 
 -- a call that is begun has its time
-time_of_call : (steps : List Step) (ts : List Time) (i : ℕ) (c : Caller) (call : Call) → begun_in steps ≡ map told ts → slice_get (begun_in steps) i ≡ Some (c, call) → (t : Time) × (slice_get ts i ≡ Some t) × (t.caller ≡ c)
+time_of_call : (steps : List Step) (ts : List Time) (i : ℕ) (c : Caller) (call : Call) → begun_in steps ≡ map told ts → slice_get (begun_in steps) i ≡ Some (c, call)
+    → (t : Time) × (slice_get ts i ≡ Some t) × (t.caller ≡ c)
 time_of_call steps ts i c call same e =
     let below = at_below (begun_in steps) i (c, call) e in
     let count : length (begun_in steps) ≡ length ts = ap length same ∙ length-map ts told in
@@ -177,7 +178,8 @@ still_ended : (before after : Time) → (before.ended ≡ after.ended) ⊎ (befo
 still_ended before after (inl same) m by = subst (λ (z : Option ℕ). EndedBy z m) same by
 still_ended before after (inr none) m by = absurd (not_ended before.ended m none by)
 
-module _ (steps : List Step) (n : ℕ) (ts : List Time) (c : Caller) (k : ℕ) (held : Time) (here : slice_get ts k ≡ Some held) (own : held.caller ≡ c) (open_call : held.ended ≡ None) (kept : Turns steps n ts) where
+module _ (steps : List Step) (n : ℕ) (ts : List Time) (c : Caller) (k : ℕ) (held : Time) (here : slice_get ts k ≡ Some held) (own : held.caller ≡ c) (open_call : held.ended ≡ None)
+    (kept : Turns steps n ts) where
   -- the call that ends is the one that its caller holds
   ends_held : (p i : ℕ) → p ≡ length steps → EndsAt (steps ++ End c ∷ []) p i c → i ≡ k
   ends_held p i is e =

@@ -1,10 +1,11 @@
 -- The clean double collect: loads of all words, twice, and anew where a word was another.
-use Rattle.std.proofs.Common.{◌≡◌, ◌≢◌, inl, inr, ℕ, zero, suc, ◌+◌, ◌-◌, ◌==◌, ◌<◌, ◌≤◌, Bool, cond, List, [], ◌∷◌, ◌++◌, length, take, set, get_or, Some, refl, sym, ap, ◌∙◌, subst, arith, le_refl, append_assoc, append-nil, length-append, eq-eqb, ne_eqb, get_or-set_same}
+use Rattle.std.proofs.Common.{◌≡◌, ◌≢◌, inl, inr, ℕ, ◌+◌, ◌-◌, ◌<◌, ◌≤◌, List, [], ◌∷◌, ◌++◌, length, take, set, Some, refl, sym, ap, ◌∙◌, subst, arith, le_refl}
+use Rattle.std.proofs.Common.{append_assoc, append-nil, length-append, get_or-set_same}
 use Rattle.std.specs.Prelude.{slice_get, slice_index}
 use Rattle.std.specs.List.{AllByRecursion}
-use Rattle.std.proofs.lemmas.Option.{none-some, same_Some}
+use Rattle.std.proofs.lemmas.Option.{none-some}
 use Rattle.std.proofs.Math.Seq.{take-append_seam}
-use Rattle.ucl_word.proofs.Sequences.{at_longer, at_either}
+use Rattle.ucl_word.proofs.Sequences.{at_either}
 use Rattle.ucl_board.specs.declared.reading.Reading.{Reading}
 use Rattle.ucl_board.specs.Words.{AreWords, greatest_version, version_of}
 use Rattle.ucl_board.specs.History.{board_of, reading_of}
@@ -13,11 +14,10 @@ use Rattle.ucl_board.proofs.HistoryLaws.{versions}
 use Rattle.ucl_board.specs.Log.{AccessKind, First, Second, Access, access}
 use Rattle.ucl_steps.specs.Trails.{most_loads, IsCollect, IsUnclean, IsClean, accesses_of, ReadingAccesses}
 use Rattle.ucl_steps.specs.Laws.{IsReadFrom}
-use Rattle.ucl_steps.proofs.Lists.{get_some}
 use Rattle.ucl_steps.proofs.Accesses.{collect_none, collect_more, collect_set, unclean_try, clean_shows, reading_whole}
 use Rattle.ucl_shared.specs.Passes.{Continues, SharedReading}
 use Rattle.ucl_shared.specs.declared.view.View.{View}
-use Rattle.ucl_shared.specs.Views.{pass_view_of, count_of, trail_of}
+use Rattle.ucl_shared.specs.Views.{pass_view_of, count_of}
 use Rattle.ucl_words.specs.WordSteps.{LoadsMatch}
 use Rattle.ucl_words.specs.Code.{Walks, Collects, FindsAgain, FindsAnother}
 use Rattle.ucl_words.specs.WordCalls.{IsSteady, ReadingSteps}
@@ -130,15 +130,27 @@ module _ (x u w : View) (words : List ℕ) (collects : Collects x words u) (anot
   both_walks = walks_on x u w collects.accesses another.accesses collects.walks another.walks
 
   is_unclean : IsUnclean (collects.accesses ++ another.accesses)
-  is_unclean = record { words = words; firsts = collects.accesses; seconds = another.accesses; accesses = refl; twelve = collects.collect.twelve; collected = collects.collect.words_are; broken = another.broken }
+  is_unclean = record {
+    words = words;
+    firsts = collects.accesses;
+    seconds = another.accesses;
+    accesses = refl;
+    twelve = collects.collect.twelve;
+    collected = collects.collect.words_are;
+    broken = another.broken;
+  }
 
   pub tried_longer : (length x.seen < length w.seen) × (length w.seen ≤ greatest_version)
-  tried_longer = ((unclean_try w.seen (length x.seen) (length w.seen) (collects.accesses ++ another.accesses) both_walks.leaves.follows is_unclean).0, (versions w.seen both_walks.steady.sound.legal).1)
+  tried_longer = (
+    (unclean_try w.seen (length x.seen) (length w.seen) (collects.accesses ++ another.accesses) both_walks.leaves.follows is_unclean).0,
+    (versions w.seen both_walks.steady.sound.legal).1,
+  )
 
   pub tried_again : (v : View) → Tried v x → Tried v w
   tried_again v tried = record {
     tries = tried.tries ++ (collects.accesses ++ another.accesses) ∷ [];
-    walks = subst (λ (l : List Access). Walks v l w) (sym (accesses_next tried.tries (collects.accesses ++ another.accesses))) (walks_on v x w (accesses_of tried.tries) (collects.accesses ++ another.accesses) tried.walks both_walks);
+    walks = subst (λ (l : List Access). Walks v l w) (sym (accesses_next tried.tries (collects.accesses ++ another.accesses)))
+        (walks_on v x w (accesses_of tried.tries) (collects.accesses ++ another.accesses) tried.walks both_walks);
     unclean = unclean_next tried.tries (collects.accesses ++ another.accesses) tried.unclean is_unclean;
     shown = another.shown ∙ (collects.shown ∙ tried.shown);
   }
@@ -175,7 +187,8 @@ module _ (x u w : View) (words : List ℕ) (long : length words ≡ 12) (collect
   front = let p = again.walks.on.seen in ap (take (length u.seen)) (sym p.1) ∙ take-append_seam u.seen p.0
 
   words_seen : words ≡ board_of u.seen
-  words_seen = (clean_shows w.seen (length x.seen) (length w.seen) clean_reading (collects.accesses ++ again.accesses) clean_walks.steady.sound.legal clean_walks.leaves.follows is_clean).board ∙ ap board_of front
+  words_seen = (clean_shows w.seen (length x.seen) (length w.seen) clean_reading (collects.accesses ++ again.accesses) clean_walks.steady.sound.legal clean_walks.leaves.follows is_clean).board
+      ∙ ap board_of front
 
   pub are_words : AreWords words
   are_words = subst AreWords (sym words_seen) (board_words u.seen collects.walks.steady.sound.legal)

@@ -25,7 +25,8 @@ pub record FoundAnother (v : WordView) (words : List ℕ) (x : WordView) : Type 
   pub does : x.doing ≡ begins_anew v.doing
 
 -- one load more
-module _ (v x w : WordView) (words : List ℕ) (i n : ℕ) (below : i < 12) (was : Comparing v words i x) (loads : LoadsMatch Second (i + 1) x.pass n w.pass) (shown : w.pass.shown ≡ x.pass.shown ++ point_shown x.doing.held n)
+module _ (v x w : WordView) (words : List ℕ) (i n : ℕ) (below : i < 12) (was : Comparing v words i x) (loads : LoadsMatch Second (i + 1) x.pass n w.pass)
+    (shown : w.pass.shown ≡ x.pass.shown ++ point_shown x.doing.held n)
     (does : w.doing ≡ after_second n (length w.pass.seen) x.doing) where
   silent : point_shown x.doing.held n ≡ [] → w.pass.shown ≡ x.pass.shown
   silent none = shown ∙ (ap (λ (l : List ℕ). x.pass.shown ++ l) none ∙ append-nil x.pass.shown)
@@ -45,6 +46,7 @@ module _ (v x w : WordView) (words : List ℕ) (i n : ℕ) (below : i < 12) (was
 
   pub found_another : n ≢ slice_index words i → FoundAnother v words w
   found_another other = record {
-    compared = collected_other Second v.pass x.pass w.pass words i n below was.collected loads other refl (silent (shows_none_of_another v.doing words (length v.pass.seen) i x.doing was.does n other));
+    compared = collected_other Second v.pass x.pass w.pass words i n below was.collected loads other refl
+        (silent (shows_none_of_another v.doing words (length v.pass.seen) i x.doing was.does n other));
     does = second_other v.doing words (length v.pass.seen) i x.doing was.does n (length w.pass.seen) w.doing does other;
   }

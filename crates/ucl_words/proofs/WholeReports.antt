@@ -21,7 +21,8 @@ use Rattle.ucl_words.specs.WordSteps.{Loads, ExchangeMissed, ExchangeWon}
 use Rattle.ucl_words.specs.WordCalls.{IsSteady, ReportSteps}
 use Rattle.ucl_words.specs.WordDoings.{AnswersCall, GoesAlong}
 use Rattle.ucl_words.proofs.StepRuns.{walks_continue}
-use Rattle.ucl_words.proofs.ReportFacts.{look_walks, look_steps, look_refuses, miss_walks, miss_steps, miss_refuses, won_steady, won_continues, won_steps, won_accepts, accepts_by, as_entry, as_missed, me_in}
+use Rattle.ucl_words.proofs.ReportFacts.{look_walks, look_steps, look_refuses, miss_walks, miss_steps, miss_refuses, won_steady, won_continues, won_steps, won_accepts, accepts_by, as_entry, as_missed}
+use Rattle.ucl_words.proofs.ReportFacts.{me_in}
 use Rattle.ucl_words.proofs.DoingFacts.{look_answers, won_answers, miss_answers}
 use Rattle.ucl_words.proofs.AlongFacts.{along_on, along_look, along_swap}
 
@@ -61,8 +62,10 @@ module _ (v u : WordView) (call : EventCall) (reporter loaded : ℕ) (game : IsM
       }
 
   -- they accept, and an exchange was made for this entry
-  module _ (accepts : refusal_of (record_at loaded) call.expected call.kind ≡ None) (next : ℕ) (valid : IsWord next) (next_is : record_at next ≡ after (record_at loaded) reporter call.kind) (entry : Entry) (made : entry ≡ entry_of reporter call)
-      (z : WordView) (found : ℕ) (won : found ≡ loaded → ExchangeWon entry u.pass found z.pass) (missed : found ≢ loaded → ExchangeMissed entry.game u.pass found z.pass) (swapped : z.doing ≡ after_swap found (length z.pass.seen) u.doing) where
+  module _ (accepts : refusal_of (record_at loaded) call.expected call.kind ≡ None) (next : ℕ) (valid : IsWord next) (next_is : record_at next ≡ after (record_at loaded) reporter call.kind)
+      (entry : Entry) (made : entry ≡ entry_of reporter call)
+      (z : WordView) (found : ℕ) (won : found ≡ loaded → ExchangeWon entry u.pass found z.pass) (missed : found ≢ loaded → ExchangeMissed entry.game u.pass found z.pass)
+      (swapped : z.doing ≡ after_swap found (length z.pass.seen) u.doing) where
     both_along : GoesAlong v (calls.Event call) z
     both_along = along_on v u z (calls.Event call) looks.loads.sees.number look_along (along_swap u z entry.game found call entry loaded refl won missed swapped)
 

@@ -30,7 +30,8 @@ returns-then-from-accepted-clause-of_both g c =
     let m = c.meet.ensures in
     let r = c.read_own-reading.ensures in
     of_both (k c.args.first.now) (k c.args.second.now) (k c.meet.new.first) (k c.meet.new.second) (k c.read_own-reading.new.pass) c.read_own-reading.result
-    m.unchanged m.meeting m.always r.always r.reading m.sound c.number_of.result c.number_of-2.result c.accepted_of.result c.accepted_of-2.result c.number_of.ensures c.number_of-2.ensures c.accepted_of.ensures c.accepted_of-2.ensures
+    m.unchanged m.meeting m.always r.always r.reading m.sound c.number_of.result c.number_of-2.result c.accepted_of.result c.accepted_of-2.result c.number_of.ensures c.number_of-2.ensures
+    c.accepted_of.ensures c.accepted_of-2.ensures
     (differ c.number_of.result c.number_of-2.result c.ne.result c.ne.ensures c.if-ne.true)
     (let f1 = c.from.ensures in let f2 = c.from-2.ensures in let f3 = c.from-then-ne.ensures in let t = c.if-from-accepted.true in omega arith)
 
@@ -46,7 +47,8 @@ returns-else-ne-clause-strangers g c ne =
       | else-ne-via-else-ne w ↦ inl (one_number c.number_of.result c.number_of-2.result c.ne.result c.ne.ensures w.if-ne.false)
     ] in
     strangers (k c.args.first.now) (k c.args.second.now) (k c.meet.new.first) (k c.meet.new.second) (k c.read_own-reading.new.pass) c.read_own-reading.result
-    m.unchanged m.meeting m.always r.always r.reading m.sound c.number_of.result c.number_of-2.result c.accepted_of.result c.accepted_of-2.result c.number_of.ensures c.number_of-2.ensures c.accepted_of.ensures c.accepted_of-2.ensures why ne
+    m.unchanged m.meeting m.always r.always r.reading m.sound c.number_of.result c.number_of-2.result c.accepted_of.result c.accepted_of-2.result c.number_of.ensures c.number_of-2.ensures
+    c.accepted_of.ensures c.accepted_of-2.ensures why ne
 
 pub returns-then-from-accepted-clause-shown : goal.returns-then-from-accepted-clause-shown
 returns-then-from-accepted-clause-shown g c = let r = c.read_own-reading in r.ensures.reading.shown ∙ ap (λ (shown : List ℕ). shown ++ r.result.version ∷ []) c.meet.ensures.meeting.shown

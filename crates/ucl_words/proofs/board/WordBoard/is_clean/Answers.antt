@@ -1,4 +1,4 @@
-use Rattle.std.proofs.Common.{◌≡◌, ℕ, ◌+◌, refl, ◌∙◌, arith}
+use Rattle.std.proofs.Common.{◌+◌, refl, ◌∙◌, arith}
 use Rattle.ucl_board.specs.Log.{Second}
 use Rattle.ucl_steps.specs.declared.step.Call.TheVariants as calls
 use Rattle.ucl_words.proofs.AlongFacts.{along_none, along_on, along_second}
@@ -11,7 +11,10 @@ pub loop-checked-init : goal.loop-checked-init
 loop-checked-init c = record {
   same = refl;
   place = refl;
-  so_far = λ _. record { collected = collected_none Second c.args.seat.now.me.0.pass c.args.words.now c.requires.steady; does = seconds_none c.args.seat.now.me.0.doing c.args.words.now _ c.requires.next };
+  so_far = λ _. record {
+    collected = collected_none Second c.args.seat.now.me.0.pass c.args.words.now c.requires.steady;
+    does = seconds_none c.args.seat.now.me.0.doing c.args.words.now _ c.requires.next;
+  };
   all = λ twelve. absurd (omega arith);
   along = along_none c.args.seat.now.me.0 calls.Reading;
   stands = λ twelve. absurd (omega arith);
@@ -38,24 +41,28 @@ loop-checked-preserved c =
       place = told.seat ∙ c.loop-checked.invariant.place;
       so_far = λ below. found_same v x w c.args.words.now c.loop-checked.checked c.load_again.result (omega arith) was told.loads told.shown told.does c.if-load_again-words.false (omega arith);
       all = λ twelve. found_all v x w c.args.words.now c.loop-checked.checked c.load_again.result (omega arith) was told.loads told.shown told.does c.if-load_again-words.false (omega arith);
-      along = along_on v x w calls.Reading was.collected.walks.number c.loop-checked.invariant.along (along_second x w (c.loop-checked.checked + 1) c.load_again.result calls.Reading told.loads told.does);
+      along = along_on v x w calls.Reading was.collected.walks.number c.loop-checked.invariant.along
+          (along_second x w (c.loop-checked.checked + 1) c.load_again.result calls.Reading told.loads told.does);
       stands = λ _. told.stands;
     }
 
 pub returns-then-load_again-words-clause-compared : goal.returns-then-load_again-words-clause-compared
 returns-then-load_again-words-clause-compared c =
     let told = c.load_again.ensures in
-    (found_another c.args.seat.now.me.0 c.loop-checked.seat.me.0 c.load_again.new.seat.me.0 c.args.words.now c.loop-checked.checked c.load_again.result (omega arith) (c.loop-checked.invariant.so_far (omega arith)) told.loads told.shown told.does c.if-load_again-words.true).compared
+    (found_another c.args.seat.now.me.0 c.loop-checked.seat.me.0 c.load_again.new.seat.me.0 c.args.words.now c.loop-checked.checked c.load_again.result (omega arith)
+    (c.loop-checked.invariant.so_far (omega arith)) told.loads told.shown told.does c.if-load_again-words.true).compared
 
 pub returns-then-load_again-words-clause-does : goal.returns-then-load_again-words-clause-does
 returns-then-load_again-words-clause-does c =
     let told = c.load_again.ensures in
-    (found_another c.args.seat.now.me.0 c.loop-checked.seat.me.0 c.load_again.new.seat.me.0 c.args.words.now c.loop-checked.checked c.load_again.result (omega arith) (c.loop-checked.invariant.so_far (omega arith)) told.loads told.shown told.does c.if-load_again-words.true).does
+    (found_another c.args.seat.now.me.0 c.loop-checked.seat.me.0 c.load_again.new.seat.me.0 c.args.words.now c.loop-checked.checked c.load_again.result (omega arith)
+    (c.loop-checked.invariant.so_far (omega arith)) told.loads told.shown told.does c.if-load_again-words.true).does
 
 pub returns-then-load_again-words-clause-along : goal.returns-then-load_again-words-clause-along
 returns-then-load_again-words-clause-along c =
     let told = c.load_again.ensures in
-    along_on c.args.seat.now.me.0 c.loop-checked.seat.me.0 c.load_again.new.seat.me.0 calls.Reading (c.loop-checked.invariant.so_far (omega arith)).collected.walks.number c.loop-checked.invariant.along
+    along_on c.args.seat.now.me.0 c.loop-checked.seat.me.0 c.load_again.new.seat.me.0 calls.Reading (c.loop-checked.invariant.so_far (omega arith)).collected.walks.number
+    c.loop-checked.invariant.along
     (along_second c.loop-checked.seat.me.0 c.load_again.new.seat.me.0 (c.loop-checked.checked + 1) c.load_again.result calls.Reading told.loads told.does)
 
 pub returns-clause-compared : goal.returns-clause-compared

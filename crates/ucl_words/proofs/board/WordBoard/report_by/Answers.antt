@@ -32,7 +32,8 @@ returns-in_err-next c =
     let said = c.look-loaded.ensures in
     let refusal = c.in_err-next.field-0.0 in
     let is : c.from_residual.result ≡ Err refusal = search rules in
-    let by : Reported v call (Err refusal) u = refused_report v u call c.args.reporter c.look-loaded.result said.game c.requires.me c.requires.steady said.looks said.does refusal c.in_err-next.ensures.refused in
+    let by : Reported v call (Err refusal) u =
+    refused_report v u call c.args.reporter c.look-loaded.result said.game c.requires.me c.requires.steady said.looks said.does refusal c.in_err-next.ensures.refused in
     let all = subst (λ (r : Result Accepted Refusal). Reported v call r u) (sym is) by in
     record {
       own = said.own;
