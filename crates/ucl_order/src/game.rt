@@ -14,7 +14,7 @@ use ucl_board::{Board, away_of, home_of};
 use ucl_word::{MatchNo, MatchRecord, State};
 
 /// The points for a win.
-const WIN: u8 = 3;
+pub(crate) const WIN: u8 = 3;
 
 /// A match of the group: the slots of its clubs, and what is known of it.
 #[derive(Clone, Copy, Debug, Default, PartialEq, Eq)]

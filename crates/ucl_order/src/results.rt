@@ -9,7 +9,7 @@ ghost use Rattle.ucl_order.specs.Keys.{slots_in};
 ghost use Rattle.ucl_order.specs.Order.{among};
 ghost use Rattle.ucl_order.specs.Code.Rounds.{level_matches, results_of_clubs};
 
-use crate::game::{Appearance, Match};
+use crate::game::{Appearance, Match, WIN};
 
 /// What a club has done in some matches.
 #[derive(Clone, Copy, Debug, PartialEq, Eq)]
@@ -134,6 +134,6 @@ impl Results {
         ensures value { result ≡ points_for self.now.wins self.now.draws }
         ensures few { result ≤ 48 }
     {
-        3 * self.wins + self.draws
+        WIN * self.wins + self.draws
     }
 }

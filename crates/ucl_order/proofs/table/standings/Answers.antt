@@ -2,7 +2,7 @@ use Rattle.std.proofs.Common.{◌≡◌, ◌∙◌, ap, refl, sym, subst, All, L
 use Rattle.std.proofs.lemmas.List.Elements.{All-same}
 use Rattle.ucl_order.specs.declared.game.Match.{Match}
 use Rattle.ucl_word.specs.Record.{IsValid}
-use Rattle.ucl_order.specs.Matches.{matches_of, started}
+use Rattle.ucl_order.specs.Matches.{matches_of, started, started_of}
 use Rattle.ucl_order.specs.Marks.{mark_by}
 use Rattle.ucl_order.specs.Code.Rounds.{results_of_clubs}
 use Rattle.ucl_order.specs.Order.{order_of}
@@ -24,7 +24,7 @@ order-order-requires-clause-results c = c.of_clubs-results.ensures.value ∙ ap 
 pub returns-clause-rows : goal.returns-clause-rows
 returns-clause-rows c =
     let ms : List Match = c.fill_matches.new.matches.items in
-    let order : c.order-order.result ≡ order_of c.args.profile c.args.board.now c.args.roster.now =
+    let order : c.order-order.result ≡ order_of c.args.profile (started_of c.args.board.now) c.args.roster.now =
     order_is c.args.profile c.args.board.now c.args.roster.now (started c.deref-2.result.now) c.order-order.result (ap started (c.deref-2.ensures.0 ∙ c.fill_matches.ensures.value)) c.order-order.ensures.value in
     let marks = c.marks_of-marks.ensures ∙ ap (λ m. map (mark_by m c.order-order.result) c.order-order.result) c.deref-3.ensures.0 in
     let results = c.of_clubs-results.ensures.value ∙ ap (λ m. results_of_clubs (started m)) c.deref.ensures.0 in
