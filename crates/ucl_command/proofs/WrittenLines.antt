@@ -17,7 +17,7 @@ use Rattle.ucl_program.specs.Options.{Texts, letters, names_of_orders}
 use Rattle.ucl_program.specs.Written.{words}
 use Rattle.ucl_program.proofs.Places.{Places, each_letter, from_low, is_table, places, table}
 use Rattle.ucl_command.specs.CommandLine.{number_named, Tables, line_in, program, program_with}
-use Rattle.ucl_command.proofs.Matches.{digits_back}
+use Rattle.ucl_command.proofs.NumbersRead.{digits_back}
 use Rattle.ucl_command.specs.declared.command_line.Line.{Line}
 use Rattle.ucl_command.specs.declared.command_line.Line.TheVariants.{Feed, Show, Night}
 use Rattle.ucl_command.specs.Written.{RefusedLines, TakenLines, FailsAs, Means}
