@@ -20,7 +20,7 @@ use ucl_screen::screen;
 use ucl_word::{Accepted, Refusal};
 
 /// Room for the line of a reply.
-const LINE: usize = 176;
+const LINE: usize = 64;
 
 /// An answer.
 #[derive(Drop)]

@@ -1,6 +1,6 @@
 //! What an evening has at hand: the line that has begun, the fields of a row, and answers that wait.
 
-ghost use Rattle.std.specs.Prelude.{◌≡◌, ◌-◌, ◌^◌, ◌+◌, ◌<◌, ◌≤◌, ◌++◌, [], ◌∷◌, fold, length, option_map, IfErr, IfOk, IfSome, OnOk};
+ghost use Rattle.std.specs.Prelude.{◌≡◌, ◌-◌, ◌^◌, ◌+◌, ◌<◌, ◌≤◌, ◌++◌, [], ◌∷◌, fold, length, option_map, IfErr, IfSome, OnOk};
 ghost use Rattle.csv.specs.Records.{Rising};
 ghost use Rattle.ucl_screen.specs.Rows.{four_seen};
 ghost use Rattle.ucl_answers.specs.Lines.{longer};
@@ -9,7 +9,7 @@ ghost use Rattle.ucl_answers.specs.Reading.{IsLineEnd, fields_in, said_in};
 ghost use Rattle.ucl_answers.specs.Rows.{Row, fits, said_by_text, said_on};
 ghost use Rattle.ucl_answers.specs.Seen.{evening_seen};
 ghost use Rattle.ucl_answers.specs.Stepping.{AsksForMemory, EveningIsRefused, answers_to, moment_after};
-ghost use Rattle.ucl_answers.specs.Taking.{FailsToTake, held_row, moment_of};
+ghost use Rattle.ucl_answers.specs.Taking.{FailsToTake, moment_of};
 ghost use Rattle.ucl_answers.specs.Text.{answer_said, next};
 
 use crate::evening::Evening;
@@ -73,70 +73,73 @@ fn plain_row(row: u64, text: &[u8]) -> Option<Four<'_>>
     }
 }
 
-/// Answers a line with its line feed, whatever it is, and gives the evening after it.
+/// Answers a line with its line feed, whatever it is.
 #[tactic(auto, using(crate::proofs::Puts::put_nothing))]
 fn answer_any<W: Sink>(
     alloc: Global,
-    evening: Evening,
+    evening: &mut Evening,
     fields: &mut Fields,
     text: &[u8],
     page: &mut Page,
     sink: &mut W,
-) -> Result<Evening, RunFault>
-    requires row { evening.row < 2 ^ 64 - 1 }
-    ensures next { IfOk result (λ after. evening_seen after
-        ≡ next (evening_seen evening) (said_by_text evening.row text.now)) }
+) -> Result<(), RunFault>
+    requires row { evening.old.row < 2 ^ 64 - 1 }
+    ensures next { OnOk result (evening_seen evening.new
+        ≡ next (evening_seen evening.old) (said_by_text evening.old.row text.now)) }
     ensures put { OnOk result (HasPut page.old page.new (W.taken sink.old) (W.taken sink.new)
-        (answer_said (evening_seen evening) (said_by_text evening.row text.now))) }
+        (answer_said (evening_seen evening.old) (said_by_text evening.old.row text.now))) }
     ensures sound { OnOk result (W.failed sink.new ≡ W.failed sink.old) }
     ensures vain { OnOk result (W.in_vain sink.new ≡ W.in_vain sink.old) }
     ensures fails { IfErr result (FailsToPut page.old page.new
         (W.failed sink.new) (W.taken sink.old) (W.taken sink.new)
-        (answer_said (evening_seen evening) (said_by_text evening.row text.now))
-        (AsksForMemory (evening_seen evening) (said_by_text evening.row text.now))
-        (EveningIsRefused (next (evening_seen evening) (said_by_text evening.row text.now)))) }
+        (answer_said (evening_seen evening.old) (said_by_text evening.old.row text.now))
+        (AsksForMemory (evening_seen evening.old) (said_by_text evening.old.row text.now))
+        (EveningIsRefused (next (evening_seen evening.old) (said_by_text evening.old.row text.now)))) }
     ensures sink_fails { IfErr result (SinkFails
         (W.in_vain sink.old) (W.in_vain sink.new)
         (W.failed sink.old) (W.failed sink.new)) }
 {
     let _written = page.written();
     match read(fields, evening.row, text) {
-        Found::Nothing => Ok(evening.passed()),
-        Found::More => evening.answered(alloc, &None, page, sink),
+        Found::Nothing => {
+            evening.pass();
+            Ok(())
+        }
+        Found::More => evening.answer(alloc, &None, page, sink),
         Found::One => {
             let said = fields.four();
-            evening.answered(alloc, &said, page, sink)
+            evening.answer(alloc, &said, page, sink)
         }
     }
 }
 
-/// Answers a line with its line feed, and gives the evening after it. A row with no quotes, which most are, is read where it lies.
+/// Answers a line with its line feed. A row with no quotes, which most are, is read where it lies.
 fn answer_text<W: Sink>(
     alloc: Global,
-    evening: Evening,
+    evening: &mut Evening,
     fields: &mut Fields,
     text: &[u8],
     page: &mut Page,
     sink: &mut W,
-) -> Result<Evening, RunFault>
-    requires row { evening.row < 2 ^ 64 - 1 }
-    ensures next { IfOk result (λ after. evening_seen after
-        ≡ next (evening_seen evening) (said_by_text evening.row text.now)) }
+) -> Result<(), RunFault>
+    requires row { evening.old.row < 2 ^ 64 - 1 }
+    ensures next { OnOk result (evening_seen evening.new
+        ≡ next (evening_seen evening.old) (said_by_text evening.old.row text.now)) }
     ensures put { OnOk result (HasPut page.old page.new (W.taken sink.old) (W.taken sink.new)
-        (answer_said (evening_seen evening) (said_by_text evening.row text.now))) }
+        (answer_said (evening_seen evening.old) (said_by_text evening.old.row text.now))) }
     ensures sound { OnOk result (W.failed sink.new ≡ W.failed sink.old) }
     ensures vain { OnOk result (W.in_vain sink.new ≡ W.in_vain sink.old) }
     ensures fails { IfErr result (FailsToPut page.old page.new
         (W.failed sink.new) (W.taken sink.old) (W.taken sink.new)
-        (answer_said (evening_seen evening) (said_by_text evening.row text.now))
-        (AsksForMemory (evening_seen evening) (said_by_text evening.row text.now))
-        (EveningIsRefused (next (evening_seen evening) (said_by_text evening.row text.now)))) }
+        (answer_said (evening_seen evening.old) (said_by_text evening.old.row text.now))
+        (AsksForMemory (evening_seen evening.old) (said_by_text evening.old.row text.now))
+        (EveningIsRefused (next (evening_seen evening.old) (said_by_text evening.old.row text.now)))) }
     ensures sink_fails { IfErr result (SinkFails
         (W.in_vain sink.old) (W.in_vain sink.new)
         (W.failed sink.old) (W.failed sink.new)) }
 {
     match plain_row(evening.row, text) {
-        Some(four) => evening.answered(alloc, &Some(four), page, sink),
+        Some(four) => evening.answer(alloc, &Some(four), page, sink),
         None => answer_any(alloc, evening, fields, text, page, sink),
     }
 }
@@ -179,28 +182,35 @@ impl Desk {
         }
     }
 
-    /// Answers the line that has begun, as if it ended here, and gives the evening after it.
-    #[tactic(auto, using(crate::proofs::Puts::put_nothing))]
+    /// Answers the line that has begun, as if it ended here.
     pub(crate) fn answer<W: Sink>(
         &mut self,
         alloc: Global,
-        evening: Evening,
+        evening: &mut Evening,
         sink: &mut W,
-    ) -> Result<Evening, RunFault>
+    ) -> Result<(), RunFault>
         requires short { length self.old.line.items ≤ 258 }
-        requires row { evening.row < 2 ^ 64 - 1 }
-        ensures next { IfOk result (λ after. evening_seen after ≡ next (evening_seen evening) (said_on evening.row self.old.line.items)) }
+        requires row { evening.old.row < 2 ^ 64 - 1 }
+        ensures next { OnOk result (evening_seen evening.new
+            ≡ next (evening_seen evening.old) (said_on evening.old.row self.old.line.items)) }
         ensures begun { OnOk result (self.new.line.items ≡ []) }
-        ensures put { OnOk result (HasPut self.old.page self.new.page (W.taken sink.old) (W.taken sink.new) (answer_said (evening_seen evening) (said_on evening.row self.old.line.items))) }
+        ensures put { OnOk result (HasPut self.old.page self.new.page
+            (W.taken sink.old) (W.taken sink.new)
+            (answer_said (evening_seen evening.old) (said_on evening.old.row self.old.line.items))) }
         ensures sound { OnOk result (W.failed sink.new ≡ W.failed sink.old) }
         ensures vain { OnOk result (W.in_vain sink.new ≡ W.in_vain sink.old) }
-        ensures fails { IfErr result (FailsToPut self.old.page self.new.page (W.failed sink.new) (W.taken sink.old) (W.taken sink.new) (answer_said (evening_seen evening) (said_on evening.row self.old.line.items)) (AsksForMemory (evening_seen evening) (said_on evening.row self.old.line.items)) (EveningIsRefused (next (evening_seen evening) (said_on evening.row self.old.line.items)))) }
+        ensures fails { IfErr result (FailsToPut self.old.page self.new.page
+            (W.failed sink.new) (W.taken sink.old) (W.taken sink.new)
+            (answer_said (evening_seen evening.old) (said_on evening.old.row self.old.line.items))
+            (AsksForMemory (evening_seen evening.old) (said_on evening.old.row self.old.line.items))
+            (EveningIsRefused
+            (next (evening_seen evening.old) (said_on evening.old.row self.old.line.items)))) }
         ensures sink_fails { IfErr result (SinkFails
             (W.in_vain sink.old) (W.in_vain sink.new)
             (W.failed sink.old) (W.failed sink.new)) }
     {
         self.line.push(b'\n');
-        let after = answer_text(
+        answer_text(
             alloc,
             evening,
             &mut self.fields,
@@ -209,30 +219,30 @@ impl Desk {
             sink,
         )?;
         self.line.clear();
-        Ok(after)
+        Ok(())
     }
 
-    /// Answers the line that ends with these bytes, its line feed among them, and gives the evening after it.
+    /// Answers the line that ends with these bytes, its line feed among them.
     pub(crate) fn end_line<W: Sink>(
         &mut self,
         alloc: Global,
-        evening: Evening,
+        evening: &mut Evening,
         end: &[u8],
         sink: &mut W,
-    ) -> Result<Evening, RunFault>
+    ) -> Result<(), RunFault>
         requires ends { IsLineEnd end.now }
         requires short { length self.old.line.items ≤ 258 }
-        requires row { evening.row < 2 ^ 64 - 1 }
-        ensures moment { IfOk result (λ after. moment_of after self.new
-            ≡ moment_after (moment_of evening self.old) end.now) }
+        requires row { evening.old.row < 2 ^ 64 - 1 }
+        ensures moment { OnOk result (moment_of evening.new self.new
+            ≡ moment_after (moment_of evening.old self.old) end.now) }
         ensures begun { OnOk result (self.new.line.items ≡ []) }
-        ensures row { IfOk result (λ after. held_row after ≤ evening.row + 1) }
+        ensures row { OnOk result (evening.new.row ≤ evening.old.row + 1) }
         ensures put { OnOk result (HasPut self.old.page self.new.page
             (W.taken sink.old) (W.taken sink.new)
-            (answers_to (moment_of evening self.old) end.now)) }
+            (answers_to (moment_of evening.old self.old) end.now)) }
         ensures sound { OnOk result (W.failed sink.new ≡ W.failed sink.old) }
         ensures vain { OnOk result (W.in_vain sink.new ≡ W.in_vain sink.old) }
-        ensures fails { IfErr result (FailsToTake (moment_of evening self.old) end.now
+        ensures fails { IfErr result (FailsToTake (moment_of evening.old self.old) end.now
             self.old.page self.new.page
             (W.failed sink.new) (W.taken sink.old) (W.taken sink.new)) }
         ensures sink_fails { IfErr result (SinkFails

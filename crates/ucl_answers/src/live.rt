@@ -69,7 +69,7 @@ fn enter<W: Sink>(
     let mut evening = evening;
     let mut start = 0;
     while let Some(end) = first_line(&bytes[start..]) {
-        evening = desk.end_line(alloc, evening, end, sink)?;
+        desk.end_line(alloc, &mut evening, end, sink)?;
         start += end.len();
     }
     desk.keep_all(&bytes[start..]);
@@ -144,7 +144,9 @@ fn answer_last<W: Sink>(
     if desk.line.is_empty() {
         return Ok(evening);
     }
-    desk.answer(alloc, evening, sink)
+    let mut evening = evening;
+    desk.answer(alloc, &mut evening, sink)?;
+    Ok(evening)
 }
 
 /// Answers a last line that has no end, and looks whether a club or a word is missing.
