@@ -1,5 +1,5 @@
 -- Rows of fields that are not in quotes.
-use Rattle.std.proofs.Common.{◌≡◌, ℕ, ◌+◌, ◌<◌, ◌==◌, ◌||◌, true, false, List, [], ◌∷◌, ◌++◌, length, take, drop, get_or, Some, None, refl, sym, ap, ◌∙◌, subst, inl, inr, arith}
+use Rattle.std.proofs.Common.{◌≡◌, ℕ, ◌+◌, ◌<◌, ◌==◌, ◌||◌, true, false, List, [], ◌∷◌, ◌++◌, length, take, drop, get_or, Option, Some, None, IfSome, refl, sym, ap, ◌∙◌, subst, inl, inr, arith}
 use Rattle.std.proofs.lemmas.Bool.Decides.{nat_tests}
 use Rattle.std.proofs.lemmas.Bool.{cases_Bool}
 use Rattle.std.proofs.lemmas.List.{drop_more, take-append-drop, take_more}
@@ -10,8 +10,9 @@ use Rattle.csv.specs.declared.parser.Action.TheVariants as act
 use Rattle.csv.specs.declared.parser.State.{State}
 use Rattle.csv.specs.declared.parser.State.TheVariants as st
 use Rattle.csv.specs.declared.parser.Terminator.TheVariants as term
-use Rattle.ucl_screen.specs.Rows.{Fields as Rows}
-use Rattle.ucl_answers.specs.Rows.{Row, of_rows}
+use Rattle.ucl_screen.specs.Rows.{Fields as Rows, four_seen}
+use Rattle.ucl_screen.specs.declared.rows.Four.{Four}
+use Rattle.ucl_answers.specs.Rows.{Row, fits, of_rows, said_by_text}
 use Rattle.ucl_answers.specs.declared.row.Deed.TheVariants.{EndRecord}
 use Rattle.ucl_answers.specs.declared.row.Stand.{Stand}
 use Rattle.ucl_answers.specs.declared.row.Stand.TheVariants.{StartField, InField}
@@ -139,3 +140,14 @@ plain_row text rest rest2 rest3 first second third fourth a b c d =
     let reads = a.reads [] ∙ b.reads (first ∷ []) ∙ c.reads (first ∷ second ∷ []) ∙ d.reads (first ∷ second ∷ third ∷ []) in
     let same : IsBehindEnds text text = record { same = λ s hs. between-same s text hs; begins = inr a.begins } in
     ap of_rows (found-one text text d.rest [] (first ∷ second ∷ third ∷ fourth ∷ []) d.state same (not-empty text a.begins) reads d.behind refl)
+
+-- a line that is not the first, and not too long
+
+not-first : (row : ℕ) → 1 < row → (row == 1) ≡ false
+not-first row h = elim (cases_Bool (row == 1)) [ inl y ↦ absurd (grind (arith, nat_tests)) | inr n ↦ n ]
+
+pub said_plain : (row : ℕ) (text : List ℕ) (o : Option Four) → 1 < row → fits text ≡ true → IfSome o (λ four. of_rows (records default_config text) ≡ Row (four_seen four))
+    → IfSome o (λ four. said_by_text row text ≡ Row (four_seen four))
+unfolding said_by_text
+said_plain row text None h k p = tt
+said_plain row text (Some four) h k p = rw (k, not-first row h) p

@@ -70,18 +70,18 @@ said_with m front = said_on m.evening.row (fold longer m.begun front)
 
 pub line-answers : (m : Moment) (bytes : List ℕ) (e : IsLineEnd bytes) → answers_to m bytes ≡ answer_said m.evening (said_with m e.front)
 line-answers m bytes e =
-    let n = with_bytes m e.front in
-    ap (answers_to m) e.whole ∙ answers-to-append m e.front (10 ∷ []) ∙ rw (kept-answers m e.front e.clean, kept-moment m e.front e.clean) (end-answers n 10 refl)
+    let last = ap (λ (k : Moment). answers_to k (10 ∷ [])) (kept-moment m e.front e.clean) ∙ end-answers (with_bytes m e.front) 10 refl in
+    ap (answers_to m) e.whole ∙ answers-to-append m e.front (10 ∷ [])
+        ∙ ap (λ (l : List ℕ). l ++ answers_to (moment_after m e.front) (10 ∷ [])) (kept-answers m e.front e.clean) ∙ last
+
+line-moment : (m : Moment) (bytes : List ℕ) (e : IsLineEnd bytes) → moment_after m bytes ≡ moment_after (with_bytes m e.front) (10 ∷ [])
+line-moment m bytes e = ap (moment_after m) e.whole ∙ moment-append m e.front (10 ∷ []) ∙ ap (λ (k : Moment). moment_after k (10 ∷ [])) (kept-moment m e.front e.clean)
 
 pub line-evening : (m : Moment) (bytes : List ℕ) (e : IsLineEnd bytes) → (moment_after m bytes).evening ≡ next m.evening (said_with m e.front)
-line-evening m bytes e =
-    let n = with_bytes m e.front in
-    ap (λ (l : List ℕ). (moment_after m l).evening) e.whole ∙ ap (λ (k : Moment). k.evening) (moment-append m e.front (10 ∷ [])) ∙ rw (kept-moment m e.front e.clean) (end-evening n 10 refl)
+line-evening m bytes e = ap (λ (k : Moment). k.evening) (line-moment m bytes e) ∙ end-evening (with_bytes m e.front) 10 refl
 
 pub line-begun : (m : Moment) (bytes : List ℕ) (e : IsLineEnd bytes) → (moment_after m bytes).begun ≡ []
-line-begun m bytes e =
-    let n = with_bytes m e.front in
-    ap (λ (l : List ℕ). (moment_after m l).begun) e.whole ∙ ap (λ (k : Moment). k.begun) (moment-append m e.front (10 ∷ [])) ∙ rw (kept-moment m e.front e.clean) (end-begun n 10 refl)
+line-begun m bytes e = ap (λ (k : Moment). k.begun) (line-moment m bytes e) ∙ end-begun (with_bytes m e.front) 10 refl
 
 -- it lies whole in the bytes
 

@@ -1,5 +1,5 @@
 -- How lines and rows are read: the lines of bytes as they come; of a row the rules of scripts, at the states that the reading of one row can have.
-use Rattle.std.specs.Prelude.{◌≡◌, ◌⊎◌, ⊤, ⊥, if◌then◌else◌, Bool, true, false, not, ◌==◌, ◌&&◌, ℕ, List, [], ◌∷◌, ◌++◌, drop, Option, Some, None}
+use Rattle.std.specs.Prelude.{◌≡◌, ◌⊎◌, ⊤, if◌then◌else◌, Bool, true, false, not, ◌==◌, ◌&&◌, ℕ, List, [], ◌∷◌, ◌++◌, drop, Option, Some, None}
 use Rattle.csv.specs.Machine.{after_end, ends_with}
 use Rattle.csv.specs.Machine.{Read, next_record, ends_at_end}
 use Rattle.csv.specs.Reading.{default_config}

@@ -61,9 +61,9 @@ fn accepted_line(row: u64, game: u8, number: u16, version: u16) -> ArrayString<L
 
 /// Writes the number of a refusal and its name.
 fn push_refusal(line: &mut ArrayString<LINE>, refusal: Refusal)
-    requires { array_string_len line.old ≤ 50 }
+    requires { array_string_len line.old ≤ 40 }
     ensures text { line.new.bytes ≡ line.old.bytes ++ refusal_text refusal }
-    ensures short { array_string_len line.new ≤ 110 }
+    ensures short { array_string_len line.new ≤ 60 }
 {
     match refusal {
         Refusal::Stale { found } => {

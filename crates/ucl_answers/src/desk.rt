@@ -61,15 +61,16 @@ fn read(fields: &mut Fields, row: u64, text: &[u8]) -> Found
     }
 }
 
-/// The fields of a line with its line feed, where it has this number, and is a row of four fields of which none is in quotes.
+/// The fields of a line with its line feed, where it has this number, and is a row of four fields of which none is in quotes. The first
+/// line may begin with a byte order mark, and is not looked at.
+#[tactic(auto, using(crate::proofs::PlainRows::said_plain))]
 fn plain_row(row: u64, text: &[u8]) -> Option<Four<'_>>
     ensures { IfSome result (λ four. said_by_text row text.now ≡ Row (four_seen four)) }
 {
-    let may_have_a_mark = row == 1;
-    if may_have_a_mark || !fits(text) {
-        None
-    } else {
+    if row > 1 && fits(text) {
         plain_four(text)
+    } else {
+        None
     }
 }
 

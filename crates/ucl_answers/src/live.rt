@@ -68,12 +68,18 @@ fn enter<W: Sink>(
     let _written = desk.page.written();
     let mut evening = evening;
     let mut start = 0;
-    while let Some(end) = first_line(&bytes[start..]) {
-        desk.end_line(alloc, &mut evening, end, sink)?;
-        start += end.len();
+    'lines: loop {
+        match first_line(&bytes[start..]) {
+            Some(end) => {
+                desk.end_line(alloc, &mut evening, end, sink)?;
+                start += end.len();
+            }
+            None => {
+                desk.keep_all(&bytes[start..]);
+                return Ok(evening);
+            }
+        }
     }
-    desk.keep_all(&bytes[start..]);
-    Ok(evening)
 }
 
 /// Whether a run failed for want of memory.

@@ -4,8 +4,8 @@ use Rattle.ucl_answers.specs.Stepping.{answers_to, moment_after}
 use Rattle.ucl_answers.specs.Taking.{moment_of}
 use Rattle.ucl_answers.proofs.live.enter.Given as goal
 
-abbrev pub invariant-loop-end : goal.invariant-loop-end
-invariant-loop-end g l = record {
+abbrev pub invariant-lines : goal.invariant-lines
+invariant-lines g l = record {
   within : l.start ≤ length l.bytes;
   moment : moment_of l.evening l.desk ≡ moment_after (moment_of l.initial.evening l.initial.desk) (take l.start l.bytes);
   short : length l.desk.line.items ≤ 258;
@@ -15,5 +15,5 @@ invariant-loop-end g l = record {
   vain : g.W.Sink.in_vain l.sink ≡ g.W.Sink.in_vain l.initial.sink;
 }
 
-abbrev pub decreases-loop-end : goal.decreases-loop-end
-decreases-loop-end g l = length l.bytes - l.start
+abbrev pub decreases-lines : goal.decreases-lines
+decreases-lines g l = length l.bytes - l.start
