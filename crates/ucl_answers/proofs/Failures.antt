@@ -35,11 +35,13 @@ pub take-fails : (m : Moment) (i : ℕ) (bytes part rest : List ℕ) (a b after 
     → HasPut a b x y (answers_to m (take i bytes)) → FailsToTake (moment_after m (take i bytes)) part b after failed y z f → FailsToTake m bytes a after failed x z f
 take-fails m i bytes part rest a b after failed x y z (WriteFailed written) parts put s =
     let two = put_stopped a b failed x y z (answers_to m (take i bytes)) (answers_to (moment_after m (take i bytes)) part) (WriteFailed written) put s in
-    stopped_more a.out failed x z a.held (answers_to m (take i bytes) ++ answers_to (moment_after m (take i bytes)) part) _ (answers_to m bytes) (WriteFailed written) (sym (within m i bytes part rest parts)) two
+    let texts = answers_to m (take i bytes) ++ answers_to (moment_after m (take i bytes)) part in
+    stopped_more a.out failed x z a.held texts _ (answers_to m bytes) (WriteFailed written) (sym (within m i bytes part rest parts)) two
 take-fails m i bytes part rest a b after failed x y z OutOfMemory parts put s = record {
   front = take i bytes ++ s.front;
   more = s.more ++ rest;
-  parts = parts ∙ ap (λ (l : List ℕ). (take i bytes ++ l) ++ rest) s.parts ∙ ap (λ (l : List ℕ). l ++ rest) (sym (append_assoc (take i bytes) s.front (10 ∷ s.more))) ∙ append_assoc (take i bytes ++ s.front) (10 ∷ s.more) rest;
+  parts = parts ∙ ap (λ (l : List ℕ). (take i bytes ++ l) ++ rest) s.parts
+      ∙ ap (λ (l : List ℕ). l ++ rest) (sym (append_assoc (take i bytes) s.front (10 ∷ s.more))) ∙ append_assoc (take i bytes ++ s.front) (10 ∷ s.more) rest;
   put = rw (answers-to-append m (take i bytes) s.front) (put_then a b after x y z (answers_to m (take i bytes)) (answers_to (moment_after m (take i bytes)) s.front) put s.put);
   asks = subst (λ (n : Moment). LineAsks n) (sym (moment-append m (take i bytes) s.front)) s.asks;
 }

@@ -60,14 +60,16 @@ stand_after : List ℕ → Stand
 stand_after [] = StartField
 stand_after (b ∷ xs) = InField
 
-field-read : (xs tail : List ℕ) (fields : Rows) → AreJoining xs → next_record default_config st.StartField fields [] (xs ++ tail) ≡ next_record default_config (csv_state_of (stand_after xs)) fields xs tail
+field-read : (xs tail : List ℕ) (fields : Rows) → AreJoining xs
+    → next_record default_config st.StartField fields [] (xs ++ tail) ≡ next_record default_config (csv_state_of (stand_after xs)) fields xs tail
 unfolding next_record stand_after
 field-read [] tail fields h = refl
 field-read (b ∷ xs) tail fields h = rw (joins-first b h.0) (run-copies default_config st.InField fields (b ∷ []) xs tail (all-run xs h.1))
 
 -- ---- a comma behind them
 
-comma-ends : (xs rest : List ℕ) (fields : Rows) → next_record default_config (csv_state_of (stand_after xs)) fields xs (44 ∷ rest) ≡ next_record default_config st.StartField (fields ++ xs ∷ []) [] rest
+comma-ends : (xs rest : List ℕ) (fields : Rows)
+    → next_record default_config (csv_state_of (stand_after xs)) fields xs (44 ∷ rest) ≡ next_record default_config st.StartField (fields ++ xs ∷ []) [] rest
 unfolding next_record stand_after
 comma-ends [] rest fields = refl
 comma-ends (b ∷ xs) rest fields = refl

@@ -29,7 +29,8 @@ returns-in_err-end_line-clause-fails g c =
     let m = moment_of c.args.evening c.args.desk.now in
     let first = rw (rest-of c.lines.start bytes) at c.in-Some.ensures.line in
     let s = rw so_far.moment at c.in_err-end_line.ensures.fails in
-    rw (p.1, p.2) (take-fails m c.lines.start bytes c.in-Some.end.now first.rest c.args.desk.now.page c.lines.desk.page c.end_line.new.self.page _ _ _ _ _ (line-parts bytes c.lines.start c.in-Some.end.now first) so_far.put s)
+    let parts = line-parts bytes c.lines.start c.in-Some.end.now first in
+    rw (p.1, p.2) (take-fails m c.lines.start bytes c.in-Some.end.now first.rest c.args.desk.now.page c.lines.desk.page c.end_line.new.self.page _ _ _ _ _ parts so_far.put s)
 
 pub returns-in_err-end_line-clause-sink_fails : goal.returns-in_err-end_line-clause-sink_fails
 returns-in_err-end_line-clause-sink_fails g c =
@@ -67,7 +68,7 @@ returns-in-None-clause-moment g c =
     let bytes = c.args.bytes.now in
     let m = moment_of c.args.evening c.args.desk.now in
     let n = moment_of c.lines.evening c.lines.desk in
-    let clean = rw (rest-of c.lines.start bytes) at c.in-None.ensures.none refl in
+    let clean = rw (rest-of c.lines.start bytes) at (c.in-None.ensures.none refl) in
     let kept = rw (rest-of c.lines.start bytes) at c.keep_all.ensures.line in
     rw kept (rest-moment m n bytes c.lines.start so_far.moment clean)
 
@@ -75,5 +76,5 @@ pub returns-in-None-clause-put : goal.returns-in-None-clause-put
 returns-in-None-clause-put g c =
     let bytes = c.args.bytes.now in
     let m = moment_of c.args.evening c.args.desk.now in
-    let clean = rw (rest-of c.lines.start bytes) at c.in-None.ensures.none refl in
+    let clean = rw (rest-of c.lines.start bytes) at (c.in-None.ensures.none refl) in
     rw (rest-answers m bytes c.lines.start clean, c.keep_all.ensures.page) c.lines.invariant.put
