@@ -23,7 +23,7 @@ within : (m : Moment) (i : ℕ) (bytes part rest : List ℕ) → bytes ≡ (take
     → answers_to m bytes ≡ (answers_to m (take i bytes) ++ answers_to (moment_after m (take i bytes)) part) ++ answers_to (moment_after m (take i bytes ++ part)) rest
 within m i bytes part rest parts =
     ap (answers_to m) parts ∙ answers-to-append m (take i bytes ++ part) rest
-        ∙ ap (λ (l : List ℕ). l ++ answers_to (moment_after m (take i bytes ++ part)) rest) (answers-to-append m (take i bytes) part)
+    ∙ ap (λ (l : List ℕ). l ++ answers_to (moment_after m (take i bytes ++ part)) rest) (answers-to-append m (take i bytes) part)
 
 refused-on : (m : Moment) (xs ys : List ℕ) (fault : InputFault) → EveningIsRefused (moment_after m xs).evening fault → EveningIsRefused (moment_after m (xs ++ ys)).evening fault
 refused-on m xs ys fault h =

@@ -60,7 +60,7 @@ rest-moment m n bytes i e h =
 pub rest-answers : (m : Moment) (bytes : List ℕ) (i : ℕ) → HasNoFeed (drop i bytes) → answers_to m bytes ≡ answers_to m (take i bytes)
 rest-answers m bytes i h =
     ap (answers_to m) (sym (take-append-drop i bytes)) ∙ answers-to-append m (take i bytes) (drop i bytes)
-        ∙ ap (λ (l : List ℕ). answers_to m (take i bytes) ++ l) (kept-answers (moment_after m (take i bytes)) (drop i bytes) h) ∙ append-nil (answers_to m (take i bytes))
+    ∙ ap (λ (l : List ℕ). answers_to m (take i bytes) ++ l) (kept-answers (moment_after m (take i bytes)) (drop i bytes) h) ∙ append-nil (answers_to m (take i bytes))
 
 -- ---- bytes with which a line ends
 
@@ -72,7 +72,7 @@ pub line-answers : (m : Moment) (bytes : List ℕ) (e : IsLineEnd bytes) → ans
 line-answers m bytes e =
     let last = ap (λ (k : Moment). answers_to k (10 ∷ [])) (kept-moment m e.front e.clean) ∙ end-answers (with_bytes m e.front) 10 refl in
     ap (answers_to m) e.whole ∙ answers-to-append m e.front (10 ∷ [])
-        ∙ ap (λ (l : List ℕ). l ++ answers_to (moment_after m e.front) (10 ∷ [])) (kept-answers m e.front e.clean) ∙ last
+    ∙ ap (λ (l : List ℕ). l ++ answers_to (moment_after m e.front) (10 ∷ [])) (kept-answers m e.front e.clean) ∙ last
 
 line-moment : (m : Moment) (bytes : List ℕ) (e : IsLineEnd bytes) → moment_after m bytes ≡ moment_after (with_bytes m e.front) (10 ∷ [])
 line-moment m bytes e = ap (moment_after m) e.whole ∙ moment-append m e.front (10 ∷ []) ∙ ap (λ (k : Moment). moment_after k (10 ∷ [])) (kept-moment m e.front e.clean)

@@ -252,14 +252,7 @@ impl Desk {
     {
         let _written = self.page.written();
         if self.line.is_empty() {
-            return answer_text(
-                alloc,
-                evening,
-                &mut self.fields,
-                end,
-                &mut self.page,
-                sink,
-            );
+            return answer_text(alloc, evening, &mut self.fields, end, &mut self.page, sink);
         }
         self.keep_all(&end[..end.len() - 1]);
         self.answer(alloc, evening, sink)

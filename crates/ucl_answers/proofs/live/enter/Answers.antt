@@ -21,22 +21,16 @@ lines-init g c =
       vain = refl;
     }
 
-pub returns-in_err-end_line-clause-fails : goal.returns-in_err-end_line-clause-fails
-returns-in_err-end_line-clause-fails g c =
+pub returns-in_err-end_line-in-Some-clause-fails : goal.returns-in_err-end_line-in-Some-clause-fails
+returns-in_err-end_line-in-Some-clause-fails g c =
     let p = err_from_is_err_and c.from_residual.result c.from_residual.ensures.1 in
     let so_far = c.lines.invariant in
     let bytes = c.args.bytes.now in
     let m = moment_of c.args.evening c.args.desk.now in
     let first = rw (rest-of c.lines.start bytes) at c.in-Some.ensures.line in
-    let s = rw so_far.moment at c.in_err-end_line.ensures.fails in
+    let s = rw so_far.moment at c.in_err-end_line-in-Some.ensures.fails in
     let parts = line-parts bytes c.lines.start c.in-Some.end.now first in
     rw (p.1, p.2) (take-fails m c.lines.start bytes c.in-Some.end.now first.rest c.args.desk.now.page c.lines.desk.page c.end_line.new.self.page _ _ _ _ _ parts so_far.put s)
-
-pub returns-in_err-end_line-clause-sink_fails : goal.returns-in_err-end_line-clause-sink_fails
-returns-in_err-end_line-clause-sink_fails g c =
-    let p = err_from_is_err_and c.from_residual.result c.from_residual.ensures.1 in
-    let s = rw (c.lines.invariant.vain, c.lines.invariant.sound) at c.in_err-end_line.ensures.sink_fails in
-    rw (p.1, p.2) s
 
 pub lines-preserved : goal.lines-preserved
 lines-preserved g c =
@@ -46,20 +40,20 @@ lines-preserved g c =
     let end = c.in-Some.end.now in
     let first = rw (rest-of i bytes) at c.in-Some.ensures.line in
     let m = moment_of c.args.evening c.args.desk.now in
-    let now = put-there _ _ c.lines.desk.page c.end_line.new.self.page _ _ end so_far.moment c.in_ok-end_line.ensures.put in
+    let now = put-there _ _ c.lines.desk.page c.end_line.new.self.page _ _ end so_far.moment c.in_ok-end_line-in-Some.ensures.put in
     let put = put_then c.args.desk.now.page c.lines.desk.page c.end_line.new.self.page _ _ _ (answers_to m (take i bytes)) (answers_to (moment_after m (take i bytes)) end) so_far.put now in
     let within = line-within bytes i end first so_far.within in
     let some = some-bytes end first.ends in
     let k = so_far.row in
-    let row = c.in_ok-end_line.ensures.row in
+    let row = c.in_ok-end_line-in-Some.ensures.row in
     rw (line-taken bytes i end first) (record {
       within = within;
-      moment = c.in_ok-end_line.ensures.moment ∙ ap (λ (n : Moment). moment_after n end) so_far.moment ∙ sym (moment-append m (take i bytes) end);
-      short = rw c.in_ok-end_line.ensures.begun (omega arith);
+      moment = c.in_ok-end_line-in-Some.ensures.moment ∙ ap (λ (n : Moment). moment_after n end) so_far.moment ∙ sym (moment-append m (take i bytes) end);
+      short = rw c.in_ok-end_line-in-Some.ensures.begun (omega arith);
       row = omega arith;
       put = rw (answers-to-append m (take i bytes) end) put;
-      sound = c.in_ok-end_line.ensures.sound ∙ so_far.sound;
-      vain = c.in_ok-end_line.ensures.vain ∙ so_far.vain;
+      sound = c.in_ok-end_line-in-Some.ensures.sound ∙ so_far.sound;
+      vain = c.in_ok-end_line-in-Some.ensures.vain ∙ so_far.vain;
     })
 
 pub returns-in-None-clause-moment : goal.returns-in-None-clause-moment
