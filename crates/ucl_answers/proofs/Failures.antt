@@ -1,5 +1,5 @@
 -- What is left where an evening fails.
-use Rattle.std.proofs.Common.{◌≡◌, ℕ, ◌+◌, ◌-◌, ◌^◌, ◌≤◌, ◌<◌, Bool, List, [], ◌∷◌, ◌++◌, take, Option, Some, refl, sym, ap, ◌∙◌, subst, append_assoc, append-nil}
+use Rattle.std.proofs.Common.{◌≡◌, ℕ, Bool, List, [], ◌∷◌, ◌++◌, take, Option, Some, refl, sym, ap, ◌∙◌, subst, append_assoc, append-nil}
 use Rattle.std.specs.Prelude.{Result, Ok, Err, IfErr, IfOk, OnOk}
 use Rattle.std.specs.Io.KnownBytes.{Appends}
 use Rattle.ucl_screen.proofs.Moves.{appends-none}
@@ -9,7 +9,6 @@ use Rattle.ucl_runs.specs.declared.fault.RunFault.TheVariants.{Input, OutOfMemor
 use Rattle.ucl_runs.specs.Run.{IsStopped}
 use Rattle.ucl_answers.specs.Lines.{ended_lines}
 use Rattle.ucl_answers.specs.Output.{FailsToPut, HasPut, Waiting}
-use Rattle.ucl_answers.specs.Text.{Evening}
 use Rattle.ucl_answers.specs.Stepping.{EveningIsRefused, LineAsks, Moment, answers_to, ended_at, last_answers, missing_at, moment_after}
 use Rattle.ucl_answers.specs.Taking.{FailsToEnd, FailsToGive, FailsToTake, GaveBefore, LeavesLine}
 use Rattle.ucl_answers.proofs.Moments.{answers-to-append, moment-append}

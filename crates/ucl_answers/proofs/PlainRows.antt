@@ -7,7 +7,6 @@ use Rattle.csv.proofs.ReadFacts.{run-copies}
 use Rattle.csv.specs.Machine.{Runs, after_end, in_field, next_record, step}
 use Rattle.csv.specs.Reading.{default_config, records}
 use Rattle.csv.specs.declared.parser.Action.TheVariants as act
-use Rattle.csv.specs.declared.parser.State.{State}
 use Rattle.csv.specs.declared.parser.State.TheVariants as st
 use Rattle.csv.specs.declared.parser.Terminator.TheVariants as term
 use Rattle.ucl_screen.specs.Rows.{Fields as Rows, four_seen}

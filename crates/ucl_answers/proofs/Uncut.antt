@@ -1,5 +1,5 @@
 -- The lines as they are read, and as they came.
-use Rattle.std.proofs.Common.{◌≡◌, ℕ, ◌+◌, ◌-◌, ◌≤◌, ◌<◌, ◌==◌, false, List, [], ◌∷◌, ◌++◌, length, get_or, refl, ap, ap₂, ◌∙◌, inl, inr, arith, length-append}
+use Rattle.std.proofs.Common.{◌≡◌, ℕ, ◌+◌, ◌-◌, ◌≤◌, ◌<◌, ◌==◌, false, List, [], ◌∷◌, ◌++◌, length, get_or, refl, ap, inl, inr, arith, length-append}
 use Rattle.std.specs.Prelude.{⊤, ◌⊎◌, nat_le}
 use Rattle.std.proofs.lemmas.Bool.{cases_Bool}
 use Rattle.std.proofs.lemmas.Bool.Decides.{nat_tests}
@@ -7,7 +7,7 @@ use Rattle.ucl_answers.specs.Lines.{begun_line, ended_lines, last_lines, lines_o
 use Rattle.ucl_answers.specs.UncutLines.{uncut_after, uncut_lines}
 use Rattle.ucl_answers.specs.Rows.{Garbled, fits, said_by_text, said_on}
 use Rattle.ucl_answers.specs.Text.{Evening, after_lines, answer_said, answers, next}
-use Rattle.ucl_answers.specs.Laws.{IsOfUncutLines, LinesAreReadWhole}
+use Rattle.ucl_answers.specs.Laws.{LinesAreReadWhole}
 
 -- a line and what was kept of it: the same, or both too long
 abbrev pub Alike : List ℕ → List ℕ → Type 0

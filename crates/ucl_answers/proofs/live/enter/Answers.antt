@@ -1,4 +1,4 @@
-use Rattle.std.proofs.Common.{[], length, take, drop, refl, sym, ap, ◌∙◌, arith}
+use Rattle.std.proofs.Common.{take, refl, sym, ap, ◌∙◌, arith}
 use Rattle.std.proofs.lemmas.Result.{err_from_is_err_and}
 use Rattle.ucl_answers.specs.Stepping.{Moment, answers_to, moment_after}
 use Rattle.ucl_answers.specs.Taking.{moment_of}

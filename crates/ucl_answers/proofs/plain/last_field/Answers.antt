@@ -1,5 +1,3 @@
-use Rattle.std.proofs.Common.{subst}
-use Rattle.ucl_answers.specs.Reading.{IsBehindEnds}
 use Rattle.ucl_answers.proofs.PlainRows.{row-ends}
 use Rattle.ucl_answers.proofs.RowEnds.{empty-list, rest-of}
 use Rattle.ucl_answers.proofs.plain.last_field.Goals as goal
