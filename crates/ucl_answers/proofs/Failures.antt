@@ -158,6 +158,10 @@ pub if-err : {V : Type 0} (r : Result V RunFault) (P Q : RunFault → Type 0) �
 if-err (Ok x) P Q h p = tt
 if-err (Err f) P Q h p = h f p
 
+pub if-both : {V : Type 0} (r : Result V RunFault) (P R : V → Type 0) (Q : Type 0) → ((v : V) → P v → Q → R v) → IfOk r P → OnOk r Q → IfOk r R
+if-both (Ok v) P R Q h p q = h v p q
+if-both (Err f) P R Q h p q = tt
+
 pub if-ok : {V : Type 0} (r : Result V RunFault) (P R : V → Type 0) → ((v : V) → P v → R v) → IfOk r P → IfOk r R
 if-ok (Ok v) P R h p = h v p
 if-ok (Err f) P R h p = tt
