@@ -1,6 +1,7 @@
 -- The screens of a reader's pass, one after the other.
 use Rattle.std.proofs.Common.{◌≡◌, ◌⊎◌, inl, inr, ℕ, ◌+◌, ◌-◌, ◌^◌, ◌<◌, ◌≤◌, min, Bool, List, [], ◌∷◌, ◌++◌, length, take, Option, refl, sym, ap, ◌∙◌, subst, append-nil, arith}
 use Rattle.std.proofs.Common.{append_assoc, length-append}
+use Rattle.std.specs.Prelude.{Some, None, IfSome}
 use Rattle.std.specs.Io.KnownBytes.{Appends}
 use Rattle.std.proofs.lemmas.List.Elements.{All-append, All-nil, All-push}
 use mathlib.Core.List.{IsPrefix}
@@ -18,26 +19,31 @@ use Rattle.ucl_runs.proofs.Parts.{stopped_second}
 use Rattle.ucl_shared.specs.Passes.{PassView, Continues, SharedReading}
 use Rattle.ucl_answers.specs.declared.options.Options.{Options}
 use Rattle.ucl_answers.specs.Text.{screen_answer}
-use Rattle.ucl_evenings.specs.Showing.{EndsWithLatest, GaveNotes, GoesOnOrStays, HasRisen, HasShownReading, RiseWithin, Screening, screens_shown}
+use Rattle.ucl_evenings.specs.Showing.{AreFew, EndsWithLatest, GaveNotes, GoesOnOrStays, HasRisen, HasShownReading, IsLastBefore, RiseWithin, Screening, SoFar, no_screen, notes_and, screens_shown}
 
 rise_more : (low high version : ℕ) (versions : List ℕ) → RiseWithin low high versions → high ≤ version → RiseWithin low (version + 1) (versions ++ version ∷ [])
 unfolding RiseWithin
 rise_more low high version [] r le = (omega arith, omega arith)
 rise_more low high version (v ∷ versions) r le = (r.0, rise_more (v + 1) high version versions r.1 le)
 
-rise_upper : (low high most : ℕ) (versions : List ℕ) → RiseWithin low high versions → high ≤ most → RiseWithin low most versions
+pub rise_upper : (low high most : ℕ) (versions : List ℕ) → RiseWithin low high versions → high ≤ most → RiseWithin low most versions
 unfolding RiseWithin
 rise_upper low high most [] r le = omega arith
 rise_upper low high most (v ∷ versions) r le = (r.0, rise_upper (v + 1) high most versions r.1 le)
 
-rise_count : (low high : ℕ) (versions : List ℕ) → RiseWithin low high versions → low + length versions ≤ high
+pub rise_lower : (least low high : ℕ) (versions : List ℕ) → RiseWithin low high versions → least ≤ low → RiseWithin least high versions
+unfolding RiseWithin
+rise_lower least low high [] r le = omega arith
+rise_lower least low high (v ∷ versions) r le = (omega (arith, r.0), r.1)
+
+pub rise_count : (low high : ℕ) (versions : List ℕ) → RiseWithin low high versions → low + length versions ≤ high
 unfolding RiseWithin
 rise_count low high [] r = omega arith
 rise_count low high (v ∷ versions) r = let n = rise_count (v + 1) high versions r.1 in let le = r.0 in omega arith
 
 module _ (options : Options) (clubs : List NamedClub) where
   -- the screens are those of each history that goes on
-  screens_on : (s h : List Entry) (number low high : ℕ) (versions : List ℕ) → IsPrefix s h → RiseWithin low high versions → high ≤ length s + 1
+  pub screens_on : (s h : List Entry) (number low high : ℕ) (versions : List ℕ) → IsPrefix s h → RiseWithin low high versions → high ≤ length s + 1
       → screens_shown options clubs h number versions ≡ screens_shown options clubs s number versions
   unfolding screens_shown RiseWithin
   screens_on s h number low high [] on r le = refl
@@ -63,27 +69,7 @@ module _ (options : Options) (clubs : List NamedClub) where
   unfolding screens_shown
   screens_none h number = refl
 
--- the last of the versions is the one before this
-pub record IsLastBefore (next : ℕ) (versions : List ℕ) : Type 0 where
-  pub version : ℕ
-  pub before : List ℕ
-  pub next_is : next ≡ version + 1
-  pub last : versions ≡ before ++ version ∷ []
-
--- a screen between two readings
-pub record SoFar (options : Options) (clubs : List NamedClub) (k m : PassView) (s : Screening) (old new : Option (List ℕ)) (versions : List ℕ) : Type 0 where
-  pub goes : GoesOnOrStays k m
-  pub high : ℕ
-  pub rise : RiseWithin (length k.seen) high versions
-  pub high_is : (high ≡ s.next) ⊎ (high ≡ length k.seen)
-  pub low : s.next ≤ length m.seen + 1
-  pub few : s.next ≤ 2 ^ 16
-  pub count : s.number ≡ 1 + length versions
-  pub out : Appends old new (screens_shown options clubs m.seen 1 versions)
-  pub told : s.written ≡ min (length (screens_shown options clubs m.seen 1 versions)) (2 ^ 64 - 1)
-  pub last : (s.next ≡ 0) ⊎ IsLastBefore s.next versions
-
-pub so_far_none : (options : Options) (clubs : List NamedClub) (k : PassView) (old : Option (List ℕ)) → SoFar options clubs k k (record { next = 0; number = 1; written = 0 }) old old []
+pub so_far_none : (options : Options) (clubs : List NamedClub) (k : PassView) (old : Option (List ℕ)) → SoFar options clubs k k no_screen old old []
 unfolding RiseWithin
 so_far_none options clubs k old =
     let none = screens_none options clubs k.seen 1 in record {
@@ -99,7 +85,7 @@ so_far_none options clubs k old =
       last = inl refl;
     }
 
-goes_next : (k m z : PassView) → GoesOnOrStays k m → Continues m z → Continues k z
+pub goes_next : (k m z : PassView) → GoesOnOrStays k m → Continues m z → Continues k z
 goes_next k m z (inl a) b = goes_on k m z a b
 goes_next k m z (inr e) b = subst (λ (x : PassView). Continues x z) e b
 
@@ -188,6 +174,20 @@ module _ (options : Options) (clubs : List NamedClub) (k m z : PassView) (s : Sc
         (stopped_second 0 s.written failed old new new2 (screens_shown options clubs m.seen 1 versions) (screen_answer options s.number clubs reading.board)
         (WriteFailed count) p.out (let told = p.told in omega arith) stop)
 
+pub few_more : (options : Options) (clubs : List NamedClub) (m z : PassView) (s : Screening) (new : Option (List ℕ)) → Continues m z → (reading : Reading) → SharedReading m reading z
+    → (t : Screening) (new2 : Option (List ℕ)) → AreFew s → s.next ≤ reading.version → HasShownReading options clubs reading s t new new2 → AreFew t
+few_more options clubs m z s new on reading read t new2 few rises shown =
+    let small = (versions_are z.seen on.sound.legal).1 in
+    let high = read.high in
+    let next = shown.next_is in
+    let number = shown.number_is in
+    let before = few.0 in (omega arith, omega arith)
+
+-- a screen stands somewhere
+pub record Stands (options : Options) (clubs : List NamedClub) (k m : PassView) (s : Screening) (old new : Option (List ℕ)) : Type 0 where
+  pub versions : List ℕ
+  pub so_far : SoFar options clubs k m s old new versions
+
 -- where the pass heard nothing it is as it was
 pub so_far_stays : (options : Options) (clubs : List NamedClub) (k m z : PassView) (s : Screening) (old new : Option (List ℕ)) (versions : List ℕ) → SoFar options clubs k m s old new versions
     → GoesOnOrStays m z → SoFar options clubs k z s old new versions
@@ -209,6 +209,10 @@ module _ {N : Type 0} (noted : N → List Entry) where
 
   pub gave_one : (old : List N) (note : N) (seen : List Entry) → IsPrefix (noted note) seen → GaveNotes old (old ++ note ∷ []) (Heard seen)
   gave_one old note seen h = record { notes = note ∷ []; more = refl; each = All-push (Heard seen) [] note (All-nil (Heard seen)) h }
+
+  pub gave_given : (old : List N) (given : Option N) (seen : List Entry) → IfSome given (λ note. IsPrefix (noted note) seen) → GaveNotes old (notes_and old (Some given)) (Heard seen)
+  gave_given old (Some note) seen h = gave_one old note seen h
+  gave_given old None seen h = gave_none old seen
 
   pub gave_on : (old new : List N) (s h : List Entry) → IsPrefix s h → GaveNotes old new (Heard s) → GaveNotes old new (Heard h)
   gave_on old new s h on g = record { notes = g.notes; more = g.more; each = λ i d below. begins_through (noted _) s h (g.each i d below) on }
@@ -254,3 +258,8 @@ module _ {N : Type 0} (noted : N → List Entry) where
         shown_last = l.last ∙ ap (λ (v : ℕ). l.before ++ v ∷ []) same;
         has_all = gave_by old new m.seen z.seen reading.version on.on.seen read.low all;
       }
+
+-- a fact of what is given
+pub given_too : {N : Type 0} (P Q : N → Type 0) (given : Option N) → ((note : N) → P note → Q note) → IfSome given P → IfSome given Q
+given_too P Q (Some note) f h = f note h
+given_too P Q None f h = tt
