@@ -10,7 +10,7 @@ HOLDS = re.compile(r"^ *ghost holds = \{ (?:λ _\. )?(\w+) \};$", re.M)
 
 # The kinds of step of each board, in the order of the file of its rule.
 KINDS = {
-    "ucl_words": "Play Look, Play First, Play Second, Play LastSecond, Play CountEnlisted, Play Swap, Play Enlist, "
+    "ucl_words": "Play Look, Play First, Play Second, Play CountEnlisted, Play Swap, Play Enlist, "
     "Split SecondPass, Split Note, Join Note",
     "ucl_pass": "Outcome LooksAt, Outcome Adds, Outcome Reads, Outcome Counts, Outcome Enlists, Split SecondPass, Split Note, Join Note",
 }

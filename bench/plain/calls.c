@@ -1,7 +1,8 @@
 /* What a call of the library takes: the least time of a board, over the boards of a file, or of a script, again and again.
  *
  *     calls boards              prints 1,000 boards, one a line, by a fixed generator
- *     calls NAME MS FILE        prints the nanoseconds of a board, or of the script, the least of all rounds; NAME is that of the call
+ *     calls NAME MS FILE        prints the nanoseconds of a board, or of the script, the least of all rounds; NAME is that of the call, and
+ *                               of `version`, which does nothing, there are as many calls to a board as of `next_word`
  */
 #define _POSIX_C_SOURCE 199309L
 #include "uclboard.h"
@@ -88,6 +89,13 @@ static uint64_t records(const uint64_t *words) {
     return sum;
 }
 
+/* Calls that do nothing, one for each word. */
+static uint64_t nothing(const uint64_t *words) {
+    uint64_t sum = 0;
+    for (size_t i = 0; i < UCLBOARD_WORDS; i++) sum += words[i] + uclboard_version();
+    return sum;
+}
+
 static uint64_t version_of(const uint64_t *words) {
     uint32_t version;
     need(uclboard_board_version(words, UCLBOARD_WORDS, &version, &at));
@@ -129,7 +137,7 @@ static const struct {
     const char *name;
     uint64_t (*call)(const uint64_t *);
 } calls[] = {{"next_word", next_words}, {"read_word", read_words},       {"match_of", records},     {"board_version", version_of}, {"standings", table_of},
-             {"screen", screen_of},     {"screen_length", length_of}, {"screen_json", json_of}, {"script", played}};
+             {"screen", screen_of},     {"screen_length", length_of}, {"screen_json", json_of}, {"script", played},            {"version", nothing}};
 
 static void read_script(const char *path) {
     static char bytes[1 << 20];

@@ -224,7 +224,7 @@ UCLBOARD_NEEDS_LOOK uclboard_status uclboard_pass_split(uclboard_pass **pass, uc
 
 /* A reporter's pass of the same board, in `other`, which was NULL, under a number of its own from 1 to 255, which no other pass of the board has or
    gets. Judged in this order: UCLBOARD_IN_USE, UCLBOARD_NO_PASS, UCLBOARD_NOT_A_READER; then UCLBOARD_OUT_OF_MEMORY, which spends no number; and
-   last UCLBOARD_FULL_BOARD. */
+   last UCLBOARD_FULL_BOARD, after which `pass` is of the same use as before. */
 UCLBOARD_NEEDS_LOOK uclboard_status uclboard_pass_enlist(uclboard_pass **pass, uclboard_pass **other);
 
 /* Enters an event of a match, 1 to 12, under the number of a reporter's pass. `expected` is the event number that the reporter last saw of the

@@ -1,5 +1,6 @@
 -- The entries of a match and the words of the board after one entry more.
-use Rattle.std.proofs.Common.{◌≡◌, ◌≢◌, ℕ, ◌+◌, ◌-◌, ◌<◌, Bool, cond, ◌==◌, List, [], ◌∷◌, ◌++◌, length, map, filter, get_or, set, replicate, Option, Some, None, Ok, Err, refl, sym, ap, ◌∙◌, subst, arith, append-nil, eq-eqb, ne_eqb}
+use Rattle.std.proofs.Common.{◌≡◌, ◌≢◌, ℕ, ◌+◌, ◌-◌, ◌<◌, Bool, cond, ◌==◌, List, [], ◌∷◌, ◌++◌, length, map, filter, get_or, set, replicate, Option, Some, None, Ok, Err, refl, sym, ap, ◌∙◌, subst}
+use Rattle.std.proofs.Common.{arith, append-nil, eq-eqb, ne_eqb}
 use Rattle.std.proofs.lemmas.List.{map-append, get_or-map, get_or-set_same, get_or-set_other, length-set}
 use Rattle.std.proofs.lemmas.List.Elements.{filter-append}
 use Rattle.std.proofs.lemmas.Grind.{same_number_lists}
@@ -45,15 +46,31 @@ or_else P k p n other = dite (ℕ_discrete n k) (λ is. subst P (sym is) p) othe
 
 -- what holds of matches 1 to 12 holds of each match
 pub each_match : (P : ℕ → Type 0) → P 1 → P 2 → P 3 → P 4 → P 5 → P 6 → P 7 → P 8 → P 9 → P 10 → P 11 → P 12 → (n : ℕ) → IsMatch n → P n
-each_match P a b c d e f g h i j k l n is = or_else P 1 a n (λ not_1. or_else P 2 b n (λ not_2. or_else P 3 c n (λ not_3. or_else P 4 d n (λ not_4. or_else P 5 e n (λ not_5. or_else P 6 f n (λ not_6. or_else P 7 g n (λ not_7. or_else P 8 h n (λ not_8. or_else P 9 i n (λ not_9. or_else P 10 j n (λ not_10. or_else P 11 k n (λ not_11. or_else P 12 l n (λ not_12. absurd (omega arith)))))))))))))
+each_match P a b c d e f g h i j k l n is =
+    or_else P 1 a n (λ not_1. or_else P 2 b n
+    (λ not_2. or_else P 3 c n (λ not_3. or_else P 4 d n
+    (λ not_4. or_else P 5 e n (λ not_5. or_else P 6 f n
+    (λ not_6. or_else P 7 g n (λ not_7. or_else P 8 h n
+    (λ not_8. or_else P 9 i n (λ not_9. or_else P 10 j n (λ not_10. or_else P 11 k n (λ not_11. or_else P 12 l n (λ not_12. absurd (omega arith)))))))))))))
 
 number_listed : (g d : ℕ) → IsMatch g → get_or match_numbers (g - 1) d ≡ g
 number_listed g d is = each_match (λ g. get_or match_numbers (g - 1) d ≡ g) refl refl refl refl refl refl refl refl refl refl refl refl g is
 
 -- a record with these fields is that of a match that has not kicked off
-pub is_scheduled : (m : MatchRecord) → m.number ≡ 0 → m.state ≡ Scheduled → m.home_goals ≡ 0 → m.away_goals ≡ 0 → m.home_yellows ≡ 0 → m.away_yellows ≡ 0 → m.home_expulsions ≡ 0 → m.away_expulsions ≡ 0 → m.reporter ≡ 0 → m ≡ scheduled
+pub is_scheduled : (m : MatchRecord) → m.number ≡ 0 → m.state ≡ Scheduled → m.home_goals ≡ 0 → m.away_goals ≡ 0 → m.home_yellows ≡ 0 → m.away_yellows ≡ 0 → m.home_expulsions ≡ 0
+    → m.away_expulsions ≡ 0 → m.reporter ≡ 0 → m ≡ scheduled
 is_scheduled m a b c d e f g h i =
-    let same : record { number = m.number; state = m.state; home_goals = m.home_goals; away_goals = m.away_goals; home_yellows = m.home_yellows; away_yellows = m.away_yellows; home_expulsions = m.home_expulsions; away_expulsions = m.away_expulsions; reporter = m.reporter } ≡ scheduled = cc in
+    let same : record {
+      number = m.number;
+      state = m.state;
+      home_goals = m.home_goals;
+      away_goals = m.away_goals;
+      home_yellows = m.home_yellows;
+      away_yellows = m.away_yellows;
+      home_expulsions = m.home_expulsions;
+      away_expulsions = m.away_expulsions;
+      reporter = m.reporter;
+    } ≡ scheduled = cc in
     same
 
 -- the board of no event
@@ -77,15 +94,19 @@ game_after h g legal is = ap record_at (word_after h g is) ∙ record_back (matc
 
 -- boards with the same word for each match are equal
 pub same_boards : (xs ys : List ℕ) → length xs ≡ 12 → length ys ≡ 12 → ((g : ℕ) → IsMatch g → word_at xs g ≡ word_at ys g) → xs ≡ ys
-same_boards xs ys a b each = same_number_lists xs ys (a ∙ sym b) (λ k l. let e : k + 1 - 1 ≡ k = omega arith in subst (λ (k : ℕ). get_or xs k 0 ≡ get_or ys k 0) e (each (k + 1) (omega arith, omega arith)))
+same_boards xs ys a b each = same_number_lists xs ys (a ∙ sym b)
+    (λ k l. let e : k + 1 - 1 ≡ k = omega arith in subst (λ (k : ℕ). get_or xs k 0 ≡ get_or ys k 0) e (each (k + 1) (omega arith, omega arith)))
 
 pub board_next : (h : List Entry) (e : Entry) → IsMatch e.game → board_of (followed_by h e) ≡ set (board_of h) (e.game - 1) (word_of (match_after (followed_by h e) e.game))
 board_next h e game = let long = board_length h in
-    same_boards (board_of (followed_by h e)) (set (board_of h) (e.game - 1) (word_of (match_after (followed_by h e) e.game))) (board_length (followed_by h e)) (length-set (board_of h) (e.game - 1) _ ∙ board_length h)
+    same_boards (board_of (followed_by h e)) (set (board_of h) (e.game - 1) (word_of (match_after (followed_by h e) e.game))) (board_length (followed_by h e))
+    (length-set (board_of h) (e.game - 1) _ ∙ board_length h)
     (λ g is. dite (ℕ_discrete e.game g)
     (λ same. subst (λ (g : ℕ). word_at (board_of (followed_by h e)) g ≡ word_at (set (board_of h) (e.game - 1) (word_of (match_after (followed_by h e) e.game))) g) same
     (word_after (followed_by h e) e.game game ∙ sym (get_or-set_same (board_of h) (e.game - 1) _ 0 (omega arith))))
-    (λ not. word_after (followed_by h e) g is ∙ (ap (λ (es : List MatchEntry). word_of (counted_match es)) (entries_else h e g not) ∙ (sym (word_after h g is) ∙ sym (get_or-set_other (board_of h) (e.game - 1) (g - 1) _ 0 (λ eq. not (omega arith)))))))
+    (λ not. word_after (followed_by h e) g is
+    ∙ (ap (λ (es : List MatchEntry). word_of (counted_match es)) (entries_else h e g not)
+    ∙ (sym (word_after h g is) ∙ sym (get_or-set_other (board_of h) (e.game - 1) (g - 1) _ 0 (λ eq. not (omega arith)))))))
 
 -- the same by the word that is there after it
 pub board_with : (h : List Entry) (e : Entry) (next : ℕ) → IsMatch e.game → next ≡ word_at (board_of (followed_by h e)) e.game → set (board_of h) (e.game - 1) next ≡ board_of (followed_by h e)
@@ -94,7 +115,8 @@ board_with h e next game is = ap (set (board_of h) (e.game - 1)) (is ∙ word_af
 -- the board and the history after an accepted event
 pub next_board : (h : List Entry) (words : List ℕ) (game reporter : ℕ) (kind : Kind) (m : MatchRecord) → IsLegal h → board_of h ≡ words → IsMatch game
     → ((es : List MatchEntry) → IsLegalMatch es → counted_match es ≡ game_at words game → (m ≡ counted_match (entered es reporter kind)) × IsLegalMatch (entered es reporter kind))
-    → (set words (game - 1) (word_of m) ≡ board_of (followed_by h (record { game = game; reporter = reporter; kind = kind }))) × IsLegal (followed_by h (record { game = game; reporter = reporter; kind = kind }))
+    → (set words (game - 1) (word_of m) ≡ board_of (followed_by h (record { game = game; reporter = reporter; kind = kind })))
+    × IsLegal (followed_by h (record { game = game; reporter = reporter; kind = kind }))
 next_board h words game reporter kind m legal is range counted =
     let e : Entry = record { game = game; reporter = reporter; kind = kind } in
     let was : match_after h game ≡ game_at words game = sym (game_after h game legal range) ∙ ap (λ (ws : List ℕ). game_at ws game) is in
@@ -118,7 +140,8 @@ reply_is h words call legal is range =
     let was : game_at words call.game ≡ match_after h call.game = ap (λ (ws : List ℕ). game_at ws call.game) (sym is) ∙ game_after h call.game legal range in
     ap (λ (m : MatchRecord). reply_of m call) was
 
-pub accepted_reply : (m g : MatchRecord) (call : EventCall) (number : ℕ) → m ≡ g → refusal_of m call.expected call.kind ≡ None → number ≡ m.number + 1 → Ok (record { number = number }) ≡ reply_of g call
+pub accepted_reply : (m g : MatchRecord) (call : EventCall) (number : ℕ) → m ≡ g → refusal_of m call.expected call.kind ≡ None → number ≡ m.number + 1
+    → Ok (record { number = number }) ≡ reply_of g call
 accepted_reply m g call number same none is = subst (λ (g : MatchRecord). Ok (record { number = number }) ≡ reply_of g call) same (rw is (sym (ap (λ (o : Option Refusal). answer m.number o) none)))
 
 pub refused_reply : (m g : MatchRecord) (call : EventCall) (refusal : Refusal) → m ≡ g → refusal_of m call.expected call.kind ≡ Some refusal → Err refusal ≡ reply_of g call

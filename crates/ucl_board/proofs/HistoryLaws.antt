@@ -1,5 +1,6 @@
 -- The laws of fixtures and histories.
-use Rattle.std.proofs.Common.{◌≡◌, ◌≢◌, ℕ, zero, suc, ◌+◌, ◌-◌, ◌*◌, ◌<◌, ◌≤◌, ◌==◌, List, [], ◌∷◌, ◌++◌, take, drop, set, length, refl, sym, ap, ◌∙◌, subst, arith, Option, Some, None, append-nil, length-append}
+use Rattle.std.proofs.Common.{◌≡◌, ◌≢◌, ℕ, zero, suc, ◌+◌, ◌-◌, ◌*◌, ◌<◌, ◌≤◌, ◌==◌, List, [], ◌∷◌, ◌++◌, take, drop, set, length, refl, sym, ap, ◌∙◌, subst, arith, Option, Some, None, append-nil}
+use Rattle.std.proofs.Common.{length-append}
 use Rattle.std.specs.Prelude.{if◌then◌else◌}
 use Rattle.std.specs.List.{fold, All}
 use Rattle.std.specs.Result.{is_ok}
@@ -33,7 +34,10 @@ key : Fixture → ℕ
 key f = 10 * f.home + f.away
 
 game_of : ℕ → ℕ
-game_of key = if key == 23 then 1 else (if key == 41 then 2 else (if key == 12 then 3 else (if key == 34 then 4 else (if key == 31 then 5 else (if key == 24 then 6 else (if key == 13 then 7 else (if key == 42 then 8 else (if key == 32 then 9 else (if key == 14 then 10 else (if key == 21 then 11 else (if key == 43 then 12 else 0)))))))))))
+game_of key = if key == 23 then 1 else (if key == 41 then 2 else
+    (if key == 12 then 3 else (if key == 34 then 4 else
+    (if key == 31 then 5 else (if key == 24 then 6 else
+    (if key == 13 then 7 else (if key == 42 then 8 else (if key == 32 then 9 else (if key == 14 then 10 else (if key == 21 then 11 else (if key == 43 then 12 else 0)))))))))))
 
 game_back : (game : ℕ) → IsMatch game → game_of (key (fixture_of game)) ≡ game
 unfolding key game_of
@@ -41,10 +45,14 @@ game_back = each_match (λ game. game_of (key (fixture_of game)) ≡ game) refl 
 
 meet : (home : ℕ) → IsSlot home → (away : ℕ) → IsSlot away → home ≢ away → (game : ℕ) × IsMatch game × (fixture_of game ≡ at home away)
 meet = each_slot (λ home. (away : ℕ) → IsSlot away → home ≢ away → (game : ℕ) × IsMatch game × (fixture_of game ≡ at home away))
-    (each_slot (λ away. 1 ≢ away → (game : ℕ) × IsMatch game × (fixture_of game ≡ at 1 away)) (λ not. absurd (not refl)) (λ not. (3, (omega arith, omega arith), refl)) (λ not. (7, (omega arith, omega arith), refl)) (λ not. (10, (omega arith, omega arith), refl)))
-    (each_slot (λ away. 2 ≢ away → (game : ℕ) × IsMatch game × (fixture_of game ≡ at 2 away)) (λ not. (11, (omega arith, omega arith), refl)) (λ not. absurd (not refl)) (λ not. (1, (omega arith, omega arith), refl)) (λ not. (6, (omega arith, omega arith), refl)))
-    (each_slot (λ away. 3 ≢ away → (game : ℕ) × IsMatch game × (fixture_of game ≡ at 3 away)) (λ not. (5, (omega arith, omega arith), refl)) (λ not. (9, (omega arith, omega arith), refl)) (λ not. absurd (not refl)) (λ not. (4, (omega arith, omega arith), refl)))
-    (each_slot (λ away. 4 ≢ away → (game : ℕ) × IsMatch game × (fixture_of game ≡ at 4 away)) (λ not. (2, (omega arith, omega arith), refl)) (λ not. (8, (omega arith, omega arith), refl)) (λ not. (12, (omega arith, omega arith), refl)) (λ not. absurd (not refl)))
+    (each_slot (λ away. 1 ≢ away → (game : ℕ) × IsMatch game × (fixture_of game ≡ at 1 away)) (λ not. absurd (not refl)) (λ not. (3, (omega arith, omega arith), refl))
+    (λ not. (7, (omega arith, omega arith), refl)) (λ not. (10, (omega arith, omega arith), refl)))
+    (each_slot (λ away. 2 ≢ away → (game : ℕ) × IsMatch game × (fixture_of game ≡ at 2 away)) (λ not. (11, (omega arith, omega arith), refl)) (λ not. absurd (not refl))
+    (λ not. (1, (omega arith, omega arith), refl)) (λ not. (6, (omega arith, omega arith), refl)))
+    (each_slot (λ away. 3 ≢ away → (game : ℕ) × IsMatch game × (fixture_of game ≡ at 3 away)) (λ not. (5, (omega arith, omega arith), refl)) (λ not. (9, (omega arith, omega arith), refl))
+    (λ not. absurd (not refl)) (λ not. (4, (omega arith, omega arith), refl)))
+    (each_slot (λ away. 4 ≢ away → (game : ℕ) × IsMatch game × (fixture_of game ≡ at 4 away)) (λ not. (2, (omega arith, omega arith), refl)) (λ not. (8, (omega arith, omega arith), refl))
+    (λ not. (12, (omega arith, omega arith), refl)) (λ not. absurd (not refl)))
 
 pub fixtures_meet : EachPairMeetsOnce
 fixtures_meet home away h a not = let m = meet home h away a not in record {
@@ -161,7 +169,8 @@ one_word h e legal =
           let b = number_of_count (entries_of e.game h) in
           let c = more h e e.game refl in
           omega arith;
-      others = λ game is not. word_after (followed_by h e) game is ∙ (ap (λ (es : List MatchEntry). word_of (counted_match es)) (entries_else h e game (λ eq. not (sym eq))) ∙ sym (word_after h game is));
+      others = λ game is not. word_after (followed_by h e) game is
+          ∙ (ap (λ (es : List MatchEntry). word_of (counted_match es)) (entries_else h e game (λ eq. not (sym eq))) ∙ sym (word_after h game is));
     }
 
 -- an accepted attempt may follow
@@ -219,7 +228,8 @@ entry_after h e legal =
     let before = legal_match e.game h (may_begin MayFollow h (e ∷ []) legal) in
     let accepted = may.accepted.accepted in (
       accepts (match_after h e.game) (length (entries_of e.game h)) e.kind accepted,
-      ap counted_match (entries_same h e e.game refl) ∙ sym (counted (entries_of e.game h) (match_after h e.game) e.reporter (length (entries_of e.game h)) e.kind before refl may.accepted.reporter accepted).0,
+      ap counted_match (entries_same h e e.game refl)
+          ∙ sym (counted (entries_of e.game h) (match_after h e.game) e.reporter (length (entries_of e.game h)) e.kind before refl may.accepted.reporter accepted).0,
     )
 
 same_record : (h k : List Entry) (game : ℕ) → IsLegal h → IsLegal k → IsMatch game → word_at (board_of h) game ≡ word_at (board_of k) game → match_after h game ≡ match_after k game
@@ -234,7 +244,8 @@ entry_known h k e f legal_e legal_f game was is =
     let n = same_record (followed_by h e) (followed_by k f) e.game legal_e legal_f range is in
     let at_e = entry_after h e legal_e in
     let at_f : Accepts (match_after k e.game) (length (entries_of e.game k)) f.kind × (match_after (followed_by k f) e.game ≡ after (match_after k e.game) f.reporter f.kind) =
-    subst (λ (g : ℕ). Accepts (match_after k g) (length (entries_of g k)) f.kind × (match_after (followed_by k f) g ≡ after (match_after k g) f.reporter f.kind)) (sym game) (entry_after k f legal_f) in
+    subst (λ (g : ℕ). Accepts (match_after k g) (length (entries_of g k)) f.kind × (match_after (followed_by k f) g ≡ after (match_after k g) f.reporter f.kind)) (sym game)
+    (entry_after k f legal_f) in
     let accepts_f : Accepts (match_after h e.game) (length (entries_of e.game k)) f.kind = subst (λ (m : MatchRecord). Accepts m (length (entries_of e.game k)) f.kind) (sym m) at_f.0 in
     let after_f : match_after (followed_by k f) e.game ≡ after (match_after h e.game) f.reporter f.kind = at_f.1 ∙ ap (λ (m : MatchRecord). after m f.reporter f.kind) (sym m) in
     let apart = events_apart (match_after h e.game) e.reporter f.reporter (length (entries_of e.game h)) (length (entries_of e.game k)) e.kind f.kind at_e.0 accepts_f (sym at_e.1 ∙ (n ∙ after_f)) in

@@ -21,7 +21,8 @@ pub history_same : (log : Log) (seat : ℕ) (t : Taken) → t.entry ≡ None →
 history_same log seat t none = history_more log seat t ∙ (ap (λ (o : Option Entry). history_of log ++ entry_list o) none ∙ append-nil (history_of log))
 
 pub taken_append : (seat : ℕ) (xs ys : Log) → taken_by seat (xs ++ ys) ≡ taken_by seat xs ++ taken_by seat ys
-taken_append seat xs ys = ap (map (λ (x : Logged). x.step)) (filter-append (λ (x : Logged). x.seat == seat) xs ys) ∙ map-append (λ (x : Logged). x.step) (filter (λ (x : Logged). x.seat == seat) xs) (filter (λ (x : Logged). x.seat == seat) ys)
+taken_append seat xs ys = ap (map (λ (x : Logged). x.step)) (filter-append (λ (x : Logged). x.seat == seat) xs ys)
+    ∙ map-append (λ (x : Logged). x.step) (filter (λ (x : Logged). x.seat == seat) xs) (filter (λ (x : Logged). x.seat == seat) ys)
 
 one_taken : (seat other : ℕ) (t : Taken) (b : Bool) → (other == seat) ≡ b → taken_by seat (logged_by other t ∷ []) ≡ map (λ (x : Logged). x.step) (cond b (logged_by other t ∷ []) [])
 one_taken seat other t b is = ap (λ (c : Bool). map (λ (x : Logged). x.step) (cond c (logged_by other t ∷ []) [])) is
@@ -30,14 +31,16 @@ pub taken_own : (seat : ℕ) (log : Log) (t : Taken) → taken_by seat (log ++ l
 taken_own seat log t = taken_append seat log (logged_by seat t ∷ []) ∙ ap (λ (l : List Taken). taken_by seat log ++ l) (one_taken seat seat t _ (eq-eqb seat seat refl))
 
 pub taken_other : (seat other : ℕ) (log : Log) (t : Taken) → other ≢ seat → taken_by seat (log ++ logged_by other t ∷ []) ≡ taken_by seat log
-taken_other seat other log t not = taken_append seat log (logged_by other t ∷ []) ∙ (ap (λ (l : List Taken). taken_by seat log ++ l) (one_taken seat other t _ (ne_eqb other seat not)) ∙ append-nil (taken_by seat log))
+taken_other seat other log t not = taken_append seat log (logged_by other t ∷ [])
+    ∙ (ap (λ (l : List Taken). taken_by seat log ++ l) (one_taken seat other t _ (ne_eqb other seat not)) ∙ append-nil (taken_by seat log))
 
 -- a seat that was not there took no step
 pub taken_none : (seat : ℕ) (log : Log) → All (λ (x : Logged). x.seat < seat) log → taken_by seat log ≡ []
 taken_none seat [] all = refl
 taken_none seat (x ∷ log) all =
     let below = All-head (λ (y : Logged). y.seat < seat) x log all in
-    ap (λ (b : Bool). map (λ (y : Logged). y.step) (cond b (x ∷ filter (λ (y : Logged). y.seat == seat) log) (filter (λ (y : Logged). y.seat == seat) log))) (ne_eqb x.seat seat (λ e. omega (arith, e, below)))
+    ap (λ (b : Bool). map (λ (y : Logged). y.step) (cond b (x ∷ filter (λ (y : Logged). y.seat == seat) log) (filter (λ (y : Logged). y.seat == seat) log)))
+    (ne_eqb x.seat seat (λ e. omega (arith, e, below)))
     ∙ taken_none seat log (All-tail (λ (y : Logged). y.seat < seat) x log all)
 
 pub added_more : (steps : List Taken) (t : Taken) → added_by (steps ++ t ∷ []) ≡ added_by steps ++ entry_list t.entry

@@ -80,7 +80,8 @@ repeats h a between rest legal all ok =
     let stale = go_stale h a between legal all ok in
     let board = (attempts_from h (a ∷ between) legal all).1 in (
       ap (λ (l : List Entry). fold after_attempt l rest) stale.history_is,
-      ap (λ (ws : List ℕ). fold board_after (board_after ws a) rest) board ∙ (ap (λ (ws : List ℕ). fold board_after ws rest) stale.board_is ∙ ap (λ (ws : List ℕ). fold board_after ws rest) (sym board)),
+      ap (λ (ws : List ℕ). fold board_after (board_after ws a) rest) board
+          ∙ (ap (λ (ws : List ℕ). fold board_after ws rest) stale.board_is ∙ ap (λ (ws : List ℕ). fold board_after ws rest) (sym board)),
     )
 
 begins_attempt : (h : List Entry) (a : Attempt) (o : Option Refusal) → refusal_of (match_after h a.call.game) a.call.expected a.call.kind ≡ o → IsPrefix h (after_attempt h a)

@@ -119,8 +119,10 @@ impl Board {
         ensures reply { result ≡ reply_of (game_at self.old call.now.game) call.now }
         ensures unchanged { IfErr result (λ r. self.new ≡ self.old) }
         ensures board { self.new ≡ board_after self.old (attempted reporter call.now) }
-        ensures sequential { (history : List Entry) → IsLegal history → board_of history ≡ self.old → result ≡ sequential_reply history call.now }
-        ensures counted { IfOk result (λ _. GainsEntry self.old (entry_of reporter call.now) self.new) }
+        ensures sequential { (history : List Entry) → IsLegal history → board_of history ≡ self.old
+            → result ≡ sequential_reply history call.now }
+        ensures counted { IfOk result
+            (λ _. GainsEntry self.old (entry_of reporter call.now) self.new) }
     {
         let at = usize::from(call.game.get() - 1);
         match next_word(self.words[at], reporter, call.expected, call.kind) {

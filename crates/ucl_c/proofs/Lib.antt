@@ -2,3 +2,4 @@ pub mod Boards
 pub mod ScreenLength
 pub mod PlayedScripts
 pub mod ScriptClubs
+pub mod WordBits

@@ -1,5 +1,5 @@
 -- The events of a script, entered one after the other.
-use Rattle.std.proofs.Common.{◌≡◌, ℕ, ◌+◌, ◌-◌, ◌<◌, ◌≤◌, List, [], ◌∷◌, ◌++◌, length, take, drop, replicate, set, get_or, map, append_assoc, arith, refl, sym, ◌∙◌}
+use Rattle.std.proofs.Common.{◌≡◌, ℕ, ◌+◌, ◌<◌, ◌≤◌, List, [], ◌∷◌, ◌++◌, length, take, drop, replicate, set, get_or, map, append_assoc, arith, refl, sym, ◌∙◌}
 use Rattle.std.proofs.lemmas.List.{append-nil, drop-replicate, take_all}
 use Rattle.std.proofs.lemmas.Grind.{take-set_at}
 use Rattle.ucl_board.specs.declared.entry.Entry.{Entry}

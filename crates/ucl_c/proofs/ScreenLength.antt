@@ -1,21 +1,20 @@
 -- How long a screen is at most.
-use Rattle.std.proofs.Common.{◌≡◌, ℕ, zero, suc, ◌+◌, ◌-◌, ◌*◌, ◌<◌, ◌≤◌, List, [], ◌∷◌, ◌++◌, length, replicate, codes, All, get_or, ◌==◌, Option, None, Some, inl, inr, Bool, true, false, ◌&&◌, nat_le, arith, refl, length-append}
+use Rattle.std.proofs.Common.{◌≡◌, ℕ, zero, suc, ◌+◌, ◌-◌, ◌*◌, ◌<◌, ◌≤◌, List, [], ◌∷◌, ◌++◌, length, replicate, codes, All, Bool, true, false, ◌&&◌, nat_le, arith, length-append}
 use Rattle.std.specs.Prelude.{decimal, flat_map}
 use Rattle.std.specs.List.{sum_by, list_all}
-use Rattle.std.proofs.lemmas.Bool.{cases_Bool}
 use Rattle.std.proofs.lemmas.Bool.Decides.{nat_tests}
-use Rattle.std.proofs.lemmas.List.Elements.{All-cons, All-from_get_or, All-get_or, All-nil}
+use Rattle.std.proofs.lemmas.List.Elements.{All-get_or}
 use Rattle.ucl_board.specs.Fixtures.{IsSlot}
 use Rattle.std.proofs.lemmas.List.{length-replicate}
 use Rattle.std.proofs.lemmas.List.Concat.{length-flat_map}
 use Rattle.std.proofs.lemmas.List.Sums.{count_by-le-length, sum_by-le}
 use Rattle.std.proofs.lemmas.Fmt.{length-decimal-le}
-use Rattle.ucl_word.specs.Layout.{IsWord, record_at}
+use Rattle.ucl_word.specs.Layout.{record_at}
 use Rattle.ucl_word.specs.Rules.{is_in_play}
 use Rattle.ucl_board.specs.Words.{AreWords, version_of}
 use Rattle.ucl_order.specs.declared.profile.Profile.{Profile}
 use Rattle.ucl_order.specs.declared.table.Row.{Row}
-use Rattle.ucl_order.specs.Roster.{NamedClub, IsClub, IsRoster, bad_slot, bad_slot_from, club_in, is_club, is_name, is_printed, name_of}
+use Rattle.ucl_order.specs.Roster.{NamedClub, IsClub, IsRoster, club_in, is_club, is_name, is_printed, name_of}
 use Rattle.ucl_order.specs.Rows.{rows_of, row_of, IsWithinTable}
 use Rattle.ucl_order.proofs.KeysFit.{words_valid}
 use Rattle.ucl_order.proofs.Limits.{rows_within}

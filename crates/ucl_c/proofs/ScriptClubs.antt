@@ -1,9 +1,8 @@
 -- A script has four clubs.
-use Rattle.std.proofs.Common.{◌≡◌, ℕ, ◌+◌, List, [], ◌∷◌, length, nat_le, Option, Some, None, refl, subst}
+use Rattle.std.proofs.Common.{◌≡◌, ℕ, List, [], ◌∷◌, length, Option, Some, None, refl, subst}
 use Rattle.std.specs.Prelude.{Result, Ok, Err, IfOk}
 use Rattle.ucl_order.specs.Roster.{NamedClub, bad_slot}
 use Rattle.ucl_screen.specs.declared.fault.InputFault.{InputFault}
-use Rattle.ucl_screen.specs.declared.night.NightEvent.{NightEvent}
 use Rattle.ucl_screen.specs.Input.{whole_input}
 use Rattle.ucl_screen.specs.Rows.{Fields, rows_of}
 use Rattle.ucl_screen.specs.Script.{◌>>=◌, Script, club_at, events_from, if_good, night_of, night_of_rows, roster_at}

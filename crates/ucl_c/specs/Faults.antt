@@ -1,14 +1,15 @@
 -- Why a call is not done: which fault is told, and by what number.
 use Rattle.std.specs.Prelude.{ℕ, ◌==◌, ◌&&◌, nat_le, nat_lt, Bool, true, false, codes, List, [], ◌∷◌, length, map, Option, Some, None, Result, Ok, Err}
+use Rattle.ucl_word.specs.declared.event.Kind.{Kind}
 use Rattle.ucl_order.specs.declared.profile.Profile.{Profile}
 use Rattle.ucl_order.specs.Roster.{NamedClub, bad_slot}
 use Rattle.ucl_screen.specs.declared.fault.InputFault.{InputFault}
 use Rattle.ucl_screen.specs.declared.fault.InputFault.TheVariants as input
 use Rattle.ucl_screen.specs.Script.{Script, night_of}
-use Rattle.ucl_screen.specs.WordsRead.{read_words}
+use Rattle.ucl_screen.specs.WordsRead.{is_reporter, is_word, read_words}
 use Rattle.ucl_c.specs.declared.fault.Fault.{Fault}
 use Rattle.ucl_c.specs.declared.fault.Fault.TheVariants.{BadWord, BadRow, BadRoster, OutOfMemory, TooLong, FullBoard, NoReporter, NoKind, NoProfile, NoGroup, NotTwelve, NotFour, NoRoom, NotFourRows, NoStatus, InUse, NoPass, NotAReader, NoMatch, NotAReporter}
-use Rattle.ucl_c.specs.Codes.{profile_with}
+use Rattle.ucl_c.specs.Codes.{kind_with, profile_with}
 
 abbrev pub fault_code : Fault → ℕ
 fault_code (BadWord index) = 10
@@ -55,6 +56,20 @@ first_fault (Some fault ∷ later) = Some fault
 abbrev pub fault_unless : Bool → Fault → Option Fault
 fault_unless true fault = None
 fault_unless false fault = Some fault
+
+abbrev pub fault_of_reporter : ℕ → Option Fault
+fault_of_reporter reporter = fault_unless (is_reporter reporter) NoReporter
+
+abbrev pub of_kind : Option Kind → Option Fault
+of_kind (Some kind) = None
+of_kind None = Some NoKind
+
+abbrev pub fault_of_kind : ℕ → Option Fault
+fault_of_kind code = of_kind (kind_with code)
+
+-- a word alone has to be of today's layout
+abbrev pub fault_of_word : ℕ → Option Fault
+fault_of_word word = fault_unless (is_word word) (BadWord 1)
 
 abbrev pub of_profile : Option Profile → Option Fault
 of_profile (Some profile) = None
@@ -127,6 +142,10 @@ abbrev pub fault_of_replies : List ℕ → ℕ → Option Fault
 fault_of_replies bytes room = of_events (night_of bytes) room
 
 -- The inputs of a call, in the order in which they are judged. --
+
+-- of an event for a word: the reporter, the kind, the word
+abbrev pub fault_of_entry : ℕ → ℕ → ℕ → Option Fault
+fault_of_entry word reporter code = first_fault (fault_of_reporter reporter ∷ fault_of_kind code ∷ fault_of_word word ∷ [])
 
 -- of a table: the profile, the words, the coefficients, the room for rows
 abbrev pub fault_of_table : ℕ → List ℕ → List ℕ → ℕ → Option Fault

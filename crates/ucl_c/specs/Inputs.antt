@@ -1,5 +1,6 @@
 -- What the code has of inputs with no fault.
-use Rattle.std.specs.Prelude.{◌≡◌, ℕ, List, None, Some, Ok}
+use Rattle.std.specs.Prelude.{◌≡◌, ℕ, ◌+◌, ◌≤◌, List, None, Some, Ok}
+use Rattle.ucl_word.specs.Layout.{layout, held_at, IsMarked}
 use Rattle.ucl_board.specs.Words.{AreWords}
 use Rattle.ucl_order.specs.Roster.{NamedClub}
 use Rattle.ucl_screen.specs.Screen.{IsGroup}
@@ -17,3 +18,12 @@ pub record IsGroupOf (code letter : ℕ) (words : List ℕ) (clubs : List NamedC
   pub are_words : AreWords group.board
   pub roster : group.roster ≡ clubs
   pub sound : fault_of_inputs code letter words clubs ≡ None
+
+-- what a word holds that is of a match which has begun: the mark, a reporter, a state, and an event number that a match in this state can have
+pub record HasBegun (word : ℕ) : Type 0 where
+  pub marked : IsMarked layout word
+  pub reporter : 1 ≤ held_at word layout.reporter
+  pub not_scheduled : 1 ≤ held_at word layout.state
+  pub known : held_at word layout.state ≤ 2
+  pub low : held_at word layout.state ≤ held_at word layout.number
+  pub high : held_at word layout.number ≤ 4093 + held_at word layout.state

@@ -1,10 +1,11 @@
 -- What holds of all words, and of the numbers of faults.
-use Rattle.std.specs.Prelude.{◌≡◌, ℕ, ◌++◌, List, length, Option, None, Some, Ok, Err, codes, decimal}
+use Rattle.std.specs.Prelude.{◌≡◌, ◌↔◌, ℕ, ◌++◌, true, List, length, Option, None, Some, Ok, Err, codes, decimal}
+use Rattle.ucl_word.specs.Layout.{IsWord}
 use Rattle.ucl_board.specs.Words.{AreReadAs, IsFirstBad}
 use Rattle.ucl_screen.specs.declared.fault.InputFault.{InputFault}
 use Rattle.ucl_screen.specs.declared.fault.InputFault.TheVariants as input
 use Rattle.ucl_screen.specs.Texts.{input_fault_text}
-use Rattle.ucl_screen.specs.WordsRead.{read_words}
+use Rattle.ucl_screen.specs.WordsRead.{is_word, read_words}
 use Rattle.ucl_runs.specs.declared.fault.RunFault.TheVariants.{TooManyReporters}
 use Rattle.ucl_runs.specs.Faults.{fault_text}
 use Rattle.ucl_json.specs.Values.{bad_row_value, coded_value}
@@ -18,8 +19,10 @@ pub record AreJudged (words : List ℕ) : Type 0 where
   pub read : (board : List ℕ) → AreReadAs words board → read_words 1 words ≡ Ok board
   pub refused : (index : ℕ) → IsFirstBad words index → read_words 1 words ≡ Err index
 
-abbrev pub WordsAreJudged : Type 0
-WordsAreJudged = (words : List ℕ) → length words ≡ 12 → AreJudged words
+-- and the test of a single word is whether it is that of a valid record
+pub record WordsAreJudged : Type 0 where
+  pub twelve : (words : List ℕ) → length words ≡ 12 → AreJudged words
+  pub single : (word : ℕ) → (is_word word ≡ true) ↔ IsWord word
 
 -- the faults of an input that calls tell too
 abbrev pub told_as : InputFault → Option Fault

@@ -2,7 +2,6 @@
 use Rattle.std.specs.Prelude.{◌≡◌, ℕ, ◌&&◌, nat_le, nat_lt, if◌then◌else◌, [], ◌∷◌, Option, None, Some, Result, Ok, Err}
 use Rattle.ucl_word.specs.declared.event.EventCall.{EventCall}
 use Rattle.ucl_word.specs.declared.event.Accepted.{Accepted}
-use Rattle.ucl_word.specs.declared.event.Kind.{Kind}
 use Rattle.ucl_word.specs.declared.refusal.Refusal.{Refusal}
 use Rattle.ucl_word.specs.declared.refusal.Refusal.TheVariants.{Stale}
 use Rattle.ucl_c_boards.specs.declared.board_pass.AnyPass.{AnyPass}
@@ -10,9 +9,9 @@ use Rattle.ucl_c_boards.specs.declared.board_pass.WhyNot.{WhyNot}
 use Rattle.ucl_c_boards.specs.declared.board_pass.WhyNot.TheVariants as cause
 use Rattle.ucl_c_boards.specs.BoardPasses.{IsReported, fault_of_report, fault_of_read}
 use Rattle.ucl_c.specs.declared.fault.Fault.{Fault}
-use Rattle.ucl_c.specs.declared.fault.Fault.TheVariants.{OutOfMemory, FullBoard, NoKind, InUse, NoPass, NotAReader, NoMatch, NotAReporter}
+use Rattle.ucl_c.specs.declared.fault.Fault.TheVariants.{OutOfMemory, FullBoard, InUse, NoPass, NotAReader, NoMatch, NotAReporter}
 use Rattle.ucl_c.specs.Codes.{kind_with, refusal_code}
-use Rattle.ucl_c.specs.Faults.{first_fault, fault_of_twelve, fault_unless}
+use Rattle.ucl_c.specs.Faults.{first_fault, fault_of_kind, fault_of_twelve, fault_unless}
 
 abbrev pub fault_because : WhyNot → Fault
 fault_because cause.InUse = InUse
@@ -36,16 +35,12 @@ pub record IsCallOf (game expected code : ℕ) (call : EventCall) : Type 0 where
   pub game_is : call.game ≡ game
   pub expected_is : call.expected ≡ expected_told expected
 
-abbrev pub of_kind : Option Kind → Option Fault
-of_kind (Some kind) = None
-of_kind None = Some NoKind
-
 abbrev pub fault_of_match : ℕ → Option Fault
 fault_of_match game = fault_unless (nat_le 1 game && nat_le game 12) NoMatch
 
 -- of an event: the kind, the match
 abbrev pub fault_of_call : ℕ → ℕ → Option Fault
-fault_of_call game code = first_fault (of_kind (kind_with code) ∷ fault_of_match game ∷ [])
+fault_of_call game code = first_fault (fault_of_kind code ∷ fault_of_match game ∷ [])
 
 -- of a report: the event, the pass
 abbrev pub fault_of_event : AnyPass → ℕ → ℕ → Option Fault

@@ -1,5 +1,5 @@
 -- What twelve words and four clubs are shown as, and how it is written.
-use Rattle.std.specs.Prelude.{◌≡◌, ℕ, ◌+◌, ◌<◌, ◌≤◌, ◌++◌, nat_le, if◌then◌else◌, List, [], ◌∷◌, map, take, drop, length, Option, None, Some, Result, Ok, Err}
+use Rattle.std.specs.Prelude.{◌≡◌, ℕ, ◌+◌, ◌<◌, ◌≤◌, ◌++◌, nat_le, if◌then◌else◌, List, [], ◌∷◌, map, take, drop, length, Option, Some, Result, Ok, Err}
 use Rattle.ucl_board.specs.Words.{version_of}
 use Rattle.ucl_order.specs.declared.profile.Profile.{Profile}
 use Rattle.ucl_order.specs.declared.table.Row.{Row}

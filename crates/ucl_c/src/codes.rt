@@ -6,26 +6,29 @@ ghost use Rattle.ucl_c.specs.Codes.{kind_with, profile_with, refusal_code, mark_
 use ucl_order::{Mark, Profile};
 use ucl_word::{Kind, Refusal, Side, State};
 
+/// The kinds of events, by their codes.
+// A table, so that a kind that can't be foreseen costs no jump.
+static KINDS: [Kind; 13] = [
+    Kind::KickOff,
+    Kind::Goal(Side::Home),
+    Kind::Goal(Side::Away),
+    Kind::Disallow(Side::Home),
+    Kind::Disallow(Side::Away),
+    Kind::Yellow(Side::Home),
+    Kind::Yellow(Side::Away),
+    Kind::SecondYellow(Side::Home),
+    Kind::SecondYellow(Side::Away),
+    Kind::Red(Side::Home),
+    Kind::Red(Side::Away),
+    Kind::FullTime,
+    Kind::Reopen,
+];
+
 /// The kind of event with this code, where there is one.
 pub fn kind_with(code: u32) -> Option<Kind>
     ensures { result ≡ kind_with code }
 {
-    match code {
-        0 => Some(Kind::KickOff),
-        1 => Some(Kind::Goal(Side::Home)),
-        2 => Some(Kind::Goal(Side::Away)),
-        3 => Some(Kind::Disallow(Side::Home)),
-        4 => Some(Kind::Disallow(Side::Away)),
-        5 => Some(Kind::Yellow(Side::Home)),
-        6 => Some(Kind::Yellow(Side::Away)),
-        7 => Some(Kind::SecondYellow(Side::Home)),
-        8 => Some(Kind::SecondYellow(Side::Away)),
-        9 => Some(Kind::Red(Side::Home)),
-        10 => Some(Kind::Red(Side::Away)),
-        11 => Some(Kind::FullTime),
-        12 => Some(Kind::Reopen),
-        _ => None,
-    }
+    KINDS.get(code as usize).copied()
 }
 
 /// The order profile with this code, where there is one.

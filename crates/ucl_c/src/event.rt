@@ -1,17 +1,18 @@
 //! One match: its next word, whether a word is one, and words of the first layout.
 
 ghost use Rattle.std.specs.Prelude.{◌≡◌, ◌↔◌, IsSome, IfSome, IfOk, IfErr, None, Some};
-ghost use Rattle.ucl_word.specs.declared.event.Kind.{Kind};
 ghost use Rattle.ucl_word.specs.Record.{IsReporter};
 ghost use Rattle.ucl_word.specs.Layout.{IsWord, record_at, word_of};
 ghost use Rattle.ucl_word.specs.Migration.{IsReadable, IsReadAs};
 ghost use Rattle.ucl_word.specs.Rules.{refusal_of, after};
 ghost use Rattle.ucl_c.specs.Codes.{kind_with};
-ghost use Rattle.ucl_c.specs.Answers.{answered, answer_to, match_seen};
+ghost use Rattle.ucl_c.specs.Faults.{fault_of_entry};
+ghost use Rattle.ucl_c.specs.Answers.{answered, match_seen, outcome_of};
 
 use crate::codes::{kind_with, refusal_code, state_code};
 use crate::fault::{Fault, fault_code};
-use ucl_word::{Kind, Refusal, ReporterNo, migrate, next_word, number_of, unpack};
+use crate::word::is_word;
+use ucl_word::{Kind, Refusal, ReporterNo, migrate, next_word, number_of, record_of};
 
 /// The record of a match.
 #[repr(C)]
@@ -58,6 +59,24 @@ fn entered(word: u64, reporter: ReporterNo, expected: u32, kind: Kind) -> Result
     }
 }
 
+/// The reporter and the kind of an event for the word of a match. The reporter is judged first, then the kind, then the word.
+fn event_of(word: u64, reporter: u32, kind: u32) -> Result<(ReporterNo, Kind), Fault>
+    ensures taken { IfOk result (λ event. (event.0 ≡ reporter) × (kind_with kind ≡ Some event.1)
+        × IsWord word × (fault_of_entry word reporter kind ≡ None)) }
+    ensures refused { IfErr result (λ fault. fault_of_entry word reporter kind ≡ Some fault) }
+{
+    let Some(reporter) = reporter_with(reporter) else {
+        return Err(Fault::NoReporter);
+    };
+    let Some(kind) = kind_with(kind) else {
+        return Err(Fault::NoKind);
+    };
+    if !is_word(word) {
+        return Err(Fault::BadWord { index: 1 });
+    }
+    Ok((reporter, kind))
+}
+
 /// The next word of a match after an event of a reporter, or why it is not entered. The reporter is judged first, then the kind, then the
 /// word, and then the rules. Only a stale event writes to `found`, and only an accepted one to `next`.
 #[unsafe(no_mangle)]
@@ -69,35 +88,22 @@ pub extern "C" fn uclboard_next_word(
     next: &mut u64,
     found: &mut u32,
 ) -> u32
-    ensures no_reporter { (IsReporter reporter → ⊥) →
-        answered result next.new found.new ≡ answered 50 next.old found.old }
-    ensures no_kind { IsReporter reporter → kind_with kind ≡ None →
-        answered result next.new found.new ≡ answered 51 next.old found.old }
-    ensures bad_word { IsReporter reporter → IsSome (kind_with kind) → (IsWord word → ⊥) →
-        answered result next.new found.new ≡ answered 10 next.old found.old }
-    ensures judged { (k : Kind) → IsReporter reporter → kind_with kind ≡ Some k → IsWord word →
-        answered result next.new found.new
-        ≡ answer_to (record_at word) reporter expected k next.old found.old }
+    ensures { answered result next.new found.new
+        ≡ outcome_of word reporter expected kind next.old found.old }
 {
-    let Some(reporter) = reporter_with(reporter) else {
-        return fault_code(Fault::NoReporter);
-    };
-    let Some(kind) = kind_with(kind) else {
-        return fault_code(Fault::NoKind);
-    };
-    if unpack(word).is_err() {
-        return fault_code(Fault::BadWord { index: 1 });
-    }
-    match entered(word, reporter, expected, kind) {
-        Ok(entered) => {
-            *next = entered;
-            0
-        }
-        Err(Refusal::Stale { found: number }) => {
-            *found = u32::from(number);
-            1
-        }
-        Err(refusal) => refusal_code(refusal),
+    match event_of(word, reporter, kind) {
+        Ok((reporter, kind)) => match entered(word, reporter, expected, kind) {
+            Ok(entered) => {
+                *next = entered;
+                0
+            }
+            Err(Refusal::Stale { found: number }) => {
+                *found = u32::from(number);
+                1
+            }
+            Err(refusal) => refusal_code(refusal),
+        },
+        Err(fault) => fault_code(fault),
     }
 }
 
@@ -107,6 +113,10 @@ pub extern "C" fn uclboard_read_word(word: u64, read: &mut u64) -> u32
     ensures done { IsReadable word → (result ≡ 0) × IsReadAs word read.new }
     ensures refused { (IsReadable word → ⊥) → (result ≡ 10) × (read.new ≡ read.old) }
 {
+    if is_word(word) {
+        *read = word;
+        return 0;
+    }
     match migrate(word) {
         Ok(new) => {
             *read = new;
@@ -122,21 +132,20 @@ pub extern "C" fn uclboard_match_of(word: u64, out: &mut MatchOfC) -> u32
     ensures done { IsWord word → (result ≡ 0) × (out.new ≡ match_seen (record_at word)) }
     ensures refused { (IsWord word → ⊥) → (result ≡ 10) × (out.new ≡ out.old) }
 {
-    match unpack(word) {
-        Ok(game) => {
-            *out = MatchOfC {
-                number: u32::from(game.number),
-                state: state_code(game.state),
-                home_goals: u32::from(game.home_goals),
-                away_goals: u32::from(game.away_goals),
-                home_yellows: u32::from(game.home_yellows),
-                away_yellows: u32::from(game.away_yellows),
-                home_expulsions: u32::from(game.home_expulsions),
-                away_expulsions: u32::from(game.away_expulsions),
-                reporter: u32::from(game.reporter),
-            };
-            0
-        }
-        Err(_) => fault_code(Fault::BadWord { index: 1 }),
+    if !is_word(word) {
+        return fault_code(Fault::BadWord { index: 1 });
     }
+    let game = record_of(word);
+    *out = MatchOfC {
+        number: u32::from(game.number),
+        state: state_code(game.state),
+        home_goals: u32::from(game.home_goals),
+        away_goals: u32::from(game.away_goals),
+        home_yellows: u32::from(game.home_yellows),
+        away_yellows: u32::from(game.away_yellows),
+        home_expulsions: u32::from(game.home_expulsions),
+        away_expulsions: u32::from(game.away_expulsions),
+        reporter: u32::from(game.reporter),
+    };
+    0
 }

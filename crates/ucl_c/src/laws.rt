@@ -3,7 +3,7 @@
 ghost use Rattle.ucl_c.specs.Laws.{FaultsAreWrittenByNumber, WordsAreJudged};
 
 /// Twelve words are read, or the first bad one is told, as the definitions of a board say: the function by which the contracts of calls tell
-/// the fault of words and the board that is shown agrees with them.
+/// the fault of words and the board that is shown agrees with them. A single word is judged by whether it is that of a valid record.
 pub fn words_are_judged()
     ensures { WordsAreJudged }
 {}

@@ -14,3 +14,4 @@ mod screen;
 mod script;
 mod table;
 mod text;
+mod word;

@@ -14,7 +14,7 @@ use Rattle.ucl_shared.specs.Views.{count_of, kept_of, pass_view_of, trail_of}
 use Rattle.ucl_shared.specs.CallSteps.{HasCopyOf}
 use Rattle.ucl_words.specs.WordCalls.{EnlistTries, KeepsTrail, ReportSteps, ReadingSteps}
 use Rattle.ucl_words.specs.WordDoings.{AnswersCall, GoesAlong, WordHasReported}
-use Rattle.ucl_words.specs.WordMachine.{report_reply}
+use Rattle.ucl_steps.specs.Protocol.{report_reply}
 use Rattle.ucl_words.specs.WordRule.{Stands}
 use Rattle.ucl_words.specs.WordViews.{WordPass, view_of}
 use Rattle.ucl_c_boards.specs.declared.board_pass.AnyPass.{AnyPass}

@@ -32,7 +32,8 @@ of_words s r =
       one = subst (λ (h : List Entry). HasOneHistory steps h one.state.calls) one.history_is (screens_of_run cast steps one.state one.run);
     }
 
-later_words : (s t : State Entry WordView) (r : TableKeepsOneHistory s) (q : TableKeepsOneHistory t) → IsPrefix r.shared.log q.shared.log → HaveGoneOn (word_actors s.views) (word_actors t.views) → IsPrefix (of_words s r).run.moves (of_words t q).run.moves
+later_words : (s t : State Entry WordView) (r : TableKeepsOneHistory s) (q : TableKeepsOneHistory t) → IsPrefix r.shared.log q.shared.log → HaveGoneOn (word_actors s.views) (word_actors t.views)
+    → IsPrefix (of_words s r).run.moves (of_words t q).run.moves
 unfolding of_words
 later_words s t r q before on =
     let long = map_long word_actor s.views in

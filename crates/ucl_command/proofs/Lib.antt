@@ -1,5 +1,6 @@
 pub mod NightOutput
-pub mod Matches
+pub mod NumbersRead
 pub mod Range
-pub mod Lines
-pub mod Written
+pub mod NamedLines
+pub mod WrittenLines
+pub mod Unasked

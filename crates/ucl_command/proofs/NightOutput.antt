@@ -24,7 +24,8 @@ use Rattle.ucl_runs.proofs.Unsigned.{screen_of_script}
 
 -- The output of a night. --
 
-pub looked : (profile : Profile) (history : List Entry) (k m : PassView) (readings : ℕ) (roster : List NamedClub) (group : ℕ) (last : Option (List ℕ)) → HasShown (styled profile roster group) history k m readings last
+pub looked : (profile : Profile) (history : List Entry) (k m : PassView) (readings : ℕ) (roster : List NamedClub) (group : ℕ) (last : Option (List ℕ))
+    → HasShown (styled profile roster group) history k m readings last
     → HasLooked profile history readings roster group last
 looked profile history k m readings roster group None h = sym h.many ∙ ap length h.last_is
 looked profile history k m readings roster group (Some text) h =
@@ -41,7 +42,8 @@ pub closing-of : (profile : Profile) (settled : Reading) (seen : List Entry) (ro
 closing-of profile settled seen roster group closing is text = text ∙ ap (λ (r : Reading). screen_text profile r.board roster group) is
 
 -- a reader who took no reading has no last screen
-unlooked : (profile : Profile) (history : List Entry) (readings : ℕ) (roster : List NamedClub) (group : ℕ) (last : Option (List ℕ)) → HasLooked profile history readings roster group last → readings ≡ 0 → last ≡ None
+unlooked : (profile : Profile) (history : List Entry) (readings : ℕ) (roster : List NamedClub) (group : ℕ) (last : Option (List ℕ)) → HasLooked profile history readings roster group last
+    → readings ≡ 0 → last ≡ None
 unlooked profile history readings roster group None looks none = refl
 unlooked profile history readings roster group (Some text) looks none = let one = looks.0 in absurd (omega arith)
 
@@ -76,7 +78,8 @@ played profile (Some bytes) night group readings first second history left right
 -- How a night ends. --
 
 module _ (profile : Profile) (group readings : ℕ) (old new taken : Option (List ℕ)) (reads_before writes_before : Bool) where
-  has_text : (known : Option (List ℕ)) (text : List ℕ) (Q : List ℕ → Type 0) → IfSome known (λ bytes. IsPlayed profile group readings bytes text) → Q text → TextHas (IsPlayed profile group readings) known Q
+  has_text : (known : Option (List ℕ)) (text : List ℕ) (Q : List ℕ → Type 0) → IfSome known (λ bytes. IsPlayed profile group readings bytes text) → Q text
+      → TextHas (IsPlayed profile group readings) known Q
   has_text None text Q is h = tt
   has_text (Some bytes) text Q is h = (text, is, h)
 
@@ -88,8 +91,26 @@ module _ (profile : Profile) (group readings : ℕ) (old new taken : Option (Lis
   pub put : (text : List ℕ) (failed write_failed : Bool) (after : Option (List ℕ)) (r : Result ⊤ RunFault) → failed ≡ false → IfSome old (λ bytes. IsPlayed profile group readings bytes text)
       → OnOk r (Appends taken after text) → IfErr r (IsStopped 0 write_failed taken after text)
       → Obeys (Night group readings profile) (streams old reads_before taken writes_before) (streams new failed after write_failed) r
-  put text failed write_failed after (Ok done) reads is out part = record { text = has_text old text (Appends taken after) is out; kinds = tt; memory = λ bad. absurd (cc); input = tt; unwritten = tt; read_failed = reads; write_failed = tt; written = tt }
-  put text failed write_failed after (Err (WriteFailed written)) reads is out part = record { text = tt; kinds = on_duty old text is; memory = λ bad. absurd (cc); input = tt; unwritten = tt; read_failed = reads; write_failed = part.failed_is; written = has_text old text (λ t. StoppedShort 0 write_failed taken after t written) is part }
+  put text failed write_failed after (Ok done) reads is out part = record {
+    text = has_text old text (Appends taken after) is out;
+    kinds = tt;
+    memory = λ bad. absurd (cc);
+    input = tt;
+    unwritten = tt;
+    read_failed = reads;
+    write_failed = tt;
+    written = tt;
+  }
+  put text failed write_failed after (Err (WriteFailed written)) reads is out part = record {
+    text = tt;
+    kinds = on_duty old text is;
+    memory = λ bad. absurd (cc);
+    input = tt;
+    unwritten = tt;
+    read_failed = reads;
+    write_failed = part.failed_is;
+    written = has_text old text (λ t. StoppedShort 0 write_failed taken after t written) is part;
+  }
   put text failed write_failed after (Err (Input e)) reads is out part = absurd part
   put text failed write_failed after (Err OutOfMemory) reads is out part = absurd part
   put text failed write_failed after (Err (NotOnDuty row)) reads is out part = absurd part

@@ -71,20 +71,20 @@ abbrev pub readings_in : List Row → Option ℕ
 readings_in rows = option_and_then number_named (one_of (codes "readings") rows)
 
 -- the line of `show` with these options
-abbrev pub show_of : Option ℕ → Option Profile → Option Line
-show_of (Some group) (Some order) = Some (Show group order)
-show_of group order = None
+abbrev pub show_with : Option ℕ → Option Profile → Option Line
+show_with (Some group) (Some order) = Some (Show group order)
+show_with group order = None
 
 -- the line of `night` with these options
-abbrev pub night_of : Option ℕ → Option ℕ → Option Profile → Option Line
-night_of (Some group) (Some readings) (Some order) = Some (Night group readings order)
-night_of group readings order = None
+abbrev pub night_with : Option ℕ → Option ℕ → Option Profile → Option Line
+night_with (Some group) (Some readings) (Some order) = Some (Night group readings order)
+night_with group readings order = None
 
 -- the line of a subcommand with its matches
 abbrev pub line_in : Text × List Row → Option Line
 line_in p = if bytes_eq p.0 (codes "feed") then Some Feed
-    else (if bytes_eq p.0 (codes "show") then show_of (group_in p.1) (order_in p.1)
-    else (if bytes_eq p.0 (codes "night") then night_of (group_in p.1) (readings_in p.1) (order_in p.1)
+    else (if bytes_eq p.0 (codes "show") then show_with (group_in p.1) (order_in p.1)
+    else (if bytes_eq p.0 (codes "night") then night_with (group_in p.1) (readings_in p.1) (order_in p.1)
     else None))
 
 -- the line that `clap` reads from the words
@@ -100,5 +100,5 @@ abbrev pub AreTaken : List Text → Type 0
 AreTaken = IsTaking program
 
 -- the fault tells of an error that the words give
-abbrev pub IsFaultOf : List Text → LineFault → Type 0
-IsFaultOf = ToldOf program
+abbrev pub IsFaultOfWords : List Text → LineFault → Type 0
+IsFaultOfWords = ToldOf program

@@ -1,5 +1,5 @@
 -- What the program does with what its words ask for.
-use Rattle.std.specs.Prelude.{◌≡◌, ◌≢◌, ℕ, ◌≤◌, ⊤, Bool, List, All, length, map, take, Option, Some, None, IfSome, Result, Ok, Err, IfErr, string_bytes}
+use Rattle.std.specs.Prelude.{◌≡◌, ◌≢◌, ℕ, ◌≤◌, ⊤, Bool, List, All, length, map, take, Option, Some, None, IfSome, Result, Ok, Err, IfErr}
 use Rattle.ucl_board.specs.declared.entry.Entry.{Entry}
 use Rattle.ucl_board.specs.History.{accepted_of, board_of}
 use Rattle.ucl_order.specs.declared.profile.Profile.{Profile}
@@ -14,14 +14,12 @@ use Rattle.ucl_screen.specs.Screen.{screen_text}
 use Rattle.ucl_command.specs.declared.command_line.Line.{Line}
 use Rattle.ucl_command.specs.declared.command_line.Line.TheVariants.{Feed, Show, Night}
 use Rattle.ucl_program.specs.declared.fault.LineFault.{LineFault}
-use Rattle.ucl_program.specs.declared.fault.LineFault.TheVariants as words
 use Rattle.ucl_runs.specs.declared.fault.RunFault.{RunFault}
 use Rattle.ucl_runs.specs.declared.fault.RunFault.TheVariants.{Input, OutOfMemory, WriteFailed, NotOnDuty, NoThread, TooManyReporters, Strangers}
-use Rattle.ucl_program.specs.Ending.{Ends, WritesText}
+use Rattle.ucl_program.specs.Ending.{Ends, EndsUnasked}
 use Rattle.ucl_runs.specs.Faults.{IsOfOneThread}
 use Rattle.ucl_runs.specs.Feed.{IsFed, attempt_of}
 use Rattle.ucl_runs.specs.Show.{IsShown}
-use Rattle.ucl_runs.specs.Telling.{Tells}
 use Rattle.ucl_runs.specs.Nights.{EachMatchHasOneReporter, IsFirstOffDuty, IsMerge, IsOnDuty, night_text, number_of_two}
 use Rattle.ucl_screen.specs.Stream.{WroteFirst}
 use Rattle.ucl_runs.specs.Run.{BlamesOutput, IfInput, IfWriteFailed, StoppedShort, TellsMemoryApart, TextHas, WritesAll, WritesNothing, is_read_failed}
@@ -133,7 +131,5 @@ pub record Obeys (line : Line) (before after : Streams) (r : Result ⊤ RunFault
 -- exit status, and what it tells on the error sink
 abbrev pub Runs : Result Line LineFault → Streams → Streams → ℕ → Bool → Option (List ℕ) → Option (List ℕ) → Type 0
 Runs (Ok line) before after code failed old new = (r : Result ⊤ RunFault) × Obeys line before after r × Ends r code failed old new
-Runs (Err (words.Help text)) before after code failed old new =
-    (r : Result ⊤ RunFault) × WritesText (string_bytes text) after.write_failed before.taken after.taken r × Ends r code failed old new
-Runs (Err (words.Refused text)) before after code failed old new = (after ≡ before) × (code ≡ 2) × Tells failed old new (string_bytes text)
-Runs (Err words.OutOfMemory) before after code failed old new = (after ≡ before) × Ends (Err OutOfMemory) code failed old new
+Runs (Err fault) before after code failed old new =
+    EndsUnasked (λ (s : Streams). s.write_failed) (λ (s : Streams). s.taken) fault before after code failed old new

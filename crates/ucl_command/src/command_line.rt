@@ -2,14 +2,17 @@
 
 ghost use Rattle.std.specs.Prelude.{◌≡◌, IfErr, IfOk, false, map, option_and_then, string_bytes};
 ghost use Rattle.clap.specs.Words.{app_of, found_of, rows_of, rule_of, subcommand_rows_of};
-ghost use Rattle.ucl_command.specs.CommandLine.{AreTaken, AskFor, IsFaultOf, IsInRange, Tables, program, top_command};
+ghost use Rattle.ucl_command.specs.CommandLine.{AreTaken, AskFor, IsFaultOfWords, IsInRange, Tables, program, top_command};
 ghost use Rattle.ucl_command.specs.CommandLine.{line_in, readings_in, readings_option};
 
 use crate::texts;
 use clap::{Arg, ArgAction, ArgMatches, Command, value_parser};
 use std::alloc::{AllocError, Global};
 use ucl_order::Profile;
-use ucl_program::{LineFault, VERSION, fault_of, group_of, group_option, order_option, profile_of};
+use ucl_program::{
+    LineFault, group_names, group_of, group_option, matches_from, order_names, order_option,
+    profile_of, program_command,
+};
 
 /// What the program is to do.
 #[derive(Clone, Copy, Debug, PartialEq, Eq)]
@@ -34,12 +37,6 @@ pub enum Line {
     },
 }
 
-/// The letters that `--group` takes.
-static GROUPS: [&str; 8] = ["A", "B", "C", "D", "E", "F", "G", "H"];
-
-/// The orders that `--order` takes, the UEFA order first.
-static ORDERS: [&str; 2] = ["uefa", "away-in-tie"];
-
 /// The most readings that `--readings` asks of each reader.
 const MOST_READINGS: u32 = 1000;
 
@@ -61,19 +58,16 @@ fn readings_option<'a>(alloc: Global) -> Arg<'a>
 fn top_command<'a>(alloc: Global) -> Command<'a>
     ensures { app_of result ≡ top_command }
 {
-    Command::new(alloc, "ucl_night")
-        .version(VERSION)
-        .about(texts::PROGRAM)
-        .after_help(texts::PROGRAM_MORE)
-        .subcommand_required(true)
+    let top = program_command(alloc, "ucl_night", texts::PROGRAM, texts::PROGRAM_MORE);
+    top.subcommand_required(true)
 }
 
 /// The program's command, with a subcommand for each line.
 fn command<'a>(alloc: Global) -> Result<Command<'a>, AllocError>
     ensures { IfOk result (λ command. (t : Tables) × (app_of command ≡ program t)) }
 {
-    let letters = GROUPS.as_slice();
-    let orders = ORDERS.as_slice();
+    let letters = group_names();
+    let orders = order_names();
     let feed = Command::new(alloc, "feed")
         .about(texts::FEED)
         .after_help(texts::FEED_MORE);
@@ -132,16 +126,11 @@ fn line_in(matches: &ArgMatches<'_>) -> Option<Line>
 pub fn line_of(alloc: Global, words: &[String]) -> Result<Line, LineFault>
     ensures in_range { IfOk result IsInRange }
     ensures meant { IfOk result (AskFor (map string_bytes words.now)) }
-    ensures taken { AreTaken (map string_bytes words.now) → IfErr result (λ fault. fault ≡ LineFault.OutOfMemory) }
-    ensures answers { IfErr result (IsFaultOf (map string_bytes words.now)) }
+    ensures taken { AreTaken (map string_bytes words.now)
+        → IfErr result (λ fault. fault ≡ LineFault.OutOfMemory) }
+    ensures answers { IfErr result (IsFaultOfWords (map string_bytes words.now)) }
 {
-    let Ok(command) = command(alloc) else {
-        return Err(LineFault::OutOfMemory);
-    };
-    let matches = match command.try_get_matches_from(words) {
-        Ok(matches) => matches,
-        Err(error) => return Err(fault_of(alloc, &error, texts::NO_TEXT)),
-    };
+    let matches = matches_from(alloc, command(alloc)?, words, texts::NO_TEXT)?;
     let Some(line) = line_in(&matches) else {
         unreachable!("what the parser has taken names a line")
     };

@@ -50,43 +50,66 @@ pub fn night_on<B: LiveBoard, G: Gate, W: Sink, R: Threads + Wait + Sync>(
     requires group { IsGroup group }
 
     // The output is that of the end, and it goes out whole or is cut where the sink has failed.
-    ensures all { IfOk result (λ played. OnOk played.written (Appends (W.taken sink.old) (W.taken sink.new) (night_output played.end.last played.end.closing))) }
-    ensures part { IfOk result (λ played. IfErr played.written (IsStopped 0 (W.failed sink.new) (W.taken sink.old) (W.taken sink.new) (night_output played.end.last played.end.closing))) }
+    ensures all { IfOk result (λ played. OnOk played.written
+        (Appends (W.taken sink.old) (W.taken sink.new)
+        (night_output played.end.last played.end.closing))) }
+    ensures part { IfOk result (λ played. IfErr played.written
+        (IsStopped 0 (W.failed sink.new) (W.taken sink.old) (W.taken sink.new)
+        (night_output played.end.last played.end.closing))) }
     ensures unwritten { IfErr result (λ _. sink.new ≡ sink.old) }
 
     // A night reads no input and writes no output, so it has no fault of these.
     ensures kinds { IfErr result IsOfNight }
 
     // A row of a reporter who is not on duty is told exactly where there is one, and the first is.
-    ensures duty { MatchResult result (λ _. All IsOnDuty night.entry.now.events.items) (IsDutyTold night.entry.now.events.items) }
+    ensures duty { MatchResult result (λ _. All IsOnDuty night.entry.now.events.items)
+        (IsDutyTold night.entry.now.events.items) }
 
     // The four passes are of the board that was lent, and the reporters' numbers differ.
-    ensures own_readers { IfOk result (λ played. B.is_reader board.entry.now played.end.reader_1 × B.is_reader board.entry.now played.end.reader_2) }
-    ensures own_reporters { IfOk result (λ played. B.is_reporter board.entry.now played.end.reporter_1 × B.is_reporter board.entry.now played.end.reporter_2) }
-    ensures apart { IfOk result (λ played. (B.reporter played.end.reporter_1).number ≢ (B.reporter played.end.reporter_2).number) }
+    ensures own_readers { IfOk result (λ played.
+        B.is_reader board.entry.now played.end.reader_1
+        × B.is_reader board.entry.now played.end.reader_2) }
+    ensures own_reporters { IfOk result (λ played.
+        B.is_reporter board.entry.now played.end.reporter_1
+        × B.is_reporter board.entry.now played.end.reporter_2) }
+    ensures apart { IfOk result (λ played.
+        (B.reporter played.end.reporter_1).number ≢ (B.reporter played.end.reporter_2).number) }
 
     // The history that was settled is a merge of the rows, the settled reading is of it, and the closing screen is of that.
-    ensures merge { IfOk result (λ played. HaveMerged (B.reporter played.end.reporter_1) (B.reporter played.end.reporter_2) night.entry.now.events.items played.end.settled.version) }
-    ensures settled { IfOk result (λ played. played.end.settled ≡ snapshot_at (B.reporter played.end.reporter_2).seen played.end.settled.version) }
-    ensures closing { IfOk result (λ played. string_bytes played.end.closing ≡ screen_text profile played.end.settled.board night.entry.now.roster group) }
+    ensures merge { IfOk result (λ played. HaveMerged (B.reporter played.end.reporter_1)
+        (B.reporter played.end.reporter_2) night.entry.now.events.items
+        played.end.settled.version) }
+    ensures settled { IfOk result (λ played. played.end.settled
+        ≡ snapshot_at (B.reporter played.end.reporter_2).seen played.end.settled.version) }
+    ensures closing { IfOk result (λ played. string_bytes played.end.closing
+        ≡ screen_text profile played.end.settled.board night.entry.now.roster group) }
 
     // Reporter 2's pass has seen the settled history, and both reporters have entered just its events: none after it.
-    ensures count { IfOk result (λ played. HaveEnteredAll (B.reporter played.end.reporter_1) (B.reporter played.end.reporter_2) played.end.settled.version) }
+    ensures count { IfOk result (λ played. HaveEnteredAll (B.reporter played.end.reporter_1)
+        (B.reporter played.end.reporter_2) played.end.settled.version) }
 
     // Each row was entered once: the reporters' passes have reported as many events as they have rows.
-    ensures reports { IfOk result (λ played. B.has_reported played.end.reporter_1 (rows_by 1 night.entry.now.events.items) × B.has_reported played.end.reporter_2 (rows_by 2 night.entry.now.events.items)) }
+    ensures reports { IfOk result (λ played.
+        B.has_reported played.end.reporter_1 (rows_by 1 night.entry.now.events.items)
+        × B.has_reported played.end.reporter_2 (rows_by 2 night.entry.now.events.items)) }
 
     // Reporter 1's pass has seen a beginning of the settled history.
-    ensures beginning { IfOk result (λ played. IsPrefix (B.reporter played.end.reporter_1).seen (night_history (B.reporter played.end.reporter_2) played.end.settled.version)) }
+    ensures beginning { IfOk result (λ played. IsPrefix (B.reporter played.end.reporter_1).seen
+        (night_history (B.reporter played.end.reporter_2) played.end.settled.version)) }
 
     // Of the reporters' passes, that of reporter 1 has shown nothing, and that of reporter 2 the settled version alone.
-    ensures readings { IfOk result (λ played. HaveRead (B.reporter played.end.reporter_1) (B.reporter played.end.reporter_2) played.end.settled.version) }
+    ensures readings { IfOk result (λ played. HaveRead (B.reporter played.end.reporter_1)
+        (B.reporter played.end.reporter_2) played.end.settled.version) }
 
     // Where each match has one reporter, the schedule does not matter.
-    ensures board { IfOk result (λ played. HaveNightBoard (B.reporter played.end.reporter_1) (B.reporter played.end.reporter_2) night.entry.now.events.items played.end.settled.board) }
+    ensures board { IfOk result (λ played. HaveNightBoard (B.reporter played.end.reporter_1)
+        (B.reporter played.end.reporter_2) night.entry.now.events.items
+        played.end.settled.board) }
 
     // The four passes have the whole share of the pass that was lent: it was halved three times.
-    ensures shares { IfOk result (λ played. HaveShares (B.reader pass) (B.reporter played.end.reporter_1) (B.reporter played.end.reporter_2) (B.reader played.end.reader_1) (B.reader played.end.reader_2)) }
+    ensures shares { IfOk result (λ played. HaveShares (B.reader pass)
+        (B.reporter played.end.reporter_1) (B.reporter played.end.reporter_2)
+        (B.reader played.end.reader_1) (B.reader played.end.reader_2)) }
 
     // What the readers showed are versions of the history that was settled, which has all that they and the lent pass have seen.
     ensures shown_1 { IfOk result (λ played. HasShown
@@ -101,7 +124,8 @@ pub fn night_on<B: LiveBoard, G: Gate, W: Sink, R: Threads + Wait + Sync>(
         readings (last_shown played.end.last 1)) }
 
     // The gate was told of each call of each worker, and of the screen of each reading, which is of a version of the settled history.
-    ensures called { IfOk result (λ _. HaveCalled (G.came gate.entry.now) night.entry.now.events.items readings) }
+    ensures called { IfOk result (λ _. HaveCalled (G.came gate.entry.now)
+        night.entry.now.events.items readings) }
     ensures showed_1 { IfOk result (λ played. Showed (G.showed gate.entry.now) 3
         (styled profile night.entry.now.roster group)
         (night_history (B.reporter played.end.reporter_2) played.end.settled.version)

@@ -11,8 +11,8 @@ use std::alloc::Global;
 use std::sync::Wait;
 use std::thread::Threads;
 use ucl_order::Profile;
-use ucl_program::{LineFault, ended, tell_refusal};
-use ucl_runs::{OpenGate, RunFault, feed_run, put_text, show_run, tell};
+use ucl_program::{LineFault, ended, ended_unasked};
+use ucl_runs::{OpenGate, RunFault, feed_run, show_run};
 use ucl_screen::{Sink, Source, read_night};
 use ucl_words::WordBoard;
 
@@ -27,7 +27,9 @@ fn play<S: Source, W: Sink, R: Threads + Wait + Sync>(
     profile: Profile,
 ) -> Result<(), RunFault>
     requires { IsGroup group }
-    ensures { Obeys (Line.Night group readings profile) (streams_at S.Source W.Sink source.old sink.old) (streams_at S.Source W.Sink source.new sink.new) result }
+    ensures { Obeys (Line.Night group readings profile)
+        (streams_at S.Source W.Sink source.old sink.old)
+        (streams_at S.Source W.Sink source.new sink.new) result }
 {
     let night = read_night(alloc, source)?;
     let (board, pass) = WordBoard::open(rt, alloc)?;
@@ -43,7 +45,8 @@ fn play<S: Source, W: Sink, R: Threads + Wait + Sync>(
 ///
 /// Those of `feed_run`.
 pub fn feed<S: Source, W: Sink>(alloc: Global, source: &mut S, sink: &mut W) -> Result<(), RunFault>
-    ensures { Obeys Line.Feed (streams_at S.Source W.Sink source.old sink.old) (streams_at S.Source W.Sink source.new sink.new) result }
+    ensures { Obeys Line.Feed (streams_at S.Source W.Sink source.old sink.old)
+        (streams_at S.Source W.Sink source.new sink.new) result }
 {
     feed_run(alloc, source, sink)
 }
@@ -61,7 +64,8 @@ pub fn show<S: Source, W: Sink>(
     profile: Profile,
 ) -> Result<(), RunFault>
     requires { IsGroup group }
-    ensures { Obeys (Line.Show group profile) (streams_at S.Source W.Sink source.old sink.old) (streams_at S.Source W.Sink source.new sink.new) result }
+    ensures { Obeys (Line.Show group profile) (streams_at S.Source W.Sink source.old sink.old)
+        (streams_at S.Source W.Sink source.new sink.new) result }
 {
     show_run(alloc, source, sink, group, profile)
 }
@@ -81,7 +85,8 @@ pub fn obey<S: Source, W: Sink, R: Threads + Wait + Sync>(
     sink: &mut W,
 ) -> Result<(), RunFault>
     requires { IsInRange line }
-    ensures { Obeys line (streams_at S.Source W.Sink source.old sink.old) (streams_at S.Source W.Sink source.new sink.new) result }
+    ensures { Obeys line (streams_at S.Source W.Sink source.old sink.old)
+        (streams_at S.Source W.Sink source.new sink.new) result }
 {
     match line {
         Line::Feed => feed(alloc, source, sink),
@@ -105,18 +110,15 @@ pub fn run<S: Source, W: Sink, E: Sink, R: Threads + Wait + Sync>(
     errors: &mut E,
 ) -> u8
     requires { IfOk asked IsInRange }
-    ensures { Runs asked (streams_at S.Source W.Sink source.old sink.old) (streams_at S.Source W.Sink source.new sink.new) result (E.failed errors.new) (E.taken errors.old) (E.taken errors.new) }
+    ensures { Runs asked (streams_at S.Source W.Sink source.old sink.old)
+        (streams_at S.Source W.Sink source.new sink.new) result
+        (E.failed errors.new) (E.taken errors.old) (E.taken errors.new) }
 {
     match asked {
         Ok(line) => {
             let done = obey(rt, alloc, line, source, sink);
             ended(errors, done)
         }
-        Err(LineFault::Help(text)) => {
-            let done = put_text(sink, text.as_str());
-            ended(errors, done)
-        }
-        Err(LineFault::Refused(text)) => tell_refusal(errors, text.as_str()),
-        Err(LineFault::OutOfMemory) => tell(errors, RunFault::OutOfMemory),
+        Err(fault) => ended_unasked(sink, errors, fault),
     }
 }

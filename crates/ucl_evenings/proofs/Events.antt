@@ -1,5 +1,5 @@
 -- The events of a reporter's pass, one after the other.
-use Rattle.std.proofs.Common.{◌≡◌, ℕ, ◌+◌, ◌≤◌, List, [], ◌∷◌, ◌++◌, length, take, slice_get, refl, sym, ap, ◌∙◌, subst, append_assoc, append-nil, arith, length-append, le_refl}
+use Rattle.std.proofs.Common.{◌≡◌, ℕ, ◌+◌, ◌-◌, ◌≤◌, List, [], ◌∷◌, ◌++◌, length, take, slice_get, refl, sym, ap, ◌∙◌, subst, append_assoc, append-nil, arith, length-append, le_refl}
 use Rattle.std.proofs.Math.Seq.{take-append_seam, take-length}
 use mathlib.Core.List.{IsPrefix}
 use Rattle.ucl_word.specs.declared.event.EventCall.{EventCall}
@@ -10,12 +10,12 @@ use Rattle.ucl_board.specs.declared.entry.Entry.{Entry}
 use Rattle.ucl_board.specs.declared.reading.Reading.{Reading}
 use Rattle.ucl_board.specs.History.{entry_of, sequential_reply}
 use Rattle.ucl_board.proofs.Beginnings.{at_beginning, begins_length, take_beginning}
-use Rattle.ucl_shared.specs.Passes.{PassView, IsSound, Continues, AcceptedReport, RefusedReport, SharedReading}
+use Rattle.ucl_shared.specs.Passes.{PassView, IsSound, Continues, ReportsMore, AcceptedReport, RefusedReport, SharedReading}
 use Rattle.ucl_shared.proofs.Lists.{unchanged}
 use Rattle.ucl_runs.proofs.EnteredRows.{goes_on}
 use Rattle.ucl_evenings.specs.declared.went.Went.{Went}
 use Rattle.ucl_evenings.specs.declared.went.Went.TheVariants.{Entered, Refused}
-use Rattle.ucl_evenings.specs.Reporting.{WentAt, past_point, GoThrough, entered_by, entered_in, HasReportedRows}
+use Rattle.ucl_evenings.specs.Reporting.{WentAt, past_point, GoThrough, entered_by, entered_in, accepted_in, HasReportedRows, RangFor}
 
 -- no event
 pub rows_none : (k : PassView) → IsSound k → HasReportedRows k k [] []
@@ -141,3 +141,38 @@ rows_then k m z calls more went later a b =
           ∙ append_assoc k.mine (entered_in k.number calls went) (entered_in k.number more later)
           ∙ ap (λ (l : List Entry). k.mine ++ l) (sym (entered_then k.number calls more went later (rows_count k m calls went a)));
     }
+
+-- ---- rings
+
+entered_count : (reporter : ℕ) (calls : List EventCall) (went : List Went) → length went ≡ length calls → length (entered_in reporter calls went) ≡ accepted_in went
+unfolding entered_in accepted_in
+entered_count reporter [] [] same = refl
+entered_count reporter [] (w ∷ went) same = absurd (omega arith)
+entered_count reporter (call ∷ calls) [] same = absurd (omega arith)
+entered_count reporter (call ∷ calls) (Entered number version ∷ went) same = let rest = entered_count reporter calls went (omega arith) in omega arith
+entered_count reporter (call ∷ calls) (Refused refusal ∷ went) same = let rest = entered_count reporter calls went (omega arith) in omega arith
+
+pub rang_for : (k m : PassView) (calls : List EventCall) (went : List Went) (rung rung2 : ℕ → Type 0) → HasReportedRows k m calls went → RangFor k m rung rung2
+    → ReportsMore rung (accepted_in went) rung2
+rang_for k m calls went rung rung2 p r n h =
+    let all = ap (length {A = Entry}) p.mine ∙ length-append k.mine (entered_in k.number calls went) in
+    let count = entered_count k.number calls went (rows_count k m calls went p) in subst rung2 (omega arith) (r.rang n h)
+
+pub rang_none : (k : PassView) (rung : ℕ → Type 0) → RangFor k k rung rung
+rang_none k rung = record { grows = le_refl (length k.mine); rang = λ n h. subst rung (omega arith) h }
+
+pub rang_once : (k m z : PassView) (call : EventCall) (reply : Accepted) (reading : Reading) (rung rung2 : ℕ → Type 0) → AcceptedReport k call reply m → SharedReading m reading z
+    → ReportsMore rung 1 rung2 → RangFor k z rung rung2
+rang_once k m z call reply reading rung rung2 a read once =
+    let all = ap (length {A = Entry}) (read.mine ∙ a.mine) ∙ length-append k.mine (entry_of k.number call ∷ []) in
+    record { grows = omega arith; rang = λ n h. subst rung2 (omega arith) (once n h) }
+
+pub rang_not : (k m : PassView) (call : EventCall) (refusal : Refusal) (rung : ℕ → Type 0) → RefusedReport k call refusal m → RangFor k m rung rung
+rang_not k m call refusal rung r =
+    let all = ap (length {A = Entry}) r.mine in record { grows = omega arith; rang = λ n h. subst rung (omega arith) h }
+
+pub rang_then : (k m z : PassView) (a b c : ℕ → Type 0) → RangFor k m a b → RangFor m z b c → RangFor k z a c
+rang_then k m z a b c p q =
+    let le = p.grows in let le2 = q.grows in
+    let more = length m.mine - length k.mine in
+    record { grows = omega arith; rang = λ n h. subst c (omega arith) (q.rang (n + more) (p.rang n h)) }

@@ -6,5 +6,5 @@ pub mod ByteLines
 pub mod Lines
 pub mod Bytes
 pub mod Runs
-pub mod Screens
+pub mod ShownScreens
 pub mod ScreenRuns

@@ -15,15 +15,17 @@ use Rattle.ucl_answers.specs.Wires.{AskedMore}
 use Rattle.ucl_answers.proofs.Moments.{ended-append}
 use Rattle.ucl_answers.proofs.Wires.{asked-then}
 use Rattle.ucl_evenings.specs.declared.went.Went.{Went}
-use Rattle.ucl_evenings.specs.Answering.{typed_answers}
+use Rattle.ucl_evenings.specs.Answering.{calls_typed, typed_answers}
+use Rattle.ucl_evenings.specs.Reporting.{RangFor}
 use Rattle.ucl_evenings.specs.Rows.{AnswersStop, AreAnswered, AreAnsweredSo, FailsToAnswer, IsAnsweredUpTo, TookRows}
+use Rattle.ucl_evenings.proofs.Events.{rang_for}
 use Rattle.ucl_evenings.proofs.Lines.{answered_then, begins_behind, lines_count, reported_then, stopped_then}
 
 -- ---- each time that the source was asked
 
-module _ {S W : Type 0} (left : S → Option (List ℕ)) (taken : W → Option (List ℕ)) (left0 taken0 : Option (List ℕ)) where
+module _ {S W : Type 0} (left : S → Option (List ℕ)) (taken : W → Option (List ℕ)) (rung : W → ℕ → Type 0) (left0 taken0 : Option (List ℕ)) (rung0 : ℕ → Type 0) where
   abbrev Prompt : List Went → S × W → Type 0
-  Prompt went time = IsAnsweredUpTo went left0 (left time.0) taken0 (taken time.1)
+  Prompt went time = IsAnsweredUpTo went left0 (left time.0) taken0 (taken time.1) rung0 (rung time.1)
 
   up_to_longer : (went later : List Went) (time : S × W) → Prompt went time → Prompt (went ++ later) time
   up_to_longer went later time u = record {
@@ -33,6 +35,7 @@ module _ {S W : Type 0} (left : S → Option (List ℕ)) (taken : W → Option (
     each = u.each;
     consumed = u.consumed;
     answered = u.answered;
+    rang = u.rang;
   }
 
   asked_longer : (old new : List (S × W)) (calls calls2 : ℕ) (went later : List Went) → AskedMore old new calls calls2 (Prompt went) → AskedMore old new calls calls2 (Prompt (went ++ later))
@@ -50,15 +53,16 @@ module _ {S W : Type 0} (left : S → Option (List ℕ)) (taken : W → Option (
       asked_longer old new calls calls3 went later (asked-then old mid new calls calls2 calls3 (Prompt went) time p e n now)
 
 -- what is out by now
-pub up_to_now : (k m : PassView) (a b : ℕ → Type 0) (bytes : List ℕ) (went : List Went) (out out2 : ℕ) (left left2 taken taken2 : Option (List ℕ)) → Consumes left left2 bytes
-    → AreAnsweredSo k m a b 1 (ended_lines [] bytes) went out out2 taken taken2 → IsAnsweredUpTo went left left2 taken taken2
-up_to_now k m a b bytes went out out2 left left2 taken taken2 consumed p = record {
+pub up_to_now : (k m : PassView) (a b : ℕ → Type 0) (bytes : List ℕ) (went : List Went) (out out2 : ℕ) (left left2 taken taken2 : Option (List ℕ)) (rung rung2 : ℕ → Type 0) → Consumes left left2 bytes
+    → AreAnsweredSo k m a b 1 (ended_lines [] bytes) went out out2 taken taken2 → RangFor k m rung rung2 → IsAnsweredUpTo went left left2 taken taken2 rung rung2
+up_to_now k m a b bytes went out out2 left left2 taken taken2 rung rung2 consumed p rang = record {
   bytes = bytes;
   first = went;
   among = begins_same went;
   each = lines_count k m a b (ended_lines [] bytes) went p.reported;
   consumed = consumed;
   answered = p.given;
+  rang = rang_for k m (calls_typed (ended_lines [] bytes)) went rung rung2 p.reported.rows rang;
 }
 
 -- ---- how a run ends

@@ -1,9 +1,9 @@
 -- What a reporter's pass of a live board has done, event by event, and how each went in the history of the board.
-use Rattle.std.specs.Prelude.{◌≡◌, ℕ, ◌+◌, ◌<◌, ◌≤◌, List, [], ◌∷◌, ◌++◌, length, take, slice_get, Some, Ok, Err}
+use Rattle.std.specs.Prelude.{◌≡◌, ℕ, ◌+◌, ◌-◌, ◌<◌, ◌≤◌, List, [], ◌∷◌, ◌++◌, length, take, slice_get, Some, Ok, Err}
 use Rattle.ucl_word.specs.declared.event.EventCall.{EventCall}
 use Rattle.ucl_board.specs.declared.entry.Entry.{Entry}
 use Rattle.ucl_board.specs.History.{entry_of, sequential_reply}
-use Rattle.ucl_shared.specs.Passes.{PassView, Continues}
+use Rattle.ucl_shared.specs.Passes.{PassView, Continues, ReportsMore}
 use Rattle.ucl_evenings.specs.declared.went.Went.{Went}
 use Rattle.ucl_evenings.specs.declared.went.Went.TheVariants.{Entered, Refused}
 
@@ -48,3 +48,17 @@ pub record HasReportedRows (k m : PassView) (calls : List EventCall) (went : Lis
   pub always : Continues k m
   pub through : GoThrough k.number m.seen (length k.seen) (length m.seen) calls went
   pub mine : m.mine ≡ k.mine ++ entered_in k.number calls went
+
+-- how many of the events were accepted
+abbrev pub accepted_by : Went → ℕ
+accepted_by (Entered number version) = 1
+accepted_by (Refused refusal) = 0
+
+unfoldable pub accepted_in : List Went → ℕ
+accepted_in [] = 0
+accepted_in (w ∷ went) = accepted_by w + accepted_in went
+
+-- from one moment, with the reporter's pass k, to another, with m, it was rung once for each event of the pass that was accepted
+pub record RangFor (k m : PassView) (rung rung2 : ℕ → Type 0) : Type 0 where
+  pub grows : length k.mine ≤ length m.mine
+  pub rang : ReportsMore rung (length m.mine - length k.mine) rung2

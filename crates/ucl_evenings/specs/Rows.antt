@@ -9,9 +9,18 @@ use Rattle.ucl_runs.specs.Run.{StoppedShort}
 use Rattle.ucl_shared.specs.Passes.{PassView, ReportsMore}
 use Rattle.ucl_answers.specs.Lines.{ended_lines, lines_of}
 use Rattle.ucl_answers.specs.Stepping.{Device, HasEnded}
+use Rattle.ucl_evenings.specs.declared.ring.Desk.{Desk}
 use Rattle.ucl_evenings.specs.declared.went.Went.{Went}
 use Rattle.ucl_evenings.specs.Answering.{calls_typed, typed_answers}
-use Rattle.ucl_evenings.specs.Reporting.{HasReportedRows}
+use Rattle.ucl_evenings.specs.Reporting.{HasReportedRows, accepted_in}
+
+-- what is said of the sink of a desk
+abbrev pub at_sink : {W V X : Type 0} → (W → X) → Desk W V → X
+at_sink f desk = f desk.sink
+
+-- how often its bells were rung
+abbrev pub at_bells : {W V : Type 0} → (V → ℕ → Type 0) → Desk W V → ℕ → Type 0
+at_bells rung desk = rung desk.bells
 
 -- a reporter's pass, k before and m after, has reported the events of lines, each once, and they went so
 pub record HasReportedLines (k m : PassView) (before after : ℕ → Type 0) (lines : List (List ℕ)) (went : List Went) : Type 0 where
@@ -40,14 +49,15 @@ FailsToAnswer k m before after row lines out failed old new (WriteFailed count) 
 FailsToAnswer k m before after row lines out failed old new _ = ⊥
 
 -- what a run took by now, of bytes that were left: the answers to all their lines that have an end are out, and nothing else, where the
--- events of the run went so
-pub record IsAnsweredUpTo (went : List Went) (left left2 taken taken2 : Option (List ℕ)) : Type 0 where
+-- events of the run went so, and it was rung for each event among them that was accepted
+pub record IsAnsweredUpTo (went : List Went) (left left2 taken taken2 : Option (List ℕ)) (rung rung2 : ℕ → Type 0) : Type 0 where
   pub bytes : List ℕ
   pub first : List Went
   pub among : IsPrefix first went
   pub each : length first ≡ length (calls_typed (ended_lines [] bytes))
   pub consumed : Consumes left left2 bytes
   pub answered : Appends taken taken2 (typed_answers 1 (ended_lines [] bytes) first)
+  pub rang : ReportsMore rung (accepted_in first) rung2
 
 -- ---- how a run ends that has taken these bytes and reported the events of these lines, to which this is the text of the answers
 

@@ -1,5 +1,5 @@
 -- What a screen of an evening has shown: boards of ever higher versions, of one history.
-use Rattle.std.specs.Prelude.{◌≡◌, ◌⊎◌, ⊤, ℕ, ◌+◌, ◌-◌, ◌^◌, ◌≤◌, min, Bool, List, [], ◌∷◌, ◌++◌, All, length, take, Option, Some, None, Result, Ok, Err}
+use Rattle.std.specs.Prelude.{◌≡◌, ◌⊎◌, ⊤, ℕ, ◌+◌, ◌-◌, ◌^◌, ◌≤◌, min, Bool, true, false, List, [], ◌∷◌, ◌++◌, All, length, take, Option, Some, None, Result, Ok, Err, OnOk}
 use Rattle.std.specs.Io.KnownBytes.{Appends}
 use mathlib.Core.List.{IsPrefix}
 use Rattle.ucl_board.specs.declared.entry.Entry.{Entry}
@@ -36,10 +36,21 @@ pub record GaveNotes {N : Type 0} (old new : List N) (P : N → Type 0) : Type 0
   pub more : new ≡ old ++ notes
   pub each : All P notes
 
--- the notes that a bell has given, once it gave one more or none
-abbrev pub notes_and : {N : Type 0} → List N → Option N → List N
+-- the notes that a bell has given, once it gave one more, or rang without one, or told the end
+abbrev pub notes_and : {N : Type 0} → List N → Option (Option N) → List N
 notes_and notes None = notes
-notes_and notes (Some note) = notes ++ note ∷ []
+notes_and notes (Some None) = notes
+notes_and notes (Some (Some note)) = notes ++ note ∷ []
+
+-- the passes to which a bell has told the end, once it told something to this one
+abbrev pub ends_and : {N P : Type 0} → List P → P → Option (Option N) → List P
+ends_and ends pass None = ends ++ pass ∷ []
+ends_and ends pass (Some given) = ends
+
+-- the same, by whether the evening goes on
+abbrev pub ends_by : {P : Type 0} → List P → P → Bool → List P
+ends_by ends pass true = ends
+ends_by ends pass false = ends ++ pass ∷ []
 
 -- whatever is given is one of these
 abbrev pub OnlyGives : {N : Type 0} → (N → Type 0) → (N → Type 0) → Type 0
@@ -53,6 +64,14 @@ pub record EndsWithLatest {N : Type 0} (noted : N → List Entry) (told told2 : 
   pub read_last : m.shown ≡ read_before ++ version ∷ []
   pub shown_last : versions ≡ shown_before ++ version ∷ []
   pub has_all : GaveNotes told told2 (λ note. IsPrefix (noted note) (take version m.seen))
+
+-- a bell told the end once, to the pass as it was then: after all its notes, which that had heard; and one reading came after it, the last
+pub record EndWasTold {N P : Type 0} (noted : N → List Entry) (known : P → PassView) (told told2 : List N) (ends ends2 : List P) (m : PassView) : Type 0 where
+  pub pass : P
+  pub version : ℕ
+  pub once : ends2 ≡ ends ++ pass ∷ []
+  pub heard : GaveNotes told told2 (λ note. IsPrefix (noted note) (known pass).seen)
+  pub read_after : m.shown ≡ (known pass).shown ++ version ∷ []
 
 -- what is out where a screen ends whose text this is, or would have been
 abbrev pub ScreensEnd : Bool → Option (List ℕ) → Option (List ℕ) → List ℕ → Type 0 → Result ⊤ RunFault → Type 0
@@ -75,6 +94,50 @@ pub record Screening : Type 0 where
   pub number : ℕ
   pub written : ℕ
 
+-- a pass went on, or is as it was
+abbrev pub GoesOnOrStays : PassView → PassView → Type 0
+GoesOnOrStays k m = Continues k m ⊎ (m ≡ k)
+
+abbrev pub no_screen : Screening
+no_screen = record { next = 0; number = 1; written = 0 }
+
+-- it has shown no more screens than there are versions
+abbrev pub AreFew : Screening → Type 0
+AreFew s = (s.number ≤ 1 + s.next) × (s.next ≤ 2 ^ 16)
+
+-- the last of the versions is the one before this
+pub record IsLastBefore (next : ℕ) (versions : List ℕ) : Type 0 where
+  pub version : ℕ
+  pub before : List ℕ
+  pub next_is : next ≡ version + 1
+  pub last : versions ≡ before ++ version ∷ []
+
+-- where it stands after these versions, if it began with the pass k, which is m now
+pub record SoFar (options : Options) (clubs : List NamedClub) (k m : PassView) (s : Screening) (old new : Option (List ℕ)) (versions : List ℕ) : Type 0 where
+  pub goes : GoesOnOrStays k m
+  pub high : ℕ
+  pub rise : RiseWithin (length k.seen) high versions
+  pub high_is : (high ≡ s.next) ⊎ (high ≡ length k.seen)
+  pub low : s.next ≤ length m.seen + 1
+  pub few : s.next ≤ 2 ^ 16
+  pub count : s.number ≡ 1 + length versions
+  pub out : Appends old new (screens_shown options clubs m.seen 1 versions)
+  pub told : s.written ≡ min (length (screens_shown options clubs m.seen 1 versions)) (2 ^ 64 - 1)
+  pub last : (s.next ≡ 0) ⊎ IsLastBefore s.next versions
+
+-- what a further run of a screen comes to, that has begun with the pass k: all versions that it showed, before and in it, and how it ended
+pub record ShowsSince {N : Type 0} (noted : N → List Entry) (options : Options) (clubs : List NamedClub) (k m : PassView) (s : Screening) (told told2 : List N) (failed : Bool) (old new : Option (List ℕ)) (result : Result ⊤ RunFault) : Type 0 where
+  pub versions : List ℕ
+  pub risen : HasRisen k m versions
+  pub ends : ScreensEnd failed old new (screens_shown options clubs m.seen 1 versions) (EndsWithLatest noted told told2 m versions) result
+  pub stands : OnOk result (SoFar options clubs k m s old new versions)
+
+-- a further run, wherever the screen began
+abbrev pub ShowsFurther : {N : Type 0} (noted : N → List Entry) (options : Options) (clubs : List NamedClub) (m m2 : PassView) (s s2 : Screening) (told told2 : List N) (failed : Bool) (mid new : Option (List ℕ)) (result : Result ⊤ RunFault) → Type 0
+ShowsFurther noted options clubs m m2 s s2 told told2 failed mid new result =
+    (k : PassView) (old : Option (List ℕ)) (versions : List ℕ) → SoFar options clubs k m s old mid versions
+    → ShowsSince noted options clubs k m2 s2 told told2 failed old new result
+
 -- a reading was shown
 pub record HasShownReading (options : Options) (clubs : List NamedClub) (reading : Reading) (before after : Screening) (old new : Option (List ℕ)) : Type 0 where
   pub given : Appends old new (screen_answer options before.number clubs reading.board)
@@ -88,7 +151,3 @@ FailsToShowReading options clubs reading before failed old new OutOfMemory = new
 FailsToShowReading options clubs reading before failed old new (WriteFailed count) =
     StoppedShort before.written failed old new (screen_answer options before.number clubs reading.board) count
 FailsToShowReading options clubs reading before failed old new _ = ⊥
-
--- a pass went on, or is as it was
-abbrev pub GoesOnOrStays : PassView → PassView → Type 0
-GoesOnOrStays k m = Continues k m ⊎ (m ≡ k)

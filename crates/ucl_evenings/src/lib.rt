@@ -4,12 +4,14 @@
 
 mod answer;
 mod give;
+mod ring;
 mod rows;
 mod show;
 mod take;
 mod typed;
 mod went;
 
-pub use show::{Bell, show_boards};
+pub use ring::{Desk, Ring};
+pub use show::{Bell, Screens, show_boards, show_noted, show_on};
 pub use take::take_rows;
 pub use went::Went;

@@ -6,10 +6,12 @@ ghost use Rattle.ucl_screen.specs.Stream.{VainlyGives};
 ghost use Rattle.ucl_shared.specs.Passes.{IsSound};
 ghost use Rattle.ucl_runs.specs.Run.{IsStopped};
 ghost use Rattle.ucl_answers.specs.Lines.{begun_line, ended_lines, last_lines, longer};
+ghost use Rattle.ucl_evenings.specs.Reporting.{RangFor};
 ghost use Rattle.ucl_evenings.specs.Rows.{AreAnswered, FailsToAnswer};
 
 use crate::answer::{bad_line, went_line};
 use crate::give::give;
+use crate::ring::Ring;
 use crate::typed::{Typed, typed_on};
 use crate::went::enter;
 use arrayvec::ArrayVec;
@@ -21,8 +23,9 @@ use ucl_shared::LiveBoard;
 /// The most bytes of a line that are kept. What comes after them is passed over.
 const LINE: usize = 258;
 
-/// Enters the event of a line, if it has one, and answers the line after so many bytes. Says how many bytes are out then.
-fn answer_line<B: LiveBoard, R: Wait, W: Sink>(
+/// Enters the event of a line, if it has one, rings where it was accepted, and answers the line after so many bytes. Says how many
+/// bytes are out then.
+fn answer_line<B: LiveBoard, R: Wait, W: Sink, V: Ring>(
     rt: &R,
     board: &B,
     pass: &mut B::ReporterPass,
@@ -30,6 +33,7 @@ fn answer_line<B: LiveBoard, R: Wait, W: Sink>(
     line: &[u8],
     before: usize,
     sink: &mut W,
+    bells: &mut V,
 ) -> Result<usize, RunFault>
     requires own { B.is_reporter board.now pass.old }
     requires sound { IsSound (B.reporter pass.old) }
@@ -44,12 +48,14 @@ fn answer_line<B: LiveBoard, R: Wait, W: Sink>(
         row (line.now ∷ []) before (W.failed sink.new) (W.taken sink.old) (W.taken sink.new)) }
     ensures sink_sound { OnOk result (W.failed sink.new ≡ W.failed sink.old) }
     ensures vain { VainlyGives (W.in_vain sink.old) (W.in_vain sink.new) result }
+    ensures rang { RangFor (B.reporter pass.old) (B.reporter pass.new)
+        (V.rung bells.old) (V.rung bells.new) }
 {
     match typed_on(line) {
         Typed::Nothing => Ok(before),
         Typed::Bad => give(before, sink, bad_line(row).as_str().as_bytes()),
         Typed::Event(call) => {
-            let went = enter(rt, board, pass, &call);
+            let went = enter(rt, board, pass, &call, bells);
             let answer = went_line(row, call.game.get(), went);
             give(before, sink, answer.as_str().as_bytes())
         }
@@ -94,12 +100,13 @@ impl Rows {
     }
 
     /// Answers the line that has begun, as if it ended here.
-    fn answer<B: LiveBoard, R: Wait, W: Sink>(
+    fn answer<B: LiveBoard, R: Wait, W: Sink, V: Ring>(
         &mut self,
         rt: &R,
         board: &B,
         pass: &mut B::ReporterPass,
         sink: &mut W,
+        bells: &mut V,
     ) -> Result<(), RunFault>
         requires own { B.is_reporter board.now pass.old }
         requires sound { IsSound (B.reporter pass.old) }
@@ -119,6 +126,8 @@ impl Rows {
             self.old.written (W.failed sink.new) (W.taken sink.old) (W.taken sink.new)) }
         ensures sink_sound { OnOk result (W.failed sink.new ≡ W.failed sink.old) }
         ensures vain { VainlyGives (W.in_vain sink.old) (W.in_vain sink.new) result }
+        ensures rang { RangFor (B.reporter pass.old) (B.reporter pass.new)
+            (V.rung bells.old) (V.rung bells.new) }
     {
         self.written = answer_line(
             rt,
@@ -128,6 +137,7 @@ impl Rows {
             self.begun.as_slice(),
             self.written,
             sink,
+            bells,
         )?;
         self.begun.clear();
         self.row += 1;
@@ -135,13 +145,14 @@ impl Rows {
     }
 
     /// Takes a byte. Where it ends a line, this line is answered.
-    fn enter_byte<B: LiveBoard, R: Wait, W: Sink>(
+    fn enter_byte<B: LiveBoard, R: Wait, W: Sink, V: Ring>(
         &mut self,
         rt: &R,
         board: &B,
         pass: &mut B::ReporterPass,
         b: u8,
         sink: &mut W,
+        bells: &mut V,
     ) -> Result<(), RunFault>
         requires own { B.is_reporter board.now pass.old }
         requires sound { IsSound (B.reporter pass.old) }
@@ -166,22 +177,25 @@ impl Rows {
             self.old.written (W.failed sink.new) (W.taken sink.old) (W.taken sink.new)) }
         ensures sink_sound { OnOk result (W.failed sink.new ≡ W.failed sink.old) }
         ensures vain { VainlyGives (W.in_vain sink.old) (W.in_vain sink.new) result }
+        ensures rang { RangFor (B.reporter pass.old) (B.reporter pass.new)
+            (V.rung bells.old) (V.rung bells.new) }
     {
         if b == b'\n' {
-            return self.answer(rt, board, pass, sink);
+            return self.answer(rt, board, pass, sink, bells);
         }
         self.keep(b);
         Ok(())
     }
 
     /// Takes bytes, and answers each line that ends among them.
-    pub(crate) fn enter<B: LiveBoard, R: Wait, W: Sink>(
+    pub(crate) fn enter<B: LiveBoard, R: Wait, W: Sink, V: Ring>(
         &mut self,
         rt: &R,
         board: &B,
         pass: &mut B::ReporterPass,
         bytes: &[u8],
         sink: &mut W,
+        bells: &mut V,
     ) -> Result<(), RunFault>
         requires own { B.is_reporter board.now pass.old }
         requires sound { IsSound (B.reporter pass.old) }
@@ -206,20 +220,23 @@ impl Rows {
             self.old.written (W.failed sink.new) (W.taken sink.old) (W.taken sink.new)) }
         ensures sink_sound { OnOk result (W.failed sink.new ≡ W.failed sink.old) }
         ensures vain { VainlyGives (W.in_vain sink.old) (W.in_vain sink.new) result }
+        ensures rang { RangFor (B.reporter pass.old) (B.reporter pass.new)
+            (V.rung bells.old) (V.rung bells.new) }
     {
         for b in bytes {
-            self.enter_byte(rt, board, pass, *b, sink)?;
+            self.enter_byte(rt, board, pass, *b, sink, bells)?;
         }
         Ok(())
     }
 
     /// Answers a last line that has no end.
-    pub(crate) fn end<B: LiveBoard, R: Wait, W: Sink>(
+    pub(crate) fn end<B: LiveBoard, R: Wait, W: Sink, V: Ring>(
         &mut self,
         rt: &R,
         board: &B,
         pass: &mut B::ReporterPass,
         sink: &mut W,
+        bells: &mut V,
     ) -> Result<(), RunFault>
         requires own { B.is_reporter board.now pass.old }
         requires sound { IsSound (B.reporter pass.old) }
@@ -238,10 +255,12 @@ impl Rows {
             self.old.written (W.failed sink.new) (W.taken sink.old) (W.taken sink.new)) }
         ensures sink_sound { OnOk result (W.failed sink.new ≡ W.failed sink.old) }
         ensures vain { VainlyGives (W.in_vain sink.old) (W.in_vain sink.new) result }
+        ensures rang { RangFor (B.reporter pass.old) (B.reporter pass.new)
+            (V.rung bells.old) (V.rung bells.new) }
     {
         if self.begun.is_empty() {
             return Ok(());
         }
-        self.answer(rt, board, pass, sink)
+        self.answer(rt, board, pass, sink, bells)
     }
 }

@@ -1,10 +1,11 @@
 //! A screen of an evening, in a thread of its own.
 
-ghost use Rattle.std.specs.Prelude.{◌≡◌, ◌-◌, ◌^◌, ◌<◌, ◌≤◌, IfErr, IfOk, OnOk, string_bytes};
+ghost use Rattle.std.specs.Prelude.{◌≡◌, ◌-◌, ◌^◌, ◌<◌, ◌≤◌, [], ◌∷◌, IfErr, IfOk, IfSome, OnOk, string_bytes};
 ghost use mathlib.Core.List.{IsPrefix};
+ghost use Rattle.ucl_shared.specs.Passes.{Continues};
 ghost use Rattle.ucl_answers.specs.Output.{SinkFails};
 ghost use Rattle.ucl_answers.specs.Text.{screen_answer};
-ghost use Rattle.ucl_evenings.specs.Showing.{GaveNotes, GoesOnOrStays, FailsToShowReading, HasShownReading, OnlyGives, ShowsBoards};
+ghost use Rattle.ucl_evenings.specs.Showing.{AreFew, EndWasTold, GaveNotes, GoesOnOrStays, FailsToShowReading, HasShownReading, OnlyGives, ShowsBoards, ShowsFurther, ends_by, no_screen};
 
 use crate::give::give;
 use std::alloc::Global;
@@ -18,22 +19,27 @@ use ucl_runs::RunFault;
 use ucl_screen::{Sink, screen};
 use ucl_shared::LiveBoard;
 
-/// What a screen waits for between two readings.
-pub trait Bell<N> {
+/// What a screen waits for between two readings. `N` is a note, and `P` the pass of the screen.
+pub trait Bell<N, P> {
     ghost use Rattle.std.specs.Prelude.{◌≡◌, IfSome, List};
-    ghost use Rattle.ucl_evenings.specs.Showing.{OnlyGives, notes_and};
+    ghost use Rattle.ucl_evenings.specs.Showing.{OnlyGives, ends_and, notes_and};
 
     /// The notes that it has given, in their order.
     ghost told: { Self → List N };
 
+    /// The passes to which it has told the end, each as it was then.
+    ghost ends: { Self → List P };
+
     /// What holds of each note that it gives.
     ghost gives: { Self → N → Type 0 };
 
-    /// Waits until there may be something new, and gives a note of it; or nothing, and then the evening is over.
-    fn next<R: Wait>(&mut self, rt: &R) -> Option<N>
-        ensures gives { IfSome result (gives self.old) }
+    /// Waits until there may be something new, and gives a note of it, if it has one; or nothing, and then the evening is over. It is
+    /// shown the pass of whoever waits, as it is.
+    fn next<R: Wait>(&mut self, rt: &R, pass: &P) -> Option<Option<N>>
+        ensures gives { IfSome result (λ given. IfSome given (gives self.old)) }
         ensures still { OnlyGives (gives self.new) (gives self.old) }
-        ensures told { told self.new ≡ notes_and (told self.old) result };
+        ensures told { told self.new ≡ notes_and (told self.old) result }
+        ensures ends { ends self.new ≡ ends_and (ends self.old) pass.now result };
 }
 
 /// The text of a screen, which has this number.
@@ -57,7 +63,7 @@ fn screen_of(
 
 /// A screen between two readings.
 #[derive(Drop)]
-struct Screens {
+pub struct Screens {
     /// The least version that it shows.
     next: u32,
     /// The number of the next screen, from 1.
@@ -76,8 +82,8 @@ impl Model for Screens {
 
 impl Screens {
     /// Before the first reading.
-    fn new() -> Screens
-        ensures { result ≡ record { next = 0; number = 1; written = 0 } }
+    pub fn new() -> Screens
+        ensures { result ≡ no_screen }
     {
         Screens {
             next: 0,
@@ -122,8 +128,27 @@ impl Screens {
     }
 }
 
-/// Waits for the bell, and hears its note. Says whether the evening goes on.
-fn wait_for<B: LiveBoard, Q: Bell<B::Note>, R: Wait>(
+/// Hears a note, if one is given.
+fn hear_given<B: LiveBoard, R: Wait>(
+    rt: &R,
+    board: &B,
+    pass: &mut B::ReaderPass,
+    given: Option<B::Note>,
+)
+    requires own { B.is_reader board.now pass.old }
+    requires notes { IfSome given (B.is_note board.now) }
+    ensures own { B.is_reader board.now pass.new }
+    ensures always { GoesOnOrStays (B.reader pass.old) (B.reader pass.new) }
+    ensures heard { IfSome given (λ note. IsPrefix (B.noted note) (B.reader pass.new).seen) }
+{
+    let Some(note) = given else {
+        return;
+    };
+    board.hear(rt, pass, note);
+}
+
+/// Waits for the bell, and hears its note, if it gives one. Says whether the evening goes on.
+fn wait_for<B: LiveBoard, Q: Bell<B::Note, B::ReaderPass>, R: Wait>(
     rt: &R,
     board: &B,
     pass: &mut B::ReaderPass,
@@ -136,10 +161,11 @@ fn wait_for<B: LiveBoard, Q: Bell<B::Note>, R: Wait>(
     ensures gave { GaveNotes (Q.told bell.old) (Q.told bell.new)
         (λ note. IsPrefix (B.noted note) (B.reader pass.new).seen) }
     ensures notes { OnlyGives (Q.gives bell.new) (Q.gives bell.old) }
+    ensures ends { Q.ends bell.new ≡ ends_by (Q.ends bell.old) pass.new result }
 {
-    match bell.next(rt) {
-        Some(note) => {
-            board.hear(rt, pass, note);
+    match bell.next(rt, pass) {
+        Some(given) => {
+            hear_given(rt, board, pass, given);
             true
         }
         None => false,
@@ -156,7 +182,7 @@ fn wait_for<B: LiveBoard, Q: Bell<B::Note>, R: Wait>(
 ///
 /// `OutOfMemory` where there was none for a screen, and all before are out; `WriteFailed` where the sink failed. The pass is as good as
 /// before.
-pub fn show_boards<B: LiveBoard, Q: Bell<B::Note>, W: Sink, R: Wait>(
+pub fn show_boards<B: LiveBoard, Q: Bell<B::Note, B::ReaderPass>, W: Sink, R: Wait>(
     rt: &R,
     alloc: Global,
     board: &B,
@@ -171,10 +197,14 @@ pub fn show_boards<B: LiveBoard, Q: Bell<B::Note>, W: Sink, R: Wait>(
     ensures own { B.is_reader board.now pass.new }
 
     // Which versions it showed, and what is out. Where it ends well, the last is that of its last reading, and has all that the
-    // bell's notes tell. That the bell told the end before it, no clause says.
+    // bell's notes tell.
     ensures shows { ShowsBoards B.noted options.now roster.now
         (B.reader pass.old) (B.reader pass.new) (Q.told bell.old) (Q.told bell.new)
         (W.failed sink.new) (W.taken sink.old) (W.taken sink.new) result }
+
+    // Where it ends well, the bell told the end once, after all its notes, and the last reading was taken after that.
+    ensures over { OnOk result (EndWasTold B.noted B.reader (Q.told bell.old) (Q.told bell.new)
+        (Q.ends bell.old) (Q.ends bell.new) (B.reader pass.new)) }
 
     // A failed write is answered exactly where the sink has failed, which is not called again then; and it is not called with nothing.
     ensures sink_sound { OnOk result (W.failed sink.new ≡ W.failed sink.old) }
@@ -184,6 +214,51 @@ pub fn show_boards<B: LiveBoard, Q: Bell<B::Note>, W: Sink, R: Wait>(
         (W.failed sink.old) (W.failed sink.new)) }
 {
     let mut screens = Screens::new();
+    show_on(
+        rt,
+        alloc,
+        board,
+        pass,
+        bell,
+        options,
+        roster,
+        &mut screens,
+        sink,
+    )
+}
+
+/// The same of a screen that has shown boards before.
+///
+/// # Errors
+///
+/// As `show_boards`.
+pub fn show_on<B: LiveBoard, Q: Bell<B::Note, B::ReaderPass>, W: Sink, R: Wait>(
+    rt: &R,
+    alloc: Global,
+    board: &B,
+    pass: &mut B::ReaderPass,
+    bell: &mut Q,
+    options: &Options,
+    roster: &Roster,
+    screens: &mut Screens,
+    sink: &mut W,
+) -> Result<(), RunFault>
+    requires own { B.is_reader board.now pass.old }
+    requires notes { OnlyGives (Q.gives bell.old) (B.is_note board.now) }
+    requires few { AreFew screens.old }
+    ensures own { B.is_reader board.now pass.new }
+    ensures shows { ShowsFurther B.noted options.now roster.now
+        (B.reader pass.old) (B.reader pass.new) screens.old screens.new
+        (Q.told bell.old) (Q.told bell.new)
+        (W.failed sink.new) (W.taken sink.old) (W.taken sink.new) result }
+    ensures over { OnOk result (EndWasTold B.noted B.reader (Q.told bell.old) (Q.told bell.new)
+        (Q.ends bell.old) (Q.ends bell.new) (B.reader pass.new)) }
+    ensures sink_sound { OnOk result (W.failed sink.new ≡ W.failed sink.old) }
+    ensures sink_vain { OnOk result (W.in_vain sink.new ≡ W.in_vain sink.old) }
+    ensures sink_fails { IfErr result (SinkFails
+        (W.in_vain sink.old) (W.in_vain sink.new)
+        (W.failed sink.old) (W.failed sink.new)) }
+{
     let mut is_over = false;
     for _ in rt.forever() {
         let reading = board.read(rt, pass);
@@ -194,4 +269,40 @@ pub fn show_boards<B: LiveBoard, Q: Bell<B::Note>, W: Sink, R: Wait>(
         is_over = !wait_for(rt, board, pass, bell);
     }
     unreachable!()
+}
+
+/// Hears a note, reads, and shows the reading to the sink of a screen that has shown boards before, where the version has risen since.
+///
+/// # Errors
+///
+/// As `show_boards`.
+pub fn show_noted<B: LiveBoard, W: Sink, R: Wait>(
+    rt: &R,
+    alloc: Global,
+    board: &B,
+    pass: &mut B::ReaderPass,
+    news: B::Note,
+    options: &Options,
+    roster: &Roster,
+    screens: &mut Screens,
+    sink: &mut W,
+) -> Result<(), RunFault>
+    requires own { B.is_reader board.now pass.old × B.is_note board.now news }
+    requires few { AreFew screens.old }
+    ensures own { B.is_reader board.now pass.new }
+    ensures always { Continues (B.reader pass.old) (B.reader pass.new) }
+
+    // It shows what the note tells, and the last version that was shown has it.
+    ensures shows { ShowsFurther B.noted options.now roster.now
+        (B.reader pass.old) (B.reader pass.new) screens.old screens.new
+        [] (news ∷ []) (W.failed sink.new) (W.taken sink.old) (W.taken sink.new) result }
+    ensures sink_sound { OnOk result (W.failed sink.new ≡ W.failed sink.old) }
+    ensures sink_vain { OnOk result (W.in_vain sink.new ≡ W.in_vain sink.old) }
+    ensures sink_fails { IfErr result (SinkFails
+        (W.in_vain sink.old) (W.in_vain sink.new)
+        (W.failed sink.old) (W.failed sink.new)) }
+{
+    board.hear(rt, pass, news);
+    let reading = board.read(rt, pass);
+    screens.show(alloc, options, roster, &reading, sink)
 }

@@ -7,14 +7,30 @@ use std::sync::Wait;
 use std::test::Fail;
 use ucl_answers::Wire;
 use ucl_devices::{Cut, Full, Out};
-use ucl_evenings::take_rows;
+use ucl_evenings::{Desk, Ring, take_rows};
 use ucl_runs::RunFault;
 use ucl_screen::{FromRead, InputFault, ToWrite};
 use ucl_shared::LiveBoard;
 use ucl_words::WordBoard;
 
-/// How a reporter's run ended, and what it wrote.
-type Told = (Result<(), RunFault>, Vec<u8>);
+/// How a reporter's run ended, what it wrote, and how often it rang.
+type Told = (Result<(), RunFault>, Vec<u8>, u32);
+
+/// A bell that counts.
+#[derive(Drop)]
+struct Counting {
+    rung: u32,
+}
+
+impl Ring for Counting {
+    ghost use Rattle.std.specs.Prelude.{⊤};
+
+    ghost rung = { λ _ _. ⊤ };
+
+    fn ring(&mut self) {
+        self.rung = self.rung.saturating_add(1);
+    }
+}
 
 /// The run of a new reporter, of a reader that gives so many bytes at a time, and fails after so many, and of a writer with so much room.
 fn told_on<B: LiveBoard, R: Wait>(
@@ -34,7 +50,7 @@ fn told_on<B: LiveBoard, R: Wait>(
         return None;
     };
     let mut out = Vec::new(alloc);
-    let answer = {
+    let (answer, rung) = {
         let source = FromRead::new(Cut {
             text,
             piece,
@@ -46,10 +62,15 @@ fn told_on<B: LiveBoard, R: Wait>(
             room: rooms.1,
             full: Full::Fails,
         });
-        let mut wire = Wire::new(source, sink);
-        take_rows(rt, board, &mut reporter, &mut wire)
+        let desk = Desk {
+            sink,
+            bells: Counting { rung: 0 },
+        };
+        let mut wire = Wire::new(source, desk);
+        let answer = take_rows(rt, board, &mut reporter, &mut wire);
+        (answer, wire.sink.bells.rung)
     };
-    Some((answer, out))
+    Some((answer, out, rung))
 }
 
 /// Room for all.
@@ -69,11 +90,13 @@ const SOUTH: &str = "1,0,kickoff\n1,3,reopen\n2,1,goal-away\n3,0,yellow-home\n";
 /// The answers to them on the board that the first has left.
 const SOUTH_OUT: &str = "1 refused 1 stale 3\n2 ok 1 4 5\n3 ok 2 2 6\n4 refused 3 not-started\n";
 
-/// Whether a run ended well, and wrote just this text.
-fn has_written(told: &Option<Told>, text: &str) -> bool {
+/// Whether a run ended well, wrote just this text, and rang so often.
+fn has_written(told: &Option<Told>, text: &str, rings: u32) -> bool {
     match told {
         None => false,
-        Some((answer, out)) => answer.is_ok() && out.as_slice() == text.as_bytes(),
+        Some((answer, out, rung)) => {
+            answer.is_ok() && out.as_slice() == text.as_bytes() && *rung == rings
+        }
     }
 }
 
@@ -101,17 +124,19 @@ fn two_reporters_on_one_board(rt: HostRuntime) -> Result<(), Fail> {
             piece,
             AMPLE,
         );
-        assert!(rt; has_written(&north, NORTH_OUT), "north by {piece}");
-        assert!(rt; has_written(&south, SOUTH_OUT), "south by {piece}");
+        assert!(rt; has_written(&north, NORTH_OUT, 4), "north by {piece}");
+        assert!(rt; has_written(&south, SOUTH_OUT, 2), "south by {piece}");
     }
     Ok(())
 }
 
-/// Whether a run ended with this fault, and wrote just this text.
-fn has_failed(told: &Option<Told>, fault: RunFault, text: &str) -> bool {
+/// Whether a run ended with this fault, wrote just this text, and rang so often.
+fn has_failed(told: &Option<Told>, fault: RunFault, text: &str, rings: u32) -> bool {
     match told {
         None => false,
-        Some((answer, out)) => *answer == Err(fault) && out.as_slice() == text.as_bytes(),
+        Some((answer, out, rung)) => {
+            *answer == Err(fault) && out.as_slice() == text.as_bytes() && *rung == rings
+        }
     }
 }
 
@@ -130,7 +155,7 @@ fn devices_that_fail(rt: HostRuntime) -> Result<(), Fail> {
         (20, usize::MAX),
     );
     let read_failed = RunFault::Input(InputFault::ReadFailed { bytes: 20 });
-    assert!(rt; has_failed(&cut, read_failed, "1 ok 1 1 1\n"));
+    assert!(rt; has_failed(&cut, read_failed, "1 ok 1 1 1\n", 1));
     let full = told_on(
         &rt,
         alloc,
@@ -140,7 +165,7 @@ fn devices_that_fail(rt: HostRuntime) -> Result<(), Fail> {
         64,
         (usize::MAX, 3),
     );
-    assert!(rt; has_failed(&full, RunFault::WriteFailed { written: 3 }, "1 r"));
+    assert!(rt; has_failed(&full, RunFault::WriteFailed { written: 3 }, "1 r", 0));
     assert_eq!(rt; board.read(&rt, &mut reader).version, 1);
     Ok(())
 }

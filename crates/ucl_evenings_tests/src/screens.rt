@@ -1,7 +1,7 @@
 //! A screen, which shows the board at once, and again when its bell has told of an event.
 
-ghost use Rattle.std.specs.Prelude.{◌≡◌, [], option_map};
-ghost use Rattle.ucl_evenings.specs.Showing.{notes_and};
+ghost use Rattle.std.specs.Prelude.{◌≡◌, option_map};
+ghost use Rattle.std.specs.Option.{option_to_list};
 
 use std::alloc::Global;
 use std::snapshot::Snapshot;
@@ -14,38 +14,41 @@ use ucl_order::{Club, Profile, Roster};
 use ucl_runs::RunFault;
 use ucl_screen::ToWrite;
 use ucl_word::{EventCall, Kind, MatchNo};
-use ucl_words::{WordBoard, WordNote, WordReporterPass};
+use ucl_words::{WordBoard, WordNote, WordReaderPass, WordReporterPass};
 
 /// How a run ended, and what it wrote.
 type Told = (Result<(), RunFault>, Vec<u8>);
 
-/// A bell that rings once: it enters a kick-off, and gives a note of it.
+/// A bell that rings once: it enters a kick-off, and gives a note of it; and then it tells the end.
 #[derive(Drop)]
 struct KickOff<'a> {
     board: &'a WordBoard,
     reporter: WordReporterPass,
+    kick_off: EventCall,
     told: Option<Snapshot<WordNote>>,
+    over: Option<Snapshot<WordReaderPass>>,
     ghost own: { reporter.board ≡ board.now },
 }
 
-impl Bell<WordNote> for KickOff<'_> {
-    ghost told = { λ bell. notes_and [] (option_map (λ noted. noted.value) bell.told) };
+impl Bell<WordNote, WordReaderPass> for KickOff<'_> {
+    ghost told = { λ bell. option_to_list (option_map (λ noted. noted.value) bell.told) };
+
+    ghost ends = { λ bell. option_to_list (option_map (λ pass. pass.value) bell.over) };
 
     ghost gives = { λ bell note. note.board ≡ bell.board.now };
 
-    fn next<R: Wait>(&mut self, _rt: &R) -> Option<WordNote> {
+    fn next<R: Wait>(&mut self, _rt: &R, pass: &WordReaderPass) -> Option<Option<WordNote>> {
+        if self.over.is_some() {
+            return Some(None);
+        }
         if self.told.is_some() {
+            self.over = Some(Snapshot::of(pass));
             return None;
         }
-        let kick_off = EventCall {
-            game: MatchNo::new(1)?,
-            expected: 0,
-            kind: Kind::KickOff,
-        };
-        let _reply = self.board.report_now(&mut self.reporter, &kick_off);
+        let _reply = self.board.report_now(&mut self.reporter, &self.kick_off);
         let note = self.board.note_own_now(&mut self.reporter);
         self.told = Some(Snapshot::of(&note));
-        Some(note)
+        Some(Some(note))
     }
 }
 
@@ -95,7 +98,13 @@ fn shown<R: Wait>(rt: &R, alloc: Global, roster: &Roster, room: usize) -> Result
     let mut bell = KickOff {
         board: &board,
         reporter,
+        kick_off: EventCall {
+            game: MatchNo::new(1).ok_or("no match")?,
+            expected: 0,
+            kind: Kind::KickOff,
+        },
         told: None,
+        over: None,
     };
     let mut out = Vec::new(alloc);
     let answer = {

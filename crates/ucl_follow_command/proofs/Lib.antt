@@ -1,3 +1,3 @@
 pub mod Shapes
-pub mod AskedShapes
-pub mod Lines
+pub mod NamedShapes
+pub mod WrittenLines

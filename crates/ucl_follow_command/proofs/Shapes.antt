@@ -4,8 +4,8 @@ use Rattle.std.specs.Prelude.{option_and_then}
 use Rattle.clap.specs.Words.{Text}
 use Rattle.ucl_answers.specs.declared.options.Format.{Format}
 use Rattle.ucl_follows.specs.declared.shape.Shape.{Shape}
-use Rattle.ucl_live_command.specs.CommandLine.{flag_named}
-use Rattle.ucl_live_command.proofs.Choices.{IsFlag, flag_is}
+use Rattle.ucl_program.specs.Options.{flag_named}
+use Rattle.ucl_program.proofs.Named.{IsFlag, flag_is}
 use Rattle.ucl_follow_command.specs.Asking.{IsNamed, shape_for, shape_with}
 
 -- a form that was named, and whether a follower resumes

@@ -1,13 +1,12 @@
 -- What the words of `ucl_follow` ask for: its command as `clap` reads it, and what its matches name.
-use Rattle.std.specs.Prelude.{◌≡◌, ⊤, Bool, true, List, [], ◌∷◌, Option, Some, None, codes, if◌then◌else◌, option_and_then}
-use Rattle.clap.specs.Words.{App, Row, Text, matches_of, one_of}
-use Rattle.clap.specs.Simple.{new_shape}
+use Rattle.std.specs.Prelude.{◌≡◌, ⊤, Bool, List, [], ◌∷◌, Option, Some, None, codes, if◌then◌else◌}
+use Rattle.clap.specs.Words.{App, Row, Text, matches_of}
 use Rattle.ucl_answers.specs.declared.options.Format.{Format}
 use Rattle.ucl_answers.specs.declared.options.Format.TheVariants as form
 use Rattle.ucl_program.specs.declared.fault.LineFault.{LineFault}
 use Rattle.ucl_program.specs.Lines.{IsAskedFor, IsTaking, ToldOf}
-use Rattle.ucl_program.specs.Options.{Hold, Texts, flag_rule}
-use Rattle.ucl_live_command.specs.CommandLine.{flag_named, format_in, format_names, format_option}
+use Rattle.ucl_program.specs.Options.{Hold, Texts, flag_in, flag_rule, program_taking}
+use Rattle.ucl_live_command.specs.CommandLine.{format_in, format_names, format_option}
 use Rattle.ucl_follows.specs.declared.shape.Shape.{Shape}
 use Rattle.ucl_follows.specs.declared.shape.Shape.TheVariants.{Text as Screens, Json, Rows}
 
@@ -18,18 +17,9 @@ pub record FollowTables : Type 0 where
   pub formats : Texts
   pub formats_are : Hold formats format_names
 
--- the program, which tells its version, before it has options
-abbrev pub follow_top : App
-follow_top = record {
-  top = record (new_shape (codes "ucl_follow")) { has_version = true };
-  subs = [];
-}
-
 -- the program with its options
 abbrev pub follow_with : Texts → App
-follow_with formats = record follow_top {
-  top = record follow_top.top { rules = format_option formats ∷ flag_rule (codes "resume") ∷ [] };
-}
+follow_with formats = program_taking (codes "ucl_follow") (format_option formats ∷ flag_rule (codes "resume") ∷ [])
 
 -- the program's command
 abbrev pub follow_command : FollowTables → App
@@ -49,13 +39,9 @@ abbrev pub shape_with : Option Format → Option Bool → Option Shape
 shape_with (Some format) (Some resumes) = Some (shape_for format resumes)
 shape_with format resumes = None
 
--- whether the follower resumes
-abbrev pub resumes_in : List Row → Option Bool
-resumes_in rows = option_and_then flag_named (one_of (codes "resume") rows)
-
 -- what the matches ask it to write
 abbrev pub shape_in : List Row → Option Shape
-shape_in rows = shape_with (format_in rows) (resumes_in rows)
+shape_in rows = shape_with (format_in rows) (flag_in (codes "resume") rows)
 
 -- what `clap` reads from the words
 abbrev pub shape_named : FollowTables → List Text → Option Shape

@@ -1,10 +1,9 @@
 -- What the program does with what its words ask for.
-use Rattle.std.specs.Prelude.{◌≡◌, ◌≤◌, ◌+◌, ◌-◌, ℕ, ⊤, Bool, List, ◌++◌, Option, IfSome, codes, decimal, Result, Ok, Err, IfErr, IfOk, OnOk, string_bytes}
+use Rattle.std.specs.Prelude.{◌≡◌, ◌≤◌, ◌+◌, ◌-◌, ℕ, ⊤, Bool, List, ◌++◌, Option, IfSome, codes, decimal, Result, Ok, Err, IfErr, IfOk, OnOk}
 use Rattle.std.specs.Io.KnownBytes.{Appends}
 use Rattle.ucl_screen.specs.declared.stream.Source as reads
 use Rattle.ucl_screen.specs.declared.stream.Sink as writes
 use Rattle.ucl_runs.specs.declared.fault.RunFault.{RunFault}
-use Rattle.ucl_runs.specs.declared.fault.RunFault.TheVariants.{OutOfMemory}
 use Rattle.ucl_runs.specs.Faults.{status}
 use Rattle.ucl_runs.specs.Run.{is_read_failed}
 use Rattle.ucl_runs.specs.Telling.{Tells, fault_line}
@@ -13,9 +12,7 @@ use Rattle.ucl_answers.specs.Output.{SinkFails}
 use Rattle.ucl_answers.specs.Stepping.{IsOfEvening, device}
 use Rattle.ucl_answers.specs.Wires.{AskedMore}
 use Rattle.ucl_program.specs.declared.fault.LineFault.{LineFault}
-use Rattle.ucl_program.specs.declared.fault.LineFault.TheVariants as words
-use Rattle.ucl_program.specs.Ending.{Ends}
-use Rattle.ucl_live_command.specs.Program.{WroteAlone}
+use Rattle.ucl_live_command.specs.Program.{AnsweredAlone}
 use Rattle.ucl_follows.specs.declared.run.Followed.{Followed}
 use Rattle.ucl_follows.specs.declared.shape.Shape.{Shape}
 use Rattle.ucl_follows.specs.Follow.{follow_end, follow_text}
@@ -51,7 +48,4 @@ abbrev pub RunsFollowing : {S W : Type 0} → reads.Ghosts S → writes.Ghosts W
     → ℕ → Bool → Option (List ℕ) → Option (List ℕ) → Type 0
 RunsFollowing source sink (Ok shape) before after code failed old new =
     (r : Result Followed RunFault) × FollowsLines source sink shape before after r × EndsFollowing r code failed old new
-RunsFollowing source sink (Err (words.Help text)) before after code failed old new =
-    (r : Result ⊤ RunFault) × WroteAlone sink (string_bytes text) before after r × Ends r code failed old new
-RunsFollowing source sink (Err (words.Refused text)) before after code failed old new = (after ≡ before) × (code ≡ 2) × Tells failed old new (string_bytes text)
-RunsFollowing source sink (Err words.OutOfMemory) before after code failed old new = (after ≡ before) × Ends (Err OutOfMemory) code failed old new
+RunsFollowing source sink (Err fault) before after code failed old new = AnsweredAlone sink fault before after code failed old new

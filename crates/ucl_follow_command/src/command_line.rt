@@ -1,48 +1,26 @@
 //! The program's words, read by `clap`.
 
-ghost use Rattle.std.specs.Prelude.{◌≡◌, IfErr, IfOk, codes, false, map, string_bytes};
-ghost use Rattle.clap.specs.Words.{app_of, found_of, rows_of, rule_of};
-ghost use Rattle.ucl_program.specs.Options.{flag_rule};
+ghost use Rattle.std.specs.Prelude.{◌≡◌, IfErr, IfOk, map, string_bytes};
+ghost use Rattle.clap.specs.Words.{app_of, found_of, rows_of};
 ghost use Rattle.ucl_follow_command.specs.Asking.{AreTakenToFollow, AskToFollow, FollowTables, IsFaultOfFollowing};
-ghost use Rattle.ucl_follow_command.specs.Asking.{IsNamed, follow_command, follow_top, shape_for, shape_in};
+ghost use Rattle.ucl_follow_command.specs.Asking.{IsNamed, follow_command, shape_for, shape_in};
 
 use crate::texts;
-use clap::{Arg, ArgAction, ArgMatches, Command};
+use clap::{ArgMatches, Command};
 use std::alloc::{AllocError, Global};
 use ucl_answers::Format;
 use ucl_follows::Shape;
 use ucl_live_command::{FORMATS, format_of, format_option};
-use ucl_program::{LineFault, VERSION, fault_of};
-
-/// The option `--resume`, which has no value.
-fn resume_option<'a>(alloc: Global) -> Arg<'a>
-    ensures rule { rule_of result ≡ flag_rule (codes "resume") }
-    ensures local { result.global ≡ false }
-{
-    Arg::new(alloc, "resume")
-        .long("resume")
-        .action(ArgAction::SetTrue)
-        .help(texts::RESUME)
-}
-
-/// The program's command, before it has options.
-fn top_command<'a>(alloc: Global) -> Command<'a>
-    ensures { app_of result ≡ follow_top }
-{
-    Command::new(alloc, "ucl_follow")
-        .version(VERSION)
-        .about(texts::PROGRAM)
-        .after_help(texts::PROGRAM_MORE)
-}
+use ucl_program::{LineFault, flag_option, matches_from, program_command};
 
 /// The program's command.
 fn command<'a>(alloc: Global) -> Result<Command<'a>, AllocError>
     ensures { IfOk result (λ command. (t : FollowTables) × (app_of command ≡ follow_command t)) }
 {
     let formats = FORMATS.as_slice();
-    top_command(alloc)
+    program_command(alloc, "ucl_follow", texts::PROGRAM, texts::PROGRAM_MORE)
         .arg(format_option(alloc, formats))?
-        .arg(resume_option(alloc))
+        .arg(flag_option(alloc, "resume", texts::RESUME))
 }
 
 /// Screens in this form; and rows in their place, where the follower resumes.
@@ -78,13 +56,7 @@ pub fn shape_of(alloc: Global, words: &[String]) -> Result<Shape, LineFault>
         → IfErr result (λ fault. fault ≡ LineFault.OutOfMemory) }
     ensures answers { IfErr result (IsFaultOfFollowing (map string_bytes words.now)) }
 {
-    let Ok(command) = command(alloc) else {
-        return Err(LineFault::OutOfMemory);
-    };
-    let matches = match command.try_get_matches_from(words) {
-        Ok(matches) => matches,
-        Err(error) => return Err(fault_of(alloc, &error, texts::NO_TEXT)),
-    };
+    let matches = matches_from(alloc, command(alloc)?, words, texts::NO_TEXT)?;
     let Some(shape) = shape_in(&matches) else {
         unreachable!("what the parser has taken names each option")
     };

@@ -9,7 +9,7 @@ use itoa::Buffer;
 use std::alloc::Global;
 use ucl_answers::Wire;
 use ucl_follows::{Followed, Shape, follow_run};
-use ucl_program::{LineFault, ended, tell_refusal};
+use ucl_program::{LineFault, ended_unasked};
 use ucl_runs::{RunFault, put_text, tell};
 use ucl_screen::{Sink, Source};
 
@@ -59,11 +59,6 @@ pub fn run_following<S: Source, W: Sink, E: Sink>(
             let done = follow_run(alloc, shape, wire);
             told(errors, done)
         }
-        Err(LineFault::Help(text)) => {
-            let done = put_text(&mut wire.sink, text.as_str());
-            ended(errors, done)
-        }
-        Err(LineFault::Refused(text)) => tell_refusal(errors, text.as_str()),
-        Err(LineFault::OutOfMemory) => tell(errors, RunFault::OutOfMemory),
+        Err(fault) => ended_unasked(&mut wire.sink, errors, fault),
     }
 }

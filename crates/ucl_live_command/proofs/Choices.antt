@@ -7,34 +7,13 @@ use Rattle.clap.specs.Words.{Text}
 use Rattle.ucl_order.specs.declared.profile.Profile.{Profile}
 use Rattle.ucl_answers.specs.declared.options.Format.{Format}
 use Rattle.ucl_answers.specs.declared.options.Options.{Options}
-use Rattle.ucl_program.proofs.Named.{differs}
-use Rattle.ucl_live_command.specs.CommandLine.{AreNamed, Choices, choices_of, choices_with, flag_named, format_named}
+use Rattle.ucl_program.proofs.Named.{IsFlag, differs, flag_is}
+use Rattle.ucl_program.specs.Options.{flag_named}
+use Rattle.ucl_live_command.specs.CommandLine.{AreNamed, Choices, choices_of, choices_with, format_named}
 
 -- no other text is the name of a form
 pub no_format : (text : Text) → (text ≡ codes "text" → ⊥) → (text ≡ codes "json" → ⊥) → None ≡ format_named text
 no_format text other json = rw (differs text (codes "text") other, differs text (codes "json") json) refl
-
--- the text of a flag, if any, and what is read from it
-abbrev pub IsFlag : Option Text → Bool → Type 0
-IsFlag o b = (o ≡ None → b ≡ false) × (o ≡ Some (codes "true") → b ≡ true) × (o ≡ Some (codes "false") → b ≡ false)
-
-pub flag_is : (o : Option Text) (b : Bool) → IsFlag o b → (c : Bool) → option_and_then flag_named o ≡ Some c → b ≡ c
-flag_is None b h c e = cc
-flag_is (Some v) b h c e = go (bytes_eq v (codes "true")) refl (bytes_eq v (codes "false")) refl e
-  where
-    go : (x : Bool) → bytes_eq v (codes "true") ≡ x → (y : Bool) → bytes_eq v (codes "false") ≡ y → cond x (Some true) (cond y (Some false) None) ≡ Some c → b ≡ c
-    go true is y other f = h.1 (ap (λ (t : Text). Some t) (same (codes "true") is)) ∙ unwrapped f
-      where
-        same : (w : Text) → bytes_eq v w ≡ true → v ≡ w
-        same w e = (bytes_eq-Decides v w).0 e
-
-        unwrapped : Some true ≡ Some c → true ≡ c
-        unwrapped e = cc
-    go false is true other f = h.2 (ap (λ (t : Text). Some t) ((bytes_eq-Decides v (codes "false")).0 other)) ∙ unwrapped f
-      where
-        unwrapped : Some false ≡ Some c → false ≡ c
-        unwrapped e = cc
-    go false is false other f = cc
 
 are_named : (options : Options) (o : Option Text) → IsFlag o options.screens
     → AreNamed (choices_with (Some options.group) (Some options.profile) (Some options.format) (option_and_then flag_named o)) (Some options)

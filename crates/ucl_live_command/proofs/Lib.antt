@@ -1,3 +1,3 @@
 pub mod Choices
-pub mod Asked
+pub mod NamedChoices
 pub mod WrittenLines

@@ -1,8 +1,7 @@
 -- What the words of `ucl_live` ask for: its command as `clap` reads it, and what its matches name.
-use Rattle.std.specs.Prelude.{◌≡◌, ⊤, ℕ, Bool, true, false, List, [], ◌∷◌, Option, Some, None, codes, if◌then◌else◌, option_and_then, option_map}
+use Rattle.std.specs.Prelude.{◌≡◌, ⊤, ℕ, Bool, List, [], ◌∷◌, Option, Some, None, codes, if◌then◌else◌, option_and_then, option_map}
 use Rattle.std.specs.Str.{bytes_eq}
-use Rattle.clap.specs.Words.{App, Row, Rule, Text, first_of, matches_of, one_of}
-use Rattle.clap.specs.Simple.{new_shape}
+use Rattle.clap.specs.Words.{App, Row, Rule, Text, first_of, matches_of}
 use Rattle.clap.specs.declared.builder.value_parser.ValueParser.TheVariants.{Names}
 use Rattle.ucl_order.specs.declared.profile.Profile.{Profile}
 use Rattle.ucl_answers.specs.declared.options.Format.{Format}
@@ -10,7 +9,7 @@ use Rattle.ucl_answers.specs.declared.options.Format.TheVariants as form
 use Rattle.ucl_answers.specs.declared.options.Options.{Options}
 use Rattle.ucl_program.specs.declared.fault.LineFault.{LineFault}
 use Rattle.ucl_program.specs.Lines.{IsAskedFor, IsTaking, ToldOf}
-use Rattle.ucl_program.specs.Options.{Hold, Texts, flag_rule, group_in, group_option, letters, names_of_orders, option_rule, order_in, order_option}
+use Rattle.ucl_program.specs.Options.{Hold, Texts, flag_in, flag_rule, group_in, group_option, letters, names_of_orders, option_rule, order_in, order_option, program_taking}
 
 -- how an evening answers
 pub record Choices : Type 0 where
@@ -41,20 +40,10 @@ pub record EveningTables : Type 0 where
 abbrev pub format_option : Texts → Rule
 format_option names = option_rule (codes "format") (Names names) (codes "text")
 
--- the program, which tells its version, before it has options
-abbrev pub evening_top : App
-evening_top = record {
-  top = record (new_shape (codes "ucl_live")) { has_version = true };
-  subs = [];
-}
-
 -- the program with its options
 abbrev pub evening_with : Texts → Texts → Texts → App
-evening_with groups orders formats = record evening_top {
-  top = record evening_top.top {
-    rules = group_option groups ∷ order_option orders ∷ flag_rule (codes "screens") ∷ format_option formats ∷ [];
-  };
-}
+evening_with groups orders formats =
+    program_taking (codes "ucl_live") (group_option groups ∷ order_option orders ∷ flag_rule (codes "screens") ∷ format_option formats ∷ [])
 
 -- the program's command
 abbrev pub evening_command : EveningTables → App
@@ -66,17 +55,9 @@ evening_command t = evening_with t.groups t.orders t.formats
 abbrev pub format_named : Text → Option Format
 format_named text = if bytes_eq text (codes "text") then Some form.Text else (if bytes_eq text (codes "json") then Some form.Json else None)
 
--- whether an option without a value was there
-abbrev pub flag_named : Text → Option Bool
-flag_named text = if bytes_eq text (codes "true") then Some true else (if bytes_eq text (codes "false") then Some false else None)
-
 -- the form that the matches name
 abbrev pub format_in : List Row → Option Format
 format_in rows = option_and_then format_named (first_of (codes "format") rows)
-
--- whether they have screens
-abbrev pub screens_in : List Row → Option Bool
-screens_in rows = option_and_then flag_named (one_of (codes "screens") rows)
 
 -- these choices, where each is there
 abbrev pub choices_with : Option ℕ → Option Profile → Option Format → Option Bool → Option Choices
@@ -86,7 +67,7 @@ choices_with group profile format screens = None
 
 -- the choices that the matches name
 abbrev pub choices_in : List Row → Option Choices
-choices_in rows = choices_with (group_in rows) (order_in rows) (format_in rows) (screens_in rows)
+choices_in rows = choices_with (group_in rows) (order_in rows) (format_in rows) (flag_in (codes "screens") rows)
 
 -- the choices that `clap` reads from the words
 abbrev pub choices_named : EveningTables → List Text → Option Choices

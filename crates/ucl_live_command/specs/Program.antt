@@ -1,12 +1,10 @@
 -- What the program does with what its words ask for.
-use Rattle.std.specs.Prelude.{◌≡◌, ◌≤◌, ◌+◌, ℕ, ⊤, Bool, List, Option, None, IfSome, Result, Ok, Err, IfErr, OnOk, string_bytes}
+use Rattle.std.specs.Prelude.{◌≡◌, ◌≤◌, ◌+◌, ℕ, ⊤, Bool, List, Option, None, IfSome, Result, Ok, Err, IfErr, OnOk}
 use Rattle.std.specs.Io.KnownBytes.{Appends}
 use Rattle.ucl_screen.specs.declared.stream.Source as reads
 use Rattle.ucl_screen.specs.declared.stream.Sink as writes
 use Rattle.ucl_runs.specs.declared.fault.RunFault.{RunFault}
-use Rattle.ucl_runs.specs.declared.fault.RunFault.TheVariants.{OutOfMemory}
 use Rattle.ucl_runs.specs.Run.{is_read_failed}
-use Rattle.ucl_runs.specs.Telling.{Tells}
 use Rattle.ucl_answers.specs.declared.options.Options.{Options}
 use Rattle.ucl_answers.specs.declared.wire.Wire.{Wire}
 use Rattle.ucl_answers.specs.Output.{SinkFails}
@@ -15,8 +13,7 @@ use Rattle.ucl_answers.specs.Taking.{RunFails}
 use Rattle.ucl_answers.specs.Text.{live_text, missing_after, start_of}
 use Rattle.ucl_answers.specs.Wires.{AskedMore, IsAnsweredSoFar}
 use Rattle.ucl_program.specs.declared.fault.LineFault.{LineFault}
-use Rattle.ucl_program.specs.declared.fault.LineFault.TheVariants as words
-use Rattle.ucl_program.specs.Ending.{Ends, WritesText}
+use Rattle.ucl_program.specs.Ending.{Ends, EndsUnasked}
 
 -- an evening was held over a device for both ways, or has the fault r. Where it ends well, its whole text went out. Each time that bytes were
 -- asked for, also where it failed, the answers to all lines that had an end by then were out, and nothing else
@@ -33,10 +30,10 @@ pub record HoldsEvening {S W : Type 0} (source : reads.Ghosts S) (sink : writes.
   pub sink_fails : IfErr r (SinkFails (sink.in_vain before.sink) (sink.in_vain after.sink) (sink.failed before.sink) (sink.failed after.sink))
   pub fails : IfErr r (RunFails (start_of options) (device source.left source.failed sink.taken sink.failed before) (device source.left source.failed sink.taken sink.failed after))
 
--- nothing was read, and a text was written whole, or has the fault r
-pub record WroteAlone {S W : Type 0} (sink : writes.Ghosts W) (text : List ℕ) (before after : Wire S W) (r : Result ⊤ RunFault) : Type 0 where
-  pub unread : after ≡ record before { sink = after.sink }
-  pub wrote : WritesText text (sink.failed after.sink) (sink.taken before.sink) (sink.taken after.sink) r
+-- nothing was read, and it was answered that the words name nothing to do
+abbrev pub AnsweredAlone : {S W : Type 0} → writes.Ghosts W → LineFault → Wire S W → Wire S W → ℕ → Bool → Option (List ℕ) → Option (List ℕ) → Type 0
+AnsweredAlone sink fault before after code failed old new =
+    (after ≡ record before { sink = after.sink }) × EndsUnasked sink.failed sink.taken fault before.sink after.sink code failed old new
 
 -- what the program does where its words ask for an evening, ask for help, are refused, or could not be read for want of memory; and its
 -- exit status, and what it tells on the error sink
@@ -44,7 +41,4 @@ abbrev pub RunsEvening : {S W : Type 0} → reads.Ghosts S → writes.Ghosts W �
     → ℕ → Bool → Option (List ℕ) → Option (List ℕ) → Type 0
 RunsEvening source sink (Ok options) before after code failed old new =
     (r : Result ⊤ RunFault) × HoldsEvening source sink options before after r × Ends r code failed old new
-RunsEvening source sink (Err (words.Help text)) before after code failed old new =
-    (r : Result ⊤ RunFault) × WroteAlone sink (string_bytes text) before after r × Ends r code failed old new
-RunsEvening source sink (Err (words.Refused text)) before after code failed old new = (after ≡ before) × (code ≡ 2) × Tells failed old new (string_bytes text)
-RunsEvening source sink (Err words.OutOfMemory) before after code failed old new = (after ≡ before) × Ends (Err OutOfMemory) code failed old new
+RunsEvening source sink (Err fault) before after code failed old new = AnsweredAlone sink fault before after code failed old new

@@ -1,22 +1,18 @@
 //! The program's words, read by `clap`.
 
-ghost use Rattle.std.specs.Prelude.{◌≡◌, IfErr, IfOk, codes, false, map, string_bytes};
+ghost use Rattle.std.specs.Prelude.{◌≡◌, IfErr, IfOk, false, map, string_bytes};
 ghost use Rattle.clap.specs.Words.{app_of, found_of, rows_of, rule_of};
-ghost use Rattle.ucl_program.specs.Options.{flag_rule};
 ghost use Rattle.ucl_live_command.specs.CommandLine.{AreNamed, AskForEvening, AreTakenForEvening, IsFaultOfEvening};
-ghost use Rattle.ucl_live_command.specs.CommandLine.{EveningTables, choices_in, choices_of, evening_command, evening_top, format_in, format_option};
+ghost use Rattle.ucl_live_command.specs.CommandLine.{EveningTables, choices_in, choices_of, evening_command, format_in, format_option};
 
 use crate::texts;
-use clap::{Arg, ArgAction, ArgMatches, Command};
+use clap::{Arg, ArgMatches, Command};
 use std::alloc::{AllocError, Global};
 use ucl_answers::{Format, Options};
-use ucl_program::{LineFault, VERSION, fault_of, group_of, group_option, order_option, profile_of};
-
-/// The letters that `--group` takes.
-static GROUPS: [&str; 8] = ["A", "B", "C", "D", "E", "F", "G", "H"];
-
-/// The orders that `--order` takes, the UEFA order first.
-static ORDERS: [&str; 2] = ["uefa", "away-in-tie"];
+use ucl_program::{
+    LineFault, NamesOption, flag_option, group_names, group_of, group_option, matches_from,
+    names_option, order_names, order_option, profile_of, program_command,
+};
 
 /// The forms that `--format` takes, text first.
 pub static FORMATS: [&str; 2] = [TEXT, JSON];
@@ -30,47 +26,27 @@ pub fn format_option<'a>(alloc: Global, names: &'a [&'a str]) -> Arg<'a>
     ensures rule { rule_of result ≡ format_option names.entry }
     ensures local { result.global ≡ false }
 {
-    Arg::new(alloc, "format")
-        .long("format")
-        .action(ArgAction::Set)
-        .value_name("FORMAT")
-        .help(texts::FORMAT)
-        .value_parser(names)
-        .default_value(TEXT)
-}
-
-/// The option `--screens`, which has no value.
-fn screens_option<'a>(alloc: Global) -> Arg<'a>
-    ensures rule { rule_of result ≡ flag_rule (codes "screens") }
-    ensures local { result.global ≡ false }
-{
-    Arg::new(alloc, "screens")
-        .long("screens")
-        .action(ArgAction::SetTrue)
-        .help(texts::SCREENS)
-}
-
-/// The program's command, before it has options.
-fn top_command<'a>(alloc: Global) -> Command<'a>
-    ensures { app_of result ≡ evening_top }
-{
-    Command::new(alloc, "ucl_live")
-        .version(VERSION)
-        .about(texts::PROGRAM)
-        .after_help(texts::PROGRAM_MORE)
+    let format = NamesOption {
+        name: "format",
+        value_name: "FORMAT",
+        help: texts::FORMAT,
+        names,
+        default: TEXT,
+    };
+    names_option(alloc, format)
 }
 
 /// The program's command.
 fn command<'a>(alloc: Global) -> Result<Command<'a>, AllocError>
     ensures { IfOk result (λ command. (t : EveningTables) × (app_of command ≡ evening_command t)) }
 {
-    let letters = GROUPS.as_slice();
-    let orders = ORDERS.as_slice();
+    let letters = group_names();
+    let orders = order_names();
     let formats = FORMATS.as_slice();
-    top_command(alloc)
+    program_command(alloc, "ucl_live", texts::PROGRAM, texts::PROGRAM_MORE)
         .arg(group_option(alloc, letters))?
         .arg(order_option(alloc, orders))?
-        .arg(screens_option(alloc))?
+        .arg(flag_option(alloc, "screens", texts::SCREENS))?
         .arg(format_option(alloc, formats))
 }
 
@@ -114,13 +90,7 @@ pub fn options_of(alloc: Global, words: &[String]) -> Result<Options, LineFault>
         → IfErr result (λ fault. fault ≡ LineFault.OutOfMemory) }
     ensures answers { IfErr result (IsFaultOfEvening (map string_bytes words.now)) }
 {
-    let Ok(command) = command(alloc) else {
-        return Err(LineFault::OutOfMemory);
-    };
-    let matches = match command.try_get_matches_from(words) {
-        Ok(matches) => matches,
-        Err(error) => return Err(fault_of(alloc, &error, texts::NO_TEXT)),
-    };
+    let matches = matches_from(alloc, command(alloc)?, words, texts::NO_TEXT)?;
     let Some(options) = options_in(&matches) else {
         unreachable!("what the parser has taken names each option")
     };

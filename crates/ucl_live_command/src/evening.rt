@@ -4,8 +4,7 @@ ghost use Rattle.ucl_live_command.specs.Program.{RunsEvening};
 
 use std::alloc::Global;
 use ucl_answers::{Options, Wire, live_run};
-use ucl_program::{LineFault, ended, tell_refusal};
-use ucl_runs::{RunFault, put_text, tell};
+use ucl_program::{LineFault, ended, ended_unasked};
 use ucl_screen::{Sink, Source};
 
 /// Holds the evening that the words asked for, as `options_of` answered it, and gives the exit status: 0 where the input has ended and each row
@@ -25,11 +24,6 @@ pub fn run_evening<S: Source, W: Sink, E: Sink>(
             let done = live_run(alloc, options, wire);
             ended(errors, done)
         }
-        Err(LineFault::Help(text)) => {
-            let done = put_text(&mut wire.sink, text.as_str());
-            ended(errors, done)
-        }
-        Err(LineFault::Refused(text)) => tell_refusal(errors, text.as_str()),
-        Err(LineFault::OutOfMemory) => tell(errors, RunFault::OutOfMemory),
+        Err(fault) => ended_unasked(&mut wire.sink, errors, fault),
     }
 }

@@ -4,22 +4,16 @@
 //! and writes their last screens and the closing one.
 #![tactic(auto)]
 
-use std::env;
-use std::io::ErrorKind;
 use std::process::ExitCode;
-use ucl_command::tell_refusal;
 pub use ucl_command::{
     Line, LineFault, line_of, obey, run, words_that_are_refused, words_that_are_taken,
 };
-use ucl_runs::tell;
+use ucl_program::words_of;
 pub use ucl_runs::{
     Gate, NightEnd, OpenGate, RunFault, feed_run, night_run, put_night, schedule_does_not_matter,
     show_run, status_of,
 };
 use ucl_screen::{FromRead, ToWrite};
-
-/// What is told where a word of the command line is no text.
-const NOT_UTF_8: &str = "error: a word of the command line is not UTF-8\n";
 
 /// Runs the program over the standard streams. Standard output has no buffer, so that nothing is left to flush.
 fn main(rt: HostRuntime) -> ExitCode {
@@ -27,19 +21,9 @@ fn main(rt: HostRuntime) -> ExitCode {
     let mut source = FromRead::new(rt.stdin());
     let mut sink = ToWrite::new(rt.stdout());
     let mut errors = ToWrite::new(rt.stderr());
-    let words = match env::args(&rt) {
-        Ok(words) => words,
-        Err(error) if error.kind() == ErrorKind::OutOfMemory => {
-            return ExitCode::from(tell(&mut errors, RunFault::OutOfMemory));
-        }
-        Err(_) => return ExitCode::from(tell_refusal(&mut errors, NOT_UTF_8)),
+    let asked = match words_of(&rt, alloc) {
+        Ok(words) => line_of(alloc, &words),
+        Err(fault) => Err(fault),
     };
-    let status = match words.collect::<Vec<String>>(alloc) {
-        Ok(words) => {
-            let asked = line_of(alloc, &words);
-            run(&rt, alloc, asked, &mut source, &mut sink, &mut errors)
-        }
-        Err(_) => tell(&mut errors, RunFault::OutOfMemory),
-    };
-    ExitCode::from(status)
+    ExitCode::from(run(&rt, alloc, asked, &mut source, &mut sink, &mut errors))
 }

@@ -6,8 +6,8 @@ use Rattle.ucl_order.specs.declared.game.Match.{Match}
 use Rattle.ucl_order.specs.declared.profile.Profile.{Profile}
 use Rattle.ucl_order.specs.declared.table.Row.{Row}
 use Rattle.ucl_order.specs.Roster.{NamedClub, coefficient_of, coefficients_in}
-use Rattle.ucl_order.specs.Matches.{matches_of, started}
-use Rattle.ucl_order.specs.Order.{Ranking, all_clubs, by_points, head_to_head, is_one_class, order_by, order_of, overall, settled_within, split}
+use Rattle.ucl_order.specs.Matches.{matches_of, started_of}
+use Rattle.ucl_order.specs.Order.{Ranking, all_clubs, by_points, head_to_head, is_one_class, order_of, overall, settled_within, split}
 use Rattle.ucl_order.specs.Marks.{mark_by, mark_of}
 use Rattle.ucl_order.specs.Rows.{row_of, row_with}
 use Rattle.ucl_order.specs.Laws.{TableGoesByCoefficients}
@@ -38,16 +38,16 @@ module _ (one other : List NamedClub) (same : coefficients_in one ≡ coefficien
       either (is_one_class (head_to_head profile ms tied) tied) (overall ms one) (overall ms other) (settled_within profile most ms one) (settled_within profile most ms other)
       tied (split (head_to_head profile ms tied) tied) (overall-same ms) (fun_ext (settled-same profile most ms))
 
-  order-same : (profile : Profile) (board : List ℕ) → order_of profile board one ≡ order_of profile board other
-  unfolding order_of order_by
+  order-same : (profile : Profile) (board : List ℕ) → order_of profile (started_of board) one ≡ order_of profile (started_of board) other
+  unfolding order_of
   order-same profile board =
-      ap (λ (settle : List ℕ → List ℕ). flat_map settle (split (by_points (started (matches_of board))) all_clubs))
-      (fun_ext (λ tied. settled-same profile (length tied) (started (matches_of board)) tied))
+      ap (λ (settle : List ℕ → List ℕ). flat_map settle (split (by_points (started_of board)) all_clubs))
+      (fun_ext (λ tied. settled-same profile (length tied) (started_of board) tied))
 
   row-same : (profile : Profile) (board : List ℕ) (place : ℕ) → row_of profile board one place ≡ row_of profile board other place
   unfolding row_of mark_of
   row-same profile board place =
-      ap (λ (order : List ℕ). row_with place (slice_index order (place - 1)) (mark_by (matches_of board) order (slice_index order (place - 1))) (started (matches_of board)))
+      ap (λ (order : List ℕ). row_with place (slice_index order (place - 1)) (mark_by (matches_of board) order (slice_index order (place - 1))) (started_of board))
       (order-same profile board)
 
 pub table-same : TableGoesByCoefficients

@@ -18,10 +18,10 @@ use Rattle.ucl_order.specs.declared.game.Match.{Match}
 use Rattle.ucl_order.specs.declared.game.Appearance.{Appearance}
 use Rattle.ucl_order.specs.declared.mark.Mark.TheVariants.{Plus, Minus, Blank}
 use Rattle.ucl_order.specs.Roster.{NamedClub}
-use Rattle.ucl_order.specs.Matches.{match_at, matches_of, has_finished, started, finished, unfinished}
+use Rattle.ucl_order.specs.Matches.{match_at, matches_of, has_finished, started, finished, unfinished, started_of}
 use Rattle.ucl_order.specs.Appearances.{seen_by}
 use Rattle.ucl_order.specs.Results.{played, points}
-use Rattle.ucl_order.specs.Order.{all_clubs, order_of, order_by, is_in}
+use Rattle.ucl_order.specs.Order.{all_clubs, order_of, is_in}
 use Rattle.ucl_order.specs.Marks.{IsCompletion, GoesThrough, sure_points, reach, rivals, out_of_reach, mark_of}
 use Rattle.ucl_order.proofs.Classes.{IsPermutation-order}
 use Rattle.ucl_order.proofs.ClubCounts.{count-le}
@@ -145,12 +145,13 @@ unchanged : (board later : List ℕ) → IsCompletion board later → list_all h
 unfolding matches_of
 unchanged board later done all = all_kept match_numbers board later are_matches done all
 
-same_order : (profile : Profile) (board later : List ℕ) (roster : List NamedClub) → matches_of later ≡ matches_of board → order_of profile later roster ≡ order_of profile board roster
-unfolding order_of order_by
+same_order : (profile : Profile) (board later : List ℕ) (roster : List NamedClub) → matches_of later ≡ matches_of board →
+    order_of profile (started_of later) roster ≡ order_of profile (started_of board) roster
+unfolding order_of
 same_order profile board later roster e = rw e
 
 final_points : List ℕ → ℕ → ℕ
-final_points later club = points club (started (matches_of later))
+final_points later club = points club (started_of later)
 
 -- the mark, at the tests that it makes
 plus_cases : (all through few many : Bool) → (if all then (if through then Plus else Minus) else (if few then Plus else (if many then Minus else Blank))) ≡ Plus → ((all ≡ true) × (through ≡ true)) ⊎ (few ≡ true)
@@ -203,12 +204,12 @@ module _ (profile : Profile) (board later : List ℕ) (done : IsCompletion board
   unfolding final_points matches_of board_part
   high club = (between club match_numbers board later are_matches done).high
 
-  member : (club : ℕ) → IsSlot club → is_in (order_of profile later roster) club ≡ true
+  member : (club : ℕ) → IsSlot club → is_in (order_of profile (started_of later) roster) club ≡ true
   member club slot =
-      let found = Contains-permutation all_clubs (order_of profile later roster) club (IsPermutation-order profile later roster) (a_club club slot) in
-      list_any_at (λ c. c == club) (order_of profile later roster) found.0 club found.1 (eq_yes _ _ found.2)
+      let found = Contains-permutation all_clubs (order_of profile (started_of later) roster) club (IsPermutation-order profile later roster) (a_club club slot) in
+      list_any_at (λ c. c == club) (order_of profile (started_of later) roster) found.0 club found.1 (eq_yes _ _ found.2)
 
-  through : (club : ℕ) → IsSlot club → rivals (matches_of board) club ≤ 1 → is_in (take 2 (order_of profile later roster)) club ≡ true
+  through : (club : ℕ) → IsSlot club → rivals (matches_of board) club ≤ 1 → is_in (take 2 (order_of profile (started_of later) roster)) club ≡ true
   unfolding final_points reaches
   through club slot few =
       let key : ℕ → ℕ = final_points later in
@@ -216,11 +217,12 @@ module _ (profile : Profile) (board later : List ℕ) (done : IsCompletion board
       let fewer : count_by (reaches key club) all_clubs ≤ count_by rival all_clubs =
       count-le (reaches key club) rival all_clubs
       (λ k d h. reach_weaker (key club) (key (get_or all_clubs k d)) (sure_points (matches_of board) club) (reach (matches_of board) (get_or all_clubs k d)) (not (get_or all_clubs k d == club)) (low club) (high (get_or all_clubs k d))) in
-      let same : count_by (reaches key club) (order_of profile later roster) ≡ count_by (reaches key club) all_clubs = sum_by-IsPermutation _ _ _ (IsPermutation-order profile later roster) in
-      let long : length (order_of profile later roster) ≡ 4 = length_permutation _ _ (IsPermutation-order profile later roster) in
-      in_first_two key club (order_of profile later roster) long (order_falls profile later roster) (member club slot) (le_from _ _ _ same fewer few)
+      let same : count_by (reaches key club) (order_of profile (started_of later) roster) ≡ count_by (reaches key club) all_clubs =
+      sum_by-IsPermutation _ _ _ (IsPermutation-order profile later roster) in
+      let long : length (order_of profile (started_of later) roster) ≡ 4 = length_permutation _ _ (IsPermutation-order profile later roster) in
+      in_first_two key club (order_of profile (started_of later) roster) long (order_falls profile later roster) (member club slot) (le_from _ _ _ same fewer few)
 
-  out : (club : ℕ) → 2 ≤ out_of_reach (matches_of board) club → is_in (take 2 (order_of profile later roster)) club ≡ false
+  out : (club : ℕ) → 2 ≤ out_of_reach (matches_of board) club → is_in (take 2 (order_of profile (started_of later) roster)) club ≡ false
   unfolding final_points passes
   out club many =
       let key : ℕ → ℕ = final_points later in
@@ -228,14 +230,15 @@ module _ (profile : Profile) (board later : List ℕ) (done : IsCompletion board
       let more : count_by gone all_clubs ≤ count_by (passes key club) all_clubs =
       count-le gone (passes key club) all_clubs
       (λ k d h. pass_stronger (key club) (key (get_or all_clubs k d)) (reach (matches_of board) club) (sure_points (matches_of board) (get_or all_clubs k d)) (not (get_or all_clubs k d == club)) (high club) (low (get_or all_clubs k d))) in
-      let same : count_by (passes key club) (order_of profile later roster) ≡ count_by (passes key club) all_clubs = sum_by-IsPermutation _ _ _ (IsPermutation-order profile later roster) in
-      not_in_first_two key club (order_of profile later roster) (order_falls profile later roster) (le_to _ _ _ same more many)
+      let same : count_by (passes key club) (order_of profile (started_of later) roster) ≡ count_by (passes key club) all_clubs =
+      sum_by-IsPermutation _ _ _ (IsPermutation-order profile later roster) in
+      not_in_first_two key club (order_of profile (started_of later) roster) (order_falls profile later roster) (le_to _ _ _ same more many)
 
   -- a club marked Plus goes through
   pub plus_is_certain : (club : ℕ) → IsSlot club → mark_of profile board roster club ≡ Plus → GoesThrough profile later roster club
   unfolding mark_of
   plus_is_certain club slot h =
-      through_if (order_of profile later roster) club (elim (plus_cases (list_all has_finished (matches_of board)) (is_in (take 2 (order_of profile board roster)) club) (nat_le (rivals (matches_of board) club) 1) (nat_le 2 (out_of_reach (matches_of board) club)) h) [
+      through_if (order_of profile (started_of later) roster) club (elim (plus_cases (list_all has_finished (matches_of board)) (is_in (take 2 (order_of profile (started_of board) roster)) club) (nat_le (rivals (matches_of board) club) 1) (nat_le 2 (out_of_reach (matches_of board) club)) h) [
         | inl (all, now) ↦ rw (same_order profile board later roster (unchanged board later done all)) now
         | inr few ↦ through club slot (le_read _ _ few)
       ])
@@ -244,7 +247,7 @@ module _ (profile : Profile) (board later : List ℕ) (done : IsCompletion board
   pub minus_is_certain : (club : ℕ) → mark_of profile board roster club ≡ Minus → GoesThrough profile later roster club → ⊥
   unfolding mark_of
   minus_is_certain club h =
-      not_through_if (order_of profile later roster) club (elim (minus_cases (list_all has_finished (matches_of board)) (is_in (take 2 (order_of profile board roster)) club) (nat_le (rivals (matches_of board) club) 1) (nat_le 2 (out_of_reach (matches_of board) club)) h) [
+      not_through_if (order_of profile (started_of later) roster) club (elim (minus_cases (list_all has_finished (matches_of board)) (is_in (take 2 (order_of profile (started_of board) roster)) club) (nat_le (rivals (matches_of board) club) 1) (nat_le 2 (out_of_reach (matches_of board) club)) h) [
         | inl (all, now) ↦ rw (same_order profile board later roster (unchanged board later done all)) now
         | inr many ↦ out club (le_read _ _ many)
       ])

@@ -1,5 +1,5 @@
 -- What each club has, gathered in one pass over the matches.
-use Rattle.std.proofs.Common.{◌≡◌, ◌≢◌, ℕ, zero, suc, ◌+◌, ◌-◌, ◌<◌, ◌==◌, if◌then◌else◌, Option, Some, None, List, [], ◌∷◌, length, get_or, set, take, map, refl, ◌∙◌, arith, All}
+use Rattle.std.proofs.Common.{◌≡◌, ◌≢◌, ℕ, zero, suc, ◌+◌, ◌-◌, ◌<◌, ◌==◌, if◌then◌else◌, Option, Some, None, List, [], ◌∷◌, ◌++◌, length, get_or, set, map, refl, ◌∙◌, arith, All}
 use Rattle.std.proofs.lemmas.List.{get_or-set_other}
 use Rattle.std.proofs.lemmas.List.Elements.{All-cons, All-map, All-nil, All-set}
 use Rattle.ucl_board.specs.Fixtures.{IsSlot, match_numbers}
@@ -12,7 +12,7 @@ use Rattle.ucl_order.specs.Results.{results_of}
 use Rattle.ucl_order.specs.Code.Counting.{with_match, IsWithin}
 use Rattle.ucl_order.specs.Order.{all_clubs}
 use Rattle.ucl_order.specs.Code.Rounds.{results_of_clubs}
-use Rattle.ucl_order.proofs.OneMatchMore.{results_more, results_same, within_later}
+use Rattle.ucl_order.proofs.OneMatchMore.{push_more, push_same, within_later}
 
 -- A list with a place for each club, in which two clubs have one match more. --
 
@@ -62,18 +62,18 @@ abbrev with_seen : Results → Option Appearance → Results
 with_seen r None = r
 with_seen r (Some a) = with_match r a
 
-module _ (ms : List Match) (i : ℕ) (d : Match) (h : i < length ms) where
-  next_of : (club : ℕ) (seen : Option Appearance) → seen ≡ seen_by club (get_or ms i d) → with_seen (results_of club (take i ms)) seen ≡ results_of club (take (i + 1) ms)
-  next_of club None e = results_same club ms i d (results_of club (take i ms)) h refl e
-  next_of club (Some a) e = results_more club ms i d a (results_of club (take i ms)) (with_match (results_of club (take i ms)) a) h refl e refl
+module _ (ms : List Match) (m : Match) where
+  next_of : (club : ℕ) (seen : Option Appearance) → seen ≡ seen_by club m → with_seen (results_of club ms) seen ≡ results_of club (ms ++ m ∷ [])
+  next_of club None e = push_same club ms m e
+  next_of club (Some a) e = push_more club ms m a e
 
-  pub clubs_more : (e f : Results) (before after : List Results) (p q : ℕ) (home away : Results) → IsPairing (get_or ms i d) → before ≡ results_of_clubs (take i ms) →
-      p ≡ (get_or ms i d).home - 1 → home ≡ with_match (get_or before p e) (seen_from_home (get_or ms i d)) →
-      q ≡ (get_or ms i d).away - 1 → away ≡ with_match (get_or (set before p home) q f) (seen_from_away (get_or ms i d)) → after ≡ set (set before p home) q away →
-      after ≡ results_of_clubs (take (i + 1) ms)
+  pub clubs_more : (e f : Results) (before after : List Results) (p q : ℕ) (home away : Results) → IsPairing m → before ≡ results_of_clubs ms →
+      p ≡ m.home - 1 → home ≡ with_match (get_or before p e) (seen_from_home m) →
+      q ≡ m.away - 1 → away ≡ with_match (get_or (set before p home) q f) (seen_from_away m) → after ≡ set (set before p home) q away →
+      after ≡ results_of_clubs (ms ++ m ∷ [])
   clubs_more e f before after p q home away pair is at_p is_home at_q is_away is_after =
-      lists_more Results with_seen (λ r. refl) (λ c. results_of c (take i ms)) (λ c. results_of c (take (i + 1) ms)) (get_or ms i d) e f before after p q home away pair
-      (λ c. next_of c (seen_by c (get_or ms i d)) refl) is at_p is_home at_q is_away is_after
+      lists_more Results with_seen (λ r. refl) (λ c. results_of c ms) (λ c. results_of c (ms ++ m ∷ [])) m e f before after p q home away pair
+      (λ c. next_of c (seen_by c m) refl) is at_p is_home at_q is_away is_after
 
 -- nothing is within no match
 pub nothing_within : (none : Results) → IsWithin 0 none → All (IsWithin 0) (none ∷ none ∷ none ∷ none ∷ [])

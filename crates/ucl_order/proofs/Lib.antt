@@ -18,6 +18,8 @@ pub mod KeysFit
 pub mod Sets
 pub mod Alone
 pub mod Rounds
+pub mod LevelMatches
+pub mod SmallKeys
 pub mod SortedClubs
 pub mod MarkFacts
 pub mod Unsigned

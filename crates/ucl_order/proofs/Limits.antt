@@ -12,7 +12,7 @@ use Rattle.ucl_order.specs.declared.game.Match.{Match}
 use Rattle.ucl_order.specs.declared.game.Appearance.{Appearance}
 use Rattle.ucl_order.specs.declared.mark.Mark.{Mark}
 use Rattle.ucl_order.specs.Roster.{NamedClub}
-use Rattle.ucl_order.specs.Matches.{has_started, started, matches_of}
+use Rattle.ucl_order.specs.Matches.{has_started, matches_of, started_of}
 use Rattle.ucl_order.specs.Appearances.{seen_by, is_won, is_drawn, is_lost}
 use Rattle.ucl_order.specs.Results.{appearances, played, wins, draws, losses, points, goals_for, goals_against}
 use Rattle.ucl_order.specs.Order.{all_clubs, order_of}
@@ -136,9 +136,9 @@ within_table place slot mark ms is_slot valid most =
       points = omega arith;
     }
 
-at_most_six : (board : List ℕ) (club : ℕ) → IsSlot club → played club (started (matches_of board)) ≤ 6
+at_most_six : (board : List ℕ) (club : ℕ) → IsSlot club → played club (started_of board) ≤ 6
 at_most_six board club slot =
-    let some : played club (started (matches_of board)) ≤ played club (matches_of board) = played-filter has_started club (matches_of board) in
+    let some : played club (started_of board) ≤ played club (matches_of board) = played-filter has_started club (matches_of board) in
     let all : played club (matches_of board) ≡ 6 = six board club slot in
     omega arith
 
@@ -146,10 +146,10 @@ module _ (profile : Profile) (board : List ℕ) (roster : List NamedClub) (valid
   row_within : (place : ℕ) → 1 ≤ place → place ≤ 4 → IsWithinTable (row_of profile board roster place)
   unfolding row_of
   row_within place low high =
-      let order : List ℕ = order_of profile board roster in
+      let order : List ℕ = order_of profile (started_of board) roster in
       let long : length order ≡ 4 = length_permutation _ _ (IsPermutation-order profile board roster) in
       let slot : IsSlot (slice_index order (place - 1)) = All-permutation IsSlot all_clubs order (IsPermutation-order profile board roster) slots (place - 1) 0 (omega arith) in
-      within_table place (slice_index order (place - 1)) _ (started (matches_of board)) slot (All-filter has_started (λ m. IsValid m.result) (matches_of board) valid) (at_most_six board (slice_index order (place - 1)) slot)
+      within_table place (slice_index order (place - 1)) _ (started_of board) slot (All-filter has_started (λ m. IsValid m.result) (matches_of board) valid) (at_most_six board (slice_index order (place - 1)) slot)
 
   pub rows_within : All IsWithinTable (rows_of profile board roster)
   rows_within zero d h = row_within 1 (omega arith) (omega arith)

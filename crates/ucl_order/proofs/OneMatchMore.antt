@@ -19,7 +19,7 @@ use Rattle.ucl_order.specs.Code.Counting.{with_match, IsWithin, seen_among}
 use Rattle.ucl_order.specs.Order.{among, is_in}
 
 -- the same of matches as the club saw them
-totals : List Appearance → Results
+pub totals : List Appearance → Results
 totals games = record {
   played = length games;
   wins = count_by is_won games;
@@ -61,7 +61,7 @@ totals_push games a =
       both a.is_away (is_won a),
     )
 
-results_are : (club : ℕ) (ms : List Match) → results_of club ms ≡ totals (appearances club ms)
+pub results_are : (club : ℕ) (ms : List Match) → results_of club ms ≡ totals (appearances club ms)
 unfolding results_of totals
 results_are club ms = refl
 
@@ -86,6 +86,18 @@ results_more club ms i d a before after h is seen next =
 -- ... and one in which it does not
 pub results_same : (club : ℕ) (ms : List Match) (i : ℕ) (d : Match) (before : Results) → i < length ms → before ≡ results_of club (take i ms) → None ≡ seen_by club (get_or ms i d) → before ≡ results_of club (take (i + 1) ms)
 results_same club ms i d before h is seen = is ∙ results_are club (take i ms) ∙ sym (ap totals (not_seen (seen_by club) ms i d h seen)) ∙ sym (results_are club (take (i + 1) ms))
+
+-- a match more at the end of a list: one in which the club plays
+pub push_more : (club : ℕ) (ms : List Match) (m : Match) (a : Appearance) → Some a ≡ seen_by club m → with_match (results_of club ms) a ≡ results_of club (ms ++ m ∷ [])
+push_more club ms m a seen =
+    let next : appearances club (ms ++ m ∷ []) ≡ appearances club ms ++ a ∷ [] = rw (filter_map-append (seen_by club) ms (m ∷ []), ← seen) in
+    ap (λ r. with_match r a) (results_are club ms) ∙ totals_push (appearances club ms) a ∙ sym (ap totals next) ∙ sym (results_are club (ms ++ m ∷ []))
+
+-- ... and one in which it does not
+pub push_same : (club : ℕ) (ms : List Match) (m : Match) → None ≡ seen_by club m → results_of club ms ≡ results_of club (ms ++ m ∷ [])
+push_same club ms m seen =
+    let next : appearances club (ms ++ m ∷ []) ≡ appearances club ms = rw (filter_map-append (seen_by club) ms (m ∷ []), ← seen) (append-nil (appearances club ms)) in
+    results_are club ms ∙ sym (ap totals next) ∙ sym (results_are club (ms ++ m ∷ []))
 
 -- The same over the matches among some clubs. --
 

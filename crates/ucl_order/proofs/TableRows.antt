@@ -7,8 +7,8 @@ use Rattle.ucl_order.specs.declared.game.Match.{Match}
 use Rattle.ucl_order.specs.declared.mark.Mark.{Mark}
 use Rattle.ucl_order.specs.declared.table.Row.{Row}
 use Rattle.ucl_order.specs.Roster.{NamedClub}
-use Rattle.ucl_order.specs.Matches.{matches_of, started}
-use Rattle.ucl_order.specs.Order.{order_of, order_by}
+use Rattle.ucl_order.specs.Matches.{matches_of, started, started_of}
+use Rattle.ucl_order.specs.Order.{order_of}
 use Rattle.ucl_order.specs.Marks.{mark_by, mark_of}
 use Rattle.ucl_order.specs.Rows.{IsWithinTable, MarkIsCertain, row_of, row_with, rows_of}
 use Rattle.ucl_order.proofs.Completions.{plus_is_certain, minus_is_certain}
@@ -18,11 +18,11 @@ pub row_is : (place n : ℕ) (order : List ℕ) (ms now : List Match) (mark : Ma
     r ≡ row_with place (slice_index order (place - 1)) (mark_by ms order (slice_index order (place - 1))) (started ms)
 row_is place n order ms now mark r is_n is_now is_mark is = rw (is, is_mark, is_now, is_n)
 
-pub order_is : (profile : Profile) (board : List ℕ) (roster : List NamedClub) (now : List Match) (order : List ℕ) → now ≡ started (matches_of board) → order ≡ order_by profile now roster → order ≡ order_of profile board roster
-unfolding order_of order_by
+pub order_is : (profile : Profile) (board : List ℕ) (roster : List NamedClub) (now : List Match) (order : List ℕ) → now ≡ started_of board → order ≡ order_of profile now roster → order ≡ order_of profile (started_of board) roster
+unfolding order_of
 order_is profile board roster now order is_now is = rw (is, is_now)
 
-pub row_of_place : (profile : Profile) (board : List ℕ) (roster : List NamedClub) (place : ℕ) (ms given : List Match) (order : List ℕ) (r : Row) → ms ≡ matches_of board → given ≡ ms → order ≡ order_of profile board roster →
+pub row_of_place : (profile : Profile) (board : List ℕ) (roster : List NamedClub) (place : ℕ) (ms given : List Match) (order : List ℕ) (r : Row) → ms ≡ matches_of board → given ≡ ms → order ≡ order_of profile (started_of board) roster →
     r ≡ row_with place (slice_index order (place - 1)) (mark_by given order (slice_index order (place - 1))) (started given) → r ≡ row_of profile board roster place
 unfolding row_of mark_of
 row_of_place profile board roster place ms given order r is_ms is_given is_order is = rw (is, is_given, is_ms, is_order)

@@ -16,7 +16,7 @@ use Rattle.ucl_order.specs.Roster.{NamedClub}
 use Rattle.ucl_order.specs.Matches.{has_started, has_finished, started, finished, unfinished, match_at, matches_of}
 use Rattle.ucl_order.specs.Appearances.{seen_by}
 use Rattle.ucl_order.specs.Results.{appearances}
-use Rattle.ucl_order.specs.Order.{among, is_in, by_points, by_profile, head_to_head, overall, split, is_one_class, settled_within, settled, all_clubs, order_of, order_by}
+use Rattle.ucl_order.specs.Order.{among, is_in, by_points, by_profile, head_to_head, overall, split, is_one_class, settled_within, settled, all_clubs, order_of}
 use Rattle.ucl_order.specs.Marks.{sure_points, matches_left, is_rival, is_out_of_reach, rivals, out_of_reach, mark_by, mark_of}
 use Rattle.ucl_order.specs.Rows.{row_with, row_of, rows_of}
 
@@ -73,13 +73,13 @@ within_is profile (suc most) ms roster (a ∷ b ∷ clubs) =
     let again = fun_ext (λ (cs : List ℕ). within_is profile most ms roster cs) in
     λ i. if is_one_class (heads i) tied then flat_map (λ class. class) (split (overall_is ms roster i) tied) else flat_map (again i) (split (heads i) tied)
 
-order_is : (profile : Profile) (roster : List NamedClub) (ms : List Match) → order_by profile (map forgotten ms) roster ≡ order_by profile ms roster
-unfolding order_by
+order_is : (profile : Profile) (roster : List NamedClub) (ms : List Match) → order_of profile (map forgotten ms) roster ≡ order_of profile ms roster
+unfolding order_of
 order_is profile roster ms =
     let tied : settled profile (map forgotten ms) roster ≡ settled profile ms roster = fun_ext (λ (clubs : List ℕ). within_is profile (length clubs) ms roster clubs) in
     λ i. flat_map (tied i) (split (points_are ms i) all_clubs)
 
-order_of_started : (profile : Profile) (roster : List NamedClub) (ms : List Match) → order_by profile (started (map forgotten ms)) roster ≡ order_by profile (started ms) roster
+order_of_started : (profile : Profile) (roster : List NamedClub) (ms : List Match) → order_of profile (started (map forgotten ms)) roster ≡ order_of profile (started ms) roster
 order_of_started profile roster ms = rw (kept has_started (λ m. refl) ms) (order_is profile roster (started ms))
 
 -- The marks. --
@@ -119,7 +119,7 @@ abbrev row_by : List Match → List ℕ → ℕ → Row
 row_by ms order place = let slot = slice_index order (place - 1) in row_with place slot (mark_by ms order slot) (started ms)
 
 abbrev rows_by : Profile → List NamedClub → List Match → List Row
-rows_by profile roster ms = map (row_by ms (order_by profile (started ms) roster)) (1 ∷ 2 ∷ 3 ∷ 4 ∷ [])
+rows_by profile roster ms = map (row_by ms (order_of profile (started ms) roster)) (1 ∷ 2 ∷ 3 ∷ 4 ∷ [])
 
 row_by_is : (ms : List Match) (order : List ℕ) → row_by (map forgotten ms) order ≡ row_by ms order
 row_by_is ms order = fun_ext (λ (place : ℕ).
@@ -130,7 +130,7 @@ row_by_is ms order = fun_ext (λ (place : ℕ).
 rows_are : (profile : Profile) (roster : List NamedClub) (ms : List Match) → rows_by profile roster (map forgotten ms) ≡ rows_by profile roster ms
 rows_are profile roster ms =
     ap (λ (order : List ℕ). map (row_by (map forgotten ms) order) (1 ∷ 2 ∷ 3 ∷ 4 ∷ [])) (order_of_started profile roster ms)
-    ∙ ap (λ (row : ℕ → Row). map row (1 ∷ 2 ∷ 3 ∷ 4 ∷ [])) (row_by_is ms (order_by profile (started ms) roster))
+    ∙ ap (λ (row : ℕ → Row). map row (1 ∷ 2 ∷ 3 ∷ 4 ∷ [])) (row_by_is ms (order_of profile (started ms) roster))
 
 rows_of_matches : (profile : Profile) (roster : List NamedClub) (board : List ℕ) → rows_of profile board roster ≡ rows_by profile roster (matches_of board)
 unfolding order_of mark_of row_of

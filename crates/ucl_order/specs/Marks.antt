@@ -9,8 +9,8 @@ use Rattle.ucl_order.specs.declared.mark.Mark.{Mark}
 use Rattle.ucl_order.specs.declared.mark.Mark.TheVariants.{Plus, Minus, Blank}
 use Rattle.ucl_order.specs.declared.profile.Profile.{Profile}
 use Rattle.ucl_order.specs.Roster.{NamedClub}
-use Rattle.ucl_order.specs.Matches.{matches_of, has_finished, finished, unfinished}
-use Rattle.ucl_order.specs.Results.{played, points}
+use Rattle.ucl_order.specs.Matches.{matches_of, has_finished, finished, unfinished, started_of}
+use Rattle.ucl_order.specs.Results.{played, points, points_of_win}
 use Rattle.ucl_order.specs.Order.{is_in, all_clubs, order_of}
 
 -- the points from finished matches
@@ -23,7 +23,7 @@ matches_left ms club = played club (unfinished ms)
 
 -- the points that the club has if it wins each match that it has left
 abbrev pub reach : List Match → ℕ → ℕ
-reach ms club = sure_points ms club + 3 * matches_left ms club
+reach ms club = sure_points ms club + points_of_win * matches_left ms club
 
 -- another club can reach the club's points
 abbrev pub is_rival : List Match → ℕ → ℕ → Bool
@@ -52,11 +52,11 @@ mark_by ms order club = if list_all has_finished ms then final_mark order club e
 
 -- the mark of a club
 unfoldable pub mark_of : Profile → List ℕ → List NamedClub → ℕ → Mark
-mark_of profile board roster club = mark_by (matches_of board) (order_of profile board roster) club
+mark_of profile board roster club = mark_by (matches_of board) (order_of profile (started_of board) roster) club
 
 -- the club is among the first two of the order
 abbrev pub GoesThrough : Profile → List ℕ → List NamedClub → ℕ → Type 0
-GoesThrough profile board roster club = Contains (take 2 (order_of profile board roster)) club
+GoesThrough profile board roster club = Contains (take 2 (order_of profile (started_of board) roster)) club
 
 -- how a group may end: all matches are finished, each with some valid record, and those that were finished stay as they are
 pub record IsCompletion (board later : List ℕ) : Type 0 where

@@ -27,6 +27,10 @@ IsPairing m = IsSlot m.home × IsSlot m.away × (m.home ≢ m.away)
 abbrev pub started : List Match → List Match
 started ms = filter has_started ms
 
+-- those of a board
+abbrev pub started_of : List ℕ → List Match
+started_of board = started (matches_of board)
+
 abbrev pub finished : List Match → List Match
 finished ms = filter has_finished ms
 

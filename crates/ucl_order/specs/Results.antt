@@ -26,9 +26,13 @@ draws club ms = count_by is_drawn (appearances club ms)
 abbrev pub losses : ℕ → List Match → ℕ
 losses club ms = count_by is_lost (appearances club ms)
 
--- three for a win, one for a draw
+-- the points for a win
+abbrev pub points_of_win : ℕ
+points_of_win = 3
+
+-- and one for a draw
 abbrev pub points_for : ℕ → ℕ → ℕ
-points_for wins draws = 3 * wins + draws
+points_for wins draws = points_of_win * wins + draws
 
 abbrev pub points : ℕ → List Match → ℕ
 points club ms = points_for (wins club ms) (draws club ms)

@@ -7,7 +7,7 @@ use Rattle.ucl_order.specs.declared.mark.Mark.TheVariants.{Plus, Minus}
 use Rattle.ucl_order.specs.declared.profile.Profile.{Profile}
 use Rattle.ucl_order.specs.declared.table.Row.{Row}
 use Rattle.ucl_order.specs.Roster.{NamedClub}
-use Rattle.ucl_order.specs.Matches.{matches_of, started}
+use Rattle.ucl_order.specs.Matches.{started_of}
 use Rattle.ucl_order.specs.Results.{played, wins, draws, losses, goals_for, goals_against, points}
 use Rattle.ucl_order.specs.Order.{order_of}
 use Rattle.ucl_order.specs.Marks.{IsCompletion, GoesThrough, mark_of}
@@ -29,13 +29,13 @@ row_with place slot mark ms = record {
 
 -- the club at a place of the order
 abbrev pub club_at : Profile → List ℕ → List NamedClub → ℕ → ℕ
-club_at profile board roster place = slice_index (order_of profile board roster) (place - 1)
+club_at profile board roster place = slice_index (order_of profile (started_of board) roster) (place - 1)
 
 -- the row at a place: the club's mark, and what it has done in the matches in play and finished
 unfoldable pub row_of : Profile → List ℕ → List NamedClub → ℕ → Row
 row_of profile board roster place =
     let slot = club_at profile board roster place in
-    row_with place slot (mark_of profile board roster slot) (started (matches_of board))
+    row_with place slot (mark_of profile board roster slot) (started_of board)
 
 -- the table of a board and a roster, by place, in the order of the profile
 abbrev pub rows_of : Profile → List ℕ → List NamedClub → List Row

@@ -3,6 +3,7 @@
 ghost use Rattle.std.specs.Prelude.{◌≡◌, ◌≤◌, [], All, length};
 ghost use Rattle.ucl_word.specs.Record.{IsValid};
 ghost use Rattle.ucl_order.specs.Code.Counting.{point_bounds, worth, seen_among};
+ghost use Rattle.ucl_order.specs.Code.Rounds.{is_level};
 ghost use Rattle.ucl_order.specs.Keys.{slots_in};
 ghost use Rattle.ucl_order.specs.Order.{is_in};
 ghost use Rattle.ucl_order.specs.Matches.{IsPairing, has_finished, has_started, matches_of, started};
@@ -13,7 +14,7 @@ use ucl_board::{Board, away_of, home_of};
 use ucl_word::{MatchNo, MatchRecord, State};
 
 /// The points for a win.
-const WIN: u8 = 3;
+pub(crate) const WIN: u8 = 3;
 
 /// A match of the group: the slots of its clubs, and what is known of it.
 #[derive(Clone, Copy, Debug, Default, PartialEq, Eq)]
@@ -99,6 +100,14 @@ impl Match {
             State::Scheduled => false,
             State::InPlay | State::Finished => true,
         }
+    }
+
+    /// Whether the match is in play or finished, and its two clubs have the same key.
+    pub(crate) fn is_level(&self, keys: &[u64; 4]) -> bool
+        requires { IsPairing self.now }
+        ensures { result ≡ is_level keys.now self.now }
+    {
+        self.has_started() && keys[usize::from(self.home - 1)] == keys[usize::from(self.away - 1)]
     }
 
     /// Whether the match is finished.

@@ -1,14 +1,15 @@
 //! What a club has done.
 
-ghost use Rattle.std.specs.Prelude.{◌≡◌, ℕ, ◌≤◌, ◌+◌, ◌*◌, All, length};
-ghost use Rattle.ucl_order.specs.Matches.{IsPairing};
+ghost use Rattle.std.specs.Prelude.{◌≡◌, ℕ, ◌≤◌, ◌+◌, ◌*◌, ◌++◌, ◌∷◌, [], All, List, length};
+ghost use Rattle.ucl_order.specs.declared.game.Match.{Match};
+ghost use Rattle.ucl_order.specs.Matches.{IsPairing, started};
 ghost use Rattle.ucl_order.specs.Results.{points_for, results_of};
 ghost use Rattle.ucl_order.specs.Code.Counting.{IsWithin, with_match};
 ghost use Rattle.ucl_order.specs.Keys.{slots_in};
 ghost use Rattle.ucl_order.specs.Order.{among};
-ghost use Rattle.ucl_order.specs.Code.Rounds.{results_of_clubs};
+ghost use Rattle.ucl_order.specs.Code.Rounds.{level_matches, results_of_clubs};
 
-use crate::game::{Appearance, Match};
+use crate::game::{Appearance, Match, WIN};
 
 /// What a club has done in some matches.
 #[derive(Clone, Copy, Debug, PartialEq, Eq)]
@@ -88,19 +89,43 @@ impl Results {
         results
     }
 
-    /// What each club has done in these matches.
-    pub(crate) fn of_clubs(matches: &[Match]) -> [Results; 4]
+    /// Counts one match more for its two clubs.
+    fn add_match(results: &mut [Results; 4], game: &Match)
+        requires pairing { IsPairing game.now }
+        requires few { All (IsWithin 11) results.old }
+        ensures value { (matches : List Match) → results.old ≡ results_of_clubs matches
+            → results.new ≡ results_of_clubs (matches ++ game.now ∷ []) }
+        ensures within { (n : ℕ) → All (IsWithin n) results.old
+            → All (IsWithin (n + 1)) results.new }
+    {
+        results[usize::from(game.home - 1)].add(&game.seen_from_home());
+        results[usize::from(game.away - 1)].add(&game.seen_from_away());
+    }
+
+    /// What each club has done in those matches in play and finished whose two clubs have the same key.
+    pub(crate) fn of_level(keys: &[u64; 4], matches: &[Match]) -> [Results; 4]
         requires short { length matches.now ≤ 12 }
         requires pairings { All IsPairing matches.now }
-        ensures value { result ≡ results_of_clubs matches.now }
+        ensures value { result ≡ results_of_clubs (level_matches keys.now matches.now) }
         ensures few { All (IsWithin 12) result }
     {
         let mut results = [Results::NONE; 4];
         for game in matches {
-            results[usize::from(game.home - 1)].add(&game.seen_from_home());
-            results[usize::from(game.away - 1)].add(&game.seen_from_away());
+            if game.is_level(keys) {
+                Results::add_match(&mut results, game);
+            }
         }
         results
+    }
+
+    /// What each club has done in the matches in play and finished: before the first criterion all four are level.
+    pub(crate) fn of_clubs(matches: &[Match]) -> [Results; 4]
+        requires short { length matches.now ≤ 12 }
+        requires pairings { All IsPairing matches.now }
+        ensures value { result ≡ results_of_clubs (started matches.now) }
+        ensures few { All (IsWithin 12) result }
+    {
+        Results::of_level(&[0; 4], matches)
     }
 
     /// Three for a win, one for a draw.
@@ -109,6 +134,6 @@ impl Results {
         ensures value { result ≡ points_for self.now.wins self.now.draws }
         ensures few { result ≤ 48 }
     {
-        3 * self.wins + self.draws
+        WIN * self.wins + self.draws
     }
 }

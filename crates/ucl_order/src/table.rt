@@ -10,7 +10,7 @@ ghost use Rattle.ucl_order.specs.Results.{results_of};
 ghost use Rattle.ucl_order.specs.Code.Rounds.{results_of_clubs};
 ghost use Rattle.ucl_order.specs.Rows.{IsWithinTable, MarkIsCertain, row_with, rows_of};
 
-use crate::game::{fill_matches, fill_started};
+use crate::game::fill_matches;
 use crate::mark::{Mark, marks_of};
 use crate::order::order;
 use crate::profile::Profile;
@@ -101,10 +101,8 @@ pub fn standings(board: &Board, roster: &Roster, profile: Profile) -> [Row; 4]
 {
     let mut matches = ArrayVec::new();
     fill_matches(board, &mut matches);
-    let mut started = ArrayVec::new();
-    fill_started(&matches, &mut started);
-    let results = Results::of_clubs(&started);
-    let order = order(&started, &results, roster, profile);
+    let results = Results::of_clubs(&matches);
+    let order = order(&matches, &results, roster, profile);
     let marks = marks_of(&matches, &order);
     [
         row_at(1, &order, &marks, &results),

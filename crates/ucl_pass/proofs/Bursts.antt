@@ -31,7 +31,8 @@ use Rattle.ucl_steps.proofs.OneStep.{steps_append, IsNow, passes_on}
 use Rattle.ucl_steps.proofs.ActorRuns.{Burst, one_turn}
 use Rattle.ucl_steps.proofs.PassSteps.{Turn, turn_look, turn_swapped, turn_begins, turn_first, turn_again, turn_clean}
 
-turns_on : (seat number : ℕ) (w : MachineState) (c : Caller) (m : Access) (d e : Doing) (entries : List Entry) (t : Turn seat number w c m d []) → Burst seat number t.last c e entries → Burst seat number w c e entries
+turns_on : (seat number : ℕ) (w : MachineState) (c : Caller) (m : Access) (d e : Doing) (entries : List Entry) (t : Turn seat number w c m d []) → Burst seat number t.last c e entries
+    → Burst seat number w c e entries
 turns_on seat number w c m d e entries t u = record {
   moves = t.move ∷ u.moves;
   last = u.last;
@@ -54,7 +55,8 @@ abbrev copied_at : List ℕ → ℕ → Doing → Doing
 copied_at words now d = ends Reading (Copied (reading_of words)) d.begun now d
 
 module _ (cast : Cast) (seat number : ℕ) (words : List ℕ) (point now : ℕ) where
-  seconds_all : (n : ℕ) (steps : List Step) (w : MachineState) (run : after_steps steps (initial_state cast) ≡ Some w) (d : Doing) (f : FitsRun w seat number d) (k : ℕ) → k + n ≡ 11 → d.held ≡ Checking words k point → words ≡ board_of w.history
+  seconds_all : (n : ℕ) (steps : List Step) (w : MachineState) (run : after_steps steps (initial_state cast) ≡ Some w) (d : Doing) (f : FitsRun w seat number d) (k : ℕ) → k + n ≡ 11
+      → d.held ≡ Checking words k point → words ≡ board_of w.history
       → length w.history ≡ now → Burst seat number w (Reader (seat + 1)) (copied_at words now d) []
   seconds_all zero steps w run d f k at held is place =
       let m : Access = access log.Second (k + 1) (slice_index words k) (length w.history) in
@@ -64,10 +66,12 @@ module _ (cast : Cast) (seat number : ℕ) (words : List ℕ) (point now : ℕ) 
   seconds_all (suc n) steps w run d f k at held is place =
       let m : Access = access log.Second (k + 1) (slice_index words k) (length w.history) in
       let e : Doing = goes d.begun (Checking words (k + 1) point) d in
-      let t : Turn seat number w (Reader (seat + 1)) m e [] = turn_again cast seat number steps w run d f m (now_there log.Second w words k (omega arith) is) words k point held (refl, refl) refl (λ z. omega arith) in
+      let t : Turn seat number w (Reader (seat + 1)) m e [] =
+      turn_again cast seat number steps w run d f m (now_there log.Second w words k (omega arith) is) words k point held (refl, refl) refl (λ z. omega arith) in
       let same = t.history ∙ append-nil w.history in
       turns_on seat number w (Reader (seat + 1)) m e (copied_at words now d) [] t
-      (seconds_all n (steps ++ steps_of_move t.move) t.last (steps_append steps (steps_of_move t.move) (initial_state cast) w run ∙ t.run) e t.fits (k + 1) (omega arith) refl (is ∙ ap board_of (sym same)) (ap length same ∙ place))
+      (seconds_all n (steps ++ steps_of_move t.move) t.last (steps_append steps (steps_of_move t.move) (initial_state cast) w run ∙ t.run) e t.fits (k + 1) (omega arith) refl
+      (is ∙ ap board_of (sym same)) (ap length same ∙ place))
 
 -- the words of a list, one by one
 take_next : (ws : List ℕ) (k : ℕ) → k < length ws → take k ws ++ slice_index ws k ∷ [] ≡ take (k + 1) ws
@@ -76,7 +80,8 @@ take_next (x ∷ ws) zero less = refl
 take_next (x ∷ ws) (suc k) less = let e : suc (k + 1) ≡ suc k + 1 = omega arith in ap (λ (l : List ℕ). x ∷ l) (take_next ws k (omega arith)) ∙ ap (λ (j : ℕ). take j (x ∷ ws)) e
 
 module _ (cast : Cast) (seat number : ℕ) (words : List ℕ) (now : ℕ) (twelve : length words ≡ 12) where
-  module _ (steps : List Step) (w : MachineState) (run : after_steps steps (initial_state cast) ≡ Some w) (d : Doing) (f : FitsRun w seat number d) (k : ℕ) (less : k < 12) (held : d.held ≡ Collecting (take k words)) (is : words ≡ board_of w.history) (place : length w.history ≡ now) where
+  module _ (steps : List Step) (w : MachineState) (run : after_steps steps (initial_state cast) ≡ Some w) (d : Doing) (f : FitsRun w seat number d) (k : ℕ) (less : k < 12)
+      (held : d.held ≡ Collecting (take k words)) (is : words ≡ board_of w.history) (place : length w.history ≡ now) where
     abbrev next_first : Access
     next_first = access log.First (k + 1) (slice_index words k) (length w.history)
 
@@ -88,7 +93,8 @@ module _ (cast : Cast) (seat number : ℕ) (words : List ℕ) (now : ℕ) (twelv
         (subst (λ (l : List ℕ). Turn seat number w (Reader (seat + 1)) next_first (goes d.begun (collected l (length w.history)) d) []) (take_next words k (omega arith))
         (turn_first cast seat number steps w run d f next_first (now_there log.First w words k less is) (take k words) held (refl, ap (λ (j : ℕ). j + 1) (sym long))))
 
-  firsts_all : (n : ℕ) (steps : List Step) (w : MachineState) (run : after_steps steps (initial_state cast) ≡ Some w) (d : Doing) (f : FitsRun w seat number d) (k : ℕ) → k + n ≡ 11 → d.held ≡ Collecting (take k words) → words ≡ board_of w.history
+  firsts_all : (n : ℕ) (steps : List Step) (w : MachineState) (run : after_steps steps (initial_state cast) ≡ Some w) (d : Doing) (f : FitsRun w seat number d) (k : ℕ) → k + n ≡ 11
+      → d.held ≡ Collecting (take k words) → words ≡ board_of w.history
       → length w.history ≡ now → Burst seat number w (Reader (seat + 1)) (copied_at words now d) []
   firsts_all zero steps w run d f k at held is place =
       let e : Doing = goes d.begun (collected (take (k + 1) words) now) d in
@@ -97,9 +103,11 @@ module _ (cast : Cast) (seat number : ℕ) (words : List ℕ) (now : ℕ) (twelv
       let same = t.history ∙ append-nil w.history in
       let twelfth : k + 1 ≡ length words = omega (arith, twelve) in
       let all : take (k + 1) words ≡ words = ap (λ (j : ℕ). take j words) twelfth ∙ take-length words in
-      let held' : collected (take (k + 1) words) now ≡ Checking words 0 now = ap (λ (l : List ℕ). collected l now) all ∙ ap (λ (b : Bool). cond b (Checking words 0 now) (Collecting words)) (eq-eqb (length words) 12 twelve) in
+      let held' : collected (take (k + 1) words) now ≡ Checking words 0 now =
+      ap (λ (l : List ℕ). collected l now) all ∙ ap (λ (b : Bool). cond b (Checking words 0 now) (Collecting words)) (eq-eqb (length words) 12 twelve) in
       turns_on seat number w (Reader (seat + 1)) (next_first steps w run d f k less held is place) e (copied_at words now d) [] t
-      (seconds_all cast seat number words now now 11 (steps ++ steps_of_move t.move) t.last (steps_append steps (steps_of_move t.move) (initial_state cast) w run ∙ t.run) e t.fits 0 refl held' (is ∙ ap board_of (sym same)) (ap length same ∙ place))
+      (seconds_all cast seat number words now now 11 (steps ++ steps_of_move t.move) t.last (steps_append steps (steps_of_move t.move) (initial_state cast) w run ∙ t.run) e t.fits 0 refl held'
+      (is ∙ ap board_of (sym same)) (ap length same ∙ place))
   firsts_all (suc n) steps w run d f k at held is place =
       let e : Doing = goes d.begun (collected (take (k + 1) words) now) d in
       let less : k < 12 = omega arith in
@@ -109,10 +117,12 @@ module _ (cast : Cast) (seat number : ℕ) (words : List ℕ) (now : ℕ) (twelv
       let held' : collected (take (k + 1) words) now ≡ Collecting (take (k + 1) words) =
       ap (λ (b : Bool). cond b (Checking (take (k + 1) words) 0 now) (Collecting (take (k + 1) words))) (ne_eqb (length (take (k + 1) words)) 12 (λ z. omega arith)) in
       turns_on seat number w (Reader (seat + 1)) (next_first steps w run d f k less held is place) e (copied_at words now d) [] t
-      (firsts_all n (steps ++ steps_of_move t.move) t.last (steps_append steps (steps_of_move t.move) (initial_state cast) w run ∙ t.run) e t.fits (k + 1) (omega arith) held' (is ∙ ap board_of (sym same)) (ap length same ∙ place))
+      (firsts_all n (steps ++ steps_of_move t.move) t.last (steps_append steps (steps_of_move t.move) (initial_state cast) w run ∙ t.run) e t.fits (k + 1) (omega arith) held'
+      (is ∙ ap board_of (sym same)) (ap length same ∙ place))
 
   -- a whole reading at one place of the history: a load of all words at once
-  pub reading_at_once : (steps : List Step) (w : MachineState) (run : after_steps steps (initial_state cast) ≡ Some w) (d : Doing) (f : FitsRun w seat number d) → d.held ≡ Nothing → words ≡ board_of w.history → length w.history ≡ now
+  pub reading_at_once : (steps : List Step) (w : MachineState) (run : after_steps steps (initial_state cast) ≡ Some w) (d : Doing) (f : FitsRun w seat number d) → d.held ≡ Nothing
+      → words ≡ board_of w.history → length w.history ≡ now
       → Burst seat number w (Reader (seat + 1)) (ends Reading (Copied (reading_of words)) now now d) []
   reading_at_once steps w run d f none is place =
       let m : Access = access log.First 1 (slice_index words 0) (length w.history) in
@@ -123,10 +133,12 @@ module _ (cast : Cast) (seat number : ℕ) (words : List ℕ) (now : ℕ) (twelv
       (turn_begins cast seat number steps w run d f m (now_there log.First w words 0 (omega arith) is) none (refl, refl))) in
       let same = t.history ∙ append-nil w.history in
       turns_on seat number w (Reader (seat + 1)) m e (ends Reading (Copied (reading_of words)) now now d) [] t
-      (firsts_all 10 (steps ++ steps_of_move t.move) t.last (steps_append steps (steps_of_move t.move) (initial_state cast) w run ∙ t.run) e t.fits 1 refl refl (is ∙ ap board_of (sym same)) (ap length same ∙ place))
+      (firsts_all 10 (steps ++ steps_of_move t.move) t.last (steps_append steps (steps_of_move t.move) (initial_state cast) w run ∙ t.run) e t.fits 1 refl refl (is ∙ ap board_of (sym same))
+      (ap length same ∙ place))
 
 -- a whole report at one place of the history
-module _ (cast : Cast) (seat number : ℕ) (steps : List Step) (w : MachineState) (run : after_steps steps (initial_state cast) ≡ Some w) (d : Doing) (f : FitsRun w seat number d) (e : EventCall) (may : MayAsk number (Event e)) (none : d.held ≡ Nothing) where
+module _ (cast : Cast) (seat number : ℕ) (steps : List Step) (w : MachineState) (run : after_steps steps (initial_state cast) ≡ Some w) (d : Doing) (f : FitsRun w seat number d) (e : EventCall)
+    (may : MayAsk number (Event e)) (none : d.held ≡ Nothing) where
   -- what the machine finds there
   abbrev found_at : ℕ
   found_at = word_of (match_after w.history e.game)
@@ -134,12 +146,14 @@ module _ (cast : Cast) (seat number : ℕ) (steps : List Step) (w : MachineState
   abbrev looks_there : Access
   looks_there = access log.Look e.game found_at (length w.history)
 
-  looked_there : (o : Option Refusal) → refusal_of (record_at found_at) e.expected e.kind ≡ o → Turn seat number w (Reporter number) looks_there (done_by (Event e) (length w.history) (length w.history) (by_rules number e found_at o) d) []
+  looked_there : (o : Option Refusal) → refusal_of (record_at found_at) e.expected e.kind ≡ o
+      → Turn seat number w (Reporter number) looks_there (done_by (Event e) (length w.history) (length w.history) (by_rules number e found_at o) d) []
   looked_there o is = subst (λ (o : Option Refusal). Turn seat number w (Reporter number) looks_there (done_by (Event e) (length w.history) (length w.history) (by_rules number e found_at o) d) []) is
       (turn_look cast seat number steps w run d f looks_there (record { place = refl; found = refl }) e may none (refl, refl))
 
   -- which the rules refuse
-  pub refused_at_once : (refusal : Refusal) → refusal_of (record_at found_at) e.expected e.kind ≡ Some refusal → Burst seat number w (Reporter number) (ends (Event e) (Refused refusal) (length w.history) (length w.history) d) []
+  pub refused_at_once : (refusal : Refusal) → refusal_of (record_at found_at) e.expected e.kind ≡ Some refusal
+      → Burst seat number w (Reporter number) (ends (Event e) (Refused refusal) (length w.history) (length w.history) d) []
   refused_at_once refusal is = one_turn seat number w (Reporter number) looks_there (ends (Event e) (Refused refusal) (length w.history) (length w.history) d) [] (looked_there (Some refusal) is)
 
   -- or accept
@@ -168,6 +182,9 @@ module _ (cast : Cast) (seat number : ℕ) (steps : List Step) (w : MachineState
       subst (λ (n : ℕ). Burst seat number w (Reporter number) (answered n) (entry_of number e ∷ [])) (next_number is)
       (turns_on seat number w (Reporter number) looks_there on (answered (record_at next).number) (entry_of number e ∷ []) t
       (one_turn seat number t.last (Reporter number) swaps_there (answered (record_at next).number) (entry_of number e ∷ [])
-      (subst (λ (b : Bool). Turn seat number t.last (Reporter number) swaps_there (done_by (Event e) (length w.history) (length w.history + 1) (Answers (cond b (Accepted (record { number = (record_at next).number })) (Refused (Stale (record_at found_at).number)))) on) (entry_of number e ∷ []))
+      (subst (λ (b : Bool). Turn seat number t.last (Reporter number) swaps_there
+      (done_by (Event e) (length w.history) (length w.history + 1) (Answers (cond b (Accepted (record { number = (record_at next).number })) (Refused (Stale (record_at found_at).number)))) on)
+      (entry_of number e ∷ []))
       (eq-eqb found_at found_at refl)
-      (turn_swapped cast seat number (steps ++ steps_of_move t.move) t.last (steps_append steps (steps_of_move t.move) (initial_state cast) w run ∙ t.run) on t.fits swaps_there now e found_at next refl (refl, refl) refl))))
+      (turn_swapped cast seat number (steps ++ steps_of_move t.move) t.last (steps_append steps (steps_of_move t.move) (initial_state cast) w run ∙ t.run) on t.fits swaps_there now e found_at next
+      refl (refl, refl) refl))))

@@ -1,5 +1,6 @@
 -- From what steps on the cell tell to what a call says of its pass.
-use Rattle.std.proofs.Common.{◌≡◌, ◌≢◌, ℕ, suc, ◌+◌, ◌==◌, ◌<◌, ◌≤◌, Bool, cond, List, [], ◌∷◌, ◌++◌, length, take, refl, sym, ap, ◌∙◌, subst, arith, true≢false, true, false, length-append, append-nil, append_assoc, ne_eqb}
+use Rattle.std.proofs.Common.{◌≡◌, ◌≢◌, ℕ, suc, ◌+◌, ◌==◌, ◌<◌, ◌≤◌, Bool, cond, List, [], ◌∷◌, ◌++◌, length, take, refl, sym, ap, ◌∙◌, subst, arith, true≢false, true, false, length-append}
+use Rattle.std.proofs.Common.{append-nil, append_assoc, ne_eqb}
 use Rattle.std.specs.Prelude.{filter, slice_index, Result, Ok, Err, IsOk, MatchResult, is_ok, Option, Some, None}
 use Rattle.std.specs.List.{AllByRecursion, flat_map}
 use Rattle.std.proofs.lemmas.Grind.{flat_map-append}
@@ -31,7 +32,8 @@ use Rattle.ucl_steps.specs.declared.trace.Reply.TheVariants as replies
 use Rattle.ucl_steps.specs.Protocol.{Answer}
 use Rattle.ucl_pass.specs.declared.view.CellView.{CellView}
 use Rattle.ucl_pass.specs.CellRule.{words_after}
-use Rattle.ucl_pass.specs.CellSteps.{IsNextBoard, with_one_more, word_looked_at, HasSeenAll, StoresEntry, StoresReporter, LooksOnly, LooksAtMatch, LooksAtEnlisted, LooksAndShows, finished_too, after_load, HasAccepted, AreAccepting, LookOfCell, ReadOfCell}
+use Rattle.ucl_pass.specs.CellSteps.{IsNextBoard, with_one_more, word_looked_at, HasSeenAll, StoresEntry, StoresReporter, LooksOnly, LooksAtMatch, LooksAtEnlisted, LooksAndShows, finished_too}
+use Rattle.ucl_pass.specs.CellSteps.{after_load, HasAccepted, AreAccepting, LookOfCell, ReadOfCell}
 use Rattle.ucl_shared.specs.CallSteps.{steps_with, entry_made, MeetingSteps}
 use Rattle.ucl_pass.specs.CellCalls.{CellMissed, no_event_between, WereLost, CellReport, CellEnlistMissed, CellEnlistment, CellReading, FinishesReport, FinishesReading}
 use Rattle.ucl_shared.proofs.Calls.{takes_none, takes_on, takes_count, Stays, stays_none, stays_more, all_more}
@@ -87,7 +89,8 @@ same_length a b p same =
     let none : p.0 ≡ [] = nil_from_length p.0 (omega (arith, ap length p.1, length-append a p.0)) in
     sym (append-nil a) ∙ (ap (λ (l : List Entry). a ++ l) (sym none) ∙ p.1)
 
-enlisted_between : (u z : View) (x y : List ℕ) → x ≡ words_after u.seen u.listed → y ≡ words_after z.seen z.listed → y ≢ x → IsPrefix u.seen z.seen → u.listed ≤ z.listed → length u.seen ≡ length z.seen → u.listed < z.listed
+enlisted_between : (u z : View) (x y : List ℕ) → x ≡ words_after u.seen u.listed → y ≡ words_after z.seen z.listed → y ≢ x → IsPrefix u.seen z.seen → u.listed ≤ z.listed
+    → length u.seen ≡ length z.seen → u.listed < z.listed
 enlisted_between u z x y looked found other more le same = dite (native.Mathlib.Decide.dec_le (suc u.listed) z.listed)
     (λ less. less)
     (λ not.
@@ -95,7 +98,8 @@ enlisted_between u z x y looked found other more le same = dite (native.Mathlib.
     let listed : u.listed ≡ z.listed = omega (arith, not) in
     absurd (other (found ∙ ((λ i. words_after (sym seen i) (sym listed i)) ∙ sym looked))))
 
-lost_more : (listed : ℕ) (tries : List (List Taken)) (one : List Taken) (before after : ℕ) → WereLost listed tries before → before ≤ after → (no_event_between one ≡ true → before < after) → WereLost listed (tries ++ one ∷ []) after
+lost_more : (listed : ℕ) (tries : List (List Taken)) (one : List Taken) (before after : ℕ) → WereLost listed tries before → before ≤ after → (no_event_between one ≡ true → before < after)
+    → WereLost listed (tries ++ one ∷ []) after
 lost_more listed tries one before after lost le more = by (no_event_between one) refl
   where
     by : (b : Bool) → no_event_between one ≡ b → WereLost listed (tries ++ one ∷ []) after
@@ -127,7 +131,8 @@ module _ (call : EventCall) (v w u : View) (x : List ℕ) (tried : TriedReport c
   look_continues = record { sound = sound x w u looked.seen_all looked.sees.goes; on = look_stays.on; number = look_stays.number }
 
   -- the rules refuse
-  module _ (refusal : Refusal) (said : (history : List Entry) → IsLegal history → board_of history ≡ take 12 x → Err refusal ≡ sequential_reply history call) (answer : reply_of (record_at (word_at x call.game)) call ≡ Err refusal) where
+  module _ (refusal : Refusal) (said : (history : List Entry) → IsLegal history → board_of history ≡ take 12 x → Err refusal ≡ sequential_reply history call)
+      (answer : reply_of (record_at (word_at x call.game)) call ≡ Err refusal) where
     pub refuses : RefusedReport (pass_view_of v) call refusal (pass_view_of u)
     refuses = record {
       answer = sym (said u.seen looked.sees.goes.legal (sym (board_seen x w u looked.seen_all looked.sees.goes)));
@@ -136,7 +141,15 @@ module _ (call : EventCall) (v w u : View) (x : List ℕ) (tried : TriedReport c
     }
 
     pub refused_steps : CellReport v call (Err refusal) u
-    refused_steps = record { tries = tried.tries; last = look_step ∷ []; takes = look_takes; missed = tried.missed; answered = record { accesses = access Look call.game (word_at x call.game) (length u.seen) ∷ []; steps_are = refl; deciding = record { looked = word_at x call.game; accesses = refl; answer = answer } }; lost = (let a = tried.lost in let b = looked.seen_all.listed in omega arith) }
+    refused_steps = record {
+      tries = tried.tries;
+      last = look_step ∷ [];
+      takes = look_takes;
+      missed = tried.missed;
+      answered =
+          record { accesses = access Look call.game (word_at x call.game) (length u.seen) ∷ []; steps_are = refl; deciding = record { looked = word_at x call.game; accesses = refl; answer = answer } };
+      lost = (let a = tried.lost in let b = looked.seen_all.listed in omega arith);
+    }
 
   -- they accept, and an exchange was missed
   pub missed_again : (z : View) (y : List ℕ) → y ≢ x → IsOk (reply_of (record_at (word_at x call.game)) call) → LooksOnly (word_looked_at Swap call.game y) u y y z → TriedReport call v z
@@ -243,7 +256,8 @@ module _ (v w : View) (x : List ℕ) (reading : Reading) (shows : LooksAndShows 
   read_says =
       let low = begins_length v.seen w.seen shows.sees.goes.seen in
       let n = version_seen in
-      let same : reading.board ≡ board_of (take reading.version w.seen) = ap (λ (r : Reading). r.board) is ∙ (board_seen x v w shows.seen_all shows.sees.goes ∙ ap board_of (sym (take_all reading.version w.seen (omega arith)))) in
+      let same : reading.board ≡ board_of (take reading.version w.seen) =
+      ap (λ (r : Reading). r.board) is ∙ (board_seen x v w shows.seen_all shows.sees.goes ∙ ap board_of (sym (take_all reading.version w.seen (omega arith)))) in
       record {
         low = omega arith;
         high = omega arith;
@@ -256,7 +270,11 @@ module _ (v w : View) (x : List ℕ) (reading : Reading) (shows : LooksAndShows 
   read_steps = subst (λ (k : ℕ). Takes v (step_taken Rattle.ucl_board.specs.Log.Whole k None ∷ []) w) (sym version_seen) shows.sees.takes
 
   pub read_continues : Continues (pass_view_of v) (pass_view_of w)
-  read_continues = record { sound = sound x v w shows.seen_all shows.sees.goes; on = record { seen = shows.sees.goes.seen; listed = shows.seen_all.listed; share = shows.sees.goes.share }; number = shows.sees.number }
+  read_continues = record {
+    sound = sound x v w shows.seen_all shows.sees.goes;
+    on = record { seen = shows.sees.goes.seen; listed = shows.seen_all.listed; share = shows.sees.goes.share };
+    number = shows.sees.number;
+  }
 
 -- an enlistment, after tries in vain
 pub record TriedEnlist (v w : View) : Type 0 where
@@ -297,7 +315,8 @@ module _ (v w u : View) (x : List ℕ) (tried : TriedEnlist v w) (looked : Looks
         missed = all_more CellEnlistMissed tried.tries one tried.missed (record { loaded = slice_index x 12; found = slice_index y 12; at = length u.seen; later = length z.seen; steps_are = refl });
         lost = lost_more v.listed tried.tries one w.listed z.listed tried.lost (let a = looked.seen_all.listed in let b = missed.seen_all.listed in omega arith)
             (λ is.
-            let less = enlisted_between u z x y looked.seen_all.words_are missed.seen_all.words_are other missed.sees.goes.seen missed.seen_all.listed (same_places (length u.seen) (length z.seen) is) in
+            let less = enlisted_between u z x y looked.seen_all.words_are missed.seen_all.words_are other missed.sees.goes.seen missed.seen_all.listed
+            (same_places (length u.seen) (length z.seen) is) in
             let a = looked.seen_all.listed in
             omega arith);
       }
@@ -312,7 +331,14 @@ module _ (v w u : View) (x : List ℕ) (tried : TriedEnlist v w) (looked : Looks
       record { listed = omega arith; mine = count_stays.mine; shown = count_stays.shown }
 
   pub full_steps : CellEnlistment v false u
-  full_steps = record { tries = tried.tries; last = count_step ∷ []; takes = count_takes; missed = tried.missed; lost = (let a = tried.lost in let b = looked.seen_all.listed in omega arith); answered = (slice_index x 12, refl) }
+  full_steps = record {
+    tries = tried.tries;
+    last = count_step ∷ [];
+    takes = count_takes;
+    missed = tried.missed;
+    lost = (let a = tried.lost in let b = looked.seen_all.listed in omega arith);
+    answered = (slice_index x 12, refl);
+  }
 
   module _ (z : View) (next : List ℕ) (stored : StoresReporter u next z) where
     pub enlisted_says : Enlistment (pass_view_of v) (pass_view_of z)
@@ -320,7 +346,11 @@ module _ (v w u : View) (x : List ℕ) (tried : TriedEnlist v w) (looked : Looks
         let e = stored.enlists in
         record {
           sound = sound next u z stored.seen_all e.goes;
-          on = record { seen = begins_through v.seen u.seen z.seen count_stays.on.seen e.goes.seen; listed = (let a = count_stays.on.listed in let b = e.above in omega arith); share = e.goes.share ∙ count_stays.on.share };
+          on = record {
+            seen = begins_through v.seen u.seen z.seen count_stays.on.seen e.goes.seen;
+            listed = (let a = count_stays.on.listed in let b = e.above in omega arith);
+            share = e.goes.share ∙ count_stays.on.share;
+          };
           number = e.number;
           above = (let a = count_stays.on.listed in let b = e.above in omega arith);
           fresh = sym e.goes.own ∙ e.mine;
@@ -347,7 +377,8 @@ module _ (v w u : View) (x : List ℕ) (tried : TriedEnlist v w) (looked : Looks
     -- the new number is one more than the last word that was found
     pub new_number : next ≡ with_one_more x → z.number ≡ slice_index x 12 + 1
     new_number is =
-        let more : slice_index next 12 ≡ slice_index x 12 + 1 = ap (λ (ws : List ℕ). slice_index ws 12) (is ∙ ap with_one_more looked.seen_all.words_are) ∙ (one_more_last u.seen u.listed ∙ ap (λ (n : ℕ). n + 1) (sym (last_seen x w u looked.seen_all looked.sees.goes))) in
+        let more : slice_index next 12 ≡ slice_index x 12 + 1 = ap (λ (ws : List ℕ). slice_index ws 12) (is ∙ ap with_one_more looked.seen_all.words_are)
+        ∙ (one_more_last u.seen u.listed ∙ ap (λ (n : ℕ). n + 1) (sym (last_seen x w u looked.seen_all looked.sees.goes))) in
         stored.enlists.number ∙ (sym (last_seen next u z stored.seen_all stored.enlists.goes) ∙ more)
 
 -- a note was heard
@@ -363,7 +394,11 @@ module _ (a v w : View) (x : List ℕ) (looked : LooksAtEnlisted (told_by v (not
   }
 
   pub met_continues : Continues (pass_view_of v) (pass_view_of w)
-  met_continues = record { sound = sound x (told_by v (note_of a)) w looked.seen_all looked.sees.goes; on = record { seen = own_first; listed = looked.seen_all.listed; share = looked.sees.goes.share }; number = looked.sees.number }
+  met_continues = record {
+    sound = sound x (told_by v (note_of a)) w looked.seen_all looked.sees.goes;
+    on = record { seen = own_first; listed = looked.seen_all.listed; share = looked.sees.goes.share };
+    number = looked.sees.number;
+  }
 
   pub met_steps : MeetingSteps v w
   met_steps = (slice_index x 12, record { own = looked.sees.takes.own; copied = looked.sees.takes.copied })
@@ -407,6 +442,7 @@ module _ (e : EventCall) (v w u : CellView) (x : List ℕ) (tried : TriedReport 
   finishes_refused refusal is = record {
     begun = length u.pass.seen;
     after_seen = looked_on;
+    at_once = omega arith;
     does = looked.calls ∙ (ap at_found (refuses_some (record_at found).number (refusal_of (record_at found) e.expected e.kind) refusal is)
         ∙ ap (finished_too (calls.Event e) (replies.Refused refusal) (length u.pass.seen) (length u.pass.seen)) same);
   }
@@ -425,7 +461,9 @@ module _ (e : EventCall) (v w u : CellView) (x : List ℕ) (tried : TriedReport 
     finishes_accepted z h = record {
       begun = h.begun;
       after_seen = (let a = looked_on in let b = h.since in omega arith);
-      does = h.calls ∙ (ap (λ (a : Accepted). finished_too (calls.Event e) (replies.Accepted a) h.begun (length z.pass.seen) u.calls) (sym (accepts_number (record_at found).number (refusal_of (record_at found) e.expected e.kind) reply is))
+      at_once = h.last;
+      does = h.calls ∙ (ap (λ (a : Accepted). finished_too (calls.Event e) (replies.Accepted a) h.begun (length z.pass.seen) u.calls)
+          (sym (accepts_number (record_at found).number (refusal_of (record_at found) e.expected e.kind) reply is))
           ∙ ap (finished_too (calls.Event e) (replies.Accepted reply) h.begun (length z.pass.seen)) none_finished);
     }
 
@@ -434,5 +472,6 @@ pub finishes_reading : (v w : CellView) (x : List ℕ) (reading : Reading) → R
 finishes_reading v w x reading shows is = record {
   begun = length w.pass.seen;
   after_seen = begins_length v.pass.seen w.pass.seen shows.shows.sees.goes.seen;
+  at_once = omega arith;
   does = shows.calls ∙ ap (λ (r : Reading). finished_too calls.Reading (replies.Copied r) (length w.pass.seen) (length w.pass.seen) v.calls) (sym is);
 }

@@ -1,5 +1,6 @@
 -- Each kind of step on the cell keeps the rule, and tells its pass what it says.
-use Rattle.std.proofs.Common.{◌≡◌, ◌≢◌, inl, inr, ⊎_elim, ℕ, zero, suc, ◌+◌, ◌-◌, ◌<◌, ◌≤◌, Bool, true, false, Option, Some, None, List, [], ◌∷◌, ◌++◌, length, set, take, nat_eq, get_or, if◌then◌else◌, refl, sym, ap, ◌∙◌, subst, arith, le_refl, append-nil, length-append, length-set, true≢false}
+use Rattle.std.proofs.Common.{◌≡◌, ◌≢◌, inl, inr, ⊎_elim, ℕ, zero, suc, ◌+◌, ◌-◌, ◌<◌, ◌≤◌, Bool, true, false, Option, Some, None, List, [], ◌∷◌, ◌++◌, length, set, take, nat_eq, get_or}
+use Rattle.std.proofs.Common.{if◌then◌else◌, refl, sym, ap, ◌∙◌, subst, arith, le_refl, append-nil, length-append, length-set, true≢false}
 use Rattle.std.specs.Prelude.{slice_index, Result, Ok, Err, MatchResult, IsSome}
 use mathlib.Core.Option.{some}
 use lib.ListN.{get_elem?}
@@ -35,8 +36,10 @@ use Rattle.ucl_pass.specs.declared.view.CellView.{CellView}
 use Rattle.ucl_steps.specs.Actors.{Actor, IsRunOfActors}
 use Rattle.ucl_pass.specs.CellViews.{new_cell_pass, first_cell_pass, left_cell_pass, second_cell_pass, note_cell_pass, told_cell_pass, all_finished, actor_of, actors_of, views_known}
 use Rattle.ucl_pass.specs.CellRule.{words_after, CellKeepsOneHistory, CellStands}
-use Rattle.ucl_pass.specs.CellSteps.{IsNextBoard, with_one_more, word_looked_at, Looks, StoresEntry, StoresReporter, LooksOnly, LooksAtEnlisted, AddsOrLooks, EnlistsOrLooks, finished_too, after_load, HasAccepted, DecidesReport, AreAccepting, LookOfCell, AddOfCell, ReadOfCell, CountOfCell, EnlistOfCell, TellsAndStands}
-use Rattle.ucl_shared.proofs.Moves.{looked, look_keeps, look_tells, same_history, entered, add_keeps, add_tells, longer_history, enlisted_as, enlist_keeps, enlist_tells, unchanged_history, second_added, note_added, note_joined, opens, look_same, add_same, enlist_same, second_same, note_same, joined_same, opens_same}
+use Rattle.ucl_pass.specs.CellSteps.{IsNextBoard, with_one_more, word_looked_at, Looks, StoresEntry, StoresReporter, LooksOnly, LooksAtEnlisted, AddsOrLooks, EnlistsOrLooks, finished_too, after_load}
+use Rattle.ucl_pass.specs.CellSteps.{HasAccepted, DecidesReport, AreAccepting, LookOfCell, AddOfCell, ReadOfCell, CountOfCell, EnlistOfCell, TellsAndStands}
+use Rattle.ucl_shared.proofs.Moves.{looked, look_keeps, look_tells, same_history, entered, add_keeps, add_tells, longer_history, enlisted_as, enlist_keeps, enlist_tells, unchanged_history}
+use Rattle.ucl_shared.proofs.Moves.{second_added, note_added, note_joined, opens, look_same, add_same, enlist_same, second_same, note_same, joined_same, opens_same}
 use Rattle.ucl_pass.proofs.Bursts.{reading_at_once, refused_at_once, accepted_at_once}
 use Rattle.ucl_steps.proofs.Seats.{map_at, map_there, map_set, map_more, map_long, set_same, place_below}
 use Rattle.ucl_steps.proofs.ActorRuns.{Burst, Apart, run_burst, run_enlisted, run_more, run_begins}
@@ -110,7 +113,8 @@ both words views ps q n h e enlisted is run =
     let t = moved words ps (views_known views) q e in
     record {
       shared = t.0;
-      one_run = λ readers all. subst (λ (z : List Entry). IsRunOfActors readers t.0.enlisted z (actors_of views)) (sym (ap history_of t.2 ∙ is)) (subst (λ (k : ℕ). IsRunOfActors readers k h (actors_of views)) (sym (t.1 ∙ enlisted)) (run readers all));
+      one_run = λ readers all. subst (λ (z : List Entry). IsRunOfActors readers t.0.enlisted z (actors_of views)) (sym (ap history_of t.2 ∙ is))
+          (subst (λ (k : ℕ). IsRunOfActors readers k h (actors_of views)) (sym (t.1 ∙ enlisted)) (run readers all));
     }
 
 -- after a step that keeps the rule its pass stands at its seat
@@ -143,7 +147,8 @@ module _ (x : List ℕ) (views : List CellView) (r : CellKeepsOneHistory x views
 
   -- a pass with the same number that has finished the same calls
   same_run : (w : CellView) → actor_of w ≡ actor_of v → (readers n : ℕ) (h : List Entry) → IsRunOfActors readers n h (actors_of views) → IsRunOfActors readers n h (actors_of (set views seat w))
-  same_run w same readers n h run = acted_by w readers n h (subst (λ (l : List Actor). IsRunOfActors readers n h l) (sym (set_same (actors_of views) seat (actor_of w) (actor_at ∙ ap (λ (z : Actor). some z) (sym same)))) run)
+  same_run w same readers n h run = acted_by w readers n h
+      (subst (λ (l : List Actor). IsRunOfActors readers n h l) (sym (set_same (actors_of views) seat (actor_of w) (actor_at ∙ ap (λ (z : Actor). some z) (sym same)))) run)
 
   module _ (acts : IsSome v.pass.share) (target : Target) (there : IsThere (history_of r.shared.log) target) where
     abbrev seen_by_load : List ℕ → View
@@ -152,12 +157,15 @@ module _ (x : List ℕ) (views : List CellView) (r : CellKeepsOneHistory x views
     load_same : (shown : List ℕ) → (seen_by_load shown).seen ≡ history_of r.shared.log
     load_same shown = same_history words_after x (views_known views) r.shared seat v.pass at_seat acts target there r.shared.enlisted shown (le_refl r.shared.enlisted)
 
-    load_keeps : (shown : List ℕ) (calls : List Answer) → ((readers : ℕ) → length views ≤ readers → IsRunOfActors readers r.shared.enlisted (history_of r.shared.log) (actors_of (set views seat (record { pass = seen_by_load shown; calls = calls }))))
+    load_keeps : (shown : List ℕ) (calls : List Answer)
+        → ((readers : ℕ) → length views ≤ readers
+        → IsRunOfActors readers r.shared.enlisted (history_of r.shared.log) (actors_of (set views seat (record { pass = seen_by_load shown; calls = calls }))))
         → CellKeepsOneHistory x (set views seat (record { pass = seen_by_load shown; calls = calls }))
     load_keeps shown calls run =
         let w : CellView = record { pass = seen_by_load shown; calls = calls } in
         let same = look_same words_after x (views_known views) r.shared seat v.pass at_seat acts target there r.shared.enlisted shown (le_refl r.shared.enlisted) in
-        both x (set views seat w) (set (views_known views) seat (seen_by_load shown)) (look_keeps words_after x (views_known views) r.shared seat v.pass at_seat acts target there r.shared.enlisted shown (le_refl r.shared.enlisted))
+        both x (set views seat w) (set (views_known views) seat (seen_by_load shown))
+        (look_keeps words_after x (views_known views) r.shared seat v.pass at_seat acts target there r.shared.enlisted shown (le_refl r.shared.enlisted))
         r.shared.enlisted (history_of r.shared.log) (known_by w) same.0 (ap history_of same.1 ∙ load_same shown)
         (λ readers all. let long = length-set views seat w in run readers (omega arith))
 
@@ -176,7 +184,8 @@ module _ (x : List ℕ) (views : List CellView) (r : CellKeepsOneHistory x views
 
     -- a load that decides nothing
     idle_load : (shown : List ℕ) → CellKeepsOneHistory x (set views seat (record { pass = seen_by_load shown; calls = v.calls }))
-    idle_load shown = load_keeps shown v.calls (λ readers all. same_run (record { pass = seen_by_load shown; calls = v.calls }) refl readers r.shared.enlisted (history_of r.shared.log) (r.one_run readers all))
+    idle_load shown = load_keeps shown v.calls
+        (λ readers all. same_run (record { pass = seen_by_load shown; calls = v.calls }) refl readers r.shared.enlisted (history_of r.shared.log) (r.one_run readers all))
 
     -- one that decides a call, by all steps of it
     deciding_load : (shown : List ℕ) (calls : List Answer) (c : Caller)
@@ -185,7 +194,8 @@ module _ (x : List ℕ) (views : List CellView) (r : CellKeepsOneHistory x views
     deciding_load shown calls c burst = load_keeps shown calls (λ readers all.
         let one = r.one_run readers all in
         acted_by (record { pass = seen_by_load shown; calls = calls }) readers r.shared.enlisted (history_of r.shared.log)
-        (run_burst readers r.shared.enlisted (history_of r.shared.log) (actors_of views) one seat (actor_of v) actor_at (all_finished calls) (history_of r.shared.log) [] c (r.shared.fits seat v.pass at_seat).number (apart_actors x views r) (sym (append-nil (history_of r.shared.log))) (burst readers one)))
+        (run_burst readers r.shared.enlisted (history_of r.shared.log) (actors_of views) one seat (actor_of v) actor_at (all_finished calls) (history_of r.shared.log) [] c
+        (r.shared.fits seat v.pass at_seat).number (apart_actors x views r) (sym (append-nil (history_of r.shared.log))) (burst readers one)))
 
 -- where nothing is held it does not matter when the last call began
 as_finished : (seat number : ℕ) (w : MachineState) (c : Caller) (call : Call) (reply : Reply) (begun ended : ℕ) (calls : List Answer) (entries : List Entry)
@@ -205,7 +215,8 @@ word_found : (x : List ℕ) (h : List Entry) (n game : ℕ) (w : MachineState) �
 word_found x h n game w is are same = ap (λ (ws : List ℕ). word_at ws game) are ∙ (match_word h n game is ∙ ap (λ (l : List Entry). word_of (match_after l game)) (sym same))
 
 -- a report's load
-module _ (x : List ℕ) (views : List CellView) (r : CellKeepsOneHistory x views) (seat : ℕ) (v : CellView) (e : EventCall) (here : get_elem? views seat ≡ some v) (acts : IsSome v.pass.share) (pos : 0 < v.pass.number) (is : IsMatch e.game) where
+module _ (x : List ℕ) (views : List CellView) (r : CellKeepsOneHistory x views) (seat : ℕ) (v : CellView) (e : EventCall) (here : get_elem? views seat ≡ some v) (acts : IsSome v.pass.share)
+    (pos : 0 < v.pass.number) (is : IsMatch e.game) where
   there_to_look : IsThere (history_of r.shared.log) (word_looked_at Look e.game x)
   there_to_look = looked_there Look e.game x (history_of r.shared.log) r.shared.enlisted is r.shared.words_are
 
@@ -222,7 +233,10 @@ module _ (x : List ℕ) (views : List CellView) (r : CellKeepsOneHistory x views
   look_by None none = (
     record { pass = after_look; calls = v.calls },
     idle_load x views r seat v here acts (word_looked_at Look e.game x) there_to_look v.pass.shown,
-    record { looks = load_tells x views r seat v here acts (word_looked_at Look e.game x) there_to_look v.pass.shown; calls = sym (ap (λ (o : Option Refusal). after_load e (length after_look.seen) o v.calls) none) },
+    record {
+      looks = load_tells x views r seat v here acts (word_looked_at Look e.game x) there_to_look v.pass.shown;
+      calls = sym (ap (λ (o : Option Refusal). after_load e (length after_look.seen) o v.calls) none);
+    },
   )
   look_by (Some refusal) some_is =
       let calls : List Answer = finished_too (Event e) (Refused refusal) (length after_look.seen) (length after_look.seen) v.calls in (
@@ -233,8 +247,12 @@ module _ (x : List ℕ) (views : List CellView) (r : CellKeepsOneHistory x views
             let at : length one.state.history ≡ length after_look.seen = ap length one.history_is ∙ look_place in
             subst (λ (n : ℕ). Burst seat v.pass.number one.state (Reporter v.pass.number) (all_finished (finished_too (Event e) (Refused refusal) n n v.calls)) []) at
             (as_finished seat v.pass.number one.state (Reporter v.pass.number) (Event e) (Refused refusal) (length one.state.history) (length one.state.history) v.calls []
-            (refused_at_once (cast_for readers) seat v.pass.number (steps_of_moves one.moves) one.state one.run (all_finished v.calls) (one.each seat (actor_of v) (actor_at x views r seat v here)) e (is_reporter, is) refl refusal refuses))),
-        record { looks = load_tells x views r seat v here acts (word_looked_at Look e.game x) there_to_look v.pass.shown; calls = sym (ap (λ (o : Option Refusal). after_load e (length after_look.seen) o v.calls) some_is) },
+            (refused_at_once (cast_for readers) seat v.pass.number (steps_of_moves one.moves) one.state one.run (all_finished v.calls) (one.each seat (actor_of v) (actor_at x views r seat v here)) e
+            (is_reporter, is) refl refusal refuses))),
+        record {
+          looks = load_tells x views r seat v here acts (word_looked_at Look e.game x) there_to_look v.pass.shown;
+          calls = sym (ap (λ (o : Option Refusal). after_load e (length after_look.seen) o v.calls) some_is);
+        },
       )
 
 pub looks : (seat : ℕ) (v : CellView) (e : EventCall) → IsSome v.pass.share → 0 < v.pass.number → IsMatch e.game → Turns CellKeepsOneHistory seat v (λ x. x) (LookOfCell e)
@@ -260,7 +278,8 @@ reads seat v acts x views r here =
       record { pass = w; calls = calls },
       deciding_load x views r seat v here acts Whole tt shown calls (Reader (seat + 1)) (λ readers one.
           as_finished seat v.pass.number one.state (Reader (seat + 1)) Reading (Copied (reading_of words)) now now v.calls []
-          (reading_at_once (cast_for readers) seat v.pass.number words now (ap length board ∙ board_length (history_of r.shared.log)) (steps_of_moves one.moves) one.state one.run (all_finished v.calls) (one.each seat (actor_of v) (actor_at x views r seat v here)) refl
+          (reading_at_once (cast_for readers) seat v.pass.number words now (ap length board ∙ board_length (history_of r.shared.log)) (steps_of_moves one.moves) one.state one.run
+          (all_finished v.calls) (one.each seat (actor_of v) (actor_at x views r seat v here)) refl
           (board ∙ ap board_of (sym one.history_is)) (ap length one.history_is ∙ ap length (sym seen)))),
       record { shows = subst (λ (l : List ℕ). Looks Whole v.pass l x w) same (load_tells x views r seat v here acts Whole tt shown); calls = refl },
     )
@@ -284,7 +303,8 @@ by_exchange current next P x hit miss = go (pointwise nat_eq x current) refl
     go false e = miss (λ same. true≢false (sym ((bytes_decides x current).1 same) ∙ e))
 
 -- an exchange that adds an entry
-module _ (x next : List ℕ) (views : List CellView) (r : CellKeepsOneHistory x views) (seat : ℕ) (v : CellView) (e : EventCall) (here : get_elem? views seat ≡ some v) (acts : IsSome v.pass.share) (pos : 0 < v.pass.number) (game : IsMatch e.game)
+module _ (x next : List ℕ) (views : List CellView) (r : CellKeepsOneHistory x views) (seat : ℕ) (v : CellView) (e : EventCall) (here : get_elem? views seat ≡ some v) (acts : IsSome v.pass.share)
+    (pos : 0 < v.pass.number) (game : IsMatch e.game)
     (is : IsNextBoard (entry_of v.pass.number e) x next) (accepts : AreAccepting x e) where
   abbrev entry : Entry
   entry = entry_of v.pass.number e
@@ -316,30 +336,37 @@ module _ (x next : List ℕ) (views : List CellView) (r : CellKeepsOneHistory x 
   me : IsReporter v.pass.number
   me = let low = (r.shared.fits seat v.pass known_here).number in let few = r.shared.few in (omega arith, omega arith)
 
-  store_burst : (readers : ℕ) (one : IsRunOfActors readers r.shared.enlisted (history_of r.shared.log) (actors_of views)) → Burst seat v.pass.number one.state (Reporter v.pass.number) (all_finished calls_by_store) (entry ∷ [])
+  store_burst : (readers : ℕ) (one : IsRunOfActors readers r.shared.enlisted (history_of r.shared.log) (actors_of views))
+      → Burst seat v.pass.number one.state (Reporter v.pass.number) (all_finished calls_by_store) (entry ∷ [])
   store_burst readers one =
       let found = word_found x (history_of r.shared.log) r.shared.enlisted e.game one.state game r.shared.words_are one.history_is in
       let at : length one.state.history ≡ length (history_of r.shared.log) = ap length one.history_is in
       let c : Caller = Reporter v.pass.number in
       let reply : ℕ → Reply = λ n. Accepted (record { number = (record_at n).number + 1 }) in
-      let once = accepted_at_once (cast_for readers) seat v.pass.number (steps_of_moves one.moves) one.state one.run (all_finished v.calls) (one.each seat (actor_of v) (actor_at x views r seat v here)) e (me, game) refl
+      let once = accepted_at_once (cast_for readers) seat v.pass.number (steps_of_moves one.moves) one.state one.run (all_finished v.calls)
+      (one.each seat (actor_of v) (actor_at x views r seat v here)) e (me, game) refl
       (ap (λ (n : ℕ). refusal_of (record_at n) e.expected e.kind) (sym found) ∙ accepts) in
-      let done = as_finished seat v.pass.number one.state c (Event e) (reply (word_of (match_after one.state.history e.game))) (length one.state.history) (length one.state.history + 1) v.calls (entry ∷ []) once in
+      let done = as_finished seat v.pass.number one.state c (Event e) (reply (word_of (match_after one.state.history e.game))) (length one.state.history) (length one.state.history + 1) v.calls
+      (entry ∷ []) once in
       subst (λ (n : ℕ). Burst seat v.pass.number one.state c (all_finished (finished_too (Event e) (reply (word_at x e.game)) (length (history_of r.shared.log)) n v.calls)) (entry ∷ [])) one_longer
       (subst (λ (n : ℕ). Burst seat v.pass.number one.state c (all_finished (finished_too (Event e) (reply (word_at x e.game)) n (n + 1) v.calls)) (entry ∷ [])) at
-      (subst (λ (n : ℕ). Burst seat v.pass.number one.state c (all_finished (finished_too (Event e) (reply n) (length one.state.history) (length one.state.history + 1) v.calls)) (entry ∷ [])) (sym found) done))
+      (subst (λ (n : ℕ). Burst seat v.pass.number one.state c (all_finished (finished_too (Event e) (reply n) (length one.state.history) (length one.state.history + 1) v.calls)) (entry ∷ []))
+      (sym found) done))
 
   store_keeps : CellKeepsOneHistory next (set views seat after_store)
   store_keeps =
-      let same = add_same words_after x (views_known views) r.shared seat v.pass known_here acts entry (word_at x e.game) there_now pos refl next_is.1 r.shared.enlisted (le_refl r.shared.enlisted) next next_is.0 in
+      let same = add_same words_after x (views_known views) r.shared seat v.pass known_here acts entry (word_at x e.game) there_now pos refl next_is.1 r.shared.enlisted (le_refl r.shared.enlisted)
+      next next_is.0 in
       both next (set views seat after_store) (set (views_known views) seat seen_by_store)
-      (add_keeps words_after x (views_known views) r.shared seat v.pass known_here acts entry (word_at x e.game) there_now pos refl next_is.1 r.shared.enlisted (le_refl r.shared.enlisted) next next_is.0)
+      (add_keeps words_after x (views_known views) r.shared seat v.pass known_here acts entry (word_at x e.game) there_now pos refl next_is.1 r.shared.enlisted (le_refl r.shared.enlisted) next
+      next_is.0)
       r.shared.enlisted (followed_by (history_of r.shared.log) entry) (known_by x views r seat v here after_store) same.0 (ap history_of same.1 ∙ longer)
       (λ readers all.
       let long = length-set views seat after_store in
       let one = r.one_run readers (omega arith) in
       acted_by x views r seat v here after_store readers r.shared.enlisted (followed_by (history_of r.shared.log) entry)
-      (run_burst readers r.shared.enlisted (history_of r.shared.log) (actors_of views) one seat (actor_of v) (actor_at x views r seat v here) (all_finished calls_by_store) (followed_by (history_of r.shared.log) entry) (entry ∷ []) (Reporter v.pass.number)
+      (run_burst readers r.shared.enlisted (history_of r.shared.log) (actors_of views) one seat (actor_of v) (actor_at x views r seat v here) (all_finished calls_by_store)
+      (followed_by (history_of r.shared.log) entry) (entry ∷ []) (Reporter v.pass.number)
       (r.shared.fits seat v.pass known_here).number (apart_actors x views r) refl (store_burst readers one)))
 
   store_tells : StoresEntry entry v.pass x next seen_by_store
@@ -358,12 +385,18 @@ module _ (x next : List ℕ) (views : List CellView) (r : CellKeepsOneHistory x 
       }
 
   store_decides : HasAccepted e (word_at x e.game) v after_store
-  store_decides = record { begun = length (history_of r.shared.log); last = one_longer; since = begins_length v.pass.seen (history_of r.shared.log) (r.shared.fits seat v.pass known_here).seen; calls = refl }
+  store_decides = record {
+    begun = length (history_of r.shared.log);
+    last = one_longer;
+    since = begins_length v.pass.seen (history_of r.shared.log) (r.shared.fits seat v.pass known_here).seen;
+    calls = refl;
+  }
 
   store_differs : x ≢ next
   store_differs same = entry_differs (history_of r.shared.log) r.shared.enlisted entry next_is.1 (sym r.shared.words_are ∙ (same ∙ next_is.0))
 
-pub adds : (seat : ℕ) (v : CellView) (e : EventCall) (current next : List ℕ) → IsSome v.pass.share → 0 < v.pass.number → IsMatch e.game → IsNextBoard (entry_of v.pass.number e) current next → AreAccepting current e
+pub adds : (seat : ℕ) (v : CellView) (e : EventCall) (current next : List ℕ) → IsSome v.pass.share → 0 < v.pass.number → IsMatch e.game → IsNextBoard (entry_of v.pass.number e) current next
+    → AreAccepting current e
     → Turns CellKeepsOneHistory seat v (λ x. if pointwise nat_eq x current then next else x) (AddOfCell e)
 adds seat v e current next acts pos game is accepts x views r here =
     by_exchange current next (λ x' y. (w : CellView) × CellKeepsOneHistory y (set views seat w) × AddOfCell e v x' y w) x
@@ -388,7 +421,8 @@ adds seat v e current next acts pos game is accepts x views r here =
     ))
 
 -- an exchange that adds a reporter
-module _ (x : List ℕ) (views : List CellView) (r : CellKeepsOneHistory x views) (seat : ℕ) (v : CellView) (here : get_elem? views seat ≡ some v) (acts : IsSome v.pass.share) (reader : v.pass.number ≡ 0) (room : slice_index x 12 < 255) where
+module _ (x : List ℕ) (views : List CellView) (r : CellKeepsOneHistory x views) (seat : ℕ) (v : CellView) (here : get_elem? views seat ≡ some v) (acts : IsSome v.pass.share)
+    (reader : v.pass.number ≡ 0) (room : slice_index x 12 < 255) where
   left : r.shared.enlisted < 255
   left = subst (λ (k : ℕ). k < 255) (ap (λ (ws : List ℕ). slice_index ws 12) r.shared.words_are ∙ last_word (history_of r.shared.log) r.shared.enlisted) room
 
@@ -410,12 +444,14 @@ module _ (x : List ℕ) (views : List CellView) (r : CellKeepsOneHistory x views
   enlisting_keeps : CellKeepsOneHistory (with_one_more x) (set views seat after_enlisting)
   enlisting_keeps =
       let same = enlist_same words_after x (views_known views) r.shared seat v.pass seat_known acts reader left (with_one_more x) more in
-      both (with_one_more x) (set views seat after_enlisting) (set (views_known views) seat seen_by_enlisting) (enlist_keeps words_after x (views_known views) r.shared seat v.pass seat_known acts reader left (with_one_more x) more)
+      both (with_one_more x) (set views seat after_enlisting) (set (views_known views) seat seen_by_enlisting)
+      (enlist_keeps words_after x (views_known views) r.shared seat v.pass seat_known acts reader left (with_one_more x) more)
       (r.shared.enlisted + 1) (history_of r.shared.log) (known_by x views r seat v here after_enlisting) same.0 (ap history_of same.1 ∙ enlisting_same)
       (λ readers all.
       let long = length-set views seat after_enlisting in
       acted_by x views r seat v here after_enlisting readers (r.shared.enlisted + 1) (history_of r.shared.log)
-      (run_enlisted readers r.shared.enlisted (history_of r.shared.log) (actors_of views) (r.one_run readers (omega arith)) seat (actor_of v) (actor_at x views r seat v here) reader left refl (low_actors x views r)))
+      (run_enlisted readers r.shared.enlisted (history_of r.shared.log) (actors_of views) (r.one_run readers (omega arith)) seat (actor_of v) (actor_at x views r seat v here) reader left refl
+      (low_actors x views r)))
 
   enlisting_tells : StoresReporter v.pass (with_one_more x) seen_by_enlisting
   enlisting_tells =
@@ -449,8 +485,10 @@ enlists seat v current next acts reader room is x views r here =
     ))
 
 -- one pass more, that has finished no call, beside one that has finished what it had finished
-split_keeps : (x : List ℕ) (views : List CellView) (r : CellKeepsOneHistory x views) (seat : ℕ) (v : CellView) (here : get_elem? views seat ≡ some v) (u w : CellView) → actor_of u ≡ actor_of v → actor_of w ≡ record { number = 0; doing = nothing_done }
-    → (q : KeepsOneHistory words_after x (set (views_known views) seat u.pass ++ w.pass ∷ [])) → q.enlisted ≡ r.shared.enlisted → q.log ≡ r.shared.log → CellKeepsOneHistory x (set views seat u ++ w ∷ [])
+split_keeps : (x : List ℕ) (views : List CellView) (r : CellKeepsOneHistory x views) (seat : ℕ) (v : CellView) (here : get_elem? views seat ≡ some v) (u w : CellView) → actor_of u ≡ actor_of v
+    → actor_of w ≡ record { number = 0; doing = nothing_done }
+    → (q : KeepsOneHistory words_after x (set (views_known views) seat u.pass ++ w.pass ∷ [])) → q.enlisted ≡ r.shared.enlisted → q.log ≡ r.shared.log
+    → CellKeepsOneHistory x (set views seat u ++ w ∷ [])
 split_keeps x views r seat v here u w same none q enlisted log =
     both x (set views seat u ++ w ∷ []) (set (views_known views) seat u.pass ++ w.pass ∷ []) q r.shared.enlisted (history_of r.shared.log)
     (sym (map_more (λ (z : CellView). z.pass) (set views seat u) w ∙ ap (λ (l : List View). l ++ w.pass ∷ []) (map_set (λ (z : CellView). z.pass) views seat u))) enlisted (ap history_of log)
@@ -459,7 +497,8 @@ split_keeps x views r seat v here u w same none q enlisted log =
     let wide = length-set views seat u in
     let actors = map_long actor_of (set views seat u) in
     let one = same_run x views r seat v here u same readers r.shared.enlisted (history_of r.shared.log) (r.one_run readers (omega arith)) in
-    subst (λ (l : List Actor). IsRunOfActors readers r.shared.enlisted (history_of r.shared.log) l) (sym (map_more actor_of (set views seat u) w ∙ ap (λ (a : Actor). actors_of (set views seat u) ++ a ∷ []) none))
+    subst (λ (l : List Actor). IsRunOfActors readers r.shared.enlisted (history_of r.shared.log) l)
+    (sym (map_more actor_of (set views seat u) w ∙ ap (λ (a : Actor). actors_of (set views seat u) ++ a ∷ []) none))
     (run_more readers r.shared.enlisted (history_of r.shared.log) (actors_of (set views seat u)) one (omega arith)))
 
 pub seconds : (seat : ℕ) (v : CellView) → Forks CellKeepsOneHistory seat v (left_cell_pass v) (second_cell_pass v)
@@ -491,7 +530,8 @@ joins seat v other a x views r here apart there =
     let note = note_cell_pass a in
     let told_views = set views seat told in
     let is : views_known told_views ≡ set (views_known views) seat told.pass = map_set (λ (z : CellView). z.pass) views seat told in
-    let theirs : get_elem? (set (views_known views) seat told.pass) other ≡ some note.pass = subst (λ (l : List View). get_elem? l other ≡ some note.pass) is (map_at (λ (z : CellView). z.pass) told_views other note there) in
+    let theirs : get_elem? (set (views_known views) seat told.pass) other ≡ some note.pass =
+    subst (λ (l : List View). get_elem? l other ≡ some note.pass) is (map_at (λ (z : CellView). z.pass) told_views other note there) in
     let same = joined_same words_after x (views_known views) r.shared seat v.pass at other note.pass apart theirs refl refl in
     both x (set told_views other new_cell_pass) (set (set (views_known views) seat told.pass) other newcomer)
     (note_joined words_after x (views_known views) r.shared seat v.pass at other note.pass apart theirs refl refl) r.shared.enlisted (history_of r.shared.log)
@@ -501,7 +541,8 @@ joins seat v other a x views r here apart there =
     let wider = length-set told_views other new_cell_pass in
     let one = same_run x views r seat v here told refl readers r.shared.enlisted (history_of r.shared.log) (r.one_run readers (omega arith)) in
     let here' : get_elem? (actors_of told_views) other ≡ some (actor_of new_cell_pass) = map_at actor_of told_views other note there in
-    subst (λ (l : List Actor). IsRunOfActors readers r.shared.enlisted (history_of r.shared.log) l) (sym (map_set actor_of told_views other new_cell_pass ∙ set_same (actors_of told_views) other (actor_of new_cell_pass) here')) one)
+    subst (λ (l : List Actor). IsRunOfActors readers r.shared.enlisted (history_of r.shared.log) l)
+    (sym (map_set actor_of told_views other new_cell_pass ∙ set_same (actors_of told_views) other (actor_of new_cell_pass) here')) one)
 
 other_words : (x current : List ℕ) → pointwise nat_eq x current ≡ false → x ≢ current
 other_words x current not is = true≢false (sym ((bytes_decides x current).1 is) ∙ not)
@@ -544,11 +585,13 @@ enlist_says v w current next (Err x) is said =
 abbrev pub AnswersBy : (CellView → List ℕ → List ℕ → CellView → Type 0) → CellView → List ℕ → List ℕ → Result (List ℕ) (List ℕ) → CellView → Type 0
 AnswersBy tells v current next r w = MatchResult r (λ x. (pointwise nat_eq x current ≡ true) × tells v x next w) (λ x. (pointwise nat_eq x current ≡ false) × tells v x x w)
 
-pub told_by : (seat : ℕ) (tells : CellView → List ℕ → List ℕ → CellView → Type 0) (v w : CellView) (current next : List ℕ) (r : Result (List ℕ) (List ℕ)) → AnswersBy (TellsAndStands seat tells) v current next r w → AnswersBy tells v current next r w
+pub told_by : (seat : ℕ) (tells : CellView → List ℕ → List ℕ → CellView → Type 0) (v w : CellView) (current next : List ℕ) (r : Result (List ℕ) (List ℕ))
+    → AnswersBy (TellsAndStands seat tells) v current next r w → AnswersBy tells v current next r w
 told_by seat tells v w current next (Ok x) said = (said.0, said.1.told)
 told_by seat tells v w current next (Err x) said = (said.0, said.1.told)
 
-pub stands_by : (seat : ℕ) (tells : CellView → List ℕ → List ℕ → CellView → Type 0) (v w : CellView) (current next : List ℕ) (r : Result (List ℕ) (List ℕ)) → AnswersBy (TellsAndStands seat tells) v current next r w → CellStands seat w
+pub stands_by : (seat : ℕ) (tells : CellView → List ℕ → List ℕ → CellView → Type 0) (v w : CellView) (current next : List ℕ) (r : Result (List ℕ) (List ℕ))
+    → AnswersBy (TellsAndStands seat tells) v current next r w → CellStands seat w
 stands_by seat tells v w current next (Ok x) said = said.1.stands
 stands_by seat tells v w current next (Err x) said = said.1.stands
 
@@ -576,7 +619,8 @@ add_decides e v w current next (Err x) is said = said.1.missed refl
 -- what each exchange says of the pass
 pub add_seen : (e : EventCall) (v w : CellView) (current next : List ℕ) (r : Result (List ℕ) (List ℕ))
     → AnswersAdd e v current next r w
-    → MatchResult r (λ x. (pointwise nat_eq x current ≡ true) × AddsOrLooks (entry_of v.pass.number e) v.pass x next w.pass) (λ x. (pointwise nat_eq x current ≡ false) × AddsOrLooks (entry_of v.pass.number e) v.pass x x w.pass)
+    → MatchResult r (λ x. (pointwise nat_eq x current ≡ true) × AddsOrLooks (entry_of v.pass.number e) v.pass x next w.pass)
+    (λ x. (pointwise nat_eq x current ≡ false) × AddsOrLooks (entry_of v.pass.number e) v.pass x x w.pass)
 add_seen e v w current next (Ok x) said = (said.0, said.1.adds)
 add_seen e v w current next (Err x) said = (said.0, said.1.adds)
 

@@ -34,7 +34,8 @@ history_before : (log log' : Log) → IsPrefix log log' → IsPrefix (history_of
 history_before log log' before = (history_of before.0, sym (flat_map-append (λ (x : Logged). entry_list x.step.entry) log before.0) ∙ ap history_of before.1)
 
 -- one run that fits a cell goes on from another: all calls are finished
-module _ (views views' : List CellView) (readers readers' enlisted enlisted' : ℕ) (log log' : Log) (r : IsRunOfActors readers enlisted (history_of log) (actors_of views)) (q : IsRunOfActors readers' enlisted' (history_of log') (actors_of views')) where
+module _ (views views' : List CellView) (readers readers' enlisted enlisted' : ℕ) (log log' : Log) (r : IsRunOfActors readers enlisted (history_of log) (actors_of views))
+    (q : IsRunOfActors readers' enlisted' (history_of log') (actors_of views')) where
   none_held : (views : List CellView) (seat : ℕ) (a : Actor) → get_elem? (actors_of views) seat ≡ some a → a.doing.held ≡ Nothing
   none_held views seat a there = let v = map_there actor_of views seat a there in subst (λ (b : Actor). b.doing.held ≡ Nothing) v.2 refl
 
@@ -43,7 +44,8 @@ module _ (views views' : List CellView) (readers readers' enlisted enlisted' : �
       let entries = history_before log log' before in
       record {
         entries = (entries.0, ap (λ (h : List Entry). h ++ entries.0) r.history_is ∙ (entries.1 ∙ sym q.history_is));
-        records = kept_records (actors_of views) (actors_of views') r.state q.state on (λ seat a there. (r.each seat a there, none_held views seat a there)) (λ seat a there. (q.each seat a there, none_held views' seat a there));
+        records = kept_records (actors_of views) (actors_of views') r.state q.state on (λ seat a there. (r.each seat a there, none_held views seat a there))
+            (λ seat a there. (q.each seat a there, none_held views' seat a there));
       }
 
 pub cells_go_on : CellRunsGrow

@@ -3,4 +3,5 @@ pub mod CellMoves
 pub mod Standing
 pub mod Calls
 pub mod Reports
+pub mod WholeReports
 pub mod CellRuns

@@ -38,7 +38,8 @@ tries_report call (t ∷ ts) all = reports_both t (flat_map (λ x. x) ts) 0 0 (t
 
 answer_reports : (number : ℕ) (call : EventCall) (reply : Result Accepted Refusal) (now : ℕ) (steps : List Taken) → CellAnswered number call reply now steps → CellHasReported steps 1
 answer_reports number call (Ok reply) now steps a = subst (λ (l : List Taken). CellHasReported l 1) (sym (a.steps_are ∙ ap (steps_with (entry_made number call (Ok reply))) a.deciding.accesses)) refl
-answer_reports number call (Err refusal) now steps a = subst (λ (l : List Taken). CellHasReported l 1) (sym (a.steps_are ∙ ap (steps_with (entry_made number call (Err refusal))) a.deciding.accesses)) refl
+answer_reports number call (Err refusal) now steps a =
+    subst (λ (l : List Taken). CellHasReported l 1) (sym (a.steps_are ∙ ap (steps_with (entry_made number call (Err refusal))) a.deciding.accesses)) refl
 
 -- what a pass has reported after steps that report so many
 more_by : (v : View) (steps : List Taken) (w : View) (more : ℕ) → Takes v steps w → CellHasReported steps more → ReportsMore (CellHasReported v.own) more (CellHasReported w.own)
@@ -46,7 +47,8 @@ more_by v steps w more takes is n before = subst (λ (l : List Taken). CellHasRe
 
 pub report_counts : (v w : View) (call : EventCall) (reply : Result Accepted Refusal) → CellReport v call reply w → ReportsMore (CellHasReported v.own) 1 (CellHasReported w.own)
 report_counts v w call reply r =
-    more_by v (flat_map (λ t. t) r.tries ++ r.last) w 1 r.takes (reports_both (flat_map (λ t. t) r.tries) r.last 0 1 (tries_report call r.tries r.missed) (answer_reports v.number call reply (length w.seen) r.last r.answered))
+    more_by v (flat_map (λ t. t) r.tries ++ r.last) w 1 r.takes
+    (reports_both (flat_map (λ t. t) r.tries) r.last 0 1 (tries_report call r.tries r.missed) (answer_reports v.number call reply (length w.seen) r.last r.answered))
 
 enlist_try_reports : (steps : List Taken) → CellEnlistMissed steps → CellHasReported steps 0
 enlist_try_reports steps t = subst (λ (l : List Taken). CellHasReported l 0) (sym t.steps_are) refl
@@ -61,4 +63,5 @@ enlist_answer_reports false now steps a = subst (λ (l : List Taken). CellHasRep
 
 pub enlistment_counts : (v w : View) (given : Bool) → CellEnlistment v given w → ReportsMore (CellHasReported v.own) 0 (CellHasReported w.own)
 enlistment_counts v w given e =
-    more_by v (flat_map (λ t. t) e.tries ++ e.last) w 0 e.takes (reports_both (flat_map (λ t. t) e.tries) e.last 0 0 (enlist_tries_report e.tries e.missed) (enlist_answer_reports given (length w.seen) e.last e.answered))
+    more_by v (flat_map (λ t. t) e.tries ++ e.last) w 0 e.takes
+    (reports_both (flat_map (λ t. t) e.tries) e.last 0 0 (enlist_tries_report e.tries e.missed) (enlist_answer_reports given (length w.seen) e.last e.answered))

@@ -8,6 +8,7 @@ use Rattle.ucl_board.specs.declared.reading.Reading.{Reading}
 use Rattle.ucl_board.specs.declared.entry.Entry.{Entry}
 use Rattle.ucl_board.specs.Log.{Look, Swap, Target, Match, Enlisted, Whole, Access, Taken, step_taken}
 use Rattle.ucl_steps.specs.Trails.{LookRefused, StoredNothing, SwapWon}
+use Rattle.ucl_steps.specs.Protocol.{report_reply}
 use Rattle.ucl_steps.specs.declared.step.Call.{Call}
 use Rattle.ucl_steps.specs.declared.step.Call.TheVariants as calls
 use Rattle.ucl_steps.specs.declared.trace.Reply.{Reply}
@@ -96,20 +97,22 @@ CellHasReported steps n = length (filter (λ x. looks_for_report x.target) steps
 abbrev pub CellReading : View → Reading → View → Type 0
 CellReading v reading w = Takes v (step_taken Whole reading.version None ∷ []) w
 
--- a call was answered: it is the last of the finished ones; it began when there were no fewer entries than its pass had seen before the
--- call, and ended when there were as many as the pass has then seen
+-- how many entries the step added that decided this reply
+abbrev pub entries_added : Reply → ℕ
+entries_added (replies.Accepted accepted) = 1
+entries_added _ = 0
+
+-- a call was answered, by one step that is all of it in the run: it is the last of the finished ones; it began when there were no fewer
+-- entries than its pass had seen before the call, and ended when there were as many as the pass has then seen; and between its beginning
+-- and its end no entry came, but its own where the reply is that it was accepted
 pub record FinishesCall (v : CellView) (call : Call) (reply : Reply) (w : CellView) : Type 0 where
   pub begun : ℕ
   pub after_seen : length v.pass.seen ≤ begun
+  pub at_once : begun + entries_added reply ≡ length w.pass.seen
   pub does : w.calls ≡ finished_too call reply begun (length w.pass.seen) v.calls
 
--- the answer of a report, as the machine's reply
-abbrev pub reply_to_report : Result Accepted Refusal → Reply
-reply_to_report (Ok reply) = replies.Accepted reply
-reply_to_report (Err refusal) = replies.Refused refusal
-
 abbrev pub FinishesReport : CellView → EventCall → Result Accepted Refusal → CellView → Type 0
-FinishesReport v e answer w = FinishesCall v (calls.Event e) (reply_to_report answer) w
+FinishesReport v e answer w = FinishesCall v (calls.Event e) (report_reply answer) w
 
 abbrev pub FinishesReading : CellView → Reading → CellView → Type 0
 FinishesReading v reading w = FinishesCall v calls.Reading (replies.Copied reading) w

@@ -1,6 +1,5 @@
 -- What each kind of step on the cell tells its pass, and which call it decides: v before and w after, x the words found and y the words left.
 use Rattle.std.specs.Prelude.{◌≡◌, ◌≢◌, ◌⊎◌, ℕ, ◌+◌, ◌≤◌, List, [], ◌∷◌, ◌++◌, length, take, slice_index, slice_set, Option, Some, None, Result, MatchResult}
-use Rattle.ucl_word.specs.declared.event.Kind.TheVariants.{KickOff}
 use Rattle.ucl_word.specs.declared.event.EventCall.{EventCall}
 use Rattle.ucl_word.specs.declared.refusal.Refusal.{Refusal}
 use Rattle.ucl_word.specs.Rules.{refusal_of}
@@ -170,10 +169,6 @@ StoresOrLooks x p answer q = MatchResult answer
 -- the rules accept the event where these words are
 abbrev pub AreAccepting : List ℕ → EventCall → Type 0
 AreAccepting words e = refusal_of (record_at (word_at words e.game)) e.expected e.kind ≡ None
-
--- a call for reports that ask nothing
-abbrev pub asks_nothing : EventCall
-asks_nothing = record { game = 0; expected = 0; kind = KickOff }
 
 -- whatever it finds and leaves, a step of this kind is one step in the log, of the pass that took it
 abbrev pub LogsOneStep : (CellView → List ℕ → List ℕ → CellView → Type 0) → Type 0

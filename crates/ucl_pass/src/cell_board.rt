@@ -25,10 +25,8 @@ use std::alloc::Global;
 use std::marker::{Brand, Model};
 use std::sync::Wait;
 use ucl_board::{Board, Reading};
+use ucl_shared::MOST_REPORTERS;
 use ucl_word::{Accepted, EventCall, OutOfMemory, Refusal, ReporterNo};
-
-/// How many reporters a board can have.
-const MOST_REPORTERS: u64 = 255;
 
 /// A board in one sequence cell of thirteen words: the twelve matches, and the number of enlisted reporters. Contracts see which
 /// cell it is.
@@ -113,7 +111,8 @@ impl CellBoard {
         ensures seat { seat.new.id ≡ seat.old.id }
         ensures game { IsMatch call.now.game }
         ensures looks { LooksAtMatch call.now.game (knows seat.old) result result (knows seat.new) }
-        ensures decides { LookOfCell call.now (cell_view seat.old) result result (cell_view seat.new) }
+        ensures decides { LookOfCell call.now (cell_view seat.old) result result
+            (cell_view seat.new) }
         ensures stands { SeatStands seat.new }
     {
         let _number = call.game.get();
@@ -168,7 +167,8 @@ impl CellBoard {
         ensures own { seat.new.table_id ≡ seat.old.table_id }
         ensures seat { seat.new.id ≡ seat.old.id }
         ensures stored { StoresOrLooks (exchange call.now current next) seat.old result seat.new }
-        ensures decides { DecidesReport call.now (cell_view seat.old) current result (cell_view seat.new) }
+        ensures decides { DecidesReport call.now (cell_view seat.old) current result
+            (cell_view seat.new) }
         ensures stands { SeatStands seat.new }
     {
         self.cell
@@ -213,8 +213,12 @@ impl CellBoard {
         ensures own { seat.new.table_id ≡ seat.old.table_id }
         ensures seat { seat.new.id ≡ seat.old.id }
         ensures always { Continues (pass_view_of (knows seat.old)) (pass_view_of (knows seat.new)) }
-        ensures accepted { IfOk result (λ reply. AcceptedReport (pass_view_of (knows seat.old)) call.now reply (pass_view_of (knows seat.new))) }
-        ensures refused { IfErr result (λ refusal. RefusedReport (pass_view_of (knows seat.old)) call.now refusal (pass_view_of (knows seat.new))) }
+        ensures accepted { IfOk result
+            (λ reply. AcceptedReport (pass_view_of (knows seat.old)) call.now reply
+            (pass_view_of (knows seat.new))) }
+        ensures refused { IfErr result
+            (λ refusal. RefusedReport (pass_view_of (knows seat.old)) call.now refusal
+            (pass_view_of (knows seat.new))) }
         ensures steps { CellReport (knows seat.old) call.now result (knows seat.new) }
         ensures answers { FinishesReport (cell_view seat.old) call.now result (cell_view seat.new) }
         ensures up_to_date { IsUpToDate (knows seat.new) }
@@ -243,7 +247,8 @@ impl CellBoard {
         ensures own { seat.new.table_id ≡ seat.old.table_id }
         ensures seat { seat.new.id ≡ seat.old.id }
         ensures always { Continues (pass_view_of (knows seat.old)) (pass_view_of (knows seat.new)) }
-        ensures reading { SharedReading (pass_view_of (knows seat.old)) result (pass_view_of (knows seat.new)) }
+        ensures reading { SharedReading (pass_view_of (knows seat.old)) result
+            (pass_view_of (knows seat.new)) }
         ensures version { result.version ≡ length (knows seat.new).seen }
         ensures steps { CellReading (knows seat.old) result (knows seat.new) }
         ensures answers { FinishesReading (cell_view seat.old) result (cell_view seat.new) }
@@ -261,9 +266,13 @@ impl CellBoard {
         requires reader { (knows seat.old).number ≡ 0 }
         ensures own { seat.new.table_id ≡ seat.old.table_id }
         ensures seat { seat.new.id ≡ seat.old.id }
-        ensures enlisted { IfSome result (λ number. Enlistment (pass_view_of (knows seat.old)) (pass_view_of (knows seat.new)) × ((knows seat.new).number ≡ number)) }
-        ensures always { IfNone result (Continues (pass_view_of (knows seat.old)) (pass_view_of (knows seat.new))) }
-        ensures full { IfNone result (FullBoard (pass_view_of (knows seat.old)) (pass_view_of (knows seat.new))) }
+        ensures enlisted { IfSome result
+            (λ number. Enlistment (pass_view_of (knows seat.old)) (pass_view_of (knows seat.new))
+            × ((knows seat.new).number ≡ number)) }
+        ensures always { IfNone result
+            (Continues (pass_view_of (knows seat.old)) (pass_view_of (knows seat.new))) }
+        ensures full { IfNone result
+            (FullBoard (pass_view_of (knows seat.old)) (pass_view_of (knows seat.new))) }
         ensures acts { count_of (knows seat.old) < count_of (knows seat.new) }
         ensures given { IfSome result (λ _. CellEnlistment (knows seat.old) true (knows seat.new)) }
         ensures none { IfNone result (CellEnlistment (knows seat.old) false (knows seat.new)) }
@@ -292,7 +301,8 @@ impl CellBoard {
         ensures own { seat.new.table_id ≡ seat.old.table_id }
         ensures seat { seat.new.id ≡ seat.old.id }
         ensures kept { cell_view seat.new ≡ left_cell_pass (cell_view seat.old) }
-        ensures given { (result.table_id ≡ seat.old.table_id) × (cell_view result ≡ second_cell_pass (cell_view seat.old)) × (result.me.1 ≡ []) }
+        ensures given { (result.table_id ≡ seat.old.table_id)
+            × (cell_view result ≡ second_cell_pass (cell_view seat.old)) × (result.me.1 ≡ []) }
         ensures stands { SeatStands seat.old → SeatStands seat.new }
     {
         self.cell.split_pass::<SecondPass>(seat)
@@ -304,7 +314,8 @@ impl CellBoard {
         ensures own { seat.new.table_id ≡ seat.old.table_id }
         ensures seat { seat.new.id ≡ seat.old.id }
         ensures unchanged { cell_view seat.new ≡ cell_view seat.old }
-        ensures given { (result.table_id ≡ seat.old.table_id) × (cell_view result ≡ note_cell_pass (cell_view seat.old)) × (result.me.1 ≡ []) }
+        ensures given { (result.table_id ≡ seat.old.table_id)
+            × (cell_view result ≡ note_cell_pass (cell_view seat.old)) × (result.me.1 ≡ []) }
     {
         self.cell.split_pass::<Note>(seat)
     }
@@ -317,7 +328,8 @@ impl CellBoard {
         ensures own { seat.new.table_id ≡ seat.old.table_id }
         ensures seat { seat.new.id ≡ seat.old.id }
         ensures always { Continues (pass_view_of (knows seat.old)) (pass_view_of (knows seat.new)) }
-        ensures heard { Hearing (knows note).seen (pass_view_of (knows seat.old)) (pass_view_of (knows seat.new)) }
+        ensures heard { Hearing (knows note).seen (pass_view_of (knows seat.old))
+            (pass_view_of (knows seat.new)) }
         ensures steps { MeetingSteps (knows seat.old) (knows seat.new) }
         ensures does { calls_at seat.new ≡ calls_at seat.old }
         ensures up_to_date { IsUpToDate (knows seat.new) }
@@ -331,11 +343,14 @@ impl CellBoard {
     pub(crate) fn meet_by<R: Wait>(&self, rt: &R, first: &mut Seat, second: &mut Seat)
         requires cell { (first.old.table_id ≡ self.now) × (second.old.table_id ≡ self.now) }
         requires acts { IsSome (knows second.old).share }
-        ensures own { (first.new.table_id ≡ first.old.table_id) × (second.new.table_id ≡ second.old.table_id) }
+        ensures own { (first.new.table_id ≡ first.old.table_id)
+            × (second.new.table_id ≡ second.old.table_id) }
         ensures seat { (first.new.id ≡ first.old.id) × (second.new.id ≡ second.old.id) }
         ensures unchanged { cell_view first.new ≡ cell_view first.old }
-        ensures always { Continues (pass_view_of (knows second.old)) (pass_view_of (knows second.new)) }
-        ensures meeting { Meeting (pass_view_of (knows first.old)) (pass_view_of (knows second.old)) (pass_view_of (knows second.new)) }
+        ensures always { Continues (pass_view_of (knows second.old))
+            (pass_view_of (knows second.new)) }
+        ensures meeting { Meeting (pass_view_of (knows first.old)) (pass_view_of (knows second.old))
+            (pass_view_of (knows second.new)) }
         ensures steps { MeetingSteps (knows second.old) (knows second.new) }
         ensures does { calls_at second.new ≡ calls_at second.old }
         ensures up_to_date { IsUpToDate (knows second.new) }

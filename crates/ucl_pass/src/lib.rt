@@ -12,7 +12,7 @@ pub use cell_board::CellBoard;
 pub use laws::{cell_boards_are_runs, cell_runs_grow, each_cell_step_is_logged};
 pub use passes::{CellNote, CellReaderPass, CellReporterPass};
 pub use ucl_shared::{
-    LiveBoard, Strangers, TooManyReporters, View, holders_did_all, last_steps_see_all, settle,
-    steps_come_last, whole_is_alone,
+    LiveBoard, MOST_REPORTERS, Strangers, TooManyReporters, View, holders_did_all,
+    last_steps_see_all, settle, steps_come_last, whole_is_alone,
 };
 pub use view::CellView;

@@ -50,9 +50,14 @@ impl LiveBoard for CellBoard {
         ensures own { pass.new.board ≡ self.now }
         ensures seat { pass.new.seat ≡ pass.old.seat }
         ensures always { Continues (pass_view_of pass.old.view) (pass_view_of pass.new.view) }
-        ensures accepted { IfOk result (λ reply. AcceptedReport (pass_view_of pass.old.view) call.now reply (pass_view_of pass.new.view)) }
-        ensures refused { IfErr result (λ refusal. RefusedReport (pass_view_of pass.old.view) call.now refusal (pass_view_of pass.new.view)) }
-        ensures reported { ReportsMore (CellHasReported pass.old.view.own) 1 (CellHasReported pass.new.view.own) }
+        ensures accepted { IfOk result
+            (λ reply. AcceptedReport (pass_view_of pass.old.view) call.now reply
+            (pass_view_of pass.new.view)) }
+        ensures refused { IfErr result
+            (λ refusal. RefusedReport (pass_view_of pass.old.view) call.now refusal
+            (pass_view_of pass.new.view)) }
+        ensures reported { ReportsMore (CellHasReported pass.old.view.own) 1
+            (CellHasReported pass.new.view.own) }
         ensures acts { count_of pass.old.view < count_of pass.new.view }
         ensures steps { CellReport pass.old.view call.now result pass.new.view }
         ensures answers { FinishesReport (known_of pass.old) call.now result (known_of pass.new) }
@@ -72,7 +77,8 @@ impl LiveBoard for CellBoard {
         ensures own { pass.new.board ≡ self.now }
         ensures seat { pass.new.seat ≡ pass.old.seat }
         ensures always { Continues (pass_view_of pass.old.view) (pass_view_of pass.new.view) }
-        ensures reading { SharedReading (pass_view_of pass.old.view) result (pass_view_of pass.new.view) }
+        ensures reading { SharedReading (pass_view_of pass.old.view) result
+            (pass_view_of pass.new.view) }
         ensures version { result.version ≡ length pass.new.view.seen }
         ensures acts { count_of pass.new.view ≡ count_of pass.old.view + 1 }
         ensures steps { CellReading pass.old.view result pass.new.view }
@@ -88,8 +94,10 @@ impl LiveBoard for CellBoard {
         ensures own { pass.new.board ≡ self.now }
         ensures seat { pass.new.seat ≡ pass.old.seat }
         ensures always { Continues (pass_view_of pass.old.view) (pass_view_of pass.new.view) }
-        ensures reading { SharedReading (pass_view_of pass.old.view) result (pass_view_of pass.new.view) }
-        ensures reported { ReportsMore (CellHasReported pass.old.view.own) 0 (CellHasReported pass.new.view.own) }
+        ensures reading { SharedReading (pass_view_of pass.old.view) result
+            (pass_view_of pass.new.view) }
+        ensures reported { ReportsMore (CellHasReported pass.old.view.own) 0
+            (CellHasReported pass.new.view.own) }
         ensures version { result.version ≡ length pass.new.view.seen }
         ensures acts { count_of pass.new.view ≡ count_of pass.old.view + 1 }
         ensures steps { CellReading pass.old.view result pass.new.view }
@@ -124,16 +132,23 @@ impl LiveBoard for CellBoard {
         pass: CellReaderPass,
     ) -> Result<CellReporterPass, TooManyReporters<CellReaderPass>>
         requires { pass.board ≡ self.now }
-        ensures own { MatchResult result (λ enlisted. enlisted.board ≡ self.now) (λ full. full.0.board ≡ self.now) }
+        ensures own { MatchResult result (λ enlisted. enlisted.board ≡ self.now)
+            (λ full. full.0.board ≡ self.now) }
         ensures seat { MatchResult result (λ p. p.seat ≡ pass.seat) (λ q. q.0.seat ≡ pass.seat) }
-        ensures enlisted { IfOk result (λ enlisted. Enlistment (pass_view_of pass.view) (pass_view_of enlisted.view)) }
-        ensures always { IfErr result (λ full. Continues (pass_view_of pass.view) (pass_view_of full.0.view)) }
-        ensures full { IfErr result (λ full. FullBoard (pass_view_of pass.view) (pass_view_of full.0.view)) }
+        ensures enlisted { IfOk result
+            (λ enlisted. Enlistment (pass_view_of pass.view) (pass_view_of enlisted.view)) }
+        ensures always { IfErr result
+            (λ full. Continues (pass_view_of pass.view) (pass_view_of full.0.view)) }
+        ensures full { IfErr result
+            (λ full. FullBoard (pass_view_of pass.view) (pass_view_of full.0.view)) }
         ensures reported { IfOk result (λ enlisted. CellHasReported enlisted.view.own 0) }
-        ensures acts { MatchResult result (λ enlisted. count_of pass.view < count_of enlisted.view) (λ full. count_of pass.view < count_of full.0.view) }
-        ensures steps { MatchResult result (λ enlisted. CellEnlistment pass.view true enlisted.view) (λ full. CellEnlistment pass.view false full.0.view) }
+        ensures acts { MatchResult result (λ enlisted. count_of pass.view < count_of enlisted.view)
+            (λ full. count_of pass.view < count_of full.0.view) }
+        ensures steps { MatchResult result (λ enlisted. CellEnlistment pass.view true enlisted.view)
+            (λ full. CellEnlistment pass.view false full.0.view) }
         ensures does { MatchResult result (λ p. KeepsCalls pass p) (λ q. KeepsCalls pass q.0) }
-        ensures up_to_date { MatchResult result (λ enlisted. IsUpToDate enlisted.view) (λ full. IsUpToDate full.0.view) }
+        ensures up_to_date { MatchResult result (λ enlisted. IsUpToDate enlisted.view)
+            (λ full. IsUpToDate full.0.view) }
         ensures stands { MatchResult result (λ p. PassStands p) (λ q. PassStands q.0) }
     {
         let CellReaderPass { mut seat } = pass;
@@ -154,8 +169,12 @@ impl LiveBoard for CellBoard {
         ensures sound { IsSound (pass_view_of first.old.view) }
         ensures always { Continues (pass_view_of second.old.view) (pass_view_of second.new.view) }
         ensures unchanged { first.new ≡ first.old }
-        ensures meeting { Meeting (pass_view_of first.old.view) (pass_view_of second.old.view) (pass_view_of second.new.view) }
-        ensures reported { ReportsMore (CellHasReported first.old.view.own) 0 (CellHasReported first.new.view.own) × ReportsMore (CellHasReported second.old.view.own) 0 (CellHasReported second.new.view.own) }
+        ensures meeting { Meeting (pass_view_of first.old.view) (pass_view_of second.old.view)
+            (pass_view_of second.new.view) }
+        ensures reported { ReportsMore (CellHasReported first.old.view.own) 0
+            (CellHasReported first.new.view.own)
+            × ReportsMore (CellHasReported second.old.view.own) 0
+            (CellHasReported second.new.view.own) }
         ensures acts { count_of second.new.view ≡ count_of second.old.view + 1 }
         ensures steps { MeetingSteps second.old.view second.new.view }
         ensures does { second.new.calls ≡ second.old.calls }
@@ -177,8 +196,10 @@ impl LiveBoard for CellBoard {
         ensures sound { IsSound (pass_view_of first.old.view) }
         ensures always { Continues (pass_view_of second.old.view) (pass_view_of second.new.view) }
         ensures unchanged { first.new ≡ first.old }
-        ensures meeting { Meeting (pass_view_of first.old.view) (pass_view_of second.old.view) (pass_view_of second.new.view) }
-        ensures reported { ReportsMore (CellHasReported second.old.view.own) 0 (CellHasReported second.new.view.own) }
+        ensures meeting { Meeting (pass_view_of first.old.view) (pass_view_of second.old.view)
+            (pass_view_of second.new.view) }
+        ensures reported { ReportsMore (CellHasReported second.old.view.own) 0
+            (CellHasReported second.new.view.own) }
         ensures acts { count_of second.new.view ≡ count_of second.old.view + 1 }
         ensures steps { MeetingSteps second.old.view second.new.view }
         ensures does { second.new.calls ≡ second.old.calls }
@@ -206,7 +227,8 @@ impl LiveBoard for CellBoard {
         ensures sound { IsSound (pass_view_of pass.old.view) }
         ensures unchanged { pass.new ≡ pass.old }
         ensures seen { result.seen ≡ pass.old.view.seen }
-        ensures reported { ReportsMore (CellHasReported pass.old.view.own) 0 (CellHasReported pass.new.view.own) }
+        ensures reported { ReportsMore (CellHasReported pass.old.view.own) 0
+            (CellHasReported pass.new.view.own) }
     {
         let noted = &mut pass.seat;
         let seat = self.note_by(noted);
@@ -218,7 +240,8 @@ impl LiveBoard for CellBoard {
         ensures own { pass.new.board ≡ self.now }
         ensures seat { pass.new.seat ≡ pass.old.seat }
         ensures always { Continues (pass_view_of pass.old.view) (pass_view_of pass.new.view) }
-        ensures heard { Hearing note.seen (pass_view_of pass.old.view) (pass_view_of pass.new.view) }
+        ensures heard { Hearing note.seen (pass_view_of pass.old.view)
+            (pass_view_of pass.new.view) }
         ensures acts { count_of pass.new.view ≡ count_of pass.old.view + 1 }
         ensures steps { MeetingSteps pass.old.view pass.new.view }
         ensures does { pass.new.calls ≡ pass.old.calls }
@@ -233,8 +256,10 @@ impl LiveBoard for CellBoard {
         ensures own { pass.new.board ≡ self.now }
         ensures seat { pass.new.seat ≡ pass.old.seat }
         ensures always { Continues (pass_view_of pass.old.view) (pass_view_of pass.new.view) }
-        ensures heard { Hearing note.seen (pass_view_of pass.old.view) (pass_view_of pass.new.view) }
-        ensures reported { ReportsMore (CellHasReported pass.old.view.own) 0 (CellHasReported pass.new.view.own) }
+        ensures heard { Hearing note.seen (pass_view_of pass.old.view)
+            (pass_view_of pass.new.view) }
+        ensures reported { ReportsMore (CellHasReported pass.old.view.own) 0
+            (CellHasReported pass.new.view.own) }
         ensures acts { count_of pass.new.view ≡ count_of pass.old.view + 1 }
         ensures steps { MeetingSteps pass.old.view pass.new.view }
         ensures does { pass.new.calls ≡ pass.old.calls }

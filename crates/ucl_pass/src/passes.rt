@@ -22,7 +22,8 @@ impl Model for CellReaderPass {
 
     ghost view = { λ reader. cell_pass_of reader.seat };
 
-    ghost invariant = { λ reader. IsSound (pass_view_of (knows reader.seat)) × ((knows reader.seat).number ≡ 0) × CellHasReported (knows reader.seat).own 0 };
+    ghost invariant = { λ reader. IsSound (pass_view_of (knows reader.seat))
+        × ((knows reader.seat).number ≡ 0) × CellHasReported (knows reader.seat).own 0 };
 }
 
 impl CellReaderPass {
@@ -47,7 +48,9 @@ impl Model for CellReporterPass {
 
     ghost view = { λ reporter. cell_pass_of reporter.seat };
 
-    ghost invariant = { λ reporter. IsSound (pass_view_of (knows reporter.seat)) × ((knows reporter.seat).number ≡ reporter.number) × (length (knows reporter.seat).mine ≡ reporter.accepted) };
+    ghost invariant = { λ reporter. IsSound (pass_view_of (knows reporter.seat))
+        × ((knows reporter.seat).number ≡ reporter.number)
+        × (length (knows reporter.seat).mine ≡ reporter.accepted) };
 }
 
 impl CellReporterPass {

@@ -4,7 +4,8 @@ use crate::view::CellView;
 use atomic_table::{Join, Split};
 use crossbeam_utils::atomic::seq_cell::{Pass, RuledSeqCell};
 use crossbeam_utils::rule::{Outcome, Protocol};
-use std::marker::{Brand, PhantomData};
+use std::marker::PhantomData;
+pub use ucl_shared::Asking;
 
 /// One log of all steps, whose history has the twelve match words and whose reporters are as many as the thirteenth.
 pub struct OneHistory;
@@ -16,24 +17,6 @@ impl Protocol<[u64; 13], CellView> for OneHistory {
     ghost holds = { CellKeepsOneHistory };
 
     ghost first = { first_cell_pass };
-}
-
-/// The event that a report enters, and the seat of the pass that takes a step. Each call picks them.
-pub trait Asking {
-    ghost use Rattle.std.specs.Prelude.{ℕ};
-    ghost use Rattle.ucl_word.specs.declared.event.EventCall.{EventCall};
-
-    ghost call: { EventCall };
-
-    ghost seat: { ℕ };
-}
-
-impl Asking for Brand {
-    ghost use Rattle.ucl_pass.specs.CellSteps.{asks_nothing};
-
-    ghost call = { asks_nothing };
-
-    ghost seat = { 0 };
 }
 
 /// A report's load.

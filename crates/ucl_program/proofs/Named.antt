@@ -7,7 +7,7 @@ use Rattle.std.proofs.lemmas.Slice.Eq.{bytes_eq-Decides}
 use Rattle.clap.specs.Words.{Row, Text, first_of}
 use Rattle.clap.proofs.WalkLemmas.{both}
 use Rattle.ucl_screen.specs.Screen.{IsGroup}
-use Rattle.ucl_program.specs.Options.{group_in, group_named, order_named}
+use Rattle.ucl_program.specs.Options.{flag_named, group_in, group_named, order_named}
 
 -- a text of one letter of a group is that letter
 pub is_letter : (text : Text) → 1 ≤ length text → length text < 2 → IsGroup (slice_index_or text 0 0) → Some (slice_index_or text 0 0) ≡ group_named text
@@ -70,3 +70,27 @@ through P f (Some x) h = h x
 -- a group that matches name is one
 pub group_in_range : (rows : List Row) → IfSome (group_in rows) IsGroup
 group_in_range rows = through IsGroup group_named (first_of (codes "group") rows) letter_in_range
+
+-- ---- an option without a value
+
+-- the text of a flag, if any, and what is read from it
+abbrev pub IsFlag : Option Text → Bool → Type 0
+IsFlag o b = (o ≡ None → b ≡ false) × (o ≡ Some (codes "true") → b ≡ true) × (o ≡ Some (codes "false") → b ≡ false)
+
+pub flag_is : (o : Option Text) (b : Bool) → IsFlag o b → (c : Bool) → option_and_then flag_named o ≡ Some c → b ≡ c
+flag_is None b h c e = cc
+flag_is (Some v) b h c e = go (bytes_eq v (codes "true")) refl (bytes_eq v (codes "false")) refl e
+  where
+    go : (x : Bool) → bytes_eq v (codes "true") ≡ x → (y : Bool) → bytes_eq v (codes "false") ≡ y → cond x (Some true) (cond y (Some false) None) ≡ Some c → b ≡ c
+    go true is y other f = h.1 (ap (λ (t : Text). Some t) (same (codes "true") is)) ∙ unwrapped f
+      where
+        same : (w : Text) → bytes_eq v w ≡ true → v ≡ w
+        same w e = (bytes_eq-Decides v w).0 e
+
+        unwrapped : Some true ≡ Some c → true ≡ c
+        unwrapped e = cc
+    go false is true other f = h.2 (ap (λ (t : Text). Some t) ((bytes_eq-Decides v (codes "false")).0 other)) ∙ unwrapped f
+      where
+        unwrapped : Some false ≡ Some c → false ≡ c
+        unwrapped e = cc
+    go false is false other f = cc

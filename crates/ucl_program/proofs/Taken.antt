@@ -1,5 +1,5 @@
 -- Words without a fault leave values that the options take, and these name something.
-use Rattle.std.proofs.Common.{◌≡◌, ◌∙◌, ◌||◌, Bool, cond, true, false, refl, sym, ap, subst, List, [], ◌∷◌, codes, Option, is_some, true≢false}
+use Rattle.std.proofs.Common.{◌≡◌, ◌∙◌, ◌||◌, Bool, cond, true, false, refl, sym, ap, subst, List, [], ◌∷◌, codes, Option, Some, None, is_some, true≢false}
 use Rattle.std.specs.Prelude.{⊤, option_and_then}
 use Rattle.std.specs.Borrow.{Bor}
 use Rattle.std.specs.List.{list_any}
@@ -12,11 +12,11 @@ use Rattle.clap.specs.Kinds.{value_kinds}
 use Rattle.clap.specs.Walk.{first_of, has_row, nothing_held, rows_after, settled, walk, walk_from}
 use Rattle.clap.specs.Faults.{defaults_fault, level_fault, settle_fault, walk_fault}
 use Rattle.clap.specs.declared.builder.value_parser.ValueParser.{ValueParser}
-use Rattle.clap.specs.declared.builder.value_parser.ValueParser.TheVariants.{Names as Among}
+use Rattle.clap.specs.declared.builder.value_parser.ValueParser.TheVariants.{Bool as TrueOrFalse, Names as Among}
 use Rattle.clap.proofs.WalkLemmas.{list_any-map}
-use Rattle.ucl_program.specs.Options.{Hold, Texts, group_in, group_named, letters, names_of_orders, order_in, order_named}
+use Rattle.ucl_program.specs.Options.{Hold, Texts, flag_in, flag_named, group_in, group_named, letters, names_of_orders, order_in, order_named}
 use Rattle.ucl_program.proofs.WalkFacts.{Keeps, neither, settled_keeps, walk_keeps}
-use Rattle.ucl_program.proofs.Values.{AreGood, Each, Fills, each_found, good-defaults, option_built, value_found}
+use Rattle.ucl_program.proofs.Values.{AreGood, Each, Fills, each_found, flag_built, good-defaults, option_built, value_found}
 
 pub passes : (ignore_case : Bool) (parser : ValueParser) (v : Text) → value_kinds ignore_case parser v ≡ [] → accepts ignore_case parser v ≡ true
 passes ignore_case parser v e = go (accepts ignore_case parser v) e
@@ -77,3 +77,18 @@ group_there names rows hold =
 pub order_there : (names : Texts) (rows : List Row) → Hold names names_of_orders → AreGood (names_built (codes "order") names (codes "uefa")) rows
     → has_row (codes "order") rows ≡ true → is_some (order_in rows) ≡ true
 order_there names rows hold = name_there order_named (codes "order") (codes "uefa") names names_of_orders rows hold (refl, (refl, tt))
+
+-- ---- an option without a value
+
+truth : (v : Text) → (bytes_eq v (codes "true") || bytes_eq v (codes "false")) ≡ true → is_some (flag_named v) ≡ true
+truth v e = go (bytes_eq v (codes "true")) (bytes_eq v (codes "false")) e
+  where
+    go : (x y : Bool) → (x || y) ≡ true → is_some (cond x (Some true) (cond y (Some false) None)) ≡ true
+    go true y f = refl
+    go false true f = refl
+    go false false f = absurd (true≢false (sym f))
+
+pub flag_there : (id : Text) (rows : List Row) → AreGood (flag_built id) rows → has_row id rows ≡ true → is_some (flag_in id rows) ≡ true
+flag_there id rows good has =
+    let v = value_found (flag_built id) rows good has in
+    ap (λ (o : Option Text). is_some (option_and_then flag_named o)) v.2 ∙ truth v.0 (passes false TrueOrFalse v.0 (neither _ _ v.3).0)

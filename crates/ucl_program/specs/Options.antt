@@ -1,8 +1,9 @@
 -- The options that each program takes, as `clap` reads them, and what their values name.
-use Rattle.std.specs.Prelude.{◌≡◌, ◌&&◌, ℕ, List, [], ◌∷◌, map, Option, Some, None, codes, if◌then◌else◌, nat_le, option_and_then}
+use Rattle.std.specs.Prelude.{◌≡◌, ◌&&◌, ℕ, Bool, true, false, List, [], ◌∷◌, map, Option, Some, None, codes, if◌then◌else◌, nat_le, option_and_then}
 use Rattle.std.specs.Borrow.{Bor}
 use Rattle.std.specs.Str.{bytes_eq}
-use Rattle.clap.specs.Words.{Row, Rule, Text, first_of, new_rule}
+use Rattle.clap.specs.Words.{App, Row, Rule, Text, first_of, new_rule, one_of}
+use Rattle.clap.specs.Simple.{new_shape}
 use Rattle.clap.specs.declared.builder.action.ArgAction.TheVariants.{Set, SetTrue}
 use Rattle.clap.specs.declared.builder.value_parser.ValueParser.{ValueParser}
 use Rattle.clap.specs.declared.builder.value_parser.ValueParser.TheVariants.{Names}
@@ -42,6 +43,13 @@ flag_rule name = record (new_rule name) {
   action = Some SetTrue;
 }
 
+-- a program with these options, which tells its version
+abbrev pub program_taking : Text → List Rule → App
+program_taking name options = record {
+  top = record (new_shape name) { has_version = true; rules = options };
+  subs = [];
+}
+
 -- `--group` with one of these letters, which is A where it is left out
 abbrev pub group_option : Texts → Rule
 group_option names = option_rule (codes "group") (Names names) (codes "A")
@@ -66,3 +74,11 @@ group_in rows = option_and_then group_named (first_of (codes "group") rows)
 -- the order that they name
 abbrev pub order_in : List Row → Option Profile
 order_in rows = option_and_then order_named (first_of (codes "order") rows)
+
+-- whether an option without a value was there
+abbrev pub flag_named : Text → Option Bool
+flag_named text = if bytes_eq text (codes "true") then Some true else (if bytes_eq text (codes "false") then Some false else None)
+
+-- whether the matches have the option of this name
+abbrev pub flag_in : Text → List Row → Option Bool
+flag_in name rows = option_and_then flag_named (one_of name rows)

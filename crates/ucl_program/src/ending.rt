@@ -2,8 +2,9 @@
 
 ghost use Rattle.std.specs.Prelude.{◌≡◌};
 ghost use Rattle.ucl_runs.specs.Telling.{Tells};
-ghost use Rattle.ucl_program.specs.Ending.{Ends};
+ghost use Rattle.ucl_program.specs.Ending.{Ends, EndsUnasked};
 
+use crate::fault::LineFault;
 use ucl_runs::{RunFault, put_text, tell};
 use ucl_screen::Sink;
 
@@ -26,5 +27,21 @@ pub fn ended<E: Sink>(errors: &mut E, done: Result<(), RunFault>) -> u8
     match done {
         Ok(()) => 0,
         Err(fault) => tell(errors, fault),
+    }
+}
+
+/// The exit status where the words name nothing to do. Help goes to the output, where it ends as what was done; a refusal, or want of
+/// memory, is told on the error sink.
+pub fn ended_unasked<W: Sink, E: Sink>(sink: &mut W, errors: &mut E, fault: LineFault) -> u8
+    ensures { EndsUnasked W.failed W.taken fault sink.old sink.new result
+        (E.failed errors.new) (E.taken errors.old) (E.taken errors.new) }
+{
+    match fault {
+        LineFault::Help(text) => {
+            let done = put_text(sink, text.as_str());
+            ended(errors, done)
+        }
+        LineFault::Refused(text) => tell_refusal(errors, text.as_str()),
+        LineFault::OutOfMemory => tell(errors, RunFault::OutOfMemory),
     }
 }

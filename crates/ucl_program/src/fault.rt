@@ -2,7 +2,8 @@
 
 ghost use Rattle.std.specs.Prelude.{◌≡◌, ◌<◌, IfOk, length, string_bytes};
 ghost use Rattle.clap.specs.Words.{kind_of};
-ghost use Rattle.ucl_program.specs.Lines.{Tells};
+ghost use Rattle.ucl_program.specs.Lines.{TellsOfKind};
+ghost use Rattle.ucl_program.specs.declared.fault.LineFault.TheVariants.{OutOfMemory};
 
 use clap::Error;
 use clap::error::ErrorKind;
@@ -17,6 +18,14 @@ pub enum LineFault {
     Refused(String),
     /// 23: memory was asked for, and there was none.
     OutOfMemory,
+}
+
+impl From<AllocError> for LineFault {
+    ghost from_gives = { λ _ fault. fault ≡ OutOfMemory };
+
+    fn from(_error: AllocError) -> LineFault {
+        LineFault::OutOfMemory
+    }
 }
 
 /// The text of an error, which is what `clap` says of it. `clap` does not promise that it says anything: an empty text gives way to the
@@ -36,7 +45,7 @@ fn text_of(alloc: Global, error: &Error, own: &str) -> Result<String, AllocError
 pub fn fault_of(alloc: Global, error: &Error, own: &str) -> LineFault
     requires { 0 < length own.now }
     ensures memory { kind_of error.now ≡ ErrorKind.OutOfMemory → result ≡ LineFault.OutOfMemory }
-    ensures tells { Tells result (kind_of error.now) }
+    ensures tells { TellsOfKind result (kind_of error.now) }
 {
     if error.kind() == ErrorKind::OutOfMemory {
         return LineFault::OutOfMemory;

@@ -16,10 +16,12 @@ use Rattle.ucl_shared.proofs.Halves.{in_whole}
 -- the first step of a log
 
 pub taken_here : (seat : ℕ) (t : Taken) (log : Log) → taken_by seat (logged_by seat t ∷ log) ≡ t ∷ taken_by seat log
-taken_here seat t log = ap (λ (b : Bool). map (λ (x : Logged). x.step) (cond b (logged_by seat t ∷ filter (λ (x : Logged). x.seat == seat) log) (filter (λ (x : Logged). x.seat == seat) log))) (eq-eqb seat seat refl)
+taken_here seat t log = ap (λ (b : Bool). map (λ (x : Logged). x.step) (cond b (logged_by seat t ∷ filter (λ (x : Logged). x.seat == seat) log) (filter (λ (x : Logged). x.seat == seat) log)))
+    (eq-eqb seat seat refl)
 
 pub taken_else : (seat other : ℕ) (t : Taken) (log : Log) → other ≢ seat → taken_by seat (logged_by other t ∷ log) ≡ taken_by seat log
-taken_else seat other t log not = ap (λ (b : Bool). map (λ (x : Logged). x.step) (cond b (logged_by other t ∷ filter (λ (x : Logged). x.seat == seat) log) (filter (λ (x : Logged). x.seat == seat) log))) (ne_eqb other seat not)
+taken_else seat other t log not = ap (λ (b : Bool). map (λ (x : Logged). x.step)
+    (cond b (logged_by other t ∷ filter (λ (x : Logged). x.seat == seat) log) (filter (λ (x : Logged). x.seat == seat) log))) (ne_eqb other seat not)
 
 -- a step of its own is among a seat's steps
 pub some_here : (seat : ℕ) (t : Taken) (log : Log) → taken_by seat (logged_by seat t ∷ log) ≢ []
@@ -49,14 +51,16 @@ history_by : (seat : ℕ) (steps : List Taken) → history_of (map (logged_by se
 history_by seat [] = refl
 history_by seat (t ∷ steps) = ap (λ (l : List Entry). entry_list t.entry ++ l) (history_by seat steps)
 
-module _ (words_after : List Entry → ℕ → List ℕ) (words : List ℕ) (views : List View) (r : KeepsOneHistory words_after words views) (seat : ℕ) (v : View) (here : get_elem? views seat ≡ some v) (share : v.share ≡ whole) where
+module _ (words_after : List Entry → ℕ → List ℕ) (words : List ℕ) (views : List View) (r : KeepsOneHistory words_after words views) (seat : ℕ) (v : View) (here : get_elem? views seat ≡ some v)
+    (share : v.share ≡ whole) where
   -- another pass has no share
   shareless : (j : ℕ) (u : View) → j ≢ seat → get_elem? views j ≡ some u → u.share ≡ None
   shareless j u not there = by_share u.share refl
     where
       by_share : (s : Share) → u.share ≡ s → s ≡ None
       by_share None is = refl
-      by_share (Some way) is = absurd (not (r.shared j seat u v there here (subst (λ (t : Share). Overlap u.share t) (sym share) (subst (λ (t : Share). Overlap t whole) (sym is) (in_whole (Some way) refl)))))
+      by_share (Some way) is = absurd (not (r.shared j seat u v there here
+          (subst (λ (t : Share). Overlap u.share t) (sym share) (subst (λ (t : Share). Overlap t whole) (sym is) (in_whole (Some way) refl)))))
 
   idle_else : (j : ℕ) → j ≢ seat → taken_by j r.log ≡ []
   idle_else j not = dite (native.Mathlib.Decide.dec_le (suc j) (length views))
@@ -81,7 +85,8 @@ module _ (words_after : List Entry → ℕ → List ℕ) (words : List ℕ) (vie
       record {
         mine = f.made ∙ (ap added_by f.own ∙ (sym (history_by seat (taken_by seat r.log)) ∙ ap history_of (sym (only_own seat r.log idle_else))));
         number = dite (ℕ_discrete r.enlisted 0) (λ none. omega arith) (λ some. numbered r.enlisted (omega arith) (omega arith));
-        one = dite (native.Mathlib.Decide.dec_le r.enlisted 1) (λ few. few) (λ many. let a = numbered 1 (omega arith) (omega (arith, many)) in let b = numbered 2 (omega arith) (omega (arith, many)) in absurd (omega arith));
+        one = dite (native.Mathlib.Decide.dec_le r.enlisted 1) (λ few. few)
+            (λ many. let a = numbered 1 (omega arith) (omega (arith, many)) in let b = numbered 2 (omega arith) (omega (arith, many)) in absurd (omega arith));
       }
 
 pub whole_is_alone : WholeIsAlone

@@ -68,7 +68,8 @@ one_more v w u found at s t = record {
   on_enlisted = all_more IsOnEnlisted s.steps (step_taken (Enlisted found) at None) s.on_enlisted (found, (refl, refl));
 }
 
-pub number_told : (u v : View) (r : Option ℕ) (n : ℕ) → Enlistment (pass_view_of u) (pass_view_of v) → v.number ≡ n → IfSome r (λ k. k ≡ n) → IfSome r (λ k. Enlistment (pass_view_of u) (pass_view_of v) × (v.number ≡ k))
+pub number_told : (u v : View) (r : Option ℕ) (n : ℕ) → Enlistment (pass_view_of u) (pass_view_of v) → v.number ≡ n → IfSome r (λ k. k ≡ n)
+    → IfSome r (λ k. Enlistment (pass_view_of u) (pass_view_of v) × (v.number ≡ k))
 number_told u v (Some k) n e is told = (e, is ∙ sym told)
 number_told u v None n e is told = tt
 
@@ -86,7 +87,8 @@ pub sound_kept : (v : View) → IsSound (pass_view_of v) → IsSound (pass_view_
 sound_kept v s = record { legal = s.legal; own = s.own; few = s.few; acts = half_acts false v.share s.acts; alone = λ is. absurd (half_not_whole false v.share is) }
 
 -- the count of accepted events has room for one more
-pub room : (k m : PassView) (call : EventCall) (r : Result Accepted Refusal) (n : ℕ) → IfOk r (λ reply. AcceptedReport k call reply m) → is_ok r ≡ true → IsSound m → length k.mine ≡ n → n + 1 ≤ greatest_version
+pub room : (k m : PassView) (call : EventCall) (r : Result Accepted Refusal) (n : ℕ) → IfOk r (λ reply. AcceptedReport k call reply m) → is_ok r ≡ true → IsSound m → length k.mine ≡ n
+    → n + 1 ≤ greatest_version
 room k m call (Ok reply) n a is s len =
     let l = ap length a.mine ∙ length-append k.mine (entry_of k.number call ∷ []) in
     let f = few_mine m s in

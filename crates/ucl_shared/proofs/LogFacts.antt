@@ -1,5 +1,6 @@
 -- What the rule says of a log: a board opens with none, each step is its end, and the last one has seen the whole history.
-use Rattle.std.proofs.Common.{◌≡◌, ◌≢◌, ◌⊎◌, inl, inr, ⊎_elim, ℕ, zero, suc, ◌<◌, ◌≤◌, Bool, true, false, List, [], ◌∷◌, ◌++◌, length, map, set, refl, sym, ap, ◌∙◌, subst, arith, append-nil, length-append}
+use Rattle.std.proofs.Common.{◌≡◌, ◌≢◌, ◌⊎◌, inl, inr, ⊎_elim, ℕ, zero, suc, ◌<◌, ◌≤◌, Bool, true, false, List, [], ◌∷◌, ◌++◌, length, map, set, refl, sym, ap, ◌∙◌, subst, arith, append-nil}
+use Rattle.std.proofs.Common.{length-append}
 use Rattle.std.specs.Prelude.{All, drop, filter, Some, None, IsTrue, IsSome}
 use Rattle.std.proofs.lemmas.List.{length-set, nil_from_length}
 use Rattle.std.proofs.lemmas.List.Elements.{All-head, All-cons, All-nil}
@@ -76,14 +77,16 @@ first_of known y rest new is p =
     whole ∙ ap (λ (l : Log). y ∷ l) (sym (ap (drop 1) whole))
 
 -- one step that both logs have, and what comes after it
-module _ (seat j : ℕ) (t : Taken) (steps : List Taken) (old new : Log) (onward_from : (rest : Log) → Knows seat old rest → taken_by seat rest ≡ taken_by seat old ++ steps → rest ≡ old ++ map (logged_by seat) steps)
+module _ (seat j : ℕ) (t : Taken) (steps : List Taken) (old new : Log)
+    (onward_from : (rest : Log) → Knows seat old rest → taken_by seat rest ≡ taken_by seat old ++ steps → rest ≡ old ++ map (logged_by seat) steps)
     (knows : Knows seat (logged_by j t ∷ old) new) (more : taken_by seat new ≡ taken_by seat (logged_by j t ∷ old) ++ steps) where
   onward : (rest : Log) → new ≡ logged_by j t ∷ rest → new ≡ logged_by j t ∷ (old ++ map (logged_by seat) steps)
   onward rest is =
       let before : taken_by seat (logged_by j t ∷ rest) ≡ taken_by seat (logged_by j t ∷ old) ++ steps = sym (ap (taken_by seat) is) ∙ more in
       let after : taken_by seat rest ≡ taken_by seat old ++ steps = dite (ℕ_discrete j seat)
       (λ own. tail_same t t (taken_by seat rest) (taken_by seat old ++ steps)
-      (sym (taken_here seat t rest) ∙ (subst (λ (k : ℕ). taken_by seat (logged_by k t ∷ rest) ≡ taken_by seat (logged_by k t ∷ old) ++ steps) own before ∙ ap (λ (l : List Taken). l ++ steps) (taken_here seat t old))))
+      (sym (taken_here seat t rest) ∙ (subst (λ (k : ℕ). taken_by seat (logged_by k t ∷ rest) ≡ taken_by seat (logged_by k t ∷ old) ++ steps) own before
+      ∙ ap (λ (l : List Taken). l ++ steps) (taken_here seat t old))))
       (λ not. sym (taken_else seat j t rest not) ∙ (before ∙ ap (λ (l : List Taken). l ++ steps) (taken_else seat j t old not))) in
       is ∙ ap (λ (l : Log). logged_by j t ∷ l) (onward_from rest (both_after seat (logged_by j t) old rest (subst (Knows seat (logged_by j t ∷ old)) is knows)) after)
 
@@ -162,7 +165,8 @@ last_sees_all words_after words views r before seat x v is here =
     let none : length (taken_by seat f.knows.0) ≡ 0 = omega (arith, ap length cut, length-append (taken_by seat v.log) (taken_by seat f.knows.0), ap length (f.all_own ∙ f.own)) in
     let whole : v.log ≡ r.log = ⊎_elim
     (λ empty. sym (append-nil v.log) ∙ (ap (λ (l : Log). v.log ++ l) (sym empty) ∙ f.knows.1))
-    (λ (t : (init : Log) × (f.knows.0 ≡ init ++ logged_by seat x ∷ [])). let l = ap length (ap (taken_by seat) t.1 ∙ taken_own seat t.0 x) in absurd (omega (arith, none, l, length-append (taken_by seat t.0) (x ∷ []))))
+    (λ (t : (init : Log) × (f.knows.0 ≡ init ++ logged_by seat x ∷ [])). let l = ap length (ap (taken_by seat) t.1 ∙ taken_own seat t.0 x) in
+    absurd (omega (arith, none, l, length-append (taken_by seat t.0) (x ∷ []))))
     (end_in v.log f.knows.0 before (logged_by seat x) (f.knows.1 ∙ is)) in
     same_from_both v.seen (history_of r.log) f.seen (subst (λ (l : Log). IsPrefix (history_of l) v.seen) whole f.sees)
 

@@ -1,5 +1,6 @@
 -- Each kind of step on a shared board keeps the rule, whatever its words are.
-use Rattle.std.proofs.Common.{◌≡◌, ◌≢◌, ◌⊎◌, inl, inr, ⊎_elim, ℕ, zero, suc, ◌+◌, ◌<◌, ◌≤◌, Bool, true, false, cond, List, [], ◌∷◌, ◌++◌, length, take, set, nat_lt, if◌then◌else◌, Some, None, refl, sym, ap, ◌∙◌, subst, arith, le_refl, append-nil, length-append, length-set, ne_eqb}
+use Rattle.std.proofs.Common.{◌≡◌, ◌≢◌, ◌⊎◌, inl, inr, ⊎_elim, ℕ, zero, suc, ◌+◌, ◌<◌, ◌≤◌, Bool, true, false, cond, List, [], ◌∷◌, ◌++◌, length, take, set, nat_lt, if◌then◌else◌, Some, None, refl}
+use Rattle.std.proofs.Common.{sym, ap, ◌∙◌, subst, arith, le_refl, append-nil, length-append, length-set, ne_eqb}
 use Rattle.std.specs.Prelude.{All, IsSome}
 use Rattle.std.proofs.Math.Seq.{take-append_seam}
 use Rattle.std.proofs.lemmas.Bool.{ltb-true}
@@ -33,7 +34,8 @@ InRank enlisted e = e.reporter ≤ enlisted
 
 none_by : (n : ℕ) (h : List Entry) → All (λ (e : Entry). e.reporter ≢ n) h → entries_by n h ≡ []
 none_by n [] a = refl
-none_by n (x ∷ h) a = ap (λ (b : Bool). cond b (x ∷ entries_by n h) (entries_by n h)) (ne_eqb x.reporter n (All-head (λ (e : Entry). e.reporter ≢ n) x h a)) ∙ none_by n h (All-tail (λ (e : Entry). e.reporter ≢ n) x h a)
+none_by n (x ∷ h) a = ap (λ (b : Bool). cond b (x ∷ entries_by n h) (entries_by n h)) (ne_eqb x.reporter n (All-head (λ (e : Entry). e.reporter ≢ n) x h a))
+    ∙ none_by n h (All-tail (λ (e : Entry). e.reporter ≢ n) x h a)
 
 pub none_by_more : (enlisted : ℕ) (h : List Entry) → All (InRank enlisted) h → entries_by (enlisted + 1) h ≡ []
 none_by_more enlisted h r = none_by (enlisted + 1) h (λ k d lt z. let q = r k d lt in omega arith)
@@ -71,7 +73,8 @@ after_step v log seat t mine number listed shown = record {
 }
 
 -- another pass fits the longer log
-other_fits : (log : Log) (enlisted more seat : ℕ) (t : Taken) (j : ℕ) (u : View) → j ≢ seat → enlisted ≤ more → entries_by u.number (history_of (logged log seat t)) ≡ entries_by u.number (history_of log)
+other_fits : (log : Log) (enlisted more seat : ℕ) (t : Taken) (j : ℕ) (u : View) → j ≢ seat → enlisted ≤ more
+    → entries_by u.number (history_of (logged log seat t)) ≡ entries_by u.number (history_of log)
     → Fits log enlisted j u → Fits (logged log seat t) more j u
 other_fits log enlisted more seat t j u not le same f =
     let longer : IsPrefix (history_of log) (history_of (logged log seat t)) = (entry_list t.entry, sym (history_more log seat t)) in
@@ -173,7 +176,8 @@ module _ (words_after : List Entry → ℕ → List ℕ) where
   }
 
   -- a pass that has the whole board, and has seen the whole history
-  alone_by : (after : List ℕ) (views : List View) (seat : ℕ) (w : View) (s : Rule after (set views seat w)) → seat < length views → w.seen ≡ history_of s.log → w.share ≡ whole → IsAlone (pass_view_of w)
+  alone_by : (after : List ℕ) (views : List View) (seat : ℕ) (w : View) (s : Rule after (set views seat w)) → seat < length views → w.seen ≡ history_of s.log → w.share ≡ whole
+      → IsAlone (pass_view_of w)
   alone_by after views seat w s below is share =
       let there = set_here views seat w below in
       let did = whole_is_alone words_after after (set views seat w) s seat w there share in
@@ -187,7 +191,8 @@ module _ (words_after : List Entry → ℕ → List ℕ) where
     below = place_below views seat v here
 
     -- numbers stay with their passes where this pass keeps its own
-    still_given : (w : View) (enlisted : ℕ) → w.number ≡ v.number → enlisted ≤ r.enlisted → (n : ℕ) → 1 ≤ n → n ≤ enlisted → (j : ℕ) × (u : View) × (get_elem? (set views seat w) j ≡ some u) × (u.number ≡ n)
+    still_given : (w : View) (enlisted : ℕ) → w.number ≡ v.number → enlisted ≤ r.enlisted → (n : ℕ) → 1 ≤ n → n ≤ enlisted
+        → (j : ℕ) × (u : View) × (get_elem? (set views seat w) j ≡ some u) × (u.number ≡ n)
     still_given w enlisted same le n low high =
         let g = r.given n low (omega arith) in
         dite (ℕ_discrete g.0 seat)
@@ -202,7 +207,8 @@ module _ (words_after : List Entry → ℕ → List ℕ) where
 
     module _ (t : Taken) where
       all_seated : All (λ (x : Logged). x.seat < length views) (logged r.log seat t)
-      all_seated = All-append (λ (x : Logged). x.seat < length views) r.log (logged_by seat t ∷ []) r.seated (All-cons (λ (x : Logged). x.seat < length views) (logged_by seat t) [] below (All-nil (λ (x : Logged). x.seat < length views)))
+      all_seated = All-append (λ (x : Logged). x.seat < length views) r.log (logged_by seat t ∷ []) r.seated
+          (All-cons (λ (x : Logged). x.seat < length views) (logged_by seat t) [] below (All-nil (λ (x : Logged). x.seat < length views)))
 
       now : t.entry ≡ None → history_of (logged r.log seat t) ≡ history_of r.log
       now = history_same r.log seat t
@@ -230,7 +236,8 @@ module _ (words_after : List Entry → ℕ → List ℕ) where
           (subst (All (InRank r.enlisted)) (sym h) r.ranked)
           (all_seated look)
           (λ j u ne e. other_fits r.log r.enlisted r.enlisted seat look j u ne (le_refl r.enlisted) (ap (entries_by u.number) h) (r.fits j u e))
-          (own_fits r.log r.enlisted r.enlisted seat v look v.mine v.number listed shown acts f (f.mine ∙ ap (entries_by v.number) (sym h)) (f.made ∙ sym (added_more v.own look ∙ append-nil (added_by v.own))) f.number le)
+          (own_fits r.log r.enlisted r.enlisted seat v look v.mine v.number listed shown acts f (f.mine ∙ ap (entries_by v.number) (sym h))
+          (f.made ∙ sym (added_more v.own look ∙ append-nil (added_by v.own))) f.number le)
           (still_alone looked refl)
           (still_lone looked refl)
           (still_given looked r.enlisted refl (le_refl r.enlisted))
@@ -266,7 +273,8 @@ module _ (words_after : List Entry → ℕ → List ℕ) where
           }
 
     -- an exchange that adds an entry
-    module _ (acts : IsSome v.share) (e : Entry) (found : ℕ) (there : IsThere (history_of r.log) (Match Swap e.game found)) (pos : 0 < v.number) (me : e.reporter ≡ v.number) (legal : IsLegal (followed_by (history_of r.log) e)) (listed : ℕ) (le : listed ≤ r.enlisted) where
+    module _ (acts : IsSome v.share) (e : Entry) (found : ℕ) (there : IsThere (history_of r.log) (Match Swap e.game found)) (pos : 0 < v.number) (me : e.reporter ≡ v.number)
+        (legal : IsLegal (followed_by (history_of r.log) e)) (listed : ℕ) (le : listed ≤ r.enlisted) where
       abbrev pub add : Taken
       add = step_taken (Match Swap e.game found) (length (history_of r.log)) (Some e)
 
@@ -294,12 +302,14 @@ module _ (words_after : List Entry → ℕ → List ℕ) where
           (λ j u ne q. other_fits r.log r.enlisted r.enlisted seat add j u ne (le_refl r.enlisted)
           (ap (entries_by u.number) h ∙ by_other u.number (history_of r.log) e (λ same. still_alone v refl j u ne q pos (sym me ∙ same)))
           (r.fits j u q))
-          (own_fits r.log r.enlisted r.enlisted seat v add (followed_by v.mine e) v.number listed v.shown acts f own_more (ap (λ (l : List Entry). l ++ e ∷ []) f.made ∙ sym (added_more v.own add)) f.number le)
+          (own_fits r.log r.enlisted r.enlisted seat v add (followed_by v.mine e) v.number listed v.shown acts f own_more (ap (λ (l : List Entry). l ++ e ∷ []) f.made ∙ sym (added_more v.own add))
+          f.number le)
           (still_alone entered refl)
           (still_lone entered refl)
           (still_given entered r.enlisted refl (le_refl r.enlisted))
 
-      pub add_same : (after : List ℕ) (are : after ≡ words_after (followed_by (history_of r.log) e) r.enlisted) → ((add_keeps after are).enlisted ≡ r.enlisted) × ((add_keeps after are).log ≡ logged r.log seat add)
+      pub add_same : (after : List ℕ) (are : after ≡ words_after (followed_by (history_of r.log) e) r.enlisted)
+          → ((add_keeps after are).enlisted ≡ r.enlisted) × ((add_keeps after are).log ≡ logged r.log seat add)
       unfolding add_keeps stepped
       add_same after are = (refl, refl)
 
@@ -356,8 +366,13 @@ module _ (words_after : List Entry → ℕ → List ℕ) where
       all_given n low high = dite (ℕ_discrete n (r.enlisted + 1))
           (λ is. (seat, enlisted_as, set_here views seat enlisted_as below, sym is))
           (λ not.
-          let g = r.given n low (omega arith) in
-          (g.0, g.1, set_else views seat g.0 enlisted_as (λ is. let same : v.number ≡ n = ap (λ (u : View). u.number) (some-injective v g.1 (sym here ∙ (ap (get_elem? views) (sym is) ∙ g.2))) ∙ g.3 in omega arith) ∙ g.2, g.3))
+          let g = r.given n low (omega arith) in (
+            g.0,
+            g.1,
+            set_else views seat g.0 enlisted_as
+                (λ is. let same : v.number ≡ n = ap (λ (u : View). u.number) (some-injective v g.1 (sym here ∙ (ap (get_elem? views) (sym is) ∙ g.2))) ∙ g.3 in omega arith) ∙ g.2,
+            g.3,
+          ))
 
       pub enlist_keeps : (after : List ℕ) → after ≡ words_after (history_of r.log) (r.enlisted + 1) → Rule after (set views seat enlisted_as)
       enlist_keeps after are =
@@ -376,7 +391,8 @@ module _ (words_after : List Entry → ℕ → List ℕ) where
           (still_lone enlisted_as refl)
           all_given
 
-      pub enlist_same : (after : List ℕ) (are : after ≡ words_after (history_of r.log) (r.enlisted + 1)) → ((enlist_keeps after are).enlisted ≡ r.enlisted + 1) × ((enlist_keeps after are).log ≡ logged r.log seat count)
+      pub enlist_same : (after : List ℕ) (are : after ≡ words_after (history_of r.log) (r.enlisted + 1))
+          → ((enlist_keeps after are).enlisted ≡ r.enlisted + 1) × ((enlist_keeps after are).log ≡ logged r.log seat count)
       unfolding enlist_keeps stepped
       enlist_same after are = (refl, refl)
 
@@ -413,7 +429,19 @@ module _ (words_after : List Entry → ℕ → List ℕ) where
         let f = r.fits seat v here in
         stepped words words views r seat (kept_of v) r.log r.enlisted r.words_are r.is_log r.legal r.few r.ranked r.seated
         (λ j u ne e. r.fits j u e)
-        (record { seen = f.seen; told = f.told; mine = f.mine; made = f.made; number = f.number; listed = f.listed; own = f.own; knows = f.knows; all_own = f.all_own; sees = f.sees; idle = λ none. f.idle (half_none false v.share none) })
+        (record {
+          seen = f.seen;
+          told = f.told;
+          mine = f.mine;
+          made = f.made;
+          number = f.number;
+          listed = f.listed;
+          own = f.own;
+          knows = f.knows;
+          all_own = f.all_own;
+          sees = f.sees;
+          idle = λ none. f.idle (half_none false v.share none);
+        })
         (still_alone (kept_of v) refl)
         (λ j u ne e over. still_lone v refl j u ne e (half_overlaps false v.share u.share over))
         (still_given (kept_of v) r.enlisted refl (le_refl r.enlisted))
@@ -429,7 +457,8 @@ module _ (words_after : List Entry → ℕ → List ℕ) where
         (still_given v r.enlisted refl (le_refl r.enlisted))
 
   -- one pass more, without a number, without a step, and with a share that is no other's
-  added : (words : List ℕ) (views : List View) (r : Rule words views) (w : View) → w.number ≡ 0 → w.own ≡ [] → w.log ≡ [] → w.mine ≡ [] → IsPrefix w.seen (history_of r.log) → w.told ≡ [] → w.listed ≤ r.enlisted
+  added : (words : List ℕ) (views : List View) (r : Rule words views) (w : View) → w.number ≡ 0 → w.own ≡ [] → w.log ≡ [] → w.mine ≡ [] → IsPrefix w.seen (history_of r.log) → w.told ≡ []
+      → w.listed ≤ r.enlisted
       → ((j : ℕ) (u : View) → get_elem? views j ≡ some u → Overlap w.share u.share → ⊥) → Rule words (views ++ w ∷ [])
   added words views r w number own log mine seen told listed lone =
       let back : (j : ℕ) (u : View) → get_elem? (views ++ w ∷ []) j ≡ some u → (get_elem? views j ≡ some u) ⊎ ((j ≡ length views) × (w ≡ u)) = (λ j u e. at_last views w u j e) in
@@ -455,9 +484,11 @@ module _ (words_after : List Entry → ℕ → List ℕ) where
         few = r.few;
         ranked = r.ranked;
         seated = λ k d lt. let b = r.seated k d lt in omega (arith, length-append views (w ∷ []));
-        fits = λ j u e. ⊎_elim (λ was. r.fits j u was) (λ (new : (j ≡ length views) × (w ≡ u)). subst (λ (k : ℕ). Fits r.log r.enlisted k u) (sym new.0) (subst (Fits r.log r.enlisted (length views)) new.1 fit)) (back j u e);
+        fits = λ j u e. ⊎_elim (λ was. r.fits j u was)
+            (λ (new : (j ≡ length views) × (w ≡ u)). subst (λ (k : ℕ). Fits r.log r.enlisted k u) (sym new.0) (subst (Fits r.log r.enlisted (length views)) new.1 fit)) (back j u e);
         apart = λ i j u z e g pos eq. ⊎_elim
-            (λ was. ⊎_elim (λ was'. r.apart i j u z was was' pos eq) (λ (new : (j ≡ length views) × (w ≡ z)). let n : w.number ≡ z.number = ap (λ (q : View). q.number) new.1 in absurd (omega arith)) (back j z g))
+            (λ was. ⊎_elim (λ was'. r.apart i j u z was was' pos eq) (λ (new : (j ≡ length views) × (w ≡ z)). let n : w.number ≡ z.number = ap (λ (q : View). q.number) new.1 in absurd (omega arith))
+            (back j z g))
             (λ (new : (i ≡ length views) × (w ≡ u)). let n : w.number ≡ u.number = ap (λ (q : View). q.number) new.1 in absurd (omega arith))
             (back i u e);
         shared = λ i j u z e g over. ⊎_elim

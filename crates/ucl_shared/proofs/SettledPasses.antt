@@ -1,5 +1,6 @@
 -- Two passes that met, and a reading by the second: the counts decide whether there was a third reporter.
-use Rattle.std.proofs.Common.{◌≡◌, ◌≢◌, ◌⊎◌, inl, inr, ⊎_elim, ℕ, suc, ◌+◌, ◌<◌, Bool, true, false, cond, ◌==◌, List, [], ◌∷◌, ◌++◌, length, take, refl, sym, ap, ◌∙◌, arith, append-nil, length-append, length-take-le, eq-eqb, true≢false}
+use Rattle.std.proofs.Common.{◌≡◌, ◌≢◌, ◌⊎◌, inl, inr, ⊎_elim, ℕ, suc, ◌+◌, ◌<◌, Bool, true, false, cond, ◌==◌, List, [], ◌∷◌, ◌++◌, length, take, refl, sym, ap, ◌∙◌, arith, append-nil, length-append}
+use Rattle.std.proofs.Common.{length-take-le, eq-eqb, true≢false}
 use Rattle.std.specs.Prelude.{All, filter, not, ◌&&◌}
 use Rattle.std.proofs.lemmas.Bool.{eqb-true}
 use Rattle.std.proofs.lemmas.Bool.Decides.{eqb_tells, nat_tests}
@@ -23,7 +24,8 @@ one_number a b r is said = grind (arith, nat_tests)
 abbrev others : ℕ → ℕ → List Entry → List Entry
 others a b t = filter (λ (e : Entry). not (e.reporter == a) && not (e.reporter == b)) t
 
-one_of_three : {X : Type 0} (p q : Bool) (x : X) (A B C : List X) → (p ≡ true → q ≡ true → ⊥) → length (cond p (x ∷ A) A) + length (cond q (x ∷ B) B) + length (cond (not p && not q) (x ∷ C) C) ≡ suc (length A + length B + length C)
+one_of_three : {X : Type 0} (p q : Bool) (x : X) (A B C : List X) → (p ≡ true → q ≡ true → ⊥)
+    → length (cond p (x ∷ A) A) + length (cond q (x ∷ B) B) + length (cond (not p && not q) (x ∷ C) C) ≡ suc (length A + length B + length C)
 one_of_three true true x A B C apart = absurd (apart refl refl)
 one_of_three true false x A B C apart = omega arith
 one_of_three false true x A B C apart = omega arith
@@ -31,7 +33,8 @@ one_of_three false false x A B C apart = omega arith
 
 three_counts : (a b : ℕ) → a ≢ b → (t : List Entry) → length (entries_by a t) + length (entries_by b t) + length (others a b t) ≡ length t
 three_counts a b ne [] = refl
-three_counts a b ne (x ∷ t) = one_of_three (x.reporter == a) (x.reporter == b) x (entries_by a t) (entries_by b t) (others a b t) (λ p q. ne (sym (eqb-true x.reporter a p) ∙ eqb-true x.reporter b q)) ∙ ap suc (three_counts a b ne t)
+three_counts a b ne (x ∷ t) = one_of_three (x.reporter == a) (x.reporter == b) x (entries_by a t) (entries_by b t) (others a b t) (λ p q. ne (sym (eqb-true x.reporter a p) ∙ eqb-true x.reporter b q))
+    ∙ ap suc (three_counts a b ne t)
 
 abbrev OfTwo : ℕ → ℕ → Entry → Type 0
 OfTwo a b e = (e.reporter ≡ a) ⊎ (e.reporter ≡ b)
@@ -39,12 +42,16 @@ OfTwo a b e = (e.reporter ≡ a) ⊎ (e.reporter ≡ b)
 no_others : (a b : ℕ) (t : List Entry) → length (others a b t) ≡ 0 → All (OfTwo a b) t
 no_others a b [] none = All-nil (OfTwo a b)
 no_others a b (x ∷ t) none = ⊎_elim
-    (λ (p : ((x.reporter == a) ≡ true) × (x.reporter ≡ a)). All-cons (OfTwo a b) x t (inl p.1) (no_others a b t (sym (ap (λ (c : Bool). length (cond (not c && not (x.reporter == b)) (x ∷ others a b t) (others a b t))) p.0) ∙ none)))
+    (λ (p : ((x.reporter == a) ≡ true) × (x.reporter ≡ a)). All-cons (OfTwo a b) x t (inl p.1)
+    (no_others a b t (sym (ap (λ (c : Bool). length (cond (not c && not (x.reporter == b)) (x ∷ others a b t) (others a b t))) p.0) ∙ none)))
     (λ (p : ((x.reporter == a) ≡ false) × (x.reporter ≢ a)). ⊎_elim
     (λ (q : ((x.reporter == b) ≡ true) × (x.reporter ≡ b)). All-cons (OfTwo a b) x t (inr q.1)
-    (no_others a b t (sym (ap (λ (c : Bool). length (cond (not c && not (x.reporter == b)) (x ∷ others a b t) (others a b t))) p.0 ∙ ap (λ (c : Bool). length (cond (not c) (x ∷ others a b t) (others a b t))) q.0) ∙ none)))
+    (no_others a b t (sym (ap (λ (c : Bool). length (cond (not c && not (x.reporter == b)) (x ∷ others a b t) (others a b t))) p.0
+    ∙ ap (λ (c : Bool). length (cond (not c) (x ∷ others a b t) (others a b t))) q.0) ∙ none)))
     (λ (q : ((x.reporter == b) ≡ false) × (x.reporter ≢ b)).
-    let s : suc (length (others a b t)) ≡ 0 = sym (ap (λ (c : Bool). length (cond (not c && not (x.reporter == b)) (x ∷ others a b t) (others a b t))) p.0 ∙ ap (λ (c : Bool). length (cond (not c) (x ∷ others a b t) (others a b t))) q.0) ∙ none in
+    let s : suc (length (others a b t)) ≡ 0 =
+    sym (ap (λ (c : Bool). length (cond (not c && not (x.reporter == b)) (x ∷ others a b t) (others a b t))) p.0 ∙ ap (λ (c : Bool). length (cond (not c) (x ∷ others a b t) (others a b t))) q.0)
+    ∙ none in
     absurd (omega arith))
     (eqb_tells x.reporter b))
     (eqb_tells x.reporter a)
@@ -66,7 +73,11 @@ module _ (a b a1 b1 d : PassView) (reading : Reading) (same : a1 ≡ a) (met : M
   pub through : Continues b d
   through = record {
     sound = later.sound;
-    on = record { seen = begins_through b.seen b1.seen d.seen on.on.seen later.on.seen; listed = (let x = on.on.listed in let y = later.on.listed in omega arith); share = later.on.share ∙ on.on.share };
+    on = record {
+      seen = begins_through b.seen b1.seen d.seen on.on.seen later.on.seen;
+      listed = (let x = on.on.listed in let y = later.on.listed in omega arith);
+      share = later.on.share ∙ on.on.share;
+    };
     number = later.number ∙ on.number;
   }
 
@@ -92,7 +103,7 @@ module _ (a b a1 b1 d : PassView) (reading : Reading) (same : a1 ≡ a) (met : M
       let len : length t ≡ reading.version = length-take-le reading.version d.seen read.high in
       record { more_a = entries_by a.number q.0; more_b = entries_by b.number p.0; first = first; second = second; all = omega arith }
 
-  pub all_theirs : IsSound a → a.number ≢ b.number → reading.version ≡ both_accepted a b → IsOfBoth a b (take reading.version d.seen)
+  all_theirs : IsSound a → a.number ≢ b.number → reading.version ≡ both_accepted a b → IsOfBoth a b (take reading.version d.seen)
   all_theirs sound ne sum =
       let c = counts sound ne in
       let all = c.all in
@@ -105,5 +116,23 @@ module _ (a b a1 b1 d : PassView) (reading : Reading) (same : a1 ≡ a) (met : M
         no_other = no_others a.number b.number (take reading.version d.seen) zo;
       }
 
-  pub above : IsSound a → a.number ≢ b.number → reading.version ≢ both_accepted a b → both_accepted a b < reading.version
+  above : IsSound a → a.number ≢ b.number → reading.version ≢ both_accepted a b → both_accepted a b < reading.version
   above sound ne other = let c = counts sound ne in let all = c.all in omega arith
+
+  -- by the numbers n and m of both afterwards, and how many events of each were accepted
+  module _ (sound : IsSound a) (n m i j : ℕ) (n_is : n ≡ a1.number) (m_is : m ≡ d.number) (i_is : i ≡ length a1.mine) (j_is : j ≡ length d.mine) where
+    numbers : (n ≡ m → a.number ≡ b.number) × (a.number ≡ b.number → n ≡ m)
+    numbers =
+        let first : n ≡ a.number = n_is ∙ ap (λ (k : PassView). k.number) same in
+        let second : m ≡ b.number = m_is ∙ (later.number ∙ on.number) in
+        (λ is. sym first ∙ (is ∙ second), λ is. first ∙ (is ∙ sym second))
+
+    sum_is : i + j ≡ both_accepted a b
+    sum_is = let first = i_is ∙ ap (λ (k : PassView). length k.mine) same in let second = j_is ∙ ap length (read.mine ∙ met.mine) in omega arith
+
+    pub of_both : n ≢ m → reading.version ≡ i + j → IsOfBoth a b (take reading.version d.seen)
+    of_both apart sum = all_theirs sound (λ is. apart (numbers.1 is)) (sum ∙ sum_is)
+
+    pub strangers : (n ≡ m) ⊎ (reading.version ≢ i + j) → a.number ≢ b.number → both_accepted a b < reading.version
+    strangers (inl is) other = absurd (other (numbers.0 is))
+    strangers (inr not) other = above sound other (λ sum. not (sum ∙ sym sum_is))

@@ -1,6 +1,8 @@
 -- What each kind of step on a shared board tells its pass: v before and w after.
 use Rattle.std.specs.Prelude.{◌≡◌, ℕ, ◌+◌, ◌<◌, ◌≤◌, List, [], ◌∷◌, All, length, Some, None, IsSome}
 use mathlib.Core.List.{IsPrefix}
+use Rattle.ucl_word.specs.declared.event.EventCall.{EventCall}
+use Rattle.ucl_word.specs.declared.event.Kind.TheVariants.{KickOff}
 use Rattle.ucl_board.specs.declared.entry.Entry.{Entry}
 use Rattle.ucl_board.specs.History.{IsLegal, followed_by}
 use Rattle.ucl_board.specs.Log.{Target, Match, Enlisted, Swap, step_taken, IsThere}
@@ -50,3 +52,7 @@ pub record Enlists (found : ℕ) (v w : View) : Type 0 where
   pub next : w.listed ≡ found + 1
   pub mine : w.mine ≡ []
   pub shown : w.shown ≡ []
+
+-- a call for steps that are no report's
+abbrev pub no_call : EventCall
+no_call = record { game = 0; expected = 0; kind = KickOff }

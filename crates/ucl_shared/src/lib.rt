@@ -2,14 +2,16 @@
 //! themselves stand above: in one cell in `ucl_pass`, and word by word in `ucl_words`.
 #![tactic(auto)]
 
+mod asking;
 mod errors;
 mod laws;
 mod live_board;
 mod settling;
 mod view;
 
+pub use asking::Asking;
 pub use errors::{Strangers, TooManyReporters};
 pub use laws::{holders_did_all, last_steps_see_all, steps_come_last, whole_is_alone};
-pub use live_board::LiveBoard;
+pub use live_board::{LiveBoard, MOST_REPORTERS};
 pub use settling::settle;
 pub use view::View;

@@ -9,6 +9,9 @@ use std::sync::Wait;
 use ucl_board::Reading;
 use ucl_word::{Accepted, EventCall, Refusal, ReporterNo};
 
+/// How many reporters a board can have: as many as there are numbers of a `ReporterNo`.
+pub const MOST_REPORTERS: u64 = 255;
+
 /// A board that threads share. Each thread holds a pass, and what a call answers is said of what its pass has seen: a prefix
 /// of one history of accepted events, the same for all passes (Herlihy and Wing, Linearizability).
 ///
@@ -66,8 +69,10 @@ pub trait LiveBoard: Sync {
         requires { is_reporter self.now pass.old }
         ensures own { is_reporter self.now pass.new }
         ensures always { Continues (reporter pass.old) (reporter pass.new) }
-        ensures accepted { IfOk result (λ reply. AcceptedReport (reporter pass.old) call.now reply (reporter pass.new)) }
-        ensures refused { IfErr result (λ refusal. RefusedReport (reporter pass.old) call.now refusal (reporter pass.new)) }
+        ensures accepted { IfOk result
+            (λ reply. AcceptedReport (reporter pass.old) call.now reply (reporter pass.new)) }
+        ensures refused { IfErr result
+            (λ refusal. RefusedReport (reporter pass.old) call.now refusal (reporter pass.new)) }
         ensures reported { ReportsMore (has_reported pass.old) 1 (has_reported pass.new) };
 
     /// The board after a prefix of the history that has all that the pass had seen, and its version.
@@ -137,7 +142,8 @@ pub trait LiveBoard: Sync {
         pass: Self::ReaderPass,
     ) -> Result<Self::ReporterPass, TooManyReporters<Self::ReaderPass>>
         requires { is_reader self.now pass }
-        ensures own { MatchResult result (λ enlisted. is_reporter self.now enlisted) (λ full. is_reader self.now full.0) }
+        ensures own { MatchResult result (λ enlisted. is_reporter self.now enlisted)
+            (λ full. is_reader self.now full.0) }
         ensures enlisted { IfOk result (λ enlisted. Enlistment (reader pass) (reporter enlisted)) }
         ensures always { IfErr result (λ full. Continues (reader pass) (reader full.0)) }
         ensures full { IfErr result (λ full. FullBoard (reader pass) (reader full.0)) }
@@ -160,7 +166,8 @@ pub trait LiveBoard: Sync {
         ensures always { Continues (reporter second.old) (reporter second.new) }
         ensures unchanged { reporter first.new ≡ reporter first.old }
         ensures meeting { Meeting (reporter first.old) (reporter second.old) (reporter second.new) }
-        ensures reported { ReportsMore (has_reported first.old) 0 (has_reported first.new) × ReportsMore (has_reported second.old) 0 (has_reported second.new) };
+        ensures reported { ReportsMore (has_reported first.old) 0 (has_reported first.new)
+            × ReportsMore (has_reported second.old) 0 (has_reported second.new) };
 
     /// The same where the first is a reader: afterwards the reporter's pass has seen all that either had seen.
     ///

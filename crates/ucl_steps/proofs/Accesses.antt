@@ -1,5 +1,6 @@
 -- Accesses along a history, and what clean and unclean tries show.
-use Rattle.std.proofs.Common.{◌≡◌, ◌≢◌, ℕ, zero, suc, ◌+◌, ◌-◌, ◌*◌, ◌<◌, ◌≤◌, List, [], ◌∷◌, ◌++◌, take, length, Option, Some, None, Result, Ok, Err, inl, inr, refl, sym, ap, ◌∙◌, subst, arith, length-append, le_refl, get_or, get_or-set_other}
+use Rattle.std.proofs.Common.{◌≡◌, ◌≢◌, ℕ, zero, suc, ◌+◌, ◌-◌, ◌*◌, ◌<◌, ◌≤◌, List, [], ◌∷◌, ◌++◌, take, length, Option, Some, None, Result, Ok, Err, inl, inr, refl, sym, ap, ◌∙◌, subst, arith}
+use Rattle.std.proofs.Common.{length-append, le_refl, get_or, get_or-set_other}
 use Rattle.std.specs.Prelude.{slice_get, slice_index, slice_set, IsOk}
 use Rattle.std.specs.List.{AllByRecursion}
 use Rattle.std.proofs.lemmas.Option.{none-some, same_Some}
@@ -86,10 +87,12 @@ follows_parts h low high (m ∷ n ∷ ms) ns f = let t = follows_parts h m.at hi
 pub collect_none : (kind : AccessKind) (words : List ℕ) → IsCollect kind words []
 collect_none kind words k m e = absurd (none-some m e)
 
-pub collect_more : (kind : AccessKind) (words : List ℕ) (ms : List Access) (m : Access) → IsCollect kind words ms → Does kind (length ms + 1) m → m.found ≡ slice_index words (length ms) → IsCollect kind words (ms ++ m ∷ [])
+pub collect_more : (kind : AccessKind) (words : List ℕ) (ms : List Access) (m : Access) → IsCollect kind words ms → Does kind (length ms + 1) m → m.found ≡ slice_index words (length ms)
+    → IsCollect kind words (ms ++ m ∷ [])
 collect_more kind words ms m c does found k x e = elim (at_either ms m k x e) [
   | inl t ↦ c k x t.1
-  | inr t ↦ subst (λ (z : ℕ). Does kind (z + 1) x × (x.found ≡ slice_index words z)) (sym t.0) (subst (λ (z : Access). Does kind (length ms + 1) z × (z.found ≡ slice_index words (length ms))) t.1 (does, found))
+  | inr t ↦ subst (λ (z : ℕ). Does kind (z + 1) x × (x.found ≡ slice_index words z)) (sym t.0)
+      (subst (λ (z : Access). Does kind (length ms + 1) z × (z.found ≡ slice_index words (length ms))) t.1 (does, found))
 ]
 
 -- the words past the collect may change
@@ -120,10 +123,12 @@ unclean_try h low high ms f try =
     let twelve = try.twelve in
     let first = get_some try.firsts (length try.broken.equal) (omega arith) in
     let later = broken_later h low high ms f try first.0 first.1 in
-    let place : slice_get ms (length try.firsts + length try.broken.equal) ≡ Some try.broken.last = ap (λ (z : List Access). slice_get z (length try.firsts + length try.broken.equal)) try.accesses ∙ at_second try.firsts try.seconds (length try.broken.equal) try.broken.last
+    let place : slice_get ms (length try.firsts + length try.broken.equal) ≡ Some try.broken.last =
+    ap (λ (z : List Access). slice_get z (length try.firsts + length try.broken.equal)) try.accesses ∙ at_second try.firsts try.seconds (length try.broken.equal) try.broken.last
     (ap (λ (z : List Access). slice_get z (length try.broken.equal)) try.broken.accesses ∙ at_end try.broken.equal try.broken.last) in
     let y = follows_at h low high ms (length try.firsts + length try.broken.equal) try.broken.last f place in
-    let x = follows_at h low high ms (length try.broken.equal) first.0 f (ap (λ (z : List Access). slice_get z (length try.broken.equal)) try.accesses ∙ at_longer try.firsts try.seconds (length try.broken.equal) first.0 first.1) in
+    let x = follows_at h low high ms (length try.broken.equal) first.0 f
+    (ap (λ (z : List Access). slice_get z (length try.broken.equal)) try.accesses ∙ at_longer try.firsts try.seconds (length try.broken.equal) first.0 first.1) in
     let x0 = x.0 in let y1 = y.1 in
     (omega arith, omega (arith, ap length try.accesses, length-append try.firsts try.seconds, ap length try.broken.accesses, length-append try.broken.equal (try.broken.last ∷ [])))
   where
@@ -131,7 +136,8 @@ unclean_try h low high ms f try =
     at_second [] ys k m e = let none : 0 + k ≡ k = omega arith in ap (slice_get ys) none ∙ e
     at_second (x ∷ xs) ys k m e = let one : suc (length xs) + k ≡ suc (length xs + k) = omega arith in ap (slice_get (x ∷ (xs ++ ys))) one ∙ at_second xs ys k m e
 
-pub tries_bound : (h : List Entry) (low high : ℕ) (tries : List (List Access)) → Follows h low (accesses_of tries) high → AllByRecursion IsUnclean tries → (low + length tries ≤ high) × (length (accesses_of tries) ≤ 24 * length tries)
+pub tries_bound : (h : List Entry) (low high : ℕ) (tries : List (List Access)) → Follows h low (accesses_of tries) high → AllByRecursion IsUnclean tries
+    → (low + length tries ≤ high) × (length (accesses_of tries) ≤ 24 * length tries)
 tries_bound h low high [] f all = (omega arith, omega arith)
 tries_bound h low high (ms ∷ tries) f all =
     let parts = follows_parts h low high ms (accesses_of tries) f in
@@ -224,7 +230,9 @@ report_whole h low high now call (Err refusal) ms legal f (inr missed) =
     let g = call.game in
     let old = found_record h a g legal t.1 refl in
     let new = found_record h b g legal t.2.1 refl in
-    let expected : call.expected ≡ (match_after (take a.at h) g).number = number_expected (record_at a.found) call.expected call.kind (none_of_ok (record_at a.found).number (refusal_of (record_at a.found) call.expected call.kind) missed.missed.may) ∙ ap (λ (z : MatchRecord). z.number) old in
+    let expected : call.expected ≡ (match_after (take a.at h) g).number =
+    number_expected (record_at a.found) call.expected call.kind (none_of_ok (record_at a.found).number (refusal_of (record_at a.found) call.expected call.kind) missed.missed.may)
+    ∙ ap (λ (z : MatchRecord). z.number) old in
     let stale : call.expected ≡ (match_after (take now h) g).number → ⊥ = λ is. missed.other (t.2.1 ∙ (sym (same_number h a.at now g (sym expected ∙ is)).1 ∙ sym t.1)) in
     ap (answer (match_after (take now h) g).number) (is_stale (match_after (take now h) g) call.expected call.kind stale)
     ∙ (ap (λ (z : MatchRecord). Err (Stale z.number)) (sym new) ∙ ap Err (sym missed.answer))

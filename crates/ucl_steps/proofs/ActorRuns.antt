@@ -1,5 +1,6 @@
 -- What bursts of actors, splits and enlistments do to the run of the machine that a board's rule says there is.
-use Rattle.std.proofs.Common.{◌≡◌, ◌≢◌, inl, inr, ⊎_elim, ℕ, zero, suc, ◌+◌, ◌<◌, ◌≤◌, ◌&&◌, Bool, false, cond, List, [], ◌∷◌, ◌++◌, length, set, map, Option, Some, refl, sym, ap, ◌∙◌, subst, arith, le_refl, append-nil, length-append, length-set, ne_eqb}
+use Rattle.std.proofs.Common.{◌≡◌, ◌≢◌, inl, inr, ⊎_elim, ℕ, zero, suc, ◌+◌, ◌<◌, ◌≤◌, ◌&&◌, Bool, false, cond, List, [], ◌∷◌, ◌++◌, length, set, map, Option, Some, refl, sym, ap, ◌∙◌, subst, arith}
+use Rattle.std.proofs.Common.{le_refl, append-nil, length-append, length-set, ne_eqb}
 use Rattle.std.specs.Prelude.{All, filter, nat_le}
 use mathlib.Core.Logic.{dite}
 use mathlib.Core.Option.{some, some-ne-none, some-injective}
@@ -123,7 +124,8 @@ module _ (readers enlisted : ℕ) (history : List Entry) (actors : List Actor) (
   some_still b kept x t = let k = still_of b (λ i n. IsOf i n x.0) (kept x.0) t.0 t.1 t.2 in (t.0, k.0, k.1, k.2 t.3)
 
   -- one burst of the actor
-  pub run_burst : (doing : Doing) (history' entries : List Entry) (c : Caller) → a.number ≤ enlisted → Apart actors → history' ≡ history ++ entries → Burst seat a.number r.state c doing entries → IsRunOfActors readers enlisted history' (set actors seat (record { number = a.number; doing = doing }))
+  pub run_burst : (doing : Doing) (history' entries : List Entry) (c : Caller) → a.number ≤ enlisted → Apart actors → history' ≡ history ++ entries → Burst seat a.number r.state c doing entries
+      → IsRunOfActors readers enlisted history' (set actors seat (record { number = a.number; doing = doing }))
   run_burst doing history' entries c low apart more t =
       let b : Actor = record { number = a.number; doing = doing } in
       record {
@@ -133,12 +135,14 @@ module _ (readers enlisted : ℕ) (history : List Entry) (actors : List Actor) (
         history_is = t.history ∙ (ap (λ (h : List Entry). h ++ entries) r.history_is ∙ sym more);
         each = λ j u at. ⊎_elim
             (λ (k : (j ≡ seat) × (b ≡ u)). subst (λ (i : ℕ). FitsRun t.last i u.number u.doing) (sym k.0) (subst (λ (x : Actor). FitsRun t.last seat x.number x.doing) k.1 t.fits))
-            (λ (k : (j ≢ seat) × (get_elem? actors j ≡ some u)). fits_else j u.number c r.state t.last (λ d of. apart_callers j seat u.number a.number c d k.0 (λ pos eq. apart j seat u a k.1 here pos eq) of t.of) t.passes u.doing (r.each j u k.1))
+            (λ (k : (j ≢ seat) × (get_elem? actors j ≡ some u)). fits_else j u.number c r.state t.last
+            (λ d of. apart_callers j seat u.number a.number c d k.0 (λ pos eq. apart j seat u a k.1 here pos eq) of t.of) t.passes u.doing (r.each j u k.1))
             (at_set actors seat j b u at);
         only =
             let mine : (call : Call) → IsOfActor (set actors seat b) (c, call) = λ call. (seat, b, set_here actors seat b (place_below actors seat a here), t.of) in
             subst (All (IsOfActor (set actors seat b))) (sym t.passes.told)
-            (All-append (IsOfActor (set actors seat b)) (calls_told r.state) (all_by c t.passes.new) (all_then (IsOfActor actors) (IsOfActor (set actors seat b)) (some_still b (λ d of. of)) (calls_told r.state) r.only) (all_same c (IsOfActor (set actors seat b)) mine t.passes.new));
+            (All-append (IsOfActor (set actors seat b)) (calls_told r.state) (all_by c t.passes.new)
+            (all_then (IsOfActor actors) (IsOfActor (set actors seat b)) (some_still b (λ d of. of)) (calls_told r.state) r.only) (all_same c (IsOfActor (set actors seat b)) mine t.passes.new));
         unseated = λ j over below.
             let in_actors = place_below actors seat a here in
             let long = length-set actors seat b in
@@ -220,7 +224,13 @@ module _ (readers enlisted : ℕ) (history : List Entry) (actors : List Actor) (
   pub run_more : IsRunOfActors readers enlisted history (actors ++ record { number = 0; doing = nothing_done } ∷ [])
   run_more =
       let b : Actor = record { number = 0; doing = nothing_done } in
-      let mine : FitsRun r.state (length actors) 0 nothing_done = record { high = 0; recorded = le_refl 0; held = (omega arith, newcomer_idle); whole = ap (map told_call) (filter_none (λ (x : Told). is_of (length actors) 0 x.0) (calls_told r.state) newcomer_none) } in
+      let mine : FitsRun r.state (length actors) 0 nothing_done =
+      record {
+        high = 0;
+        recorded = le_refl 0;
+        held = (omega arith, newcomer_idle);
+        whole = ap (map told_call) (filter_none (λ (x : Told). is_of (length actors) 0 x.0) (calls_told r.state) newcomer_none);
+      } in
       record {
         moves = r.moves;
         state = r.state;
@@ -256,7 +266,8 @@ run_begins readers all = record {
     callers d (inr k) = let low = k.1.0 in absurd (omega arith)
 
     each : (seat : ℕ) (a : Actor) → get_elem? (record { number = 0; doing = nothing_done } ∷ []) seat ≡ some a → FitsRun (initial_state (cast_for readers)) seat a.number a.doing
-    each zero a e = subst (λ (x : Actor). FitsRun (initial_state (cast_for readers)) 0 x.number x.doing) (some-injective (record { number = 0; doing = nothing_done }) a e) (record { high = 0; recorded = le_refl 0; held = (omega arith, callers); whole = refl })
+    each zero a e = subst (λ (x : Actor). FitsRun (initial_state (cast_for readers)) 0 x.number x.doing) (some-injective (record { number = 0; doing = nothing_done }) a e)
+        (record { high = 0; recorded = le_refl 0; held = (omega arith, callers); whole = refl })
     each (suc seat) a e = absurd (some-ne-none a (sym e))
 
 -- the run of a log
@@ -275,7 +286,8 @@ same_run readers enlisted h h' actors r same = record {
 }
 
 -- steps that are no accesses
-pub log_kept : (readers enlisted : ℕ) (log log' : Log) (actors : List Actor) → IsRunOfLog readers enlisted log actors → history_of log' ≡ history_of log → accesses_of_log log' ≡ accesses_of_log log → IsRunOfLog readers enlisted log' actors
+pub log_kept : (readers enlisted : ℕ) (log log' : Log) (actors : List Actor) → IsRunOfLog readers enlisted log actors → history_of log' ≡ history_of log → accesses_of_log log' ≡ accesses_of_log log
+    → IsRunOfLog readers enlisted log' actors
 unfolding same_run
 log_kept readers enlisted log log' actors r is trace = record {
   of_actors = same_run readers enlisted (history_of log) (history_of log') actors r.of_actors (sym is);
@@ -288,14 +300,16 @@ logged_accesses log seat t =
     ∙ ap (λ (l : List (ℕ × Access)). accesses_of_log log ++ l) (append-nil (map (λ (m : Access). (seat, m)) (access_list t.target t.at)))
 
 -- accesses stay those of their actors
-steps_still : (actors later : List Actor) → ((j : ℕ) (a : Actor) (kind : AccessKind) (c : Caller) → get_elem? actors j ≡ some a → IsTakenBy j a.number kind c → (b : Actor) × (get_elem? later j ≡ some b) × IsTakenBy j b.number kind c)
+steps_still : (actors later : List Actor)
+    → ((j : ℕ) (a : Actor) (kind : AccessKind) (c : Caller) → get_elem? actors j ≡ some a → IsTakenBy j a.number kind c → (b : Actor) × (get_elem? later j ≡ some b) × IsTakenBy j b.number kind c)
     → (xs : List (Caller × Access)) (ys : List (ℕ × Access)) → AreStepsOf actors xs ys → AreStepsOf later xs ys
 steps_still actors later kept [] [] a = tt
 steps_still actors later kept [] (y ∷ ys) a = absurd a
 steps_still actors later kept (x ∷ xs) [] a = absurd a
 steps_still actors later kept (x ∷ xs) (y ∷ ys) a = (a.0, kept y.0 a.1.0 y.1.kind x.0 a.1.1 a.1.2, steps_still actors later kept xs ys a.2)
 
-steps_more : (actors : List Actor) (seat : ℕ) (a : Actor) (c : Caller) (m : Access) → get_elem? actors seat ≡ some a → IsTakenBy seat a.number m.kind c → (xs : List (Caller × Access)) (ys : List (ℕ × Access)) → AreStepsOf actors xs ys
+steps_more : (actors : List Actor) (seat : ℕ) (a : Actor) (c : Caller) (m : Access) → get_elem? actors seat ≡ some a → IsTakenBy seat a.number m.kind c
+    → (xs : List (Caller × Access)) (ys : List (ℕ × Access)) → AreStepsOf actors xs ys
     → AreStepsOf actors (xs ++ (c, m) ∷ []) (ys ++ (seat, m) ∷ [])
 steps_more actors seat a c m here by [] [] is = (refl, (a, here, by), tt)
 steps_more actors seat a c m here by [] (y ∷ ys) is = absurd is
@@ -306,15 +320,18 @@ module _ (readers enlisted : ℕ) (log : Log) (actors : List Actor) (r : IsRunOf
   abbrev moves_left : List Move → List (Caller × Access)
   moves_left moves = left_by (steps_of_moves moves) (Some (initial_state (cast_for readers)))
 
-  left_still : (b : Actor) → ((kind : AccessKind) (c : Caller) → IsTakenBy seat a.number kind c → IsTakenBy seat b.number kind c) → AreStepsOf (set actors seat b) (moves_left r.of_actors.moves) (accesses_of_log log)
+  left_still : (b : Actor) → ((kind : AccessKind) (c : Caller) → IsTakenBy seat a.number kind c → IsTakenBy seat b.number kind c)
+      → AreStepsOf (set actors seat b) (moves_left r.of_actors.moves) (accesses_of_log log)
   left_still b kept =
       steps_still actors (set actors seat b)
       (λ j u kind c at by. let k = still_of readers enlisted (history_of log) actors r.of_actors seat a here b (λ i n. IsTakenBy i n kind c) (kept kind c) j u at in (k.0, k.1, k.2 by))
       (left_by (steps_of_moves r.of_actors.moves) (Some (initial_state (cast_for readers)))) (accesses_of_log log) r.accesses
 
   -- a move of the actor
-  pub log_stepped : (doing : Doing) (taken : Taken) (entries : List Entry) (c : Caller) (m : Access) → a.number ≤ enlisted → Apart actors → access_list taken.target taken.at ≡ m ∷ [] → history_of (log ++ logged_by seat taken ∷ []) ≡ history_of log ++ entries
-      → IsTakenBy seat a.number m.kind c → Turn seat a.number r.of_actors.state c m doing entries → IsRunOfLog readers enlisted (log ++ logged_by seat taken ∷ []) (set actors seat (record { number = a.number; doing = doing }))
+  pub log_stepped : (doing : Doing) (taken : Taken) (entries : List Entry) (c : Caller) (m : Access) → a.number ≤ enlisted → Apart actors → access_list taken.target taken.at ≡ m ∷ []
+      → history_of (log ++ logged_by seat taken ∷ []) ≡ history_of log ++ entries
+      → IsTakenBy seat a.number m.kind c → Turn seat a.number r.of_actors.state c m doing entries
+      → IsRunOfLog readers enlisted (log ++ logged_by seat taken ∷ []) (set actors seat (record { number = a.number; doing = doing }))
   unfolding run_burst one_turn
   log_stepped doing taken entries c m low apart is more by t =
       let b : Actor = record { number = a.number; doing = doing } in
@@ -324,16 +341,19 @@ module _ (readers enlisted : ℕ) (log : Log) (actors : List Actor) (r : IsRunOf
       ap (λ (l : List Step). left_by l init) (flat_map-append steps_of_move one.moves (t.move ∷ []))
       ∙ (left_append (steps_of_moves one.moves) (steps_of_moves (t.move ∷ [])) (initial_state (cast_for readers)) one.state one.run
       ∙ ap (λ (l : List (Caller × Access)). left_by (steps_of_moves one.moves) init ++ l) (ap (λ (l : List Step). left_by l (Some one.state)) (append-nil (steps_of_move t.move)) ∙ t.left)) in
-      let longer = steps_more (set actors seat b) seat b c m (set_here actors seat b (place_below actors seat a here)) by (left_by (steps_of_moves one.moves) init) (accesses_of_log log) (left_still b (λ kind d of. of)) in
+      let longer = steps_more (set actors seat b) seat b c m (set_here actors seat b (place_below actors seat a here)) by (left_by (steps_of_moves one.moves) init) (accesses_of_log log)
+      (left_still b (λ kind d of. of)) in
       let logged = logged_accesses log seat taken ∙ ap (λ (l : List Access). accesses_of_log log ++ map (λ (z : Access). (seat, z)) l) is in
       record {
-        of_actors = run_burst readers enlisted (history_of log) actors one seat a here doing (history_of (log ++ logged_by seat taken ∷ [])) entries c low apart more (one_turn seat a.number one.state c m doing entries t);
+        of_actors = run_burst readers enlisted (history_of log) actors one seat a here doing (history_of (log ++ logged_by seat taken ∷ [])) entries c low apart more
+            (one_turn seat a.number one.state c m doing entries t);
         accesses = subst (λ (xs : List (Caller × Access)). AreStepsOf (set actors seat b) xs (accesses_of_log (log ++ logged_by seat taken ∷ []))) (sym left)
             (subst (λ (ys : List (ℕ × Access)). AreStepsOf (set actors seat b) (left_by (steps_of_moves one.moves) init ++ (c, m) ∷ []) ys) (sym logged) longer);
       }
 
   -- the actor gets a number
-  pub log_enlisted : (log' : Log) → a.number ≡ 0 → enlisted < 255 → a.doing.held ≡ Nothing → ((j : ℕ) (u : Actor) → get_elem? actors j ≡ some u → u.number ≤ enlisted) → history_of log' ≡ history_of log → accesses_of_log log' ≡ accesses_of_log log
+  pub log_enlisted : (log' : Log) → a.number ≡ 0 → enlisted < 255 → a.doing.held ≡ Nothing → ((j : ℕ) (u : Actor) → get_elem? actors j ≡ some u → u.number ≤ enlisted)
+      → history_of log' ≡ history_of log → accesses_of_log log' ≡ accesses_of_log log
       → IsRunOfLog readers (enlisted + 1) log' (set actors seat (record { number = enlisted + 1; doing = a.doing }))
   unfolding run_enlisted
   log_enlisted log' reader room none low is trace =
@@ -351,13 +371,15 @@ module _ (readers enlisted : ℕ) (log : Log) (actors : List Actor) (r : IsRunOf
       still kind c by = still_by kind c (subst (λ (n : ℕ). IsTakenBy seat n kind c) reader by)
 
 -- an actor more, without a number, that has done nothing
-pub log_more : (readers enlisted : ℕ) (log : Log) (actors : List Actor) → IsRunOfLog readers enlisted log actors → length actors < readers → IsRunOfLog readers enlisted log (actors ++ record { number = 0; doing = nothing_done } ∷ [])
+pub log_more : (readers enlisted : ℕ) (log : Log) (actors : List Actor) → IsRunOfLog readers enlisted log actors → length actors < readers
+    → IsRunOfLog readers enlisted log (actors ++ record { number = 0; doing = nothing_done } ∷ [])
 unfolding run_more
 log_more readers enlisted log actors r more =
     let b : Actor = record { number = 0; doing = nothing_done } in
     record {
       of_actors = run_more readers enlisted (history_of log) actors r.of_actors more;
-      accesses = steps_still actors (actors ++ b ∷ []) (λ j a kind c at by. (a, at_longer actors (b ∷ []) j a at, by)) (left_by (steps_of_moves r.of_actors.moves) (Some (initial_state (cast_for readers)))) (accesses_of_log log) r.accesses;
+      accesses = steps_still actors (actors ++ b ∷ []) (λ j a kind c at by. (a, at_longer actors (b ∷ []) j a at, by))
+          (left_by (steps_of_moves r.of_actors.moves) (Some (initial_state (cast_for readers)))) (accesses_of_log log) r.accesses;
     }
 
 -- the first actor, before any step

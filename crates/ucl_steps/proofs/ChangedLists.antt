@@ -5,7 +5,8 @@ use Rattle.std.proofs.lemmas.Option.{none-some, same_Some}
 use Rattle.ucl_steps.specs.Machine.{change_at}
 
 module _ {X : Type 0} where
-  pub get-change_at : (k : ℕ) (f : X → X) (xs : List X) (i : ℕ) (y : X) → slice_get (change_at k f xs) i ≡ Some y → ((i ≡ k) × (x : X) × (slice_get xs k ≡ Some x) × (f x ≡ y)) ⊎ ((i ≢ k) × (slice_get xs i ≡ Some y))
+  pub get-change_at : (k : ℕ) (f : X → X) (xs : List X) (i : ℕ) (y : X) → slice_get (change_at k f xs) i ≡ Some y
+      → ((i ≡ k) × (x : X) × (slice_get xs k ≡ Some x) × (f x ≡ y)) ⊎ ((i ≢ k) × (slice_get xs i ≡ Some y))
   get-change_at k f [] i y e = absurd (none-some y e)
   get-change_at zero f (x ∷ xs) zero y e = inl (refl, x, refl, same_Some (f x) y e)
   get-change_at zero f (x ∷ xs) (suc i) y e = inr (λ is. omega arith, e)

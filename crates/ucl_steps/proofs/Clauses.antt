@@ -40,7 +40,8 @@ module _ (history : List Entry) (c : CallRecord) (explained : IsExplained histor
   decided : (k : ℕ) (reply : Reply) → IsDecided c k reply → IsExplained history c (Some k) (Some reply)
   decided k reply is = subst (λ (p : Option ℕ). IsExplained history c p (Some reply)) is.0 (subst (λ (r : Option Reply). IsExplained history c c.point r) is.1 explained)
 
-  entry_of_reporter : (k : ℕ) (a : word.Accepted) (caller : Caller) (call : Call) → c.caller ≡ caller → c.call ≡ call → IfSome c.ended (λ ended. k < ended) → IsSequential history k caller call (Accepted a) → IsEntry history c k a
+  entry_of_reporter : (k : ℕ) (a : word.Accepted) (caller : Caller) (call : Call) → c.caller ≡ caller → c.call ≡ call → IfSome c.ended (λ ended. k < ended)
+      → IsSequential history k caller call (Accepted a) → IsEntry history c k a
   entry_of_reporter k a (Reporter r) (Event e) is_caller is_call before s = record {
     reporter = r;
     event = e;
@@ -68,7 +69,8 @@ module _ (history : List Entry) (c : CallRecord) (explained : IsExplained histor
   snapshot : (k : ℕ) (reading : board.Reading) → reading.board ≡ board_of (take k history) → reading.version ≡ k → reading ≡ snapshot_at history k
   snapshot k reading same is = ap (λ (z : List ℕ). record { board = z; version = reading.version }) same ∙ ap (λ (z : ℕ). record { board = board_of (take k history); version = z }) is
 
-  copied : (k : ℕ) (reading : board.Reading) (caller : Caller) (call : Call) → c.call ≡ call → IsSequential history k caller call (Copied reading) → (c.call ≡ Reading) × (reading ≡ snapshot_at history k)
+  copied : (k : ℕ) (reading : board.Reading) (caller : Caller) (call : Call) → c.call ≡ call → IsSequential history k caller call (Copied reading)
+      → (c.call ≡ Reading) × (reading ≡ snapshot_at history k)
   copied k reading (Reporter r) Reading is_call s = (is_call, snapshot k reading s.0 s.1)
   copied k reading (Reader r) Reading is_call s = (is_call, snapshot k reading s.0 s.1)
   copied k reading (Reporter r) (Event e) is_call s = absurd s

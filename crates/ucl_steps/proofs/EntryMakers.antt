@@ -42,7 +42,8 @@ module _ (xs : List CallRecord) (k : ℕ) (f : CallRecord → CallRecord) where
       some_and (slice_get (change_at k f xs) i) (IsMaker m) t.0 (change_at_else k f xs i t.0 not t.1) t.2
 
   -- a call that keeps its reply and its point
-  pub once_kept : (h : List Entry) → ((c : CallRecord) (m : ℕ) → IsMaker m c → IsMaker m (f c)) → ((c : CallRecord) (m : ℕ) → IsMaker m (f c) → IsMaker m c) → EntryHasOneCall h xs → EntryHasOneCall h (change_at k f xs)
+  pub once_kept : (h : List Entry) → ((c : CallRecord) (m : ℕ) → IsMaker m c → IsMaker m (f c)) → ((c : CallRecord) (m : ℕ) → IsMaker m (f c) → IsMaker m c) → EntryHasOneCall h xs
+      → EntryHasOneCall h (change_at k f xs)
   once_kept h to from = once_same h xs (change_at k f xs)
       (λ i m made. elim (cases_eq i k) [
         | inl is ↦ let t = and_some (slice_get xs i) (IsMaker m) made in
@@ -76,7 +77,8 @@ module _ (xs : List CallRecord) (k : ℕ) (f : CallRecord → CallRecord) where
         ])
 
     -- the call that made the new entry
-    pub once_accepted : (h : List Entry) (e : Entry) → is_accepted (f a).reply ≡ true → (f a).point ≡ Some (length h) → ((i m : ℕ) → Makes xs i m → m < length h) → EntryHasOneCall h xs → EntryHasOneCall (h ++ e ∷ []) (change_at k f xs)
+    pub once_accepted : (h : List Entry) (e : Entry) → is_accepted (f a).reply ≡ true → (f a).point ≡ Some (length h) → ((i m : ℕ) → Makes xs i m → m < length h) → EntryHasOneCall h xs
+        → EntryHasOneCall (h ++ e ∷ []) (change_at k f xs)
     once_accepted h e made_it point below once m l = let long = length_push h e in elim (cases_eq m (length h)) [
       | inl is ↦ (
         k,

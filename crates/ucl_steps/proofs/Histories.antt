@@ -46,7 +46,8 @@ number_is h g = number_of_count (entries_of g h)
 
 pub match_next : (h : List Entry) (e : Entry) → IsLegal h → MayFollow h e → match_after (h ++ e ∷ []) e.game ≡ after (match_after h e.game) e.reporter e.kind
 match_next h e legal may = ap counted_match (entries_same h e e.game refl)
-    ∙ record_next (entries_of e.game h) e.reporter e.kind (legal_balanced (entries_of e.game h) (legal_match e.game h legal)) (legal_case (entries_of e.game h) (legal_match e.game h legal)) (accepts (match_after h e.game) (length (entries_of e.game h)) e.kind may.accepted.accepted)
+    ∙ record_next (entries_of e.game h) e.reporter e.kind (legal_balanced (entries_of e.game h) (legal_match e.game h legal)) (legal_case (entries_of e.game h) (legal_match e.game h legal))
+    (accepts (match_after h e.game) (length (entries_of e.game h)) e.kind may.accepted.accepted)
 
 -- a word is of one record
 pub read_back : (h : List Entry) (g : ℕ) → IsLegal h → record_at (word_of (match_after h g)) ≡ match_after h g
@@ -65,7 +66,8 @@ numbers_rise g h a b l =
     omega (arith, ap length cut, length-append (entries_of g (take a h)) (entries_of g (drop a (take b h))))
 
 -- a word that a match has before and after a place, it has there too
-pub squeezed : (g x : ℕ) (h : List Entry) (a p b : ℕ) → IsLegal h → a ≤ p → p ≤ b → x ≡ word_of (match_after (take a h) g) → x ≡ word_of (match_after (take b h) g) → x ≡ word_of (match_after (take p h) g)
+pub squeezed : (g x : ℕ) (h : List Entry) (a p b : ℕ) → IsLegal h → a ≤ p → p ≤ b → x ≡ word_of (match_after (take a h) g) → x ≡ word_of (match_after (take b h) g)
+    → x ≡ word_of (match_after (take p h) g)
 squeezed g x h a p b legal low high is_a is_b =
     let same = ap length (same_word h a b g legal (sym is_a ∙ is_b)) in
     let up = numbers_rise g h a p low in

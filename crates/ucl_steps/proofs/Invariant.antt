@@ -65,7 +65,8 @@ explained_closed h c None None s some = absurd (false≢true some)
 
 module _ (steps : List Step) (w : MachineState) (kept : Keeps steps w) (c : Caller) (x : Holds) (holds : held_by w.callers c ≡ Some x) where
   -- what other callers hold, and know
-  knows_else : (h' : List Entry) (calls : List CallRecord) (y : Holds) → IsPrefix w.history h' → ((d : Caller) (k : ℕ) (b : CallRecord) → d ≢ c → slice_get w.calls k ≡ Some b → b.caller ≡ d → slice_get calls k ≡ Some b)
+  knows_else : (h' : List Entry) (calls : List CallRecord) (y : Holds) → IsPrefix w.history h'
+      → ((d : Caller) (k : ℕ) (b : CallRecord) → d ≢ c → slice_get w.calls k ≡ Some b → b.caller ≡ d → slice_get calls k ≡ Some b)
       → (d : Caller) (z : Holds) (k : ℕ) → d ≢ c → held_by (set_held y c w.callers) d ≡ Some z → in_call z ≡ Some k → Knows h' calls d z k
   knows_else h' calls y b same d z k not at within =
       let t = kept.knows d z k (sym (held_else w.callers c d y x holds not) ∙ at) within in
@@ -77,7 +78,9 @@ module _ (steps : List Step) (w : MachineState) (kept : Keeps steps w) (c : Call
     mine = kept.knows c x k holds within
 
     other_call : (d : Caller) (i : ℕ) (b : CallRecord) → d ≢ c → slice_get w.calls i ≡ Some b → b.caller ≡ d → i ≢ k
-    other_call d i b not at is same = not (sym is ∙ (ap (λ (z : CallRecord). z.caller) (same_Some b (kept.knows c x k holds within).call (sym at ∙ (ap (slice_get w.calls) same ∙ (kept.knows c x k holds within).at))) ∙ (kept.knows c x k holds within).caller))
+    other_call d i b not at is same = not (sym is
+        ∙ (ap (λ (z : CallRecord). z.caller) (same_Some b (kept.knows c x k holds within).call (sym at ∙ (ap (slice_get w.calls) same ∙ (kept.knows c x k holds within).at)))
+        ∙ (kept.knows c x k holds within).caller))
 
     pub moved : (s : Step) (y : Holds) (h' : List Entry) (words' : List ℕ) (f : CallRecord → CallRecord) → IsInner s → IsPrefix w.history h' → IsLegal h' → words' ≡ board_of h'
         → ((a : CallRecord) → time_of (f a) ≡ time_of a) → EntryHasOneCall h' (change_at k f w.calls)
@@ -94,7 +97,8 @@ module _ (steps : List Step) (w : MachineState) (kept : Keeps steps w) (c : Call
             | inr u ↦ explained_later w.history h' b a (kept.explained i a u.1)
           ];
           once = once;
-          turns = subst (Turns (steps ++ s ∷ []) (length h')) (sym (map_unseen time_of k f timed w.calls)) (turns_inner steps (length w.history) (length h') (map time_of w.calls) s inner (begins_length w.history h' b) kept.turns);
+          turns = subst (Turns (steps ++ s ∷ []) (length h')) (sym (map_unseen time_of k f timed w.calls))
+              (turns_inner steps (length w.history) (length h') (map time_of w.calls) s inner (begins_length w.history h' b) kept.turns);
           knows = λ d z i at within_z. elim (same_caller d c) [
             | inl is ↦
                 let z_is : y ≡ z = same_Some y z (sym (held_here w.callers c x y holds) ∙ (ap (held_by (set_held y c w.callers)) (sym is) ∙ at)) in
@@ -110,7 +114,8 @@ module _ (steps : List Step) (w : MachineState) (kept : Keeps steps w) (c : Call
           ];
           unended = λ i a at none. elim (get-change_at k f w.calls i a at) [
             | inl u ↦
-                let own : a.caller ≡ c = ap (λ (z : CallRecord). z.caller) (sym u.3) ∙ (ap (λ (t : Time). t.caller) (timed u.1) ∙ (ap (λ (z : CallRecord). z.caller) (same_Some u.1 m.call (sym u.2 ∙ m.at)) ∙ m.caller)) in
+                let own : a.caller ≡ c = ap (λ (z : CallRecord). z.caller) (sym u.3)
+                ∙ (ap (λ (t : Time). t.caller) (timed u.1) ∙ (ap (λ (z : CallRecord). z.caller) (same_Some u.1 m.call (sym u.2 ∙ m.at)) ∙ m.caller)) in
                 record { holds = y; held_is = ap (held_by (set_held y c w.callers)) own ∙ held_here w.callers c x y holds; in_it = inside ∙ ap Some (sym u.0) }
             | inr u ↦
                 let o = kept.unended i a u.1 none in
@@ -127,10 +132,12 @@ module _ (steps : List Step) (w : MachineState) (kept : Keeps steps w) (c : Call
     pub stayed : (s : Step) (y : Holds) → IsInner s → ((a : CallRecord) → slice_get w.calls k ≡ Some a → Sees w.history a y) → in_call y ≡ Some k → Keeps (steps ++ s ∷ []) (with_held y c w)
     stayed s y inner told inside =
         subst (λ (cs : List CallRecord). Keeps (steps ++ s ∷ []) (with_held y c (record w { calls = cs }))) (change_at_same k w.calls)
-        (moved s y w.history w.words (λ a. a) inner (begins_same w.history) kept.legal kept.words (λ a. refl) (subst (EntryHasOneCall w.history) (sym (change_at_same k w.calls)) kept.once) (λ a at. (kept.explained k a at, told a at)) inside)
+        (moved s y w.history w.words (λ a. a) inner (begins_same w.history) kept.legal kept.words (λ a. refl) (subst (EntryHasOneCall w.history) (sym (change_at_same k w.calls)) kept.once)
+        (λ a at. (kept.explained k a at, told a at)) inside)
 
     -- the end of a call
-    pub ended : Sees w.history (kept.knows c x k holds within).call (Answered k) → Keeps (steps ++ End c ∷ []) (with_held Idle c (record w { calls = change_at k (with_end (length w.history)) w.calls }))
+    pub ended : Sees w.history (kept.knows c x k holds within).call (Answered k)
+        → Keeps (steps ++ End c ∷ []) (with_held Idle c (record w { calls = change_at k (with_end (length w.history)) w.calls }))
     ended answered =
         let m = kept.knows c x k holds within in
         let n = length w.history in
@@ -143,16 +150,19 @@ module _ (steps : List Step) (w : MachineState) (kept : Keeps steps w) (c : Call
           explained = λ i a at. elim (get-change_at k f w.calls i a at) [
             | inl u ↦
                 let same : m.call ≡ u.1 = same_Some m.call u.1 (sym m.at ∙ u.2) in
-                subst (λ (z : CallRecord). IsExplained w.history z z.point z.reply) (ap f same ∙ u.3) (explained_closed w.history m.call m.call.point m.call.reply (kept.explained k m.call m.at) answered)
+                subst (λ (z : CallRecord). IsExplained w.history z z.point z.reply) (ap f same ∙ u.3)
+                (explained_closed w.history m.call m.call.point m.call.reply (kept.explained k m.call m.at) answered)
             | inr u ↦ kept.explained i a u.1
           ];
           once = once_kept w.calls k f w.history (λ a i made. made) (λ a i made. made) kept.once;
-          turns = subst (Turns (steps ++ End c ∷ []) n) (sym (map-change_at time_of k f (ended_at n) (λ a. refl) w.calls)) (turns_end steps n (map time_of w.calls) c k (time_of m.call) here m.caller m.unended kept.turns);
+          turns = subst (Turns (steps ++ End c ∷ []) n) (sym (map-change_at time_of k f (ended_at n) (λ a. refl) w.calls))
+              (turns_end steps n (map time_of w.calls) c k (time_of m.call) here m.caller m.unended kept.turns);
           knows = λ d z i at within_z. elim (same_caller d c) [
             | inl is ↦
                 let z_is : Idle ≡ z = same_Some Idle z (sym (held_here w.callers c x Idle holds) ∙ (ap (held_by (set_held Idle c w.callers)) (sym is) ∙ at)) in
                 absurd (none-some i (ap in_call z_is ∙ within_z))
-            | inr not ↦ knows_else w.history calls' Idle (begins_same w.history) (λ e j a other there own. change_at_else k f w.calls j a (other_call e j a other there own) there) d z i not at within_z
+            | inr not ↦ knows_else w.history calls' Idle (begins_same w.history) (λ e j a other there own. change_at_else k f w.calls j a (other_call e j a other there own) there) d z i not at
+                within_z
           ];
           unended = λ i a at none. elim (get-change_at k f w.calls i a at) [
             | inl u ↦ absurd (none-some n (sym none ∙ ap (λ (z : CallRecord). z.ended) (sym u.3)))
@@ -168,7 +178,8 @@ module _ (steps : List Step) (w : MachineState) (kept : Keeps steps w) (c : Call
         }
 
   -- a call begins
-  pub begun : x ≡ Idle → (call : Call) (y : Holds) → Sees w.history (record { caller = c; call = call; begun = length w.history; point = None; reply = None; ended = None }) y → in_call y ≡ Some (length w.calls)
+  pub begun : x ≡ Idle → (call : Call) (y : Holds) → Sees w.history (record { caller = c; call = call; begun = length w.history; point = None; reply = None; ended = None }) y
+      → in_call y ≡ Some (length w.calls)
       → Keeps (steps ++ Begin c call ∷ []) (with_held y c (record w { calls = w.calls ++ record { caller = c; call = call; begun = length w.history; point = None; reply = None; ended = None } ∷ [] }))
   begun idle call y sees inside =
       let n = length w.history in
@@ -208,11 +219,16 @@ module _ (steps : List Step) (w : MachineState) (kept : Keeps steps w) (c : Call
                 | inl is ↦ absurd (closed_all i a u.1 is none)
                 | inr not ↦ record { holds = o.holds; held_is = held_else w.callers c a.caller y x holds not ∙ o.held_is; in_it = o.in_it }
               ]
-          | inr u ↦ record { holds = y; held_is = ap (held_by (set_held y c w.callers)) (ap (λ (z : CallRecord). z.caller) (sym u.1)) ∙ held_here w.callers c x y holds; in_it = inside ∙ ap Some (sym u.0) }
+          | inr u ↦ record {
+            holds = y;
+            held_is = ap (held_by (set_held y c w.callers)) (ap (λ (z : CallRecord). z.caller) (sym u.1)) ∙ held_here w.callers c x y holds;
+            in_it = inside ∙ ap Some (sym u.0);
+          }
         ];
       }
     where
-      timed_ended : (i : ℕ) (t : Time) → slice_get (map time_of w.calls) i ≡ Some t → t.caller ≡ c → ((i : ℕ) (a : CallRecord) → slice_get w.calls i ≡ Some a → a.caller ≡ c → a.ended ≡ None → ⊥) → IsSome t.ended
+      timed_ended : (i : ℕ) (t : Time) → slice_get (map time_of w.calls) i ≡ Some t → t.caller ≡ c → ((i : ℕ) (a : CallRecord) → slice_get w.calls i ≡ Some a → a.caller ≡ c → a.ended ≡ None → ⊥)
+          → IsSome t.ended
       timed_ended i t at own closed_all =
           let below = at_below (map time_of w.calls) i t at in
           let count = length-map w.calls time_of in

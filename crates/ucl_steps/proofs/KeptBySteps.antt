@@ -1,5 +1,6 @@
 -- Each step of the machine keeps what every step keeps.
-use Rattle.std.proofs.Common.{◌≡◌, ℕ, zero, suc, ◌+◌, ◌-◌, ◌<◌, ◌≤◌, ◌==◌, ◌&&◌, nat_le, Bool, true, false, cond, List, [], ◌∷◌, ◌++◌, take, length, Option, Some, None, Ok, Err, inl, inr, refl, sym, ap, ◌∙◌, subst, arith, le_refl, get_or}
+use Rattle.std.proofs.Common.{◌≡◌, ℕ, zero, suc, ◌+◌, ◌-◌, ◌<◌, ◌≤◌, ◌==◌, ◌&&◌, nat_le, Bool, true, false, cond, List, [], ◌∷◌, ◌++◌, take, length, Option, Some, None, Ok, Err, inl, inr, refl, sym}
+use Rattle.std.proofs.Common.{ap, ◌∙◌, subst, arith, le_refl, get_or}
 use Rattle.std.specs.Prelude.{slice_get, slice_index, slice_set, IfSome}
 use Rattle.std.specs.Option.{option_map}
 use Rattle.std.proofs.lemmas.Option.{none-some, same_Some, slice_get-map, cond_some}
@@ -29,7 +30,8 @@ use Rattle.ucl_steps.specs.declared.step.Step.TheVariants.{Begin, Look, Swap, Fi
 use Rattle.ucl_steps.specs.declared.trace.CallRecord.{CallRecord}
 use Rattle.ucl_steps.specs.declared.trace.Reply.TheVariants.{Accepted, Refused, Copied}
 use Rattle.ucl_steps.specs.Protocol.{Holding, Collecting, Checking, GoesOn, Answers, by_rules}
-use Rattle.ucl_steps.specs.Machine.{may_begin, after_begin, after_step_holding, caller_of, Holds, Idle, Wanting, Within, Answered, MachineState, held_by, with_held, change_at, with_reply, with_end, after_outcome, stored, state_after_look, state_after_swap, state_after_first, state_after_second, after_reply}
+use Rattle.ucl_steps.specs.Machine.{may_begin, after_begin, after_step_holding, caller_of, Holds, Idle, Wanting, Within, Answered, MachineState, held_by, with_held, change_at, with_reply, with_end}
+use Rattle.ucl_steps.specs.Machine.{after_outcome, stored, state_after_look, state_after_swap, state_after_first, state_after_second, after_reply}
 use Rattle.ucl_steps.proofs.Explanations.{IsExplained, IsSequential}
 use Rattle.ucl_steps.proofs.Turns.{IsInner}
 use Rattle.ucl_steps.proofs.CallFacts.{Asks, Offers, Loaded, AreAt, Collects, Checks, in_call}
@@ -46,7 +48,8 @@ unended_none o P none = subst (λ (z : Option ℕ). IfSome z P) (sym none) tt
 same_reporter : (n m : ℕ) → Reporter n ≡ Reporter m → n ≡ m
 same_reporter n m e = cc
 
-sequential_reading : (h : List Entry) (k : ℕ) (c : Caller) (board : List ℕ) (version : ℕ) → board ≡ board_of (take k h) → version ≡ k → IsSequential h k c Reading (Copied (record { board = board; version = version }))
+sequential_reading : (h : List Entry) (k : ℕ) (c : Caller) (board : List ℕ) (version : ℕ) → board ≡ board_of (take k h) → version ≡ k
+    → IsSequential h k c Reading (Copied (record { board = board; version = version }))
 sequential_reading h k (Reporter n) board version same is = (same, is)
 sequential_reading h k (Reader n) board version same is = (same, is)
 
@@ -65,7 +68,8 @@ module _ (steps : List Step) (w : MachineState) (kept : Keeps steps w) where
   begun_before k a at = (kept.turns.past k (time_of a) (slice_get-map time_of w.calls k ∙ ap (option_map time_of) at)).0
 
   -- a refusal at the present place
-  refused_kept : (s : Step) (c : Caller) (k : ℕ) (e : EventCall) (x : Holds) (holds : held_by w.callers c ≡ Some x) (within : in_call x ≡ Some k) (refusal : Refusal) → IsInner s → Asks (kept.knows c x k holds within).call e
+  refused_kept : (s : Step) (c : Caller) (k : ℕ) (e : EventCall) (x : Holds) (holds : held_by w.callers c ≡ Some x) (within : in_call x ≡ Some k) (refusal : Refusal) → IsInner s
+      → Asks (kept.knows c x k holds within).call e
       → refusal_of (match_after w.history e.game) e.expected e.kind ≡ Some refusal → Keeps (steps ++ s ∷ []) (after_reply c k now (Refused refusal) w)
   refused_kept s c k e x holds within refusal inner asks refuses =
       let m = kept.knows c x k holds within in
@@ -73,7 +77,8 @@ module _ (steps : List Step) (w : MachineState) (kept : Keeps steps w) where
       let f = with_reply now (Refused refusal) in
       let base : sequential_reply (take now h) e ≡ Err refusal = ap (λ (z : List Entry). sequential_reply z e) (take-length h) ∙ ap (answer (match_after h e.game).number) refuses in
       let is : IsSequential h now m.call.caller m.call.call (Refused refusal) =
-      subst (λ (z : Caller). IsSequential h now z m.call.call (Refused refusal)) (sym asks.caller) (subst (λ (z : Call). IsSequential h now (Reporter asks.reporter) z (Refused refusal)) (sym asks.call) base) in
+      subst (λ (z : Caller). IsSequential h now z m.call.call (Refused refusal)) (sym asks.caller)
+      (subst (λ (z : Call). IsSequential h now (Reporter asks.reporter) z (Refused refusal)) (sym asks.call) base) in
       let told : IsExplained h (f m.call) (Some now) (Some (Refused refusal)) = ((begun_before k m.call m.at, le_refl now, unended_none m.call.ended (λ z. now ≤ z) m.unended), is) in
       moved steps w kept c x holds k within s (Answered k) h w.words f inner (begins_same h) kept.legal kept.words (λ a. refl)
       (once_refused w.calls k f m.call m.at asks.reply h refl kept.once)
@@ -98,7 +103,8 @@ module _ (steps : List Step) (w : MachineState) (kept : Keeps steps w) where
         accepted = is;
         next = ap (λ (z : ℕ). word_of (after (record_at word) z e.kind)) (sym r_is);
       } in
-      stayed steps w kept (Reporter n) (Wanting k e) holds k refl (Look (Reporter n)) (Within k (Holding e word new)) tt (λ a at. subst (λ (z : CallRecord). Offers w.history z e word new) (same_Some m.call a (sym m.at ∙ at)) offers) refl
+      stayed steps w kept (Reporter n) (Wanting k e) holds k refl (Look (Reporter n)) (Within k (Holding e word new)) tt
+      (λ a at. subst (λ (z : CallRecord). Offers w.history z e word new) (same_Some m.call a (sym m.at ∙ at)) offers) refl
 
   module _ (n k : ℕ) (e : EventCall) (old new : ℕ) (holds : held_by w.callers (Reporter n) ≡ Some (Within k (Holding e old new))) where
     missed : (word_at w.words e.game == old) ≡ false → Keeps (steps ++ Swap (Reporter n) ∷ []) (after_reply (Reporter n) k now (Refused (Stale (record_at (word_at w.words e.game)).number)) w)
@@ -152,16 +158,21 @@ module _ (steps : List Step) (w : MachineState) (kept : Keeps steps w) where
           let g = e.game in
           let h' = h ++ entered e n ∷ [] in
           let legal = legal_snoc h (entered e n) kept.legal may_follow in
-          let words : slice_set w.words (g - 1) new ≡ board_of h' = ap (λ (z : List ℕ). slice_set z (g - 1) new) kept.words ∙ (ap (slice_set (board_of h) (g - 1)) new_is ∙ sym (board_next h (entered e n) kept.legal may_follow)) in
+          let words : slice_set w.words (g - 1) new ≡ board_of h' =
+          ap (λ (z : List ℕ). slice_set z (g - 1) new) kept.words ∙ (ap (slice_set (board_of h) (g - 1)) new_is ∙ sym (board_next h (entered e n) kept.legal may_follow)) in
           let reply = Accepted (record { number = (record_at new).number }) in
           let f = with_reply now reply in
-          let base : IsSequential h' now (Reporter n) (Event e) reply =
-          (ap (λ (z : List Entry). sequential_reply z e) (take-append_seam h (entered e n ∷ [])) ∙ (ap (answer (match_after h g).number) accepted_now ∙ ap (λ (z : ℕ). Ok (record { number = z })) (sym new_number)), at_end h (entered e n)) in
+          let base : IsSequential h' now (Reporter n) (Event e) reply = (
+            ap (λ (z : List Entry). sequential_reply z e) (take-append_seam h (entered e n ∷ []))
+                ∙ (ap (answer (match_after h g).number) accepted_now ∙ ap (λ (z : ℕ). Ok (record { number = z })) (sym new_number)),
+            at_end h (entered e n),
+          ) in
           let is : IsSequential h' now m.call.caller m.call.call reply =
           subst (λ (z : Caller). IsSequential h' now z m.call.call reply) (sym m.caller) (subst (λ (z : Call). IsSequential h' now (Reporter n) z reply) (sym o.asks.call) base) in
           let long = length_push h (entered e n) in
           let told : IsExplained h' (f m.call) (Some now) (Some reply) = ((begun_before k m.call m.at, omega arith, unended_none m.call.ended (λ z. now < z) m.unended), is) in
-          moved steps w kept (Reporter n) (Within k (Holding e old new)) holds k refl (Swap (Reporter n)) (Answered k) h' (slice_set w.words (g - 1) new) f tt (entered e n ∷ [], refl) legal words (λ a. refl)
+          moved steps w kept (Reporter n) (Within k (Holding e old new)) holds k refl (Swap (Reporter n)) (Answered k) h' (slice_set w.words (g - 1) new) f tt (entered e n ∷ [], refl) legal words
+          (λ a. refl)
           (once_accepted w.calls k f m.call m.at o.asks.reply h (entered e n) refl refl (made_within h w.calls kept.explained) kept.once)
           (λ a at. (subst (λ (z : CallRecord). IsExplained h' (f z) (Some now) (Some reply)) (same_Some m.call a (sym m.at ∙ at)) told, refl)) refl
 
@@ -183,8 +194,10 @@ module _ (steps : List Step) (w : MachineState) (kept : Keeps steps w) where
             (now, le_refl now, get_or_push loaded (slice_index w.words (length loaded)) 0 i is ∙ (ap (slice_index w.words) is ∙ word_at_place i (omega arith)))
       ]
 
-  first_kept : (c : Caller) (k : ℕ) (loaded : List ℕ) (holds : held_by w.callers c ≡ Some (Within k (Collecting loaded))) (b : Bool) → (length (loaded ++ slice_index w.words (length loaded) ∷ []) == 12) ≡ b
-      → Keeps (steps ++ First c ∷ []) (with_held (Within k (cond b (Checking (loaded ++ slice_index w.words (length loaded) ∷ []) 0 now) (Collecting (loaded ++ slice_index w.words (length loaded) ∷ [])))) c w)
+  first_kept : (c : Caller) (k : ℕ) (loaded : List ℕ) (holds : held_by w.callers c ≡ Some (Within k (Collecting loaded))) (b : Bool)
+      → (length (loaded ++ slice_index w.words (length loaded) ∷ []) == 12) ≡ b
+      → Keeps (steps ++ First c ∷ []) (with_held
+      (Within k (cond b (Checking (loaded ++ slice_index w.words (length loaded) ∷ []) 0 now) (Collecting (loaded ++ slice_index w.words (length loaded) ∷ [])))) c w)
   first_kept c k loaded holds true is =
       let m = kept.knows c (Within k (Collecting loaded)) k holds refl in
       let o = m.sees in
@@ -198,7 +211,8 @@ module _ (steps : List Step) (w : MachineState) (kept : Keeps steps w) where
         loaded = loaded_more loaded o.few o.loaded;
         same = λ i none. absurd (omega arith);
       } in
-      stayed steps w kept c (Within k (Collecting loaded)) holds k refl (First c) (Within k (Checking more 0 now)) tt (λ a at. subst (λ (z : CallRecord). Checks w.history z more 0 now) (same_Some m.call a (sym m.at ∙ at)) checks) refl
+      stayed steps w kept c (Within k (Collecting loaded)) holds k refl (First c) (Within k (Checking more 0 now)) tt
+      (λ a at. subst (λ (z : CallRecord). Checks w.history z more 0 now) (same_Some m.call a (sym m.at ∙ at)) checks) refl
   first_kept c k loaded holds false is =
       let m = kept.knows c (Within k (Collecting loaded)) k holds refl in
       let o = m.sees in
@@ -207,7 +221,8 @@ module _ (steps : List Step) (w : MachineState) (kept : Keeps steps w) where
       let few = o.few in
       let not-all = eqb-false (length more) 12 is in
       let collects : Collects w.history m.call more = record { reads = o.reads; few = below (length loaded) (length more) few long not-all; loaded = loaded_more loaded o.few o.loaded } in
-      stayed steps w kept c (Within k (Collecting loaded)) holds k refl (First c) (Within k (Collecting more)) tt (λ a at. subst (λ (z : CallRecord). Collects w.history z more) (same_Some m.call a (sym m.at ∙ at)) collects) refl
+      stayed steps w kept c (Within k (Collecting loaded)) holds k refl (First c) (Within k (Collecting more)) tt
+      (λ a at. subst (λ (z : CallRecord). Collects w.history z more) (same_Some m.call a (sym m.at ∙ at)) collects) refl
     where
       below : (n m : ℕ) → n < 12 → m ≡ n + 1 → (m ≡ 12 → ⊥) → m < 12
       below n m few is not = omega arith
@@ -217,7 +232,8 @@ module _ (steps : List Step) (w : MachineState) (kept : Keeps steps w) where
     start_again =
         let m = kept.knows c (Within k (Checking words checked point)) k holds refl in
         let collects : Collects w.history m.call [] = record { reads = m.sees.reads; few = omega arith; loaded = λ i none. absurd (omega arith) } in
-        stayed steps w kept c (Within k (Checking words checked point)) holds k refl (Second c) (Within k (Collecting [])) tt (λ a at. subst (λ (z : CallRecord). Collects w.history z []) (same_Some m.call a (sym m.at ∙ at)) collects) refl
+        stayed steps w kept c (Within k (Checking words checked point)) holds k refl (Second c) (Within k (Collecting [])) tt
+        (λ a at. subst (λ (z : CallRecord). Collects w.history z []) (same_Some m.call a (sym m.at ∙ at)) collects) refl
 
     pub one_more : (slice_index w.words checked == slice_index words checked) ≡ true → AreAt w.history words (checked + 1) point
     one_more same i less =
@@ -229,18 +245,22 @@ module _ (steps : List Step) (w : MachineState) (kept : Keeps steps w) where
           | inr l ↦
               let is : i ≡ checked = omega arith in
               let t = o.loaded i (omega arith) in
-              let there : get_or words i 0 ≡ get_or w.words i 0 = ap (λ (z : ℕ). get_or words z 0) is ∙ (sym (eqb-true (get_or w.words checked 0) (get_or words checked 0) same) ∙ ap (λ (z : ℕ). get_or w.words z 0) (sym is)) in
+              let there : get_or words i 0 ≡ get_or w.words i 0 =
+              ap (λ (z : ℕ). get_or words z 0) is ∙ (sym (eqb-true (get_or w.words checked 0) (get_or words checked 0) same) ∙ ap (λ (z : ℕ). get_or w.words z 0) (sym is)) in
               squeezed (i + 1) (get_or words i 0) w.history t.0 point now kept.legal t.1 o.late t.2 (there ∙ word_at_place i (omega arith))
         ]
 
-    goes_on : (slice_index w.words checked == slice_index words checked) ≡ true → (checked == 11) ≡ false → Keeps (steps ++ Second c ∷ []) (with_held (Within k (Checking words (checked + 1) point)) c w)
+    goes_on : (slice_index w.words checked == slice_index words checked) ≡ true → (checked == 11) ≡ false
+        → Keeps (steps ++ Second c ∷ []) (with_held (Within k (Checking words (checked + 1) point)) c w)
     goes_on same other =
         let m = kept.knows c (Within k (Checking words checked point)) k holds refl in
         let o = m.sees in
         let few = o.few in
         let not-last = eqb-false checked 11 other in
-        let checks : Checks w.history m.call words (checked + 1) point = record { reads = o.reads; twelve = o.twelve; few = below checked few not-last; early = o.early; late = o.late; loaded = o.loaded; same = one_more same } in
-        stayed steps w kept c (Within k (Checking words checked point)) holds k refl (Second c) (Within k (Checking words (checked + 1) point)) tt (λ a at. subst (λ (z : CallRecord). Checks w.history z words (checked + 1) point) (same_Some m.call a (sym m.at ∙ at)) checks) refl
+        let checks : Checks w.history m.call words (checked + 1) point =
+        record { reads = o.reads; twelve = o.twelve; few = below checked few not-last; early = o.early; late = o.late; loaded = o.loaded; same = one_more same } in
+        stayed steps w kept c (Within k (Checking words checked point)) holds k refl (Second c) (Within k (Checking words (checked + 1) point)) tt
+        (λ a at. subst (λ (z : CallRecord). Checks w.history z words (checked + 1) point) (same_Some m.call a (sym m.at ∙ at)) checks) refl
       where
         below : (n : ℕ) → n < 12 → (n ≡ 11 → ⊥) → n + 1 < 12
         below n few not = omega arith
@@ -286,10 +306,15 @@ module _ (steps : List Step) (w : MachineState) (kept : Keeps steps w) where
       let a = and_parts (nat_le 1 e.game) (nat_le e.game 12 && nat_le (suc n) 255) may in
       let b = and_parts (nat_le e.game 12) (nat_le (suc n) 255) a.1 in
       begun steps w kept (Reporter (suc n)) Idle holds refl (Event e) (Wanting (length w.calls) e)
-      (record { call = refl; reporter = suc n; caller = refl; low = omega arith; high = leb-true (suc n) 255 b.1; game = (leb-true 1 e.game a.0, leb-true e.game 12 b.0); point = refl; reply = refl }) refl
+      (record { call = refl; reporter = suc n; caller = refl; low = omega arith; high = leb-true (suc n) 255 b.1; game = (leb-true 1 e.game a.0, leb-true e.game 12 b.0); point = refl; reply = refl })
+      refl
   begin_kept (Reader n) (Event e) holds may = absurd (false≢true may)
-  begin_kept (Reporter n) Reading holds may = begun steps w kept (Reporter n) Idle holds refl Reading (Within (length w.calls) (Collecting [])) (record { reads = record { call = refl; point = refl; reply = refl }; few = omega arith; loaded = λ i none. absurd (omega arith) }) refl
-  begin_kept (Reader n) Reading holds may = begun steps w kept (Reader n) Idle holds refl Reading (Within (length w.calls) (Collecting [])) (record { reads = record { call = refl; point = refl; reply = refl }; few = omega arith; loaded = λ i none. absurd (omega arith) }) refl
+  begin_kept (Reporter n) Reading holds may =
+      begun steps w kept (Reporter n) Idle holds refl Reading (Within (length w.calls) (Collecting []))
+      (record { reads = record { call = refl; point = refl; reply = refl }; few = omega arith; loaded = λ i none. absurd (omega arith) }) refl
+  begin_kept (Reader n) Reading holds may =
+      begun steps w kept (Reader n) Idle holds refl Reading (Within (length w.calls) (Collecting []))
+      (record { reads = record { call = refl; point = refl; reply = refl }; few = omega arith; loaded = λ i none. absurd (omega arith) }) refl
 
   pub step_kept : (s : Step) (o : Option Holds) (w' : MachineState) → held_by w.callers (caller_of s) ≡ o → after_step_holding s o w ≡ Some w' → Keeps (steps ++ s ∷ []) w'
   step_kept (Begin c call) (Some Idle) w' holds done =
@@ -302,7 +327,9 @@ module _ (steps : List Step) (w : MachineState) (kept : Keeps steps w) where
   step_kept (First c) (Some (Within k (Collecting loaded))) w' holds done =
       subst (Keeps (steps ++ First c ∷ [])) (same_Some (state_after_first c k loaded w) w' done) (first_kept c k loaded holds (length (loaded ++ slice_index w.words (length loaded) ∷ []) == 12) refl)
   step_kept (Second c) (Some (Within k (Checking words checked point))) w' holds done =
-      subst (Keeps (steps ++ Second c ∷ [])) (same_Some (state_after_second c k words checked point w) w' done) (second_kept c k words checked point holds (slice_index w.words checked == slice_index words checked) (checked == 11) refl refl)
+      subst (Keeps (steps ++ Second c ∷ [])) (same_Some (state_after_second c k words checked point w) w' done)
+      (second_kept c k words checked point holds (slice_index w.words checked == slice_index words checked) (checked == 11) refl refl)
   step_kept (End c) (Some (Answered k)) w' holds done =
-      subst (Keeps (steps ++ End c ∷ [])) (same_Some (with_held Idle c (record w { calls = change_at k (with_end now) w.calls })) w' done) (ended steps w kept c (Answered k) holds k refl (kept.knows c (Answered k) k holds refl).sees)
+      subst (Keeps (steps ++ End c ∷ [])) (same_Some (with_held Idle c (record w { calls = change_at k (with_end now) w.calls })) w' done)
+      (ended steps w kept c (Answered k) holds k refl (kept.knows c (Answered k) k holds refl).sees)
   step_kept s o w' holds done = absurd (none-some w' done)

@@ -64,7 +64,8 @@ module _ (seat number : ℕ) where
       let long : length (filter own (drop low calls)) ≡ length (filter own t.0) + suc (length rest) = ap length t.1 ∙ length-append (filter own t.0) (r.1 ∷ rest) in
       omega arith
 
-  just_these : (calls : List CallRecord) (low high : ℕ) (fs : List Answer) → AreRecordsOf calls seat number low fs high → length (filter own (drop low calls)) ≡ length fs → map plain (filter own (drop low calls)) ≡ map recorded fs
+  just_these : (calls : List CallRecord) (low high : ℕ) (fs : List Answer) → AreRecordsOf calls seat number low fs high → length (filter own (drop low calls)) ≡ length fs
+      → map plain (filter own (drop low calls)) ≡ map recorded fs
   just_these calls low high [] r e = ap (map plain) (none_long (filter own (drop low calls)) e)
   just_these calls low high (f ∷ fs) r e =
       let t = next_own calls low high f fs r in
@@ -85,7 +86,9 @@ module _ (seat number : ℕ) where
   as_many [] = refl
   as_many (c ∷ calls) = by_test (is_of seat number c.caller) (as_many calls)
     where
-      by_test : (b : Bool) → length (calls_by seat number (map caller_and_call calls)) ≡ length (filter own calls) → length (map (λ (x : Caller × Call). x.1) (cond b ((c.caller, c.call) ∷ filter told (map caller_and_call calls)) (filter told (map caller_and_call calls)))) ≡ length (cond b (c ∷ filter own calls) (filter own calls))
+      by_test : (b : Bool) → length (calls_by seat number (map caller_and_call calls)) ≡ length (filter own calls)
+          → length (map (λ (x : Caller × Call). x.1) (cond b ((c.caller, c.call) ∷ filter told (map caller_and_call calls)) (filter told (map caller_and_call calls)))) ≡ length
+          (cond b (c ∷ filter own calls) (filter own calls))
       by_test true rest = ap suc rest
       by_test false rest = rest
 
@@ -98,7 +101,8 @@ module _ (seat number : ℕ) where
       just_these state.calls 0 f.high a.doing.calls f.recorded count
 
 -- the finished calls of a pass that got a number since are by the same callers
-same_callers : (seat : ℕ) (was is : Actor) → HasGoneOn was is → (calls : List CallRecord) (low high : ℕ) (fs : List Answer) → AreRecordsOf calls seat was.number low fs high → map (recorded seat was.number) fs ≡ map (recorded seat is.number) fs
+same_callers : (seat : ℕ) (was is : Actor) → HasGoneOn was is → (calls : List CallRecord) (low high : ℕ) (fs : List Answer) → AreRecordsOf calls seat was.number low fs high
+    → map (recorded seat was.number) fs ≡ map (recorded seat is.number) fs
 same_callers seat was is on calls low high [] r = refl
 same_callers seat was is on calls low high (f ∷ fs) r =
     let callers : caller_for seat was.number f.call ≡ caller_for seat is.number f.call = by_call f.call r.4.may in
@@ -111,7 +115,8 @@ same_callers seat was is on calls low high (f ∷ fs) r =
 
 -- where no actor has a call under way
 pub kept_records : (actors later : List Actor) (last last' : MachineState) → HaveGoneOn actors later
-    → ((seat : ℕ) (a : Actor) → get_elem? actors seat ≡ some a → FitsRun last seat a.number a.doing × (a.doing.held ≡ Nothing)) → ((seat : ℕ) (a : Actor) → get_elem? later seat ≡ some a → FitsRun last' seat a.number a.doing × (a.doing.held ≡ Nothing))
+    → ((seat : ℕ) (a : Actor) → get_elem? actors seat ≡ some a → FitsRun last seat a.number a.doing × (a.doing.held ≡ Nothing))
+    → ((seat : ℕ) (a : Actor) → get_elem? later seat ≡ some a → FitsRun last' seat a.number a.doing × (a.doing.held ≡ Nothing))
     → (seat : ℕ) (a b : Actor) → get_elem? actors seat ≡ some a → get_elem? later seat ≡ some b → IsPrefix (records_by seat a.number last) (records_by seat b.number last')
 kept_records actors later last last' on each each' seat a b at bt =
     let goes = on seat a at in

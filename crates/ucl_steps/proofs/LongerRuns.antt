@@ -1,5 +1,6 @@
 -- A run is told by the log and by what the actors have asked: so runs of later states are longer runs.
-use Rattle.std.proofs.Common.{◌≡◌, ◌≢◌, ◌⊎◌, inl, inr, ℕ, zero, suc, ◌+◌, ◌==◌, ◌&&◌, nat_le, Bool, true, false, cond, List, [], ◌∷◌, ◌++◌, length, map, replicate, Option, Some, None, refl, sym, ap, ◌∙◌, subst, arith, append_assoc, eq-eqb}
+use Rattle.std.proofs.Common.{◌≡◌, ◌≢◌, ◌⊎◌, inl, inr, ℕ, zero, suc, ◌+◌, ◌==◌, ◌&&◌, nat_le, Bool, true, false, cond, List, [], ◌∷◌, ◌++◌, length, map, replicate, Option, Some, None, refl, sym, ap}
+use Rattle.std.proofs.Common.{◌∙◌, subst, arith, append_assoc, eq-eqb}
 use Rattle.std.specs.Prelude.{slice_get}
 use Rattle.std.proofs.lemmas.Option.{none-some, same_Some, option_and_then_some}
 use Rattle.std.proofs.lemmas.Bool.{le-leb}
@@ -21,7 +22,8 @@ use Rattle.ucl_steps.specs.declared.step.Call.TheVariants.{Event, Reading}
 use Rattle.ucl_steps.specs.declared.step.Step.{Step}
 use Rattle.ucl_steps.specs.declared.step.Step.TheVariants.{Begin, Look, Swap, First, Second, End}
 use Rattle.ucl_steps.specs.Protocol.{Held, Nothing, Holding, Collecting, Checking, Outcome, GoesOn, Answers, looked, swapped, loaded, compared}
-use Rattle.ucl_steps.specs.Machine.{Holds, Idle, Wanting, Within, Answered, Callers, MachineState, initial_state, held_by, set_held, may_begin, held_at_begin, after_begin, after_end, after_outcome, stored, state_after_look, state_after_swap, state_after_first, state_after_second, after_step_holding, caller_of, after_step, after_steps}
+use Rattle.ucl_steps.specs.Machine.{Holds, Idle, Wanting, Within, Answered, Callers, MachineState, initial_state, held_by, set_held, may_begin, held_at_begin, after_begin, after_end, after_outcome}
+use Rattle.ucl_steps.specs.Machine.{stored, state_after_look, state_after_swap, state_after_first, state_after_second, after_step_holding, caller_of, after_step, after_steps}
 use Rattle.ucl_steps.specs.CallRuns.{step_of, access_in, accesses_holding, accesses_of_step}
 use Rattle.ucl_steps.specs.Linearizable.{begun_in}
 use Rattle.ucl_steps.specs.PassRuns.{cast_for, caller_for, IsOf, is_of, call_of, IsUnderWay, FitsHeld, calls_told, calls_by, left_by, FitsRun, Move, end_by, steps_of_move, steps_of_moves}
@@ -42,7 +44,8 @@ record Stepped (s : Step) (a a' : MachineState) : Type 0 where
   other : (cs : Callers) → held_by cs (caller_of s) ≡ Some holds → after_step (record a { callers = cs }) s ≡ Some (record a' { callers = set_held then (caller_of s) cs })
 
 -- a step by what its caller holds
-stepped_to : (s : Step) (x : Holds) (a : MachineState) (f : MachineState → MachineState) (v : Holds) → ((st : MachineState) → after_step_holding s (Some x) st ≡ Some (f st)) → ((cs : Callers) → f (record a { callers = cs }) ≡ record (f a) { callers = set_held v (caller_of s) cs })
+stepped_to : (s : Step) (x : Holds) (a : MachineState) (f : MachineState → MachineState) (v : Holds) → ((st : MachineState) → after_step_holding s (Some x) st ≡ Some (f st))
+    → ((cs : Callers) → f (record a { callers = cs }) ≡ record (f a) { callers = set_held v (caller_of s) cs })
     → held_by a.callers (caller_of s) ≡ Some x → (a' : MachineState) → after_step_holding s (Some x) a ≡ Some a' → Stepped s a a'
 stepped_to s x a f v does alike held a' e =
     subst (Stepped s a) (same_Some (f a) a' (sym (does a) ∙ e)) (record {
@@ -57,16 +60,19 @@ abbrev held_after : ℕ → Outcome → Holds
 held_after k (GoesOn held) = Within k held
 held_after k (Answers reply) = Answered k
 
-outcome_alike : (c : Caller) (k point : ℕ) (o : Outcome) (st : MachineState) (cs : Callers) → after_outcome c k point o (record st { callers = cs }) ≡ record (after_outcome c k point o st) { callers = set_held (held_after k o) c cs }
+outcome_alike : (c : Caller) (k point : ℕ) (o : Outcome) (st : MachineState) (cs : Callers)
+    → after_outcome c k point o (record st { callers = cs }) ≡ record (after_outcome c k point o st) { callers = set_held (held_after k o) c cs }
 outcome_alike c k point (GoesOn held) st cs = refl
 outcome_alike c k point (Answers reply) st cs = refl
 
 swap_alike : (r k : ℕ) (e : EventCall) (new point : ℕ) (o : Outcome) (a : MachineState) (cs : Callers) (b : Bool)
-    → after_outcome (Reporter r) k point o (cond b (stored r e new (record a { callers = cs })) (record a { callers = cs })) ≡ record (after_outcome (Reporter r) k point o (cond b (stored r e new a) a)) { callers = set_held (held_after k o) (Reporter r) cs }
+    → after_outcome (Reporter r) k point o (cond b (stored r e new (record a { callers = cs })) (record a { callers = cs }))
+    ≡ record (after_outcome (Reporter r) k point o (cond b (stored r e new a) a)) { callers = set_held (held_after k o) (Reporter r) cs }
 swap_alike r k e new point o a cs true = outcome_alike (Reporter r) k point o (stored r e new a) cs
 swap_alike r k e new point o a cs false = outcome_alike (Reporter r) k point o a cs
 
-begun_to : (c : Caller) (call : Call) (a a' : MachineState) → held_by a.callers c ≡ Some Idle → (b : Bool) → may_begin c call ≡ b → cond b (Some (after_begin c call a)) None ≡ Some a' → Stepped (Begin c call) a a'
+begun_to : (c : Caller) (call : Call) (a a' : MachineState) → held_by a.callers c ≡ Some Idle → (b : Bool) → may_begin c call ≡ b → cond b (Some (after_begin c call a)) None ≡ Some a'
+    → Stepped (Begin c call) a a'
 begun_to c call a a' held false may e = absurd (none-some a' e)
 begun_to c call a a' held true may e =
     stepped_to (Begin c call) Idle a (after_begin c call) (held_at_begin call (length a.calls)) (λ st. ap (λ (b : Bool). cond b (Some (after_begin c call st)) None) may) (λ cs. refl) held a'
@@ -84,7 +90,8 @@ stepped_by (First c) a a' (Some (Within call (Collecting words))) held is =
     stepped_to (First c) (Within call (Collecting words)) a (state_after_first c call words) (held_after call (loaded words (slice_index a.words (length words)) (length a.history))) (λ st. refl)
     (λ cs. outcome_alike c call (length a.history) (loaded words (slice_index a.words (length words)) (length a.history)) a cs) held a' is
 stepped_by (Second c) a a' (Some (Within call (Checking words checked point))) held is =
-    stepped_to (Second c) (Within call (Checking words checked point)) a (state_after_second c call words checked point) (held_after call (compared words checked point (slice_index a.words checked))) (λ st. refl)
+    stepped_to (Second c) (Within call (Checking words checked point)) a (state_after_second c call words checked point) (held_after call (compared words checked point (slice_index a.words checked)))
+    (λ st. refl)
     (λ cs. outcome_alike c call point (compared words checked point (slice_index a.words checked)) a cs) held a' is
 stepped_by (End c) a a' (Some (Answered call)) held is = stepped_to (End c) (Answered call) a (after_end c call) Idle (λ st. refl) (λ cs. refl) held a' is
 stepped_by s a a' o held is = absurd (none-some a' is)
@@ -98,7 +105,8 @@ HoldAlike cs ds = (c : Caller) (x y : Holds) → held_by cs c ≡ Some x → hel
 
 set_alike : (cs ds : Callers) (c : Caller) (y x z : Holds) → held_by cs c ≡ Some x → held_by ds c ≡ Some z → HoldAlike cs ds → HoldAlike (set_held y c cs) (set_held y c ds)
 set_alike cs ds c y x z at bt alike d u v p q = elim (same_caller d c) [
-  | inl is ↦ sym (same_Some y u (sym (held_here cs c x y at) ∙ (ap (held_by (set_held y c cs)) (sym is) ∙ p))) ∙ same_Some y v (sym (held_here ds c z y bt) ∙ (ap (held_by (set_held y c ds)) (sym is) ∙ q))
+  | inl is ↦ sym (same_Some y u (sym (held_here cs c x y at) ∙ (ap (held_by (set_held y c cs)) (sym is) ∙ p)))
+      ∙ same_Some y v (sym (held_here ds c z y bt) ∙ (ap (held_by (set_held y c ds)) (sym is) ∙ q))
   | inr not ↦ alike d u v (sym (held_else cs c d y x at not) ∙ p) (sym (held_else ds c d y z bt not) ∙ q)
 ]
 
@@ -115,7 +123,10 @@ step_alike s a b a' b' alike ea eb =
     let held_b : held_by b.callers c ≡ Some p.holds = q.held ∙ ap (λ (z : Holds). Some z) (sym (alike.holds c p.holds q.holds p.held q.held)) in
     let there : MachineState = record a' { callers = set_held p.then c b.callers } in
     let done : there ≡ b' = same_Some there b' (sym (p.other b.callers held_b) ∙ (ap (λ (st : MachineState). after_step st s) (sym alike.is) ∙ eb)) in
-    subst (Alike a') done (record { is = refl; holds = subst (λ (cs : Callers). HoldAlike cs (set_held p.then c b.callers)) (sym p.callers) (set_alike a.callers b.callers c p.then p.holds p.holds p.held held_b alike.holds) })
+    subst (Alike a') done (record {
+      is = refl;
+      holds = subst (λ (cs : Callers). HoldAlike cs (set_held p.then c b.callers)) (sym p.callers) (set_alike a.callers b.callers c p.then p.holds p.holds p.held held_b alike.holds);
+    })
 
 -- what others hold, and what the caller then holds
 step_keeps : (s : Step) (a a' : MachineState) (d : Caller) → after_step a s ≡ Some a' → d ≢ caller_of s → held_by a'.callers d ≡ held_by a.callers d
@@ -206,7 +217,8 @@ record Accessing (c : Caller) (kind : AccessKind) (ends : Bool) (rest : List Ste
   kind_is : access.kind ≡ kind
   left : left_by (step_of c kind ∷ end_by c ends ++ rest) (Some w) ≡ (c, access) ∷ left_by rest (Some ended.after)
 
-accessing : (c : Caller) (kind : AccessKind) (ends : Bool) (rest : List Step) (w last : MachineState) → after_steps (step_of c kind ∷ end_by c ends ++ rest) w ≡ Some last → Accessing c kind ends rest w last
+accessing : (c : Caller) (kind : AccessKind) (ends : Bool) (rest : List Step) (w last : MachineState) → after_steps (step_of c kind ∷ end_by c ends ++ rest) w ≡ Some last
+    → Accessing c kind ends rest w last
 accessing c kind ends rest w last e =
     option_and_then_some (after_steps (end_by c ends ++ rest)) (after_step w (step_of c kind)) last e (λ v is then.
     let t = ending c ends rest v last then in
@@ -223,21 +235,37 @@ accessing c kind ends rest w last e =
           ∙ ap (λ (z : List (Caller × Access)). (c, l.0) ∷ z) (ap (left_by (end_by c ends ++ rest)) is ∙ t.left));
     })
 
-moving_by : (c : Caller) (begins : Option Call) (kind : AccessKind) (ends : Bool) (rest : List Step) (a last : MachineState) → after_steps (steps_of_move (move_of c begins kind ends) ++ rest) a ≡ Some last
+moving_by : (c : Caller) (begins : Option Call) (kind : AccessKind) (ends : Bool) (rest : List Step) (a last : MachineState)
+    → after_steps (steps_of_move (move_of c begins kind ends) ++ rest) a ≡ Some last
     → Moving (move_of c begins kind ends) rest a last
 moving_by c None kind ends rest a last e =
     let t = accessing c kind ends rest a last e in
-    record { after = t.ended.after; moved = record { begun = a; made = t.made; begins = refl; makes = t.makes; ends = t.ended.is }; then = t.ended.then; access = t.access; kind = t.kind_is; left = t.left }
+    record {
+      after = t.ended.after;
+      moved = record { begun = a; made = t.made; begins = refl; makes = t.makes; ends = t.ended.is };
+      then = t.ended.then;
+      access = t.access;
+      kind = t.kind_is;
+      left = t.left;
+    }
 moving_by c (Some call) kind ends rest a last e = option_and_then_some (after_steps (step_of c kind ∷ end_by c ends ++ rest)) (after_step a (Begin c call)) last e (λ w is then.
     let t = accessing c kind ends rest w last then in
-    record { after = t.ended.after; moved = record { begun = w; made = t.made; begins = is; makes = t.makes; ends = t.ended.is }; then = t.ended.then; access = t.access; kind = t.kind_is; left = ap (left_by (step_of c kind ∷ end_by c ends ++ rest)) is ∙ t.left })
+    record {
+      after = t.ended.after;
+      moved = record { begun = w; made = t.made; begins = is; makes = t.makes; ends = t.ended.is };
+      then = t.ended.then;
+      access = t.access;
+      kind = t.kind_is;
+      left = ap (left_by (step_of c kind ∷ end_by c ends ++ rest)) is ∙ t.left;
+    })
 
 moving : (m : Move) (rest : List Step) (a last : MachineState) → after_steps (steps_of_move m ++ rest) a ≡ Some last → Moving m rest a last
 moving m rest a last e = moving_by m.caller m.begins m.kind m.ends rest a last e
 
 -- who can take no step
 
-takes_none : (c : Caller) (kind : AccessKind) (x : Holds) (a v : MachineState) → held_by a.callers c ≡ Some x → after_step_holding (step_of c kind) (Some x) a ≡ None → after_step a (step_of c kind) ≡ Some v → ⊥
+takes_none : (c : Caller) (kind : AccessKind) (x : Holds) (a v : MachineState) → held_by a.callers c ≡ Some x → after_step_holding (step_of c kind) (Some x) a ≡ None
+    → after_step a (step_of c kind) ≡ Some v → ⊥
 takes_none c kind x a v held none e = none-some v (sym none ∙ (sym (ap (λ (o : Option Holds). after_step_holding (step_of c kind) o a) (ap (held_by a.callers) (caller_of_kind c kind) ∙ held)) ∙ e))
 
 idle_takes : (c : Caller) (kind : AccessKind) (a : MachineState) → after_step_holding (step_of c kind) (Some Idle) a ≡ None
@@ -257,15 +285,18 @@ answered_takes c kinds.First k a = refl
 answered_takes c kinds.Second k a = refl
 
 -- a call begins where its caller is idle, and then it holds what its call begins with
-begin_holds : (c : Caller) (call : Call) (a w : MachineState) (o : Option Holds) → held_by a.callers c ≡ o → after_step_holding (Begin c call) o a ≡ Some w → (o ≡ Some Idle) × (held_by w.callers c ≡ Some (held_at_begin call (length a.calls)))
+begin_holds : (c : Caller) (call : Call) (a w : MachineState) (o : Option Holds) → held_by a.callers c ≡ o → after_step_holding (Begin c call) o a ≡ Some w
+    → (o ≡ Some Idle) × (held_by w.callers c ≡ Some (held_at_begin call (length a.calls)))
 begin_holds c call a w (Some Idle) held e = (refl, by_right (may_begin c call) e)
   where
     by_right : (b : Bool) → cond b (Some (after_begin c call a)) None ≡ Some w → held_by w.callers c ≡ Some (held_at_begin call (length a.calls))
     by_right false e = absurd (none-some w e)
-    by_right true e = subst (λ (z : MachineState). held_by z.callers c ≡ Some (held_at_begin call (length a.calls))) (same_Some (after_begin c call a) w e) (held_here a.callers c Idle (held_at_begin call (length a.calls)) held)
+    by_right true e = subst (λ (z : MachineState). held_by z.callers c ≡ Some (held_at_begin call (length a.calls))) (same_Some (after_begin c call a) w e)
+        (held_here a.callers c Idle (held_at_begin call (length a.calls)) held)
 begin_holds c call a w o held e = absurd (none-some w e)
 
-begin_made : (c : Caller) (call : Call) (a w : MachineState) → after_step a (Begin c call) ≡ Some w → (held_by a.callers c ≡ Some Idle) × (held_by w.callers c ≡ Some (held_at_begin call (length a.calls)))
+begin_made : (c : Caller) (call : Call) (a w : MachineState) → after_step a (Begin c call) ≡ Some w
+    → (held_by a.callers c ≡ Some Idle) × (held_by w.callers c ≡ Some (held_at_begin call (length a.calls)))
 begin_made c call a w e = begin_holds c call a w (held_by a.callers c) refl e
 
 end_holds : (c : Caller) (v z : MachineState) (o : Option Holds) → after_step_holding (End c) o v ≡ Some z → (k : ℕ) × (o ≡ Some (Answered k))
@@ -288,11 +319,13 @@ moved_keeps m a z d t not =
     ∙ (step_keeps (step_of m.caller m.kind) t.begun t.made d t.makes (λ is. not (is ∙ caller_of_kind m.caller m.kind)) ∙ begun_keeps m.caller d m.begins a t.begun t.begins not)
 
 -- a caller whose call has its reply makes no move
-none_answered : (c : Caller) (o : Option Call) (kind : AccessKind) (a w v : MachineState) (k : ℕ) → AfterBegin c o a w → after_step w (step_of c kind) ≡ Some v → held_by a.callers c ≡ Some (Answered k) → ⊥
+none_answered : (c : Caller) (o : Option Call) (kind : AccessKind) (a w v : MachineState) (k : ℕ) → AfterBegin c o a w → after_step w (step_of c kind) ≡ Some v
+    → held_by a.callers c ≡ Some (Answered k) → ⊥
 none_answered c None kind a w v k is makes held = takes_none c kind (Answered k) w v (ap (λ (z : MachineState). held_by z.callers c) (sym is) ∙ held) (answered_takes c kind k w) makes
 none_answered c (Some call) kind a w v k is makes held = let e : Answered k ≡ Idle = same_Some (Answered k) Idle (sym held ∙ (begin_made c call a w is).0) in absurd cc
 
-answered_stays : (ms : List Move) (a last : MachineState) (c : Caller) (k : ℕ) → held_by a.callers c ≡ Some (Answered k) → after_steps (steps_of_moves ms) a ≡ Some last → held_by last.callers c ≡ Some (Answered k)
+answered_stays : (ms : List Move) (a last : MachineState) (c : Caller) (k : ℕ) → held_by a.callers c ≡ Some (Answered k) → after_steps (steps_of_moves ms) a ≡ Some last
+    → held_by last.callers c ≡ Some (Answered k)
 answered_stays [] a last c k held e = ap (λ (z : MachineState). held_by z.callers c) (sym (same_Some a last e)) ∙ held
 answered_stays (m ∷ ms) a last c k held e =
     let t = moving m (steps_of_moves ms) a last e in
@@ -302,7 +335,8 @@ answered_stays (m ∷ ms) a last c k held e =
     ]
 
 -- and no actor's call stays so
-answered_ends : (state : MachineState) (seat number begun : ℕ) (held : Held) (high : ℕ) (c : Caller) (k : ℕ) → IsOf seat number c → FitsHeld state seat number begun held high → held_by state.callers c ≡ Some (Answered k) → ⊥
+answered_ends : (state : MachineState) (seat number begun : ℕ) (held : Held) (high : ℕ) (c : Caller) (k : ℕ) → IsOf seat number c → FitsHeld state seat number begun held high
+    → held_by state.callers c ≡ Some (Answered k) → ⊥
 answered_ends state seat number begun held high c k of f is = under held f
   where
     within : (held : Held) → IsUnderWay state seat number begun held high → ⊥
@@ -327,7 +361,8 @@ begin_both c kind call a b w v alike makes begins =
     let idle : p.holds ≡ Idle = alike c p.holds Idle held (begin_made c call b w begins).0 in
     takes_none c kind Idle a v (held ∙ ap (λ (z : Holds). Some z) idle) (idle_takes c kind a) makes
 
-same_begins : (c : Caller) (kind : AccessKind) (o p : Option Call) (a b wa wb va vb : MachineState) → Alike a b → AfterBegin c o a wa → AfterBegin c p b wb → after_step wa (step_of c kind) ≡ Some va → after_step wb (step_of c kind) ≡ Some vb
+same_begins : (c : Caller) (kind : AccessKind) (o p : Option Call) (a b wa wb va vb : MachineState) → Alike a b → AfterBegin c o a wa → AfterBegin c p b wb → after_step wa (step_of c kind) ≡ Some va
+    → after_step wb (step_of c kind) ≡ Some vb
     → ((f g : Call) → o ≡ Some f → p ≡ Some g → f ≡ g) → o ≡ p
 same_begins c kind None None a b wa wb va vb alike ba bb ma mb calls = refl
 same_begins c kind None (Some g) a b wa wb va vb alike ba bb ma mb calls = absurd (begin_both c kind g a b wb va alike.holds (ap (λ (z : MachineState). after_step z (step_of c kind)) ba ∙ ma) bb)
@@ -340,16 +375,19 @@ begin_alike c None a b wa wb alike ba bb = subst (λ (z : MachineState). Alike z
 begin_alike c (Some call) a b wa wb alike ba bb = step_alike (Begin c call) a b wa wb alike ba bb
 
 -- a call ends in both or in neither
-end_both : (c : Caller) (va vb zb : MachineState) (y : Holds) → HoldAlike va.callers vb.callers → (za : MachineState) → after_step va (End c) ≡ Some za → held_by vb.callers c ≡ Some y → (k : ℕ) × (held_by vb.callers c ≡ Some (Answered k))
+end_both : (c : Caller) (va vb zb : MachineState) (y : Holds) → HoldAlike va.callers vb.callers → (za : MachineState) → after_step va (End c) ≡ Some za → held_by vb.callers c ≡ Some y
+    → (k : ℕ) × (held_by vb.callers c ≡ Some (Answered k))
 end_both c va vb zb y alike za ends held =
     let t = end_holds c va za (held_by va.callers c) ends in
     (t.0, held ∙ ap (λ (z : Holds). Some z) (sym (alike c (Answered t.0) y t.1 held)))
 
-same_ends : (c : Caller) (x y : Bool) (va vb za zb : MachineState) (ha hb : Holds) → Alike va vb → held_by va.callers c ≡ Some ha → held_by vb.callers c ≡ Some hb → AfterEnd c x va za → AfterEnd c y vb zb
+same_ends : (c : Caller) (x y : Bool) (va vb za zb : MachineState) (ha hb : Holds) → Alike va vb → held_by va.callers c ≡ Some ha → held_by vb.callers c ≡ Some hb → AfterEnd c x va za
+    → AfterEnd c y vb zb
     → ((k : ℕ) → held_by za.callers c ≢ Some (Answered k)) → ((k : ℕ) → held_by zb.callers c ≢ Some (Answered k)) → x ≡ y
 same_ends c false false va vb za zb ha hb alike held_a held_b ea eb na nb = refl
 same_ends c true true va vb za zb ha hb alike held_a held_b ea eb na nb = refl
-same_ends c true false va vb za zb ha hb alike held_a held_b ea eb na nb = let t = end_both c va vb zb hb alike.holds za ea held_b in absurd (nb t.0 (ap (λ (z : MachineState). held_by z.callers c) (sym eb) ∙ t.1))
+same_ends c true false va vb za zb ha hb alike held_a held_b ea eb na nb = let t = end_both c va vb zb hb alike.holds za ea held_b in
+    absurd (nb t.0 (ap (λ (z : MachineState). held_by z.callers c) (sym eb) ∙ t.1))
 same_ends c false true va vb za zb ha hb alike held_a held_b ea eb na nb =
     let t = end_both c vb va za ha (λ d u v p q. sym (alike.holds d v u q p)) zb eb held_a in
     absurd (na t.0 (ap (λ (z : MachineState). held_by z.callers c) (sym ea) ∙ t.1))
@@ -372,7 +410,8 @@ module _ (c : Caller) (kind : AccessKind) (o p : Option Call) (x y : Bool) (a b 
   same_end =
       let h = step_holds (step_of c kind) t.begun t.made t.makes in
       let g = step_holds (step_of c kind) u.begun u.made u.makes in
-      same_ends c x y t.made u.made za zb h.0 g.0 made_alike (ap (held_by t.made.callers) (sym (caller_of_kind c kind)) ∙ h.1) (ap (held_by u.made.callers) (sym (caller_of_kind c kind)) ∙ g.1) t.ends u.ends not_a not_b
+      same_ends c x y t.made u.made za zb h.0 g.0 made_alike (ap (held_by t.made.callers) (sym (caller_of_kind c kind)) ∙ h.1) (ap (held_by u.made.callers) (sym (caller_of_kind c kind)) ∙ g.1) t.ends
+      u.ends not_a not_b
 
   moved_alike : Alike za zb
   moved_alike = end_alike c x t.made u.made za zb made_alike t.ends (subst (λ (q : Bool). AfterEnd c q u.made zb) (sym same_end) u.ends)
@@ -400,7 +439,8 @@ next_same : (ks : List Call) (x y : Call) (xs ys rest : List Call) → (ks ++ x 
 next_same [] x y xs ys rest e = ap (first_of x) e
 next_same (k ∷ ks) x y xs ys rest e = next_same ks x y xs ys rest (ap rest_of e)
 
-next_asked : (seat number : ℕ) (c : Caller) (f g : Call) (told xs ys : List (Caller × Call)) → is_of seat number c ≡ true → IsPrefix (calls_by seat number (told ++ (c, f) ∷ xs)) (calls_by seat number (told ++ (c, g) ∷ ys)) → f ≡ g
+next_asked : (seat number : ℕ) (c : Caller) (f g : Call) (told xs ys : List (Caller × Call)) → is_of seat number c ≡ true
+    → IsPrefix (calls_by seat number (told ++ (c, f) ∷ xs)) (calls_by seat number (told ++ (c, g) ∷ ys)) → f ≡ g
 next_asked seat number c f g told xs ys is p =
     let by : List (Caller × Call) → List Call = calls_by seat number in
     let split : (h : Call) (zs : List (Caller × Call)) → by (told ++ (c, h) ∷ zs) ≡ by told ++ h ∷ by zs =
@@ -432,7 +472,8 @@ begun_move c (Some call) kind ends rest = ap (λ (l : List (Caller × Call)). (c
 
 -- the reporter of a number, as a test
 is_reporter : (seat number : ℕ) → IsReporter number → is_of seat number (Reporter number) ≡ true
-is_reporter seat number is = and_true (number == number) (nat_le 1 number && nat_le number 255) (eq-eqb number number refl) (and_true (nat_le 1 number) (nat_le number 255) (le-leb 1 number is.0) (le-leb number 255 is.1))
+is_reporter seat number is = and_true (number == number) (nat_le 1 number && nat_le number 255) (eq-eqb number number refl)
+    (and_true (nat_le 1 number) (nat_le number 255) (le-leb 1 number is.0) (le-leb number 255 is.1))
 
 taken_of : (seat number : ℕ) (kind : AccessKind) (c : Caller) → IsTakenBy seat number kind c → IsOf seat number c
 taken_of seat number kinds.Look c by = inr by
@@ -448,18 +489,24 @@ same_taker seat was is kinds.First c d on by then = by ∙ sym then
 same_taker seat was is kinds.Second c d on by then = by ∙ sym then
 
 module _ (actors later : List Actor) (on : HaveGoneOn actors later) (last last' : MachineState)
-    (each : (seat : ℕ) (a : Actor) → get_elem? actors seat ≡ some a → FitsRun last seat a.number a.doing) (each' : (seat : ℕ) (a : Actor) → get_elem? later seat ≡ some a → FitsRun last' seat a.number a.doing) where
+    (each : (seat : ℕ) (a : Actor) → get_elem? actors seat ≡ some a → FitsRun last seat a.number a.doing)
+    (each' : (seat : ℕ) (a : Actor) → get_elem? later seat ≡ some a → FitsRun last' seat a.number a.doing) where
   -- where both begin a call, it is one call
-  same_call : (seat : ℕ) (was is : Actor) (kind : AccessKind) (c : Caller) (f g : Call) (told xs ys : List (Caller × Call)) (a b w v w' v' : MachineState) → get_elem? actors seat ≡ some was → get_elem? later seat ≡ some is → HasGoneOn was is → IsTakenBy seat was.number kind c
-      → told ++ (c, f) ∷ xs ≡ calls_told last → told ++ (c, g) ∷ ys ≡ calls_told last' → after_step a (Begin c f) ≡ Some w → after_step w (step_of c kind) ≡ Some v → after_step b (Begin c g) ≡ Some w' → after_step w' (step_of c kind) ≡ Some v' → f ≡ g
+  same_call : (seat : ℕ) (was is : Actor) (kind : AccessKind) (c : Caller) (f g : Call) (told xs ys : List (Caller × Call)) (a b w v w' v' : MachineState) → get_elem? actors seat ≡ some was
+      → get_elem? later seat ≡ some is → HasGoneOn was is → IsTakenBy seat was.number kind c
+      → told ++ (c, f) ∷ xs ≡ calls_told last → told ++ (c, g) ∷ ys ≡ calls_told last' → after_step a (Begin c f) ≡ Some w → after_step w (step_of c kind) ≡ Some v → after_step b (Begin c g) ≡ Some w'
+      → after_step w' (step_of c kind) ≡ Some v' → f ≡ g
   same_call seat was is kind c f g told xs ys a b w v w' v' at bt gone by told_is told_is' begins makes begins' makes' = by_kind kind by makes makes'
     where
       asked : (number : IsReporter was.number) → c ≡ Reporter was.number → f ≡ g
       asked number reporter =
           let low = number.0 in
           let same : is.number ≡ was.number = gone.number (omega arith) in
-          let p : IsPrefix (calls_by seat was.number (calls_told last)) (calls_by seat was.number (calls_told last')) =
-          (gone.asked.0, ap (λ (l : List Call). l ++ gone.asked.0) (each seat was at).whole ∙ (gone.asked.1 ∙ (sym (each' seat is bt).whole ∙ ap (λ (n : ℕ). calls_by seat n (calls_told last')) same))) in
+          let p : IsPrefix (calls_by seat was.number (calls_told last)) (calls_by seat was.number (calls_told last')) = (
+            gone.asked.0,
+            ap (λ (l : List Call). l ++ gone.asked.0) (each seat was at).whole
+                ∙ (gone.asked.1 ∙ (sym (each' seat is bt).whole ∙ ap (λ (n : ℕ). calls_by seat n (calls_told last')) same)),
+          ) in
           next_asked seat was.number c f g told xs ys (ap (is_of seat was.number) reporter ∙ is_reporter seat was.number number) (
             p.0,
             ap (λ (l : List (Caller × Call)). calls_by seat was.number l ++ p.0) told_is ∙ (p.1 ∙ ap (calls_by seat was.number) (sym told_is')),
@@ -472,7 +519,8 @@ module _ (actors later : List Actor) (on : HaveGoneOn actors later) (last last' 
       by_kind kinds.Second by makes makes' = begins_reading c f a w v begins (inr makes) ∙ sym (begins_reading c g b w' v' begins' (inr makes'))
 
   -- one move after another
-  grows : (ms ns : List Move) (a b : MachineState) (told : List (Caller × Call)) → Alike a b → after_steps (steps_of_moves ms) a ≡ Some last → after_steps (steps_of_moves ns) b ≡ Some last' → told ++ begun_in (steps_of_moves ms) ≡ calls_told last → told ++ begun_in (steps_of_moves ns) ≡ calls_told last'
+  grows : (ms ns : List Move) (a b : MachineState) (told : List (Caller × Call)) → Alike a b → after_steps (steps_of_moves ms) a ≡ Some last → after_steps (steps_of_moves ns) b ≡ Some last'
+      → told ++ begun_in (steps_of_moves ms) ≡ calls_told last → told ++ begun_in (steps_of_moves ns) ≡ calls_told last'
       → (xs ys : List (ℕ × Access)) → AreStepsOf actors (left_by (steps_of_moves ms) (Some a)) xs → AreStepsOf later (left_by (steps_of_moves ns) (Some b)) (xs ++ ys) → IsPrefix ms ns
   grows [] ns a b told alike run run' told_is told_is' xs ys is is' = (ns, refl)
   grows (m ∷ ms) ns a b told alike run run' told_is told_is' [] ys is is' = absurd (subst (λ (l : List (Caller × Access)). AreStepsOf actors l []) (moving m (steps_of_moves ms) a last run).left is)
@@ -499,7 +547,8 @@ module _ (actors later : List Actor) (on : HaveGoneOn actors later) (last last' 
       ap (λ (d : Caller). told ++ (begun_by d n.begins ++ begun_in (steps_of_moves ns))) caller
       ∙ (ap (λ (l : List (Caller × Call)). told ++ l) (sym (begun_move n.caller n.begins n.kind n.ends (steps_of_moves ns))) ∙ told_is') in
       let calls : (f g : Call) → m.begins ≡ Some f → n.begins ≡ Some g → f ≡ g =
-      (λ f g is_f is_g. same_call x.0 was now m.kind c f g told (begun_in (steps_of_moves ms)) (begun_in (steps_of_moves ns)) a b p.moved.begun p.moved.made moved'.begun moved'.made s.1.1 t.1.1 gone taken
+      (λ f g is_f is_g. same_call x.0 was now m.kind c f g told (begun_in (steps_of_moves ms)) (begun_in (steps_of_moves ns)) a b p.moved.begun p.moved.made moved'.begun moved'.made s.1.1 t.1.1 gone
+      taken
       (subst (λ (o : Option Call). told ++ (begun_by c o ++ begun_in (steps_of_moves ms)) ≡ calls_told last) is_f told_m)
       (subst (λ (o : Option Call). told ++ (begun_by c o ++ begun_in (steps_of_moves ns)) ≡ calls_told last') is_g told_n)
       (subst (λ (o : Option Call). AfterBegin c o a p.moved.begun) is_f p.moved.begins) p.moved.makes
@@ -515,14 +564,16 @@ module _ (actors later : List Actor) (on : HaveGoneOn actors later) (last last' 
       let next = moved_alike c m.kind m.begins n.begins m.ends n.ends a b p.after q.after alike p.moved moved' calls ends ends' in
       let move : m ≡ n = same_move c m.kind m.begins n.begins m.ends n.ends a b p.after q.after alike p.moved moved' calls ends ends' ∙ of_caller in
       let rest = grows ms ns p.after q.after (told ++ begun_by c m.begins) next p.then q.then (append_assoc told (begun_by c m.begins) (begun_in (steps_of_moves ms)) ∙ told_m)
-      (append_assoc told (begun_by c m.begins) (begun_in (steps_of_moves ns)) ∙ subst (λ (o : Option Call). told ++ (begun_by c o ++ begun_in (steps_of_moves ns)) ≡ calls_told last') (sym begins) told_n) xs ys s.2 t.2 in
+      (append_assoc told (begun_by c m.begins) (begun_in (steps_of_moves ns))
+      ∙ subst (λ (o : Option Call). told ++ (begun_by c o ++ begun_in (steps_of_moves ns)) ≡ calls_told last') (sym begins) told_n) xs ys s.2 t.2 in
       (rest.0, λ i. move i ∷ rest.1 i)
 
 -- the accesses of a longer log
 accesses_more : (log more : Log) → accesses_of_log (log ++ more) ≡ accesses_of_log log ++ accesses_of_log more
 accesses_more log more = flat_map-append (λ (x : Logged). map (λ (m : Access). (x.seat, m)) (access_list x.step.target x.step.at)) log more
 
-pub longer_runs : (readers readers' enlisted enlisted' : ℕ) (log log' : Log) (actors later : List Actor) (r : IsRunOfLog readers enlisted log actors) (q : IsRunOfLog readers' enlisted' log' later) → IsPrefix log log' → HaveGoneOn actors later → IsPrefix r.of_actors.moves q.of_actors.moves
+pub longer_runs : (readers readers' enlisted enlisted' : ℕ) (log log' : Log) (actors later : List Actor) (r : IsRunOfLog readers enlisted log actors) (q : IsRunOfLog readers' enlisted' log' later)
+    → IsPrefix log log' → HaveGoneOn actors later → IsPrefix r.of_actors.moves q.of_actors.moves
 longer_runs readers readers' enlisted enlisted' log log' actors later r q before on =
     let one = r.of_actors in
     let other = q.of_actors in
@@ -530,6 +581,8 @@ longer_runs readers readers' enlisted enlisted' log log' actors later r q before
     let first' = initial_state (cast_for readers') in
     let begun = (linearizable_run (cast_for readers) (steps_of_moves one.moves) one.state one.run).calls_begun in
     let begun' = (linearizable_run (cast_for readers') (steps_of_moves other.moves) other.state other.run).calls_begun in
-    let start : Alike (initial_state (cast_for readers)) (initial_state (cast_for readers')) = record { is = refl; holds = λ c x y p q. held_at_start (cast_for readers) c x p ∙ sym (held_at_start (cast_for readers') c y q) } in
-    grows actors later on one.state other.state one.each other.each one.moves other.moves first first' [] start one.run other.run (sym begun) (sym begun') (accesses_of_log log) (accesses_of_log before.0) r.accesses
+    let start : Alike (initial_state (cast_for readers)) (initial_state (cast_for readers')) =
+    record { is = refl; holds = λ c x y p q. held_at_start (cast_for readers) c x p ∙ sym (held_at_start (cast_for readers') c y q) } in
+    grows actors later on one.state other.state one.each other.each one.moves other.moves first first' [] start one.run other.run (sym begun) (sym begun') (accesses_of_log log)
+    (accesses_of_log before.0) r.accesses
     (subst (λ (l : List (ℕ × Access)). AreStepsOf later (left_by (steps_of_moves other.moves) (Some first')) l) (ap accesses_of_log (sym before.1) ∙ accesses_more log before.0) q.accesses)

@@ -1,5 +1,6 @@
 -- One step of the machine on a match word: the word that it finds, what comes of it, the access that it leaves, and what it leaves as it was.
-use Rattle.std.proofs.Common.{◌≡◌, ◌≢◌, ℕ, zero, suc, ◌+◌, ◌-◌, ◌<◌, ◌≤◌, ◌==◌, ◌&&◌, nat_le, Bool, true, false, cond, List, [], ◌∷◌, ◌++◌, length, map, replicate, Option, Some, None, Result, Ok, Err, inl, inr, refl, sym, ap, ◌∙◌, arith, append_assoc, append-nil, eq-eqb, ne_eqb}
+use Rattle.std.proofs.Common.{◌≡◌, ◌≢◌, ℕ, zero, suc, ◌+◌, ◌-◌, ◌<◌, ◌≤◌, ◌==◌, ◌&&◌, nat_le, Bool, true, false, cond, List, [], ◌∷◌, ◌++◌, length, map, replicate, Option, Some, None, Result, Ok, Err}
+use Rattle.std.proofs.Common.{inl, inr, refl, sym, ap, ◌∙◌, arith, append_assoc, append-nil, eq-eqb, ne_eqb}
 use Rattle.std.specs.Prelude.{slice_get, slice_index, IsSome, is_some, is_ok, filter}
 use Rattle.std.specs.Option.{option_and_then}
 use Rattle.std.proofs.lemmas.Option.{same_Some, option_and_then_some}
@@ -26,7 +27,8 @@ use Rattle.ucl_steps.specs.declared.step.Step.{Step}
 use Rattle.ucl_steps.specs.declared.step.Step.TheVariants.{Look, Swap, First, Second}
 use Rattle.ucl_steps.specs.declared.trace.CallRecord.{CallRecord}
 use Rattle.ucl_steps.specs.Protocol.{Holding, Collecting, Checking, Outcome, GoesOn, Answers, looked, swapped, loaded, compared, MayAsk}
-use Rattle.ucl_steps.specs.Machine.{Holds, Idle, Wanting, Within, Answered, MachineState, initial_state, held_by, with_reply, may_begin, after_outcome, stored, after_step_holding, caller_of, after_step, after_steps}
+use Rattle.ucl_steps.specs.Machine.{Holds, Idle, Wanting, Within, Answered, MachineState, initial_state, held_by, with_reply, may_begin, after_outcome, stored, after_step_holding, caller_of}
+use Rattle.ucl_steps.specs.Machine.{after_step, after_steps}
 use Rattle.ucl_steps.specs.Trails.{Does}
 use Rattle.ucl_steps.specs.CallRuns.{step_of, access_in, accesses_holding, accesses_of_step, IsInCast}
 use Rattle.ucl_steps.specs.Linearizable.{caller_and_call}
@@ -63,7 +65,8 @@ and_true a b p q = ap (λ (z : Bool). z && b) p ∙ q
 
 pub may_ask_begin : (seat number : ℕ) (call : Call) → MayAsk number call → may_begin (caller_for seat number call) call ≡ true
 may_ask_begin seat number (Event e) may =
-    and_true (nat_le 1 e.game) (nat_le e.game 12 && nat_le number 255) (le-leb 1 e.game may.1.0) (and_true (nat_le e.game 12) (nat_le number 255) (le-leb e.game 12 may.1.1) (le-leb number 255 may.0.1))
+    and_true (nat_le 1 e.game) (nat_le e.game 12 && nat_le number 255) (le-leb 1 e.game may.1.0)
+    (and_true (nat_le e.game 12) (nat_le number 255) (le-leb e.game 12 may.1.1) (le-leb number 255 may.0.1))
 may_ask_begin seat number Reading may = refl
 
 -- a call that has just begun
@@ -93,7 +96,8 @@ caller_of_kind c log.First = refl
 caller_of_kind c log.Second = refl
 
 access_same : (m : Access) (kind : AccessKind) (game found at : ℕ) → m.kind ≡ kind → m.game ≡ game → found ≡ m.found → at ≡ m.at → access kind game found at ≡ m
-access_same m kind game found at a g f p = ap (λ (z : AccessKind). access z game found at) (sym a) ∙ (ap (λ (z : ℕ). access m.kind z found at) (sym g) ∙ (ap (λ (z : ℕ). access m.kind m.game z at) f ∙ ap (λ (z : ℕ). access m.kind m.game m.found z) p))
+access_same m kind game found at a g f p = ap (λ (z : AccessKind). access z game found at) (sym a)
+    ∙ (ap (λ (z : ℕ). access m.kind z found at) (sym g) ∙ (ap (λ (z : ℕ). access m.kind m.game z at) f ∙ ap (λ (z : ℕ). access m.kind m.game m.found z) p))
 
 -- the step of an access was taken, and left it
 pub record Made (c : Caller) (w : MachineState) (m : Access) (w' : MachineState) : Type 0 where
@@ -115,11 +119,13 @@ module _ (w : MachineState) (m : Access) (words : w.words ≡ board_of w.history
       let same : s ≡ step_of c m.kind = step_is ∙ ap (step_of c) (sym does.0) in
       record {
         done = ap (after_step w) (sym same) ∙ (ap (λ (z : Caller). after_step_holding s (held_by w.callers z) w) by ∙ (ap (λ (o : Option Holds). after_step_holding s o w) held ∙ done));
-        left = ap (λ (z : Step). accesses_of_step z w) (sym same) ∙ (ap (λ (z : Caller). accesses_holding s (held_by w.callers z) w) by ∙ (ap (λ (o : Option Holds). accesses_holding s o w) held ∙ (leaves
+        left = ap (λ (z : Step). accesses_of_step z w) (sym same)
+            ∙ (ap (λ (z : Caller). accesses_holding s (held_by w.callers z) w) by ∙ (ap (λ (o : Option Holds). accesses_holding s o w) held ∙ (leaves
             ∙ ap (λ (z : Access). z ∷ []) (access_same m kind game (word_at w.words game) (length w.history) does.0 does.1 (found_at game does.1 match) (sym now.place)))));
       }
 
-  pub made_look : (r k : ℕ) (e : EventCall) → held_by w.callers (Reporter r) ≡ Some (Wanting k e) → IsMatch e.game → Does log.Look e.game m → Made (Reporter r) w m (after_outcome (Reporter r) k (length w.history) (looked r e m.found) w)
+  pub made_look : (r k : ℕ) (e : EventCall) → held_by w.callers (Reporter r) ≡ Some (Wanting k e) → IsMatch e.game → Does log.Look e.game m
+      → Made (Reporter r) w m (after_outcome (Reporter r) k (length w.history) (looked r e m.found) w)
   made_look r k e held match does =
       made (Reporter r) (Wanting k e) (Look (Reporter r)) log.Look e.game (after_outcome (Reporter r) k (length w.history) (looked r e m.found) w) held refl refl does match refl
       (ap (λ (z : ℕ). Some (after_outcome (Reporter r) k (length w.history) (looked r e z) w)) (found_at e.game does.1 match))
@@ -127,19 +133,22 @@ module _ (w : MachineState) (m : Access) (words : w.words ≡ board_of w.history
   pub made_swap : (r k : ℕ) (e : EventCall) (old new : ℕ) → held_by w.callers (Reporter r) ≡ Some (Within k (Holding e old new)) → IsMatch e.game → Does log.Swap e.game m
       → Made (Reporter r) w m (after_outcome (Reporter r) k (length w.history) (swapped old new m.found) (cond (m.found == old) (stored r e new w) w))
   made_swap r k e old new held match does =
-      made (Reporter r) (Within k (Holding e old new)) (Swap (Reporter r)) log.Swap e.game (after_outcome (Reporter r) k (length w.history) (swapped old new m.found) (cond (m.found == old) (stored r e new w) w)) held refl refl does match refl
+      made (Reporter r) (Within k (Holding e old new)) (Swap (Reporter r)) log.Swap e.game
+      (after_outcome (Reporter r) k (length w.history) (swapped old new m.found) (cond (m.found == old) (stored r e new w) w)) held refl refl does match refl
       (ap (λ (z : ℕ). Some (after_outcome (Reporter r) k (length w.history) (swapped old new z) (cond (z == old) (stored r e new w) w))) (found_at e.game does.1 match))
 
   pub made_first : (c : Caller) (k : ℕ) (ws : List ℕ) → held_by w.callers c ≡ Some (Within k (Collecting ws)) → length ws < 12 → Does log.First (length ws + 1) m
       → Made c w m (after_outcome c k (length w.history) (loaded ws m.found (length w.history)) w)
   made_first c k ws held few does =
-      made c (Within k (Collecting ws)) (First c) log.First (length ws + 1) (after_outcome c k (length w.history) (loaded ws m.found (length w.history)) w) held refl refl does (omega arith, omega arith) refl
+      made c (Within k (Collecting ws)) (First c) log.First (length ws + 1) (after_outcome c k (length w.history) (loaded ws m.found (length w.history)) w) held refl refl does
+      (omega arith, omega arith) refl
       (ap (λ (z : ℕ). Some (after_outcome c k (length w.history) (loaded ws z (length w.history)) w)) (found_in (length ws) does.1 few))
 
   pub made_second : (c : Caller) (k : ℕ) (ws : List ℕ) (checked point : ℕ) → held_by w.callers c ≡ Some (Within k (Checking ws checked point)) → checked < 12 → Does log.Second (checked + 1) m
       → Made c w m (after_outcome c k point (compared ws checked point m.found) w)
   made_second c k ws checked point held few does =
-      made c (Within k (Checking ws checked point)) (Second c) log.Second (checked + 1) (after_outcome c k point (compared ws checked point m.found) w) held refl refl does (omega arith, omega arith) refl
+      made c (Within k (Checking ws checked point)) (Second c) log.Second (checked + 1) (after_outcome c k point (compared ws checked point m.found) w) held refl refl does (omega arith, omega arith)
+      refl
       (ap (λ (z : ℕ). Some (after_outcome c k point (compared ws checked point z) w)) (found_in checked does.1 few))
 
 -- what a step leaves as it was
@@ -151,7 +160,8 @@ pub record Frame (c : Caller) (k : ℕ) (w w' : MachineState) : Type 0 where
   pub count : length w.calls ≤ length w'.calls
   pub told : calls_told w' ≡ calls_told w
 
-pub frame_outcome : (c : Caller) (k : ℕ) (x : Holds) (w v : MachineState) (point : ℕ) (o : Outcome) → held_by w.callers c ≡ Some x → v.callers ≡ w.callers → v.calls ≡ w.calls → Frame c k w (after_outcome c k point o v)
+pub frame_outcome : (c : Caller) (k : ℕ) (x : Holds) (w v : MachineState) (point : ℕ) (o : Outcome) → held_by w.callers c ≡ Some x → v.callers ≡ w.callers → v.calls ≡ w.calls
+    → Frame c k w (after_outcome c k point o v)
 frame_outcome c k x w v point (GoesOn held) holds callers calls = record {
   holds = λ d not. held_else v.callers c d (Within k held) x (ap (λ z. held_by z c) callers ∙ holds) not ∙ ap (λ z. held_by z d) callers;
   calls = λ i a not at. ap (λ z. slice_get z i) calls ∙ at;
@@ -218,7 +228,8 @@ not_of seat number (Reporter k) apart = elim (cases_eq k number) [
     by_reporter is true true p q = absurd (apart (Reporter k) (inr (ap Reporter is, (leb-true 1 number p, leb-true number 255 q))) refl)
 
 pub own_caller : (seat number : ℕ) (call : Call) → MayAsk number call → is_of seat number (caller_for seat number call) ≡ true
-own_caller seat number (Event e) may = and_true (number == number) (nat_le 1 number && nat_le number 255) (eq-eqb number number refl) (and_true (nat_le 1 number) (nat_le number 255) (le-leb 1 number may.0.0) (le-leb number 255 may.0.1))
+own_caller seat number (Event e) may = and_true (number == number) (nat_le 1 number && nat_le number 255) (eq-eqb number number refl)
+    (and_true (nat_le 1 number) (nat_le number 255) (le-leb 1 number may.0.0) (le-leb number 255 may.0.1))
 own_caller seat number Reading may = eq-eqb (seat + 1) (seat + 1) refl
 
 abbrev snd : Caller × Call → Call
@@ -242,12 +253,14 @@ none_new seat number c not (call ∷ calls) =
     ap (λ (b : Bool). map snd (cond b ((c, call) ∷ filter p (all_by c calls)) (filter p (all_by c calls)))) not ∙ none_new seat number c not calls
 
 -- a caller of another pass adds none
-pub calls_else : (seat number : ℕ) (c : Caller) (w w' : MachineState) → ((d : Caller) → IsOf seat number d → d ≢ c) → Passes c w w' → calls_by seat number (calls_told w') ≡ calls_by seat number (calls_told w)
+pub calls_else : (seat number : ℕ) (c : Caller) (w w' : MachineState) → ((d : Caller) → IsOf seat number d → d ≢ c) → Passes c w w'
+    → calls_by seat number (calls_told w') ≡ calls_by seat number (calls_told w)
 calls_else seat number c w w' apart passes =
     ap (calls_by seat number) passes.told
     ∙ (calls_append seat number (calls_told w) (all_by c passes.new)
     ∙ (ap (λ (l : List Call). calls_by seat number (calls_told w) ++ l) (none_new seat number c (not_of seat number c apart) passes.new) ∙ append-nil (calls_by seat number (calls_told w))))
 
 -- one of its own adds one
-pub calls_one : (seat number : ℕ) (c : Caller) (call : Call) (xs : List (Caller × Call)) → is_of seat number c ≡ true → calls_by seat number (xs ++ (c, call) ∷ []) ≡ calls_by seat number xs ++ call ∷ []
+pub calls_one : (seat number : ℕ) (c : Caller) (call : Call) (xs : List (Caller × Call)) → is_of seat number c ≡ true
+    → calls_by seat number (xs ++ (c, call) ∷ []) ≡ calls_by seat number xs ++ call ∷ []
 calls_one seat number c call xs is = calls_append seat number xs ((c, call) ∷ []) ∙ ap (λ (l : List Call). calls_by seat number xs ++ l) (calls_next seat number c call [] is)

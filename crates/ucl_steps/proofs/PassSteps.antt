@@ -1,5 +1,6 @@
 -- One step of a pass on a match word, as steps of the machine: what the pass has done and holds stays what its callers have done and hold.
-use Rattle.std.proofs.Common.{◌≡◌, ◌≢◌, ℕ, ◌+◌, ◌<◌, ◌≤◌, ◌==◌, Bool, true, false, cond, List, [], ◌∷◌, ◌++◌, length, map, Option, Some, None, inl, inr, refl, sym, ap, ◌∙◌, subst, arith, append_assoc, append-nil, le_refl, eq-eqb, ne_eqb}
+use Rattle.std.proofs.Common.{◌≡◌, ◌≢◌, ℕ, ◌+◌, ◌<◌, ◌≤◌, ◌==◌, Bool, true, false, cond, List, [], ◌∷◌, ◌++◌, length, map, Option, Some, None, inl, inr, refl, sym, ap, ◌∙◌, subst, arith, append_assoc}
+use Rattle.std.proofs.Common.{append-nil, le_refl, eq-eqb, ne_eqb}
 use Rattle.std.specs.Prelude.{slice_get, slice_index, IsSome, is_some}
 use Rattle.std.proofs.lemmas.Option.{same_Some, option_and_then_some}
 use Rattle.std.proofs.lemmas.Bool.{false≢true, cases_eq}
@@ -23,16 +24,20 @@ use Rattle.ucl_steps.specs.declared.step.Step.TheVariants.{Begin, End}
 use Rattle.ucl_steps.specs.declared.trace.CallRecord.{CallRecord}
 use Rattle.ucl_steps.specs.declared.trace.Reply.{Reply}
 use Rattle.ucl_steps.specs.declared.trace.Reply.TheVariants.{Copied}
-use Rattle.ucl_steps.specs.Machine.{Holds, Idle, Wanting, Within, Answered, MachineState, initial_state, held_by, with_held, with_reply, with_end, may_begin, held_at_begin, after_begin, after_reply, after_end, after_outcome, stored, after_step_holding, caller_of, after_step, after_steps}
+use Rattle.ucl_steps.specs.Machine.{Holds, Idle, Wanting, Within, Answered, MachineState, initial_state, held_by, with_held, with_reply, with_end, may_begin, held_at_begin, after_begin, after_reply}
+use Rattle.ucl_steps.specs.Machine.{after_end, after_outcome, stored, after_step_holding, caller_of, after_step, after_steps}
 use Rattle.ucl_steps.specs.Linearizable.{caller_and_call}
 use Rattle.ucl_steps.specs.CallRuns.{step_of, accesses_of_step}
 use Rattle.ucl_steps.specs.Trails.{Does}
-use Rattle.ucl_steps.specs.Protocol.{Held, Nothing, Holding, Collecting, Checking, Outcome, GoesOn, Answers, by_rules, looked, swapped, loaded, compared, Answer, Doing, goes, ends, done_by, IsNext, after_look, swaps_holding, after_swap, collected, firsts_holding, after_first, seconds_holding, after_second, MayAsk}
-use Rattle.ucl_steps.specs.PassRuns.{caller_for, IsOf, call_of, CanHold, IsRecordOf, AreRecordsOf, IsUnderWay, FitsHeld, call_under_way, calls_told, calls_by, left_by, FitsRun, Move, end_by, steps_of_move}
+use Rattle.ucl_steps.specs.Protocol.{Held, Nothing, Holding, Collecting, Checking, Outcome, GoesOn, Answers, by_rules, looked, swapped, loaded, compared, Answer, Doing, goes, ends, done_by, IsNext}
+use Rattle.ucl_steps.specs.Protocol.{after_look, swaps_holding, after_swap, collected, firsts_holding, after_first, seconds_holding, after_second, MayAsk}
+use Rattle.ucl_steps.specs.PassRuns.{caller_for, IsOf, call_of, CanHold, IsRecordOf, AreRecordsOf, IsUnderWay, FitsHeld, call_under_way, calls_told, calls_by, left_by, FitsRun, Move, end_by}
+use Rattle.ucl_steps.specs.PassRuns.{steps_of_move}
 use Rattle.ucl_steps.proofs.ChangedLists.{change_at_here, change_at_else, length-change_at, map_unseen}
 use Rattle.ucl_steps.proofs.Callers.{same_caller, held_here, held_else}
 use Rattle.ucl_steps.proofs.Runs.{words_of_run}
-use Rattle.ucl_steps.proofs.OneStep.{steps_on, may_ask_begin, began, IsNow, caller_of_kind, Made, made_look, made_swap, made_first, made_second, Frame, frame_outcome, Passes, passes_on, passes_frame, own_caller, calls_else, calls_one}
+use Rattle.ucl_steps.proofs.OneStep.{steps_on, may_ask_begin, began, IsNow, caller_of_kind, Made, made_look, made_swap, made_first, made_second, Frame, frame_outcome, Passes, passes_on, passes_frame}
+use Rattle.ucl_steps.proofs.OneStep.{own_caller, calls_else, calls_one}
 
 pub of_call : (seat number : ℕ) (call : Call) → MayAsk number call → IsOf seat number (caller_for seat number call)
 of_call seat number (Event e) may = inr (refl, may.0)
@@ -40,12 +45,14 @@ of_call seat number Reading may = inl refl
 
 -- records
 
-records_more : (calls : List CallRecord) (seat number low : ℕ) (fs : List Answer) (high k : ℕ) (f : Answer) (a : CallRecord) → AreRecordsOf calls seat number low fs high → high ≤ k → slice_get calls k ≡ Some a → IsRecordOf seat number f a
+records_more : (calls : List CallRecord) (seat number low : ℕ) (fs : List Answer) (high k : ℕ) (f : Answer) (a : CallRecord) → AreRecordsOf calls seat number low fs high → high ≤ k
+    → slice_get calls k ≡ Some a → IsRecordOf seat number f a
     → AreRecordsOf calls seat number low (fs ++ f ∷ []) (k + 1)
 records_more calls seat number low [] high k f a r le at is = let l : low ≤ high = r in (k, a, omega arith, at, is, le_refl (k + 1))
 records_more calls seat number low (g ∷ fs) high k f a r le at is = (r.0, r.1, r.2, r.3, r.4, records_more calls seat number (r.0 + 1) fs high k f a r.5 le at is)
 
-records_kept : (calls calls' : List CallRecord) (seat number low : ℕ) (fs : List Answer) (high : ℕ) → ((i : ℕ) (a : CallRecord) → IsSome a.ended → slice_get calls i ≡ Some a → slice_get calls' i ≡ Some a)
+records_kept : (calls calls' : List CallRecord) (seat number low : ℕ) (fs : List Answer) (high : ℕ)
+    → ((i : ℕ) (a : CallRecord) → IsSome a.ended → slice_get calls i ≡ Some a → slice_get calls' i ≡ Some a)
     → AreRecordsOf calls seat number low fs high → AreRecordsOf calls' seat number low fs high
 records_kept calls calls' seat number low [] high kept r = r
 records_kept calls calls' seat number low (f ∷ fs) high kept r = (r.0, r.1, r.2, kept r.0 r.1 (ap is_some r.4.ended) r.3, r.4, records_kept calls calls' seat number (r.0 + 1) fs high kept r.5)
@@ -72,7 +79,12 @@ module _ (seat number : ℕ) (c : Caller) (w w' : MachineState) (apart : (d : Ca
   held_else_by begun (Checking words checked point) high u = held_still begun (Checking words checked point) high tt u
 
   pub fits_else : (d : Doing) → FitsRun w seat number d → FitsRun w' seat number d
-  fits_else d f = record { high = f.high; recorded = records_kept w.calls w'.calls seat number 0 d.calls f.high passes.ended f.recorded; held = held_else_by d.begun d.held f.high f.held; whole = calls_else seat number c w w' apart passes ∙ f.whole }
+  fits_else d f = record {
+    high = f.high;
+    recorded = records_kept w.calls w'.calls seat number 0 d.calls f.high passes.ended f.recorded;
+    held = held_else_by d.begun d.held f.high f.held;
+    whole = calls_else seat number c w w' apart passes ∙ f.whole;
+  }
 
 -- the machine's move for one step of the pass
 pub record Turn (seat number : ℕ) (w : MachineState) (c : Caller) (m : Access) (d : Doing) (entries : List Entry) : Type 0 where
@@ -122,15 +134,18 @@ record Under (seat number : ℕ) (w : MachineState) (fs : List Answer) (call : C
   whole : calls_by seat number (calls_told w) ≡ map (λ (f : Answer). f.call) fs ++ call ∷ []
 
 -- of a pass whose call is under way
-under_way : (seat number : ℕ) (w : MachineState) (fs : List Answer) (begun : ℕ) (held : Held) (high : ℕ) → MayAsk number (call_of held) → AreRecordsOf w.calls seat number 0 fs high → IsUnderWay w seat number begun held high
+under_way : (seat number : ℕ) (w : MachineState) (fs : List Answer) (begun : ℕ) (held : Held) (high : ℕ) → MayAsk number (call_of held) → AreRecordsOf w.calls seat number 0 fs high
+    → IsUnderWay w seat number begun held high
     → calls_by seat number (calls_told w) ≡ map (λ (f : Answer). f.call) fs ++ call_of held ∷ [] → Under seat number w fs (call_of held) begun (λ k. Within k held)
-under_way seat number w fs begun held high may recorded u whole = record { may = may; high = high; recorded = recorded; place = u.place; low = u.low; at = u.record_is; held = u.holds; others = u.others; whole = whole }
+under_way seat number w fs begun held high may recorded u whole =
+    record { may = may; high = high; recorded = recorded; place = u.place; low = u.low; at = u.record_is; held = u.holds; others = u.others; whole = whole }
 
 abbrev has_call : List Call → Bool
 has_call [] = false
 has_call (call ∷ calls) = true
 
-fits_under : (seat number : ℕ) (w : MachineState) (fs : List Answer) (begun : ℕ) (held : Held) → CanHold number held → call_under_way held ≡ call_of held ∷ [] → (u : Under seat number w fs (call_of held) begun (λ k. Within k held)) → FitsHeld w seat number begun held u.high
+fits_under : (seat number : ℕ) (w : MachineState) (fs : List Answer) (begun : ℕ) (held : Held) → CanHold number held → call_under_way held ≡ call_of held ∷ []
+    → (u : Under seat number w fs (call_of held) begun (λ k. Within k held)) → FitsHeld w seat number begun held u.high
 fits_under seat number w fs begun Nothing can one u = absurd (false≢true (ap has_call one))
 fits_under seat number w fs begun (Holding e old new) can one u = record { can = can; place = u.place; low = u.low; record_is = u.at; holds = u.held; others = u.others }
 fits_under seat number w fs begun (Collecting words) can one u = record { can = can; place = u.place; low = u.low; record_is = u.at; holds = u.held; others = u.others }
@@ -163,7 +178,8 @@ module _ (seat number : ℕ) (call : Call) (w : MachineState) (may : MayAsk numb
         told = map-append caller_and_call w.calls (a ∷ []);
       }
 
-  module _ (fs : List Answer) (high : ℕ) (recorded : AreRecordsOf w.calls seat number 0 fs high) (le : high ≤ length w.calls) (idle : (d : Caller) → IsOf seat number d → held_by w.callers d ≡ Some Idle) (whole : calls_by seat number (calls_told w) ≡ map (λ (f : Answer). f.call) fs ++ call_under_way Nothing) where
+  module _ (fs : List Answer) (high : ℕ) (recorded : AreRecordsOf w.calls seat number 0 fs high) (le : high ≤ length w.calls)
+      (idle : (d : Caller) → IsOf seat number d → held_by w.callers d ≡ Some Idle) (whole : calls_by seat number (calls_told w) ≡ map (λ (f : Answer). f.call) fs ++ call_under_way Nothing) where
     idle_now : held_by w.callers mine ≡ Some Idle
     idle_now = idle mine (of_call seat number call may)
 
@@ -190,7 +206,8 @@ CanGo number call (GoesOn held) = CanHold number held × (call_under_way held �
 CanGo number call (Answers reply) = Unit {0}
 
 -- a step of a call under way, from state w: v is the board after it
-module _ (seat number : ℕ) (w : MachineState) (d : Doing) (call : Call) (begun : ℕ) (hold : ℕ → Holds) (u : Under seat number w d.calls call begun hold) (m : Access) (v : MachineState) (same : (v.callers ≡ w.callers) × (v.calls ≡ w.calls))
+module _ (seat number : ℕ) (w : MachineState) (d : Doing) (call : Call) (begun : ℕ) (hold : ℕ → Holds) (u : Under seat number w d.calls call begun hold) (m : Access) (v : MachineState)
+    (same : (v.callers ≡ w.callers) × (v.calls ≡ w.calls))
     (entries : List Entry) (history : v.history ≡ w.history ++ entries) (now : ℕ) (place : length (w.history ++ entries) ≡ now) (point : ℕ) where
   abbrev by : Caller
   by = caller_for seat number call
@@ -288,13 +305,16 @@ module _ (seat number : ℕ) (w : MachineState) (d : Doing) (call : Call) (begun
   turn_by (Answers reply) can made = answered reply made
 
 -- the same of a step that stores nothing
-turn_kept : (seat number : ℕ) (w : MachineState) (d : Doing) (call : Call) (begun : ℕ) (hold : ℕ → Holds) (u : Under seat number w d.calls call begun hold) (m : Access) (point : ℕ) (o : Outcome) → CanGo number call o
-    → Made (caller_for seat number call) w m (after_outcome (caller_for seat number call) u.place point o w) → TurnOn seat number w (caller_for seat number call) m (done_by call begun (length w.history) o d) []
+turn_kept : (seat number : ℕ) (w : MachineState) (d : Doing) (call : Call) (begun : ℕ) (hold : ℕ → Holds) (u : Under seat number w d.calls call begun hold) (m : Access) (point : ℕ) (o : Outcome)
+    → CanGo number call o
+    → Made (caller_for seat number call) w m (after_outcome (caller_for seat number call) u.place point o w)
+    → TurnOn seat number w (caller_for seat number call) m (done_by call begun (length w.history) o d) []
 turn_kept seat number w d call begun hold u m point o can made =
     turn_by seat number w d call begun hold u m w (refl, refl) [] (sym (append-nil w.history)) (length w.history) (ap length (append-nil w.history)) point o can made
 
 -- the pass's step, where its call begins with it
-begins_turn : (seat number : ℕ) (call : Call) (w : MachineState) (may : MayAsk number call) (m : Access) (d : Doing) (entries : List Entry) → held_by w.callers (caller_for seat number call) ≡ Some Idle
+begins_turn : (seat number : ℕ) (call : Call) (w : MachineState) (may : MayAsk number call) (m : Access) (d : Doing) (entries : List Entry)
+    → held_by w.callers (caller_for seat number call) ≡ Some Idle
     → TurnOn seat number (after_begin (caller_for seat number call) call w) (caller_for seat number call) m d entries → Turn seat number w (caller_for seat number call) m d entries
 begins_turn seat number call w may m d entries idle on =
     let t = on.turn in
@@ -312,7 +332,8 @@ begins_turn seat number call w may m d entries idle on =
       fits = t.fits;
     }
 
-module _ (cast : Cast) (seat number : ℕ) (steps : List Step) (w : MachineState) (run : after_steps steps (initial_state cast) ≡ Some w) (d : Doing) (f : FitsRun w seat number d) (m : Access) (now : IsNow w m) where
+module _ (cast : Cast) (seat number : ℕ) (steps : List Step) (w : MachineState) (run : after_steps steps (initial_state cast) ≡ Some w) (d : Doing) (f : FitsRun w seat number d) (m : Access)
+    (now : IsNow w m) where
   words_now : w.words ≡ board_of w.history
   words_now = words_of_run cast steps w run
 
@@ -347,7 +368,8 @@ module _ (cast : Cast) (seat number : ℕ) (steps : List Step) (w : MachineState
       let u = under_now (Event e) may none in
       subst (λ (p : ℕ). Turn seat number w (Reporter number) m (after_look number e m.found p d) []) (sym now.place)
       (begins_turn seat number (Event e) w may m (after_look number e m.found (length w.history) d) [] (free_now (Event e) may none)
-      (turn_kept seat number v d (Event e) (length w.history) (λ k. Wanting k e) u m (length w.history) (looked number e m.found) (can_look e may (refusal_of (record_at m.found) e.expected e.kind) refl)
+      (turn_kept seat number v d (Event e) (length w.history) (λ k. Wanting k e) u m (length w.history) (looked number e m.found)
+      (can_look e may (refusal_of (record_at m.found) e.expected e.kind) refl)
       (made_look v m words_now (is_begun (Event e) may none) number u.place e u.held may.1 does)))
 
   -- Swap
@@ -365,10 +387,12 @@ module _ (cast : Cast) (seat number : ℕ) (steps : List Step) (w : MachineState
     keeps_calls true = (refl, refl)
     keeps_calls false = (refl, refl)
 
-    swap_by : (entries : List Entry) (after : ℕ) → (cond (m.found == old) (stored number e new w) w).history ≡ w.history ++ entries → length (w.history ++ entries) ≡ after → Turn seat number w (Reporter number) m (after_swap m.found after d) entries
+    swap_by : (entries : List Entry) (after : ℕ) → (cond (m.found == old) (stored number e new w) w).history ≡ w.history ++ entries → length (w.history ++ entries) ≡ after
+        → Turn seat number w (Reporter number) m (after_swap m.found after d) entries
     swap_by entries after history place =
         subst (λ (h : Held). Turn seat number w (Reporter number) m (swaps_holding h m.found after d) entries) (sym is_held)
-        (turn_by seat number w d (Event e) d.begun (λ k. Within k (Holding e old new)) swap_under m (cond (m.found == old) (stored number e new w) w) (keeps_calls (m.found == old)) entries history after place (length w.history) (swapped old new m.found) tt
+        (turn_by seat number w d (Event e) d.begun (λ k. Within k (Holding e old new)) swap_under m (cond (m.found == old) (stored number e new w) w) (keeps_calls (m.found == old)) entries history
+        after place (length w.history) (swapped old new m.found) tt
         (made_swap w m words_now now number swap_under.place e old new swap_under.held swapping.can.1 does)).turn
 
     pub turn_swapped : m.found ≡ old → Turn seat number w (Reporter number) m (after_swap m.found (m.at + 1) d) (entry_of number e ∷ [])
@@ -384,7 +408,8 @@ module _ (cast : Cast) (seat number : ℕ) (steps : List Step) (w : MachineState
   abbrev reader : Caller
   reader = Reader (seat + 1)
 
-  can_load : (words : List ℕ) (at : ℕ) → length words < 12 → (b : Bool) → (length (words ++ m.found ∷ []) == 12) ≡ b → CanGo number Reading (GoesOn (cond b (Checking (words ++ m.found ∷ []) 0 at) (Collecting (words ++ m.found ∷ []))))
+  can_load : (words : List ℕ) (at : ℕ) → length words < 12 → (b : Bool) → (length (words ++ m.found ∷ []) == 12) ≡ b
+      → CanGo number Reading (GoesOn (cond b (Checking (words ++ m.found ∷ []) 0 at) (Collecting (words ++ m.found ∷ []))))
   can_load words at few true is = (omega arith, refl, refl)
   can_load words at few false is =
       let more = words ++ m.found ∷ [] in
@@ -400,7 +425,8 @@ module _ (cast : Cast) (seat number : ℕ) (steps : List Step) (w : MachineState
       let u = under_now Reading tt none in
       subst (λ (p : ℕ). Turn seat number w reader m (goes p (collected (m.found ∷ []) p) d) []) (sym now.place)
       (begins_turn seat number Reading w tt m (goes (length w.history) (collected (m.found ∷ []) (length w.history)) d) [] (free_now Reading tt none)
-      (turn_kept seat number v d Reading (length w.history) (λ k. Within k (Collecting [])) u m (length w.history) (loaded [] m.found (length w.history)) (can_load [] (length w.history) (omega arith) (length (m.found ∷ []) == 12) refl)
+      (turn_kept seat number v d Reading (length w.history) (λ k. Within k (Collecting [])) u m (length w.history) (loaded [] m.found (length w.history))
+      (can_load [] (length w.history) (omega arith) (length (m.found ∷ []) == 12) refl)
       (made_first v m words_now (is_begun Reading tt none) reader u.place [] u.held (omega arith) does)))
 
   module _ (words : List ℕ) (is_held : d.held ≡ Collecting words) (does : Does log.First (length words + 1) m) where
@@ -411,7 +437,8 @@ module _ (cast : Cast) (seat number : ℕ) (steps : List Step) (w : MachineState
     turn_first =
         let u = under_way seat number w d.calls d.begun (Collecting words) f.high tt f.recorded collecting (whole_held (Collecting words) is_held) in
         subst (λ (p : ℕ). Turn seat number w reader m (goes d.begun (collected (words ++ m.found ∷ []) p) d) []) (sym now.place)
-        (turn_kept seat number w d Reading d.begun (λ k. Within k (Collecting words)) u m (length w.history) (loaded words m.found (length w.history)) (can_load words (length w.history) collecting.can (length (words ++ m.found ∷ []) == 12) refl)
+        (turn_kept seat number w d Reading d.begun (λ k. Within k (Collecting words)) u m (length w.history) (loaded words m.found (length w.history))
+        (can_load words (length w.history) collecting.can (length (words ++ m.found ∷ []) == 12) refl)
         (made_first w m words_now now reader u.place words u.held collecting.can does)).turn
 
   first_by : m.kind ≡ log.First → (h : Held) → d.held ≡ h → IsNext log.First m.game h → Turn seat number w reader m (firsts_holding h m.found m.at d) []
@@ -444,7 +471,8 @@ module _ (cast : Cast) (seat number : ℕ) (steps : List Step) (w : MachineState
     turn_compared =
         let u = under_way seat number w d.calls d.begun (Checking words checked point) f.high tt f.recorded checking (whole_held (Checking words checked point) is_held) in
         subst (λ (p : ℕ). Turn seat number w reader m (done_by Reading d.begun p (compared words checked point m.found) d) []) (sym now.place)
-        (turn_kept seat number w d Reading d.begun (λ k. Within k (Checking words checked point)) u m point (compared words checked point m.found) (can_compare (m.found == slice_index words checked) (checked == 11) refl)
+        (turn_kept seat number w d Reading d.begun (λ k. Within k (Checking words checked point)) u m point (compared words checked point m.found)
+        (can_compare (m.found == slice_index words checked) (checked == 11) refl)
         (made_second w m words_now now reader u.place words checked point u.held checking.can does)).turn
 
     pub turn_again : m.found ≡ slice_index words checked → checked ≢ 11 → Turn seat number w reader m (goes d.begun (Checking words (checked + 1) point) d) []

@@ -34,7 +34,11 @@ begins_call steps p i c b =
     ap (λ (z : List (Caller × Call)). slice_get z i) whole ∙ at_longer (front ++ (c, b.call) ∷ []) rest i (c, b.call) there
 
 later : (s : Step) (steps : List Step) (p i : ℕ) (c : Caller) → begun_in (s ∷ []) ≡ [] → BeginsAt steps p i c → BeginsAt (s ∷ steps) (suc p) i c
-later s steps p i c none b = record { call = b.call; begins = b.begins; number = ap length (begun_in-append (s ∷ []) (take p steps) ∙ ap (λ (z : List (Caller × Call)). z ++ begun_in (take p steps)) none) ∙ b.number }
+later s steps p i c none b = record {
+  call = b.call;
+  begins = b.begins;
+  number = ap length (begun_in-append (s ∷ []) (take p steps) ∙ ap (λ (z : List (Caller × Call)). z ++ begun_in (take p steps)) none) ∙ b.number;
+}
 
 -- each call that the steps begin is begun at a place
 pub place_of : (steps : List Step) (i : ℕ) (c : Caller) (call : Call) → slice_get (begun_in steps) i ≡ Some (c, call) → (p : ℕ) × BeginsAt steps p i c
@@ -51,7 +55,8 @@ place_of (Second d ∷ steps) i c call e = let t = place_of steps i c call e in 
 place_of (End d ∷ steps) i c call e = let t = place_of steps i c call e in (suc t.0, later (End d) steps t.0 i c refl t.1)
 
 begun_more : (steps : List Step) (p q : ℕ) → p ≤ q → length (begun_in (take p steps)) ≤ length (begun_in (take q steps))
-begun_more steps p q l = let cut = ap length (ap begun_in (take_split steps p q l) ∙ begun_in-append (take p steps) (drop p (take q steps))) in omega (arith, cut, length-append (begun_in (take p steps)) (begun_in (drop p (take q steps))))
+begun_more steps p q l = let cut = ap length (ap begun_in (take_split steps p q l) ∙ begun_in-append (take p steps) (drop p (take q steps))) in
+    omega (arith, cut, length-append (begun_in (take p steps)) (begun_in (drop p (take q steps))))
 
 -- an earlier call is begun at an earlier place, and the other way round
 pub earlier_place : (steps : List Step) (p q i j : ℕ) (c d : Caller) → BeginsAt steps p i c → BeginsAt steps q j d → i < j → p < q
@@ -102,4 +107,5 @@ module _ (steps : List Step) (s : Step) where
   old_or_last p x e = elim (at_either steps s p x e) [ inl t ↦ inl t.0 | inr t ↦ inr t ]
 
   pub number_at_end : (i : ℕ) (c : Caller) (p : ℕ) → p ≡ length steps → BeginsAt (steps ++ s ∷ []) p i c → i ≡ length (begun_in steps)
-  number_at_end i c p is b = sym b.number ∙ ap (λ (z : List Step). length (begun_in z)) (ap (λ (z : ℕ). take z (steps ++ s ∷ [])) is ∙ (take-append-le (length steps) steps (s ∷ []) (omega arith) ∙ take-length steps))
+  number_at_end i c p is b = sym b.number ∙ ap (λ (z : List Step). length (begun_in z))
+      (ap (λ (z : ℕ). take z (steps ++ s ∷ [])) is ∙ (take-append-le (length steps) steps (s ∷ []) (omega arith) ∙ take-length steps))

@@ -1,5 +1,6 @@
 -- What is known of a state that steps lead to.
-use Rattle.std.proofs.Common.{◌≡◌, ℕ, zero, suc, ◌+◌, ◌-◌, ◌<◌, ◌≤◌, ◌==◌, Bool, true, false, cond, List, [], ◌∷◌, ◌++◌, take, length, map, Option, Some, None, refl, sym, ap, ◌∙◌, subst, arith, get_or, set, length-take, eq-eqb, ne_eqb}
+use Rattle.std.proofs.Common.{◌≡◌, ℕ, zero, suc, ◌+◌, ◌-◌, ◌<◌, ◌≤◌, ◌==◌, Bool, true, false, cond, List, [], ◌∷◌, ◌++◌, take, length, map, Option, Some, None, refl, sym, ap, ◌∙◌, subst, arith}
+use Rattle.std.proofs.Common.{get_or, set, length-take, eq-eqb, ne_eqb}
 use Rattle.std.specs.Prelude.{slice_get, slice_index, replicate}
 use Rattle.std.specs.Option.{option_map, option_and_then}
 use Rattle.std.proofs.lemmas.Option.{none-some, same_Some, slice_get-map, slice_get-get_or, slice_get_past, option_and_then_some}
@@ -23,7 +24,8 @@ use Rattle.ucl_steps.specs.declared.trace.CallRecord.{CallRecord}
 use Rattle.ucl_steps.specs.declared.machine.Held.{Held}
 use Rattle.ucl_steps.specs.declared.machine.Held.TheVariants as has
 use Rattle.ucl_steps.specs.Protocol.{Holding, Collecting, Checking, Outcome, GoesOn, Answers}
-use Rattle.ucl_steps.specs.Machine.{Holds, Idle, Wanting, Within, Callers, MachineState, initial_state, held_by, with_held, after_reply, after_outcome, stored, state_after_first, change_at, caller_of, after_step_holding, after_step, after_steps}
+use Rattle.ucl_steps.specs.Machine.{Holds, Idle, Wanting, Within, Callers, MachineState, initial_state, held_by, with_held, after_reply, after_outcome, stored, state_after_first, change_at, caller_of}
+use Rattle.ucl_steps.specs.Machine.{after_step_holding, after_step, after_steps}
 use Rattle.ucl_board.specs.declared.entry.Entry.{Entry}
 use Rattle.ucl_steps.specs.Running.{holds_of, IsReachable, Takes}
 use Rattle.ucl_word.proofs.Sequences.{at_below}
@@ -74,12 +76,14 @@ state words history calls reporters readers = record { words = words; history = 
 module _ (words : List ℕ) (history : List Entry) (calls : List CallRecord) where
   pub hold_reporter : (hs : List Held) (readers : List Holds) (c : Caller) (r k : ℕ) (y : Held) → c ≡ Reporter r → k ≡ r - 1
       → state words history calls (map holds_of (set hs k y)) readers ≡ with_held (holds_of y) c (state words history calls (map holds_of hs) readers)
-  hold_reporter hs readers c r k y is at = subst (λ (c : Caller). state words history calls (map holds_of (set hs k y)) readers ≡ with_held (holds_of y) c (state words history calls (map holds_of hs) readers)) (sym is)
+  hold_reporter hs readers c r k y is at =
+      subst (λ (c : Caller). state words history calls (map holds_of (set hs k y)) readers ≡ with_held (holds_of y) c (state words history calls (map holds_of hs) readers)) (sym is)
       (ap (λ (z : List Holds). state words history calls z readers) (map-set holds_of hs k y ∙ ap (λ (k : ℕ). set (map holds_of hs) k (holds_of y)) at))
 
   pub hold_reader : (hs : List Held) (reporters : List Holds) (c : Caller) (r k : ℕ) (y : Held) → c ≡ Reader r → k ≡ r - 1
       → state words history calls reporters (map holds_of (set hs k y)) ≡ with_held (holds_of y) c (state words history calls reporters (map holds_of hs))
-  hold_reader hs reporters c r k y is at = subst (λ (c : Caller). state words history calls reporters (map holds_of (set hs k y)) ≡ with_held (holds_of y) c (state words history calls reporters (map holds_of hs))) (sym is)
+  hold_reader hs reporters c r k y is at =
+      subst (λ (c : Caller). state words history calls reporters (map holds_of (set hs k y)) ≡ with_held (holds_of y) c (state words history calls reporters (map holds_of hs))) (sym is)
       (ap (λ (z : List Holds). state words history calls reporters z) (map-set holds_of hs k y ∙ ap (λ (k : ℕ). set (map holds_of hs) k (holds_of y)) at))
 
 pub set-change_at : (calls : List CallRecord) (k : ℕ) (x : CallRecord) (f : CallRecord → CallRecord) → k < length calls → x ≡ get_or calls k x → set calls k (f x) ≡ change_at k f calls
@@ -114,10 +118,12 @@ module _ (w : MachineState) (c : Caller) (k : ℕ) (ws : List ℕ) (n : ℕ) (tw
       sym (ap (λ (z : List ℕ). with_held (Within k (cond (length z == 12) (Checking z 0 (length w.history)) (Collecting z))) c w) one_longer
       ∙ ap (λ (b : Bool). with_held (Within k (cond b (Checking (take (n + 1) filled) 0 (length w.history)) (Collecting (take (n + 1) filled)))) c w) test)
 
-pub start_is : (cast : Cast) (words : List ℕ) (history : List Entry) (calls : List CallRecord) (reporters readers : List Holds) → words ≡ board_of [] → history ≡ [] → calls ≡ [] → reporters ≡ replicate cast.reporters Idle → readers ≡ replicate cast.readers Idle
+pub start_is : (cast : Cast) (words : List ℕ) (history : List Entry) (calls : List CallRecord) (reporters readers : List Holds) → words ≡ board_of [] → history ≡ [] → calls ≡ []
+    → reporters ≡ replicate cast.reporters Idle → readers ≡ replicate cast.readers Idle
     → state words history calls reporters readers ≡ initial_state cast
 start_is cast words history calls reporters readers w a b c d =
-    ap (λ (z : List ℕ). state z history calls reporters readers) (w ∙ sym board_none) ∙ (ap (λ (z : List Entry). state start z calls reporters readers) a ∙ (ap (λ (z : List CallRecord). state start [] z reporters readers) b
+    ap (λ (z : List ℕ). state z history calls reporters readers) (w ∙ sym board_none)
+    ∙ (ap (λ (z : List Entry). state start z calls reporters readers) a ∙ (ap (λ (z : List CallRecord). state start [] z reporters readers) b
     ∙ (ap (λ (z : List Holds). state start [] [] z readers) c ∙ ap (λ (z : List Holds). state start [] [] (replicate cast.reporters Idle) z) d)))
   where
     start : List ℕ
@@ -166,7 +172,8 @@ module _ (w : MachineState) (r : IsReachable w) (c : Caller) (o : Option Held) (
       let found = word_at w.words e.game in
       subst (λ (z : Caller). after_step w (Swap z) ≡ Some (after_reply z k (length w.history) (Accepted (record { number = (record_at new).number })) (stored n e new w))) (sym reporter)
       (step_is (Swap me) w (after_reply me k (length w.history) (Accepted (record { number = (record_at new).number })) (stored n e new w)) (Within k (Holding e old new)) held
-      (ap (λ (b : Bool). Some (after_reply me k (length w.history) (cond b (Accepted (record { number = (record_at new).number })) (Refused (Stale (record_at found).number))) (cond b (stored n e new w) w))) (eq-eqb found old same)))
+      (ap (λ (b : Bool). Some (after_reply me k (length w.history) (cond b (Accepted (record { number = (record_at new).number })) (Refused (Stale (record_at found).number)))
+      (cond b (stored n e new w) w))) (eq-eqb found old same)))
 
   -- a second collect that is clean
   pub clean_step : (k : ℕ) (ws : List ℕ) (n p : ℕ) → o ≡ Some (has.Checking k ws n p) → slice_index w.words n ≡ slice_index ws n → n ≡ 11
@@ -186,11 +193,13 @@ taken_step old new s true t is = t
 taken_step old new s false t is = absurd (false≢true is)
 
 -- one step more of a list
-pub steps_more : (steps : List Step) (at : ℕ) (s : Step) (w v u : MachineState) → slice_get steps at ≡ Some s → after_steps (take at steps) w ≡ Some v → after_step v s ≡ Some u → after_steps (take (suc at) steps) w ≡ Some u
+pub steps_more : (steps : List Step) (at : ℕ) (s : Step) (w v u : MachineState) → slice_get steps at ≡ Some s → after_steps (take at steps) w ≡ Some v → after_step v s ≡ Some u
+    → after_steps (take (suc at) steps) w ≡ Some u
 steps_more [] at s w v u here before then = absurd (none-some s here)
 steps_more (x ∷ steps) zero s w v u here before then =
     let x_is = same_Some x s here in
     let v_is = same_Some w v before in
-    ap (λ (z : Step). option_and_then (after_steps []) (after_step w z)) x_is ∙ (ap (λ (z : MachineState). option_and_then (after_steps []) (after_step z s)) v_is ∙ ap (option_and_then (after_steps [])) then)
+    ap (λ (z : Step). option_and_then (after_steps []) (after_step w z)) x_is
+    ∙ (ap (λ (z : MachineState). option_and_then (after_steps []) (after_step z s)) v_is ∙ ap (option_and_then (after_steps [])) then)
 steps_more (x ∷ steps) (suc at) s w v u here before then =
     option_and_then_some (after_steps (take at steps)) (after_step w x) v before (λ y is rest. ap (option_and_then (after_steps (take (suc at) steps))) is ∙ steps_more steps at s y v u here rest then)

@@ -19,7 +19,8 @@ use Rattle.ucl_steps.specs.declared.trace.Reply.{Reply}
 use Rattle.ucl_steps.specs.declared.trace.Reply.TheVariants.{Accepted, Refused, Copied}
 use Rattle.ucl_steps.specs.Machine.{Holds, Idle, MachineState, initial_state, held_by, caller_of, after_step, after_steps}
 use Rattle.ucl_steps.specs.declared.trace.Trace.{Trace}
-use Rattle.ucl_steps.specs.Linearizable.{EndsAt, EndedBySteps, PointWithinCall, AcceptedIsEntry, is_accepted, RefusedAtPoint, ReadingIsSnapshot, Precedes, caller_and_call, RealTimeOrder, version_read, VersionsRise, IsLinearizable}
+use Rattle.ucl_steps.specs.Linearizable.{EndsAt, EndedBySteps, PointWithinCall, AcceptedIsEntry, is_accepted, RefusedAtPoint, ReadingIsSnapshot, Precedes, caller_and_call, RealTimeOrder, version_read}
+use Rattle.ucl_steps.specs.Linearizable.{VersionsRise, IsLinearizable}
 use Rattle.ucl_steps.specs.Traces.{IsLeftBy}
 use Rattle.ucl_steps.specs.Laws.{RunsAreLinearizable, WordsAreOfTheHistory}
 use Rattle.ucl_steps.proofs.Explanations.{IsSequential, IsExplained}
@@ -166,7 +167,8 @@ words_of_run cast steps w e = (run_kept steps [] (initial_state cast) w (kept_at
 -- so of every trace
 module _ (cast : Cast) (steps : List Step) (w : MachineState) (trace : Trace) (last : after_steps steps (initial_state cast) ≡ Some w) (left : IsLeftBy w trace) where
   pub linearizable_trace : IsLinearizable steps trace.history.items trace.calls.items
-  linearizable_trace = subst (λ (h : List Entry). IsLinearizable steps h trace.calls.items) (sym left.history) (subst (IsLinearizable steps w.history) (sym left.calls) (linearizable_run cast steps w last))
+  linearizable_trace = subst (λ (h : List Entry). IsLinearizable steps h trace.calls.items) (sym left.history)
+      (subst (IsLinearizable steps w.history) (sym left.calls) (linearizable_run cast steps w last))
 
   pub words_of_trace : trace.words ≡ board_of trace.history.items
   words_of_trace = left.words ∙ (words_of_run cast steps w last ∙ ap board_of (sym left.history))

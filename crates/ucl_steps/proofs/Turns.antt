@@ -156,7 +156,8 @@ abbrev pub ended_at : ℕ → Time → Time
 ended_at n t = record t { ended = Some n }
 
 -- a call that is begun has its time
-time_of_call : (steps : List Step) (ts : List Time) (i : ℕ) (c : Caller) (call : Call) → begun_in steps ≡ map told ts → slice_get (begun_in steps) i ≡ Some (c, call) → (t : Time) × (slice_get ts i ≡ Some t) × (t.caller ≡ c)
+time_of_call : (steps : List Step) (ts : List Time) (i : ℕ) (c : Caller) (call : Call) → begun_in steps ≡ map told ts → slice_get (begun_in steps) i ≡ Some (c, call)
+    → (t : Time) × (slice_get ts i ≡ Some t) × (t.caller ≡ c)
 time_of_call steps ts i c call same e =
     let below = at_below (begun_in steps) i (c, call) e in
     let count : length (begun_in steps) ≡ length ts = ap length same ∙ length-map ts told in
@@ -164,7 +165,21 @@ time_of_call steps ts i c call same e =
     let there : Some (told t.0) ≡ Some (c, call) = ap (option_map told) (sym t.1) ∙ (sym (slice_get-map told ts i) ∙ (ap (λ (z : List (Caller × Call)). slice_get z i) (sym same) ∙ e)) in
     (t.0, t.1, ap (λ (z : Caller × Call). z.0) (same_Some (told t.0) (c, call) there))
 
-module _ (steps : List Step) (n : ℕ) (ts : List Time) (c : Caller) (k : ℕ) (held : Time) (here : slice_get ts k ≡ Some held) (own : held.caller ≡ c) (open_call : held.ended ≡ None) (kept : Turns steps n ts) where
+-- the time of a call before a step that ends the call at this place, and which time it has after it
+record TimeBefore (k n : ℕ) (ts : List Time) (i : ℕ) (after : Time) : Type 0 where
+  time : Time
+  there : slice_get ts i ≡ Some time
+  caller : time.caller ≡ after.caller
+  begun : time.begun ≡ after.begun
+  ended : (time.ended ≡ after.ended) ⊎ (time.ended ≡ None)
+  which : ((i ≡ k) × (after.ended ≡ Some n)) ⊎ ((i ≢ k) × (time ≡ after))
+
+still_ended : (before after : Time) → (before.ended ≡ after.ended) ⊎ (before.ended ≡ None) → (m : ℕ) → EndedBy before.ended m → EndedBy after.ended m
+still_ended before after (inl same) m by = subst (λ (z : Option ℕ). EndedBy z m) same by
+still_ended before after (inr none) m by = absurd (not_ended before.ended m none by)
+
+module _ (steps : List Step) (n : ℕ) (ts : List Time) (c : Caller) (k : ℕ) (held : Time) (here : slice_get ts k ≡ Some held) (own : held.caller ≡ c) (open_call : held.ended ≡ None)
+    (kept : Turns steps n ts) where
   -- the call that ends is the one that its caller holds
   ends_held : (p i : ℕ) → p ≡ length steps → EndsAt (steps ++ End c ∷ []) p i c → i ≡ k
   ends_held p i is e =
@@ -204,59 +219,66 @@ module _ (steps : List Step) (n : ℕ) (ts : List Time) (c : Caller) (k : ℕ) (
             not_ended held.ended t.0.begun open_call (kept.turns k j held t.0 (earlier_call steps q.0 r k j c c began b low) here t.1 (own ∙ sym t.2));
       }
 
+  time_before : (i : ℕ) (after : Time) → slice_get (change_at k (ended_at n) ts) i ≡ Some after → TimeBefore k n ts i after
+  time_before i after at = elim (get-change_at k (ended_at n) ts i after at) [
+    | inl u ↦
+        let same : u.1 ≡ held = same_Some u.1 held (sym u.2 ∙ here) in
+        record {
+          time = u.1;
+          there = ap (slice_get ts) u.0 ∙ u.2;
+          caller = ap (λ (z : Time). z.caller) u.3;
+          begun = ap (λ (z : Time). z.begun) u.3;
+          ended = inr (ap (λ (z : Time). z.ended) same ∙ open_call);
+          which = inl (u.0, sym (ap (λ (z : Time). z.ended) u.3));
+        }
+    | inr u ↦ record { time = after; there = u.1; caller = refl; begun = refl; ended = inl refl; which = inr (u.0, refl) }
+  ]
+
   pub turns_end : Turns (steps ++ End c ∷ []) n (change_at k (ended_at n) ts)
   turns_end =
       let s = End c in
       let after = change_at k (ended_at n) ts in
-      let was : (i : ℕ) (a : Time) → slice_get after i ≡ Some a → (b : Time) × (slice_get ts i ≡ Some b) × (b.caller ≡ a.caller) × (b.begun ≡ a.begun) × ((b.ended ≡ a.ended) ⊎ (b.ended ≡ None)) × (((i ≡ k) × (a.ended ≡ Some n)) ⊎ ((i ≢ k) × (b ≡ a))) =
-      λ i a at. elim (get-change_at k (ended_at n) ts i a at) [
-        | inl u ↦
-            let same : u.1 ≡ held = same_Some u.1 held (sym u.2 ∙ here) in
-            (u.1, ap (slice_get ts) u.0 ∙ u.2, ap (λ (z : Time). z.caller) u.3, ap (λ (z : Time). z.begun) u.3, inr (ap (λ (z : Time). z.ended) same ∙ open_call), inl (u.0, sym (ap (λ (z : Time). z.ended) u.3)))
-        | inr u ↦ (a, u.1, refl, refl, inl refl, inr (u.0, refl))
-      ] in
-      let ended : (i : ℕ) (a b : Time) → slice_get ts i ≡ Some b → (b.ended ≡ a.ended) ⊎ (b.ended ≡ None) → (m : ℕ) → EndedBy b.ended m → EndedBy a.ended m =
-      λ i a b at or m by. elim or [ inl same ↦ subst (λ (z : Option ℕ). EndedBy z m) same by | inr none ↦ absurd (not_ended b.ended m none by) ] in
       record {
         same = begun_in-append steps (s ∷ []) ∙ (append-nil (begun_in steps) ∙ (kept.same ∙ sym (map_unseen told k (ended_at n) (λ x. refl) ts)));
-        past = λ i t at. let w = was i t at in let low = (kept.past i w.0 w.1).0 in let b = w.3 in (
+        past = λ i t at. let w = time_before i t at in let low = (kept.past i w.time w.there).0 in let b = w.begun in (
           omega arith,
-          elim w.5 [
+          elim w.which [
             | inl u ↦ subst (λ (z : Option ℕ). IfSome z (λ e. e ≤ n)) (sym u.1) (le_refl n)
-            | inr u ↦ subst (λ (z : Time). IfSome z.ended (λ e. e ≤ n)) u.1 (kept.past i w.0 w.1).1
+            | inr u ↦ subst (λ (z : Time). IfSome z.ended (λ e. e ≤ n)) u.1 (kept.past i w.time w.there).1
           ],
         );
         turns = λ i j a b l at at' same.
-            let w = was i a at in
-            let v = was j b at' in
-            ended i a w.0 w.1 w.4 b.begun (subst (EndedBy w.0.ended) v.3 (kept.turns i j w.0 v.0 l w.1 v.1 (w.2 ∙ (same ∙ sym v.2))));
+            let w = time_before i a at in
+            let v = time_before j b at' in
+            still_ended w.time a w.ended b.begun (subst (EndedBy w.time.ended) v.begun (kept.turns i j w.time v.time l w.there v.there (w.caller ∙ (same ∙ sym v.caller))));
         finished = λ p i d a e at.
-            let w = was i a at in
+            let w = time_before i a at in
             elim (old_or_last steps s p (End d) e.ends) [
-              | inl l ↦ let some = kept.finished p i d w.0 (back_ends steps s p i d l e) w.1 in elim w.4 [
+              | inl l ↦ let some = kept.finished p i d w.time (back_ends steps s p i d l e) w.there in elim w.ended [
                 | inl same ↦ subst (λ (z : Option ℕ). IsSome z) same some
-                | inr none ↦ absurd (not_some w.0.ended none some)
+                | inr none ↦ absurd (not_some w.time.ended none some)
               ]
               | inr t ↦
                   let caller = caller_is c d t.1 in
                   let is = ends_held p i t.0 (subst (EndsAt (steps ++ s ∷ []) p i) (sym caller) e) in
-                  elim w.5 [ inl u ↦ subst (λ (z : Option ℕ). IsSome z) (sym u.1) refl | inr u ↦ absurd (u.0 is) ]
+                  elim w.which [ inl u ↦ subst (λ (z : Option ℕ). IsSome z) (sym u.1) refl | inr u ↦ absurd (u.0 is) ]
             ];
         closed = λ i a at some.
-            let w = was i a at in
-            elim w.5 [
+            let w = time_before i a at in
+            elim w.which [
               | inl u ↦
-                  let caller : c ≡ a.caller = sym own ∙ (ap (λ (z : Time). z.caller) (same_Some held w.0 (sym here ∙ (ap (slice_get ts) (sym u.0) ∙ w.1))) ∙ w.2) in
+                  let caller : c ≡ a.caller = sym own ∙ (ap (λ (z : Time). z.caller) (same_Some held w.time (sym here ∙ (ap (slice_get ts) (sym u.0) ∙ w.there))) ∙ w.caller) in
                   (length steps, subst (λ (z : ℕ). EndsAt (steps ++ s ∷ []) (length steps) z a.caller) (sym u.0) (subst (EndsAt (steps ++ s ∷ []) (length steps) k) caller new_end))
               | inr u ↦
-                  let t = kept.closed i a (subst (λ (z : Time). slice_get ts i ≡ Some z) u.1 w.1) some in
+                  let t = kept.closed i a (subst (λ (z : Time). slice_get ts i ≡ Some z) u.1 w.there) some in
                   (t.0, more_ends steps s t.0 i a.caller t.1)
             ];
         real = λ p q i j d d' a b e f l at at'.
-            let w = was i a at in
-            let v = was j b at' in
+            let w = time_before i a at in
+            let v = time_before j b at' in
             elim (old_or_last steps s q (Begin d' f.call) f.begins) [
-              | inl m ↦ ended i a w.0 w.1 w.4 b.begun (subst (EndedBy w.0.ended) v.3 (kept.real p q i j d d' w.0 v.0 (back_ends steps s p i d (omega arith) e) (back_begins steps s q j d' m f) l w.1 v.1))
+              | inl m ↦ still_ended w.time a w.ended b.begun
+                  (subst (EndedBy w.time.ended) v.begun (kept.real p q i j d d' w.time v.time (back_ends steps s p i d (omega arith) e) (back_begins steps s q j d' m f) l w.there v.there))
               | inr t ↦ absurd (apart_end c d' f.call t.1)
             ];
       }

@@ -1,8 +1,9 @@
 -- The protocol: what a caller holds between two of its steps on match words, and what comes of each step,
 -- as one function of what was held and of the word that the step finds. Here it is said once: the machine
 -- takes these steps for all its callers, and a pass of a board for its own calls.
-use Rattle.std.specs.Prelude.{◌≡◌, ℕ, ◌+◌, ◌==◌, if◌then◌else◌, List, [], ◌∷◌, ◌++◌, length, Option, Some, None, slice_index}
+use Rattle.std.specs.Prelude.{◌≡◌, ℕ, ◌+◌, ◌==◌, if◌then◌else◌, List, [], ◌∷◌, ◌++◌, length, Option, Some, None, Result, Ok, Err, slice_index}
 use Rattle.ucl_word.specs.declared.event.EventCall.{EventCall}
+use Rattle.ucl_word.specs.declared.event.Accepted as event
 use Rattle.ucl_word.specs.declared.refusal.Refusal.{Refusal}
 use Rattle.ucl_word.specs.declared.refusal.Refusal.TheVariants.{Stale}
 use Rattle.ucl_word.specs.Record.{IsReporter}
@@ -25,6 +26,11 @@ pub data Held : Type 0 where
   Holding : (e : EventCall) (old new : ℕ) → Held
   Collecting : (words : List ℕ) → Held
   Checking : (words : List ℕ) (checked point : ℕ) → Held
+
+-- the answer of a report, as a reply
+abbrev pub report_reply : Result event.Accepted Refusal → Reply
+report_reply (Ok accepted) = Accepted accepted
+report_reply (Err refusal) = Refused refusal
 
 -- what comes of a step: the call goes on, and this is held; or the call has its reply
 pub data Outcome : Type 0 where

@@ -110,7 +110,8 @@ impl Machine {
     /// Takes the step, or answers false where it is not enabled.
     pub(crate) fn take(&mut self, step: &Step) -> Result<bool, AllocError>
         requires { IsReachable (state_of self.old) }
-        ensures { IfOk result (λ taken. Takes (state_of self.old) step.now taken (state_of self.new)) }
+        ensures { IfOk result
+            (λ taken. Takes (state_of self.old) step.now taken (state_of self.new)) }
     {
         match step {
             Step::Begin(caller, call) => self.begin(*caller, *call),
@@ -125,7 +126,8 @@ impl Machine {
     /// An idle caller begins a call.
     fn begin(&mut self, caller: Caller, call: Call) -> Result<bool, AllocError>
         requires { IsReachable (state_of self.old) }
-        ensures { IfOk result (λ taken. Takes (state_of self.old) (Begin caller call) taken (state_of self.new)) }
+        ensures { IfOk result
+            (λ taken. Takes (state_of self.old) (Begin caller call) taken (state_of self.new)) }
     {
         let held = self.held(&caller);
         let Some(Held::Idle) = &held else {
@@ -186,7 +188,8 @@ impl Machine {
     /// A reporter exchanges the word that it loaded for the next one, if the word is still there.
     fn swap(&mut self, caller: Caller) -> Result<bool, AllocError>
         requires { IsReachable (state_of self.old) }
-        ensures { IfOk result (λ taken. Takes (state_of self.old) (Swap caller) taken (state_of self.new)) }
+        ensures { IfOk result
+            (λ taken. Takes (state_of self.old) (Swap caller) taken (state_of self.new)) }
     {
         let held = self.held(&caller);
         let Some(

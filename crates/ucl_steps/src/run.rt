@@ -17,8 +17,10 @@ use std::alloc::Global;
 /// is `OutOfMemory`, which may come in place of either. An error leaves nothing.
 pub fn run_steps(alloc: Global, cast: &Cast, steps: &[Step]) -> Result<Trace, StepFault>
     ensures trace { IfOk result (IsTraceOf cast.now steps.now) }
-    ensures not_enabled { (at : ℕ) → result ≡ Err (NotEnabled at) → IsFirstDisabled cast.now steps.now at }
-    ensures linearizable { IfOk result (λ trace. IsLinearizable steps.now trace.history.items trace.calls.items) }
+    ensures not_enabled { (at : ℕ) → result ≡ Err (NotEnabled at)
+        → IsFirstDisabled cast.now steps.now at }
+    ensures linearizable { IfOk result
+        (λ trace. IsLinearizable steps.now trace.history.items trace.calls.items) }
     ensures words { IfOk result (λ trace. trace.words ≡ board_of trace.history.items) }
 {
     let mut machine = Machine::new(alloc, cast)?;

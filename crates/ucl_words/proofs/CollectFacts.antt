@@ -1,10 +1,11 @@
 -- The clean double collect: loads of all words, twice, and anew where a word was another.
-use Rattle.std.proofs.Common.{◌≡◌, ◌≢◌, inl, inr, ℕ, zero, suc, ◌+◌, ◌-◌, ◌==◌, ◌<◌, ◌≤◌, Bool, cond, List, [], ◌∷◌, ◌++◌, length, take, set, get_or, Some, refl, sym, ap, ◌∙◌, subst, arith, le_refl, append_assoc, append-nil, length-append, eq-eqb, ne_eqb, get_or-set_same}
+use Rattle.std.proofs.Common.{◌≡◌, ◌≢◌, inl, inr, ℕ, ◌+◌, ◌-◌, ◌<◌, ◌≤◌, List, [], ◌∷◌, ◌++◌, length, take, set, Some, refl, sym, ap, ◌∙◌, subst, arith, le_refl}
+use Rattle.std.proofs.Common.{append_assoc, append-nil, length-append, get_or-set_same}
 use Rattle.std.specs.Prelude.{slice_get, slice_index}
 use Rattle.std.specs.List.{AllByRecursion}
-use Rattle.std.proofs.lemmas.Option.{none-some, same_Some}
+use Rattle.std.proofs.lemmas.Option.{none-some}
 use Rattle.std.proofs.Math.Seq.{take-append_seam}
-use Rattle.ucl_word.proofs.Sequences.{at_longer, at_either}
+use Rattle.ucl_word.proofs.Sequences.{at_either}
 use Rattle.ucl_board.specs.declared.reading.Reading.{Reading}
 use Rattle.ucl_board.specs.Words.{AreWords, greatest_version, version_of}
 use Rattle.ucl_board.specs.History.{board_of, reading_of}
@@ -13,13 +14,12 @@ use Rattle.ucl_board.proofs.HistoryLaws.{versions}
 use Rattle.ucl_board.specs.Log.{AccessKind, First, Second, Access, access}
 use Rattle.ucl_steps.specs.Trails.{most_loads, IsCollect, IsUnclean, IsClean, accesses_of, ReadingAccesses}
 use Rattle.ucl_steps.specs.Laws.{IsReadFrom}
-use Rattle.ucl_steps.proofs.Lists.{get_some}
 use Rattle.ucl_steps.proofs.Accesses.{collect_none, collect_more, collect_set, unclean_try, clean_shows, reading_whole}
 use Rattle.ucl_shared.specs.Passes.{Continues, SharedReading}
 use Rattle.ucl_shared.specs.declared.view.View.{View}
-use Rattle.ucl_shared.specs.Views.{pass_view_of, count_of, trail_of}
-use Rattle.ucl_words.specs.WordSteps.{Loads, LoadsLast, no_access, twelfth_first, version_shown}
-use Rattle.ucl_words.specs.Code.{Walks, Collects, HasCollected, FindsAgain, FindsAnother}
+use Rattle.ucl_shared.specs.Views.{pass_view_of, count_of}
+use Rattle.ucl_words.specs.WordSteps.{LoadsMatch}
+use Rattle.ucl_words.specs.Code.{Walks, Collects, FindsAgain, FindsAnother}
 use Rattle.ucl_words.specs.WordCalls.{IsSteady, ReadingSteps}
 use Rattle.ucl_words.proofs.StepRuns.{walks_none, walks_on, walks_load, walks_continue}
 
@@ -36,12 +36,12 @@ pub collected_none : (kind : AccessKind) (v : View) (words : List ℕ) → IsSte
 collected_none kind v words steady = record { accesses = []; walks = walks_none v steady; many = refl; words_are = collect_none kind words; last = λ m e. absurd (none-some m e); shown = refl }
 
 -- one load more
-module _ (kind : AccessKind) (v x w : View) (words : List ℕ) (i n : ℕ) (below : i < 12) (was : Collected kind v words i x) (loads : Loads kind (i + 1) x n w) where
+module _ (kind : AccessKind) (v x w : View) (words : List ℕ) (i n : ℕ) (below : i < 12) (was : Collected kind v words i x) (loads : LoadsMatch kind (i + 1) x n w) where
   abbrev new_access : Access
   new_access = access kind (i + 1) n (length w.seen)
 
   pub more_walks : Walks v (was.accesses ++ new_access ∷ []) w
-  more_walks = walks_on v x w was.accesses (new_access ∷ []) was.walks (walks_load kind (i + 1) n x w was.walks.steady loads.loads)
+  more_walks = walks_on v x w was.accesses (new_access ∷ []) was.walks (walks_load kind (i + 1) n x w was.walks.steady loads)
 
   more_last : (m : Access) → slice_get (was.accesses ++ new_access ∷ []) 11 ≡ Some m → m.at ≡ length w.seen
   more_last m e = elim (at_either was.accesses new_access 11 m e) [
@@ -50,8 +50,8 @@ module _ (kind : AccessKind) (v x w : View) (words : List ℕ) (i n : ℕ) (belo
   ]
 
   -- the word of the match after the new load
-  pub collected_more : (now : List ℕ) → IsCollect kind now was.accesses → n ≡ slice_index now i → Collected kind v now (i + 1) w
-  collected_more now again is =
+  pub collected_more : (now : List ℕ) → IsCollect kind now was.accesses → n ≡ slice_index now i → w.shown ≡ x.shown → Collected kind v now (i + 1) w
+  collected_more now again is silent =
       let many = was.many in
       record {
         accesses = was.accesses ++ new_access ∷ [];
@@ -59,21 +59,21 @@ module _ (kind : AccessKind) (v x w : View) (words : List ℕ) (i n : ℕ) (belo
         many = omega (arith, length-append was.accesses (new_access ∷ []));
         words_are = collect_more kind now was.accesses new_access again (refl, ap (λ (k : ℕ). k + 1) (sym many)) (is ∙ ap (slice_index now) (sym many));
         last = more_last;
-        shown = loads.shown ∙ was.shown;
+        shown = silent ∙ was.shown;
       }
 
   -- which is put among the words
-  pub collected_set : length words ≡ 12 → Collected kind v (set words i n) (i + 1) w
-  collected_set long =
+  pub collected_set : length words ≡ 12 → w.shown ≡ x.shown → Collected kind v (set words i n) (i + 1) w
+  collected_set long silent =
       let many = was.many in
-      collected_more (set words i n) (collect_set kind words was.accesses i n (omega arith) was.words_are) (sym (get_or-set_same words i n 0 (omega arith)))
+      collected_more (set words i n) (collect_set kind words was.accesses i n (omega arith) was.words_are) (sym (get_or-set_same words i n 0 (omega arith))) silent
 
   -- or is compared with them
-  pub collected_same : n ≡ slice_index words i → Collected kind v words (i + 1) w
-  collected_same is = collected_more words was.words_are is
+  pub collected_same : n ≡ slice_index words i → w.shown ≡ x.shown → Collected kind v words (i + 1) w
+  collected_same is silent = collected_more words was.words_are is silent
 
-  pub collected_other : n ≢ slice_index words i → kind ≡ Second → FindsAnother v words w
-  collected_other other is =
+  pub collected_other : n ≢ slice_index words i → kind ≡ Second → w.shown ≡ x.shown → FindsAnother v words w
+  collected_other other is silent =
       let many = was.many in
       record {
         accesses = was.accesses ++ new_access ∷ [];
@@ -87,83 +87,24 @@ module _ (kind : AccessKind) (v x w : View) (words : List ℕ) (i n : ℕ) (belo
           kind = (is, ap (λ (k : ℕ). k + 1) (sym many));
           differs = λ same. other (same ∙ ap (slice_index words) many);
         };
-        shown = loads.shown ∙ was.shown;
+        shown = silent ∙ was.shown;
+      }
+
+  -- with the twelfth
+  pub finds_again : n ≡ slice_index words i → i ≡ 11 → kind ≡ Second → w.shown ≡ x.shown ++ length v.seen ∷ [] → FindsAgain v words w
+  finds_again same eleven is shows =
+      let many = was.many in
+      record {
+        accesses = was.accesses ++ new_access ∷ [];
+        walks = more_walks;
+        twelve = omega (arith, length-append was.accesses (new_access ∷ []));
+        again = subst (λ (a : AccessKind). IsCollect a words (was.accesses ++ new_access ∷ [])) is
+            (collect_more kind words was.accesses new_access was.words_are (refl, ap (λ (k : ℕ). k + 1) (sym many)) (same ∙ ap (slice_index words) (sym many)));
+        shown = shows ∙ ap (λ (l : List ℕ). l ++ length v.seen ∷ []) was.shown;
       }
 
 pub collects_all : (v w : View) (words : List ℕ) → Collected First v words 12 w → Collects v words w
 collects_all v w words all = record { accesses = all.accesses; walks = all.walks; collect = record { twelve = all.many; words_are = all.words_are; last = all.last }; shown = all.shown }
-
-pub has_collected : (v w : View) (words : List ℕ) → Collects v words w → HasCollected words w
-has_collected v w words c = record { before = trail_of v; accesses = c.accesses; trail = c.walks.leaves.trail; collect = c.collect }
-
--- what the last load of a second collect shows
-
-read_at : (l : List Access) (k : ℕ) (m d : Access) → slice_get l k ≡ Some m → get_or l k d ≡ m
-read_at [] k m d e = absurd (none-some m e)
-read_at (x ∷ l) zero m d e = same_Some x m e
-read_at (x ∷ l) (suc k) m d e = read_at l k m d e
-
-at_behind : (front l : List Access) (k : ℕ) → slice_get (front ++ l) (length front + k) ≡ slice_get l k
-at_behind [] l k = ap (slice_get l) (omega arith)
-at_behind (x ∷ front) l k = let e : length (x ∷ front) + k ≡ suc (length front + k) = omega arith in ap (slice_get (x ∷ (front ++ l))) e ∙ at_behind front l k
-
-looked_back : (before firsts seconds : List Access) (m : Access) → length firsts ≡ 12 → length seconds ≡ 11 → slice_get firsts 11 ≡ Some m → twelfth_first ((before ++ firsts) ++ seconds) ≡ m
-looked_back before firsts seconds m twelve eleven e =
-    let all = (before ++ firsts) ++ seconds in
-    let k : length all - 12 ≡ length before + 11 = omega (arith, length-append (before ++ firsts) seconds, length-append before firsts) in
-    let there : slice_get all (length before + 11) ≡ Some m = at_longer (before ++ firsts) seconds (length before + 11) m (at_behind before firsts 11 ∙ e) in
-    read_at all (length all - 12) m no_access (ap (slice_get all) k ∙ there)
-
--- the twelfth load of a second collect
-module _ (v x w : View) (words : List ℕ) (n : ℕ) (collected : HasCollected words v) (was : Collected Second v words 11 x) (loads : LoadsLast 12 x n w) where
-  abbrev last_access : Access
-  last_access = access Second 12 n (length w.seen)
-
-  last_walks : Walks v (was.accesses ++ last_access ∷ []) w
-  last_walks = walks_on v x w was.accesses (last_access ∷ []) was.walks (walks_load Second 12 n x w was.walks.steady loads.loads)
-
-  last_first : (m : Access) × (twelfth_first (trail_of x) ≡ m) × (m.found ≡ slice_index words 11) × (m.at ≡ length v.seen)
-  last_first =
-      let c = collected.collect in
-      let twelve = c.twelve in
-      let f = get_some collected.accesses 11 (omega arith) in (
-        f.0,
-        ap twelfth_first (was.walks.leaves.trail ∙ ap (λ (l : List Access). l ++ was.accesses) collected.trail) ∙ looked_back collected.before collected.accesses was.accesses f.0 twelve was.many f.1,
-        (c.words_are 11 f.0 f.1).1,
-        c.last f.0 f.1,
-      )
-
-  shown_by : version_shown (trail_of x) n ≡ cond (n == slice_index words 11) (length v.seen ∷ []) []
-  shown_by = let f = last_first in ap (λ (m : Access). cond (n == m.found) (m.at ∷ []) []) f.1 ∙ (ap (λ (k : ℕ). cond (n == k) (f.0.at ∷ []) []) f.2 ∙ ap (λ (k : ℕ). cond (n == slice_index words 11) (k ∷ []) []) f.3)
-
-  pub finds_again : n ≡ slice_index words 11 → FindsAgain v words w
-  finds_again is =
-      let many = was.many in
-      record {
-        accesses = was.accesses ++ last_access ∷ [];
-        walks = last_walks;
-        twelve = omega (arith, length-append was.accesses (last_access ∷ []));
-        again = collect_more Second words was.accesses last_access was.words_are (refl, ap (λ (k : ℕ). k + 1) (sym many)) (is ∙ ap (slice_index words) (sym many));
-        shown = loads.shown ∙ (ap (λ (l : List ℕ). x.shown ++ l) (shown_by ∙ ap (λ (b : Bool). cond b (length v.seen ∷ []) []) (eq-eqb n (slice_index words 11) is)) ∙ ap (λ (l : List ℕ). l ++ length v.seen ∷ []) was.shown);
-      }
-
-  pub finds_another : n ≢ slice_index words 11 → FindsAnother v words w
-  finds_another other =
-      let many = was.many in
-      record {
-        accesses = was.accesses ++ last_access ∷ [];
-        walks = last_walks;
-        broken = record {
-          equal = was.accesses;
-          last = last_access;
-          accesses = refl;
-          few = omega arith;
-          again = was.words_are;
-          kind = (refl, ap (λ (k : ℕ). k + 1) (sym many));
-          differs = λ same. other (same ∙ ap (slice_index words) many);
-        };
-        shown = loads.shown ∙ (ap (λ (l : List ℕ). x.shown ++ l) (shown_by ∙ ap (λ (b : Bool). cond b (length v.seen ∷ []) []) (ne_eqb n (slice_index words 11) other)) ∙ (append-nil x.shown ∙ was.shown));
-      }
 
 -- tries, none of them clean
 pub record Tried (v x : View) : Type 0 where
@@ -189,15 +130,27 @@ module _ (x u w : View) (words : List ℕ) (collects : Collects x words u) (anot
   both_walks = walks_on x u w collects.accesses another.accesses collects.walks another.walks
 
   is_unclean : IsUnclean (collects.accesses ++ another.accesses)
-  is_unclean = record { words = words; firsts = collects.accesses; seconds = another.accesses; accesses = refl; twelve = collects.collect.twelve; collected = collects.collect.words_are; broken = another.broken }
+  is_unclean = record {
+    words = words;
+    firsts = collects.accesses;
+    seconds = another.accesses;
+    accesses = refl;
+    twelve = collects.collect.twelve;
+    collected = collects.collect.words_are;
+    broken = another.broken;
+  }
 
   pub tried_longer : (length x.seen < length w.seen) × (length w.seen ≤ greatest_version)
-  tried_longer = ((unclean_try w.seen (length x.seen) (length w.seen) (collects.accesses ++ another.accesses) both_walks.leaves.follows is_unclean).0, (versions w.seen both_walks.steady.sound.legal).1)
+  tried_longer = (
+    (unclean_try w.seen (length x.seen) (length w.seen) (collects.accesses ++ another.accesses) both_walks.leaves.follows is_unclean).0,
+    (versions w.seen both_walks.steady.sound.legal).1,
+  )
 
   pub tried_again : (v : View) → Tried v x → Tried v w
   tried_again v tried = record {
     tries = tried.tries ++ (collects.accesses ++ another.accesses) ∷ [];
-    walks = subst (λ (l : List Access). Walks v l w) (sym (accesses_next tried.tries (collects.accesses ++ another.accesses))) (walks_on v x w (accesses_of tried.tries) (collects.accesses ++ another.accesses) tried.walks both_walks);
+    walks = subst (λ (l : List Access). Walks v l w) (sym (accesses_next tried.tries (collects.accesses ++ another.accesses)))
+        (walks_on v x w (accesses_of tried.tries) (collects.accesses ++ another.accesses) tried.walks both_walks);
     unclean = unclean_next tried.tries (collects.accesses ++ another.accesses) tried.unclean is_unclean;
     shown = another.shown ∙ (collects.shown ∙ tried.shown);
   }
@@ -234,7 +187,8 @@ module _ (x u w : View) (words : List ℕ) (long : length words ≡ 12) (collect
   front = let p = again.walks.on.seen in ap (take (length u.seen)) (sym p.1) ∙ take-append_seam u.seen p.0
 
   words_seen : words ≡ board_of u.seen
-  words_seen = (clean_shows w.seen (length x.seen) (length w.seen) clean_reading (collects.accesses ++ again.accesses) clean_walks.steady.sound.legal clean_walks.leaves.follows is_clean).board ∙ ap board_of front
+  words_seen = (clean_shows w.seen (length x.seen) (length w.seen) clean_reading (collects.accesses ++ again.accesses) clean_walks.steady.sound.legal clean_walks.leaves.follows is_clean).board
+      ∙ ap board_of front
 
   pub are_words : AreWords words
   are_words = subst AreWords (sym words_seen) (board_words u.seen collects.walks.steady.sound.legal)

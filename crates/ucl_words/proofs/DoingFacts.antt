@@ -1,5 +1,6 @@
 -- What the steps of a call leave as done and as held.
-use Rattle.std.proofs.Common.{◌≡◌, ◌≢◌, ◌⊎◌, inl, inr, ℕ, zero, suc, ◌+◌, ◌<◌, ◌≤◌, ◌==◌, Bool, true, cond, List, [], ◌∷◌, ◌++◌, take, length, set, Some, None, Ok, refl, sym, ap, ◌∙◌, subst, arith, eq-eqb, ne_eqb}
+use Rattle.std.proofs.Common.{◌≡◌, ◌≢◌, ◌⊎◌, inl, inr, ℕ, zero, suc, ◌+◌, ◌<◌, ◌≤◌, ◌==◌, Bool, true, cond, List, [], ◌∷◌, ◌++◌, take, length, set, Some, None, Ok, refl, sym, ap, ◌∙◌, subst, arith}
+use Rattle.std.proofs.Common.{eq-eqb, ne_eqb}
 use Rattle.std.specs.Prelude.{slice_index}
 use Rattle.std.proofs.lemmas.List.{length-take-le}
 use Rattle.std.proofs.Math.Seq.{take-length}
@@ -18,24 +19,32 @@ use Rattle.ucl_board.specs.Log.{First, Second}
 use Rattle.ucl_steps.specs.declared.step.Call.TheVariants as calls
 use Rattle.ucl_steps.specs.declared.trace.Reply.{Reply}
 use Rattle.ucl_steps.specs.declared.trace.Reply.TheVariants as replies
-use Rattle.ucl_steps.specs.Protocol.{Held, Nothing, Holding, Collecting, Checking, Outcome, GoesOn, Answers, by_rules, Doing, goes, ends, done_by, IsNext, after_look, after_swap, collected, firsts_holding, after_first, after_second}
+use Rattle.ucl_steps.specs.Protocol.{Held, Nothing, Holding, Collecting, Checking, Outcome, GoesOn, Answers, by_rules, Doing, goes, ends, done_by, IsNext, after_look, after_swap, collected}
+use Rattle.ucl_steps.specs.Protocol.{firsts_holding, after_first, after_second}
 use Rattle.ucl_steps.proofs.OneStep.{none_of}
 use Rattle.ucl_words.specs.declared.view.WordView.{WordView}
 use Rattle.ucl_words.specs.WordDoings.{AnswersCall}
+use Rattle.ucl_words.specs.WordSteps.{point_shown}
 use Rattle.ucl_words.specs.Code.{IsHoldingFor, MayCollect, IsBegun, HasFirsts, has_copied, begins_anew}
 
 -- a report
 
-module _ (v u : WordView) (call : EventCall) (loaded number : ℕ) (is : v.pass.number ≡ number) (looked : u.doing ≡ after_look v.pass.number call loaded (length u.pass.seen) v.doing) (grown : length v.pass.seen ≤ length u.pass.seen) where
+module _ (v u : WordView) (call : EventCall) (loaded number : ℕ) (is : v.pass.number ≡ number) (looked : u.doing ≡ after_look v.pass.number call loaded (length u.pass.seen) v.doing)
+    (grown : length v.pass.seen ≤ length u.pass.seen) where
   pub look_answers : (refusal : Refusal) → refusal_of (record_at loaded) call.expected call.kind ≡ Some refusal → AnswersCall v (calls.Event call) (replies.Refused refusal) u
-  look_answers refusal refused = record { begun = length u.pass.seen; after_seen = grown; does = looked ∙ ap (λ o. done_by (calls.Event call) (length u.pass.seen) (length u.pass.seen) (by_rules v.pass.number call loaded o) v.doing) refused }
+  look_answers refusal refused = record {
+    begun = length u.pass.seen;
+    after_seen = grown;
+    does = looked ∙ ap (λ o. done_by (calls.Event call) (length u.pass.seen) (length u.pass.seen) (by_rules v.pass.number call loaded o) v.doing) refused;
+  }
 
   module _ (accepts : refusal_of (record_at loaded) call.expected call.kind ≡ None) (next : ℕ) (valid : IsWord next) (next_is : record_at next ≡ after (record_at loaded) number call.kind) where
     now_holding : u.doing ≡ goes (length u.pass.seen) (Holding call loaded next) v.doing
     now_holding =
         looked
         ∙ (ap (λ o. done_by (calls.Event call) (length u.pass.seen) (length u.pass.seen) (by_rules v.pass.number call loaded o) v.doing) accepts
-        ∙ ap (λ (n : ℕ). goes (length u.pass.seen) (Holding call loaded n) v.doing) (ap (λ (n : ℕ). word_of (after (record_at loaded) n call.kind)) is ∙ (ap word_of (sym next_is) ∙ word_packed next valid)))
+        ∙ ap (λ (n : ℕ). goes (length u.pass.seen) (Holding call loaded n) v.doing)
+        (ap (λ (n : ℕ). word_of (after (record_at loaded) n call.kind)) is ∙ (ap word_of (sym next_is) ∙ word_packed next valid)))
 
     pub holding_for : (reporter : ℕ) → IsHoldingFor u.doing.held (record { game = call.game; reporter = reporter; kind = call.kind }) loaded next
     holding_for reporter = record { e = call; holds = ap (λ (d : Doing). d.held) now_holding; game = refl; kind = refl }
@@ -53,7 +62,8 @@ module _ (v u : WordView) (call : EventCall) (loaded number : ℕ) (is : v.pass.
       pub won_answers : found ≡ loaded → (reply : Accepted) → reply_of (record_at loaded) call ≡ Ok reply → AnswersCall v (calls.Event call) (replies.Accepted reply) z
       won_answers same reply accepted =
           let number_is : (record_at next).number ≡ (record_at loaded).number + 1 = ap (λ (m : MatchRecord). m.number) next_is ∙ after_number (record_at loaded) number call.kind in
-          let told : record { number = (record_at next).number } ≡ reply = ap (λ (n : ℕ). record { number = n }) number_is ∙ sym (none_of (record_at loaded).number (refusal_of (record_at loaded) call.expected call.kind) reply accepted).1 in
+          let told : record { number = (record_at next).number } ≡ reply =
+          ap (λ (n : ℕ). record { number = n }) number_is ∙ sym (none_of (record_at loaded).number (refusal_of (record_at loaded) call.expected call.kind) reply accepted).1 in
           record {
             begun = length u.pass.seen;
             after_seen = grown;
@@ -65,7 +75,8 @@ module _ (v u : WordView) (call : EventCall) (loaded number : ℕ) (is : v.pass.
       miss_answers other refusal stale = record {
         begun = length u.pass.seen;
         after_seen = grown;
-        does = now_answered ∙ (ap answer_by (ne_eqb found loaded other) ∙ ap (λ (r : Refusal). ends (calls.Event call) (replies.Refused r) (length u.pass.seen) (length z.pass.seen) v.doing) (sym stale));
+        does = now_answered ∙ (ap answer_by (ne_eqb found loaded other)
+            ∙ ap (λ (r : Refusal). ends (calls.Event call) (replies.Refused r) (length u.pass.seen) (length z.pass.seen) v.doing) (sym stale));
       }
 
 -- a first collect
@@ -84,7 +95,8 @@ pub record FirstsOn (seen : ℕ) (d : Doing) (words : List ℕ) (count now : ℕ
 abbrev pub Firsts : ℕ → Doing → List ℕ → ℕ → ℕ → Doing → Type 0
 Firsts seen d words count now f = ((count ≡ 0) × (f ≡ d)) ⊎ ((0 < count) × FirstsOn seen d words count now f)
 
-begin_by : (h : Held) → MayCollect h → (n now : ℕ) (d : Doing) → IsNext First 1 h × ((begun : ℕ) × (firsts_holding h n now d ≡ goes begun (collected (n ∷ []) now) d) × ((seen : ℕ) → seen ≤ now → IsBegun h seen d.begun begun))
+begin_by : (h : Held) → MayCollect h → (n now : ℕ) (d : Doing)
+    → IsNext First 1 h × ((begun : ℕ) × (firsts_holding h n now d ≡ goes begun (collected (n ∷ []) now) d) × ((seen : ℕ) → seen ≤ now → IsBegun h seen d.begun begun))
 begin_by Nothing may n now d = (refl, (now, refl, λ seen le. le))
 begin_by (Collecting words) may n now d = (ap (λ (l : List ℕ). length l + 1) (sym may), (d.begun, ap (λ (l : List ℕ). goes d.begun (collected (l ++ n ∷ []) now) d) may, λ seen le. refl))
 begin_by (Holding e old new) may n now d = absurd may
@@ -117,13 +129,25 @@ module _ (seen : ℕ) (d : Doing) (words : List ℕ) (i now : ℕ) (f : Doing) (
       )
   first_on n later g grown is (inr t) =
       let on = still_collecting t.1 in
-      inr (omega arith, record { begun = on.0; begins = on.2; does = is ∙ (ap (after_first n later) on.1 ∙ ap (λ (l : List ℕ). goes on.0 (collected l later) d) (sym (take_set words i n (omega arith)))) })
+      inr (
+        omega arith,
+        record {
+          begun = on.0;
+          begins = on.2;
+          does = is ∙ (ap (after_first n later) on.1 ∙ ap (λ (l : List ℕ). goes on.0 (collected l later) d) (sym (take_set words i n (omega arith))));
+        },
+      )
 
 pub firsts_all : (seen : ℕ) (d : Doing) (words : List ℕ) (i now : ℕ) (f : Doing) → length words ≡ 12 → i ≡ 12 → Firsts seen d words i now f → HasFirsts seen d words now f
 firsts_all seen d words i now f long all (inl t) = absurd (omega (arith, t.0))
 firsts_all seen d words i now f long all (inr t) =
     let whole : take i words ≡ words = ap (λ (k : ℕ). take k words) (all ∙ sym long) ∙ take-length words in
-    record { begun = t.1.begun; begins = t.1.begins; does = t.1.does ∙ (ap (λ (l : List ℕ). goes t.1.begun (collected l now) d) whole ∙ ap (λ (b : Bool). goes t.1.begun (cond b (Checking words 0 now) (Collecting words)) d) (eq-eqb (length words) 12 long)) }
+    record {
+      begun = t.1.begun;
+      begins = t.1.begins;
+      does = t.1.does
+          ∙ (ap (λ (l : List ℕ). goes t.1.begun (collected l now) d) whole ∙ ap (λ (b : Bool). goes t.1.begun (cond b (Checking words 0 now) (Collecting words)) d) (eq-eqb (length words) 12 long));
+    }
 
 -- a second collect
 
@@ -136,6 +160,26 @@ seconds_none d words point is = λ i. record { calls = d.calls; held = is i; beg
 module _ (d : Doing) (words : List ℕ) (point i : ℕ) (f : Doing) (so_far : Seconds d words point i f) where
   pub second_next : IsNext Second (i + 1) f.held
   second_next = subst (λ (x : Doing). IsNext Second (i + 1) x.held) (sym so_far) refl
+
+  -- what a load then shows
+  module _ (n : ℕ) where
+    abbrev shown_if : Bool → Bool → List ℕ
+    shown_if same last = cond same (cond last (point ∷ []) []) []
+
+    shows : point_shown f.held n ≡ shown_if (n == slice_index words i) (i == 11)
+    shows = ap (λ (x : Doing). point_shown x.held n) so_far
+
+    shows_same : n ≡ slice_index words i → point_shown f.held n ≡ shown_if true (i == 11)
+    shows_same same = shows ∙ ap (λ (b : Bool). shown_if b (i == 11)) (eq-eqb n (slice_index words i) same)
+
+    pub shows_none : n ≡ slice_index words i → i < 11 → point_shown f.held n ≡ []
+    shows_none same less = shows_same same ∙ ap (shown_if true) (ne_eqb i 11 (λ z. omega arith))
+
+    pub shows_none_of_another : n ≢ slice_index words i → point_shown f.held n ≡ []
+    shows_none_of_another other = shows ∙ ap (λ (b : Bool). shown_if b (i == 11)) (ne_eqb n (slice_index words i) other)
+
+    pub shows_point : n ≡ slice_index words i → i ≡ 11 → point_shown f.held n ≡ point ∷ []
+    shows_point same eleven = shows_same same ∙ ap (shown_if true) (eq-eqb i 11 eleven)
 
   module _ (n now : ℕ) (g : Doing) (is : g ≡ after_second n now f) where
     abbrev before : Doing
@@ -181,7 +225,8 @@ module _ (seen : ℕ) (d : Doing) (none : d.held ≡ Nothing) where
     begun_since = by tries
       where
         by : Tries seen d x → seen ≤ collected_all.begun
-        by (inl t) = let since : later ≤ collected_all.begun = subst (λ (h : Held). IsBegun h later x.begun collected_all.begun) (ap (λ (y : Doing). y.held) t ∙ none) collected_all.begins in omega arith
+        by (inl t) = let since : later ≤ collected_all.begun = subst (λ (h : Held). IsBegun h later x.begun collected_all.begun) (ap (λ (y : Doing). y.held) t ∙ none) collected_all.begins in
+            omega arith
         by (inr t) =
             let same : collected_all.begun ≡ x.begun = subst (λ (h : Held). IsBegun h later x.begun collected_all.begun) (ap (λ (y : Doing). y.held) t.1) collected_all.begins in
             let first : x.begun ≡ t.0 = ap (λ (y : Doing). y.begun) t.1 in
@@ -194,6 +239,7 @@ module _ (seen : ℕ) (d : Doing) (none : d.held ≡ Nothing) where
     pub tries_again : (w : Doing) → w ≡ begins_anew u → Tries seen d w
     tries_again w is = inr (collected_all.begun, is ∙ ap begins_anew collected_now, begun_since)
 
-    pub tries_clean : (w : Doing) (end : ℕ) (reading : Reading) → w ≡ has_copied words end u → reading_of words ≡ reading → (begun : ℕ) × (seen ≤ begun) × (w ≡ ends calls.Reading (replies.Copied reading) begun end d)
+    pub tries_clean : (w : Doing) (end : ℕ) (reading : Reading) → w ≡ has_copied words end u → reading_of words ≡ reading
+        → (begun : ℕ) × (seen ≤ begun) × (w ≡ ends calls.Reading (replies.Copied reading) begun end d)
     tries_clean w end reading is same =
         (collected_all.begun, begun_since, is ∙ (ap (has_copied words end) collected_now ∙ ap (λ (r : Reading). ends calls.Reading (replies.Copied r) collected_all.begun end d) same))

@@ -102,7 +102,11 @@ module _ (v x w : View) (n found : ℕ) (was : Missed v x n) where
           number = missed.sees.number ∙ was.number;
           shown = missed.shown ∙ was.shown;
           known = omega arith;
-          steps = record { steps = was.steps.steps ++ next ∷ []; takes = takes_on v x w was.steps.steps (next ∷ []) was.steps.takes missed.sees.takes; on_enlisted = all_more IsOnEnlisted was.steps.steps next was.steps.on_enlisted (found, (refl, refl)) };
+          steps = record {
+            steps = was.steps.steps ++ next ∷ [];
+            takes = takes_on v x w was.steps.steps (next ∷ []) was.steps.takes missed.sees.takes;
+            on_enlisted = all_more IsOnEnlisted was.steps.steps next was.steps.on_enlisted (found, (refl, refl));
+          };
           tries = tries_more 0 n found (length w.seen) was.steps.steps was.tries below other;
           trail = no_access x w found missed.sees.takes ∙ was.trail;
           taken = omega arith;
@@ -113,7 +117,11 @@ module _ (v x w : View) (n found : ℕ) (was : Missed v x n) where
     pub won_steady : IsSteady w
     won_steady =
         let goes = won.enlists.goes in
-        record { sound = record { legal = goes.legal; own = goes.own; few = goes.few; acts = goes.acts; alone = goes.alone }; told = goes.told; trail = trail_kept x w was.steady.trail goes.seen (no_access x w found won.enlists.takes) }
+        record {
+          sound = record { legal = goes.legal; own = goes.own; few = goes.few; acts = goes.acts; alone = goes.alone };
+          told = goes.told;
+          trail = trail_kept x w was.steady.trail goes.seen (no_access x w found won.enlists.takes);
+        }
 
     pub won_enlists : Enlistment (pass_view_of v) (pass_view_of w)
     won_enlists =
@@ -175,7 +183,13 @@ second_trail v = ap accesses_in (append-nil (steps_of v))
 
 pub second_steady : (v : View) → IsSteady v → IsSteady (second_of v)
 second_steady v steady = record {
-  sound = record { legal = steady.sound.legal; own = sym (none_by_zero v.seen steady.sound.legal); few = steady.sound.few; acts = half_acts true v.share steady.sound.acts; alone = λ is. absurd (half_not_whole true v.share is) };
+  sound = record {
+    legal = steady.sound.legal;
+    own = sym (none_by_zero v.seen steady.sound.legal);
+    few = steady.sound.few;
+    acts = half_acts true v.share steady.sound.acts;
+    alone = λ is. absurd (half_not_whole true v.share is);
+  };
   told = refl;
   trail = subst (λ (t : List Access). Follows v.seen 0 t (length v.seen)) (sym (second_trail v)) steady.trail;
 }
@@ -191,7 +205,11 @@ second_steps v = (ap length (append-nil (steps_of v)), second_trail v)
 pub counted_steady : (v w : View) → LoadsEnlisted v w → IsSteady v → IsSteady w
 counted_steady v w loads steady =
     let goes = loads.sees.goes in
-    record { sound = record { legal = goes.legal; own = goes.own; few = goes.few; acts = goes.acts; alone = goes.alone }; told = goes.told; trail = trail_kept v w steady.trail goes.seen (no_access v w loads.found loads.sees.takes) }
+    record {
+      sound = record { legal = goes.legal; own = goes.own; few = goes.few; acts = goes.acts; alone = goes.alone };
+      told = goes.told;
+      trail = trail_kept v w steady.trail goes.seen (no_access v w loads.found loads.sees.takes);
+    }
 
 -- what was split off as a note is one
 pub note_is : (a n : WordView) → n ≡ note_pass a → IsNotePass n
@@ -214,7 +232,11 @@ module _ (a v w : View) (steady : IsSteady v) (loads : LoadsEnlisted (told_by v 
   pub met_steady : IsSteady w
   met_steady =
       let goes = loads.sees.goes in
-      record { sound = record { legal = goes.legal; own = goes.own; few = goes.few; acts = goes.acts; alone = goes.alone }; told = goes.told; trail = trail_kept v w steady.trail own_first (no_access v w loads.found met_takes) }
+      record {
+        sound = record { legal = goes.legal; own = goes.own; few = goes.few; acts = goes.acts; alone = goes.alone };
+        told = goes.told;
+        trail = trail_kept v w steady.trail own_first (no_access v w loads.found met_takes);
+      }
 
   pub met_continues : Continues (pass_view_of v) (pass_view_of w)
   met_continues = let listed = loads.listed in record { sound = met_steady.sound; on = record { seen = own_first; listed = omega arith; share = loads.sees.goes.share }; number = loads.sees.number }
@@ -227,7 +249,11 @@ module _ (a v w : View) (steady : IsSteady v) (loads : LoadsEnlisted (told_by v 
   }
 
   pub met_trail : KeepsTrail v w
-  met_trail = record { steps = record { steps = step_taken (Enlisted loads.found) (length w.seen) None ∷ []; takes = met_takes; on_enlisted = ((loads.found, (refl, refl)), tt) }; trail = no_access v w loads.found met_takes; whole_trail = met_steady.trail }
+  met_trail = record {
+    steps = record { steps = step_taken (Enlisted loads.found) (length w.seen) None ∷ []; takes = met_takes; on_enlisted = ((loads.found, (refl, refl)), tt) };
+    trail = no_access v w loads.found met_takes;
+    whole_trail = met_steady.trail;
+  }
 
 pub after_told : (a v x w : View) → x ≡ told_by v a → LoadsEnlisted x w → LoadsEnlisted (told_by v (note_of a)) w
 after_told a v x w told loads = subst (λ (u : View). LoadsEnlisted u w) told loads

@@ -18,10 +18,11 @@ use Rattle.ucl_board.specs.History.{match_after, board_of, IsLegal, followed_by,
 use Rattle.ucl_board.specs.Log.{AccessKind, Look, First, Second, Swap, Target, Match, Enlisted, history_of, Access, access, Taken, Log, IsThere}
 use Rattle.ucl_board.proofs.Histories.{word_after, board_with}
 use Rattle.ucl_shared.specs.declared.view.View.{View}
-use Rattle.ucl_shared.specs.Views.{newcomer, opener, trail_of}
+use Rattle.ucl_shared.specs.Views.{newcomer, opener}
 use Rattle.ucl_shared.specs.OneHistory.{KeepsOneHistory}
 use Rattle.ucl_shared.specs.Steps.{Enlists}
-use Rattle.ucl_shared.proofs.Moves.{logged, look, looked, same_history, look_keeps, look_same, look_tells, add, entered, longer_history, add_keeps, add_same, add_tells, count, enlisted_as, unchanged_history, enlist_keeps, enlist_same, enlist_tells, second_added, second_same, note_added, note_same, note_joined, joined_same}
+use Rattle.ucl_shared.proofs.Moves.{logged, look, looked, same_history, look_keeps, look_same, look_tells, add, entered, longer_history, add_keeps, add_same, add_tells, count, enlisted_as}
+use Rattle.ucl_shared.proofs.Moves.{unchanged_history, enlist_keeps, enlist_same, enlist_tells, second_added, second_same, note_added, note_same, note_joined, joined_same}
 use Rattle.ucl_shared.proofs.Moves as moves
 use Rattle.ucl_steps.specs.declared.step.Caller.{Caller}
 use Rattle.ucl_steps.specs.declared.step.Caller.TheVariants.{Reporter, Reader}
@@ -39,7 +40,7 @@ use Rattle.ucl_words.specs.declared.view.WordView.{WordView}
 use Rattle.ucl_words.specs.WordViews.{new_pass, first_pass, left_pass, second_pass, note_pass, told_pass}
 use Rattle.ucl_words.specs.Code.{IsHoldingFor}
 use Rattle.ucl_words.specs.WordRule.{words_after, known, word_actor, word_actors, TableKeepsOneHistory, Stands}
-use Rattle.ucl_words.specs.WordSteps.{LoadsMatch, version_shown, ExchangeWon, IsNextWord, LookStep, FirstStep, SecondStep, LastLoadStep, EnlistedStep, ExchangeStep, EnlistStep}
+use Rattle.ucl_words.specs.WordSteps.{LoadsMatch, point_shown, ExchangeWon, IsNextWord, LookStep, FirstStep, SecondStep, EnlistedStep, ExchangeStep, EnlistStep}
 
 abbrev Position : Type 0
 Position = State Entry WordView
@@ -65,7 +66,8 @@ there_now : (s : Position) (r : TableKeepsOneHistory s) (kind : AccessKind) (gam
 there_now s r kind game is = (is, match_word s r game is.0 ∙ word_after (history_of r.shared.log) game is)
 
 -- the same rule of the same words and views
-moved : (words words' : List ℕ) (views views' : List View) (r : KeepsOneHistory words_after words views) → words ≡ words' → views ≡ views' → (q : KeepsOneHistory words_after words' views') × (q.enlisted ≡ r.enlisted) × (q.log ≡ r.log)
+moved : (words words' : List ℕ) (views views' : List View) (r : KeepsOneHistory words_after words views) → words ≡ words' → views ≡ views'
+    → (q : KeepsOneHistory words_after words' views') × (q.enlisted ≡ r.enlisted) × (q.log ≡ r.log)
 moved words words' views views' r a b =
     subst (λ (vs : List View). (q : KeepsOneHistory words_after words' vs) × (q.enlisted ≡ r.enlisted) × (q.log ≡ r.log)) b
     (subst (λ (ws : List ℕ). (q : KeepsOneHistory words_after ws views) × (q.enlisted ≡ r.enlisted) × (q.log ≡ r.log)) a (r, refl, refl))
@@ -77,7 +79,8 @@ both s words views q n l a b c d run =
     let t = moved words s.words views (known s.views) q a b in
     record {
       shared = t.0;
-      one_run = λ readers all. subst (λ (z : Log). IsRunOfLog readers t.0.enlisted z (word_actors s.views)) (sym (t.2 ∙ d)) (subst (λ (k : ℕ). IsRunOfLog readers k l (word_actors s.views)) (sym (t.1 ∙ c)) (run readers all));
+      one_run = λ readers all. subst (λ (z : Log). IsRunOfLog readers t.0.enlisted z (word_actors s.views)) (sym (t.2 ∙ d))
+          (subst (λ (k : ℕ). IsRunOfLog readers k l (word_actors s.views)) (sym (t.1 ∙ c)) (run readers all));
     }
 
 -- views and actors
@@ -89,16 +92,19 @@ known_set : (views : List WordView) (seat : ℕ) (w : WordView) → known (set v
 known_set views seat w = map_set (λ (z : WordView). z.pass) views seat w
 
 -- the actors where one pass is another
-acted_by : (readers enlisted : ℕ) (log : Log) (views : List WordView) (seat : ℕ) (w : WordView) → IsRunOfLog readers enlisted log (set (word_actors views) seat (word_actor w)) → IsRunOfLog readers enlisted log (word_actors (set views seat w))
+acted_by : (readers enlisted : ℕ) (log : Log) (views : List WordView) (seat : ℕ) (w : WordView) → IsRunOfLog readers enlisted log (set (word_actors views) seat (word_actor w))
+    → IsRunOfLog readers enlisted log (word_actors (set views seat w))
 acted_by readers enlisted log views seat w run = subst (λ (l : List Actor). IsRunOfLog readers enlisted log l) (sym (map_set word_actor views seat w)) run
 
 -- a step that is no access, of a pass that has done what it had done
-acted_still : (readers enlisted : ℕ) (log log' : Log) (views : List WordView) (seat : ℕ) (v w : WordView) → get_elem? views seat ≡ some v → w.pass.number ≡ v.pass.number → w.doing ≡ v.doing → history_of log' ≡ history_of log → accesses_of_log log' ≡ accesses_of_log log
+acted_still : (readers enlisted : ℕ) (log log' : Log) (views : List WordView) (seat : ℕ) (v w : WordView) → get_elem? views seat ≡ some v → w.pass.number ≡ v.pass.number → w.doing ≡ v.doing
+    → history_of log' ≡ history_of log → accesses_of_log log' ≡ accesses_of_log log
     → IsRunOfLog readers enlisted log (word_actors views) → IsRunOfLog readers enlisted log' (word_actors (set views seat w))
 acted_still readers enlisted log log' views seat v w here number doing is trace run =
     let same : word_actor v ≡ word_actor w = λ i. record { number = sym number i; doing = sym doing i } in
     acted_by readers enlisted log' views seat w
-    (subst (λ (l : List Actor). IsRunOfLog readers enlisted log' l) (sym (set_same (word_actors views) seat (word_actor w) (map_at word_actor views seat v here ∙ ap (λ (z : Actor). some z) same))) (log_kept readers enlisted log log' (word_actors views) run is trace))
+    (subst (λ (l : List Actor). IsRunOfLog readers enlisted log' l) (sym (set_same (word_actors views) seat (word_actor w) (map_at word_actor views seat v here ∙ ap (λ (z : Actor). some z) same)))
+    (log_kept readers enlisted log log' (word_actors views) run is trace))
 
 apart_actors : (s : Position) (r : TableKeepsOneHistory s) → Apart (word_actors s.views)
 apart_actors s r i j a b at bt pos same =
@@ -139,17 +145,22 @@ module _ (s : Position) (r : TableKeepsOneHistory s) (seat : ℕ) (v : WordView)
 
   -- a word that is loaded stays
   load_keeps : (i : ℕ) (cs : List (ℕ × Entry)) (target : Target) (there : IsThere history target) (listed : ℕ) (shown : List ℕ) (le : listed ≤ r.shared.enlisted) (doing : Doing)
-      → ((readers : ℕ) → length s.views ≤ readers → IsRunOfLog readers r.shared.enlisted (logged r.shared.log seat (taken_at target there listed shown le)) (word_actors (set s.views seat (record { pass = looked_at target there listed shown le; doing = doing }))))
+      → ((readers : ℕ) → length s.views ≤ readers
+      → IsRunOfLog readers r.shared.enlisted (logged r.shared.log seat (taken_at target there listed shown le))
+      (word_actors (set s.views seat (record { pass = looked_at target there listed shown le; doing = doing }))))
       → TableKeepsOneHistory (stepped s i (get_or s.words i 0) seat cs (record { pass = looked_at target there listed shown le; doing = doing }) keeps)
   load_keeps i cs target there listed shown le doing run =
       let w : WordView = record { pass = looked_at target there listed shown le; doing = doing } in
       let same = look_same words_after s.words (known s.views) r.shared seat v.pass there_is acts target there listed shown le in
-      both (stepped s i (get_or s.words i 0) seat cs w keeps) s.words (set (known s.views) seat w.pass) (look_keeps words_after s.words (known s.views) r.shared seat v.pass there_is acts target there listed shown le) r.shared.enlisted (logged r.shared.log seat (taken_at target there listed shown le))
+      both (stepped s i (get_or s.words i 0) seat cs w keeps) s.words (set (known s.views) seat w.pass)
+      (look_keeps words_after s.words (known s.views) r.shared seat v.pass there_is acts target there listed shown le) r.shared.enlisted
+      (logged r.shared.log seat (taken_at target there listed shown le))
       (sym (set-get_or s.words i 0)) (sym (known_set s.views seat w)) same.0 same.1
       (λ readers all. let long = length-set s.views seat w in run readers (omega arith))
 
   -- the access of a step on a match word is at the machine's history, whose word it found
-  is_now : (kind : AccessKind) (game at readers : ℕ) → IsMatch game → at ≡ length history → (one : IsRunOfLog readers r.shared.enlisted r.shared.log (word_actors s.views)) → IsNow one.of_actors.state (access kind game (get_or s.words game 0) at)
+  is_now : (kind : AccessKind) (game at readers : ℕ) → IsMatch game → at ≡ length history → (one : IsRunOfLog readers r.shared.enlisted r.shared.log (word_actors s.views))
+      → IsNow one.of_actors.state (access kind game (get_or s.words game 0) at)
   is_now kind game at readers is place one = record {
     place = place ∙ ap length (sym one.of_actors.history_is);
     found = (there_now s r kind game is).1 ∙ ap (λ (h : List Entry). word_of (match_after h game)) (sym one.of_actors.history_is);
@@ -178,28 +189,37 @@ module _ (s : Position) (r : TableKeepsOneHistory s) (seat : ℕ) (v : WordView)
         (λ readers all.
         let one = r.one_run readers all in
         let t = turn readers one (is_now kind game (length after_load.seen) readers is place_is one) in
-        acted_by readers r.shared.enlisted (logged r.shared.log seat (taken_at (Match kind game (get_or s.words game 0)) (there_now s r kind game is) v.pass.listed shown (r.shared.fits seat v.pass there_is).listed)) s.views seat w
+        acted_by readers r.shared.enlisted (logged r.shared.log seat
+        (taken_at (Match kind game (get_or s.words game 0)) (there_now s r kind game is) v.pass.listed shown (r.shared.fits seat v.pass there_is).listed)) s.views seat w
         (log_stepped readers r.shared.enlisted r.shared.log (word_actors s.views) one seat (word_actor v) actor_is doing
         (taken_at (Match kind game (get_or s.words game 0)) (there_now s r kind game is) v.pass.listed shown (r.shared.fits seat v.pass there_is).listed) [] t.0 here_access
         (r.shared.fits seat v.pass there_is).number (apart_actors s r) (ap (λ (k : ℕ). access kind game (get_or s.words game 0) k ∷ []) (sym place_is))
         (seen_same (Match kind game (get_or s.words game 0)) (there_now s r kind game is) v.pass.listed shown (r.shared.fits seat v.pass there_is).listed ∙ sym (append-nil history)) t.1 t.2))
 
   -- a step on the number of the enlisted that stored nothing
-  count_runs : (found listed : ℕ) (shown : List ℕ) (le : listed ≤ r.shared.enlisted) (cs : List (ℕ × Entry)) → TableKeepsOneHistory (stepped s 0 (get_or s.words 0 0) seat cs (record { pass = looked_at (Enlisted found) tt listed shown le; doing = v.doing }) keeps)
+  count_runs : (found listed : ℕ) (shown : List ℕ) (le : listed ≤ r.shared.enlisted) (cs : List (ℕ × Entry))
+      → TableKeepsOneHistory (stepped s 0 (get_or s.words 0 0) seat cs (record { pass = looked_at (Enlisted found) tt listed shown le; doing = v.doing }) keeps)
   count_runs found listed shown le cs =
-      load_keeps 0 cs (Enlisted found) tt listed shown le v.doing (λ readers all. acted_still readers r.shared.enlisted r.shared.log (logged r.shared.log seat (taken_at (Enlisted found) tt listed shown le)) s.views seat v (record { pass = looked_at (Enlisted found) tt listed shown le; doing = v.doing }) here
-      refl refl (seen_same (Enlisted found) tt listed shown le) (logged_accesses r.shared.log seat (taken_at (Enlisted found) tt listed shown le) ∙ append-nil (accesses_of_log r.shared.log)) (r.one_run readers all))
+      load_keeps 0 cs (Enlisted found) tt listed shown le v.doing
+      (λ readers all. acted_still readers r.shared.enlisted r.shared.log (logged r.shared.log seat (taken_at (Enlisted found) tt listed shown le)) s.views seat v
+      (record { pass = looked_at (Enlisted found) tt listed shown le; doing = v.doing }) here
+      refl refl (seen_same (Enlisted found) tt listed shown le) (logged_accesses r.shared.log seat (taken_at (Enlisted found) tt listed shown le) ∙ append-nil (accesses_of_log r.shared.log))
+      (r.one_run readers all))
 
 -- after a step that keeps the rule its pass stands at its seat
-stands_after : (s : Position) (i n seat : ℕ) (cs : List (ℕ × Entry)) (v w : WordView) → get_elem? s.views seat ≡ some v → TableKeepsOneHistory (stepped s i n seat cs w keeps) → (place : ℕ) → place ≡ seat → Stands place w
-stands_after s i n seat cs v w here rule place is = record { state = stepped s i n seat cs w keeps; rule = rule; here = ap (get_elem? (set s.views seat w)) is ∙ set_here s.views seat w (place_below s.views seat v here) }
+stands_after : (s : Position) (i n seat : ℕ) (cs : List (ℕ × Entry)) (v w : WordView) → get_elem? s.views seat ≡ some v → TableKeepsOneHistory (stepped s i n seat cs w keeps) → (place : ℕ)
+    → place ≡ seat → Stands place w
+stands_after s i n seat cs v w here rule place is =
+    record { state = stepped s i n seat cs w keeps; rule = rule; here = ap (get_elem? (set s.views seat w)) is ∙ set_here s.views seat w (place_below s.views seat v here) }
 
 -- a load of a match word keeps the rule, whichever turn of the machine it is
 loads_by : (slots seat game : ℕ) (m : Me Entry WordView) (kind : AccessKind) (doing : ℕ → ℕ → Doing) (shown : ℕ → List ℕ) → IsSome m.0.pass.share → IsMatch game
-    → ((cast : Cast) (steps : List machine.Step) (w : MachineState) → after_steps steps (initial_state cast) ≡ Some w → FitsRun w seat m.0.pass.number m.0.doing → (a : Access) → IsNow w a → a.kind ≡ kind → a.game ≡ game
+    → ((cast : Cast) (steps : List machine.Step) (w : MachineState) → after_steps steps (initial_state cast) ≡ Some w → FitsRun w seat m.0.pass.number m.0.doing → (a : Access) → IsNow w a
+    → a.kind ≡ kind → a.game ≡ game
     → (c : Caller) × IsTakenBy seat m.0.pass.number kind c × Turn seat m.0.pass.number w c a (doing a.found a.at) [])
     → (tells : ℕ → Me Entry WordView → Type 0)
-    → ((n : ℕ) (w : View) → LoadsMatch kind game m.0.pass n w → w.shown ≡ shown n → ((place : ℕ) → place ≡ seat → Stands place (record { pass = w; doing = doing n (length w.seen) })) → tells n (record { pass = w; doing = doing n (length w.seen) }, carried_after m.1 keeps))
+    → ((n : ℕ) (w : View) → LoadsMatch kind game m.0.pass n w → w.shown ≡ shown n → ((place : ℕ) → place ≡ seat → Stands place (record { pass = w; doing = doing n (length w.seen) }))
+    → tells n (record { pass = w; doing = doing n (length w.seen) }, carried_after m.1 keeps))
     → Allows TableKeepsOneHistory slots seat m game (λ n. n) tells
 loads_by slots seat game m kind doing shown acts is turn tells tell s r _ here _ =
     let v = m.0 in
@@ -208,41 +228,50 @@ loads_by slots seat game m kind doing shown acts is turn tells tell s r _ here _
     let w = after_load s r seat v here acts kind game is (shown n) in
     let then : WordView = record { pass = w; doing = doing n (length w.seen) } in
     let kept = load_runs s r seat v here acts kind game is (shown n) (doing n (length w.seen))
-    (λ readers one now. turn (cast_for readers) (steps_of_moves one.of_actors.moves) one.of_actors.state one.of_actors.run (one.of_actors.each seat (word_actor v) (map_at word_actor s.views seat v here)) (here_access s r seat v here acts kind game is (shown n)) now refl refl)
+    (λ readers one now. turn (cast_for readers) (steps_of_moves one.of_actors.moves) one.of_actors.state one.of_actors.run
+    (one.of_actors.each seat (word_actor v) (map_at word_actor s.views seat v here)) (here_access s r seat v here acts kind game is (shown n)) now refl refl)
     m.1 in
-    let loads : LoadsMatch kind game v.pass n w = record { sees = look_tells words_after s.words (known s.views) r.shared seat v.pass (known_at s.views seat v here) acts (Match kind game n) (there_now s r kind game is) v.pass.listed (shown n) f.listed; listed = refl } in
+    let loads : LoadsMatch kind game v.pass n w =
+    record {
+      sees = look_tells words_after s.words (known s.views) r.shared seat v.pass (known_at s.views seat v here) acts (Match kind game n) (there_now s r kind game is) v.pass.listed (shown n)
+          f.listed;
+      listed = refl;
+    } in
     (then, keeps, tt, kept, tell n w loads refl (λ place is_seat. stands_after s game n seat m.1 v then here kept place is_seat))
 
-pub looks : (slots seat game place : ℕ) (m : Me Entry WordView) (e : EventCall) → place ≡ seat → IsSome m.0.pass.share → IsMatch game → e.game ≡ game → IsReporter m.0.pass.number → m.0.doing.held ≡ Nothing → Allows TableKeepsOneHistory slots seat m game (λ n. n) (LookStep place e (step slots game 0 0 none) m)
+pub looks : (slots seat game place : ℕ) (m : Me Entry WordView) (e : EventCall) → place ≡ seat → IsSome m.0.pass.share → IsMatch game → e.game ≡ game → IsReporter m.0.pass.number
+    → m.0.doing.held ≡ Nothing → Allows TableKeepsOneHistory slots seat m game (λ n. n) (LookStep place e (step slots game 0 0 none) m)
 looks slots seat game place m e is_seat acts is of reporter nothing =
     let number = m.0.pass.number in
     loads_by slots seat game m Look (λ n now. after_look number e n now m.0.doing) (λ n. m.0.pass.shown) acts is
-    (λ cast steps w run fits a now kind at. (Reporter number, (refl, reporter), turn_look cast seat number steps w run m.0.doing fits a now e (reporter, subst IsMatch (sym of) is) nothing (kind, at ∙ sym of)))
+    (λ cast steps w run fits a now kind at. (
+      Reporter number,
+      (refl, reporter),
+      turn_look cast seat number steps w run m.0.doing fits a now e (reporter, subst IsMatch (sym of) is) nothing (kind, at ∙ sym of),
+    ))
     (LookStep place e (step slots game 0 0 none) m)
     (λ n w loads shown stands. record { loads = record { loads = loads; shown = shown }; doing = refl; stands = stands place is_seat })
 
-pub firsts : (slots seat game : ℕ) (m : Me Entry WordView) → IsSome m.0.pass.share → IsMatch game → IsNext First game m.0.doing.held → Allows TableKeepsOneHistory slots seat m game (λ n. n) (FirstStep (step slots game 0 0 none) m)
+pub firsts : (slots seat game : ℕ) (m : Me Entry WordView) → IsSome m.0.pass.share → IsMatch game → IsNext First game m.0.doing.held
+    → Allows TableKeepsOneHistory slots seat m game (λ n. n) (FirstStep (step slots game 0 0 none) m)
 firsts slots seat game m acts is next =
     loads_by slots seat game m First (λ n now. after_first n now m.0.doing) (λ n. m.0.pass.shown) acts is
-    (λ cast steps w run fits a now kind at. (Reader (seat + 1), refl, turn_firsts cast seat m.0.pass.number steps w run m.0.doing fits a now kind (subst (λ (g : ℕ). IsNext First g m.0.doing.held) (sym at) next)))
+    (λ cast steps w run fits a now kind at. (
+      Reader (seat + 1),
+      refl,
+      turn_firsts cast seat m.0.pass.number steps w run m.0.doing fits a now kind (subst (λ (g : ℕ). IsNext First g m.0.doing.held) (sym at) next),
+    ))
     (FirstStep (step slots game 0 0 none) m)
     (λ n w loads shown stands. record { loads = record { loads = loads; shown = shown }; doing = refl })
 
--- the machine's turn of a load of a second collect
-second_turn : (seat game : ℕ) (v : WordView) → IsNext Second game v.doing.held → (cast : Cast) (steps : List machine.Step) (w : MachineState) → after_steps steps (initial_state cast) ≡ Some w → FitsRun w seat v.pass.number v.doing
-    → (a : Access) → IsNow w a → a.kind ≡ Second → a.game ≡ game → (c : Caller) × IsTakenBy seat v.pass.number Second c × Turn seat v.pass.number w c a (after_second a.found a.at v.doing) []
-second_turn seat game v next cast steps w run fits a now kind at =
-    (Reader (seat + 1), refl, turn_seconds cast seat v.pass.number steps w run v.doing fits a now kind (subst (λ (g : ℕ). IsNext Second g v.doing.held) (sym at) next))
-
-pub again : (slots seat game : ℕ) (m : Me Entry WordView) → IsSome m.0.pass.share → IsMatch game → IsNext Second game m.0.doing.held → Allows TableKeepsOneHistory slots seat m game (λ n. n) (SecondStep (step slots game 0 0 none) m)
-again slots seat game m acts is next =
-    loads_by slots seat game m Second (λ n now. after_second n now m.0.doing) (λ n. m.0.pass.shown) acts is (second_turn seat game m.0 next) (SecondStep (step slots game 0 0 none) m)
-    (λ n w loads shown stands. record { loads = record { loads = loads; shown = shown }; doing = refl })
-
-pub loads_last : (slots seat game place : ℕ) (m : Me Entry WordView) → place ≡ seat → IsSome m.0.pass.share → IsMatch game → IsNext Second game m.0.doing.held → Allows TableKeepsOneHistory slots seat m game (λ n. n) (LastLoadStep place (step slots game 0 0 none) m)
-loads_last slots seat game place m is_seat acts is next =
-    loads_by slots seat game m Second (λ n now. after_second n now m.0.doing) (λ n. m.0.pass.shown ++ version_shown (trail_of m.0.pass) n) acts is (second_turn seat game m.0 next) (LastLoadStep place (step slots game 0 0 none) m)
-    (λ n w loads shown stands. record { loads = record { loads = loads; shown = shown }; doing = refl; stands = stands place is_seat })
+pub again : (slots seat game place : ℕ) (m : Me Entry WordView) → place ≡ seat → IsSome m.0.pass.share → IsMatch game → IsNext Second game m.0.doing.held
+    → Allows TableKeepsOneHistory slots seat m game (λ n. n) (SecondStep place (step slots game 0 0 none) m)
+again slots seat game place m is_seat acts is next =
+    loads_by slots seat game m Second (λ n now. after_second n now m.0.doing) (λ n. m.0.pass.shown ++ point_shown m.0.doing.held n) acts is
+    (λ cast steps w run fits a now kind at.
+    (Reader (seat + 1), refl, turn_seconds cast seat m.0.pass.number steps w run m.0.doing fits a now kind (subst (λ (g : ℕ). IsNext Second g m.0.doing.held) (sym at) next)))
+    (SecondStep place (step slots game 0 0 none) m)
+    (λ n w loads shown stands. record { loads = loads; shown = shown; doing = refl; stands = stands place is_seat })
 
 pub counts : (slots seat place : ℕ) (m : Me Entry WordView) → place ≡ seat → IsSome m.0.pass.share → Allows TableKeepsOneHistory slots seat m 0 (λ n. n) (EnlistedStep place (step slots 0 0 0 none) m)
 counts slots seat place m is_seat acts s r _ here _ =
@@ -253,7 +282,20 @@ counts slots seat place m is_seat acts s r _ here _ =
       keeps,
       tt,
       count_runs s r seat v here acts (get_or s.words 0 0) v.pass.listed v.pass.shown f.listed m.1,
-      record { word = refl; loads = record { found = get_or s.words 0 0; sees = look_tells words_after s.words (known s.views) r.shared seat v.pass at acts (Enlisted (get_or s.words 0 0)) tt v.pass.listed v.pass.shown f.listed; listed = refl; shown = refl }; found = refl; doing = refl; stands = stands_after s 0 (get_or s.words 0 0) seat m.1 v (record { pass = looked_at s r seat v here acts (Enlisted (get_or s.words 0 0)) tt v.pass.listed v.pass.shown f.listed; doing = v.doing }) here (count_runs s r seat v here acts (get_or s.words 0 0) v.pass.listed v.pass.shown f.listed m.1) place is_seat },
+      record {
+        word = refl;
+        loads = record {
+          found = get_or s.words 0 0;
+          sees = look_tells words_after s.words (known s.views) r.shared seat v.pass at acts (Enlisted (get_or s.words 0 0)) tt v.pass.listed v.pass.shown f.listed;
+          listed = refl;
+          shown = refl;
+        };
+        found = refl;
+        doing = refl;
+        stands = stands_after s 0 (get_or s.words 0 0) seat m.1 v
+            (record { pass = looked_at s r seat v here acts (Enlisted (get_or s.words 0 0)) tt v.pass.listed v.pass.shown f.listed; doing = v.doing }) here
+            (count_runs s r seat v here acts (get_or s.words 0 0) v.pass.listed v.pass.shown f.listed m.1) place is_seat;
+      },
     )
 
 -- a pass with a number is a reporter's
@@ -264,7 +306,8 @@ reporter_is s r seat v here pos =
     (omega arith, omega arith)
 
 -- an exchange that adds an entry
-module _ (s : Position) (r : TableKeepsOneHistory s) (seat : ℕ) (v : WordView) (e : Entry) (old new : ℕ) (here : get_elem? s.views seat ≡ some v) (acts : IsSome v.pass.share) (is : IsMatch e.game) (pos : 0 < v.pass.number) (me : e.reporter ≡ v.pass.number) (next : IsNextWord e old new) (hit : get_or s.words e.game 0 ≡ old)
+module _ (s : Position) (r : TableKeepsOneHistory s) (seat : ℕ) (v : WordView) (e : Entry) (old new : ℕ) (here : get_elem? s.views seat ≡ some v) (acts : IsSome v.pass.share) (is : IsMatch e.game)
+    (pos : 0 < v.pass.number) (me : e.reporter ≡ v.pass.number) (next : IsNextWord e old new) (hit : get_or s.words e.game 0 ≡ old)
     (holds : IsHoldingFor v.doing.held e old new) where
   abbrev at_pass : get_elem? (known s.views) seat ≡ some v.pass
   at_pass = known_at s.views seat v here
@@ -273,13 +316,15 @@ module _ (s : Position) (r : TableKeepsOneHistory s) (seat : ℕ) (v : WordView)
   next_is = let gained = next (history_of r.shared.log) r.shared.legal (sym (match_word s r e.game is.0) ∙ hit) in (board_with (history_of r.shared.log) e new is gained.0, gained.1)
 
   abbrev added : View
-  added = entered words_after s.words (known s.views) r.shared seat v.pass at_pass acts e (get_or s.words e.game 0) (there_now s r Swap e.game is) pos me next_is.1 v.pass.listed (r.shared.fits seat v.pass at_pass).listed
+  added = entered words_after s.words (known s.views) r.shared seat v.pass at_pass acts e (get_or s.words e.game 0) (there_now s r Swap e.game is) pos me next_is.1 v.pass.listed
+      (r.shared.fits seat v.pass at_pass).listed
 
   abbrev after_won : WordView
   after_won = record { pass = added; doing = after_swap (get_or s.words e.game 0) (length added.seen) v.doing }
 
   longer : added.seen ≡ followed_by (history_of r.shared.log) e
-  longer = longer_history words_after s.words (known s.views) r.shared seat v.pass at_pass acts e (get_or s.words e.game 0) (there_now s r Swap e.game is) pos me next_is.1 v.pass.listed (r.shared.fits seat v.pass at_pass).listed
+  longer = longer_history words_after s.words (known s.views) r.shared seat v.pass at_pass acts e (get_or s.words e.game 0) (there_now s r Swap e.game is) pos me next_is.1 v.pass.listed
+      (r.shared.fits seat v.pass at_pass).listed
 
   entry_is : entry_of v.pass.number holds.e ≡ e
   entry_is = λ i. record { game = holds.game i; reporter = sym me i; kind = holds.kind i }
@@ -291,7 +336,8 @@ module _ (s : Position) (r : TableKeepsOneHistory s) (seat : ℕ) (v : WordView)
       let are : set s.words e.game new ≡ words_after (followed_by history e) r.shared.enlisted =
       ap (λ (ws : List ℕ). set ws e.game new) r.shared.words_are ∙ (set_match r.shared.enlisted (board_of history) e.game new is.0 ∙ ap (λ (b : List ℕ). r.shared.enlisted ∷ b) next_is.0) in
       let there = there_now s r Swap e.game is in
-      let same = add_same words_after s.words (known s.views) r.shared seat v.pass at_pass acts e (get_or s.words e.game 0) there pos me next_is.1 v.pass.listed f.listed (set s.words e.game new) are in
+      let same = add_same words_after s.words (known s.views) r.shared seat v.pass at_pass acts e (get_or s.words e.game 0) there pos me next_is.1 v.pass.listed f.listed (set s.words e.game new)
+      are in
       let n : ℕ = get_or s.words e.game 0 in
       let taken : Taken = add words_after s.words (known s.views) r.shared seat v.pass at_pass acts e n there pos me next_is.1 v.pass.listed f.listed in
       let long : length added.seen ≡ length history + 1 = ap length longer ∙ length-append history (e ∷ []) in
@@ -304,9 +350,11 @@ module _ (s : Position) (r : TableKeepsOneHistory s) (seat : ℕ) (v : WordView)
       let run = one.of_actors in
       let there_is = map_at word_actor s.views seat v here in
       let now = is_now s r seat v here acts Swap e.game (length history) readers is refl one in
-      let turn = turn_swapped (cast_for readers) seat v.pass.number (steps_of_moves run.moves) run.state run.run v.doing (run.each seat (word_actor v) there_is) (access Swap e.game n (length history)) now holds.e old new holds.holds (refl, sym holds.game) hit in
+      let turn = turn_swapped (cast_for readers) seat v.pass.number (steps_of_moves run.moves) run.state run.run v.doing (run.each seat (word_actor v) there_is) (access Swap e.game n (length history))
+      now holds.e old new holds.holds (refl, sym holds.game) hit in
       acted_by readers r.shared.enlisted (logged r.shared.log seat taken) s.views seat after_won
-      (log_stepped readers r.shared.enlisted r.shared.log (word_actors s.views) one seat (word_actor v) there_is after_won.doing taken (e ∷ []) (Reporter v.pass.number) (access Swap e.game n (length history)) f.number (apart_actors s r) refl longer
+      (log_stepped readers r.shared.enlisted r.shared.log (word_actors s.views) one seat (word_actor v) there_is after_won.doing taken (e ∷ []) (Reporter v.pass.number)
+      (access Swap e.game n (length history)) f.number (apart_actors s r) refl longer
       (refl, reporter_is s r seat v here pos)
       (subst (λ (k : ℕ). Turn seat v.pass.number run.state (Reporter v.pass.number) (access Swap e.game n (length history)) (after_swap n k v.doing) (e ∷ [])) (sym long)
       (subst (λ (x : Entry). Turn seat v.pass.number run.state (Reporter v.pass.number) (access Swap e.game n (length history)) (after_swap n (length history + 1) v.doing) (x ∷ [])) entry_is turn))))
@@ -314,12 +362,14 @@ module _ (s : Position) (r : TableKeepsOneHistory s) (seat : ℕ) (v : WordView)
   swap_tells : ExchangeWon e v.pass (get_or s.words e.game 0) added
   swap_tells = record {
     before = history_of r.shared.log;
-    adds = add_tells words_after s.words (known s.views) r.shared seat v.pass at_pass acts e (get_or s.words e.game 0) (there_now s r Swap e.game is) pos me next_is.1 v.pass.listed (r.shared.fits seat v.pass at_pass).listed;
+    adds = add_tells words_after s.words (known s.views) r.shared seat v.pass at_pass acts e (get_or s.words e.game 0) (there_now s r Swap e.game is) pos me next_is.1 v.pass.listed
+        (r.shared.fits seat v.pass at_pass).listed;
     listed = refl;
   }
 
 -- an exchange for an entry
-pub swaps : (slots seat place : ℕ) (m : Me Entry WordView) (e : Entry) (old new : ℕ) → place ≡ seat → IsSome m.0.pass.share → IsMatch e.game → 0 < m.0.pass.number → e.reporter ≡ m.0.pass.number → IsNextWord e old new → IsHoldingFor m.0.doing.held e old new
+pub swaps : (slots seat place : ℕ) (m : Me Entry WordView) (e : Entry) (old new : ℕ) → place ≡ seat → IsSome m.0.pass.share → IsMatch e.game → 0 < m.0.pass.number → e.reporter ≡ m.0.pass.number
+    → IsNextWord e old new → IsHoldingFor m.0.doing.held e old new
     → Allows TableKeepsOneHistory slots seat m e.game (λ n. either (n == old) new n) (ExchangeStep place (step slots e.game old new (some e)) m)
 swaps slots seat place m e old new is_seat acts is pos me next holds s r _ here _ =
     let v = m.0 in
@@ -329,7 +379,8 @@ swaps slots seat place m e old new is_seat acts is pos me next holds s r _ here 
     let there = there_now s r Swap e.game is in
     let target : Target = Match Swap e.game n in
     exchanged n old new
-    (λ x. (w : WordView) × (a : Rattle.atomic_table.specs.Table.Act Entry) × Valid s.homes m.1 a × TableKeepsOneHistory (stepped s e.game x seat m.1 w a) × ExchangeStep place (step slots e.game old new (some e)) m n (w, carried_after m.1 a))
+    (λ x. (w : WordView) × (a : Rattle.atomic_table.specs.Table.Act Entry) × Valid s.homes m.1 a × TableKeepsOneHistory (stepped s e.game x seat m.1 w a)
+    × ExchangeStep place (step slots e.game old new (some e)) m n (w, carried_after m.1 a))
     (λ hit. (
       after_won s r seat v e old new here acts is pos me next hit holds,
       keeps,
@@ -339,7 +390,8 @@ swaps slots seat place m e old new is_seat acts is pos me next holds s r _ here 
         won = λ _. swap_tells s r seat v e old new here acts is pos me next hit holds;
         missed = λ miss. absurd (miss hit);
         doing = refl;
-        stands = stands_after s e.game new seat m.1 v (after_won s r seat v e old new here acts is pos me next hit holds) here (swap_keeps s r seat v e old new here acts is pos me next hit holds m.1) place is_seat;
+        stands = stands_after s e.game new seat m.1 v (after_won s r seat v e old new here acts is pos me next hit holds) here (swap_keeps s r seat v e old new here acts is pos me next hit holds m.1)
+            place is_seat;
       },
     ))
     (λ miss. let w = after_load s r seat v here acts Swap e.game is v.pass.shown in let kept = load_runs s r seat v here acts Swap e.game is v.pass.shown (after_swap n (length w.seen) v.doing)
@@ -347,7 +399,8 @@ swaps slots seat place m e old new is_seat acts is pos me next holds s r _ here 
       Reporter v.pass.number,
       (refl, reporter_is s r seat v here pos),
       turn_kept_out (cast_for readers) seat v.pass.number (steps_of_moves one.of_actors.moves) one.of_actors.state one.of_actors.run v.doing
-          (one.of_actors.each seat (word_actor v) (map_at word_actor s.views seat v here)) (here_access s r seat v here acts Swap e.game is v.pass.shown) now holds.e old new holds.holds (refl, sym holds.game) miss,
+          (one.of_actors.each seat (word_actor v) (map_at word_actor s.views seat v here)) (here_access s r seat v here acts Swap e.game is v.pass.shown) now holds.e old new holds.holds
+          (refl, sym holds.game) miss,
     ))
     m.1 in (
       record { pass = w; doing = after_swap n (length w.seen) v.doing },
@@ -356,14 +409,18 @@ swaps slots seat place m e old new is_seat acts is pos me next holds s r _ here 
       kept,
       record {
         won = λ hit. absurd (miss hit);
-        missed = λ _. record { loads = record { sees = look_tells words_after s.words (known s.views) r.shared seat v.pass at acts target there v.pass.listed v.pass.shown f.listed; listed = refl }; shown = refl };
+        missed = λ _. record {
+          loads = record { sees = look_tells words_after s.words (known s.views) r.shared seat v.pass at acts target there v.pass.listed v.pass.shown f.listed; listed = refl };
+          shown = refl;
+        };
         doing = refl;
         stands = stands_after s e.game n seat m.1 v (record { pass = w; doing = after_swap n (length w.seen) v.doing }) here kept place is_seat;
       },
     ))
 
 -- an exchange for an enlistment
-pub enlists : (slots seat place : ℕ) (m : Me Entry WordView) (old : ℕ) → place ≡ seat → IsSome m.0.pass.share → m.0.pass.number ≡ 0 → m.0.doing.held ≡ Nothing → old < 255 → Allows TableKeepsOneHistory slots seat m 0 (λ n. either (n == old) (old + 1) n) (EnlistStep place (step slots 0 old (old + 1) none) m)
+pub enlists : (slots seat place : ℕ) (m : Me Entry WordView) (old : ℕ) → place ≡ seat → IsSome m.0.pass.share → m.0.pass.number ≡ 0 → m.0.doing.held ≡ Nothing → old < 255
+    → Allows TableKeepsOneHistory slots seat m 0 (λ n. either (n == old) (old + 1) n) (EnlistStep place (step slots 0 old (old + 1) none) m)
 enlists slots seat place m old is_seat acts reader nothing room s r _ here _ =
     let v = m.0 in
     let at = known_at s.views seat v here in
@@ -372,19 +429,23 @@ enlists slots seat place m old is_seat acts reader nothing room s r _ here _ =
     let is : n ≡ r.shared.enlisted = enlist_word s r in
     let below = f.listed in
     exchanged n old (old + 1)
-    (λ x. (w : WordView) × (a : Rattle.atomic_table.specs.Table.Act Entry) × Valid s.homes m.1 a × TableKeepsOneHistory (stepped s 0 x seat m.1 w a) × EnlistStep place (step slots 0 old (old + 1) none) m n (w, carried_after m.1 a))
+    (λ x. (w : WordView) × (a : Rattle.atomic_table.specs.Table.Act Entry) × Valid s.homes m.1 a × TableKeepsOneHistory (stepped s 0 x seat m.1 w a)
+    × EnlistStep place (step slots 0 old (old + 1) none) m n (w, carried_after m.1 a))
     (λ hit. let left : r.shared.enlisted < 255 = omega arith in
     let same : old + 1 ≡ r.shared.enlisted + 1 = omega arith in
     let w : WordView = record { pass = enlisted_as words_after s.words (known s.views) r.shared seat v.pass at acts reader left; doing = v.doing } in
     let taken : Taken = count words_after s.words (known s.views) r.shared seat v.pass at acts reader left in
-    let are : set s.words 0 (old + 1) ≡ words_after (history_of r.shared.log) (r.shared.enlisted + 1) = ap (λ (ws : List ℕ). set ws 0 (old + 1)) r.shared.words_are ∙ ap (λ (k : ℕ). k ∷ board_of (history_of r.shared.log)) same in
+    let are : set s.words 0 (old + 1) ≡ words_after (history_of r.shared.log) (r.shared.enlisted + 1) =
+    ap (λ (ws : List ℕ). set ws 0 (old + 1)) r.shared.words_are ∙ ap (λ (k : ℕ). k ∷ board_of (history_of r.shared.log)) same in
     let kept = enlist_same words_after s.words (known s.views) r.shared seat v.pass at acts reader left (set s.words 0 (old + 1)) are in
-    let rule = both (stepped s 0 (old + 1) seat m.1 w keeps) (set s.words 0 (old + 1)) (set (known s.views) seat w.pass) (enlist_keeps words_after s.words (known s.views) r.shared seat v.pass at acts reader left (set s.words 0 (old + 1)) are)
+    let rule = both (stepped s 0 (old + 1) seat m.1 w keeps) (set s.words 0 (old + 1)) (set (known s.views) seat w.pass)
+    (enlist_keeps words_after s.words (known s.views) r.shared seat v.pass at acts reader left (set s.words 0 (old + 1)) are)
     (r.shared.enlisted + 1) (logged r.shared.log seat taken) refl (sym (known_set s.views seat w)) kept.0 kept.1
     (λ readers all.
     let wide = length-set s.views seat w in
     acted_by readers (r.shared.enlisted + 1) (logged r.shared.log seat taken) s.views seat w
-    (log_enlisted readers r.shared.enlisted r.shared.log (word_actors s.views) (r.one_run readers (omega arith)) seat (word_actor v) (map_at word_actor s.views seat v here) (logged r.shared.log seat taken) reader left nothing (low_actors s r)
+    (log_enlisted readers r.shared.enlisted r.shared.log (word_actors s.views) (r.one_run readers (omega arith)) seat (word_actor v) (map_at word_actor s.views seat v here)
+    (logged r.shared.log seat taken) reader left nothing (low_actors s r)
     (unchanged_history words_after s.words (known s.views) r.shared seat v.pass at acts reader left) (logged_accesses r.shared.log seat taken ∙ append-nil (accesses_of_log r.shared.log)))) in (
       w,
       keeps,
@@ -392,7 +453,11 @@ enlists slots seat place m old is_seat acts reader nothing room s r _ here _ =
       rule,
       record {
         word = refl;
-        won = λ _. record { enlists = subst (λ (k : ℕ). Enlists k v.pass w.pass) (sym is) (enlist_tells words_after s.words (known s.views) r.shared seat v.pass at acts reader left); above = omega arith; listed = ap (λ (k : ℕ). k + 1) (sym is) };
+        won = λ _. record {
+          enlists = subst (λ (k : ℕ). Enlists k v.pass w.pass) (sym is) (enlist_tells words_after s.words (known s.views) r.shared seat v.pass at acts reader left);
+          above = omega arith;
+          listed = ap (λ (k : ℕ). k + 1) (sym is);
+        };
         missed = λ miss. absurd (miss hit);
         doing = refl;
         stands = stands_after s 0 (old + 1) seat m.1 v w here rule place is_seat;
@@ -408,13 +473,16 @@ enlists slots seat place m old is_seat acts reader nothing room s r _ here _ =
         won = λ hit. absurd (miss hit);
         missed = λ _. record { sees = look_tells words_after s.words (known s.views) r.shared seat v.pass at acts (Enlisted n) tt n v.pass.shown le; above = omega arith; listed = refl; shown = refl };
         doing = refl;
-        stands = stands_after s 0 n seat m.1 v (record { pass = looked_at s r seat v here acts (Enlisted n) tt n v.pass.shown le; doing = v.doing }) here (count_runs s r seat v here acts n n v.pass.shown le m.1) place is_seat;
+        stands = stands_after s 0 n seat m.1 v (record { pass = looked_at s r seat v here acts (Enlisted n) tt n v.pass.shown le; doing = v.doing }) here
+            (count_runs s r seat v here acts n n v.pass.shown le m.1) place is_seat;
       },
     ))
 
 -- one pass more, that has done nothing, beside one that has done what it had done
-module _ (seat : ℕ) (v : WordView) (s : Position) (r : TableKeepsOneHistory s) (here : get_elem? s.views seat ≡ some v) (u w : WordView) (same : u.pass.number ≡ v.pass.number) (done : u.doing ≡ v.doing) (none : w.doing ≡ nothing_done) (number : w.pass.number ≡ 0) where
-  split_keeps : (q : KeepsOneHistory words_after s.words (set (known s.views) seat u.pass ++ w.pass ∷ [])) → q.enlisted ≡ r.shared.enlisted → q.log ≡ r.shared.log → TableKeepsOneHistory record { words = s.words; homes = s.homes; views = set s.views seat u ++ w ∷ [] }
+module _ (seat : ℕ) (v : WordView) (s : Position) (r : TableKeepsOneHistory s) (here : get_elem? s.views seat ≡ some v) (u w : WordView) (same : u.pass.number ≡ v.pass.number)
+    (done : u.doing ≡ v.doing) (none : w.doing ≡ nothing_done) (number : w.pass.number ≡ 0) where
+  split_keeps : (q : KeepsOneHistory words_after s.words (set (known s.views) seat u.pass ++ w.pass ∷ [])) → q.enlisted ≡ r.shared.enlisted → q.log ≡ r.shared.log
+      → TableKeepsOneHistory record { words = s.words; homes = s.homes; views = set s.views seat u ++ w ∷ [] }
   split_keeps q enlisted log =
       both record { words = s.words; homes = s.homes; views = set s.views seat u ++ w ∷ [] } s.words (set (known s.views) seat u.pass ++ w.pass ∷ []) q r.shared.enlisted r.shared.log refl
       (sym (map_more (λ (z : WordView). z.pass) (set s.views seat u) w ∙ ap (λ (l : List View). l ++ w.pass ∷ []) (known_set s.views seat u))) enlisted log
@@ -423,8 +491,10 @@ module _ (seat : ℕ) (v : WordView) (s : Position) (r : TableKeepsOneHistory s)
       let wide = length-set s.views seat u in
       let actors = map_long word_actor (set s.views seat u) in
       let is : word_actor w ≡ record { number = 0; doing = nothing_done } = (λ i. record { number = number i; doing = none i }) in
-      subst (λ (l : List Actor). IsRunOfLog readers r.shared.enlisted r.shared.log l) (sym (map_more word_actor (set s.views seat u) w ∙ ap (λ (a : Actor). word_actors (set s.views seat u) ++ a ∷ []) is))
-      (log_more readers r.shared.enlisted r.shared.log (word_actors (set s.views seat u)) (acted_still readers r.shared.enlisted r.shared.log r.shared.log s.views seat v u here same done refl refl (r.one_run readers (omega arith))) (omega arith)))
+      subst (λ (l : List Actor). IsRunOfLog readers r.shared.enlisted r.shared.log l)
+      (sym (map_more word_actor (set s.views seat u) w ∙ ap (λ (a : Actor). word_actors (set s.views seat u) ++ a ∷ []) is))
+      (log_more readers r.shared.enlisted r.shared.log (word_actors (set s.views seat u))
+      (acted_still readers r.shared.enlisted r.shared.log r.shared.log s.views seat v u here same done refl refl (r.one_run readers (omega arith))) (omega arith)))
 
 pub seconds : (seat : ℕ) (v : WordView) → Splits TableKeepsOneHistory seat v (left_pass v) (second_pass v)
 seconds seat v s r here =
@@ -466,7 +536,8 @@ joins seat v other a s r here apart there =
 
 -- a board may open with the words of no event and no reporter
 pub opens : (words : List ℕ) → words ≡ words_after [] 0 → TableKeepsOneHistory (opening words [] first_pass)
-opens words are = let same = moves.opens_same words_after words are in both (opening words [] first_pass) words (opener ∷ []) (moves.opens words_after words are) 0 [] refl refl same.0 same.1 log_begins
+opens words are = let same = moves.opens_same words_after words are in
+    both (opening words [] first_pass) words (opener ∷ []) (moves.opens words_after words are) 0 [] refl refl same.0 same.1 log_begins
 
 pub opened_stands : (words : List ℕ) → words ≡ words_after [] 0 → Stands 0 first_pass
 opened_stands words are = record { state = opening words [] first_pass; rule = opens words are; here = refl }

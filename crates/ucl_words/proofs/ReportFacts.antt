@@ -91,7 +91,8 @@ module _ (v u : View) (call : EventCall) (loaded : ℕ) (is : IsMatch call.game)
       pub miss_refuses : (refusal : Refusal) → refusal ≡ Stale (record_at found).number → RefusedReport (pass_view_of v) call refusal (pass_view_of z)
       miss_refuses refusal stale = record {
         answer = ap (λ (h : List Entry). sequential_reply h call) (sym (take-length z.seen))
-            ∙ report_whole z.seen (length v.seen) (length z.seen) (length z.seen) call (Err refusal) (look_access ∷ swap_access ∷ []) miss_walks.steady.sound.legal miss_walks.leaves.follows (miss_report refusal stale);
+            ∙ report_whole z.seen (length v.seen) (length z.seen) (length z.seen) call (Err refusal) (look_access ∷ swap_access ∷ []) miss_walks.steady.sound.legal miss_walks.leaves.follows
+            (miss_report refusal stale);
         mine = miss_walks.mine;
         shown = missed.shown ∙ looked.shown;
       }
@@ -125,7 +126,8 @@ module _ (v u : View) (call : EventCall) (loaded : ℕ) (is : IsMatch call.game)
       won_step = step_taken (Match Swap call.game found) (length won.before) (Some (entry_of v.number call))
 
       won_trail : trail_of z ≡ trail_of v ++ look_access ∷ won_access ∷ []
-      won_trail = takes_trail u z (won_step ∷ []) won.adds.takes ∙ (ap (λ (t : List Access). t ++ won_access ∷ []) look_walks.leaves.trail ∙ append_assoc (trail_of v) (look_access ∷ []) (won_access ∷ []))
+      won_trail = takes_trail u z (won_step ∷ []) won.adds.takes
+          ∙ (ap (λ (t : List Access). t ++ won_access ∷ []) look_walks.leaves.trail ∙ append_assoc (trail_of v) (look_access ∷ []) (won_access ∷ []))
 
       won_takes : Takes v (steps_with (Some (entry_of v.number call)) (look_access ∷ won_access ∷ [])) z
       won_takes = takes_on v u z (steps_with None (look_access ∷ [])) (won_step ∷ []) look_walks.leaves.takes won.adds.takes
@@ -144,7 +146,11 @@ module _ (v u : View) (call : EventCall) (loaded : ℕ) (is : IsMatch call.game)
       pub won_continues : Continues (pass_view_of v) (pass_view_of z)
       won_continues = record {
         sound = won_steady.sound;
-        on = record { seen = begins_through v.seen won.before z.seen since begun; listed = (let b = looked.loads.listed in let d = won.listed in omega arith); share = won.adds.goes.share ∙ look_walks.on.share };
+        on = record {
+          seen = begins_through v.seen won.before z.seen since begun;
+          listed = (let b = looked.loads.listed in let d = won.listed in omega arith);
+          share = won.adds.goes.share ∙ look_walks.on.share;
+        };
         number = won.adds.number ∙ look_walks.number;
       }
 
@@ -155,14 +161,27 @@ module _ (v u : View) (call : EventCall) (loaded : ℕ) (is : IsMatch call.game)
       won_mine = won.adds.mine ∙ ap (λ (l : List Entry). followed_by l (entry_of v.number call)) look_walks.mine
 
       won_report : ReportAccesses call (Ok reply) (look_access ∷ won_access ∷ []) (length z.seen)
-      won_report = record { looked = loaded; at = length u.seen; before = length won.before; accesses = ap (λ (n : ℕ). look_access ∷ access Swap call.game n (length won.before) ∷ []) same; answer = accepts; last = sym one_more }
+      won_report = record {
+        looked = loaded;
+        at = length u.seen;
+        before = length won.before;
+        accesses = ap (λ (n : ℕ). look_access ∷ access Swap call.game n (length won.before) ∷ []) same;
+        answer = accepts;
+        last = sym one_more;
+      }
 
       pub won_steps : ReportSteps v call (Ok reply) z
       won_steps =
           record {
             may = (me, is);
             accesses = look_access ∷ won_access ∷ [];
-            leaves = record { takes = won_takes; trail = won_trail; taken = takes_count v z (steps_with (Some (entry_of v.number call)) (look_access ∷ won_access ∷ [])) won_takes; follows = won_follows; whole_trail = won_whole };
+            leaves = record {
+              takes = won_takes;
+              trail = won_trail;
+              taken = takes_count v z (steps_with (Some (entry_of v.number call)) (look_access ∷ won_access ∷ [])) won_takes;
+              follows = won_follows;
+              whole_trail = won_whole;
+            };
             report = won_report;
           }
 
@@ -171,19 +190,22 @@ module _ (v u : View) (call : EventCall) (loaded : ℕ) (is : IsMatch call.game)
         before = won.before;
         last = won.adds.last;
         since = since;
-        answer = ap (λ (m : MatchRecord). reply_of m call) (sym (ap record_at (sym same ∙ (won.adds.there.1 ∙ sym (word_after won.before call.game is))) ∙ game_after won.before call.game before_legal is)) ∙ accepts;
+        answer = ap (λ (m : MatchRecord). reply_of m call)
+            (sym (ap record_at (sym same ∙ (won.adds.there.1 ∙ sym (word_after won.before call.game is))) ∙ game_after won.before call.game before_legal is)) ∙ accepts;
         mine = won_mine;
         shown = won.adds.shown ∙ looked.shown;
       }
 
 -- what the rules accept
-pub accepts_by : (word next number reporter : ℕ) (call : EventCall) → refusal_of (record_at word) call.expected call.kind ≡ None → record_at next ≡ after (record_at word) reporter call.kind → number ≡ (record_at next).number
+pub accepts_by : (word next number reporter : ℕ) (call : EventCall) → refusal_of (record_at word) call.expected call.kind ≡ None → record_at next ≡ after (record_at word) reporter call.kind
+    → number ≡ (record_at next).number
     → reply_of (record_at word) call ≡ Ok (record { number = number })
 accepts_by word next number reporter call none is said =
     sym (accepted_reply (record_at word) (record_at word) call number refl none (said ∙ (ap (λ (x : MatchRecord). x.number) is ∙ after_number (record_at word) reporter call.kind)))
 
 -- the entry under the number of the pass
-pub as_entry : (v u z : View) (call : EventCall) (entry : Entry) (reporter found : ℕ) → entry ≡ entry_of reporter call → v.number ≡ reporter → ExchangeWon entry u found z → ExchangeWon (entry_of v.number call) u found z
+pub as_entry : (v u z : View) (call : EventCall) (entry : Entry) (reporter found : ℕ) → entry ≡ entry_of reporter call → v.number ≡ reporter → ExchangeWon entry u found z
+    → ExchangeWon (entry_of v.number call) u found z
 as_entry v u z call entry reporter found made is won = subst (λ (e : Entry). ExchangeWon e u found z) (made ∙ ap (λ (n : ℕ). entry_of n call) (sym is)) won
 
 pub as_missed : (u z : View) (call : EventCall) (entry : Entry) (reporter found : ℕ) → entry ≡ entry_of reporter call → ExchangeMissed entry.game u found z → ExchangeMissed call.game u found z

@@ -65,7 +65,8 @@ walks_on u v w ms ns a b = record {
     takes = subst (λ (l : List Taken). Takes u l w) (sym (plain_append ms ns)) (takes_on u v w (steps_with None ms) (steps_with None ns) a.leaves.takes b.leaves.takes);
     trail = b.leaves.trail ∙ (ap (λ (x : List Access). x ++ ns) a.leaves.trail ∙ append_assoc (trail_of u) ms ns);
     taken = (let s = a.leaves.taken in let t = b.leaves.taken in omega (arith, length-append ms ns));
-    follows = follows_append w.seen (length u.seen) (length v.seen) (length w.seen) ms ns (follows_longer v.seen w.seen (length u.seen) (length v.seen) ms b.on.seen (le_refl (length v.seen)) a.leaves.follows) b.leaves.follows;
+    follows = follows_append w.seen (length u.seen) (length v.seen) (length w.seen) ms ns
+        (follows_longer v.seen w.seen (length u.seen) (length v.seen) ms b.on.seen (le_refl (length v.seen)) a.leaves.follows) b.leaves.follows;
     whole_trail = b.leaves.whole_trail;
   };
 }
@@ -87,7 +88,8 @@ walks_load kind game n v w steady l =
     let m : Access = access kind game n (length w.seen) in
     let goes = l.sees.goes in
     let one : Follows w.seen (length v.seen) (m ∷ []) (length w.seen) = follows_one w.seen (length v.seen) m (begins_length v.seen w.seen goes.seen) refl l.sees.there.1 in
-    let whole : HasTrail w = subst (λ (t : List Access). Follows w.seen 0 t (length w.seen)) (sym (load_trail kind game n v w l)) (trail_on v.seen w.seen (trail_of v) (m ∷ []) goes.seen steady.trail one) in
+    let whole : HasTrail w = subst (λ (t : List Access). Follows w.seen 0 t (length w.seen)) (sym (load_trail kind game n v w l))
+    (trail_on v.seen w.seen (trail_of v) (m ∷ []) goes.seen steady.trail one) in
     let few = steady.sound.few in
     let listed = l.listed in
     record {

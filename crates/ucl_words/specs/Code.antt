@@ -11,7 +11,7 @@ use Rattle.ucl_steps.specs.Protocol.{Held, Nothing, Holding, Collecting, Checkin
 use Rattle.ucl_steps.specs.Trails.{IsCollect, IsBroken}
 use Rattle.ucl_shared.specs.Passes.{SeesOn}
 use Rattle.ucl_shared.specs.declared.view.View.{View}
-use Rattle.ucl_shared.specs.Views.{pass_view_of, trail_of}
+use Rattle.ucl_shared.specs.Views.{pass_view_of}
 use Rattle.ucl_words.specs.WordCalls.{IsSteady, LeavesAccesses}
 
 -- a report holds the word that it loaded, for this entry
@@ -40,13 +40,6 @@ pub record Collects (v : View) (words : List ℕ) (w : View) : Type 0 where
   pub walks : Walks v accesses w
   pub collect : IsFirstCollect words accesses (length w.seen)
   pub shown : w.shown ≡ v.shown
-
--- the trail ends with a first collect
-pub record HasCollected (words : List ℕ) (v : View) : Type 0 where
-  pub before : List Access
-  pub accesses : List Access
-  pub trail : trail_of v ≡ before ++ accesses
-  pub collect : IsFirstCollect words accesses (length v.seen)
 
 -- a second collect that found all words again: the version that it shows is the length of the history at the end of the first
 pub record FindsAgain (v : View) (words : List ℕ) (w : View) : Type 0 where

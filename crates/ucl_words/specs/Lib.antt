@@ -1,7 +1,6 @@
 pub mod WordRule
 pub mod WordSteps
 pub mod Laws
-pub mod WordMachine
 pub mod WordCalls
 pub mod Code
 pub mod WordViews

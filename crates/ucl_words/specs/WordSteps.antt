@@ -1,20 +1,19 @@
 -- What each kind of atomic step on the table tells its pass: v before and w after, and n the word that was found.
-use Rattle.std.specs.Prelude.{◌≡◌, ◌≢◌, ℕ, ◌+◌, ◌-◌, ◌==◌, ◌≤◌, List, [], ◌∷◌, ◌++◌, length, slice_index_or, if◌then◌else◌}
+use Rattle.std.specs.Prelude.{◌≡◌, ◌≢◌, ℕ, ◌+◌, ◌==◌, ◌≤◌, List, [], ◌∷◌, ◌++◌, length, slice_index, if◌then◌else◌}
 use mathlib.Core.Option.{Option, none, some}
 use Rattle.atomic_table.specs.Table.{Step, Me}
 use Rattle.ucl_word.specs.Sequence.{GainsOne}
 use Rattle.ucl_board.specs.declared.entry.Entry.{Entry}
 use Rattle.ucl_board.specs.Words.{word_at}
 use Rattle.ucl_board.specs.History.{board_of, IsLegal}
-use Rattle.ucl_board.specs.Log.{AccessKind, Access, access, Look, First, Second, Swap, Match, Enlisted, Taken}
+use Rattle.ucl_board.specs.Log.{AccessKind, Look, First, Second, Swap, Match, Enlisted, Taken}
 use Rattle.ucl_shared.specs.declared.view.View.{View}
-use Rattle.ucl_shared.specs.Views.{Takes, trail_of}
+use Rattle.ucl_shared.specs.Views.{Takes}
 use Rattle.ucl_shared.specs.Steps.{Sees, Adds, Enlists}
-use Rattle.ucl_steps.specs.Protocol.{after_look, after_swap, after_first, after_second}
+use Rattle.ucl_steps.specs.Protocol.{Held, Checking, after_look, after_swap, after_first, after_second}
 use Rattle.ucl_words.specs.declared.view.WordView.{WordView}
 use Rattle.ucl_words.specs.WordRule.{Stands}
 use Rattle.ucl_word.specs.declared.event.EventCall.{EventCall}
-use Rattle.ucl_word.specs.declared.event.Kind.TheVariants.{KickOff}
 
 -- a load of the word of a match, or an exchange of it that was missed
 pub record LoadsMatch (kind : AccessKind) (game : ℕ) (v : View) (n : ℕ) (w : View) : Type 0 where
@@ -26,21 +25,11 @@ pub record Loads (kind : AccessKind) (game : ℕ) (v : View) (n : ℕ) (w : View
   pub loads : LoadsMatch kind game v n w
   pub shown : w.shown ≡ v.shown
 
-abbrev pub no_access : Access
-no_access = access Look 0 0 0
-
--- the access of the twelfth load of the first collect, eleven loads of the second collect back
-abbrev pub twelfth_first : List Access → Access
-twelfth_first trail = slice_index_or trail (length trail - 12) no_access
-
--- the version that the last load of a second collect shows, if it finds the word of the first
-abbrev pub version_shown : List Access → ℕ → List ℕ
-version_shown trail n = if n == (twelfth_first trail).found then (twelfth_first trail).at ∷ [] else []
-
--- the twelfth load of a second collect
-pub record LoadsLast (game : ℕ) (v : View) (n : ℕ) (w : View) : Type 0 where
-  pub loads : LoadsMatch Second game v n w
-  pub shown : w.shown ≡ v.shown ++ version_shown (trail_of v) n
+-- what a load of a second collect shows: where it finds the twelfth word again, the version, which is how many entries there were at the end
+-- of the first collect
+abbrev pub point_shown : Held → ℕ → List ℕ
+point_shown (Checking words checked point) found = if found == slice_index words checked then (if checked == 11 then point ∷ [] else []) else []
+point_shown _ found = []
 
 -- an exchange of a match word that was missed
 abbrev pub ExchangeMissed : ℕ → View → ℕ → View → Type 0
@@ -76,10 +65,6 @@ pub record EnlistWon (v : View) (n : ℕ) (w : View) : Type 0 where
   pub above : v.listed ≤ n
   pub listed : w.listed ≡ n + 1
 
--- a call for reports that ask nothing
-abbrev pub no_call : EventCall
-no_call = record { game = 0; expected = 0; kind = KickOff }
-
 -- the steps of the table, by what they found: each says what the pass knows after it, and what it then holds of
 -- its call; those that can end a call say that the pass then stands at its seat
 
@@ -94,13 +79,10 @@ pub record FirstStep (st : Step Entry) (m : Me Entry WordView) (n : ℕ) (m' : M
   pub loads : Loads First st.word m.0.pass n m'.0.pass
   pub doing : m'.0.doing ≡ after_first n (length m'.0.pass.seen) m.0.doing
 
--- a load of a second collect, before its twelfth
-pub record SecondStep (st : Step Entry) (m : Me Entry WordView) (n : ℕ) (m' : Me Entry WordView) : Type 0 where
-  pub loads : Loads Second st.word m.0.pass n m'.0.pass
-  pub doing : m'.0.doing ≡ after_second n (length m'.0.pass.seen) m.0.doing
-
-pub record LastLoadStep (seat : ℕ) (st : Step Entry) (m : Me Entry WordView) (n : ℕ) (m' : Me Entry WordView) : Type 0 where
-  pub loads : LoadsLast st.word m.0.pass n m'.0.pass
+-- a load of a second collect
+pub record SecondStep (seat : ℕ) (st : Step Entry) (m : Me Entry WordView) (n : ℕ) (m' : Me Entry WordView) : Type 0 where
+  pub loads : LoadsMatch Second st.word m.0.pass n m'.0.pass
+  pub shown : m'.0.pass.shown ≡ m.0.pass.shown ++ point_shown m.0.doing.held n
   pub doing : m'.0.doing ≡ after_second n (length m'.0.pass.seen) m.0.doing
   pub stands : Stands seat m'.0
 

@@ -1,6 +1,6 @@
 //! The board over thirteen atomic words, and its calls.
 
-ghost use Rattle.std.specs.Prelude.{◌≡◌, ◌≢◌, ◌+◌, ◌<◌, ◌≤◌, [], length, IfOk, IfErr, IfSome, IfNone, IsSome, MatchResult, MatchBool, Some, None};
+ghost use Rattle.std.specs.Prelude.{◌≡◌, ◌≢◌, ◌+◌, ◌<◌, ◌≤◌, [], ◌++◌, length, IfOk, IfErr, IfSome, IfNone, IsSome, MatchResult, MatchBool, Some, None};
 ghost use Rattle.atomic_table.specs.Seated.{TableId};
 ghost use Rattle.ucl_board.specs.Fixtures.{IsMatch};
 ghost use Rattle.ucl_board.specs.Log as trails;
@@ -10,35 +10,31 @@ ghost use Rattle.ucl_shared.specs.Views.{pass_view_of, count_of, trail_of, kept_
 ghost use Rattle.ucl_shared.specs.CallSteps.{MeetingSteps, HasCopyOf};
 ghost use Rattle.ucl_shared.specs.OneHistory.{BoardsOpenFresh};
 ghost use Rattle.ucl_words.specs.WordRule.{words_after, IsTheRule, Stands};
-ghost use Rattle.ucl_words.specs.WordSteps.{Loads, LoadsLast, LoadsEnlisted, ExchangeWon, ExchangeMissed, IsNextWord, EnlistWon, EnlistMissed};
-ghost use Rattle.ucl_words.specs.Code.{Collects, HasCollected, FindsAgain, FindsAnother, IsHoldingFor, MayCollect, HasFirsts, has_copied, begins_anew};
+ghost use Rattle.ucl_words.specs.WordSteps.{Loads, LoadsMatch, LoadsEnlisted, point_shown, ExchangeWon, ExchangeMissed, IsNextWord, EnlistWon, EnlistMissed};
+ghost use Rattle.ucl_words.specs.Code.{Collects, FindsAgain, FindsAnother, IsHoldingFor, MayCollect, HasFirsts, has_copied, begins_anew};
 ghost use Rattle.ucl_words.specs.WordCalls.{IsSteady, ReportSteps, ReadingSteps, EnlistTries, KeepsTrail};
 ghost use Rattle.ucl_words.specs.WordViews.{left_pass, second_pass, note_pass, IsNotePass, view_of};
-ghost use Rattle.ucl_words.specs.WordMachine.{report_reply};
 ghost use Rattle.ucl_words.specs.WordDoings.{AnswersCall, GoesAlong, WordHasReported};
 ghost use Rattle.ucl_word.specs.Record.{IsReporter};
-ghost use Rattle.ucl_steps.specs.Protocol.{Nothing, Checking, IsNext, nothing_done, after_look, after_swap, after_second};
+ghost use Rattle.ucl_steps.specs.Protocol.{Nothing, Checking, IsNext, nothing_done, after_look, after_swap, after_second, report_reply};
 ghost use Rattle.ucl_steps.specs.declared.step.Call.TheVariants as calls;
 ghost use Rattle.ucl_steps.specs.declared.trace.Reply.TheVariants as replies;
 
 use crate::passes::{WordNote, WordReaderPass, WordReporterPass};
 use crate::rule::{
-    Asking, CountEnlisted, Enlist, First, LastSecond, Look, Note, OneHistory, Seat, Second,
-    SecondPass, Swap, Table,
+    Asking, CountEnlisted, Enlist, First, Look, Note, OneHistory, Seat, Second, SecondPass, Swap,
+    Table,
 };
 use crate::view::WordView;
 use atomic_table::TableRule;
 use std::alloc::Global;
 use std::marker::{Brand, Model};
 use ucl_board::{Board, Entry, Reading};
-use ucl_shared::TooManyReporters;
+use ucl_shared::{MOST_REPORTERS, TooManyReporters};
 use ucl_word::{Accepted, EventCall, OutOfMemory, Refusal, ReporterNo, next_word, number_of};
 
 /// Which word of the table is the number of enlisted reporters; words 1 to 12 are the matches.
 const ENLISTED: usize = 0;
-
-/// How many reporters a board can have.
-const MOST_REPORTERS: u64 = 255;
 
 /// A board of thirteen words that are loaded and exchanged one at a time: the number of enlisted reporters, and the twelve matches.
 /// Contracts see which table it is.
@@ -57,7 +53,8 @@ impl Model for WordBoard {
 
     ghost view = { λ b. b.table.shared.table_id };
 
-    ghost invariant = { λ b. (b.table.shared.table_id.words ≡ 13) × (b.table.shared.table_id.slots ≡ 0) };
+    ghost invariant = { λ b. (b.table.shared.table_id.words ≡ 13)
+        × (b.table.shared.table_id.slots ≡ 0) };
 }
 
 /// The words before any event, with no reporter enlisted.
@@ -82,7 +79,8 @@ impl WordBoard {
     pub fn open<R>(_rt: &R, alloc: Global) -> Result<(WordBoard, WordReaderPass), OutOfMemory>
         ensures own { IfOk result (λ opened. opened.1.board ≡ opened.0) }
         ensures fresh { IfOk result (λ opened. pass_view_of opened.1.view ≡ opening_pass) }
-        ensures untaken { IfOk result (λ opened. (opened.1.view.copied ≡ []) × (opened.1.view.own ≡ []) × (opened.1.doing ≡ nothing_done)) }
+        ensures untaken { IfOk result (λ opened. (opened.1.view.copied ≡ [])
+            × (opened.1.view.own ≡ []) × (opened.1.doing ≡ nothing_done)) }
         ensures rule { BoardsOpenFresh words_after }
         ensures tied { IsTheRule (⟦<OneHistory as TableRule<Entry, WordView, ()>>⟧.holds tt) }
         ensures stands { IfOk result (λ opened. Stands opened.1.seat (view_of opened.1)) }
@@ -112,8 +110,10 @@ impl WordBoard {
         ensures own { seat.new.table_id ≡ seat.old.table_id }
         ensures seat { seat.new.id ≡ seat.old.id }
         ensures game { IsMatch call.now.game }
-        ensures looks { Loads trails.Look call.now.game seat.old.me.0.pass result seat.new.me.0.pass }
-        ensures does { seat.new.me.0.doing ≡ after_look seat.old.me.0.pass.number call.now result (length seat.new.me.0.pass.seen) seat.old.me.0.doing }
+        ensures looks { Loads trails.Look call.now.game seat.old.me.0.pass result
+            seat.new.me.0.pass }
+        ensures does { seat.new.me.0.doing ≡ after_look seat.old.me.0.pass.number call.now result
+            (length seat.new.me.0.pass.seen) seat.old.me.0.doing }
         ensures stands { Stands seat.new.id seat.new.me.0 }
     {
         let word = usize::from(call.game.get());
@@ -124,15 +124,19 @@ impl WordBoard {
     fn swap<K: Asking>(&self, seat: &mut Seat, loaded: u64, next: u64, entry: Entry) -> u64
         requires table { seat.old.table_id ≡ self.now }
         requires acts { IsSome seat.old.me.0.pass.share }
-        requires me { (0 < seat.old.me.0.pass.number) × (entry.reporter ≡ seat.old.me.0.pass.number) }
+        requires me { (0 < seat.old.me.0.pass.number)
+            × (entry.reporter ≡ seat.old.me.0.pass.number) }
         requires place { K.seat ≡ seat.old.id }
         requires word { IsNextWord entry loaded next }
         requires next { IsHoldingFor seat.old.me.0.doing.held entry loaded next }
         ensures own { seat.new.table_id ≡ seat.old.table_id }
         ensures seat { seat.new.id ≡ seat.old.id }
-        ensures won { result ≡ loaded → ExchangeWon entry seat.old.me.0.pass result seat.new.me.0.pass }
-        ensures missed { result ≢ loaded → ExchangeMissed entry.game seat.old.me.0.pass result seat.new.me.0.pass }
-        ensures does { seat.new.me.0.doing ≡ after_swap result (length seat.new.me.0.pass.seen) seat.old.me.0.doing }
+        ensures won { result ≡ loaded
+            → ExchangeWon entry seat.old.me.0.pass result seat.new.me.0.pass }
+        ensures missed { result ≢ loaded
+            → ExchangeMissed entry.game seat.old.me.0.pass result seat.new.me.0.pass }
+        ensures does { seat.new.me.0.doing
+            ≡ after_swap result (length seat.new.me.0.pass.seen) seat.old.me.0.doing }
         ensures stands { Stands seat.new.id seat.new.me.0 }
     {
         let word = usize::from(entry.game.get());
@@ -155,11 +159,17 @@ impl WordBoard {
         ensures own { seat.new.table_id ≡ seat.old.table_id }
         ensures seat { seat.new.id ≡ seat.old.id }
         ensures steady { IsSteady seat.new.me.0.pass }
-        ensures always { Continues (pass_view_of seat.old.me.0.pass) (pass_view_of seat.new.me.0.pass) }
-        ensures accepted { IfOk result (λ reply. AcceptedReport (pass_view_of seat.old.me.0.pass) call.now reply (pass_view_of seat.new.me.0.pass)) }
-        ensures refused { IfErr result (λ refusal. RefusedReport (pass_view_of seat.old.me.0.pass) call.now refusal (pass_view_of seat.new.me.0.pass)) }
+        ensures always { Continues (pass_view_of seat.old.me.0.pass)
+            (pass_view_of seat.new.me.0.pass) }
+        ensures accepted { IfOk result
+            (λ reply. AcceptedReport (pass_view_of seat.old.me.0.pass) call.now reply
+            (pass_view_of seat.new.me.0.pass)) }
+        ensures refused { IfErr result
+            (λ refusal. RefusedReport (pass_view_of seat.old.me.0.pass) call.now refusal
+            (pass_view_of seat.new.me.0.pass)) }
         ensures steps { ReportSteps seat.old.me.0.pass call.now result seat.new.me.0.pass }
-        ensures answers { AnswersCall seat.old.me.0 (calls.Event call.now) (report_reply result) seat.new.me.0 }
+        ensures answers { AnswersCall seat.old.me.0 (calls.Event call.now) (report_reply result)
+            seat.new.me.0 }
         ensures along { GoesAlong seat.old.me.0 (calls.Event call.now) seat.new.me.0 }
         ensures stands { Stands seat.new.id seat.new.me.0 }
     {
@@ -187,7 +197,8 @@ impl WordBoard {
         ensures seat { seat.new.id ≡ seat.old.id }
         ensures long { length result ≡ 12 }
         ensures collects { Collects seat.old.me.0.pass result seat.new.me.0.pass }
-        ensures does { HasFirsts (length seat.old.me.0.pass.seen) seat.old.me.0.doing result (length seat.new.me.0.pass.seen) seat.new.me.0.doing }
+        ensures does { HasFirsts (length seat.old.me.0.pass.seen) seat.old.me.0.doing result
+            (length seat.new.me.0.pass.seen) seat.new.me.0.doing }
         ensures along { GoesAlong seat.old.me.0 calls.Reading seat.new.me.0 }
     {
         let mut words = [0; 12];
@@ -197,41 +208,47 @@ impl WordBoard {
         words
     }
 
-    /// The twelfth load of the second collect.
-    fn twelfth<K: Asking>(&self, seat: &mut Seat) -> u64
+    /// A load of the second collect.
+    fn load_again<K: Asking>(&self, seat: &mut Seat, word: usize) -> u64
         requires table { seat.old.table_id ≡ self.now }
         requires acts { IsSome seat.old.me.0.pass.share }
         requires place { K.seat ≡ seat.old.id }
-        requires next { IsNext trails.Second 12 seat.old.me.0.doing.held }
+        requires word { IsMatch word }
+        requires next { IsNext trails.Second word seat.old.me.0.doing.held }
         ensures own { seat.new.table_id ≡ seat.old.table_id }
         ensures seat { seat.new.id ≡ seat.old.id }
-        ensures loads { LoadsLast 12 seat.old.me.0.pass result seat.new.me.0.pass }
-        ensures does { seat.new.me.0.doing ≡ after_second result (length seat.new.me.0.pass.seen) seat.old.me.0.doing }
+        ensures loads { LoadsMatch trails.Second word seat.old.me.0.pass result seat.new.me.0.pass }
+        ensures shown { seat.new.me.0.pass.shown
+            ≡ seat.old.me.0.pass.shown ++ point_shown seat.old.me.0.doing.held result }
+        ensures does { seat.new.me.0.doing
+            ≡ after_second result (length seat.new.me.0.pass.seen) seat.old.me.0.doing }
         ensures stands { Stands seat.new.id seat.new.me.0 }
     {
-        self.table.shared.load::<LastSecond<K>>(seat, 12)
+        self.table.shared.load::<Second<K>>(seat, word)
     }
 
     /// The second collect: loads words 1 to 12 again, up to the first that is another.
     fn is_clean(&self, seat: &mut Seat, words: &[u64; 12]) -> bool
         requires table { seat.old.table_id ≡ self.now }
         requires steady { IsSteady seat.old.me.0.pass }
-        requires collected { HasCollected words.now seat.old.me.0.pass }
-        requires next { seat.old.me.0.doing.held ≡ Checking words.now 0 (length seat.old.me.0.pass.seen) }
+        requires next { seat.old.me.0.doing.held
+            ≡ Checking words.now 0 (length seat.old.me.0.pass.seen) }
         ensures own { seat.new.table_id ≡ seat.old.table_id }
         ensures seat { seat.new.id ≡ seat.old.id }
-        ensures compared { MatchBool result (FindsAgain seat.old.me.0.pass words.now seat.new.me.0.pass) (FindsAnother seat.old.me.0.pass words.now seat.new.me.0.pass) }
-        ensures does { MatchBool result (seat.new.me.0.doing ≡ has_copied words.now (length seat.new.me.0.pass.seen) seat.old.me.0.doing) (seat.new.me.0.doing ≡ begins_anew seat.old.me.0.doing) }
+        ensures compared { MatchBool result
+            (FindsAgain seat.old.me.0.pass words.now seat.new.me.0.pass)
+            (FindsAnother seat.old.me.0.pass words.now seat.new.me.0.pass) }
+        ensures does { MatchBool result
+            (seat.new.me.0.doing
+            ≡ has_copied words.now (length seat.new.me.0.pass.seen) seat.old.me.0.doing)
+            (seat.new.me.0.doing ≡ begins_anew seat.old.me.0.doing) }
         ensures along { GoesAlong seat.old.me.0 calls.Reading seat.new.me.0 }
         ensures stands { MatchBool result (Stands seat.new.id seat.new.me.0) (Unit {0}) }
     {
-        for i in 0..11 {
-            if self.table.shared.load::<Second>(seat, i + 1) != words[i] {
+        for checked in 0..12 {
+            if self.load_again::<Brand>(seat, checked + 1) != words[checked] {
                 return false;
             }
-        }
-        if self.twelfth::<Brand>(seat) != words[11] {
-            return false;
         }
         true
     }
@@ -244,10 +261,13 @@ impl WordBoard {
         ensures own { seat.new.table_id ≡ seat.old.table_id }
         ensures seat { seat.new.id ≡ seat.old.id }
         ensures steady { IsSteady seat.new.me.0.pass }
-        ensures always { Continues (pass_view_of seat.old.me.0.pass) (pass_view_of seat.new.me.0.pass) }
-        ensures reading { SharedReading (pass_view_of seat.old.me.0.pass) result (pass_view_of seat.new.me.0.pass) }
+        ensures always { Continues (pass_view_of seat.old.me.0.pass)
+            (pass_view_of seat.new.me.0.pass) }
+        ensures reading { SharedReading (pass_view_of seat.old.me.0.pass) result
+            (pass_view_of seat.new.me.0.pass) }
         ensures steps { ReadingSteps seat.old.me.0.pass result seat.new.me.0.pass }
-        ensures answers { AnswersCall seat.old.me.0 calls.Reading (replies.Copied result) seat.new.me.0 }
+        ensures answers { AnswersCall seat.old.me.0 calls.Reading (replies.Copied result)
+            seat.new.me.0 }
         ensures along { GoesAlong seat.old.me.0 calls.Reading seat.new.me.0 }
         ensures stands { Stands seat.new.id seat.new.me.0 }
         ensures least { count_of seat.old.me.0.pass + 24 ≤ count_of seat.new.me.0.pass }
@@ -272,7 +292,8 @@ impl WordBoard {
         ensures own { seat.new.table_id ≡ seat.old.table_id }
         ensures seat { seat.new.id ≡ seat.old.id }
         ensures won { result ≡ known → EnlistWon seat.old.me.0.pass result seat.new.me.0.pass }
-        ensures missed { result ≢ known → EnlistMissed seat.old.me.0.pass result seat.new.me.0.pass }
+        ensures missed { result ≢ known
+            → EnlistMissed seat.old.me.0.pass result seat.new.me.0.pass }
         ensures does { seat.new.me.0.doing ≡ seat.old.me.0.doing }
         ensures stands { Stands seat.new.id seat.new.me.0 }
     {
@@ -291,9 +312,13 @@ impl WordBoard {
         ensures own { seat.new.table_id ≡ seat.old.table_id }
         ensures seat { seat.new.id ≡ seat.old.id }
         ensures steady { IsSteady seat.new.me.0.pass }
-        ensures enlisted { IfSome result (λ number. Enlistment (pass_view_of seat.old.me.0.pass) (pass_view_of seat.new.me.0.pass) × (seat.new.me.0.pass.number ≡ number)) }
-        ensures always { IfNone result (Continues (pass_view_of seat.old.me.0.pass) (pass_view_of seat.new.me.0.pass)) }
-        ensures full { IfNone result (FullBoard (pass_view_of seat.old.me.0.pass) (pass_view_of seat.new.me.0.pass)) }
+        ensures enlisted { IfSome result
+            (λ number. Enlistment (pass_view_of seat.old.me.0.pass)
+            (pass_view_of seat.new.me.0.pass) × (seat.new.me.0.pass.number ≡ number)) }
+        ensures always { IfNone result
+            (Continues (pass_view_of seat.old.me.0.pass) (pass_view_of seat.new.me.0.pass)) }
+        ensures full { IfNone result
+            (FullBoard (pass_view_of seat.old.me.0.pass) (pass_view_of seat.new.me.0.pass)) }
         ensures trail { KeepsTrail seat.old.me.0.pass seat.new.me.0.pass }
         ensures tries { EnlistTries seat.old.me.0.pass result seat.new.me.0.pass }
         ensures does { seat.new.me.0.doing ≡ seat.old.me.0.doing }
@@ -314,7 +339,8 @@ impl WordBoard {
     /// A second seat, which has seen as much.
     fn split_by(&self, seat: &mut Seat) -> Seat
         requires table { seat.old.table_id ≡ self.now }
-        ensures own { (seat.new.table_id ≡ seat.old.table_id) × (result.table_id ≡ seat.old.table_id) }
+        ensures own { (seat.new.table_id ≡ seat.old.table_id)
+            × (result.table_id ≡ seat.old.table_id) }
         ensures seat { seat.new.id ≡ seat.old.id }
         ensures kept { seat.new.me.0 ≡ left_pass seat.old.me.0 }
         ensures given { result.me.0 ≡ second_pass seat.old.me.0 }
@@ -341,7 +367,8 @@ impl WordBoard {
     /// A note of what a seat has seen.
     fn note_by(&self, seat: &mut Seat) -> Seat
         requires table { seat.old.table_id ≡ self.now }
-        ensures own { (seat.new.table_id ≡ seat.old.table_id) × (result.table_id ≡ seat.old.table_id) }
+        ensures own { (seat.new.table_id ≡ seat.old.table_id)
+            × (result.table_id ≡ seat.old.table_id) }
         ensures seat { seat.new.id ≡ seat.old.id }
         ensures unchanged { seat.new.me.0 ≡ seat.old.me.0 }
         ensures given { (result.me.0 ≡ note_pass seat.old.me.0) × (result.me.1 ≡ []) }
@@ -357,8 +384,10 @@ impl WordBoard {
         ensures own { seat.new.table_id ≡ seat.old.table_id }
         ensures seat { seat.new.id ≡ seat.old.id }
         ensures steady { IsSteady seat.new.me.0.pass }
-        ensures always { Continues (pass_view_of seat.old.me.0.pass) (pass_view_of seat.new.me.0.pass) }
-        ensures heard { Hearing note.me.0.pass.seen (pass_view_of seat.old.me.0.pass) (pass_view_of seat.new.me.0.pass) }
+        ensures always { Continues (pass_view_of seat.old.me.0.pass)
+            (pass_view_of seat.new.me.0.pass) }
+        ensures heard { Hearing note.me.0.pass.seen (pass_view_of seat.old.me.0.pass)
+            (pass_view_of seat.new.me.0.pass) }
         ensures trail { KeepsTrail seat.old.me.0.pass seat.new.me.0.pass }
         ensures does { seat.new.me.0.doing ≡ seat.old.me.0.doing }
         ensures steps { MeetingSteps seat.old.me.0.pass seat.new.me.0.pass }
@@ -373,12 +402,15 @@ impl WordBoard {
     fn meet_by(&self, first: &mut Seat, second: &mut Seat)
         requires table { (first.old.table_id ≡ self.now) × (second.old.table_id ≡ self.now) }
         requires steady { IsSteady second.old.me.0.pass }
-        ensures own { (first.new.table_id ≡ first.old.table_id) × (second.new.table_id ≡ second.old.table_id) }
+        ensures own { (first.new.table_id ≡ first.old.table_id)
+            × (second.new.table_id ≡ second.old.table_id) }
         ensures seat { (first.new.id ≡ first.old.id) × (second.new.id ≡ second.old.id) }
         ensures unchanged { first.new.me.0 ≡ first.old.me.0 }
         ensures steady { IsSteady second.new.me.0.pass }
-        ensures always { Continues (pass_view_of second.old.me.0.pass) (pass_view_of second.new.me.0.pass) }
-        ensures meeting { Meeting (pass_view_of first.old.me.0.pass) (pass_view_of second.old.me.0.pass) (pass_view_of second.new.me.0.pass) }
+        ensures always { Continues (pass_view_of second.old.me.0.pass)
+            (pass_view_of second.new.me.0.pass) }
+        ensures meeting { Meeting (pass_view_of first.old.me.0.pass)
+            (pass_view_of second.old.me.0.pass) (pass_view_of second.new.me.0.pass) }
         ensures trail { KeepsTrail second.old.me.0.pass second.new.me.0.pass }
         ensures does { second.new.me.0.doing ≡ second.old.me.0.doing }
         ensures steps { MeetingSteps second.old.me.0.pass second.new.me.0.pass }
@@ -413,10 +445,15 @@ impl WordBoard {
         ensures own { pass.new.board ≡ self.now }
         ensures seat { pass.new.seat ≡ pass.old.seat }
         ensures always { Continues (pass_view_of pass.old.view) (pass_view_of pass.new.view) }
-        ensures accepted { IfOk result (λ reply. AcceptedReport (pass_view_of pass.old.view) call.now reply (pass_view_of pass.new.view)) }
-        ensures refused { IfErr result (λ refusal. RefusedReport (pass_view_of pass.old.view) call.now refusal (pass_view_of pass.new.view)) }
+        ensures accepted { IfOk result
+            (λ reply. AcceptedReport (pass_view_of pass.old.view) call.now reply
+            (pass_view_of pass.new.view)) }
+        ensures refused { IfErr result
+            (λ refusal. RefusedReport (pass_view_of pass.old.view) call.now refusal
+            (pass_view_of pass.new.view)) }
         ensures steps { ReportSteps pass.old.view call.now result pass.new.view }
-        ensures answers { AnswersCall (view_of pass.old) (calls.Event call.now) (report_reply result) (view_of pass.new) }
+        ensures answers { AnswersCall (view_of pass.old) (calls.Event call.now)
+            (report_reply result) (view_of pass.new) }
         ensures along { GoesAlong (view_of pass.old) (calls.Event call.now) (view_of pass.new) }
         ensures most { count_of pass.new.view ≤ count_of pass.old.view + 2 }
         ensures stands { Stands pass.new.seat (view_of pass.new) }
@@ -443,9 +480,11 @@ impl WordBoard {
         ensures own { pass.new.board ≡ self.now }
         ensures seat { pass.new.seat ≡ pass.old.seat }
         ensures always { Continues (pass_view_of pass.old.view) (pass_view_of pass.new.view) }
-        ensures reading { SharedReading (pass_view_of pass.old.view) result (pass_view_of pass.new.view) }
+        ensures reading { SharedReading (pass_view_of pass.old.view) result
+            (pass_view_of pass.new.view) }
         ensures steps { ReadingSteps pass.old.view result pass.new.view }
-        ensures answers { AnswersCall (view_of pass.old) calls.Reading (replies.Copied result) (view_of pass.new) }
+        ensures answers { AnswersCall (view_of pass.old) calls.Reading (replies.Copied result)
+            (view_of pass.new) }
         ensures along { GoesAlong (view_of pass.old) calls.Reading (view_of pass.new) }
         ensures least { count_of pass.old.view + 24 ≤ count_of pass.new.view }
         ensures most { count_of pass.new.view ≤ count_of pass.old.view + most_loads }
@@ -473,9 +512,11 @@ impl WordBoard {
         ensures own { pass.new.board ≡ self.now }
         ensures seat { pass.new.seat ≡ pass.old.seat }
         ensures always { Continues (pass_view_of pass.old.view) (pass_view_of pass.new.view) }
-        ensures reading { SharedReading (pass_view_of pass.old.view) result (pass_view_of pass.new.view) }
+        ensures reading { SharedReading (pass_view_of pass.old.view) result
+            (pass_view_of pass.new.view) }
         ensures steps { ReadingSteps pass.old.view result pass.new.view }
-        ensures answers { AnswersCall (view_of pass.old) calls.Reading (replies.Copied result) (view_of pass.new) }
+        ensures answers { AnswersCall (view_of pass.old) calls.Reading (replies.Copied result)
+            (view_of pass.new) }
         ensures along { GoesAlong (view_of pass.old) calls.Reading (view_of pass.new) }
         ensures least { count_of pass.old.view + 24 ≤ count_of pass.new.view }
         ensures most { count_of pass.new.view ≤ count_of pass.old.view + most_loads }
@@ -501,10 +542,12 @@ impl WordBoard {
         ensures kept { pass.new.view ≡ kept_of pass.old.view }
         ensures does { pass.new.doing ≡ pass.old.doing }
         ensures given { pass_view_of result.view ≡ split_pass (pass_view_of pass.old.view) }
-        ensures steps { (count_of result.view ≡ count_of pass.old.view) × (trail_of result.view ≡ trail_of pass.old.view) }
+        ensures steps { (count_of result.view ≡ count_of pass.old.view)
+            × (trail_of result.view ≡ trail_of pass.old.view) }
         ensures copy { HasCopyOf result.view pass.old.view }
         ensures nothing { result.doing ≡ nothing_done }
-        ensures stands { Stands pass.old.seat (view_of pass.old) → Stands pass.new.seat (view_of pass.new) }
+        ensures stands { Stands pass.old.seat (view_of pass.old)
+            → Stands pass.new.seat (view_of pass.new) }
     {
         let seat = self.split_by(&mut pass.seat);
         WordReaderPass { seat }
@@ -526,17 +569,29 @@ impl WordBoard {
         pass: WordReaderPass,
     ) -> Result<WordReporterPass, TooManyReporters<WordReaderPass>>
         requires { pass.board ≡ self.now }
-        ensures own { MatchResult result (λ enlisted. enlisted.board ≡ self.now) (λ full. full.0.board ≡ self.now) }
-        ensures seat { MatchResult result (λ enlisted. enlisted.seat ≡ pass.seat) (λ full. full.0.seat ≡ pass.seat) }
-        ensures enlisted { IfOk result (λ enlisted. Enlistment (pass_view_of pass.view) (pass_view_of enlisted.view)) }
-        ensures always { IfErr result (λ full. Continues (pass_view_of pass.view) (pass_view_of full.0.view)) }
-        ensures full { IfErr result (λ full. FullBoard (pass_view_of pass.view) (pass_view_of full.0.view)) }
-        ensures trail { MatchResult result (λ enlisted. KeepsTrail pass.view enlisted.view) (λ full. KeepsTrail pass.view full.0.view) }
-        ensures tries { MatchResult result (λ enlisted. EnlistTries pass.view (Some enlisted.view.number) enlisted.view) (λ full. EnlistTries pass.view None full.0.view) }
-        ensures does { MatchResult result (λ enlisted. enlisted.doing ≡ pass.doing) (λ full. full.0.doing ≡ pass.doing) }
+        ensures own { MatchResult result (λ enlisted. enlisted.board ≡ self.now)
+            (λ full. full.0.board ≡ self.now) }
+        ensures seat { MatchResult result (λ enlisted. enlisted.seat ≡ pass.seat)
+            (λ full. full.0.seat ≡ pass.seat) }
+        ensures enlisted { IfOk result
+            (λ enlisted. Enlistment (pass_view_of pass.view) (pass_view_of enlisted.view)) }
+        ensures always { IfErr result
+            (λ full. Continues (pass_view_of pass.view) (pass_view_of full.0.view)) }
+        ensures full { IfErr result
+            (λ full. FullBoard (pass_view_of pass.view) (pass_view_of full.0.view)) }
+        ensures trail { MatchResult result (λ enlisted. KeepsTrail pass.view enlisted.view)
+            (λ full. KeepsTrail pass.view full.0.view) }
+        ensures tries { MatchResult result
+            (λ enlisted. EnlistTries pass.view (Some enlisted.view.number) enlisted.view)
+            (λ full. EnlistTries pass.view None full.0.view) }
+        ensures does { MatchResult result (λ enlisted. enlisted.doing ≡ pass.doing)
+            (λ full. full.0.doing ≡ pass.doing) }
         ensures reported { IfOk result (λ enlisted. WordHasReported enlisted.doing 0) }
-        ensures most { MatchResult result (λ enlisted. count_of enlisted.view ≤ count_of pass.view + 255) (λ full. count_of full.0.view ≤ count_of pass.view + 255) }
-        ensures stands { MatchResult result (λ enlisted. Stands enlisted.seat (view_of enlisted)) (λ full. Stands full.0.seat (view_of full.0)) }
+        ensures most { MatchResult result
+            (λ enlisted. count_of enlisted.view ≤ count_of pass.view + 255)
+            (λ full. count_of full.0.view ≤ count_of pass.view + 255) }
+        ensures stands { MatchResult result (λ enlisted. Stands enlisted.seat (view_of enlisted))
+            (λ full. Stands full.0.seat (view_of full.0)) }
     {
         let WordReaderPass { mut seat } = pass;
         match self.enlist_by(&mut seat) {
@@ -566,7 +621,8 @@ impl WordBoard {
         ensures sound { IsSound (pass_view_of first.old.view) }
         ensures always { Continues (pass_view_of second.old.view) (pass_view_of second.new.view) }
         ensures unchanged { first.new ≡ first.old }
-        ensures meeting { Meeting (pass_view_of first.old.view) (pass_view_of second.old.view) (pass_view_of second.new.view) }
+        ensures meeting { Meeting (pass_view_of first.old.view) (pass_view_of second.old.view)
+            (pass_view_of second.new.view) }
         ensures trail { KeepsTrail second.old.view second.new.view }
         ensures does { second.new.doing ≡ second.old.doing }
         ensures steps { MeetingSteps second.old.view second.new.view }
@@ -592,7 +648,8 @@ impl WordBoard {
         ensures sound { IsSound (pass_view_of first.old.view) }
         ensures always { Continues (pass_view_of second.old.view) (pass_view_of second.new.view) }
         ensures unchanged { first.new ≡ first.old }
-        ensures meeting { Meeting (pass_view_of first.old.view) (pass_view_of second.old.view) (pass_view_of second.new.view) }
+        ensures meeting { Meeting (pass_view_of first.old.view) (pass_view_of second.old.view)
+            (pass_view_of second.new.view) }
         ensures trail { KeepsTrail second.old.view second.new.view }
         ensures does { second.new.doing ≡ second.old.doing }
         ensures steps { MeetingSteps second.old.view second.new.view }
@@ -661,7 +718,8 @@ impl WordBoard {
         ensures own { pass.new.board ≡ self.now }
         ensures seat { pass.new.seat ≡ pass.old.seat }
         ensures always { Continues (pass_view_of pass.old.view) (pass_view_of pass.new.view) }
-        ensures heard { Hearing note.seen (pass_view_of pass.old.view) (pass_view_of pass.new.view) }
+        ensures heard { Hearing note.seen (pass_view_of pass.old.view)
+            (pass_view_of pass.new.view) }
         ensures trail { KeepsTrail pass.old.view pass.new.view }
         ensures does { pass.new.doing ≡ pass.old.doing }
         ensures steps { MeetingSteps pass.old.view pass.new.view }
@@ -686,7 +744,8 @@ impl WordBoard {
         ensures own { pass.new.board ≡ self.now }
         ensures seat { pass.new.seat ≡ pass.old.seat }
         ensures always { Continues (pass_view_of pass.old.view) (pass_view_of pass.new.view) }
-        ensures heard { Hearing note.seen (pass_view_of pass.old.view) (pass_view_of pass.new.view) }
+        ensures heard { Hearing note.seen (pass_view_of pass.old.view)
+            (pass_view_of pass.new.view) }
         ensures trail { KeepsTrail pass.old.view pass.new.view }
         ensures does { pass.new.doing ≡ pass.old.doing }
         ensures steps { MeetingSteps pass.old.view pass.new.view }

@@ -3,7 +3,7 @@
 ghost use Rattle.ucl_words.specs.Laws.{WordsTellTheEntry, BoardsAreRuns, RunsGrow};
 ghost use Rattle.ucl_words.specs.WordSteps.{LogsOneStep};
 
-use crate::rule::{Asking, CountEnlisted, Enlist, First, LastSecond, Look, Second, Swap};
+use crate::rule::{Asking, CountEnlisted, Enlist, First, Look, Second, Swap};
 use crate::view::WordView;
 use atomic_table::Play;
 use ucl_board::Entry;
@@ -34,8 +34,7 @@ pub fn runs_grow()
 pub fn each_step_is_logged<K: Asking>()
     ensures looks { LogsOneStep ⟦<Look<K> as Play<Entry, WordView>>⟧.then }
     ensures first { LogsOneStep ⟦<First as Play<Entry, WordView>>⟧.then }
-    ensures second { LogsOneStep ⟦<Second as Play<Entry, WordView>>⟧.then }
-    ensures last { LogsOneStep ⟦<LastSecond<K> as Play<Entry, WordView>>⟧.then }
+    ensures second { LogsOneStep ⟦<Second<K> as Play<Entry, WordView>>⟧.then }
     ensures swaps { LogsOneStep ⟦<Swap<K> as Play<Entry, WordView>>⟧.then }
     ensures counts { LogsOneStep ⟦<CountEnlisted<K> as Play<Entry, WordView>>⟧.then }
     ensures enlists { LogsOneStep ⟦<Enlist<K> as Play<Entry, WordView>>⟧.then }

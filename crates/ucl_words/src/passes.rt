@@ -22,7 +22,9 @@ impl Model for WordReaderPass {
 
     ghost view = { λ reader. pass_of reader.seat.table_id reader.seat.id reader.seat.me.0 };
 
-    ghost invariant = { λ reader. IsSteady reader.seat.me.0.pass × (reader.seat.me.0.pass.number ≡ 0) × (reader.seat.me.0.doing.held ≡ Nothing) × WordHasReported reader.seat.me.0.doing 0 };
+    ghost invariant = { λ reader. IsSteady reader.seat.me.0.pass
+        × (reader.seat.me.0.pass.number ≡ 0) × (reader.seat.me.0.doing.held ≡ Nothing)
+        × WordHasReported reader.seat.me.0.doing 0 };
 }
 
 impl WordReaderPass {
@@ -47,7 +49,10 @@ impl Model for WordReporterPass {
 
     ghost view = { λ reporter. pass_of reporter.seat.table_id reporter.seat.id reporter.seat.me.0 };
 
-    ghost invariant = { λ reporter. IsSteady reporter.seat.me.0.pass × (reporter.seat.me.0.pass.number ≡ reporter.number) × (length reporter.seat.me.0.pass.mine ≡ reporter.accepted) × (reporter.seat.me.0.doing.held ≡ Nothing) };
+    ghost invariant = { λ reporter. IsSteady reporter.seat.me.0.pass
+        × (reporter.seat.me.0.pass.number ≡ reporter.number)
+        × (length reporter.seat.me.0.pass.mine ≡ reporter.accepted)
+        × (reporter.seat.me.0.doing.held ≡ Nothing) };
 }
 
 impl WordReporterPass {

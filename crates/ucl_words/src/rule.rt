@@ -1,14 +1,15 @@
 //! The rule of the table, and the kinds of its atomic steps. The values named here exist in proofs alone.
 
 ghost use Rattle.ucl_words.specs.WordRule.{TableKeepsOneHistory};
-ghost use Rattle.ucl_words.specs.WordSteps.{LookStep, FirstStep, SecondStep, LastLoadStep, EnlistedStep, ExchangeStep, EnlistStep};
+ghost use Rattle.ucl_words.specs.WordSteps.{LookStep, FirstStep, SecondStep, EnlistedStep, ExchangeStep, EnlistStep};
 ghost use Rattle.ucl_words.specs.WordViews.{new_pass, first_pass, left_pass, second_pass, note_pass, told_pass};
 
 use crate::view::WordView;
 use atomic_table::{Join, Play, Split, TableRule};
 use std::alloc::Global;
-use std::marker::{Brand, PhantomData};
+use std::marker::PhantomData;
 use ucl_board::Entry;
+pub use ucl_shared::Asking;
 
 /// One log of all steps, whose history has the twelve match words and whose reporters are as many as the enlist word says.
 #[derive(Clone, Copy)]
@@ -18,24 +19,6 @@ impl TableRule<Entry, WordView, ()> for OneHistory {
     ghost holds = { λ _. TableKeepsOneHistory };
 
     ghost first = { λ _. first_pass };
-}
-
-/// The event that a report enters, and the seat of the pass that takes a step. Each call picks them.
-pub trait Asking {
-    ghost use Rattle.std.specs.Prelude.{ℕ};
-    ghost use Rattle.ucl_word.specs.declared.event.EventCall.{EventCall};
-
-    ghost call: { EventCall };
-
-    ghost seat: { ℕ };
-}
-
-impl Asking for Brand {
-    ghost use Rattle.ucl_words.specs.WordSteps.{no_call};
-
-    ghost call = { no_call };
-
-    ghost seat = { 0 };
 }
 
 /// A reporter's load of a match word, which begins its call.
@@ -52,18 +35,11 @@ impl Play<Entry, WordView> for First {
     ghost then = { FirstStep };
 }
 
-/// A load of the second collect, before its twelfth.
-pub struct Second;
+/// A load of the second collect.
+pub struct Second<K>(PhantomData<K>);
 
-impl Play<Entry, WordView> for Second {
-    ghost then = { SecondStep };
-}
-
-/// The twelfth load of the second collect.
-pub struct LastSecond<K>(PhantomData<K>);
-
-impl<K: Asking> Play<Entry, WordView> for LastSecond<K> {
-    ghost then = { LastLoadStep K.seat };
+impl<K: Asking> Play<Entry, WordView> for Second<K> {
+    ghost then = { SecondStep K.seat };
 }
 
 /// A load of the enlist word.

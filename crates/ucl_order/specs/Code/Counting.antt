@@ -4,7 +4,7 @@ use Rattle.ucl_order.specs.declared.game.Match.{Match}
 use Rattle.ucl_order.specs.declared.game.Appearance.{Appearance}
 use Rattle.ucl_order.specs.declared.results.Results.{Results}
 use Rattle.ucl_order.specs.Appearances.{seen_by, is_won, is_drawn, is_lost, disciplinary_points}
-use Rattle.ucl_order.specs.Results.{points_for}
+use Rattle.ucl_order.specs.Results.{points_for, points_of_win}
 use Rattle.ucl_order.specs.Order.{is_in}
 
 -- one match more is counted
@@ -27,7 +27,7 @@ worth a = points_for (if is_won a then 1 else 0) (if is_drawn a then 1 else 0)
 
 -- the points that the club is sure of from a match, and the most that it can give
 abbrev pub point_bounds : Bool → Appearance → ℕ × ℕ
-point_bounds over a = if over then (worth a, worth a) else (0, 3)
+point_bounds over a = if over then (worth a, worth a) else (0, points_of_win)
 
 -- no more than a club can do in so many matches, whatever their records hold
 pub record IsWithin (matches : ℕ) (r : Results) : Type 0 where

@@ -1,4 +1,4 @@
-use Rattle.std.proofs.Common.{◌≡◌, ◌<◌, ◌≤◌, length, arith, sym}
+use Rattle.std.proofs.Common.{◌<◌, ◌≤◌, length, arith, sym}
 use Rattle.ucl_board.specs.History.{after_attempt}
 use Rattle.ucl_runs.specs.Feed.{attempt_of}
 use Rattle.ucl_runs.proofs.RunFacts.{version-bound}

@@ -1,4 +1,4 @@
-use Rattle.std.proofs.Common.{◌≡◌, List, [], ◌+◌, ◌++◌, drop, map, take}
+use Rattle.std.proofs.Common.{◌≡◌, List, ◌+◌, ◌++◌, drop, map, take}
 use Rattle.std.specs.List.{fold}
 use Rattle.ucl_board.specs.declared.entry.Entry.{Entry}
 use Rattle.ucl_board.specs.History.{accepted_of, after_attempt}

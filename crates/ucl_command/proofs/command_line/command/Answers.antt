@@ -20,10 +20,10 @@ no_global is old arg = is ∙ ap₂ (λ (a b : Bool). a || b) old arg
 pub returns : goal.returns
 returns c =
     let t : Tables = record {
-      groups = c.as_slice-letters.result;
-      orders = c.as_slice-orders.result;
-      groups_are = ap (map (λ s. s.now)) c.as_slice-letters.ensures;
-      orders_are = ap (map (λ s. s.now)) c.as_slice-orders.ensures;
+      groups = c.group_names-letters.result;
+      orders = c.order_names-orders.result;
+      groups_are = c.group_names-letters.ensures;
+      orders_are = c.order_names-orders.ensures;
     } in
     let feed_is : app_of c.after_help-feed.result ≡ new_app (codes "feed") =
     ap app_of_fields c.after_help-feed.ensures ∙ (ap app_of_fields c.about.ensures ∙ c.new.ensures.app) in

@@ -4,7 +4,7 @@ use Rattle.std.specs.Str.Parse.{ParsesUnsigned, ExplainsUnsignedError, HasUnsign
 use Rattle.clap.specs.Words.{one_text, found_of}
 use Rattle.clap.proofs.WalkLemmas.{one_text-rows}
 use Rattle.ucl_command.specs.CommandLine.{number_named}
-use Rattle.ucl_command.proofs.Matches.{number_is, then_some_is, up_to_most}
+use Rattle.ucl_command.proofs.NumbersRead.{number_is, then_some_is, up_to_most}
 use Rattle.ucl_command.proofs.command_line.readings_of.Goals as goal
 
 pub returns-in_err-readings : goal.returns-in_err-readings

@@ -13,6 +13,8 @@ returns g c =
     let right = last_shown end.last 1 in
     let closing = string_bytes end.closing in
     let is =
-    played c.args.profile known (night_seen c.in_ok-night.night) c.args.group c.args.readings _ _ _ left right closing c.in_ok-night.ensures.reads.1 told.duty told.apart told.merge (looked _ _ _ _ _ _ _ _ told.shown_1) (looked _ _ _ _ _ _ _ _ told.shown_2)
+    played c.args.profile known (night_seen c.in_ok-night.night) c.args.group c.args.readings _ _ _ left right closing c.in_ok-night.ensures.reads.1 told.duty told.apart told.merge
+    (looked _ _ _ _ _ _ _ _ told.shown_1) (looked _ _ _ _ _ _ _ _ told.shown_2)
     (closing-of c.args.profile end.settled _ _ _ _ told.settled told.closing) in
-    put c.args.profile c.args.group c.args.readings known _ (g.W.Sink.taken c.args.sink.now) _ _ (night_text left right closing) _ _ _ c.in_ok-played.played.written c.in_ok-night.ensures.reads.0 is told.all told.part
+    put c.args.profile c.args.group c.args.readings known _ (g.W.Sink.taken c.args.sink.now) _ _
+    (night_text left right closing) _ _ _ c.in_ok-played.played.written c.in_ok-night.ensures.reads.0 is told.all told.part

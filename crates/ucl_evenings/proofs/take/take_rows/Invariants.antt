@@ -3,6 +3,7 @@ use Rattle.std.specs.Io.KnownBytes.{Consumes}
 use Rattle.ucl_answers.specs.Lines.{begun_line, ended_lines}
 use Rattle.ucl_answers.specs.Wires.{AskedMore}
 use Rattle.ucl_evenings.specs.declared.went.Went.{Went}
+use Rattle.ucl_evenings.specs.Reporting.{RangFor}
 use Rattle.ucl_evenings.specs.Rows.{AreAnsweredSo, IsAnsweredUpTo}
 use Rattle.ucl_evenings.proofs.take.take_rows.Given as goal
 
@@ -22,13 +23,15 @@ invariant-pieces g l =
       begun : l.rows.begun.items ≡ begun_line [] bytes;
       row : l.rows.row ≡ 1 + length (ended_lines [] bytes);
       answered : AreAnsweredSo (known l.initial.pass) (known l.pass) (reports l.initial.pass) (reports l.pass) 1 (ended_lines [] bytes) went
-          0 l.rows.written (taken l.initial.wire.sink) (taken l.wire.sink);
+          0 l.rows.written (taken l.initial.wire.sink.sink) (taken l.wire.sink.sink);
       asked : AskedMore l.initial.wire.asked.times l.wire.asked.times (g.S.Source.calls l.initial.wire.source) (g.S.Source.calls l.wire.source)
-          (λ time. IsAnsweredUpTo went (left l.initial.wire.source) (left time.0) (taken l.initial.wire.sink) (taken time.1));
+          (λ time. IsAnsweredUpTo went (left l.initial.wire.source) (left time.0) (taken l.initial.wire.sink.sink) (taken time.1.sink)
+          (g.V.Ring.rung l.initial.wire.sink.bells) (g.V.Ring.rung time.1.bells));
+      rang : RangFor (known l.initial.pass) (known l.pass) (g.V.Ring.rung l.initial.wire.sink.bells) (g.V.Ring.rung l.wire.sink.bells);
       source_sound : (l.read ≡ 0) ⊎ (g.S.Source.failed l.wire.source ≡ false);
       vain : g.S.Source.in_vain l.wire.source ≡ g.S.Source.in_vain l.initial.wire.source;
-      sink_sound : g.W.Sink.failed l.wire.sink ≡ g.W.Sink.failed l.initial.wire.sink;
-      sink_vain : g.W.Sink.in_vain l.wire.sink ≡ g.W.Sink.in_vain l.initial.wire.sink;
+      sink_sound : g.W.Sink.failed l.wire.sink.sink ≡ g.W.Sink.failed l.initial.wire.sink.sink;
+      sink_vain : g.W.Sink.in_vain l.wire.sink.sink ≡ g.W.Sink.in_vain l.initial.wire.sink.sink;
     }
 
 abbrev pub decreases-pieces : goal.decreases-pieces

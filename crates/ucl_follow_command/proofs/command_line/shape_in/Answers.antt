@@ -2,7 +2,7 @@ use Rattle.std.proofs.Common.{◌≡◌, subst, codes, Option}
 use Rattle.clap.specs.Words.{Text, found_of, one_of, rows_of}
 use Rattle.clap.proofs.WalkLemmas.{one_text-rows}
 use Rattle.ucl_live_command.specs.CommandLine.{format_in}
-use Rattle.ucl_live_command.proofs.Choices.{IsFlag}
+use Rattle.ucl_program.proofs.Named.{IsFlag}
 use Rattle.ucl_follow_command.proofs.Shapes.{shape_is}
 use Rattle.ucl_follow_command.proofs.command_line.shape_in.Goals as goal
 

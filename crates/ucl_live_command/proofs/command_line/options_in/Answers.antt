@@ -2,8 +2,9 @@ use Rattle.std.proofs.Common.{subst, codes, Option}
 use Rattle.clap.specs.Words.{Text, found_of, one_of, rows_of}
 use Rattle.clap.proofs.WalkLemmas.{one_text-rows}
 use Rattle.ucl_program.specs.Options.{group_in, order_in}
+use Rattle.ucl_program.proofs.Named.{IsFlag}
 use Rattle.ucl_live_command.specs.CommandLine.{format_in}
-use Rattle.ucl_live_command.proofs.Choices.{IsFlag, all_named}
+use Rattle.ucl_live_command.proofs.Choices.{all_named}
 use Rattle.ucl_live_command.proofs.command_line.options_in.Goals as goal
 
 pub returns : goal.returns

@@ -5,11 +5,5 @@ use Rattle.ucl_live_command.proofs.evening.run_evening.Goals as goal
 pub returns-in-Ok : goal.returns-in-Ok
 returns-in-Ok g c = search rules
 
-pub returns-in-Err-Help : goal.returns-in-Err-Help
-returns-in-Err-Help g c = search rules
-
-pub returns-in-Err-Refused : goal.returns-in-Err-Refused
-returns-in-Err-Refused g c = search rules
-
-pub returns-in-Err-OutOfMemory : goal.returns-in-Err-OutOfMemory
-returns-in-Err-OutOfMemory g c = search rules
+pub returns-in-Err : goal.returns-in-Err
+returns-in-Err g c = search rules

@@ -1,12 +1,12 @@
-use Rattle.ucl_order.specs.Matches.{matches_of, started}
+use Rattle.ucl_order.specs.Matches.{started_of}
 use Rattle.ucl_order.proofs.Rankings.{by_points_total, head_to_head_total, overall_total}
 use Rattle.ucl_order.proofs.TieBreaks.{overall-same}
 use Rattle.ucl_order.proofs.laws.rankings_are_orders.Goals as goal
 
 pub returns : goal.returns
 returns c profile board roster = record {
-  points = by_points_total (started (matches_of board));
-  among_some = λ clubs. head_to_head_total profile (started (matches_of board)) clubs;
-  by_all = overall_total (started (matches_of board)) roster;
-  decided = λ a b h. overall-same (started (matches_of board)) roster a b h;
+  points = by_points_total (started_of board);
+  among_some = λ clubs. head_to_head_total profile (started_of board) clubs;
+  by_all = overall_total (started_of board) roster;
+  decided = λ a b h. overall-same (started_of board) roster a b h;
 }

@@ -1,32 +1,33 @@
 use Rattle.std.proofs.Common.{◌≡◌, ◌∙◌, ap, refl, sym, subst, All, List, map}
-use Rattle.std.proofs.lemmas.List.Elements.{All-filter, All-same}
+use Rattle.std.proofs.lemmas.List.Elements.{All-same}
 use Rattle.ucl_order.specs.declared.game.Match.{Match}
 use Rattle.ucl_word.specs.Record.{IsValid}
-use Rattle.ucl_order.specs.Matches.{IsPairing, has_started, matches_of, started}
+use Rattle.ucl_order.specs.Matches.{matches_of, started, started_of}
 use Rattle.ucl_order.specs.Marks.{mark_by}
 use Rattle.ucl_order.specs.Code.Rounds.{results_of_clubs}
 use Rattle.ucl_order.specs.Order.{order_of}
 use Rattle.ucl_order.specs.Rows.{rows_of, row_of, IsWithinTable, MarkIsCertain}
-use Rattle.ucl_order.proofs.KeysFit.{started_is}
 use Rattle.ucl_order.proofs.Limits.{rows_within}
 use Rattle.ucl_order.proofs.TableRows.{all_certain, four_rows, order_is, row_of_place}
 use Rattle.ucl_order.proofs.table.standings.Goals as goal
 
-pub of_clubs-results-requires-clause-pairings : goal.of_clubs-results-requires-clause-pairings
-of_clubs-results-requires-clause-pairings c =
-    let P : List Match → Type 0 = All IsPairing in
-    let same : c.deref-2.result.now ≡ started c.fill_matches.new.matches.items = c.deref-2.ensures.0 ∙ c.fill_started.ensures ∙ ap started c.deref.ensures.0 in
-    subst P (sym same) (All-filter has_started IsPairing c.fill_matches.new.matches.items c.fill_matches.ensures.pairings)
+pub order-order-requires-clause-started : goal.order-order-requires-clause-started
+order-order-requires-clause-started c = record {
+  board = c.args.board.now;
+  valid = (let P : List Match → Type 0 = All (λ m. IsValid m.result) in subst P c.fill_matches.ensures.value c.fill_matches.ensures.valid);
+  are = ap started (c.deref-2.ensures.0 ∙ c.fill_matches.ensures.value);
+}
+
+pub order-order-requires-clause-results : goal.order-order-requires-clause-results
+order-order-requires-clause-results c = c.of_clubs-results.ensures.value ∙ ap (λ m. results_of_clubs (started m)) (c.deref.ensures.0 ∙ sym c.deref-2.ensures.0)
 
 pub returns-clause-rows : goal.returns-clause-rows
 returns-clause-rows c =
     let ms : List Match = c.fill_matches.new.matches.items in
-    let order : c.order-order.result ≡ order_of c.args.profile c.args.board.now c.args.roster.now =
-    order_is c.args.profile c.args.board.now c.args.roster.now c.deref-3.result.now c.order-order.result
-    (started_is c.args.board.now c.fill_matches.new.matches.items c.deref.result.now c.fill_started.new.chosen.items c.deref-3.result.now c.fill_matches.ensures.value c.deref.ensures.0 c.fill_started.ensures c.deref-3.ensures.0)
-    c.order-order.ensures.value in
-    let marks = c.marks_of-marks.ensures ∙ ap (λ m. map (mark_by m c.order-order.result) c.order-order.result) c.deref-4.ensures.0 in
-    let results = c.of_clubs-results.ensures.value ∙ ap results_of_clubs (c.deref-2.ensures.0 ∙ c.fill_started.ensures ∙ ap started c.deref.ensures.0) in
+    let order : c.order-order.result ≡ order_of c.args.profile (started_of c.args.board.now) c.args.roster.now =
+    order_is c.args.profile c.args.board.now c.args.roster.now (started c.deref-2.result.now) c.order-order.result (ap started (c.deref-2.ensures.0 ∙ c.fill_matches.ensures.value)) c.order-order.ensures.value in
+    let marks = c.marks_of-marks.ensures ∙ ap (λ m. map (mark_by m c.order-order.result) c.order-order.result) c.deref-3.ensures.0 in
+    let results = c.of_clubs-results.ensures.value ∙ ap (λ m. results_of_clubs (started m)) c.deref.ensures.0 in
     let first : c.row_at.result ≡ row_of c.args.profile c.args.board.now c.args.roster.now 1 =
     row_of_place c.args.profile c.args.board.now c.args.roster.now 1 ms ms c.order-order.result c.row_at.result c.fill_matches.ensures.value refl order (c.row_at.ensures ms marks results) in
     let second : c.row_at-2.result ≡ row_of c.args.profile c.args.board.now c.args.roster.now 2 =

@@ -5,7 +5,11 @@ use Rattle.ucl_board.proofs.board.Board.of_words.Goals as goal
 use Rattle.ucl_board.proofs.board.Board.of_words.Goals.{After-loop-i}
 
 pub loop-i-preserved : goal.loop-i-preserved
-loop-i-preserved c = (length-set c.loop-i.read _ _ ∙ c.loop-i.invariant.0, next_read c.args.words.now c.loop-i.read c.loop-i.i _ c.from-in-Ok.result c.in-Ok.word c.loop-i.invariant.0 (omega arith) c.from.ensures c.from-in-Ok.ensures c.loop-i.invariant.1 c.in-Ok.ensures.read)
+loop-i-preserved c = (
+  length-set c.loop-i.read _ _ ∙ c.loop-i.invariant.0,
+  next_read c.args.words.now c.loop-i.read c.loop-i.i _ c.from-in-Ok.result c.in-Ok.word c.loop-i.invariant.0 (omega arith)
+      c.from.ensures c.from-in-Ok.ensures c.loop-i.invariant.1 c.in-Ok.ensures.read,
+)
 
 pub invariant_of-result : goal.invariant_of-result
 invariant_of-result c = are_words c.args.words.now c.loop-i.read (omega arith) c.loop-i.invariant.0 (λ k below. c.loop-i.invariant.1 k (omega arith))

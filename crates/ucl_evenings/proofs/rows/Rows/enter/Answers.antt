@@ -5,6 +5,7 @@ use Rattle.ucl_answers.specs.Lines.{begun_line, ended_lines}
 use Rattle.ucl_answers.proofs.Moments.{begun-none, ended-none}
 use Rattle.ucl_evenings.proofs.ByteLines.{begun_next, ended_next, few_lines}
 use Rattle.ucl_evenings.proofs.Bytes.{byte_answered, byte_fails}
+use Rattle.ucl_evenings.proofs.Events.{rang_none, rang_then}
 use Rattle.ucl_evenings.proofs.Lines.{answered_none}
 use Rattle.ucl_evenings.proofs.rows.Rows.enter.Goals as goal
 
@@ -23,6 +24,7 @@ loop-b-init g c =
             (g.W.Sink.taken c.args.sink.now) c.requires.sound c.requires.bound,
       );
       sound = refl;
+      rang = rang_none (g.B.LiveBoard.reporter c.args.pass.now) (g.V.Ring.rung c.args.bells.now);
       vain = refl;
     }
 
@@ -60,6 +62,12 @@ returns-in_err-enter_byte-clause-vain g c =
     let s = rw c.loop-b.invariant.vain at c.in_err-enter_byte.ensures.vain in
     rw p.1 s
 
+pub returns-in_err-enter_byte-clause-rang : goal.returns-in_err-enter_byte-clause-rang
+returns-in_err-enter_byte-clause-rang g c =
+    let known = g.B.LiveBoard.reporter in
+    rang_then (known c.args.pass.now) (known c.loop-b.pass) (known c.enter_byte.new.pass) (g.V.Ring.rung c.args.bells.now) (g.V.Ring.rung c.loop-b.bells)
+    (g.V.Ring.rung c.enter_byte.new.bells) c.loop-b.invariant.rang c.enter_byte.ensures.rang
+
 pub loop-b-preserved : goal.loop-b-preserved
 loop-b-preserved g c =
     let so_far = c.loop-b.invariant in
@@ -84,5 +92,7 @@ loop-b-preserved g c =
           c.args.self.now.row i line bytes c.args.self.now.written c.loop-b.self.written (taken c.args.sink.now) (taken c.loop-b.sink) (taken c.enter_byte.new.sink)
           c.loop-b-test.true so_far.answered c.loop-b.self.begun.items c.loop-b.self.row so_far.begun so_far.row c.enter_byte.new.self.written new.answered;
       sound = new.sink_sound ∙ so_far.sound;
+      rang = rang_then (known c.args.pass.now) (known c.loop-b.pass) (known c.enter_byte.new.pass) (g.V.Ring.rung c.args.bells.now) (g.V.Ring.rung c.loop-b.bells)
+          (g.V.Ring.rung c.enter_byte.new.bells) so_far.rang c.enter_byte.ensures.rang;
       vain = new.vain ∙ so_far.vain;
     }

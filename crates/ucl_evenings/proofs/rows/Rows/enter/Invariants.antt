@@ -1,5 +1,6 @@
 use Rattle.std.proofs.Common.{◌≡◌, ◌≤◌, ◌+◌, length, take}
 use Rattle.ucl_answers.specs.Lines.{begun_line, ended_lines}
+use Rattle.ucl_evenings.specs.Reporting.{RangFor}
 use Rattle.ucl_evenings.specs.Rows.{AreAnswered}
 use Rattle.ucl_evenings.proofs.rows.Rows.enter.Given as goal
 
@@ -18,5 +19,6 @@ invariant-loop-b g l =
       answered : AreAnswered (known l.initial.pass) (known l.pass) (reports l.initial.pass) (reports l.pass) l.initial.self.row (ended_lines at bytes)
           l.initial.self.written l.self.written (taken l.initial.sink) (taken l.sink);
       sound : g.W.Sink.failed l.sink ≡ g.W.Sink.failed l.initial.sink;
+      rang : RangFor (known l.initial.pass) (known l.pass) (g.V.Ring.rung l.initial.bells) (g.V.Ring.rung l.bells);
       vain : g.W.Sink.in_vain l.sink ≡ g.W.Sink.in_vain l.initial.sink;
     }

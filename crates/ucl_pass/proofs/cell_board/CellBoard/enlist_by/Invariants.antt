@@ -1,7 +1,7 @@
 use Rattle.std.proofs.Common.{◌≡◌}
 use Rattle.std.specs.Prelude.{IsSome}
 use Rattle.ucl_pass.specs.CellViews.{knows, calls_at}
-use Rattle.ucl_pass.specs.CellSteps.{asks_nothing}
+use Rattle.ucl_shared.specs.Steps.{no_call}
 use Rattle.ucl_pass.proofs.Calls.{TriedEnlist}
 use Rattle.ucl_pass.proofs.cell_board.CellBoard.enlist_by.Given as goal
 
@@ -17,7 +17,7 @@ invariant-retry g l = record {
 }
 
 abbrev pub ghosts-count : goal.ghosts-count
-ghosts-count g a = record { call = asks_nothing; seat = a.seat.now.id }
+ghosts-count g a = record { call = no_call; seat = a.seat.now.id }
 
 abbrev pub ghosts-store_reporter : goal.ghosts-store_reporter
-ghosts-store_reporter g a = record { call = asks_nothing; seat = a.seat.now.id }
+ghosts-store_reporter g a = record { call = no_call; seat = a.seat.now.id }

@@ -19,7 +19,8 @@ join_pass-requires g c = (
     search rules,
     (
       search rules,
-      subst (λ (n : CellView). Merges CellKeepsOneHistory c.args.seat.now.id (cell_view c.args.seat.now) c.args.note.id n (told_cell_pass (cell_view c.args.seat.now) n) new_cell_pass) (sym c.requires.note.0)
+      subst (λ (n : CellView). Merges CellKeepsOneHistory c.args.seat.now.id (cell_view c.args.seat.now) c.args.note.id n (told_cell_pass (cell_view c.args.seat.now) n) new_cell_pass)
+          (sym c.requires.note.0)
           (joins _ _ _ (cell_view c.args.note)),
     ),
   ),

@@ -12,4 +12,5 @@ hear_by-requires-clause-note g c = (subst IsCellNote (sym c.note_by-note.ensures
 
 pub returns-clause-meeting : goal.returns-clause-meeting
 returns-clause-meeting g c =
-    subst (λ (l : List Entry). Hearing l (pass_view_of (knows c.args.second.now)) (pass_view_of (knows c.hear_by.new.seat))) (ap (λ (z : CellView). z.pass.seen) c.note_by-note.ensures.given.1) c.hear_by.ensures.heard
+    subst (λ (l : List Entry). Hearing l (pass_view_of (knows c.args.second.now)) (pass_view_of (knows c.hear_by.new.seat))) (ap (λ (z : CellView). z.pass.seen) c.note_by-note.ensures.given.1)
+    c.hear_by.ensures.heard

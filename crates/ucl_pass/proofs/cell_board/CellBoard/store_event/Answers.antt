@@ -29,17 +29,21 @@ returns-clause-stored g c =
     let v = cell_view c.args.seat.now in
     let w = cell_view c.compare_exchange_as.new.pass in
     add_says _ v.pass w.pass c.args.current c.args.next c.compare_exchange_as.result c.requires.next
-    (add_seen c.args.call.now v w c.args.current c.args.next c.compare_exchange_as.result (subst (λ (e : EventCall). AnswersAdd e v c.args.current c.args.next c.compare_exchange_as.result w) c.requires.asks (told_by _ (AddOfCell _) v w c.args.current c.args.next c.compare_exchange_as.result c.compare_exchange_as.ensures.rule)))
+    (add_seen c.args.call.now v w c.args.current c.args.next c.compare_exchange_as.result
+    (subst (λ (e : EventCall). AnswersAdd e v c.args.current c.args.next c.compare_exchange_as.result w) c.requires.asks
+    (told_by _ (AddOfCell _) v w c.args.current c.args.next c.compare_exchange_as.result c.compare_exchange_as.ensures.rule)))
 
 pub returns-clause-decides : goal.returns-clause-decides
 returns-clause-decides g c =
     let v = cell_view c.args.seat.now in
     let w = cell_view c.compare_exchange_as.new.pass in
     add_decides c.args.call.now v w c.args.current c.args.next c.compare_exchange_as.result c.requires.next
-    (subst (λ (e : EventCall). AnswersAdd e v c.args.current c.args.next c.compare_exchange_as.result w) c.requires.asks (told_by _ (AddOfCell _) v w c.args.current c.args.next c.compare_exchange_as.result c.compare_exchange_as.ensures.rule))
+    (subst (λ (e : EventCall). AnswersAdd e v c.args.current c.args.next c.compare_exchange_as.result w) c.requires.asks
+    (told_by _ (AddOfCell _) v w c.args.current c.args.next c.compare_exchange_as.result c.compare_exchange_as.ensures.rule))
 
 pub returns-clause-stands : goal.returns-clause-stands
 returns-clause-stands g c =
     let v = cell_view c.args.seat.now in
     let w = cell_view c.compare_exchange_as.new.pass in
-    stands_on _ c.args.seat.now.id c.compare_exchange_as.new.pass.id w c.requires.place c.compare_exchange_as.ensures.cell.1 (stands_by _ (AddOfCell _) v w c.args.current c.args.next c.compare_exchange_as.result c.compare_exchange_as.ensures.rule)
+    stands_on _ c.args.seat.now.id c.compare_exchange_as.new.pass.id w c.requires.place c.compare_exchange_as.ensures.cell.1
+    (stands_by _ (AddOfCell _) v w c.args.current c.args.next c.compare_exchange_as.result c.compare_exchange_as.ensures.rule)

@@ -26,4 +26,5 @@ pub returns-clause-stands : goal.returns-clause-stands
 returns-clause-stands g c =
     let v = cell_view c.args.seat.now in
     let w = cell_view c.compare_exchange_as.new.pass in
-    stands_on _ c.args.seat.now.id c.compare_exchange_as.new.pass.id w c.requires.place c.compare_exchange_as.ensures.cell.1 (stands_by _ EnlistOfCell v w c.args.current c.args.next c.compare_exchange_as.result c.compare_exchange_as.ensures.rule)
+    stands_on _ c.args.seat.now.id c.compare_exchange_as.new.pass.id w c.requires.place c.compare_exchange_as.ensures.cell.1
+    (stands_by _ EnlistOfCell v w c.args.current c.args.next c.compare_exchange_as.result c.compare_exchange_as.ensures.rule)

@@ -16,7 +16,8 @@ pub invariant_of-result : goal.invariant_of-result
 invariant_of-result g c = subst IsReader (sym (ap (λ (z : CellView). z.pass) c.split_seat-seat.ensures.given.1)) (sound_second (knows c.pass.inside.seat) c.pass.invariant.0, refl, refl)
 
 pub invariant_of-pass : goal.invariant_of-pass
-invariant_of-pass g c = subst IsReader (sym (ap (λ (z : CellView). z.pass) c.split_seat-seat.ensures.kept)) (sound_kept (knows c.pass.inside.seat) c.pass.invariant.0, c.pass.invariant.1, c.pass.invariant.2)
+invariant_of-pass g c = subst IsReader (sym (ap (λ (z : CellView). z.pass) c.split_seat-seat.ensures.kept))
+    (sound_kept (knows c.pass.inside.seat) c.pass.invariant.0, c.pass.invariant.1, c.pass.invariant.2)
 
 pub returns-clause-stands : goal.returns-clause-stands
 returns-clause-stands g c was = c.split_seat-seat.ensures.stands (subst PassStands (sym c.pass.view_is) was)

@@ -23,6 +23,8 @@ returns c =
     let call = c.in-Some-Answered.call in
     let calls = c.args.self.now.calls.items in
     let l = call_below (state_of c.args.self.now) c.requires c.args.caller c.held-held.result c.held-held.ensures (has.Answered c.in-Some-Answered.call) c.in-Some-Answered.call is refl in
-    step_is (End c.args.caller) (state_of c.args.self.now) (state_of c.hold.new.self) (Answered call) (holds (state_of c.args.self.now) c.requires c.args.caller c.held-held.result c.held-held.ensures (has.Answered c.in-Some-Answered.call) is)
+    step_is (End c.args.caller) (state_of c.args.self.now) (state_of c.hold.new.self) (Answered call)
+    (holds (state_of c.args.self.now) c.requires c.args.caller c.held-held.result c.held-held.ensures (has.Answered c.in-Some-Answered.call) is)
     (ap Some (sym (c.hold.ensures ∙ ap (λ (cs : List CallRecord). with_held Idle c.args.caller (record (state_of c.args.self.now) { calls = cs }))
-    (ap (λ (n : ℕ). set calls call (with_end n c.index-record.result.now)) c.now.ensures ∙ set-change_at calls call c.index-record.result.now (with_end (length c.args.self.now.history.items)) l c.index-record.ensures))))
+    (ap (λ (n : ℕ). set calls call (with_end n c.index-record.result.now)) c.now.ensures
+    ∙ set-change_at calls call c.index-record.result.now (with_end (length c.args.self.now.history.items)) l c.index-record.ensures))))

@@ -20,7 +20,8 @@ add_reporter-found-requires-clause-next c = ap (λ (d : Doing). d.held) c.tries.
 pub returns-then-found-known-clause-steady : goal.returns-then-found-known-clause-steady
 returns-then-found-known-clause-steady c =
     let same = c.if-found-known.true in
-    won_steady c.args.seat.now.me.0.pass c.tries.seat.me.0.pass c.add_reporter-found.new.seat.me.0.pass c.tries.known c.add_reporter-found.result c.tries.invariant.missed (let test = c.tries-test.true in omega arith) same (c.add_reporter-found.ensures.won same)
+    won_steady c.args.seat.now.me.0.pass c.tries.seat.me.0.pass c.add_reporter-found.new.seat.me.0.pass c.tries.known c.add_reporter-found.result c.tries.invariant.missed
+    (let test = c.tries-test.true in omega arith) same (c.add_reporter-found.ensures.won same)
 
 pub returns-then-found-known-clause-enlisted : goal.returns-then-found-known-clause-enlisted
 returns-then-found-known-clause-enlisted c =
@@ -36,12 +37,14 @@ returns-then-found-known-clause-enlisted c =
 pub returns-then-found-known-clause-trail : goal.returns-then-found-known-clause-trail
 returns-then-found-known-clause-trail c =
     let same = c.if-found-known.true in
-    won_trail c.args.seat.now.me.0.pass c.tries.seat.me.0.pass c.add_reporter-found.new.seat.me.0.pass c.tries.known c.add_reporter-found.result c.tries.invariant.missed (let test = c.tries-test.true in omega arith) same (c.add_reporter-found.ensures.won same)
+    won_trail c.args.seat.now.me.0.pass c.tries.seat.me.0.pass c.add_reporter-found.new.seat.me.0.pass c.tries.known c.add_reporter-found.result c.tries.invariant.missed
+    (let test = c.tries-test.true in omega arith) same (c.add_reporter-found.ensures.won same)
 
 pub tries-smaller : goal.tries-smaller
 tries-smaller c =
     let other = c.if-found-known.false in
-    let t = missed_higher c.args.seat.now.me.0.pass c.tries.seat.me.0.pass c.add_reporter-found.new.seat.me.0.pass c.tries.known c.add_reporter-found.result c.tries.invariant.missed other (c.add_reporter-found.ensures.missed other) in
+    let t = missed_higher c.args.seat.now.me.0.pass c.tries.seat.me.0.pass c.add_reporter-found.new.seat.me.0.pass c.tries.known c.add_reporter-found.result c.tries.invariant.missed other
+    (c.add_reporter-found.ensures.missed other) in
     omega (arith, t.0, t.1)
 
 pub tries-preserved : goal.tries-preserved
@@ -80,8 +83,10 @@ pub returns-then-found-known-clause-tries : goal.returns-then-found-known-clause
 returns-then-found-known-clause-tries c =
     let same = c.if-found-known.true in
     tries_told c.args.seat.now.me.0.pass c.add_reporter-found.new.seat.me.0.pass c.new.result _
-    (won_number c.args.seat.now.me.0.pass c.tries.seat.me.0.pass c.add_reporter-found.new.seat.me.0.pass c.tries.known c.add_reporter-found.result c.tries.invariant.missed (let test = c.tries-test.true in omega arith) same (c.add_reporter-found.ensures.won same))
-    (won_tries c.args.seat.now.me.0.pass c.tries.seat.me.0.pass c.add_reporter-found.new.seat.me.0.pass c.tries.known c.add_reporter-found.result c.tries.invariant.missed (let test = c.tries-test.true in omega arith) same (c.add_reporter-found.ensures.won same)) c.new.ensures.value
+    (won_number c.args.seat.now.me.0.pass c.tries.seat.me.0.pass c.add_reporter-found.new.seat.me.0.pass c.tries.known c.add_reporter-found.result c.tries.invariant.missed
+    (let test = c.tries-test.true in omega arith) same (c.add_reporter-found.ensures.won same))
+    (won_tries c.args.seat.now.me.0.pass c.tries.seat.me.0.pass c.add_reporter-found.new.seat.me.0.pass c.tries.known c.add_reporter-found.result c.tries.invariant.missed
+    (let test = c.tries-test.true in omega arith) same (c.add_reporter-found.ensures.won same)) c.new.ensures.value
     (c.new.ensures.exists.1 (let test = c.tries-test.true in (omega arith, omega arith)))
 
 pub returns-clause-tries : goal.returns-clause-tries

@@ -11,4 +11,5 @@ hear_by-requires-clause-note c = (note_is c.args.first.now.me.0 _ c.note_by-note
 
 pub returns-clause-meeting : goal.returns-clause-meeting
 returns-clause-meeting c =
-    subst (λ (l : List Entry). Hearing l (pass_view_of c.args.second.now.me.0.pass) (pass_view_of c.hear_by.new.seat.me.0.pass)) (note_seen c.args.first.now.me.0 _ c.note_by-note.ensures.given.0) c.hear_by.ensures.heard
+    subst (λ (l : List Entry). Hearing l (pass_view_of c.args.second.now.me.0.pass) (pass_view_of c.hear_by.new.seat.me.0.pass)) (note_seen c.args.first.now.me.0 _ c.note_by-note.ensures.given.0)
+    c.hear_by.ensures.heard

@@ -1,7 +1,7 @@
 use Rattle.std.proofs.Common.{length, inl, ◌∙◌, refl, sym, ap, arith}
 use Rattle.ucl_board.specs.History.{reading_of}
 use Rattle.ucl_board.proofs.Beginnings.{begins_length}
-use Rattle.ucl_words.proofs.CollectFacts.{has_collected, tried_none, tried_longer, tried_again, are_words, reads}
+use Rattle.ucl_words.proofs.CollectFacts.{tried_none, tried_longer, tried_again, are_words, reads}
 use Rattle.ucl_words.proofs.DoingFacts.{tries_may, tries_held, tries_again, tries_clean}
 use Rattle.ucl_steps.specs.declared.step.Call.TheVariants as calls
 use Rattle.ucl_words.proofs.AlongFacts.{along_none, along_on}
@@ -16,52 +16,67 @@ collect-words-requires-clause-steady c = c.tries.invariant.tried.walks.steady
 pub is_clean-requires-clause-steady : goal.is_clean-requires-clause-steady
 is_clean-requires-clause-steady c = c.collect-words.ensures.collects.walks.steady
 
-pub is_clean-requires-clause-collected : goal.is_clean-requires-clause-collected
-is_clean-requires-clause-collected c = has_collected c.tries.seat.me.0.pass c.collect-words.new.seat.me.0.pass c.collect-words.result c.collect-words.ensures.collects
-
 pub of_packed-requires : goal.of_packed-requires
-of_packed-requires c = are_words c.tries.seat.me.0.pass c.collect-words.new.seat.me.0.pass c.is_clean.new.seat.me.0.pass c.collect-words.result c.collect-words.ensures.long c.collect-words.ensures.collects c.if-is_clean.ensures.compared
+of_packed-requires c = are_words c.tries.seat.me.0.pass c.collect-words.new.seat.me.0.pass c.is_clean.new.seat.me.0.pass c.collect-words.result c.collect-words.ensures.long
+    c.collect-words.ensures.collects c.if-is_clean.ensures.compared
 
 pub tries-smaller : goal.tries-smaller
 tries-smaller c =
-    let t = tried_longer c.tries.seat.me.0.pass c.collect-words.new.seat.me.0.pass c.is_clean.new.seat.me.0.pass c.collect-words.result c.collect-words.ensures.collects c.if-is_clean.ensures.compared in
+    let t = tried_longer c.tries.seat.me.0.pass c.collect-words.new.seat.me.0.pass c.is_clean.new.seat.me.0.pass c.collect-words.result c.collect-words.ensures.collects
+    c.if-is_clean.ensures.compared in
     omega (arith, t.0, t.1)
 
 pub tries-preserved : goal.tries-preserved
 tries-preserved c = record {
   same = c.is_clean.ensures.own ∙ (c.collect-words.ensures.own ∙ c.tries.invariant.same);
   place = c.is_clean.ensures.seat ∙ (c.collect-words.ensures.seat ∙ c.tries.invariant.place);
-  tried = tried_again c.tries.seat.me.0.pass c.collect-words.new.seat.me.0.pass c.is_clean.new.seat.me.0.pass c.collect-words.result c.collect-words.ensures.collects c.if-is_clean.ensures.compared c.args.seat.now.me.0.pass c.tries.invariant.tried;
-  does = tries_again (length c.args.seat.now.me.0.pass.seen) c.args.seat.now.me.0.doing c.requires.next c.tries.seat.me.0.doing c.collect-words.new.seat.me.0.doing c.collect-words.result (length c.tries.seat.me.0.pass.seen) _ (begins_length _ _ c.tries.invariant.tried.walks.on.seen) c.tries.invariant.does c.collect-words.ensures.does c.is_clean.new.seat.me.0.doing c.if-is_clean.ensures.does;
+  tried = tried_again c.tries.seat.me.0.pass c.collect-words.new.seat.me.0.pass c.is_clean.new.seat.me.0.pass c.collect-words.result c.collect-words.ensures.collects c.if-is_clean.ensures.compared
+      c.args.seat.now.me.0.pass c.tries.invariant.tried;
+  does = tries_again (length c.args.seat.now.me.0.pass.seen) c.args.seat.now.me.0.doing c.requires.next c.tries.seat.me.0.doing c.collect-words.new.seat.me.0.doing c.collect-words.result
+      (length c.tries.seat.me.0.pass.seen) _ (begins_length _ _ c.tries.invariant.tried.walks.on.seen) c.tries.invariant.does c.collect-words.ensures.does c.is_clean.new.seat.me.0.doing
+      c.if-is_clean.ensures.does;
   along = along_on c.args.seat.now.me.0 c.tries.seat.me.0 c.is_clean.new.seat.me.0 calls.Reading c.tries.invariant.tried.walks.number c.tries.invariant.along
-      (along_on c.tries.seat.me.0 c.collect-words.new.seat.me.0 c.is_clean.new.seat.me.0 calls.Reading c.collect-words.ensures.collects.walks.number c.collect-words.ensures.along c.is_clean.ensures.along);
+      (along_on c.tries.seat.me.0 c.collect-words.new.seat.me.0 c.is_clean.new.seat.me.0 calls.Reading c.collect-words.ensures.collects.walks.number c.collect-words.ensures.along
+      c.is_clean.ensures.along);
 }
 
 pub returns-then-is_clean-clause-steady : goal.returns-then-is_clean-clause-steady
-returns-then-is_clean-clause-steady c = (reads c.tries.seat.me.0.pass c.collect-words.new.seat.me.0.pass c.is_clean.new.seat.me.0.pass c.collect-words.result c.collect-words.ensures.long c.collect-words.ensures.collects c.if-is_clean.ensures.compared c.args.seat.now.me.0.pass c.requires.steady c.tries.invariant.tried c.of.result (c.of.ensures ∙ ap reading_of c.of_packed.ensures)).steady
+returns-then-is_clean-clause-steady c = (reads c.tries.seat.me.0.pass c.collect-words.new.seat.me.0.pass c.is_clean.new.seat.me.0.pass c.collect-words.result c.collect-words.ensures.long
+    c.collect-words.ensures.collects c.if-is_clean.ensures.compared c.args.seat.now.me.0.pass c.requires.steady c.tries.invariant.tried c.of.result
+    (c.of.ensures ∙ ap reading_of c.of_packed.ensures)).steady
 
 pub returns-then-is_clean-clause-reading : goal.returns-then-is_clean-clause-reading
-returns-then-is_clean-clause-reading c = (reads c.tries.seat.me.0.pass c.collect-words.new.seat.me.0.pass c.is_clean.new.seat.me.0.pass c.collect-words.result c.collect-words.ensures.long c.collect-words.ensures.collects c.if-is_clean.ensures.compared c.args.seat.now.me.0.pass c.requires.steady c.tries.invariant.tried c.of.result (c.of.ensures ∙ ap reading_of c.of_packed.ensures)).shared
+returns-then-is_clean-clause-reading c =
+    (reads c.tries.seat.me.0.pass c.collect-words.new.seat.me.0.pass c.is_clean.new.seat.me.0.pass c.collect-words.result c.collect-words.ensures.long c.collect-words.ensures.collects
+    c.if-is_clean.ensures.compared c.args.seat.now.me.0.pass c.requires.steady c.tries.invariant.tried c.of.result (c.of.ensures ∙ ap reading_of c.of_packed.ensures)).shared
 
 pub returns-then-is_clean-clause-steps : goal.returns-then-is_clean-clause-steps
-returns-then-is_clean-clause-steps c = (reads c.tries.seat.me.0.pass c.collect-words.new.seat.me.0.pass c.is_clean.new.seat.me.0.pass c.collect-words.result c.collect-words.ensures.long c.collect-words.ensures.collects c.if-is_clean.ensures.compared c.args.seat.now.me.0.pass c.requires.steady c.tries.invariant.tried c.of.result (c.of.ensures ∙ ap reading_of c.of_packed.ensures)).steps
+returns-then-is_clean-clause-steps c = (reads c.tries.seat.me.0.pass c.collect-words.new.seat.me.0.pass c.is_clean.new.seat.me.0.pass c.collect-words.result c.collect-words.ensures.long
+    c.collect-words.ensures.collects c.if-is_clean.ensures.compared c.args.seat.now.me.0.pass c.requires.steady c.tries.invariant.tried c.of.result
+    (c.of.ensures ∙ ap reading_of c.of_packed.ensures)).steps
 
 pub returns-then-is_clean-clause-most : goal.returns-then-is_clean-clause-most
-returns-then-is_clean-clause-most c = (reads c.tries.seat.me.0.pass c.collect-words.new.seat.me.0.pass c.is_clean.new.seat.me.0.pass c.collect-words.result c.collect-words.ensures.long c.collect-words.ensures.collects c.if-is_clean.ensures.compared c.args.seat.now.me.0.pass c.requires.steady c.tries.invariant.tried c.of.result (c.of.ensures ∙ ap reading_of c.of_packed.ensures)).most
+returns-then-is_clean-clause-most c = (reads c.tries.seat.me.0.pass c.collect-words.new.seat.me.0.pass c.is_clean.new.seat.me.0.pass c.collect-words.result c.collect-words.ensures.long
+    c.collect-words.ensures.collects c.if-is_clean.ensures.compared c.args.seat.now.me.0.pass c.requires.steady c.tries.invariant.tried c.of.result
+    (c.of.ensures ∙ ap reading_of c.of_packed.ensures)).most
 
 pub collect-words-requires-clause-next : goal.collect-words-requires-clause-next
 collect-words-requires-clause-next c = tries_may (length c.args.seat.now.me.0.pass.seen) c.args.seat.now.me.0.doing c.requires.next c.tries.seat.me.0.doing c.tries.invariant.does
 
 pub is_clean-requires-clause-next : goal.is_clean-requires-clause-next
-is_clean-requires-clause-next c = tries_held (length c.args.seat.now.me.0.pass.seen) c.args.seat.now.me.0.doing c.requires.next c.tries.seat.me.0.doing c.collect-words.new.seat.me.0.doing c.collect-words.result (length c.tries.seat.me.0.pass.seen) _ (begins_length _ _ c.tries.invariant.tried.walks.on.seen) c.tries.invariant.does c.collect-words.ensures.does
+is_clean-requires-clause-next c = tries_held (length c.args.seat.now.me.0.pass.seen) c.args.seat.now.me.0.doing c.requires.next c.tries.seat.me.0.doing c.collect-words.new.seat.me.0.doing
+    c.collect-words.result (length c.tries.seat.me.0.pass.seen) _ (begins_length _ _ c.tries.invariant.tried.walks.on.seen) c.tries.invariant.does c.collect-words.ensures.does
 
 pub returns-then-is_clean-clause-answers : goal.returns-then-is_clean-clause-answers
 returns-then-is_clean-clause-answers c =
-    let done = tries_clean (length c.args.seat.now.me.0.pass.seen) c.args.seat.now.me.0.doing c.requires.next c.tries.seat.me.0.doing c.collect-words.new.seat.me.0.doing c.collect-words.result (length c.tries.seat.me.0.pass.seen) _ (begins_length _ _ c.tries.invariant.tried.walks.on.seen) c.tries.invariant.does c.collect-words.ensures.does c.is_clean.new.seat.me.0.doing _ c.of.result c.if-is_clean.ensures.does
+    let done = tries_clean (length c.args.seat.now.me.0.pass.seen) c.args.seat.now.me.0.doing c.requires.next c.tries.seat.me.0.doing c.collect-words.new.seat.me.0.doing c.collect-words.result
+    (length c.tries.seat.me.0.pass.seen) _ (begins_length _ _ c.tries.invariant.tried.walks.on.seen) c.tries.invariant.does c.collect-words.ensures.does c.is_clean.new.seat.me.0.doing _
+    c.of.result c.if-is_clean.ensures.does
     (sym (c.of.ensures ∙ ap reading_of c.of_packed.ensures)) in
     record { begun = done.0; after_seen = done.1; does = done.2 }
 
 pub returns-then-is_clean-clause-along : goal.returns-then-is_clean-clause-along
 returns-then-is_clean-clause-along c =
     along_on c.args.seat.now.me.0 c.tries.seat.me.0 c.is_clean.new.seat.me.0 calls.Reading c.tries.invariant.tried.walks.number c.tries.invariant.along
-    (along_on c.tries.seat.me.0 c.collect-words.new.seat.me.0 c.is_clean.new.seat.me.0 calls.Reading c.collect-words.ensures.collects.walks.number c.collect-words.ensures.along c.is_clean.ensures.along)
+    (along_on c.tries.seat.me.0 c.collect-words.new.seat.me.0 c.is_clean.new.seat.me.0 calls.Reading c.collect-words.ensures.collects.walks.number c.collect-words.ensures.along
+    c.is_clean.ensures.along)

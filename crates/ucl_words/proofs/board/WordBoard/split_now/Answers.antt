@@ -20,7 +20,8 @@ pub returns-clause-steps : goal.returns-clause-steps
 returns-clause-steps c =
     let given = c.split_by-seat.result.me.0.pass in
     subst (λ (old : View). (count_of given ≡ count_of old) × (trail_of given ≡ trail_of old)) (ap (λ p. p.view) c.pass.view_is)
-    (subst (λ (v : WordView). (count_of v.pass ≡ count_of c.pass.inside.seat.me.0.pass) × (trail_of v.pass ≡ trail_of c.pass.inside.seat.me.0.pass)) (sym c.split_by-seat.ensures.given) (second_steps c.pass.inside.seat.me.0.pass))
+    (subst (λ (v : WordView). (count_of v.pass ≡ count_of c.pass.inside.seat.me.0.pass) × (trail_of v.pass ≡ trail_of c.pass.inside.seat.me.0.pass)) (sym c.split_by-seat.ensures.given)
+    (second_steps c.pass.inside.seat.me.0.pass))
 
 pub invariant_of-pass : goal.invariant_of-pass
 invariant_of-pass c = subst IsReader (sym c.split_by-seat.ensures.kept) (kept_steady c.pass.inside.seat.me.0.pass c.pass.invariant.0, c.pass.invariant.1, c.pass.invariant.2, c.pass.invariant.3)

@@ -19,7 +19,8 @@ compare_exchange_with-requires g c =
     let seat = c.args.seat.now in (
       c.requires.table ∙ sym c.self.view_is,
       omega (arith, c.self.invariant.0),
-      subst (λ (w : ℕ). Allows TableKeepsOneHistory slots seat.id seat.me w (λ n. either (n == c.args.loaded) c.args.next n) (ExchangeStep g.K.Asking.seat (step slots w c.args.loaded c.args.next (some e)) seat.me)) (sym (is ∙ value))
+      subst (λ (w : ℕ). Allows TableKeepsOneHistory slots seat.id seat.me w (λ n. either (n == c.args.loaded) c.args.next n)
+          (ExchangeStep g.K.Asking.seat (step slots w c.args.loaded c.args.next (some e)) seat.me)) (sym (is ∙ value))
           (swaps slots seat.id _ seat.me e c.args.loaded c.args.next c.requires.place c.requires.acts low c.requires.me.0 c.requires.me.1 c.requires.word c.requires.next),
     )
 
@@ -27,7 +28,8 @@ pub returns-clause-won : goal.returns-clause-won
 returns-clause-won g c hit = c.compare_exchange_with.ensures.2.won hit
 
 pub returns-clause-missed : goal.returns-clause-missed
-returns-clause-missed g c miss = subst (λ (w : ℕ). ExchangeMissed w c.args.seat.now.me.0.pass c.compare_exchange_with.result c.compare_exchange_with.new.seat.me.0.pass) (c.from-word.ensures ∙ c.get.ensures.value) (c.compare_exchange_with.ensures.2.missed miss)
+returns-clause-missed g c miss = subst (λ (w : ℕ). ExchangeMissed w c.args.seat.now.me.0.pass c.compare_exchange_with.result c.compare_exchange_with.new.seat.me.0.pass)
+    (c.from-word.ensures ∙ c.get.ensures.value) (c.compare_exchange_with.ensures.2.missed miss)
 
 pub returns-clause-does : goal.returns-clause-does
 returns-clause-does g c = c.compare_exchange_with.ensures.2.doing

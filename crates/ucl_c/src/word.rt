@@ -1,0 +1,41 @@
+//! Whether a word is that of a valid record, told by its bits.
+
+ghost use Rattle.std.specs.Prelude.{◌≡◌, ◌<◌, ◌↔◌, IsTrue};
+ghost use Rattle.ucl_word.specs.Layout.{IsWord, bits_at};
+ghost use Rattle.ucl_screen.specs.WordsRead.{is_word};
+ghost use Rattle.ucl_c.specs.Inputs.{HasBegun};
+
+/// The word of a match before its kick-off.
+const SCHEDULED_WORD: u64 = 0x2000_0000_0000_0000;
+
+/// The bits of a word from `low` on, as many as `width`.
+fn bits(word: u64, low: u32, width: u32) -> u64
+    requires low { low < 64 }
+    requires width { width < 64 }
+    ensures { result ≡ bits_at word low width }
+{
+    word >> low & (1 << width) - 1
+}
+
+/// Whether a word is that of a match that has begun.
+fn has_begun(word: u64) -> bool
+    ensures { IsTrue result ↔ HasBegun word }
+{
+    let number = bits(word, 0, 12);
+    let state = bits(word, 12, 2);
+    word >> 56 == 0x20
+        && bits(word, 48, 8) != 0
+        && 1 <= state
+        && state <= 2
+        && state <= number
+        && number <= 4093 + state
+}
+
+/// Whether a word is that of a valid record. No record is made of it, as `unpack` makes one.
+pub fn is_word(word: u64) -> bool
+    ensures word { IsTrue result ↔ IsWord word }
+    ensures test { result ≡ is_word word }
+{
+    let begun = has_begun(word);
+    begun | (word == SCHEDULED_WORD)
+}

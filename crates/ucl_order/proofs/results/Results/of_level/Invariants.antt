@@ -1,0 +1,10 @@
+use Rattle.std.proofs.Common.{◌≡◌, All, take}
+use Rattle.ucl_order.specs.Code.Counting.{IsWithin}
+use Rattle.ucl_order.specs.Code.Rounds.{level_matches, results_of_clubs}
+use Rattle.ucl_order.proofs.results.Results.of_level.Given as goal
+
+abbrev pub invariant-loop-game : goal.invariant-loop-game
+invariant-loop-game l = record {
+  are : l.results ≡ results_of_clubs (level_matches l.keys (take l.game-index l.matches));
+  within : All (IsWithin l.game-index) l.results;
+}

@@ -1,0 +1,23 @@
+use Rattle.std.proofs.Common.{ℕ, sym, ◌∙◌, subst, arith}
+use Rattle.ucl_words.specs.WordRule.{Stands}
+use Rattle.ucl_words.proofs.Moves.{again}
+use Rattle.ucl_words.proofs.board.WordBoard.load_again.Goals as goal
+
+pub load-requires : goal.load-requires
+load-requires g c = (
+  c.requires.table ∙ sym c.self.view_is,
+  (let i = c.self.invariant.0 in let w = c.requires.word.1 in omega arith),
+  again _ _ _ _ _ c.requires.place c.requires.acts c.requires.word c.requires.next,
+)
+
+pub returns-clause-stands : goal.returns-clause-stands
+returns-clause-stands g c = subst (λ (k : ℕ). Stands k c.load.new.seat.me.0) (c.requires.place ∙ sym c.load.ensures.1) c.load.ensures.2.stands
+
+pub returns-clause-does : goal.returns-clause-does
+returns-clause-does g c = c.load.ensures.2.doing
+
+pub returns-clause-loads : goal.returns-clause-loads
+returns-clause-loads g c = c.load.ensures.2.loads
+
+pub returns-clause-shown : goal.returns-clause-shown
+returns-clause-shown g c = c.load.ensures.2.shown
