@@ -12,7 +12,7 @@ ghost use Rattle.ucl_answers.specs.Text.{answer_said, next};
 
 use crate::evening::Evening;
 use crate::page::Page;
-use crate::row::{Fields, Found, MOST_BYTES, without_mark};
+use crate::row::{Fields, Found, MOST_LINE_BYTES, without_mark};
 use arrayvec::ArrayVec;
 use std::alloc::Global;
 use ucl_runs::RunFault;
@@ -35,9 +35,9 @@ fn fits(text: &[u8]) -> bool
 {
     let len = text.len();
     if len >= 2 && text[len - 2] == b'\r' {
-        len <= MOST_BYTES
+        len <= MOST_LINE_BYTES
     } else {
-        len < MOST_BYTES
+        len < MOST_LINE_BYTES
     }
 }
 

@@ -23,7 +23,7 @@ use ucl_screen::{InputFault, Sink, Source};
 const PIECE: usize = 16_384;
 
 /// The most bytes of an evening, which none lives to see.
-const MOST_BYTES: usize = 0x4000_0000_0000_0000;
+const MOST_READ: usize = 0x4000_0000_0000_0000;
 
 /// An evening between two bytes of its input. It knows how many bytes it has read and written since its start; a number past
 /// `usize::MAX` is told as that.
@@ -329,7 +329,7 @@ pub fn live_run<S: Source, W: Sink>(
     let mut live = Live::new(options);
     let mut piece = [0; PIECE];
     'steps: loop {
-        if live.read > MOST_BYTES {
+        if live.read > MOST_READ {
             return Err(RunFault::Input(InputFault::TooLong));
         }
         match live.step(alloc, &mut piece, wire)? {

@@ -13,7 +13,7 @@ use arrayvec::ArrayVec;
 use ucl_screen::Four;
 
 /// The most bytes that are read of a line: 256, and the two of its end.
-pub(crate) const MOST_BYTES: usize = 258;
+pub(crate) const MOST_LINE_BYTES: usize = 258;
 
 /// The most fields that so many bytes have.
 const MOST_FIELDS: usize = 259;
@@ -105,7 +105,7 @@ fn without_ends(text: &[u8]) -> &[u8]
 /// The fields of a row: their bytes, and where each ends.
 #[derive(Drop)]
 pub(crate) struct Fields {
-    bytes: ArrayVec<u8, MOST_BYTES>,
+    bytes: ArrayVec<u8, MOST_LINE_BYTES>,
     ends: ArrayVec<u16, MOST_FIELDS>,
 }
 

@@ -1,5 +1,6 @@
 -- How long a screen is at most.
-use Rattle.std.proofs.Common.{◌≡◌, ℕ, zero, suc, ◌+◌, ◌-◌, ◌*◌, ◌<◌, ◌≤◌, List, [], ◌∷◌, ◌++◌, length, replicate, codes, All, get_or, ◌==◌, Option, None, Some, inl, inr, Bool, true, false, ◌&&◌, nat_le, arith, refl, length-append}
+use Rattle.std.proofs.Common.{◌≡◌, ℕ, zero, suc, ◌+◌, ◌-◌, ◌*◌, ◌<◌, ◌≤◌, List, [], ◌∷◌, ◌++◌, length, replicate, codes, All, get_or, ◌==◌, Option, None, Some, inl, inr}
+use Rattle.std.proofs.Common.{Bool, true, false, ◌&&◌, nat_le, arith, refl, length-append}
 use Rattle.std.specs.Prelude.{decimal, flat_map}
 use Rattle.std.specs.List.{sum_by, list_all}
 use Rattle.std.proofs.lemmas.Bool.{cases_Bool}

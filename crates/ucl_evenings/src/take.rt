@@ -20,7 +20,7 @@ use ucl_shared::LiveBoard;
 const PIECE: usize = 16_384;
 
 /// The most bytes of an evening, which none lives to see.
-const MOST_BYTES: usize = 0x4000_0000_0000_0000;
+const MOST_READ: usize = 0x4000_0000_0000_0000;
 
 /// Enters the rows of a source on a reporter's pass until the source ends, and answers each at once, before the next is entered.
 ///
@@ -69,7 +69,7 @@ pub fn take_rows<B: LiveBoard, S: Source, W: Sink, R: Wait>(
     let mut piece = [0; PIECE];
     let mut read: usize = 0;
     'pieces: loop {
-        if read > MOST_BYTES {
+        if read > MOST_READ {
             return Err(RunFault::Input(InputFault::TooLong));
         }
         match wire.take(&mut piece) {

@@ -40,7 +40,8 @@ module _ (shape : Shape) (bytes : List ℕ) (origin old new : Device) (h : Liste
       let t = rw hears at s in
       heard-fails more f took (later-fails shape unheard bytes more 0 out new.sink_failed origin.taken old.taken new.taken f all (from-none out (length (heard_text shape unheard bytes)) count) t)
 
-  last-fails : (f : RunFault) → Consumes origin.left new.left bytes → HasEnded new.left → FailsToShow out new.sink_failed old.taken new.taken (resuming_text shape (heard unheard bytes).following.newest) f
+  last-fails : (f : RunFault) → Consumes origin.left new.left bytes → HasEnded new.left
+      → FailsToShow out new.sink_failed old.taken new.taken (resuming_text shape (heard unheard bytes).following.newest) f
       → FollowFails shape origin new f
   last-fails (WriteFailed written) took ended s = record {
     bytes = bytes;
@@ -48,7 +49,8 @@ module _ (shape : Shape) (bytes : List ℕ) (origin old new : Device) (h : Liste
     why = record {
       text = follow_text shape bytes;
       text_is = inr (ended, refl);
-      stopped = stopped_second 0 out new.sink_failed origin.taken old.taken new.taken (heard_text shape unheard bytes) (resuming_text shape (heard unheard bytes).following.newest) (WriteFailed written) all
+      stopped = stopped_second 0 out new.sink_failed origin.taken old.taken new.taken (heard_text shape unheard bytes)
+          (resuming_text shape (heard unheard bytes).following.newest) (WriteFailed written) all
           (from-none out (length (heard_text shape unheard bytes)) count) s;
     };
   }
@@ -60,7 +62,8 @@ module _ (shape : Shape) (bytes : List ℕ) (origin old new : Device) (h : Liste
   last-fails (Strangers version) took ended s = absurd s
 
   -- it failed in the rows of the end
-  pub run-ends : (f : RunFault) → Consumes origin.left new.left bytes → HasEnded new.left → FailsToShow out new.sink_failed old.taken new.taken (resuming_text shape h.following.newest) f → FollowFails shape origin new f
+  pub run-ends : (f : RunFault) → Consumes origin.left new.left bytes → HasEnded new.left → FailsToShow out new.sink_failed old.taken new.taken (resuming_text shape h.following.newest) f
+      → FollowFails shape origin new f
   run-ends f took ended s = last-fails f took ended (rw hears at s)
 
 pub run-text : (shape : Shape) (bytes : List ℕ) (h : Listener) (left left2 taken mid taken2 : Option (List ℕ)) → h ≡ heard unheard bytes → Consumes left left2 bytes → IsAtEnd left2

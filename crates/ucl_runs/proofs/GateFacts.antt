@@ -1,5 +1,6 @@
 -- What a gate was told: one call more, and one screen more.
-use Rattle.std.proofs.Common.{◌≡◌, ◌≢◌, inl, inr, ℕ, ◌+◌, ◌<◌, ◌≤◌, ◌%◌, ◌^◌, Bool, cond, ◌==◌, List, [], ◌∷◌, ◌++◌, length, take, get_or, filter, All, sym, ap, ◌∙◌, subst, arith, append-nil, eq-eqb, ne_eqb, length-append}
+use Rattle.std.proofs.Common.{◌≡◌, ◌≢◌, inl, inr, ℕ, ◌+◌, ◌<◌, ◌≤◌, ◌%◌, ◌^◌, Bool, cond, ◌==◌, List, [], ◌∷◌, ◌++◌, length, take, get_or, filter, All, sym, ap, ◌∙◌}
+use Rattle.std.proofs.Common.{subst, arith, append-nil, eq-eqb, ne_eqb, length-append}
 use Rattle.std.proofs.lemmas.List.{take_more}
 use Rattle.std.proofs.lemmas.List.Elements.{All-push, filter-append}
 use Rattle.std.proofs.Math.Nat.{eq-or-lt_of_le, lt_trans, mod-eq_of_lt}

@@ -10,5 +10,4 @@ pub mod GateFacts
 pub mod EnteredRows
 pub mod MergedRows
 pub mod Merges
-pub mod ToldLines
 pub mod Unsigned

@@ -1,5 +1,6 @@
 -- What a screen shows does not tell by whom the events were entered.
-use Rattle.std.proofs.Common.{◌≡◌, ℕ, zero, suc, ◌+◌, ◌-◌, ◌==◌, Bool, true, false, cond, if◌then◌else◌, List, [], ◌∷◌, ◌++◌, length, map, filter, take, flat_map, count_by, Option, Some, None, All, ◌⊎◌, ⊎_elim, refl, sym, ap, ◌∙◌, subst, arith}
+use Rattle.std.proofs.Common.{◌≡◌, ℕ, zero, suc, ◌+◌, ◌-◌, ◌==◌, Bool, true, false, cond, if◌then◌else◌, List, [], ◌∷◌, ◌++◌, length, map, filter, take, flat_map}
+use Rattle.std.proofs.Common.{count_by, Option, Some, None, All, ◌⊎◌, ⊎_elim, refl, sym, ap, ◌∙◌, subst, arith}
 use Rattle.std.specs.Prelude.{sum_by, slice_get, option_map}
 use Rattle.std.specs.List.{fold}
 use Rattle.std.specs.Result.{is_ok}

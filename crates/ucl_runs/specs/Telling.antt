@@ -1,9 +1,8 @@
 -- What is told on an error sink.
-use Rattle.std.specs.Prelude.{◌≡◌, ◌⊎◌, ℕ, ◌+◌, ◌≤◌, Bool, true, false, List, [], ◌++◌, Option, Some, None, codes, decimal}
+use Rattle.std.specs.Prelude.{◌≡◌, ◌⊎◌, ℕ, ◌+◌, ◌≤◌, Bool, true, false, List, ◌++◌, Option, codes}
 use Rattle.std.specs.Io.KnownBytes.{Appends}
 use Rattle.ucl_screen.specs.Stream.{WroteFirst}
 use Rattle.ucl_runs.specs.declared.fault.RunFault.{RunFault}
-use Rattle.ucl_runs.specs.declared.telling.FaultLine.{FaultLine}
 use Rattle.ucl_runs.specs.Faults.{fault_text}
 
 -- the error sink has failed, and took the first bytes of a text and not all of them
@@ -24,11 +23,3 @@ VainlyTells true old new = new ≤ old + 1
 -- the line of a fault
 abbrev pub fault_line : RunFault → List ℕ
 fault_line fault = fault_text fault ++ codes "\n"
-
--- the text of a line of three parts, of which the second is a number, if any
-abbrev pub number_text : Option ℕ → List ℕ
-number_text None = []
-number_text (Some number) = decimal number
-
-abbrev pub parts_text : FaultLine → List ℕ
-parts_text line = line.before.now ++ number_text line.number ++ line.after.now

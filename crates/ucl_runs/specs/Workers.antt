@@ -11,8 +11,8 @@ use Rattle.ucl_runs.specs.Nights.{IsFresh, IsNew, HasEntered, HasShown}
 use Rattle.ucl_runs.specs.Styles.{Style, styled}
 
 -- the rows of the script of a plan
-abbrev pub rows_of : {G : Type 0} → Plan G → List NightEvent
-rows_of plan = plan.night.now.events.items
+abbrev pub rows_of_plan : {G : Type 0} → Plan G → List NightEvent
+rows_of_plan plan = plan.night.now.events.items
 
 -- the style of its screens
 abbrev pub style_of : {G : Type 0} → Plan G → Style
@@ -29,8 +29,8 @@ module _ {B R P N : Type 0} (live : boards.Ghosts B R P N) (board : B) where
 
   -- a reporter's pass of the board has entered its rows of a script, and has reported each of them once
   abbrev pub HasEnteredOn : {G : Type 0} → Plan G → P → ℕ → P → Type 0
-  HasEnteredOn plan before reporter after = live.is_reporter board after × HasEntered (live.reporter before) (live.reporter after) reporter (rows_of plan)
-      × ReportsMore (live.has_reported before) (rows_by reporter (rows_of plan)) (live.has_reported after)
+  HasEnteredOn plan before reporter after = live.is_reporter board after × HasEntered (live.reporter before) (live.reporter after) reporter (rows_of_plan plan)
+      × ReportsMore (live.has_reported before) (rows_by reporter (rows_of_plan plan)) (live.has_reported after)
 
   -- a reader's pass of the board has shown its readings, of the history that it has then seen
   abbrev pub HasShownOn : {G : Type 0} → Plan G → R → Shown R → Type 0
@@ -40,7 +40,7 @@ module _ {B R P N : Type 0} (live : boards.Ghosts B R P N) (board : B) where
 module _ {B R P N G : Type 0} (live : boards.Ghosts B R P N) (told : gates.Ghosts G) (plan : Plan G) where
   -- a reporter told the gate of each of its calls
   abbrev pub HasToldCalls : ℕ → Type 0
-  HasToldCalls reporter = CameTo (told.came plan.gate.now) reporter (rows_by reporter (rows_of plan))
+  HasToldCalls reporter = CameTo (told.came plan.gate.now) reporter (rows_by reporter (rows_of_plan plan))
 
   -- a reader told the gate of each of its calls, and of the screen of each reading
   abbrev pub HasToldScreens : ℕ → R → Type 0

@@ -2,11 +2,12 @@
 
 ghost use Rattle.std.specs.Prelude.{◌≡◌, Some};
 ghost use Rattle.ucl_runs.specs.declared.fault.RunFault.TheVariants.{OutOfMemory, NoThread, TooManyReporters, Strangers};
+ghost use Rattle.ucl_screen.specs.Texts.{line_text};
 ghost use Rattle.ucl_runs.specs.Faults.{fault_text, handed_on, status};
 
 use std::alloc::AllocError;
 use std::{error, fmt};
-use ucl_screen::InputFault;
+use ucl_screen::{FaultLine, InputFault};
 
 /// Why a run failed. Its text is the line that the program writes to standard error.
 #[derive(Clone, Copy, Debug, PartialEq, Eq)]
@@ -27,22 +28,33 @@ pub enum RunFault {
     Strangers { version: u16 },
 }
 
-/// The line that the program writes to standard error, without its line feed.
+impl RunFault {
+    /// The line that the program writes to standard error, without its line feed.
+    pub(crate) fn line(&self) -> FaultLine
+        ensures { line_text result ≡ fault_text self.now }
+    {
+        match self {
+            RunFault::Input(fault) => fault.line(),
+            RunFault::OutOfMemory => FaultLine::plain("out of memory 23"),
+            RunFault::WriteFailed { written } => {
+                FaultLine::after_bytes("writing failed 26: after ", *written)
+            }
+            RunFault::NotOnDuty { row } => FaultLine::ending("input refused 25: row ", *row),
+            RunFault::NoThread => FaultLine::plain("no thread 27"),
+            RunFault::TooManyReporters => FaultLine::plain("board refused 30"),
+            RunFault::Strangers { version } => {
+                FaultLine::ending("board refused 31: version ", usize::from(*version))
+            }
+        }
+    }
+}
+
 impl fmt::Display for RunFault {
     ghost output = { λ fault. Some (fault_text fault) };
 
     fn fmt<W: fmt::Write>(&self, f: &mut fmt::Formatter<W>) -> fmt::Result {
-        match self {
-            RunFault::Input(fault) => write!(f, "{fault}"),
-            RunFault::OutOfMemory => write!(f, "out of memory 23"),
-            RunFault::WriteFailed { written } => {
-                write!(f, "writing failed 26: after {written} bytes")
-            }
-            RunFault::NotOnDuty { row } => write!(f, "input refused 25: row {row}"),
-            RunFault::NoThread => write!(f, "no thread 27"),
-            RunFault::TooManyReporters => write!(f, "board refused 30"),
-            RunFault::Strangers { version } => write!(f, "board refused 31: version {version}"),
-        }
+        let line = self.line();
+        write!(f, "{line}")
     }
 }
 

@@ -10,3 +10,4 @@ pub mod Names
 pub mod Columns
 pub mod ScriptFaults
 pub mod ReadWords
+pub mod FaultLines

@@ -12,7 +12,7 @@ use Rattle.ucl_screen.specs.Input.{Reads, CallsRead, whole_input}
 use Rattle.ucl_screen.specs.Rows.{Fields, rows_of}
 use Rattle.ucl_screen.specs.Events.{event_of}
 use Rattle.ucl_screen.specs.Script.{◌>>=◌, said_by, or_bad, club_of, club_at, if_good, roster_at, events_from, word_of_row, words_from, WrittenSheet, night_of_rows, sheet_of_rows, sheet_of}
-use Rattle.ucl_screen.specs.Parsing.{Gives, Refuses, MeansNight, MeansSheet, night_seen, sheet_seen}
+use Rattle.ucl_screen.specs.Parsing.{AnswersAsSaid, Refuses, MeansNight, MeansSheet, night_seen, sheet_seen}
 
 -- a row or a club is bad
 abbrev pub IsOfRows : InputFault → Type 0
@@ -91,7 +91,7 @@ known None bytes P h p = tt
 known (Some xs) bytes P h p = subst P (sym h) p
 
 pub night-reads : (r : Result Night InputFault) (old new : Option (List ℕ)) (failed : Bool) (bytes : List ℕ) → failed ≡ false
-    → IfSome old (λ xs. whole_input xs ≡ Ok bytes) → Gives night_seen r (night_of_rows (rows_of bytes)) → Reads MeansNight night_seen old new failed r
+    → IfSome old (λ xs. whole_input xs ≡ Ok bytes) → AnswersAsSaid night_seen r (night_of_rows (rows_of bytes)) → Reads MeansNight night_seen old new failed r
 night-reads (Ok night) old new failed bytes f h g = (f, known old bytes (λ w. (w >>= λ text. night_of_rows (rows_of text)) ≡ Ok (night_seen night)) h g)
 night-reads (Err (fault.BadWordAt index)) old new failed bytes f h g = absurd (never (night_of_rows (rows_of bytes)) (fault.BadWordAt index) (night-sound (rows_of bytes)) g)
 night-reads (Err (fault.BadRow row)) old new failed bytes f h g = (f, known old bytes (λ w. (w >>= λ text. night_of_rows (rows_of text)) ≡ Err (fault.BadRow row)) h g)

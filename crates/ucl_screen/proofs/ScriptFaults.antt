@@ -6,10 +6,10 @@ use Rattle.ucl_screen.specs.declared.fault.InputFault.TheVariants as fault
 use Rattle.ucl_screen.specs.declared.night.Night.{Night}
 use Rattle.ucl_screen.specs.Rows.{Fields}
 use Rattle.ucl_screen.specs.Script.{night_of_rows, IsFaultOfScript}
-use Rattle.ucl_screen.specs.Parsing.{Gives, night_seen}
+use Rattle.ucl_screen.specs.Parsing.{AnswersAsSaid, night_seen}
 use Rattle.ucl_screen.proofs.RowFaults.{never, night-sound}
 
-pub script-faults : (r : Result Night InputFault) (rows : List Fields) → Gives night_seen r (night_of_rows rows) → IfErr r IsFaultOfScript
+pub script-faults : (r : Result Night InputFault) (rows : List Fields) → AnswersAsSaid night_seen r (night_of_rows rows) → IfErr r IsFaultOfScript
 script-faults (Ok night) rows g = tt
 script-faults (Err (fault.BadWordAt index)) rows g = absurd (never (night_of_rows rows) (fault.BadWordAt index) (night-sound rows) g)
 script-faults (Err (fault.BadRow row)) rows g = tt

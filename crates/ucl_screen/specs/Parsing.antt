@@ -33,6 +33,6 @@ Refuses OutOfMemory said = ⊤
 Refuses fault said = said ≡ Err fault
 
 -- what the code answers, as `view` shows it, is what is said
-abbrev pub Gives : {X Y : Type 0} → (X → Y) → Result X InputFault → Result Y InputFault → Type 0
-Gives view (Ok x) said = said ≡ Ok (view x)
-Gives view (Err fault) said = Refuses fault said
+abbrev pub AnswersAsSaid : {X Y : Type 0} → (X → Y) → Result X InputFault → Result Y InputFault → Type 0
+AnswersAsSaid view (Ok x) said = said ≡ Ok (view x)
+AnswersAsSaid view (Err fault) said = Refuses fault said

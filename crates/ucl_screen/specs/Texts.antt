@@ -1,7 +1,16 @@
 -- What a fault of an input is written as.
-use Rattle.std.specs.Prelude.{List, ℕ, ◌++◌, codes, decimal}
+use Rattle.std.specs.Prelude.{List, ℕ, ◌++◌, [], Option, Some, None, codes, decimal}
 use Rattle.ucl_screen.specs.declared.fault.InputFault.{InputFault}
 use Rattle.ucl_screen.specs.declared.fault.InputFault.TheVariants.{BadWordAt, BadRow, BadRoster, ReadFailed, OutOfMemory, TooLong}
+use Rattle.ucl_screen.specs.declared.fault_line.FaultLine.{FaultLine}
+
+-- the text of a line of three parts, of which the second is a number, if any
+abbrev pub number_text : Option ℕ → List ℕ
+number_text None = []
+number_text (Some number) = decimal number
+
+abbrev pub line_text : FaultLine → List ℕ
+line_text line = line.before.now ++ number_text line.number ++ line.after.now
 
 -- the line of the fault, without its line feed
 abbrev pub input_fault_text : InputFault → List ℕ

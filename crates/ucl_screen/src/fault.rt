@@ -2,8 +2,9 @@
 
 ghost use Rattle.std.specs.Prelude.{◌≡◌, Some};
 ghost use Rattle.ucl_screen.specs.declared.fault.InputFault.TheVariants.{OutOfMemory};
-ghost use Rattle.ucl_screen.specs.Texts.{input_fault_text};
+ghost use Rattle.ucl_screen.specs.Texts.{input_fault_text, line_text};
 
+use crate::FaultLine;
 use std::alloc::{AllocError, AllocFailed};
 use std::{error, fmt};
 
@@ -24,21 +25,34 @@ pub enum InputFault {
     TooLong,
 }
 
-/// The line that the program writes, without its line feed.
+impl InputFault {
+    /// The line that the program writes, without its line feed.
+    pub fn line(&self) -> FaultLine
+        ensures { line_text result ≡ input_fault_text self.now }
+    {
+        match *self {
+            InputFault::BadWordAt { index } => {
+                FaultLine::ending("input refused 10: word ", usize::from(index))
+            }
+            InputFault::BadRow { row } => FaultLine::ending("input refused 20: row ", row as usize),
+            InputFault::BadRoster { slot } => {
+                FaultLine::ending("input refused 21: slot ", usize::from(slot))
+            }
+            InputFault::ReadFailed { bytes } => {
+                FaultLine::after_bytes("reading failed 22: after ", bytes)
+            }
+            InputFault::OutOfMemory => FaultLine::plain("out of memory 23"),
+            InputFault::TooLong => FaultLine::plain("input refused 24: too long"),
+        }
+    }
+}
+
 impl fmt::Display for InputFault {
     ghost output = { λ fault. Some (input_fault_text fault) };
 
     fn fmt<W: fmt::Write>(&self, f: &mut fmt::Formatter<W>) -> fmt::Result {
-        match self {
-            InputFault::BadWordAt { index } => write!(f, "input refused 10: word {index}"),
-            InputFault::BadRow { row } => write!(f, "input refused 20: row {row}"),
-            InputFault::BadRoster { slot } => write!(f, "input refused 21: slot {slot}"),
-            InputFault::ReadFailed { bytes } => {
-                write!(f, "reading failed 22: after {bytes} bytes")
-            }
-            InputFault::OutOfMemory => write!(f, "out of memory 23"),
-            InputFault::TooLong => write!(f, "input refused 24: too long"),
-        }
+        let line = self.line();
+        write!(f, "{line}")
     }
 }
 

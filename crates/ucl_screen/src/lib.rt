@@ -4,6 +4,7 @@
 mod calls;
 mod devices;
 mod fault;
+mod fault_line;
 mod fields;
 mod laws;
 mod lines;
@@ -17,6 +18,7 @@ mod transfer;
 
 pub use devices::{FromRead, ToWrite};
 pub use fault::InputFault;
+pub use fault_line::FaultLine;
 pub use laws::lines_have_53_columns;
 pub use night::{Night, NightEvent};
 pub use reading::{

@@ -7,7 +7,7 @@ ghost use Rattle.ucl_screen.specs.Input.{Reads, CallsRead, most_bytes};
 ghost use Rattle.ucl_screen.specs.Rows.{IsReading, four_seen, rows_left, rows_of};
 ghost use Rattle.ucl_screen.specs.Events.{event_of};
 ghost use Rattle.ucl_screen.specs.Script.{said_by, club_of, club_at, roster_at, events_from, first_event_row, word_of_row, words_from, night_of, night_of_rows, sheet_of_rows, IsFaultOfScript};
-ghost use Rattle.ucl_screen.specs.Parsing.{Gives, MeansNight, MeansSheet, night_seen, sheet_seen};
+ghost use Rattle.ucl_screen.specs.Parsing.{AnswersAsSaid, MeansNight, MeansSheet, night_seen, sheet_seen};
 
 use crate::fault::InputFault;
 use crate::fields::{hex_word, kind_of, match_of, number, number_of, reporter_of};
@@ -15,7 +15,7 @@ use crate::night::{Night, NightEvent};
 use crate::rows::{Four, four_fields, next_row, open};
 use crate::sheet::Sheet;
 use crate::stream::Source;
-use crate::transfer::{MOST_BYTES, read_all};
+use crate::transfer::{MOST_INPUT_BYTES, read_all};
 use csv::{ByteRecord, Reader};
 use std::alloc::{AllocError, Global};
 use ucl_board::Board;
@@ -49,7 +49,8 @@ fn club_at(alloc: Global, number: u8, rows: &mut Reader<&[u8]>) -> Result<Club, 
     requires reading { IsReading rows.old }
     ensures reading { OnOk result (IsReading rows.new) }
     ensures shorter { OnOk result (length (rows_left rows.new) ≤ length (rows_left rows.old)) }
-    ensures gives { Gives (λ club. (club_seen club, rows_left rows.new)) result (club_at number (rows_left rows.old)) }
+    ensures gives { AnswersAsSaid (λ club. (club_seen club, rows_left rows.new)) result
+        (club_at number (rows_left rows.old)) }
 {
     let bad = InputFault::BadRow {
         row: u32::from(number),
@@ -73,7 +74,8 @@ fn roster_at(alloc: Global, rows: &mut Reader<&[u8]>) -> Result<Roster, InputFau
     requires { IsReading rows.old }
     ensures reading { OnOk result (IsReading rows.new) }
     ensures shorter { OnOk result (length (rows_left rows.new) ≤ length (rows_left rows.old)) }
-    ensures gives { Gives (λ roster. (roster, rows_left rows.new)) result (roster_at (rows_left rows.old)) }
+    ensures gives { AnswersAsSaid (λ roster. (roster, rows_left rows.new)) result
+        (roster_at (rows_left rows.old)) }
 {
     let first = club_at(alloc, 1, rows)?;
     let second = club_at(alloc, 2, rows)?;
@@ -114,7 +116,8 @@ fn event_of(row: &ByteRecord) -> Option<NightEvent>
 fn events_at(alloc: Global, rows: &mut Reader<&[u8]>) -> Result<Vec<NightEvent>, InputFault>
     requires reading { IsReading rows.old }
     requires few { length (rows_left rows.old) ≤ most_bytes }
-    ensures gives { Gives (λ v. v.items) result (events_from first_event_row (rows_left rows.old)) }
+    ensures gives { AnswersAsSaid (λ v. v.items) result
+        (events_from first_event_row (rows_left rows.old)) }
     ensures few { IfOk result (λ v. length v.items ≤ most_bytes) }
 {
     let mut row = ByteRecord::new(alloc);
@@ -134,7 +137,7 @@ fn events_at(alloc: Global, rows: &mut Reader<&[u8]>) -> Result<Vec<NightEvent>,
 #[tactic(auto, unfolding(crate::specs::Script::night_of_rows))]
 fn night_of(alloc: Global, text: &[u8]) -> Result<Night, InputFault>
     requires { length text.now ≤ most_bytes }
-    ensures gives { Gives night_seen result (night_of_rows (rows_of text.now)) }
+    ensures gives { AnswersAsSaid night_seen result (night_of_rows (rows_of text.now)) }
     ensures few { IfOk result (λ night. length night.events.items ≤ most_bytes) }
 {
     let mut rows = open(alloc, text);
@@ -147,11 +150,11 @@ fn night_of(alloc: Global, text: &[u8]) -> Result<Night, InputFault>
 ///
 /// `OutOfMemory` can come in place of any answer.
 pub fn night_of_bytes(alloc: Global, bytes: &[u8]) -> Result<Night, InputFault>
-    ensures gives { Gives night_seen result (night_of bytes.now) }
+    ensures gives { AnswersAsSaid night_seen result (night_of bytes.now) }
     ensures kinds { IfErr result IsFaultOfScript }
     ensures few { IfOk result (λ night. length night.events.items ≤ 4194304) }
 {
-    if bytes.len() > MOST_BYTES {
+    if bytes.len() > MOST_INPUT_BYTES {
         return Err(InputFault::TooLong);
     }
     night_of(alloc, bytes)
@@ -204,7 +207,7 @@ fn word_of_row(game: u8, row: &ByteRecord) -> Option<u64>
 /// The words of the rows that are left, which are rows 5 to 16.
 fn words_at(alloc: Global, rows: &mut Reader<&[u8]>) -> Result<[u64; 12], InputFault>
     requires { IsReading rows.old }
-    ensures { Gives (λ words. words) result (words_from 12 1 (rows_left rows.old)) }
+    ensures { AnswersAsSaid (λ words. words) result (words_from 12 1 (rows_left rows.old)) }
 {
     let mut row = ByteRecord::new(alloc);
     let mut words = [0; 12];
@@ -229,7 +232,8 @@ fn words_at(alloc: Global, rows: &mut Reader<&[u8]>) -> Result<[u64; 12], InputF
 /// The roster and the words that a text says.
 #[tactic(auto, unfolding(crate::specs::Script::sheet_of_rows))]
 fn roster_and_words(alloc: Global, text: &[u8]) -> Result<(Roster, [u64; 12]), InputFault>
-    ensures { Gives (λ p. record { clubs = p.0; words = p.1 }) result (sheet_of_rows (rows_of text.now)) }
+    ensures { AnswersAsSaid (λ p. record { clubs = p.0; words = p.1 }) result
+        (sheet_of_rows (rows_of text.now)) }
 {
     let mut rows = open(alloc, text);
     let roster = roster_at(alloc, &mut rows)?;

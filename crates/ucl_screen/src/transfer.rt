@@ -10,7 +10,7 @@ use crate::stream::{Sink, Source};
 use std::alloc::Global;
 
 /// The most bytes that an input may have.
-pub(crate) const MOST_BYTES: usize = 4_194_304;
+pub(crate) const MOST_INPUT_BYTES: usize = 4_194_304;
 
 /// How many bytes are asked for at a time.
 const PIECE: usize = 65_536;
@@ -51,7 +51,7 @@ pub(crate) fn read_all<S: Source>(alloc: Global, source: &mut S) -> Result<Vec<u
         match source.take(&mut piece) {
             None => return Err(InputFault::ReadFailed { bytes: bytes.len() }),
             Some(0) => return Ok(bytes),
-            Some(n) if n > MOST_BYTES - bytes.len() => return Err(InputFault::TooLong),
+            Some(n) if n > MOST_INPUT_BYTES - bytes.len() => return Err(InputFault::TooLong),
             Some(n) => bytes.extend_from_slice(&piece[..n])?,
         }
     }

@@ -55,7 +55,7 @@ end-requires-clause-row g c κs within =
     let few = few_lines [] c.pieces.invariant.bytes in
     let row = c.pieces.invariant.row in
     let read = c.pieces.invariant.read in
-    let long = c.if-read-gt-MOST_BYTES.false in omega arith
+    let long = c.if-read-gt-MOST_READ.false in omega arith
 
 pub end-requires-clause-bound : goal.end-requires-clause-bound
 end-requires-clause-bound g c κs within = let told = c.pieces.invariant.answered.told in omega arith
@@ -92,7 +92,7 @@ enter-requires-clause-few g c κs within =
     let count = length-take c.in-Some.n c.take.new.buf in
     let same = c.take.auto.buf in
     let room = c.pieces.invariant.room in
-    let long = c.if-read-gt-MOST_BYTES.false in omega arith
+    let long = c.if-read-gt-MOST_READ.false in omega arith
 
 pub enter-requires-clause-bound : goal.enter-requires-clause-bound
 enter-requires-clause-bound g c κs within = let told = c.pieces.invariant.answered.told in omega arith

@@ -1,9 +1,0 @@
--- A line of a fault, by its parts.
-use Rattle.std.proofs.Common.{◌≡◌, ℕ, List, [], ◌++◌, ◌∙◌, append-nil}
-
--- a line of one part, and of two
-pub one_part : (before : List ℕ) → before ++ [] ++ [] ≡ before
-one_part before = append-nil (before ++ []) ∙ append-nil before
-
-pub two_parts : (before number : List ℕ) → before ++ number ++ [] ≡ before ++ number
-two_parts before number = append-nil (before ++ number)
