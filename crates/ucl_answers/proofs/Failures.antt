@@ -1,6 +1,5 @@
 -- What is left where an evening fails.
-use Rattle.std.proofs.Common.{◌≡◌, ℕ, ◌+◌, ◌-◌, ◌^◌, ◌≤◌, ◌<◌, Bool, List, [], ◌∷◌, ◌++◌, length, take, drop, get_or, Option, Some, refl, sym, ap, ◌∙◌, subst, append_assoc, append-nil}
-use Rattle.std.proofs.lemmas.List.{take-append-drop, take_more}
+use Rattle.std.proofs.Common.{◌≡◌, ℕ, Bool, List, [], ◌∷◌, ◌++◌, take, Option, Some, refl, sym, ap, ◌∙◌, subst, append_assoc, append-nil}
 use Rattle.std.specs.Prelude.{Result, Ok, Err, IfErr, IfOk, OnOk}
 use Rattle.std.specs.Io.KnownBytes.{Appends}
 use Rattle.ucl_screen.proofs.Moves.{appends-none}
@@ -10,78 +9,50 @@ use Rattle.ucl_runs.specs.declared.fault.RunFault.TheVariants.{Input, OutOfMemor
 use Rattle.ucl_runs.specs.Run.{IsStopped}
 use Rattle.ucl_answers.specs.Lines.{ended_lines}
 use Rattle.ucl_answers.specs.Output.{FailsToPut, HasPut, Waiting}
-use Rattle.ucl_answers.specs.Rows.{said_on}
-use Rattle.ucl_answers.specs.Text.{Evening, answer_said, next}
 use Rattle.ucl_answers.specs.Stepping.{EveningIsRefused, LineAsks, Moment, answers_to, ended_at, last_answers, missing_at, moment_after}
 use Rattle.ucl_answers.specs.Taking.{FailsToEnd, FailsToGive, FailsToTake, GaveBefore, LeavesLine}
-use Rattle.ucl_answers.proofs.Moments.{answers-to-append, answers-to-none, end-answers, end-evening, moment-append, moment-none}
-use Rattle.ucl_answers.proofs.Puts.{all_out, put_nothing, put_stopped, put_then, stopped_more}
+use Rattle.ucl_answers.proofs.Moments.{answers-to-append, moment-append}
+use Rattle.ucl_answers.proofs.Puts.{all_out, put_stopped, put_then, stopped_more}
 use Rattle.ucl_answers.proofs.Silence.{missing-last, refused-missing, shut-before, stays-refused}
-
--- ---- a byte
-
--- a line that ends was not answered
-pub line-fails : (m : Moment) (c : ℕ) (a b : Waiting) (failed : Bool) (x y : Option (List ℕ)) (f : RunFault) → c ≡ 10 → a.out ≤ 2 ^ 64 - 1
-    → FailsToPut a b failed x y (answer_said m.evening (said_on m.evening.row m.begun)) (LineAsks m) (EveningIsRefused (next m.evening (said_on m.evening.row m.begun))) f
-    → FailsToTake m (c ∷ []) a b failed x y f
-line-fails m c a b failed x y (WriteFailed written) k bound s = rw (end-answers m c k) s
-line-fails m c a b failed x y OutOfMemory k bound s = record {
-  front = [];
-  more = [];
-  parts = rw k refl;
-  put = rw (s.0, s.1, answers-to-none m) (put_nothing a x bound);
-  asks = subst (λ (n : Moment). LineAsks n) (sym (moment-none m)) s.2;
-}
-line-fails m c a b failed x y (Input fault) k bound s = (rw (s.0, s.1) (put_nothing a x bound), ap (λ (e : Evening). e.stage) (end-evening m c k) ∙ s.2)
-line-fails m c a b failed x y (NotOnDuty row) k bound s = absurd s
-line-fails m c a b failed x y NoThread k bound s = absurd s
-line-fails m c a b failed x y TooManyReporters k bound s = absurd s
-line-fails m c a b failed x y (Strangers version) k bound s = absurd s
 
 -- ---- bytes
 
-parts-at : (bytes : List ℕ) (i : ℕ) → i < length bytes → bytes ≡ (take i bytes ++ get_or bytes i 0 ∷ []) ++ drop (i + 1) bytes
-parts-at bytes i h = sym (take-append-drop (i + 1) bytes) ∙ ap (λ (l : List ℕ). l ++ drop (i + 1) bytes) (take_more bytes i 0 h)
-
--- the answers to one more byte are a part of the answers to all
-within : (m : Moment) (i : ℕ) (bytes : List ℕ) → i < length bytes
-    → (rest : List ℕ) × (answers_to m bytes ≡ (answers_to m (take i bytes) ++ answers_to (moment_after m (take i bytes)) (get_or bytes i 0 ∷ [])) ++ rest)
-within m i bytes h =
-    let front = take i bytes ++ get_or bytes i 0 ∷ [] in (
-      answers_to (moment_after m front) (drop (i + 1) bytes),
-      ap (answers_to m) (parts-at bytes i h) ∙ answers-to-append m front (drop (i + 1) bytes)
-          ∙ ap (λ (l : List ℕ). l ++ answers_to (moment_after m front) (drop (i + 1) bytes)) (answers-to-append m (take i bytes) (get_or bytes i 0 ∷ [])),
-    )
+-- the answers to a further part are a part of the answers to all
+within : (m : Moment) (i : ℕ) (bytes part rest : List ℕ) → bytes ≡ (take i bytes ++ part) ++ rest
+    → answers_to m bytes ≡ (answers_to m (take i bytes) ++ answers_to (moment_after m (take i bytes)) part) ++ answers_to (moment_after m (take i bytes ++ part)) rest
+within m i bytes part rest parts =
+    ap (answers_to m) parts ∙ answers-to-append m (take i bytes ++ part) rest
+    ∙ ap (λ (l : List ℕ). l ++ answers_to (moment_after m (take i bytes ++ part)) rest) (answers-to-append m (take i bytes) part)
 
 refused-on : (m : Moment) (xs ys : List ℕ) (fault : InputFault) → EveningIsRefused (moment_after m xs).evening fault → EveningIsRefused (moment_after m (xs ++ ys)).evening fault
 refused-on m xs ys fault h =
     let n = moment_after m xs in
     ap (λ (k : Moment). k.evening.stage) (moment-append m xs ys) ∙ stays-refused n.evening (ended_lines n.begun ys) fault h
 
--- a byte was not taken, after those before it
-pub take-fails : (m : Moment) (i : ℕ) (bytes : List ℕ) (a b after : Waiting) (failed : Bool) (x y z : Option (List ℕ)) (f : RunFault) → i < length bytes
-    → HasPut a b x y (answers_to m (take i bytes)) → FailsToTake (moment_after m (take i bytes)) (get_or bytes i 0 ∷ []) b after failed y z f → FailsToTake m bytes a after failed x z f
-take-fails m i bytes a b after failed x y z (WriteFailed written) h put s =
-    let w = within m i bytes h in
-    let parts = put_stopped a b failed x y z (answers_to m (take i bytes)) (answers_to (moment_after m (take i bytes)) (get_or bytes i 0 ∷ [])) (WriteFailed written) put s in
-    stopped_more a.out failed x z a.held (answers_to m (take i bytes) ++ answers_to (moment_after m (take i bytes)) (get_or bytes i 0 ∷ [])) w.0 (answers_to m bytes) (WriteFailed written) (sym w.1) parts
-take-fails m i bytes a b after failed x y z OutOfMemory h put s = record {
+-- a part was not taken, after the bytes before it
+pub take-fails : (m : Moment) (i : ℕ) (bytes part rest : List ℕ) (a b after : Waiting) (failed : Bool) (x y z : Option (List ℕ)) (f : RunFault) → bytes ≡ (take i bytes ++ part) ++ rest
+    → HasPut a b x y (answers_to m (take i bytes)) → FailsToTake (moment_after m (take i bytes)) part b after failed y z f → FailsToTake m bytes a after failed x z f
+take-fails m i bytes part rest a b after failed x y z (WriteFailed written) parts put s =
+    let two = put_stopped a b failed x y z (answers_to m (take i bytes)) (answers_to (moment_after m (take i bytes)) part) (WriteFailed written) put s in
+    let texts = answers_to m (take i bytes) ++ answers_to (moment_after m (take i bytes)) part in
+    stopped_more a.out failed x z a.held texts _ (answers_to m bytes) (WriteFailed written) (sym (within m i bytes part rest parts)) two
+take-fails m i bytes part rest a b after failed x y z OutOfMemory parts put s = record {
   front = take i bytes ++ s.front;
-  more = s.more ++ drop (i + 1) bytes;
-  parts = parts-at bytes i h ∙ ap (λ (l : List ℕ). (take i bytes ++ l) ++ drop (i + 1) bytes) s.parts ∙ ap (λ (l : List ℕ). l ++ drop (i + 1) bytes) (sym (append_assoc (take i bytes) s.front (10 ∷ s.more))) ∙ append_assoc (take i bytes ++ s.front) (10 ∷ s.more) (drop (i + 1) bytes);
+  more = s.more ++ rest;
+  parts = parts ∙ ap (λ (l : List ℕ). (take i bytes ++ l) ++ rest) s.parts
+      ∙ ap (λ (l : List ℕ). l ++ rest) (sym (append_assoc (take i bytes) s.front (10 ∷ s.more))) ∙ append_assoc (take i bytes ++ s.front) (10 ∷ s.more) rest;
   put = rw (answers-to-append m (take i bytes) s.front) (put_then a b after x y z (answers_to m (take i bytes)) (answers_to (moment_after m (take i bytes)) s.front) put s.put);
   asks = subst (λ (n : Moment). LineAsks n) (sym (moment-append m (take i bytes) s.front)) s.asks;
 }
-take-fails m i bytes a b after failed x y z (Input fault) h put s =
-    let byte = get_or bytes i 0 ∷ [] in
-    let none : answers_to m (take i bytes) ≡ [] = shut-before m (take i bytes) byte fault s.1 in
-    let there : EveningIsRefused (moment_after m (take i bytes ++ byte)).evening fault = ap (λ (k : Moment). k.evening.stage) (moment-append m (take i bytes) byte) ∙ s.1 in
-    let whole = refused-on m (take i bytes ++ byte) (drop (i + 1) bytes) fault there in
-    (put_then a b after x y z [] [] (rw none at put) s.0, ap (λ (l : List ℕ). (moment_after m l).evening.stage) (parts-at bytes i h) ∙ whole)
-take-fails m i bytes a b after failed x y z (NotOnDuty row) h put s = absurd s
-take-fails m i bytes a b after failed x y z NoThread h put s = absurd s
-take-fails m i bytes a b after failed x y z TooManyReporters h put s = absurd s
-take-fails m i bytes a b after failed x y z (Strangers version) h put s = absurd s
+take-fails m i bytes part rest a b after failed x y z (Input fault) parts put s =
+    let none : answers_to m (take i bytes) ≡ [] = shut-before m (take i bytes) part fault s.1 in
+    let there : EveningIsRefused (moment_after m (take i bytes ++ part)).evening fault = ap (λ (k : Moment). k.evening.stage) (moment-append m (take i bytes) part) ∙ s.1 in
+    let all = refused-on m (take i bytes ++ part) rest fault there in
+    (put_then a b after x y z [] [] (rw none at put) s.0, ap (λ (l : List ℕ). (moment_after m l).evening.stage) parts ∙ all)
+take-fails m i bytes part rest a b after failed x y z (NotOnDuty row) parts put s = absurd s
+take-fails m i bytes part rest a b after failed x y z NoThread parts put s = absurd s
+take-fails m i bytes part rest a b after failed x y z TooManyReporters parts put s = absurd s
+take-fails m i bytes part rest a b after failed x y z (Strangers version) parts put s = absurd s
 
 -- ---- bytes, and what waits given to the sink
 
@@ -198,3 +169,7 @@ if-ok (Err f) P R h p = tt
 pub on-ok : {V : Type 0} (r : Result V RunFault) (P R : Type 0) → (P → R) → OnOk r P → OnOk r R
 on-ok (Ok v) P R h p = h p
 on-ok (Err f) P R h p = tt
+
+pub on-both : {V : Type 0} (r : Result V RunFault) (P Q R : Type 0) → (P → Q → R) → OnOk r P → OnOk r Q → OnOk r R
+on-both (Ok v) P Q R h p q = h p q
+on-both (Err f) P Q R h p q = tt

@@ -1,8 +1,10 @@
 pub mod WordDigits
 pub mod RowBytes
 pub mod RowEnds
+pub mod PlainRows
 pub mod Puts
 pub mod Moments
+pub mod WholeLines
 pub mod Silence
 pub mod ReadWords
 pub mod Failures

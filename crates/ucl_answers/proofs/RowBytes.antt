@@ -90,7 +90,7 @@ between-same st.AfterQuote xs h = cc
 between-same st.InEscape xs h = cc
 between-same st.InComment xs h = cc
 
-skip-one : (b : ℕ) (xs : List ℕ) → ((b == 13) || (b == 10)) ≡ true → next_record default_config st.StartRecord [] [] (b ∷ xs) ≡ next_record default_config st.StartRecord [] [] xs
+pub skip-one : (b : ℕ) (xs : List ℕ) → ((b == 13) || (b == 10)) ≡ true → next_record default_config st.StartRecord [] [] (b ∷ xs) ≡ next_record default_config st.StartRecord [] [] xs
 unfolding next_record
 skip-one b xs h = rw h refl
 

@@ -1,5 +1,5 @@
 -- The lines as they are read, and as they came.
-use Rattle.std.proofs.Common.{◌≡◌, ℕ, ◌+◌, ◌-◌, ◌≤◌, ◌<◌, ◌==◌, false, List, [], ◌∷◌, ◌++◌, length, get_or, refl, ap, ap₂, ◌∙◌, inl, inr, arith, length-append}
+use Rattle.std.proofs.Common.{◌≡◌, ℕ, ◌+◌, ◌-◌, ◌≤◌, ◌<◌, ◌==◌, false, List, [], ◌∷◌, ◌++◌, length, get_or, refl, ap, inl, inr, arith, length-append}
 use Rattle.std.specs.Prelude.{⊤, ◌⊎◌, nat_le}
 use Rattle.std.proofs.lemmas.Bool.{cases_Bool}
 use Rattle.std.proofs.lemmas.Bool.Decides.{nat_tests}
@@ -7,10 +7,10 @@ use Rattle.ucl_answers.specs.Lines.{begun_line, ended_lines, last_lines, lines_o
 use Rattle.ucl_answers.specs.UncutLines.{uncut_after, uncut_lines}
 use Rattle.ucl_answers.specs.Rows.{Garbled, fits, said_by_text, said_on}
 use Rattle.ucl_answers.specs.Text.{Evening, after_lines, answer_said, answers, next}
-use Rattle.ucl_answers.specs.Laws.{IsOfUncutLines, LinesAreReadWhole}
+use Rattle.ucl_answers.specs.Laws.{LinesAreReadWhole}
 
 -- a line and what was kept of it: the same, or both too long
-abbrev Alike : List ℕ → List ℕ → Type 0
+abbrev pub Alike : List ℕ → List ℕ → Type 0
 Alike line whole = (line ≡ whole) ⊎ ((258 ≤ length line) × (258 ≤ length whole))
 
 above : (n m : ℕ) → m < n → nat_le n m ≡ false
@@ -19,7 +19,7 @@ above n m h = elim (cases_Bool (nat_le n m)) [ inl y ↦ absurd (grind (arith, n
 longer-by : (line : List ℕ) (b : ℕ) → length (line ++ b ∷ []) ≡ length line + 1
 longer-by line b = length-append line (b ∷ [])
 
-one-more : (line whole : List ℕ) (b : ℕ) → Alike line whole → Alike (longer line b) (whole ++ b ∷ [])
+pub one-more : (line whole : List ℕ) (b : ℕ) → Alike line whole → Alike (longer line b) (whole ++ b ∷ [])
 one-more line whole b (inl e) = elim (cases_Bool (nat_le 258 (length line))) [
   | inl full ↦ rw full (let h : 258 ≤ length line = grind (arith, nat_tests) in
       let k : length line ≡ length whole = ap length e in let m = longer-by whole b in inr (h, omega (arith, h, k, m)))
@@ -42,7 +42,7 @@ too-long : (row : ℕ) (line : List ℕ) → 258 ≤ length line → said_on row
 unfolding said_by_text
 too-long row line h = rw (no-room (line ++ 10 ∷ []) (let m = longer-by line 10 in omega (arith, h, m))) refl
 
-same-said : (row : ℕ) (line whole : List ℕ) → Alike line whole → said_on row line ≡ said_on row whole
+pub same-said : (row : ℕ) (line whole : List ℕ) → Alike line whole → said_on row line ≡ said_on row whole
 same-said row line whole (inl e) = rw e refl
 same-said row line whole (inr (p, q)) = rw (too-long row line p, too-long row whole q) refl
 

@@ -1,5 +1,5 @@
--- How a row is read, byte by byte: the rules of scripts, at the states that the reading of one row can have.
-use Rattle.std.specs.Prelude.{◌≡◌, ◌⊎◌, if◌then◌else◌, Bool, true, false, ℕ, List, [], ◌∷◌, ◌++◌, drop, Option, Some, None}
+-- How lines and rows are read: the lines of bytes as they come; of a row the rules of scripts, at the states that the reading of one row can have.
+use Rattle.std.specs.Prelude.{◌≡◌, ◌⊎◌, ⊤, if◌then◌else◌, Bool, true, false, not, ◌==◌, ◌&&◌, ℕ, List, [], ◌∷◌, ◌++◌, drop, Option, Some, None}
 use Rattle.csv.specs.Machine.{after_end, ends_with}
 use Rattle.csv.specs.Machine.{Read, next_record, ends_at_end}
 use Rattle.csv.specs.Reading.{default_config}
@@ -19,6 +19,23 @@ use Rattle.ucl_answers.specs.declared.row.Deed.TheVariants.{Copy, Skip, EndField
 use Rattle.ucl_answers.specs.declared.row.Found.{Found}
 use Rattle.ucl_answers.specs.declared.row.Found.TheVariants.{Nothing, One, More}
 use Rattle.ucl_answers.specs.declared.row.Fields.{Fields}
+
+-- none of the bytes is a line feed
+abbrev pub HasNoFeed : List ℕ → Type 0
+HasNoFeed [] = ⊤
+HasNoFeed (b ∷ bytes) = (b ≡ 10 → ⊥) × HasNoFeed bytes
+
+-- bytes with which a line ends: their last is a line feed, and no other
+pub record IsLineEnd (bytes : List ℕ) : Type 0 where
+  pub front : List ℕ
+  pub clean : HasNoFeed front
+  pub whole : bytes ≡ front ++ 10 ∷ []
+
+-- a text begins with this line, which has ended
+pub record IsFirstLine (text line : List ℕ) : Type 0 where
+  pub rest : List ℕ
+  pub parts : text ≡ line ++ rest
+  pub ends : IsLineEnd line
 
 abbrev pub csv_state_of : Stand → State
 csv_state_of StartField = st.StartField
@@ -74,3 +91,25 @@ abbrev pub said_in : Found → Row → Said
 said_in Nothing row = said.Nothing
 said_in One row = of_row (four_of row)
 said_in More row = said.Garbled
+
+-- ---- fields that are not in quotes
+
+-- whether a byte joins such a field
+abbrev pub is_joining : ℕ → Bool
+is_joining b = not (b == 44) && not (b == 34) && not (b == 13) && not (b == 10)
+
+abbrev pub AreJoining : List ℕ → Type 0
+AreJoining [] = ⊤
+AreJoining (b ∷ bytes) = (is_joining b ≡ true) × AreJoining bytes
+
+-- a text begins with this field and a comma
+pub record IsFieldBefore (text field rest : List ℕ) : Type 0 where
+  pub begins : begins_row text ≡ true
+  pub reads : (fields : Row) → next_record default_config st.StartField fields [] text ≡ next_record default_config st.StartField (fields ++ field ∷ []) [] rest
+
+-- this field ends the row of a text, behind which there is no other
+pub record EndsRow (text field : List ℕ) : Type 0 where
+  pub state : State
+  pub rest : List ℕ
+  pub reads : (fields : Row) → next_record default_config st.StartField fields [] text ≡ Some (fields ++ field ∷ [], state, rest)
+  pub behind : IsBehindEnds rest []

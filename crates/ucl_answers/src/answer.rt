@@ -19,11 +19,14 @@ use ucl_runs::RunFault;
 use ucl_screen::screen;
 use ucl_word::{Accepted, Refusal};
 
+/// Room for the line of a reply.
+const LINE: usize = 64;
+
 /// An answer.
 #[derive(Drop)]
 pub(crate) enum Answer {
     /// A line that took no memory.
-    Short(ArrayString<256>),
+    Short(ArrayString<LINE>),
     /// Any text.
     Long(String),
 }
@@ -41,7 +44,7 @@ impl Answer {
 }
 
 /// The line of an event that was entered.
-fn accepted_line(row: u64, game: u8, number: u16, version: u16) -> ArrayString<256>
+fn accepted_line(row: u64, game: u8, number: u16, version: u16) -> ArrayString<LINE>
     ensures { result.bytes ≡ accepted_line row game number version }
 {
     let mut line = ArrayString::new();
@@ -57,10 +60,10 @@ fn accepted_line(row: u64, game: u8, number: u16, version: u16) -> ArrayString<2
 }
 
 /// Writes the number of a refusal and its name.
-fn push_refusal(line: &mut ArrayString<256>, refusal: Refusal)
-    requires { array_string_len line.old ≤ 100 }
+fn push_refusal(line: &mut ArrayString<LINE>, refusal: Refusal)
+    requires { array_string_len line.old ≤ 40 }
     ensures text { line.new.bytes ≡ line.old.bytes ++ refusal_text refusal }
-    ensures short { array_string_len line.new ≤ 200 }
+    ensures short { array_string_len line.new ≤ 60 }
 {
     match refusal {
         Refusal::Stale { found } => {
@@ -79,7 +82,7 @@ fn push_refusal(line: &mut ArrayString<256>, refusal: Refusal)
 }
 
 /// The line of an event that was refused.
-fn refused_line(row: u64, refusal: Refusal) -> ArrayString<256>
+fn refused_line(row: u64, refusal: Refusal) -> ArrayString<LINE>
     ensures { result.bytes ≡ refused_line row refusal }
 {
     let mut line = ArrayString::new();
@@ -91,7 +94,7 @@ fn refused_line(row: u64, refusal: Refusal) -> ArrayString<256>
 }
 
 /// The line of a row that asks for nothing that there is.
-fn bad_line(row: u64) -> ArrayString<256>
+fn bad_line(row: u64) -> ArrayString<LINE>
     ensures { result.bytes ≡ bad_line row }
 {
     let mut line = ArrayString::new();
@@ -101,7 +104,12 @@ fn bad_line(row: u64) -> ArrayString<256>
 }
 
 /// The line of a reply, where so many events were accepted before.
-fn reply_line(row: u64, game: u8, before: u16, reply: Result<Accepted, Refusal>) -> ArrayString<256>
+fn reply_line(
+    row: u64,
+    game: u8,
+    before: u16,
+    reply: Result<Accepted, Refusal>,
+) -> ArrayString<LINE>
     requires { before < 2 ^ 16 - 1 }
     ensures { result.bytes ≡ line_of_reply row game before reply }
 {

@@ -1,22 +1,25 @@
 //! What an evening has at hand: the line that has begun, the fields of a row, and answers that wait.
 
-ghost use Rattle.std.specs.Prelude.{◌≡◌, ◌-◌, ◌^◌, ◌+◌, ◌<◌, ◌≤◌, ◌++◌, [], ◌∷◌, length, option_map, IfErr, IfOk, OnOk};
+ghost use Rattle.std.specs.Prelude.{◌≡◌, ◌-◌, ◌^◌, ◌+◌, ◌<◌, ◌≤◌, ◌++◌, [], ◌∷◌, fold, length, option_map, IfErr, IfSome, OnOk};
 ghost use Rattle.csv.specs.Records.{Rising};
+ghost use Rattle.ucl_screen.specs.Rows.{four_seen};
 ghost use Rattle.ucl_answers.specs.Lines.{longer};
 ghost use Rattle.ucl_answers.specs.Output.{FailsToPut, HasPut, SinkFails};
-ghost use Rattle.ucl_answers.specs.Reading.{fields_in, said_in};
-ghost use Rattle.ucl_answers.specs.Rows.{fits, said_by_text, said_on};
+ghost use Rattle.ucl_answers.specs.Reading.{IsLineEnd, fields_in, said_in};
+ghost use Rattle.ucl_answers.specs.Rows.{Row, fits, said_by_text, said_on};
 ghost use Rattle.ucl_answers.specs.Seen.{evening_seen};
-ghost use Rattle.ucl_answers.specs.Stepping.{AsksForMemory, EveningIsRefused};
+ghost use Rattle.ucl_answers.specs.Stepping.{AsksForMemory, EveningIsRefused, answers_to, moment_after};
+ghost use Rattle.ucl_answers.specs.Taking.{FailsToTake, moment_of};
 ghost use Rattle.ucl_answers.specs.Text.{answer_said, next};
 
 use crate::evening::Evening;
 use crate::page::Page;
+use crate::plain::plain_four;
 use crate::row::{Fields, Found, MOST_BYTES, without_mark};
 use arrayvec::ArrayVec;
 use std::alloc::Global;
 use ucl_runs::RunFault;
-use ucl_screen::Sink;
+use ucl_screen::{Four, Sink};
 
 /// The most bytes of a line that are kept, with its line feed. What comes after them is passed over.
 const LINE: usize = 259;
@@ -58,6 +61,90 @@ fn read(fields: &mut Fields, row: u64, text: &[u8]) -> Found
     }
 }
 
+/// The fields of a line with its line feed, where it has this number, and is a row of four fields of which none is in quotes. The first
+/// line may begin with a byte order mark, and is not looked at.
+#[tactic(auto, using(crate::proofs::PlainRows::said_plain))]
+fn plain_row(row: u64, text: &[u8]) -> Option<Four<'_>>
+    ensures { IfSome result (λ four. said_by_text row text.now ≡ Row (four_seen four)) }
+{
+    if row > 1 && fits(text) {
+        plain_four(text)
+    } else {
+        None
+    }
+}
+
+/// Answers a line with its line feed, whatever it is.
+#[tactic(auto, using(crate::proofs::Puts::put_nothing))]
+fn answer_any<W: Sink>(
+    alloc: Global,
+    evening: &mut Evening,
+    fields: &mut Fields,
+    text: &[u8],
+    page: &mut Page,
+    sink: &mut W,
+) -> Result<(), RunFault>
+    requires row { evening.old.row < 2 ^ 64 - 1 }
+    ensures next { OnOk result (evening_seen evening.new
+        ≡ next (evening_seen evening.old) (said_by_text evening.old.row text.now)) }
+    ensures put { OnOk result (HasPut page.old page.new (W.taken sink.old) (W.taken sink.new)
+        (answer_said (evening_seen evening.old) (said_by_text evening.old.row text.now))) }
+    ensures sound { OnOk result (W.failed sink.new ≡ W.failed sink.old) }
+    ensures vain { OnOk result (W.in_vain sink.new ≡ W.in_vain sink.old) }
+    ensures fails { IfErr result (FailsToPut page.old page.new
+        (W.failed sink.new) (W.taken sink.old) (W.taken sink.new)
+        (answer_said (evening_seen evening.old) (said_by_text evening.old.row text.now))
+        (AsksForMemory (evening_seen evening.old) (said_by_text evening.old.row text.now))
+        (EveningIsRefused (next (evening_seen evening.old) (said_by_text evening.old.row text.now)))) }
+    ensures sink_fails { IfErr result (SinkFails
+        (W.in_vain sink.old) (W.in_vain sink.new)
+        (W.failed sink.old) (W.failed sink.new)) }
+{
+    let _written = page.written();
+    match read(fields, evening.row, text) {
+        Found::Nothing => {
+            evening.pass();
+            Ok(())
+        }
+        Found::More => evening.answer(alloc, &None, page, sink),
+        Found::One => {
+            let said = fields.four();
+            evening.answer(alloc, &said, page, sink)
+        }
+    }
+}
+
+/// Answers a line with its line feed. A row with no quotes, which most are, is read where it lies.
+fn answer_text<W: Sink>(
+    alloc: Global,
+    evening: &mut Evening,
+    fields: &mut Fields,
+    text: &[u8],
+    page: &mut Page,
+    sink: &mut W,
+) -> Result<(), RunFault>
+    requires row { evening.old.row < 2 ^ 64 - 1 }
+    ensures next { OnOk result (evening_seen evening.new
+        ≡ next (evening_seen evening.old) (said_by_text evening.old.row text.now)) }
+    ensures put { OnOk result (HasPut page.old page.new (W.taken sink.old) (W.taken sink.new)
+        (answer_said (evening_seen evening.old) (said_by_text evening.old.row text.now))) }
+    ensures sound { OnOk result (W.failed sink.new ≡ W.failed sink.old) }
+    ensures vain { OnOk result (W.in_vain sink.new ≡ W.in_vain sink.old) }
+    ensures fails { IfErr result (FailsToPut page.old page.new
+        (W.failed sink.new) (W.taken sink.old) (W.taken sink.new)
+        (answer_said (evening_seen evening.old) (said_by_text evening.old.row text.now))
+        (AsksForMemory (evening_seen evening.old) (said_by_text evening.old.row text.now))
+        (EveningIsRefused (next (evening_seen evening.old) (said_by_text evening.old.row text.now)))) }
+    ensures sink_fails { IfErr result (SinkFails
+        (W.in_vain sink.old) (W.in_vain sink.new)
+        (W.failed sink.old) (W.failed sink.new)) }
+{
+    match plain_row(evening.row, text) {
+        Some(four) => evening.answer(alloc, &Some(four), page, sink),
+        None => answer_any(alloc, evening, fields, text, page, sink),
+    }
+}
+
 impl Desk {
     /// Nothing is at hand.
     pub(crate) fn new() -> Desk
@@ -73,7 +160,7 @@ impl Desk {
 
     /// Puts a byte to the line that has begun, where the line is not too long by then.
     #[tactic(auto, using(crate::proofs::Moments::longer_some, crate::proofs::Moments::longer_full))]
-    pub(crate) fn keep(&mut self, b: u8)
+    fn keep(&mut self, b: u8)
         requires { length self.old.line.items ≤ 258 }
         ensures line { self.new.line.items ≡ longer self.old.line.items b }
         ensures short { length self.new.line.items ≤ 258 }
@@ -84,37 +171,90 @@ impl Desk {
         }
     }
 
-    /// Answers the line that has begun, as if it ended here, and gives the evening after it.
-    #[tactic(auto, using(crate::proofs::Puts::put_nothing))]
+    /// Puts bytes to the line that has begun, one after the other.
+    pub(crate) fn keep_all(&mut self, bytes: &[u8])
+        requires { length self.old.line.items ≤ 258 }
+        ensures line { self.new.line.items ≡ fold longer self.old.line.items bytes.now }
+        ensures short { length self.new.line.items ≤ 258 }
+        ensures page { self.new.page ≡ self.old.page }
+    {
+        for b in bytes {
+            self.keep(*b);
+        }
+    }
+
+    /// Answers the line that has begun, as if it ended here.
     pub(crate) fn answer<W: Sink>(
         &mut self,
         alloc: Global,
-        evening: Evening,
+        evening: &mut Evening,
         sink: &mut W,
-    ) -> Result<Evening, RunFault>
+    ) -> Result<(), RunFault>
         requires short { length self.old.line.items ≤ 258 }
-        requires row { evening.row < 2 ^ 64 - 1 }
-        ensures next { IfOk result (λ after. evening_seen after ≡ next (evening_seen evening) (said_on evening.row self.old.line.items)) }
+        requires row { evening.old.row < 2 ^ 64 - 1 }
+        ensures next { OnOk result (evening_seen evening.new
+            ≡ next (evening_seen evening.old) (said_on evening.old.row self.old.line.items)) }
         ensures begun { OnOk result (self.new.line.items ≡ []) }
-        ensures put { OnOk result (HasPut self.old.page self.new.page (W.taken sink.old) (W.taken sink.new) (answer_said (evening_seen evening) (said_on evening.row self.old.line.items))) }
+        ensures put { OnOk result (HasPut self.old.page self.new.page
+            (W.taken sink.old) (W.taken sink.new)
+            (answer_said (evening_seen evening.old) (said_on evening.old.row self.old.line.items))) }
         ensures sound { OnOk result (W.failed sink.new ≡ W.failed sink.old) }
         ensures vain { OnOk result (W.in_vain sink.new ≡ W.in_vain sink.old) }
-        ensures fails { IfErr result (FailsToPut self.old.page self.new.page (W.failed sink.new) (W.taken sink.old) (W.taken sink.new) (answer_said (evening_seen evening) (said_on evening.row self.old.line.items)) (AsksForMemory (evening_seen evening) (said_on evening.row self.old.line.items)) (EveningIsRefused (next (evening_seen evening) (said_on evening.row self.old.line.items)))) }
+        ensures fails { IfErr result (FailsToPut self.old.page self.new.page
+            (W.failed sink.new) (W.taken sink.old) (W.taken sink.new)
+            (answer_said (evening_seen evening.old) (said_on evening.old.row self.old.line.items))
+            (AsksForMemory (evening_seen evening.old) (said_on evening.old.row self.old.line.items))
+            (EveningIsRefused
+            (next (evening_seen evening.old) (said_on evening.old.row self.old.line.items)))) }
+        ensures sink_fails { IfErr result (SinkFails
+            (W.in_vain sink.old) (W.in_vain sink.new)
+            (W.failed sink.old) (W.failed sink.new)) }
+    {
+        self.line.push(b'\n');
+        answer_text(
+            alloc,
+            evening,
+            &mut self.fields,
+            self.line.as_slice(),
+            &mut self.page,
+            sink,
+        )?;
+        self.line.clear();
+        Ok(())
+    }
+
+    /// Answers the line that ends with these bytes, its line feed among them.
+    pub(crate) fn end_line<W: Sink>(
+        &mut self,
+        alloc: Global,
+        evening: &mut Evening,
+        end: &[u8],
+        sink: &mut W,
+    ) -> Result<(), RunFault>
+        requires ends { IsLineEnd end.now }
+        requires short { length self.old.line.items ≤ 258 }
+        requires row { evening.old.row < 2 ^ 64 - 1 }
+        ensures moment { OnOk result (moment_of evening.new self.new
+            ≡ moment_after (moment_of evening.old self.old) end.now) }
+        ensures begun { OnOk result (self.new.line.items ≡ []) }
+        ensures row { OnOk result (evening.new.row ≤ evening.old.row + 1) }
+        ensures put { OnOk result (HasPut self.old.page self.new.page
+            (W.taken sink.old) (W.taken sink.new)
+            (answers_to (moment_of evening.old self.old) end.now)) }
+        ensures sound { OnOk result (W.failed sink.new ≡ W.failed sink.old) }
+        ensures vain { OnOk result (W.in_vain sink.new ≡ W.in_vain sink.old) }
+        ensures fails { IfErr result (FailsToTake (moment_of evening.old self.old) end.now
+            self.old.page self.new.page
+            (W.failed sink.new) (W.taken sink.old) (W.taken sink.new)) }
         ensures sink_fails { IfErr result (SinkFails
             (W.in_vain sink.old) (W.in_vain sink.new)
             (W.failed sink.old) (W.failed sink.new)) }
     {
         let _written = self.page.written();
-        self.line.push(b'\n');
-        let found = read(&mut self.fields, evening.row, self.line.as_slice());
-        self.line.clear();
-        match found {
-            Found::Nothing => Ok(evening.passed()),
-            Found::More => evening.answered(alloc, &None, &mut self.page, sink),
-            Found::One => {
-                let said = self.fields.four();
-                evening.answered(alloc, &said, &mut self.page, sink)
-            }
+        if self.line.is_empty() {
+            return answer_text(alloc, evening, &mut self.fields, end, &mut self.page, sink);
         }
+        self.keep_all(&end[..end.len() - 1]);
+        self.answer(alloc, evening, sink)
     }
 }

@@ -6,15 +6,16 @@ ghost use Rattle.ucl_answers.specs.Output.{FailsToPut, HasPut, SinkFails};
 ghost use Rattle.ucl_answers.specs.Rows.{Nothing, of_row};
 ghost use Rattle.ucl_answers.specs.Requests.{request_of};
 ghost use Rattle.ucl_answers.specs.Seen.{evening_seen, stage_seen};
-ghost use Rattle.ucl_answers.specs.Stages.{after_row};
+ghost use Rattle.ucl_answers.specs.Stages.{after_row, opened};
 ghost use Rattle.ucl_answers.specs.Stepping.{AsksAt, AsksForMemory, EveningIsRefused, StageIsRefused};
 ghost use Rattle.ucl_answers.specs.Text.{answer_said, answer_at, next};
 
 use crate::options::Options;
 use crate::page::Page;
 use crate::request::request_of;
-use crate::stage::{Stage, with_club};
+use crate::stage::{Clubs, Stage, with_club};
 use std::alloc::Global;
+use std::mem;
 use ucl_runs::RunFault;
 use ucl_screen::{Four, Sink};
 
@@ -52,53 +53,93 @@ fn after_row<W: Sink>(
         Stage::Restoring(some) => some.with_row(row, said),
         Stage::Open(table) => {
             let request = request_of(said);
-            let table = table.answered(alloc, options, row, &request, page, sink)?;
+            let mut table = table;
+            table.answered(alloc, options, row, &request, page, sink)?;
             Ok(Stage::Open(table))
         }
     }
 }
 
 impl Evening {
-    /// The evening after a line with nothing on it.
-    pub(crate) fn passed(self) -> Evening
-        requires { self.row < 2 ^ 64 - 1 }
-        ensures { evening_seen result ≡ next (evening_seen self) Nothing }
+    /// Passes over a line with nothing on it.
+    pub(crate) fn pass(&mut self)
+        requires { self.old.row < 2 ^ 64 - 1 }
+        ensures { evening_seen self.new ≡ next (evening_seen self.old) Nothing }
     {
-        Evening {
-            options: self.options,
-            row: self.row + 1,
-            stage: self.stage,
-        }
+        self.row += 1;
     }
 
-    /// Answers a row, which has four fields or is garbled, and gives the evening after it.
-    pub(crate) fn answered<W: Sink>(
-        self,
+    /// Answers a row, which has four fields or is garbled, before the board is open.
+    fn answer_early<W: Sink>(
+        &mut self,
         alloc: Global,
         said: &Option<Four<'_>>,
         page: &mut Page,
         sink: &mut W,
-    ) -> Result<Evening, RunFault>
-        requires { self.row < 2 ^ 64 - 1 }
-        ensures next { IfOk result (λ after. evening_seen after ≡ next (evening_seen self) (of_row (option_map four_seen said.now))) }
-        ensures put { OnOk result (HasPut page.old page.new (W.taken sink.old) (W.taken sink.new) (answer_said (evening_seen self) (of_row (option_map four_seen said.now)))) }
+    ) -> Result<(), RunFault>
+        ensures options { OnOk result (self.new.options ≡ self.old.options) }
+        ensures row { OnOk result (self.new.row ≡ self.old.row) }
+        ensures stage { OnOk result (stage_seen self.new.stage
+            ≡ after_row self.old.row (opened (stage_seen self.old.stage) (of_row (option_map four_seen said.now)))
+            (of_row (option_map four_seen said.now))) }
+        ensures put { OnOk result (HasPut page.old page.new (W.taken sink.old) (W.taken sink.new)
+            (answer_said (evening_seen self.old) (of_row (option_map four_seen said.now)))) }
         ensures sound { OnOk result (W.failed sink.new ≡ W.failed sink.old) }
         ensures vain { OnOk result (W.in_vain sink.new ≡ W.in_vain sink.old) }
-        ensures fails { IfErr result (FailsToPut page.old page.new (W.failed sink.new) (W.taken sink.old) (W.taken sink.new) (answer_said (evening_seen self) (of_row (option_map four_seen said.now))) (AsksForMemory (evening_seen self) (of_row (option_map four_seen said.now))) (EveningIsRefused (next (evening_seen self) (of_row (option_map four_seen said.now))))) }
+        ensures fails { IfErr result (FailsToPut page.old page.new
+            (W.failed sink.new) (W.taken sink.old) (W.taken sink.new)
+            (answer_said (evening_seen self.old) (of_row (option_map four_seen said.now)))
+            (AsksForMemory (evening_seen self.old) (of_row (option_map four_seen said.now)))
+            (EveningIsRefused (next (evening_seen self.old) (of_row (option_map four_seen said.now))))) }
         ensures sink_fails { IfErr result (SinkFails
             (W.in_vain sink.old) (W.in_vain sink.new)
             (W.failed sink.old) (W.failed sink.new)) }
     {
-        let Evening {
-            options,
-            row,
-            stage,
-        } = self;
-        let stage = after_row(alloc, &options, row, stage.opened(said), said, page, sink)?;
-        Ok(Evening {
-            options,
-            row: row + 1,
-            stage,
-        })
+        let stage = mem::replace(&mut self.stage, Stage::Naming(Clubs::NoClub));
+        self.stage = after_row(
+            alloc,
+            &self.options,
+            self.row,
+            stage.opened(said),
+            said,
+            page,
+            sink,
+        )?;
+        Ok(())
+    }
+
+    /// Answers a row, which has four fields or is garbled.
+    pub(crate) fn answer<W: Sink>(
+        &mut self,
+        alloc: Global,
+        said: &Option<Four<'_>>,
+        page: &mut Page,
+        sink: &mut W,
+    ) -> Result<(), RunFault>
+        requires { self.old.row < 2 ^ 64 - 1 }
+        ensures next { OnOk result (evening_seen self.new
+            ≡ next (evening_seen self.old) (of_row (option_map four_seen said.now))) }
+        ensures put { OnOk result (HasPut page.old page.new (W.taken sink.old) (W.taken sink.new)
+            (answer_said (evening_seen self.old) (of_row (option_map four_seen said.now)))) }
+        ensures sound { OnOk result (W.failed sink.new ≡ W.failed sink.old) }
+        ensures vain { OnOk result (W.in_vain sink.new ≡ W.in_vain sink.old) }
+        ensures fails { IfErr result (FailsToPut page.old page.new
+            (W.failed sink.new) (W.taken sink.old) (W.taken sink.new)
+            (answer_said (evening_seen self.old) (of_row (option_map four_seen said.now)))
+            (AsksForMemory (evening_seen self.old) (of_row (option_map four_seen said.now)))
+            (EveningIsRefused (next (evening_seen self.old) (of_row (option_map four_seen said.now))))) }
+        ensures sink_fails { IfErr result (SinkFails
+            (W.in_vain sink.old) (W.in_vain sink.new)
+            (W.failed sink.old) (W.failed sink.new)) }
+    {
+        match &mut self.stage {
+            Stage::Open(table) => {
+                let request = request_of(said);
+                table.answered(alloc, &self.options, self.row, &request, page, sink)?;
+            }
+            _ => self.answer_early(alloc, said, page, sink)?,
+        }
+        self.row += 1;
+        Ok(())
     }
 }

@@ -12,6 +12,7 @@ ghost use Rattle.ucl_answers.specs.Taking.{FailsToEnd, FailsToGive, FailsToTake,
 
 use crate::desk::Desk;
 use crate::evening::Evening;
+use crate::lines::first_line;
 use crate::options::Options;
 use crate::stage::{Clubs, Stage};
 use crate::wire::Wire;
@@ -43,35 +44,6 @@ pub enum Progress {
     Ended,
 }
 
-/// Takes a byte. Where it ends a line, this line is answered.
-fn enter_byte<W: Sink>(
-    alloc: Global,
-    evening: Evening,
-    desk: &mut Desk,
-    b: u8,
-    sink: &mut W,
-) -> Result<Evening, RunFault>
-    requires short { length desk.old.line.items ≤ 258 }
-    requires row { evening.row < 2 ^ 64 - 1 }
-    ensures moment { IfOk result (λ after. moment_of after desk.new ≡ moment_after (moment_of evening desk.old) (b ∷ [])) }
-    ensures short { OnOk result (length desk.new.line.items ≤ 258) }
-    ensures row { IfOk result (λ after. held_row after ≤ evening.row + 1) }
-    ensures put { OnOk result (HasPut desk.old.page desk.new.page (W.taken sink.old) (W.taken sink.new) (answers_to (moment_of evening desk.old) (b ∷ []))) }
-    ensures sound { OnOk result (W.failed sink.new ≡ W.failed sink.old) }
-    ensures vain { OnOk result (W.in_vain sink.new ≡ W.in_vain sink.old) }
-    ensures fails { IfErr result (FailsToTake (moment_of evening desk.old) (b ∷ []) desk.old.page desk.new.page (W.failed sink.new) (W.taken sink.old) (W.taken sink.new)) }
-    ensures sink_fails { IfErr result (SinkFails
-        (W.in_vain sink.old) (W.in_vain sink.new)
-        (W.failed sink.old) (W.failed sink.new)) }
-{
-    let _written = desk.page.written();
-    if b == b'\n' {
-        return desk.answer(alloc, evening, sink);
-    }
-    desk.keep(b);
-    Ok(evening)
-}
-
 /// Takes bytes, and answers each line that ends among them.
 fn enter<W: Sink>(
     alloc: Global,
@@ -95,10 +67,19 @@ fn enter<W: Sink>(
 {
     let _written = desk.page.written();
     let mut evening = evening;
-    for b in bytes {
-        evening = enter_byte(alloc, evening, desk, *b, sink)?;
+    let mut start = 0;
+    'lines: loop {
+        match first_line(&bytes[start..]) {
+            Some(end) => {
+                desk.end_line(alloc, &mut evening, end, sink)?;
+                start += end.len();
+            }
+            None => {
+                desk.keep_all(&bytes[start..]);
+                return Ok(evening);
+            }
+        }
     }
-    Ok(evening)
 }
 
 /// Whether a run failed for want of memory.
@@ -169,7 +150,9 @@ fn answer_last<W: Sink>(
     if desk.line.is_empty() {
         return Ok(evening);
     }
-    desk.answer(alloc, evening, sink)
+    let mut evening = evening;
+    desk.answer(alloc, &mut evening, sink)?;
+    Ok(evening)
 }
 
 /// Answers a last line that has no end, and looks whether a club or a word is missing.

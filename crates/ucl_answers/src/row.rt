@@ -89,7 +89,7 @@ fn part(bytes: &[u8], start: u16, end: u16) -> &[u8]
 }
 
 /// What comes after the line ends at the start of a text.
-fn without_ends(text: &[u8]) -> &[u8]
+pub(crate) fn without_ends(text: &[u8]) -> &[u8]
     ensures behind { IsBehindEnds text.now result.now }
     ensures shorter { length result.now ≤ length text.now }
 {

@@ -1,6 +1,6 @@
 //! The answers of an open board.
 
-ghost use Rattle.std.specs.Prelude.{◌≡◌, IfErr, IfOk, OnOk};
+ghost use Rattle.std.specs.Prelude.{◌≡◌, IfErr, OnOk};
 ghost use Rattle.ucl_answers.specs.Output.{FailsToPut, HasPut, SinkFails};
 ghost use Rattle.ucl_answers.specs.Stages.{next_board};
 ghost use Rattle.ucl_answers.specs.Stepping.{AsksOf, NeverRefused};
@@ -51,59 +51,61 @@ impl Table {
     /// Enters an event, and answers it.
     #[tactic(auto, using(crate::proofs::Puts::put_fails, crate::proofs::Puts::vain_fails))]
     fn entered<W: Sink>(
-        self,
+        &mut self,
         alloc: Global,
         options: &Options,
         row: u64,
         event: &NightEvent,
         page: &mut Page,
         sink: &mut W,
-    ) -> Result<Table, RunFault>
-        ensures roster { IfOk result (λ after. after.roster ≡ self.roster) }
-        ensures board { IfOk result (λ after. after.board ≡ next_board self.board (Event event.now)) }
-        ensures put { OnOk result (HasPut page.old page.new (W.taken sink.old) (W.taken sink.new) (event_answer options.now row self.roster self.board event.now)) }
+    ) -> Result<(), RunFault>
+        ensures roster { OnOk result (self.new.roster ≡ self.old.roster) }
+        ensures board { OnOk result (self.new.board ≡ next_board self.old.board (Event event.now)) }
+        ensures put { OnOk result (HasPut page.old page.new (W.taken sink.old) (W.taken sink.new)
+            (event_answer options.now row self.old.roster self.old.board event.now)) }
         ensures sound { OnOk result (W.failed sink.new ≡ W.failed sink.old) }
         ensures vain { OnOk result (W.in_vain sink.new ≡ W.in_vain sink.old) }
-        ensures fails { IfErr result (FailsToPut page.old page.new (W.failed sink.new) (W.taken sink.old) (W.taken sink.new) (event_answer options.now row self.roster self.board event.now) (AsksOf options.now self.board (Event event.now)) NeverRefused) }
+        ensures fails { IfErr result (FailsToPut page.old page.new
+            (W.failed sink.new) (W.taken sink.old) (W.taken sink.new)
+            (event_answer options.now row self.old.roster self.old.board event.now)
+            (AsksOf options.now self.old.board (Event event.now)) NeverRefused) }
         ensures sink_fails { IfErr result (SinkFails
             (W.in_vain sink.old) (W.in_vain sink.new)
             (W.failed sink.old) (W.failed sink.new)) }
     {
         let before = self.board.version();
-        let mut board = self.board;
-        let reply = board.report(event.reporter, &event.call);
+        let reply = self.board.report(event.reporter, &event.call);
         let game = event.call.game.get();
-        let after = Table {
-            roster: self.roster,
-            board,
-        };
-        let line = reply_answer(alloc, options, row, game, before, reply, &after)?;
+        let line = reply_answer(alloc, options, row, game, before, reply, self)?;
         if options.screens && reply.is_ok() {
-            let screen = screen_answer(alloc, options, row, &after)?;
-            page.put_both(sink, line.bytes(), screen.bytes())?;
+            let screen = screen_answer(alloc, options, row, self)?;
+            page.put_both(sink, line.bytes(), screen.bytes())
         } else {
-            page.put(sink, line.bytes())?;
+            page.put(sink, line.bytes())
         }
-        Ok(after)
     }
 
-    /// Does what a row asks for, answers it, and gives the table after it.
+    /// Does what a row asks for, and answers it.
     #[tactic(auto, using(crate::proofs::Puts::put_fails, crate::proofs::Puts::vain_fails))]
     pub(crate) fn answered<W: Sink>(
-        self,
+        &mut self,
         alloc: Global,
         options: &Options,
         row: u64,
         request: &Request,
         page: &mut Page,
         sink: &mut W,
-    ) -> Result<Table, RunFault>
-        ensures roster { IfOk result (λ after. after.roster ≡ self.roster) }
-        ensures board { IfOk result (λ after. after.board ≡ next_board self.board request.now) }
-        ensures put { OnOk result (HasPut page.old page.new (W.taken sink.old) (W.taken sink.new) (answer_of options.now row self.roster self.board request.now)) }
+    ) -> Result<(), RunFault>
+        ensures roster { OnOk result (self.new.roster ≡ self.old.roster) }
+        ensures board { OnOk result (self.new.board ≡ next_board self.old.board request.now) }
+        ensures put { OnOk result (HasPut page.old page.new (W.taken sink.old) (W.taken sink.new)
+            (answer_of options.now row self.old.roster self.old.board request.now)) }
         ensures sound { OnOk result (W.failed sink.new ≡ W.failed sink.old) }
         ensures vain { OnOk result (W.in_vain sink.new ≡ W.in_vain sink.old) }
-        ensures fails { IfErr result (FailsToPut page.old page.new (W.failed sink.new) (W.taken sink.old) (W.taken sink.new) (answer_of options.now row self.roster self.board request.now) (AsksOf options.now self.board request.now) NeverRefused) }
+        ensures fails { IfErr result (FailsToPut page.old page.new
+            (W.failed sink.new) (W.taken sink.old) (W.taken sink.new)
+            (answer_of options.now row self.old.roster self.old.board request.now)
+            (AsksOf options.now self.old.board request.now) NeverRefused) }
         ensures sink_fails { IfErr result (SinkFails
             (W.in_vain sink.old) (W.in_vain sink.new)
             (W.failed sink.old) (W.failed sink.new)) }
@@ -113,13 +115,11 @@ impl Table {
                 return self.entered(alloc, options, row, event, page, sink);
             }
             Request::Bad => bad_answer(alloc, options.format, row)?,
-            Request::Screen => screen_answer(alloc, options, row, &self)?,
+            Request::Screen => screen_answer(alloc, options, row, self)?,
             Request::Words => {
-                put_words(alloc, options.format, row, &self.board, page, sink)?;
-                return Ok(self);
+                return put_words(alloc, options.format, row, &self.board, page, sink);
             }
         };
-        page.put(sink, answer.bytes())?;
-        Ok(self)
+        page.put(sink, answer.bytes())
     }
 }

@@ -1,6 +1,6 @@
 use Rattle.std.proofs.Common.{sym, ◌∙◌}
+use Rattle.std.proofs.lemmas.Result.{err_from_is_err_and}
 use Rattle.ucl_answers.specs.Taking.{moment_of}
-use Rattle.ucl_answers.proofs.Failures.{if-ok}
 use Rattle.ucl_answers.proofs.Moments.{last-answer, last-evening, no-last, no-last-evening}
 use Rattle.ucl_answers.proofs.Puts.{put_nothing}
 use Rattle.ucl_answers.proofs.RowEnds.{empty-list, full-list}
@@ -16,14 +16,16 @@ returns-then-is_empty-clause-put g c =
 pub returns-clause-ended : goal.returns-clause-ended
 returns-clause-ended g c =
     let k = last-evening (moment_of c.args.evening c.args.desk.now) (full-list c.is_empty.result _ c.is_empty.ensures c.if-is_empty.false) in
-    if-ok c.answer.result _ _ (λ after p. p ∙ sym k) c.answer.ensures.next
+    c.in_ok-answer.ensures.next ∙ sym k
 
 pub returns-clause-put : goal.returns-clause-put
 returns-clause-put g c =
-    let k = last-answer (moment_of c.args.evening c.args.desk.now) (full-list c.is_empty.result _ c.is_empty.ensures c.if-is_empty.false) in rw k c.answer.ensures.put
+    let k = last-answer (moment_of c.args.evening c.args.desk.now) (full-list c.is_empty.result _ c.is_empty.ensures c.if-is_empty.false) in
+    rw k c.in_ok-answer.ensures.put
 
-pub returns-clause-fails : goal.returns-clause-fails
-returns-clause-fails g c =
+pub returns-in_err-answer-clause-fails : goal.returns-in_err-answer-clause-fails
+returns-in_err-answer-clause-fails g c =
+    let p = err_from_is_err_and c.from_residual.result c.from_residual.ensures.1 in
     let h = full-list c.is_empty.result _ c.is_empty.ensures c.if-is_empty.false in
     let m = moment_of c.args.evening c.args.desk.now in
-    rw (last-answer m h, last-evening m h) c.answer.ensures.fails
+    rw (p.1, p.2) (rw (last-answer m h, last-evening m h) c.in_err-answer.ensures.fails)
