@@ -133,7 +133,8 @@ class Trial:
         count = chance.choice([4] * 9 + [0, 3, 5])
         made, slot, said = (board.Club * max(count, 1))(), None, []
         for i in range(count):
-            name = bytes(chance.choice(b"ABCDEFGH ~") for _ in range(20))
+            letters = chance.choice([b"ABCDEFGH ~", b"ABCDEFGH ~", b'"\\'])
+            name = bytes(chance.choice(letters) for _ in range(20))
             size, coefficient = chance.randint(1, 20), chance.choice([0, 60_000, 60_000, 999_999])
             if chance.random() < 0.03:
                 size = chance.choice([0, 21, 256, 257, 2**32 - 1])
@@ -172,7 +173,7 @@ class Trial:
     def json(self, array, length, clubs, group, profile, told, said):
         """The line of JSON, in some room, against what an evening answers."""
         board, c = self.board, self.board.c
-        row, room = self.chance.choice([0, 9, 2**64 - 1]), self.chance.choice([2500, 2500, 0, 40])
+        row, room = self.chance.choice([0, 9, 2**64 - 1]), self.chance.choice([1424, 1424, 1536, 0, 40])
         out, size, at = c.create_string_buffer(b"\x55" * 2600, 2600), c.c_size_t(78), c.c_uint32(79)
         status = board.screen_json(row, array, length, clubs[0], clubs[1], group, profile, out, room, size, at)
         if told:
@@ -185,7 +186,7 @@ class Trial:
             as_it_is = line.endswith(b"\n") and rest[:1] == b"\0" and set(rest[1:]) <= {0x55} and size.value < room
             self.same("screen_json", (json.loads(line), at.value, as_it_is), (evening.shown(row)[0], 79, True))
         else:
-            as_it_is = out.raw == b"\x55" * 2600 and room <= size.value < 2500
+            as_it_is = out.raw == b"\x55" * 2600 and room <= size.value < 1424
             self.same("screen_json", (status, at.value, as_it_is), (56, 79, True))
 
     def table(self, array, length, profile, told, coefficients):

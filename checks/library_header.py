@@ -93,14 +93,15 @@ def numbers_differ(top):
 def rooms_differ(top):
     """The sizes and rooms of the header that are not those of the code and its clauses."""
     src = top / "crates/ucl_c/src"
-    bound = re.search(r"ensures room \{ (\d+) ≤ length out\.old → result ≢ 56 \}", (src / "screen.rt").read_text())
+    screen, line = (re.search(r"ensures room \{ (\d+) ≤ length out\.old → result ≢ 56 \}", (src / file).read_text()) for file in ("screen.rt", "line.rt"))
     name = re.search(r"pub name: \[u8; (\d+)\],", (src / "group.rt").read_text())
     names = re.findall(r"\(\d+, codes \"(.*?)\"\)", (top / "crates/ucl_c/specs/Codes.antt").read_text())
     limits = {
         "UCLBOARD_WORDS": (12, 12),
         "UCLBOARD_CLUBS": (4, 4),
         "UCLBOARD_NAME": (int(name[1]), int(name[1])),
-        "UCLBOARD_SCREEN_ROOM": (int(bound[1]), 400),
+        "UCLBOARD_SCREEN_ROOM": (int(screen[1]), 400),
+        "UCLBOARD_JSON_ROOM": (int(line[1]), 2048),
         "UCLBOARD_NAME_ROOM": (1 + max(map(len, names)), 40),
     }
     found = told_by_c(top, list(limits))
@@ -110,8 +111,8 @@ def rooms_differ(top):
 def others_differ(top):
     """The numbers of the modules in Python and Rust that are not those of the header."""
     python, rust = ((top / "examples" / path).read_text() for path in ("python/uclboard.py", "rust/uclboard.rs"))
-    names = re.search(r"^(SCHEDULED_WORD = .*)\n^WORDS, CLUBS, NAME, SCREEN_ROOM, NAME_ROOM, JSON_ROOM = (\d+), (\d+), (\d+), (\d+), (\d+)", python, re.M)
-    told = {"UCLBOARD_" + name: number for name, number in zip("WORDS CLUBS NAME SCREEN_ROOM NAME_ROOM".split(), map(int, names.groups()[1:]))}
+    names = re.search(r"^(SCHEDULED_WORD = .*)\n^WORDS, CLUBS, NAME, SCREEN_ROOM, NAME_ROOM, JSON_ROOM = (\d+), (\d+), (\d+), (\d+), (\d+), (\d+)", python, re.M)
+    told = {"UCLBOARD_" + name: number for name, number in zip("WORDS CLUBS NAME SCREEN_ROOM NAME_ROOM JSON_ROOM".split(), map(int, names.groups()[1:]))}
     told["UCLBOARD_SCHEDULED_WORD"] = int(names[1].split(" = ")[1], 16)
     told["UCLBOARD_VERSION_NUMBER"] = int(re.search(r"^VERSION_NUMBER = (\d+)$", python, re.M)[1])
     wanted = [(name, told[name], "Python") for name in told]

@@ -273,14 +273,14 @@ def measured(workload, start=""):
 
 def measures():
     """Workloads of a board."""
-    starts = {"mix-3-1": (3, 1), "mix-12-12": (12, 12), "paced-2-0": (2, 0), "paced-0-12": (0, 12), "night": (2, 2)}
+    starts = {"mix-3-1": (3, 1), "mix-16-12": (16, 12), "paced-2-0": (2, 0), "paced-0-12": (0, 12), "night": (2, 2)}
     told = {name: f'"readers":{readers},"reporters":{reporters},' for name, (readers, reporters) in starts.items()}
     return next(filter(None, (measured(name, start) for name, start in {"read": "", "report": "", **told}.items())), None)
 
 
 def measures_no():
     """Words that are no workload."""
-    names = ["", "write", "Read", "read-1", "report-1-1", "mix", "mix-3", "mix-13-1", "mix-1-13", "mix-a-1", "mix--1", "mix-1-", "mix-1-1-1"]
+    names = ["", "write", "Read", "read-1", "report-1-1", "mix", "mix-3", "mix-17-1", "mix-1-13", "mix-a-1", "mix--1", "mix-1-", "mix-1-1-1"]
     for name in [*names, "paced-256-0", "night-2-2", "3-1"]:
         run = ran(["bench/boards", "run", "plain_words", name, "1"])
         if run.returncode == 0 or run.stdout or b"no such workload" not in run.stderr:

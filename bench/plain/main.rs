@@ -47,7 +47,7 @@ fn usage() -> Failure {
     (2, USAGE.to_string())
 }
 
-/// Nights by the name of a workload: `mix-R-W` or `paced-R-W`, with R readers and W reporters, each 0 to 12; or `night`.
+/// Nights by the name of a workload: `mix-R-W` or `paced-R-W`, with R readers, 0 to 16, and W reporters, 0 to 12; or `night`.
 fn plan_of(name: &str) -> Option<Plan> {
     if name == "night" {
         return Some(Plan {
@@ -63,11 +63,11 @@ fn plan_of(name: &str) -> Option<Plan> {
         "paced" => Style::Paced,
         _ => return None,
     };
-    let number = |digits: &str| digits.parse().ok().filter(|number| *number <= 12);
+    let number = |digits: &str, most| digits.parse().ok().filter(|number| *number <= most);
     Some(Plan {
         style,
-        readers: number(readers)?,
-        reporters: number(reporters)?,
+        readers: number(readers, 16)?,
+        reporters: number(reporters, 12)?,
     })
 }
 

@@ -1,9 +1,11 @@
 //! Nights: readers and reporters in threads of their own, which stay for all nights, each of which has a fresh board. Nights without a
-//! clock, of which the rates are told, and nights in which each reading is timed and checked take turns.
+//! clock, of which the rates are told, nights in which each reading is timed and checked, and nights in which each report is timed take
+//! turns.
 
-use crate::boards::{read_once, report_once, Board};
+use crate::boards::{read_once, report_once, Board, Told};
 use crate::events::{event_at, Cut, Order, ALL_EVENTS};
 use crate::tally::{is_whole, Tally};
+use crate::word::Event;
 use std::sync::atomic::{AtomicUsize, Ordering};
 use std::sync::mpsc::{channel, Receiver, Sender};
 use std::sync::Arc;
@@ -54,10 +56,27 @@ impl Plan {
     }
 }
 
+/// What is timed in a night.
+#[derive(Clone, Copy, PartialEq, Eq, Debug)]
+enum Timed {
+    Nothing,
+    Readings,
+    Reports,
+}
+
+/// What is timed in the night after so many.
+fn timed_after(nights: u64) -> Timed {
+    match nights % 3 {
+        0 => Timed::Nothing,
+        1 => Timed::Readings,
+        _ => Timed::Reports,
+    }
+}
+
 /// A night, which its workers share.
 struct Night<B> {
     board: B,
-    is_timed: bool,
+    timed: Timed,
     workers: usize,
     come: AtomicUsize,
     reporting: AtomicUsize,
@@ -65,10 +84,10 @@ struct Night<B> {
 
 impl<B: Board> Night<B> {
     /// A night on a fresh board. With no reporter it ends when it is told to.
-    fn of(plan: Plan, is_timed: bool) -> Arc<Night<B>> {
+    fn of(plan: Plan, timed: Timed) -> Arc<Night<B>> {
         Arc::new(Night {
             board: B::fresh(),
-            is_timed,
+            timed,
             workers: usize::from(plan.readers) + usize::from(plan.reporters),
             come: AtomicUsize::new(0),
             reporting: AtomicUsize::new(usize::from(plan.reporters.max(1))),
@@ -112,8 +131,19 @@ impl<B: Board> Night<B> {
         }
     }
 
+    /// Makes a report, and counts its time where reports are timed.
+    fn report(&self, index: u8, event: &Event, tally: &mut Tally) -> Told {
+        if self.timed != Timed::Reports {
+            return report_once(&self.board, index + 1, event);
+        }
+        let begun = Instant::now();
+        let told = report_once(&self.board, index + 1, event);
+        tally.add_checked(begun.elapsed().as_nanos() as u64, true);
+        told
+    }
+
     /// Enters the events of a reporter's own matches, and gives how many were accepted.
-    fn enter_own(&self, plan: Plan, index: u8) -> u64 {
+    fn enter_own(&self, plan: Plan, index: u8, tally: &mut Tally) -> u64 {
         let cut = plan.cut();
         let mut due = Instant::now();
         let mut entered = 0;
@@ -123,7 +153,7 @@ impl<B: Board> Night<B> {
                     while Instant::now() < due {}
                     due += PACE;
                 }
-                let told = report_once(&self.board, index + 1, &event_at(game, expected));
+                let told = self.report(index, &event_at(game, expected), tally);
                 entered += u64::from(told.is_accepted);
             }
         }
@@ -132,13 +162,13 @@ impl<B: Board> Night<B> {
 
     /// Enters events of all matches, one of each in turn up to full time, with the number that the last reply of the match told, and gives
     /// how many were accepted. A match that another reporter has brought beyond the turn is passed over.
-    fn enter_all(&self, index: u8) -> u64 {
+    fn enter_all(&self, index: u8, tally: &mut Tally) -> u64 {
         let mut entered = 0;
         let mut numbers = [0; 12];
         for turn in 0..ALL_EVENTS {
             for (game, number) in (1..).zip(&mut numbers) {
                 if *number == turn {
-                    let told = report_once(&self.board, index + 1, &event_at(game, turn));
+                    let told = self.report(index, &event_at(game, turn), tally);
                     entered += u64::from(told.is_accepted);
                     *number = told.number;
                 }
@@ -160,28 +190,29 @@ fn read_nights<B: Board>(nights: Receiver<Arc<Night<B>>>, cut: Cut) -> Tally {
     let mut tally = Tally::new();
     for night in nights {
         night.begin();
-        if night.is_timed {
-            night.read_timed(cut, &mut tally);
-        } else {
-            night.read_freely(&mut tally);
+        match night.timed {
+            Timed::Nothing => night.read_freely(&mut tally),
+            Timed::Readings => night.read_timed(cut, &mut tally),
+            Timed::Reports => night.read_freely(&mut Tally::new()),
         }
     }
     tally
 }
 
-/// Enters a reporter's events of all nights, and tells of each night.
+/// Enters a reporter's events of all nights, tells of each night, and gives what its timed reports took.
 fn enter_nights<B: Board>(
     nights: Receiver<Arc<Night<B>>>,
     plan: Plan,
     index: u8,
     shifts: Sender<Shift>,
-) {
+) -> Tally {
+    let mut tally = Tally::new();
     for night in nights {
         night.begin();
         let begun = Instant::now();
         let entered = match plan.style {
-            Style::Night => night.enter_all(index),
-            _ => night.enter_own(plan, index),
+            Style::Night => night.enter_all(index, &mut tally),
+            _ => night.enter_own(plan, index, &mut tally),
         };
         let ended = Instant::now();
         night.reporting.fetch_sub(1, Ordering::SeqCst);
@@ -193,9 +224,10 @@ fn enter_nights<B: Board>(
             })
             .is_err()
         {
-            return;
+            break;
         }
     }
+    tally
 }
 
 /// The figures of all nights. Times and events are those of nights without a clock.
@@ -206,6 +238,7 @@ pub struct Nights {
     time: Duration,
     entered: u64,
     tally: Tally,
+    reports: Tally,
 }
 
 /// The quotient of two numbers; 0 where the divisor is 0.
@@ -242,6 +275,9 @@ impl fmt::Display for Nights {
         let retries = quotient(self.tally.retries, self.tally.reads);
         let p50 = self.tally.time_at(500);
         let p999 = self.tally.time_at(999);
+        let report_p50 = self.reports.time_at(500);
+        let report_p999 = self.reports.time_at(999);
+        let report_max = self.reports.longest;
         let clock = clock_nanos();
         let torn = checked - whole;
         write!(
@@ -249,6 +285,7 @@ impl fmt::Display for Nights {
             "\"readers\":{readers},\"reporters\":{reporters},\"nights\":{nights},\
              \"reads_per_s\":{reads_per_s:.2},\"reports_per_s\":{reports_per_s:.2},\"night_ms\":{night_ms:.2},\
              \"retries_per_read\":{retries:.6},\"p50_ns\":{p50},\"p999_ns\":{p999},\"max_ns\":{longest},\
+             \"report_p50_ns\":{report_p50},\"report_p999_ns\":{report_p999},\"report_max_ns\":{report_max},\
              \"clock_ns\":{clock},\"checked\":{checked},\"whole\":{whole},\"torn\":{torn}"
         )
     }
@@ -263,11 +300,13 @@ pub fn hold_nights<B: Board>(plan: Plan, millis: u64) -> Nights {
         time: Duration::ZERO,
         entered: 0,
         tally: Tally::new(),
+        reports: Tally::new(),
     };
     let (told, shifts) = channel();
     thread::scope(|scope| {
         let mut workers = Vec::new();
         let mut readers = Vec::new();
+        let mut reporters = Vec::new();
         for _ in 0..plan.readers {
             let (to, nights) = channel::<Arc<Night<B>>>();
             workers.push(to);
@@ -277,12 +316,12 @@ pub fn hold_nights<B: Board>(plan: Plan, millis: u64) -> Nights {
             let (to, nights) = channel::<Arc<Night<B>>>();
             workers.push(to);
             let told = told.clone();
-            scope.spawn(move || enter_nights(nights, plan, index, told));
+            reporters.push(scope.spawn(move || enter_nights(nights, plan, index, told)));
         }
         let end = Instant::now() + Duration::from_millis(millis);
-        while Instant::now() < end || result.nights < 2 {
+        while Instant::now() < end || result.nights < 3 {
             hold_night(
-                &Night::of(plan, result.nights % 2 == 1),
+                &Night::of(plan, timed_after(result.nights)),
                 &workers,
                 &shifts,
                 &mut result,
@@ -293,6 +332,11 @@ pub fn hold_nights<B: Board>(plan: Plan, millis: u64) -> Nights {
             result
                 .tally
                 .add_all(&reader.join().expect("no reader has panicked"));
+        }
+        for reporter in reporters {
+            result
+                .reports
+                .add_all(&reporter.join().expect("no reporter has panicked"));
         }
     });
     result
@@ -311,20 +355,17 @@ fn hold_night<B: Board>(
             .expect("a worker waits for the next night");
     }
     let reporters = usize::from(result.plan.reporters);
+    let is_free = night.timed == Timed::Nothing;
     result.nights += 1;
-    result.untimed += u64::from(!night.is_timed);
+    result.untimed += u64::from(is_free);
     if reporters == 0 {
         thread::sleep(QUIET_NIGHT);
         night.reporting.store(0, Ordering::SeqCst);
-        result.time += if night.is_timed {
-            Duration::ZERO
-        } else {
-            QUIET_NIGHT
-        };
+        result.time += if is_free { QUIET_NIGHT } else { Duration::ZERO };
         return;
     }
     let shifts: Vec<Shift> = shifts.iter().take(reporters).collect();
-    if !night.is_timed {
+    if is_free {
         let begun = shifts.iter().map(|shift| shift.begun).min();
         let ended = shifts.iter().map(|shift| shift.ended).max();
         result.time += begun

@@ -106,9 +106,11 @@ enum { UCLBOARD_BLANK = 0, UCLBOARD_PLUS = 1, UCLBOARD_MINUS = 2 };
 #define UCLBOARD_CLUBS 4
 #define UCLBOARD_NAME 20
 
-/* Room for each screen and its zero, and for the name of each status. A screen has at most 296 bytes, so that uclboard_screen never answers
-   UCLBOARD_NO_ROOM where its buffer has this room. */
+/* Room for each screen and its zero, for each line of JSON and its zero, and for the name of each status. A screen has at most 296 bytes, and a
+   line of JSON 1,423 with its line feed, so that uclboard_screen and uclboard_screen_json never answer UCLBOARD_NO_ROOM where their buffer has
+   this room. */
 #define UCLBOARD_SCREEN_ROOM 320
+#define UCLBOARD_JSON_ROOM 1536
 #define UCLBOARD_NAME_ROOM 32
 
 /* The record of a match. */
@@ -186,8 +188,7 @@ UCLBOARD_NEEDS_LOOK uclboard_status uclboard_screen_length(const uint64_t *words
                                                            size_t clubs_length, uint32_t group, uint32_t profile, size_t *length, uint32_t *at);
 
 /* That screen as one line of JSON, with its line feed and a zero: the line by which `ucl_live --format json` answers the row of this number where
-   it asks for the screen. Handed over as the text of uclboard_screen is, and judged as it is. The line is as long as its content: a buffer that
-   is too small is told by UCLBOARD_NO_ROOM how long. */
+   it asks for the screen. Handed over as the text of uclboard_screen is, and judged as it is. */
 UCLBOARD_NEEDS_LOOK uclboard_status uclboard_screen_json(uint64_t row, const uint64_t *words, size_t words_length, const uclboard_club *clubs,
                                                          size_t clubs_length, uint32_t group, uint32_t profile, char *out, size_t out_length,
                                                          size_t *length, uint32_t *at);

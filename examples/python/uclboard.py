@@ -33,7 +33,7 @@ ORDERS = {"uefa": 0, "away-in-tie": 1}
 MARKS = ["", "+", "-"]
 STATES = ["scheduled", "in play", "finished"]
 SCHEDULED_WORD = 0x2000000000000000
-WORDS, CLUBS, NAME, SCREEN_ROOM, NAME_ROOM, JSON_ROOM = 12, 4, 20, 320, 32, 2048
+WORDS, CLUBS, NAME, SCREEN_ROOM, NAME_ROOM, JSON_ROOM = 12, 4, 20, 320, 32, 1536
 # What stands for a kind, an order or a group that has no number: the library refuses it.
 NO_CODE = 0xFFFFFFFF
 
@@ -203,12 +203,10 @@ class Board:
         return self.text(lambda *given: screen_json(row, *given), clubs, group, order, JSON_ROOM)
 
     def text(self, call, clubs, group, order, room):
-        """What a call writes into so much room; and where that is too small, into as much as it needs."""
+        """What a call writes into so much room, which any text of it has."""
         made, text, length, at = clubs_of(clubs), c.create_string_buffer(room), c.c_size_t(), c.c_uint32()
         letter, code = ord(group) if len(group) == 1 else NO_CODE, ORDERS.get(order, NO_CODE)
         status = call(self.words, len(self.words), made, len(made), letter, code, text, room, length, at)
-        if status == EXCEPTIONS[56].status and length.value >= room:
-            return self.text(call, clubs, group, order, length.value + 1)
         need(status, at.value or None)
         return text.raw[: length.value].decode("ascii")
 

@@ -15,8 +15,8 @@ pub const SCHEDULED_WORD: u64 = 0x2000_0000_0000_0000;
 pub const VERSION_NUMBER: u32 = 1_000_000;
 const NAME: usize = 20;
 const SCREEN_ROOM: usize = 320;
+const JSON_ROOM: usize = 1536;
 const NAME_ROOM: usize = 32;
-const NO_ROOM: u32 = 56;
 
 /// The kind of an event.
 #[repr(u32)]
@@ -293,20 +293,14 @@ pub fn screen_length(words: &[u64], clubs: &[Club], group: char, profile: Profil
 /// That screen as a line of JSON, which says that it answers this row.
 #[rustfmt::skip]
 pub fn screen_json(row: u64, words: &[u64], clubs: &[Club], group: char, profile: Profile) -> Result<String, Refused> {
-    let mut out = vec![0u8; 2048];
-    loop {
-        let (mut length, mut at) = (0, 0);
-        let status = unsafe {
-            uclboard_screen_json(
-                row, words.as_ptr(), words.len(), clubs.as_ptr(), clubs.len(), group as u32, profile as u32,
-                out.as_mut_ptr().cast(), out.len(), &mut length, &mut at,
-            )
-        };
-        if status != NO_ROOM {
-            return done(status, at).map(|()| String::from_utf8_lossy(&out[..length]).into_owned());
-        }
-        out.resize(length + 1, 0);
-    }
+    let (mut out, mut length, mut at) = ([0u8; JSON_ROOM], 0, 0);
+    let status = unsafe {
+        uclboard_screen_json(
+            row, words.as_ptr(), words.len(), clubs.as_ptr(), clubs.len(), group as u32, profile as u32,
+            out.as_mut_ptr().cast(), out.len(), &mut length, &mut at,
+        )
+    };
+    done(status, at).map(|()| String::from_utf8_lossy(&out[..length]).into_owned())
 }
 
 /// Plays a whole script, the bytes of its rows.

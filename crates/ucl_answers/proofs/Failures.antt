@@ -31,7 +31,8 @@ refused-on m xs ys fault h =
 
 -- a part was not taken, after the bytes before it
 pub take-fails : (m : Moment) (i : ℕ) (bytes part rest : List ℕ) (a b after : Waiting) (failed : Bool) (x y z : Option (List ℕ)) (f : RunFault) → bytes ≡ (take i bytes ++ part) ++ rest
-    → HasPut a b x y (answers_to m (take i bytes)) → FailsToTake (moment_after m (take i bytes)) part b after failed y z f → FailsToTake m bytes a after failed x z f
+    → HasPut a b x y (answers_to m (take i bytes)) → FailsToTake (moment_after m (take i bytes)) part b after (record { failed = failed; old = y; new = z }) f
+    → FailsToTake m bytes a after (record { failed = failed; old = x; new = z }) f
 take-fails m i bytes part rest a b after failed x y z (WriteFailed written) parts put s =
     let two = put_stopped a b failed x y z (answers_to m (take i bytes)) (answers_to (moment_after m (take i bytes)) part) (WriteFailed written) put s in
     let texts = answers_to m (take i bytes) ++ answers_to (moment_after m (take i bytes)) part in
@@ -72,7 +73,8 @@ flush-stopped a b failed x y z t f p none s =
     let whole = put_stopped a b failed x y z t [] f p (rw (append-nil b.held) s) in
     rw (none, append-nil t) at whole
 
-stopped-give : (m : Moment) (bytes : List ℕ) (out : ℕ) (failed : Bool) (x z : Option (List ℕ)) (f : RunFault) → IsStopped out failed x z (answers_to m bytes) f → FailsToGive m bytes out failed x z f
+stopped-give : (m : Moment) (bytes : List ℕ) (out : ℕ) (failed : Bool) (x z : Option (List ℕ)) (f : RunFault)
+    → IsStopped out failed x z (answers_to m bytes) f → FailsToGive m bytes out (record { failed = failed; old = x; new = z }) f
 stopped-give m bytes out failed x z (WriteFailed written) s = s
 stopped-give m bytes out failed x z OutOfMemory s = absurd s
 stopped-give m bytes out failed x z (Input fault) s = absurd s
@@ -83,12 +85,12 @@ stopped-give m bytes out failed x z (Strangers version) s = absurd s
 
 -- it failed in the answers to all bytes
 pub give-stopped : (m : Moment) (bytes : List ℕ) (a b : Waiting) (failed : Bool) (x y z : Option (List ℕ)) (f : RunFault) → HasPut a b x y (answers_to m bytes) → a.held ≡ []
-    → IsStopped b.out failed y z b.held f → FailsToGive m bytes a.out failed x z f
+    → IsStopped b.out failed y z b.held f → FailsToGive m bytes a.out (record { failed = failed; old = x; new = z }) f
 give-stopped m bytes a b failed x y z f p none s = stopped-give m bytes a.out failed x z f (flush-stopped a b failed x y z (answers_to m bytes) f p none s)
 
 -- it failed in the answers before a line for which there was no memory
 pub before-stopped : (m : Moment) (bytes : List ℕ) (a b : Waiting) (failed : Bool) (x y z : Option (List ℕ)) (f : RunFault) → LeavesLine m bytes a b x y → a.held ≡ []
-    → IsStopped b.out failed y z b.held f → FailsToGive m bytes a.out failed x z f
+    → IsStopped b.out failed y z b.held f → FailsToGive m bytes a.out (record { failed = failed; old = x; new = z }) f
 before-stopped m bytes a b failed x y z f p none s =
     let some = flush-stopped a b failed x y z (answers_to m p.front) f p.put none s in
     let all = sym (answers-to-append m p.front (10 ∷ p.more)) ∙ ap (answers_to m) (sym p.parts) in
@@ -105,12 +107,14 @@ gave-before m bytes a b c x y z p q none empty = record {
 }
 
 -- it was for want of memory
-pub left-line : (m : Moment) (bytes : List ℕ) (a b : Waiting) (failed : Bool) (x y : Option (List ℕ)) (f : RunFault) → f ≡ OutOfMemory → FailsToTake m bytes a b failed x y f → LeavesLine m bytes a b x y
-left-line m bytes a b failed x y f e s = subst (λ (k : RunFault). FailsToTake m bytes a b failed x y k) e s
+pub left-line : (m : Moment) (bytes : List ℕ) (a b : Waiting) (failed : Bool) (x y : Option (List ℕ)) (f : RunFault)
+    → f ≡ OutOfMemory → FailsToTake m bytes a b (record { failed = failed; old = x; new = y }) f → LeavesLine m bytes a b x y
+left-line m bytes a b failed x y f e s = subst (λ (k : RunFault). FailsToTake m bytes a b (record { failed = failed; old = x; new = y }) k) e s
 
 -- any other failure
-pub give-fails : (m : Moment) (bytes : List ℕ) (a b : Waiting) (failed : Bool) (x y : Option (List ℕ)) (f : RunFault) → FailsToTake m bytes a b failed x y f → a.held ≡ [] → (f ≡ OutOfMemory → ⊥)
-    → FailsToGive m bytes a.out failed x y f
+pub give-fails : (m : Moment) (bytes : List ℕ) (a b : Waiting) (failed : Bool) (x y : Option (List ℕ)) (f : RunFault)
+    → FailsToTake m bytes a b (record { failed = failed; old = x; new = y }) f → a.held ≡ [] → (f ≡ OutOfMemory → ⊥)
+    → FailsToGive m bytes a.out (record { failed = failed; old = x; new = y }) f
 give-fails m bytes a b failed x y (WriteFailed written) s none other = rw none at s
 give-fails m bytes a b failed x y OutOfMemory s none other = absurd (other refl)
 give-fails m bytes a b failed x y (Input fault) s none other = (none-out a b x y [] s.0 none refl, s.1)
@@ -121,8 +125,9 @@ give-fails m bytes a b failed x y (Strangers version) s none other = absurd s
 
 -- ---- the end
 
-pub end-fails : (m : Moment) (a b : Waiting) (failed : Bool) (x y : Option (List ℕ)) (f : RunFault) → FailsToPut a b failed x y (last_answers m) (LineAsks m) (EveningIsRefused (ended_at m)) f → a.held ≡ []
-    → FailsToEnd m a.out failed x y f
+pub end-fails : (m : Moment) (a b : Waiting) (failed : Bool) (x y : Option (List ℕ)) (f : RunFault)
+    → FailsToPut a b (record { failed = failed; old = x; new = y }) (last_answers m) (LineAsks m) (EveningIsRefused (ended_at m)) f → a.held ≡ []
+    → FailsToEnd m a.out (record { failed = failed; old = x; new = y }) f
 end-fails m a b failed x y (WriteFailed written) s none = rw none at s
 end-fails m a b failed x y OutOfMemory s none = (rw s.1 (appends-none x), s.2)
 end-fails m a b failed x y (Input fault) s none = (rw s.1 (appends-none x), refused-missing (ended_at m) fault s.2)
@@ -135,7 +140,7 @@ pub end-missing : (m : Moment) (a b : Waiting) (x y : Option (List ℕ)) (fault 
 end-missing m a b x y fault p none h = none-out a b x y (last_answers m) p none (missing-last m fault h)
 
 pub end-stopped : (m : Moment) (a b : Waiting) (failed : Bool) (x y z : Option (List ℕ)) (f : RunFault) → HasPut a b x y (last_answers m) → a.held ≡ [] → IsStopped b.out failed y z b.held f
-    → FailsToEnd m a.out failed x z f
+    → FailsToEnd m a.out (record { failed = failed; old = x; new = z }) f
 end-stopped m a b failed x y z (WriteFailed written) p none s = flush-stopped a b failed x y z (last_answers m) (WriteFailed written) p none s
 end-stopped m a b failed x y z OutOfMemory p none s = absurd s
 end-stopped m a b failed x y z (Input fault) p none s = absurd s

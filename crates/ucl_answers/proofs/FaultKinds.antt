@@ -13,7 +13,8 @@ use Rattle.ucl_answers.specs.Lines.{ended_lines, last_lines}
 use Rattle.ucl_answers.specs.Requests.{request_of}
 use Rattle.ucl_answers.specs.Rows.{Said, Nothing, Garbled, Row, said_on}
 use Rattle.ucl_answers.specs.Seen.{stage_seen}
-use Rattle.ucl_answers.specs.Stages.{Stage, Naming, Restoring, Open, Refused, after_club, after_row, after_word, club_said, is_word_row, missing, next_stage, opened, restored, told_row, with_clubs, with_roster, with_words, word_said}
+use Rattle.ucl_answers.specs.Stages.{Stage, Naming, Restoring, Open, Refused, after_club, after_row, after_word, club_said, is_word_row, missing, next_stage, opened, restored, told_row, with_clubs}
+use Rattle.ucl_answers.specs.Stages.{with_roster, with_words, word_said}
 use Rattle.ucl_answers.specs.Stepping.{EveningIsRefused, IsOfEvening, Moment, ended_at, missing_at, moment_after}
 use Rattle.ucl_answers.specs.Taking.{FailsToEnd, FailsToGive}
 use Rattle.ucl_answers.specs.Text.{Evening, after_lines, next}
@@ -110,7 +111,8 @@ beginning U NoMemory h = absurd h
 beginning U (ReadFailed bytes) h = absurd h
 beginning U TooLong h = absurd h
 
-pub give-kind : (U : Type 0) (m : Moment) (bytes : List ℕ) (out : ℕ) (failed : Bool) (x y : Option (List ℕ)) (f : RunFault) → IsFair m.evening.stage → FailsToGive m bytes out failed x y f → IsNoFailedRead U f
+pub give-kind : (U : Type 0) (m : Moment) (bytes : List ℕ) (out : ℕ) (failed : Bool) (x y : Option (List ℕ)) (f : RunFault)
+    → IsFair m.evening.stage → FailsToGive m bytes out (record { failed = failed; old = x; new = y }) f → IsNoFailedRead U f
 give-kind U m bytes out failed x y (WriteFailed written) fair s = record { read = refl; kind = tt }
 give-kind U m bytes out failed x y OutOfMemory fair s = record { read = refl; kind = tt }
 give-kind U m bytes out failed x y (Input fault) fair s = beginning U fault (why-refused _ fault s.1 (fair-lines m.evening (ended_lines m.begun bytes) fair))
@@ -119,7 +121,8 @@ give-kind U m bytes out failed x y NoThread fair s = absurd s
 give-kind U m bytes out failed x y TooManyReporters fair s = absurd s
 give-kind U m bytes out failed x y (Strangers version) fair s = absurd s
 
-pub end-kind : (U : Type 0) (m : Moment) (out : ℕ) (failed : Bool) (x y : Option (List ℕ)) (f : RunFault) → IsFair m.evening.stage → FailsToEnd m out failed x y f → IsNoFailedRead U f
+pub end-kind : (U : Type 0) (m : Moment) (out : ℕ) (failed : Bool) (x y : Option (List ℕ)) (f : RunFault)
+    → IsFair m.evening.stage → FailsToEnd m out (record { failed = failed; old = x; new = y }) f → IsNoFailedRead U f
 end-kind U m out failed x y (WriteFailed written) fair s = record { read = refl; kind = tt }
 end-kind U m out failed x y OutOfMemory fair s = record { read = refl; kind = tt }
 end-kind U m out failed x y (Input fault) fair s = beginning U fault (why-missing _ _ fault s.1 (fair-lines m.evening (last_lines m.begun) fair))

@@ -26,7 +26,8 @@ wanted : (b : Bool) (text : List ℕ) → AreLinesOfValues text → AreLinesOfVa
 wanted true text p = p
 wanted false text p = no_lines
 
-after-line : (options : Options) (row : ℕ) (clubs : List NamedClub) (reply : Result Accepted Refusal) (board : List ℕ) → options.format ≡ Json → AreLinesOfValues (screen_after options row clubs reply board)
+after-line : (options : Options) (row : ℕ) (clubs : List NamedClub) (reply : Result Accepted Refusal) (board : List ℕ)
+    → options.format ≡ Json → AreLinesOfValues (screen_after options row clubs reply board)
 after-line options row clubs (Ok accepted) board h = wanted options.screens (screen_answer options row clubs board) (screen-line options row clubs board h)
 after-line options row clubs (Err refusal) board h = no_lines
 

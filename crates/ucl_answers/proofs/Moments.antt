@@ -90,7 +90,8 @@ ended-begun line xs = begun-append line xs (10 ∷ [])
 
 lines-append : (xs ys : List ℕ) → begun_line [] xs ≡ [] → lines_of (xs ++ ys) ≡ lines_of xs ++ lines_of ys
 lines-append xs ys e =
-    rw (ended-append [] xs ys, begun-append [] xs ys, e) (append_assoc (ended_lines [] xs) (ended_lines [] ys) (last_lines (begun_line [] ys)) ∙ ap (λ (l : Lines). l ++ lines_of ys) (sym (append-nil (ended_lines [] xs))))
+    rw (ended-append [] xs ys, begun-append [] xs ys, e)
+    (append_assoc (ended_lines [] xs) (ended_lines [] ys) (last_lines (begun_line [] ys)) ∙ ap (λ (l : Lines). l ++ lines_of ys) (sym (append-nil (ended_lines [] xs))))
 
 text-append : (e : Evening) (xs ys : List ℕ) → begun_line [] xs ≡ [] → live_text e (xs ++ ys) ≡ live_text e xs ++ live_text (after_lines e (lines_of xs)) ys
 text-append e xs ys k = ap (answers e) (lines-append xs ys k) ∙ answers-append e (lines_of xs) (lines_of ys)
@@ -132,7 +133,8 @@ not-ten : (b : ℕ) → (b ≡ 10 → ⊥) → (b == 10) ≡ false
 not-ten b h = elim (cases_Bool (b == 10)) [ inl y ↦ absurd (h (grind (arith, nat_tests))) | inr n ↦ n ]
 
 answers-last : (e : Evening) (line : List ℕ) → answers e (line ∷ []) ≡ answer_said e (said_on e.row line)
-answers-last e line = answers-one e line [] ∙ ap (λ (k : List ℕ). answer_said e (said_on e.row line) ++ k) (answers-none (next e (said_on e.row line))) ∙ append-nil (answer_said e (said_on e.row line))
+answers-last e line =
+    answers-one e line [] ∙ ap (λ (k : List ℕ). answer_said e (said_on e.row line) ++ k) (answers-none (next e (said_on e.row line))) ∙ append-nil (answer_said e (said_on e.row line))
 
 after-last : (e : Evening) (line : List ℕ) → after_lines e (line ∷ []) ≡ next e (said_on e.row line)
 after-last e line = after-one e line [] ∙ after-none (next e (said_on e.row line))

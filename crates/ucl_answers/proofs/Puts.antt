@@ -60,7 +60,7 @@ stopped_before out failed x y h t u f s = stopped_more out failed x y h t u (t +
 
 -- a failed write is what is told of a text that was not put
 pub put_fails : (a b : Waiting) (failed : Bool) (x y : Option (List ℕ)) (t : List ℕ) (Asks : Type 0) (Refuses : InputFault → Type 0) (f : RunFault) → IsStopped a.out failed x y (a.held ++ t) f
-    → FailsToPut a b failed x y t Asks Refuses f
+    → FailsToPut a b (record { failed = failed; old = x; new = y }) t Asks Refuses f
 put_fails a b failed x y t Asks Refuses (WriteFailed written) s = s
 put_fails a b failed x y t Asks Refuses OutOfMemory s = absurd s
 put_fails a b failed x y t Asks Refuses (Input e) s = absurd s

@@ -1,5 +1,6 @@
 -- A step of an evening, and the steps of a whole run.
-use Rattle.std.proofs.Common.{◌≡◌, ℕ, zero, suc, ◌+◌, ◌-◌, ◌^◌, ◌≤◌, ◌<◌, min, Bool, true, false, List, [], ◌∷◌, ◌++◌, length, Option, Some, None, refl, sym, ap, ◌∙◌, ◌⊎◌, inl, inr, subst, append_assoc, append-nil, arith, length-append}
+use Rattle.std.proofs.Common.{◌≡◌, ℕ, zero, suc, ◌+◌, ◌-◌, ◌^◌, ◌≤◌, ◌<◌, min, Bool, true, false, List, [], ◌∷◌, ◌++◌, length, Option, Some, None, refl, sym, ap, ◌∙◌, ◌⊎◌, inl, inr, subst}
+use Rattle.std.proofs.Common.{append_assoc, append-nil, arith, length-append}
 use Rattle.std.specs.Prelude.{IfSome}
 use Rattle.std.specs.Io.KnownBytes.{Appends, Consumes, IsAtEnd, Keeps}
 use Rattle.ucl_screen.specs.Stream.{vain_after}
@@ -15,7 +16,8 @@ use Rattle.ucl_answers.specs.declared.live.Progress.{Progress}
 use Rattle.ucl_answers.specs.declared.live.Progress.TheVariants.{Ended, Took}
 use Rattle.ucl_answers.specs.Output.{HasPut, Waiting}
 use Rattle.ucl_answers.specs.Text.{Evening, live_text, missing_after}
-use Rattle.ucl_answers.specs.Stepping.{Device, EveningIsRefused, Fails, FailsAfter, HasEnded, HasEndedPromptly, IfTook, IsAt, IsPrompt, IsPromptAgain, IsTextOf, IsTurnedAway, LineAsks, Moment, Past, StaysPrompt, answers_to, begins, last_answers, missing_at, moment_after, past_with, reached, unread}
+use Rattle.ucl_answers.specs.Stepping.{Device, EveningIsRefused, Fails, FailsAfter, HasEnded, HasEndedPromptly, IfTook, IsAt, IsPrompt, IsPromptAgain, IsTextOf, IsTurnedAway, LineAsks, Moment, Past}
+use Rattle.ucl_answers.specs.Stepping.{StaysPrompt, answers_to, begins, last_answers, missing_at, moment_after, past_with, reached, unread}
 use Rattle.ucl_answers.specs.Taking.{FailsToEnd, FailsToGive, GaveBefore, live_moment}
 use Rattle.ucl_answers.proofs.Moments.{answers-to-append, answers-to-none, begun-short, moment-append, moment-none, row-bound, same-moment, whole-missing, whole-text}
 use Rattle.ucl_answers.proofs.Puts.{all_out}
@@ -42,15 +44,18 @@ prompt-then past x y old new bytes p moved put none none2 read =
     let before = past.bytes in
     let here = prompt-moment past old x p in
     let there : live_moment new ≡ moment_after s (before ++ bytes) = moved ∙ ap (λ (m : Moment). moment_after m bytes) here ∙ sym (moment-append s before bytes) in
-    let text : answers_to s (before ++ bytes) ≡ answers_to s before ++ answers_to (live_moment old) bytes = answers-to-append s before bytes ∙ ap (λ (m : Moment). answers_to s before ++ answers_to m bytes) (sym here) in
+    let text : answers_to s (before ++ bytes) ≡ answers_to s before ++ answers_to (live_moment old) bytes =
+    answers-to-append s before bytes ∙ ap (λ (m : Moment). answers_to s before ++ answers_to m bytes) (sym here) in
     let out = all_out old.desk.page new.desk.page x y (answers_to (live_moment old) bytes) put none none2 in
     record {
       at = record {
         evening = ap (λ (m : Moment). m.evening) there;
         begun = ap (λ (m : Moment). m.begun) there;
         read_is = count-more (length (before ++ bytes)) (length before) (length bytes) old.read new.read (length bytes) (length-append before bytes) p.at.read_is read refl;
-        written_is = count-more (length (answers_to s (before ++ bytes))) (length (answers_to s before)) (length (answers_to (live_moment old) bytes)) old.desk.page.out new.desk.page.out (length put.given)
-            (ap (length {A = ℕ}) text ∙ length-append (answers_to s before) (answers_to (live_moment old) bytes)) p.at.written_is put.told (given-all old.desk.page new.desk.page x y (answers_to (live_moment old) bytes) put none none2);
+        written_is =
+            count-more (length (answers_to s (before ++ bytes))) (length (answers_to s before)) (length (answers_to (live_moment old) bytes)) old.desk.page.out new.desk.page.out (length put.given)
+            (ap (length {A = ℕ}) text ∙ length-append (answers_to s before) (answers_to (live_moment old) bytes)) p.at.written_is put.told
+            (given-all old.desk.page new.desk.page x y (answers_to (live_moment old) bytes) put none none2);
         waiting = none2;
       };
       answered = rw text (appends-then past.first x y (answers_to s before) (answers_to (live_moment old) bytes) p.answered out);
@@ -119,7 +124,7 @@ module _ (past : Past) (live : Live) (old : Device) (p : IsPrompt past live old.
       subst (λ (n : ℕ). StoppedShort n failed old.taken y u written) p.at.written_is (subst (λ (l : List ℕ). StoppedShort live.desk.page.out failed old.taken y l written) e s)
 
   pub give-fails : (new : Device) (bytes : List ℕ) (f : RunFault) → new.source_failed ≡ false → Consumes old.left new.left bytes
-      → FailsToGive (live_moment live) bytes live.desk.page.out new.sink_failed old.taken new.taken f → Fails (reached past.start past.bytes) old new f
+      → FailsToGive (live_moment live) bytes live.desk.page.out (record { failed = new.sink_failed; old = old.taken; new = new.taken }) f → Fails (reached past.start past.bytes) old new f
   give-fails new bytes (WriteFailed written) well moved s =
       let m = moment_after (begins past.start) past.bytes in record {
         bytes = bytes;
@@ -137,7 +142,8 @@ module _ (past : Past) (live : Live) (old : Device) (p : IsPrompt past live old.
         why = record { front = t.front; rest = 10 ∷ t.more; parts = t.parts; out = t.out; line = inl (t.more, refl); asks = t.asks };
       }
   give-fails new bytes (Input fault) well moved s =
-      let r : EveningIsRefused (moment_after (moment_after (begins past.start) past.bytes) bytes).evening fault = subst (λ (m : Moment). EveningIsRefused (moment_after m bytes).evening fault) here s.1 in
+      let r : EveningIsRefused (moment_after (moment_after (begins past.start) past.bytes) bytes).evening fault =
+      subst (λ (m : Moment). EveningIsRefused (moment_after m bytes).evening fault) here s.1 in
       record { bytes = bytes; consumed = moved; why = inr (record { failed_is = well; refused = inl r; out = s.0 }) }
   give-fails new bytes (NotOnDuty row) well moved s = absurd s
   give-fails new bytes NoThread well moved s = absurd s
@@ -150,7 +156,7 @@ module _ (past : Past) (live : Live) (old : Device) (p : IsPrompt past live old.
       ap last_answers here ∙ sym (ap (λ (l : List ℕ). l ++ last_answers (moment_after m [])) (answers-to-none m) ∙ ap last_answers (moment-none m))
 
   pub end-fails : (new : Device) (f : RunFault) → new.source_failed ≡ false → IsAtEnd old.left → Consumes old.left new.left []
-      → FailsToEnd (live_moment live) live.desk.page.out new.sink_failed old.taken new.taken f → Fails (reached past.start past.bytes) old new f
+      → FailsToEnd (live_moment live) live.desk.page.out (record { failed = new.sink_failed; old = old.taken; new = new.taken }) f → Fails (reached past.start past.bytes) old new f
   end-fails new (WriteFailed written) well at-end moved s =
       let m = moment_after (begins past.start) past.bytes in record {
         bytes = [];
@@ -201,17 +207,21 @@ module _ (past : Past) (origin old new : Device) (took : Consumes origin.left ol
   stopped-all : (text : List ℕ) (written : ℕ) → StoppedShort (min (length (answers_to (begins past.start) past.bytes)) (2 ^ 64 - 1)) new.sink_failed old.taken new.taken text written
       → StoppedShort (min 0 (2 ^ 64 - 1)) new.sink_failed origin.taken new.taken (answers_to (begins past.start) past.bytes ++ text) written
   stopped-all text written s =
-      stopped_second (min 0 (2 ^ 64 - 1)) (min (length (answers_to (begins past.start) past.bytes)) (2 ^ 64 - 1)) new.sink_failed origin.taken old.taken new.taken (answers_to (begins past.start) past.bytes) text (WriteFailed written) answered (omega arith) s
+      stopped_second (min 0 (2 ^ 64 - 1)) (min (length (answers_to (begins past.start) past.bytes)) (2 ^ 64 - 1)) new.sink_failed origin.taken old.taken new.taken
+      (answers_to (begins past.start) past.bytes) text (WriteFailed written) answered (omega arith) s
 
   silence : (bytes : List ℕ) (fault : InputFault)
-      → (EveningIsRefused (moment_after (moment_after (begins past.start) past.bytes) bytes).evening fault ⊎ (HasEnded new.left × (missing_at (moment_after (moment_after (begins past.start) past.bytes) bytes) ≡ Some fault)))
+      → (EveningIsRefused (moment_after (moment_after (begins past.start) past.bytes) bytes).evening fault
+      ⊎ (HasEnded new.left × (missing_at (moment_after (moment_after (begins past.start) past.bytes) bytes) ≡ Some fault)))
       → answers_to (begins past.start) past.bytes ≡ []
   silence bytes fault (inl r) = shut-before (begins past.start) past.bytes bytes fault r
   silence bytes fault (inr r) = missing-before (begins past.start) past.bytes bytes fault r.1
 
   refusal : (bytes : List ℕ) (fault : InputFault)
-      → (EveningIsRefused (moment_after (moment_after (begins past.start) past.bytes) bytes).evening fault ⊎ (HasEnded new.left × (missing_at (moment_after (moment_after (begins past.start) past.bytes) bytes) ≡ Some fault)))
-      → EveningIsRefused (moment_after (begins past.start) (past.bytes ++ bytes)).evening fault ⊎ (HasEnded new.left × (missing_at (moment_after (begins past.start) (past.bytes ++ bytes)) ≡ Some fault))
+      → (EveningIsRefused (moment_after (moment_after (begins past.start) past.bytes) bytes).evening fault
+      ⊎ (HasEnded new.left × (missing_at (moment_after (moment_after (begins past.start) past.bytes) bytes) ≡ Some fault)))
+      → EveningIsRefused (moment_after (begins past.start) (past.bytes ++ bytes)).evening fault
+      ⊎ (HasEnded new.left × (missing_at (moment_after (begins past.start) (past.bytes ++ bytes)) ≡ Some fault))
   refusal bytes fault (inl r) = inl (subst (λ (n : Moment). EveningIsRefused n.evening fault) (all-moment bytes) r)
   refusal bytes fault (inr r) = inr (r.0, subst (λ (n : Moment). missing_at n ≡ Some fault) (all-moment bytes) r.1)
 
@@ -222,7 +232,8 @@ module _ (past : Past) (origin old new : Device) (took : Consumes origin.left ol
     out = appends-then origin.taken old.taken new.taken [] [] (rw (silence bytes fault r.refused) at answered) r.out;
   }
 
-  all-of : (bytes text : List ℕ) → IsTextOf (moment_after (begins past.start) past.bytes) bytes new.left text → IsTextOf (begins past.start) (past.bytes ++ bytes) new.left (answers_to (begins past.start) past.bytes ++ text)
+  all-of : (bytes text : List ℕ) → IsTextOf (moment_after (begins past.start) past.bytes) bytes new.left text
+      → IsTextOf (begins past.start) (past.bytes ++ bytes) new.left (answers_to (begins past.start) past.bytes ++ text)
   all-of bytes text (inl e) = inl (ap (λ (t : List ℕ). answers_to (begins past.start) past.bytes ++ t) e ∙ all-text bytes)
   all-of bytes text (inr e) =
       let m = moment_after (begins past.start) past.bytes in

@@ -1,5 +1,6 @@
 -- Lines that are taken whole.
-use Rattle.std.proofs.Common.{◌≡◌, ℕ, zero, suc, ◌+◌, ◌-◌, ◌^◌, ◌<◌, ◌≤◌, Bool, List, [], ◌∷◌, ◌++◌, fold, length, take, drop, get_or, Option, refl, sym, ap, ◌∙◌, subst, append_assoc, append-nil, inl, arith, ne_eqb, length-append}
+use Rattle.std.proofs.Common.{◌≡◌, ℕ, zero, suc, ◌+◌, ◌-◌, ◌^◌, ◌<◌, ◌≤◌, Bool, List, [], ◌∷◌, ◌++◌, fold, length, take, drop, get_or, Option, refl, sym, ap, ◌∙◌, subst, append_assoc, append-nil, inl}
+use Rattle.std.proofs.Common.{arith, ne_eqb, length-append}
 use Rattle.std.proofs.Math.Seq.{take-add, take-append_seam}
 use Rattle.std.proofs.lemmas.List.{length-drop, take-append-drop, take_more}
 use Rattle.ucl_runs.specs.declared.fault.RunFault.{RunFault}
@@ -108,7 +109,8 @@ some-bytes bytes e =
 
 -- it was not answered
 pub line-fails : (m : Moment) (bytes : List ℕ) (e : IsLineEnd bytes) (s : Said) (a b : Waiting) (failed : Bool) (x y : Option (List ℕ)) (f : RunFault) → s ≡ said_with m e.front → a.out ≤ 2 ^ 64 - 1
-    → FailsToPut a b failed x y (answer_said m.evening s) (AsksForMemory m.evening s) (EveningIsRefused (next m.evening s)) f → FailsToTake m bytes a b failed x y f
+    → FailsToPut a b (record { failed = failed; old = x; new = y }) (answer_said m.evening s) (AsksForMemory m.evening s)
+    (EveningIsRefused (next m.evening s)) f → FailsToTake m bytes a b (record { failed = failed; old = x; new = y }) f
 line-fails m bytes e s a b failed x y (WriteFailed written) k bound p = rw (line-answers m bytes e, ← k) p
 line-fails m bytes e s a b failed x y OutOfMemory k bound p = record {
   front = e.front;

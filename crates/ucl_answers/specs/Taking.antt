@@ -8,7 +8,7 @@ use Rattle.ucl_runs.specs.Run.{StoppedShort}
 use Rattle.ucl_answers.specs.declared.desk.Desk.{Desk}
 use Rattle.ucl_answers.specs.declared.evening.Evening.{Evening as Held}
 use Rattle.ucl_answers.specs.declared.live.Live.{Live}
-use Rattle.ucl_answers.specs.Output.{HasPut, Waiting}
+use Rattle.ucl_answers.specs.Output.{HasPut, SinkChange, Waiting}
 use Rattle.ucl_answers.specs.Seen.{evening_seen}
 use Rattle.ucl_answers.specs.Text.{Evening}
 use Rattle.ucl_answers.specs.Stepping.{Device, EveningIsRefused, Fails, LineAsks, Moment, answers_to, begins, last_answers, missing_at, moment_after, unread}
@@ -43,11 +43,11 @@ pub record LeavesLine (m : Moment) (bytes : List ℕ) (before after : Waiting) (
   pub asks : LineAsks (moment_after m front)
 
 -- bytes were not all answered
-abbrev pub FailsToTake : Moment → List ℕ → Waiting → Waiting → Bool → Option (List ℕ) → Option (List ℕ) → RunFault → Type 0
-FailsToTake m bytes before after failed old new (WriteFailed written) = StoppedShort before.out failed old new (before.held ++ answers_to m bytes) written
-FailsToTake m bytes before after failed old new OutOfMemory = LeavesLine m bytes before after old new
-FailsToTake m bytes before after failed old new (Input fault) = HasPut before after old new [] × EveningIsRefused (moment_after m bytes).evening fault
-FailsToTake m bytes before after failed old new _ = ⊥
+abbrev pub FailsToTake : Moment → List ℕ → Waiting → Waiting → SinkChange → RunFault → Type 0
+FailsToTake m bytes before after sink (WriteFailed written) = StoppedShort before.out sink.failed sink.old sink.new (before.held ++ answers_to m bytes) written
+FailsToTake m bytes before after sink OutOfMemory = LeavesLine m bytes before after sink.old sink.new
+FailsToTake m bytes before after sink (Input fault) = HasPut before after sink.old sink.new [] × EveningIsRefused (moment_after m bytes).evening fault
+FailsToTake m bytes before after sink _ = ⊥
 
 -- the same, once the answers before were given to the sink
 pub record GaveBefore (m : Moment) (bytes : List ℕ) (old new : Option (List ℕ)) : Type 0 where
@@ -57,18 +57,18 @@ pub record GaveBefore (m : Moment) (bytes : List ℕ) (old new : Option (List �
   pub out : Appends old new (answers_to m front)
   pub asks : LineAsks (moment_after m front)
 
-abbrev pub FailsToGive : Moment → List ℕ → ℕ → Bool → Option (List ℕ) → Option (List ℕ) → RunFault → Type 0
-FailsToGive m bytes out failed old new (WriteFailed written) = StoppedShort out failed old new (answers_to m bytes) written
-FailsToGive m bytes out failed old new OutOfMemory = GaveBefore m bytes old new
-FailsToGive m bytes out failed old new (Input fault) = Appends old new [] × EveningIsRefused (moment_after m bytes).evening fault
-FailsToGive m bytes out failed old new _ = ⊥
+abbrev pub FailsToGive : Moment → List ℕ → ℕ → SinkChange → RunFault → Type 0
+FailsToGive m bytes out sink (WriteFailed written) = StoppedShort out sink.failed sink.old sink.new (answers_to m bytes) written
+FailsToGive m bytes out sink OutOfMemory = GaveBefore m bytes sink.old sink.new
+FailsToGive m bytes out sink (Input fault) = Appends sink.old sink.new [] × EveningIsRefused (moment_after m bytes).evening fault
+FailsToGive m bytes out sink _ = ⊥
 
 -- at the end of the input
-abbrev pub FailsToEnd : Moment → ℕ → Bool → Option (List ℕ) → Option (List ℕ) → RunFault → Type 0
-FailsToEnd m out failed old new (WriteFailed written) = StoppedShort out failed old new (last_answers m) written
-FailsToEnd m out failed old new OutOfMemory = Appends old new [] × LineAsks m
-FailsToEnd m out failed old new (Input fault) = Appends old new [] × (missing_at m ≡ Some fault)
-FailsToEnd m out failed old new _ = ⊥
+abbrev pub FailsToEnd : Moment → ℕ → SinkChange → RunFault → Type 0
+FailsToEnd m out sink (WriteFailed written) = StoppedShort out sink.failed sink.old sink.new (last_answers m) written
+FailsToEnd m out sink OutOfMemory = Appends sink.old sink.new [] × LineAsks m
+FailsToEnd m out sink (Input fault) = Appends sink.old sink.new [] × (missing_at m ≡ Some fault)
+FailsToEnd m out sink _ = ⊥
 
 -- more bytes than any evening has
 pub record IsTooLong (start : Evening) (old new : Device) : Type 0 where

@@ -167,7 +167,8 @@ pub(crate) fn screen_answer(
     row: u64,
     table: &Table,
 ) -> Result<Answer, RunFault>
-    ensures text { IfOk result (λ answer. bytes_of answer ≡ screen_answer options.now row table.now.roster table.now.board) }
+    ensures text { IfOk result (λ answer.
+        bytes_of answer ≡ screen_answer options.now row table.now.roster table.now.board) }
     ensures memory { IfErr result (λ f. f ≡ RunFault.OutOfMemory) }
 {
     let text = match options.format {

@@ -4,7 +4,7 @@ ghost use Rattle.std.specs.Prelude.{◌≡◌, ◌-◌, ◌^◌, ◌+◌, ◌<�
 ghost use Rattle.csv.specs.Records.{Rising};
 ghost use Rattle.ucl_screen.specs.Rows.{four_seen};
 ghost use Rattle.ucl_answers.specs.Lines.{longer};
-ghost use Rattle.ucl_answers.specs.Output.{FailsToPut, HasPut, SinkFails};
+ghost use Rattle.ucl_answers.specs.Output.{FailsToPut, HasPut, SinkFails, sink_change};
 ghost use Rattle.ucl_answers.specs.Reading.{IsLineEnd, fields_in, said_in};
 ghost use Rattle.ucl_answers.specs.Rows.{Row, fits, said_by_text, said_on};
 ghost use Rattle.ucl_answers.specs.Seen.{evening_seen};
@@ -15,7 +15,7 @@ ghost use Rattle.ucl_answers.specs.Text.{answer_said, next};
 use crate::evening::Evening;
 use crate::page::Page;
 use crate::plain::plain_four;
-use crate::row::{Fields, Found, MOST_BYTES, without_mark};
+use crate::row::{Fields, Found, MOST_LINE_BYTES, without_mark};
 use arrayvec::ArrayVec;
 use std::alloc::Global;
 use ucl_runs::RunFault;
@@ -38,9 +38,9 @@ fn fits(text: &[u8]) -> bool
 {
     let len = text.len();
     if len >= 2 && text[len - 2] == b'\r' {
-        len <= MOST_BYTES
+        len <= MOST_LINE_BYTES
     } else {
-        len < MOST_BYTES
+        len < MOST_LINE_BYTES
     }
 }
 
@@ -92,10 +92,11 @@ fn answer_any<W: Sink>(
     ensures sound { OnOk result (W.failed sink.new ≡ W.failed sink.old) }
     ensures vain { OnOk result (W.in_vain sink.new ≡ W.in_vain sink.old) }
     ensures fails { IfErr result (FailsToPut page.old page.new
-        (W.failed sink.new) (W.taken sink.old) (W.taken sink.new)
+        (sink_change W.Sink sink.old sink.new)
         (answer_said (evening_seen evening.old) (said_by_text evening.old.row text.now))
         (AsksForMemory (evening_seen evening.old) (said_by_text evening.old.row text.now))
-        (EveningIsRefused (next (evening_seen evening.old) (said_by_text evening.old.row text.now)))) }
+        (EveningIsRefused
+        (next (evening_seen evening.old) (said_by_text evening.old.row text.now)))) }
     ensures sink_fails { IfErr result (SinkFails
         (W.in_vain sink.old) (W.in_vain sink.new)
         (W.failed sink.old) (W.failed sink.new)) }
@@ -131,10 +132,11 @@ fn answer_text<W: Sink>(
     ensures sound { OnOk result (W.failed sink.new ≡ W.failed sink.old) }
     ensures vain { OnOk result (W.in_vain sink.new ≡ W.in_vain sink.old) }
     ensures fails { IfErr result (FailsToPut page.old page.new
-        (W.failed sink.new) (W.taken sink.old) (W.taken sink.new)
+        (sink_change W.Sink sink.old sink.new)
         (answer_said (evening_seen evening.old) (said_by_text evening.old.row text.now))
         (AsksForMemory (evening_seen evening.old) (said_by_text evening.old.row text.now))
-        (EveningIsRefused (next (evening_seen evening.old) (said_by_text evening.old.row text.now)))) }
+        (EveningIsRefused
+        (next (evening_seen evening.old) (said_by_text evening.old.row text.now)))) }
     ensures sink_fails { IfErr result (SinkFails
         (W.in_vain sink.old) (W.in_vain sink.new)
         (W.failed sink.old) (W.failed sink.new)) }
@@ -197,11 +199,12 @@ impl Desk {
         ensures begun { OnOk result (self.new.line.items ≡ []) }
         ensures put { OnOk result (HasPut self.old.page self.new.page
             (W.taken sink.old) (W.taken sink.new)
-            (answer_said (evening_seen evening.old) (said_on evening.old.row self.old.line.items))) }
+            (answer_said (evening_seen evening.old)
+            (said_on evening.old.row self.old.line.items))) }
         ensures sound { OnOk result (W.failed sink.new ≡ W.failed sink.old) }
         ensures vain { OnOk result (W.in_vain sink.new ≡ W.in_vain sink.old) }
         ensures fails { IfErr result (FailsToPut self.old.page self.new.page
-            (W.failed sink.new) (W.taken sink.old) (W.taken sink.new)
+            (sink_change W.Sink sink.old sink.new)
             (answer_said (evening_seen evening.old) (said_on evening.old.row self.old.line.items))
             (AsksForMemory (evening_seen evening.old) (said_on evening.old.row self.old.line.items))
             (EveningIsRefused
@@ -245,7 +248,7 @@ impl Desk {
         ensures vain { OnOk result (W.in_vain sink.new ≡ W.in_vain sink.old) }
         ensures fails { IfErr result (FailsToTake (moment_of evening.old self.old) end.now
             self.old.page self.new.page
-            (W.failed sink.new) (W.taken sink.old) (W.taken sink.new)) }
+            (sink_change W.Sink sink.old sink.new)) }
         ensures sink_fails { IfErr result (SinkFails
             (W.in_vain sink.old) (W.in_vain sink.new)
             (W.failed sink.old) (W.failed sink.new)) }

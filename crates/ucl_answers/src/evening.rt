@@ -2,7 +2,7 @@
 
 ghost use Rattle.std.specs.Prelude.{◌≡◌, ◌+◌, ◌-◌, ◌^◌, ◌<◌, IfErr, IfOk, OnOk, option_map};
 ghost use Rattle.ucl_screen.specs.Rows.{four_seen};
-ghost use Rattle.ucl_answers.specs.Output.{FailsToPut, HasPut, SinkFails};
+ghost use Rattle.ucl_answers.specs.Output.{FailsToPut, HasPut, SinkFails, sink_change};
 ghost use Rattle.ucl_answers.specs.Rows.{Nothing, of_row};
 ghost use Rattle.ucl_answers.specs.Requests.{request_of};
 ghost use Rattle.ucl_answers.specs.Seen.{evening_seen, stage_seen};
@@ -38,11 +38,21 @@ fn after_row<W: Sink>(
     page: &mut Page,
     sink: &mut W,
 ) -> Result<Stage, RunFault>
-    ensures next { IfOk result (λ after. stage_seen after ≡ after_row row (stage_seen stage) (of_row (option_map four_seen said.now))) }
-    ensures put { OnOk result (HasPut page.old page.new (W.taken sink.old) (W.taken sink.new) (answer_at options.now row (stage_seen stage) (request_of (of_row (option_map four_seen said.now))))) }
+    ensures next { IfOk result (λ after. stage_seen after
+        ≡ after_row row (stage_seen stage) (of_row (option_map four_seen said.now))) }
+    ensures put { OnOk result (HasPut page.old page.new (W.taken sink.old) (W.taken sink.new)
+        (answer_at options.now row (stage_seen stage)
+        (request_of (of_row (option_map four_seen said.now))))) }
     ensures sound { OnOk result (W.failed sink.new ≡ W.failed sink.old) }
     ensures vain { OnOk result (W.in_vain sink.new ≡ W.in_vain sink.old) }
-    ensures fails { IfErr result (FailsToPut page.old page.new (W.failed sink.new) (W.taken sink.old) (W.taken sink.new) (answer_at options.now row (stage_seen stage) (request_of (of_row (option_map four_seen said.now)))) (AsksAt options.now (stage_seen stage) (request_of (of_row (option_map four_seen said.now)))) (StageIsRefused (after_row row (stage_seen stage) (of_row (option_map four_seen said.now))))) }
+    ensures fails { IfErr result (FailsToPut page.old page.new
+        (sink_change W.Sink sink.old sink.new)
+        (answer_at options.now row (stage_seen stage)
+        (request_of (of_row (option_map four_seen said.now))))
+        (AsksAt options.now (stage_seen stage)
+        (request_of (of_row (option_map four_seen said.now))))
+        (StageIsRefused
+        (after_row row (stage_seen stage) (of_row (option_map four_seen said.now))))) }
     ensures sink_fails { IfErr result (SinkFails
         (W.in_vain sink.old) (W.in_vain sink.new)
         (W.failed sink.old) (W.failed sink.new)) }
@@ -80,17 +90,19 @@ impl Evening {
         ensures options { OnOk result (self.new.options ≡ self.old.options) }
         ensures row { OnOk result (self.new.row ≡ self.old.row) }
         ensures stage { OnOk result (stage_seen self.new.stage
-            ≡ after_row self.old.row (opened (stage_seen self.old.stage) (of_row (option_map four_seen said.now)))
+            ≡ after_row self.old.row
+            (opened (stage_seen self.old.stage) (of_row (option_map four_seen said.now)))
             (of_row (option_map four_seen said.now))) }
         ensures put { OnOk result (HasPut page.old page.new (W.taken sink.old) (W.taken sink.new)
             (answer_said (evening_seen self.old) (of_row (option_map four_seen said.now)))) }
         ensures sound { OnOk result (W.failed sink.new ≡ W.failed sink.old) }
         ensures vain { OnOk result (W.in_vain sink.new ≡ W.in_vain sink.old) }
         ensures fails { IfErr result (FailsToPut page.old page.new
-            (W.failed sink.new) (W.taken sink.old) (W.taken sink.new)
+            (sink_change W.Sink sink.old sink.new)
             (answer_said (evening_seen self.old) (of_row (option_map four_seen said.now)))
             (AsksForMemory (evening_seen self.old) (of_row (option_map four_seen said.now)))
-            (EveningIsRefused (next (evening_seen self.old) (of_row (option_map four_seen said.now))))) }
+            (EveningIsRefused
+            (next (evening_seen self.old) (of_row (option_map four_seen said.now))))) }
         ensures sink_fails { IfErr result (SinkFails
             (W.in_vain sink.old) (W.in_vain sink.new)
             (W.failed sink.old) (W.failed sink.new)) }
@@ -124,10 +136,11 @@ impl Evening {
         ensures sound { OnOk result (W.failed sink.new ≡ W.failed sink.old) }
         ensures vain { OnOk result (W.in_vain sink.new ≡ W.in_vain sink.old) }
         ensures fails { IfErr result (FailsToPut page.old page.new
-            (W.failed sink.new) (W.taken sink.old) (W.taken sink.new)
+            (sink_change W.Sink sink.old sink.new)
             (answer_said (evening_seen self.old) (of_row (option_map four_seen said.now)))
             (AsksForMemory (evening_seen self.old) (of_row (option_map four_seen said.now)))
-            (EveningIsRefused (next (evening_seen self.old) (of_row (option_map four_seen said.now))))) }
+            (EveningIsRefused
+            (next (evening_seen self.old) (of_row (option_map four_seen said.now))))) }
         ensures sink_fails { IfErr result (SinkFails
             (W.in_vain sink.old) (W.in_vain sink.new)
             (W.failed sink.old) (W.failed sink.new)) }

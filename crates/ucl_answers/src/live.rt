@@ -2,7 +2,7 @@
 
 ghost use Rattle.std.specs.Prelude.{◌≡◌, ◌↔◌, IsTrue, ℕ, ◌+◌, ◌-◌, ◌^◌, ◌<◌, ◌≤◌, ◌++◌, [], ◌∷◌, None, length, IfErr, IfOk, OnOk, IfSome};
 ghost use Rattle.std.specs.Io.KnownBytes.{Appends};
-ghost use Rattle.ucl_answers.specs.Output.{FailsToPut, HasPut, SinkFails};
+ghost use Rattle.ucl_answers.specs.Output.{FailsToPut, HasPut, SinkFails, sink_change};
 ghost use Rattle.ucl_runs.specs.Run.{is_read_failed};
 ghost use Rattle.ucl_answers.specs.Text.{live_text, missing_after, start_of};
 ghost use Rattle.ucl_answers.specs.Stepping.{EveningIsRefused, Fails, IfTook, IsAt, IsOfEvening, IsPrompt, LineAsks, Past, StaysPrompt, answers_to, begins, device, ended_at, last_answers, missing_at, moment_after, reached, unread};
@@ -24,7 +24,7 @@ use ucl_screen::{InputFault, Sink, Source};
 const PIECE: usize = 16_384;
 
 /// The most bytes of an evening, which none lives to see.
-const MOST_BYTES: usize = 0x4000_0000_0000_0000;
+const MOST_READ: usize = 0x4000_0000_0000_0000;
 
 /// An evening between two bytes of its input. It knows how many bytes it has read and written since its start; a number past
 /// `usize::MAX` is told as that.
@@ -54,13 +54,16 @@ fn enter<W: Sink>(
 ) -> Result<Evening, RunFault>
     requires short { length desk.old.line.items ≤ 258 }
     requires few { evening.row + length bytes.now < 2 ^ 64 }
-    ensures moment { IfOk result (λ after. moment_of after desk.new ≡ moment_after (moment_of evening desk.old) bytes.now) }
+    ensures moment { IfOk result
+        (λ after. moment_of after desk.new ≡ moment_after (moment_of evening desk.old) bytes.now) }
     ensures short { OnOk result (length desk.new.line.items ≤ 258) }
     ensures row { IfOk result (λ after. held_row after ≤ evening.row + length bytes.now) }
-    ensures put { OnOk result (HasPut desk.old.page desk.new.page (W.taken sink.old) (W.taken sink.new) (answers_to (moment_of evening desk.old) bytes.now)) }
+    ensures put { OnOk result (HasPut desk.old.page desk.new.page (W.taken sink.old)
+        (W.taken sink.new) (answers_to (moment_of evening desk.old) bytes.now)) }
     ensures sound { OnOk result (W.failed sink.new ≡ W.failed sink.old) }
     ensures vain { OnOk result (W.in_vain sink.new ≡ W.in_vain sink.old) }
-    ensures fails { IfErr result (FailsToTake (moment_of evening desk.old) bytes.now desk.old.page desk.new.page (W.failed sink.new) (W.taken sink.old) (W.taken sink.new)) }
+    ensures fails { IfErr result (FailsToTake (moment_of evening desk.old) bytes.now
+        desk.old.page desk.new.page (sink_change W.Sink sink.old sink.new)) }
     ensures sink_fails { IfErr result (SinkFails
         (W.in_vain sink.old) (W.in_vain sink.new)
         (W.failed sink.old) (W.failed sink.new)) }
@@ -101,14 +104,17 @@ fn take_in<W: Sink>(
     requires short { length desk.old.line.items ≤ 258 }
     requires few { evening.row + length bytes.now < 2 ^ 64 }
     requires waiting { desk.old.page.held ≡ [] }
-    ensures moment { IfOk result (λ after. moment_of after desk.new ≡ moment_after (moment_of evening desk.old) bytes.now) }
+    ensures moment { IfOk result
+        (λ after. moment_of after desk.new ≡ moment_after (moment_of evening desk.old) bytes.now) }
     ensures short { OnOk result (length desk.new.line.items ≤ 258) }
     ensures row { IfOk result (λ after. held_row after ≤ evening.row + length bytes.now) }
     ensures waiting { OnOk result (desk.new.page.held ≡ []) }
-    ensures put { OnOk result (HasPut desk.old.page desk.new.page (W.taken sink.old) (W.taken sink.new) (answers_to (moment_of evening desk.old) bytes.now)) }
+    ensures put { OnOk result (HasPut desk.old.page desk.new.page (W.taken sink.old)
+        (W.taken sink.new) (answers_to (moment_of evening desk.old) bytes.now)) }
     ensures sound { OnOk result (W.failed sink.new ≡ W.failed sink.old) }
     ensures vain { OnOk result (W.in_vain sink.new ≡ W.in_vain sink.old) }
-    ensures fails { IfErr result (FailsToGive (moment_of evening desk.old) bytes.now desk.old.page.out (W.failed sink.new) (W.taken sink.old) (W.taken sink.new)) }
+    ensures fails { IfErr result (FailsToGive (moment_of evening desk.old)
+        bytes.now desk.old.page.out (sink_change W.Sink sink.old sink.new)) }
     ensures sink_fails { IfErr result (SinkFails
         (W.in_vain sink.old) (W.in_vain sink.new)
         (W.failed sink.old) (W.failed sink.new)) }
@@ -137,11 +143,16 @@ fn answer_last<W: Sink>(
 ) -> Result<Evening, RunFault>
     requires short { length desk.old.line.items ≤ 258 }
     requires row { evening.row < 2 ^ 64 - 1 }
-    ensures ended { IfOk result (λ after. evening_seen after ≡ ended_at (moment_of evening desk.old)) }
-    ensures put { OnOk result (HasPut desk.old.page desk.new.page (W.taken sink.old) (W.taken sink.new) (last_answers (moment_of evening desk.old))) }
+    ensures ended { IfOk result
+        (λ after. evening_seen after ≡ ended_at (moment_of evening desk.old)) }
+    ensures put { OnOk result (HasPut desk.old.page desk.new.page (W.taken sink.old)
+        (W.taken sink.new) (last_answers (moment_of evening desk.old))) }
     ensures sound { OnOk result (W.failed sink.new ≡ W.failed sink.old) }
     ensures vain { OnOk result (W.in_vain sink.new ≡ W.in_vain sink.old) }
-    ensures fails { IfErr result (FailsToPut desk.old.page desk.new.page (W.failed sink.new) (W.taken sink.old) (W.taken sink.new) (last_answers (moment_of evening desk.old)) (LineAsks (moment_of evening desk.old)) (EveningIsRefused (ended_at (moment_of evening desk.old)))) }
+    ensures fails { IfErr result (FailsToPut desk.old.page desk.new.page
+        (sink_change W.Sink sink.old sink.new)
+        (last_answers (moment_of evening desk.old)) (LineAsks (moment_of evening desk.old))
+        (EveningIsRefused (ended_at (moment_of evening desk.old)))) }
     ensures sink_fails { IfErr result (SinkFails
         (W.in_vain sink.old) (W.in_vain sink.new)
         (W.failed sink.old) (W.failed sink.new)) }
@@ -166,10 +177,12 @@ fn end<W: Sink>(
     requires row { evening.row < 2 ^ 64 - 1 }
     requires waiting { desk.old.page.held ≡ [] }
     ensures complete { OnOk result (missing_at (moment_of evening desk.old) ≡ None) }
-    ensures out { OnOk result (Appends (W.taken sink.old) (W.taken sink.new) (last_answers (moment_of evening desk.old))) }
+    ensures out { OnOk result (Appends (W.taken sink.old)
+        (W.taken sink.new) (last_answers (moment_of evening desk.old))) }
     ensures sound { OnOk result (W.failed sink.new ≡ W.failed sink.old) }
     ensures vain { OnOk result (W.in_vain sink.new ≡ W.in_vain sink.old) }
-    ensures fails { IfErr result (FailsToEnd (moment_of evening desk.old) desk.old.page.out (W.failed sink.new) (W.taken sink.old) (W.taken sink.new)) }
+    ensures fails { IfErr result (FailsToEnd (moment_of evening desk.old) desk.old.page.out
+        (sink_change W.Sink sink.old sink.new)) }
     ensures sink_fails { IfErr result (SinkFails
         (W.in_vain sink.old) (W.in_vain sink.new)
         (W.failed sink.old) (W.failed sink.new)) }
@@ -238,7 +251,8 @@ impl Live {
             (device S.left S.failed W.taken W.failed wire.new)) }
         ensures short { IfOk result (IfTook (λ live. length (line_begun_in live) ≤ 258)) }
         ensures waiting { IfOk result (IfTook (λ live. (live_waiting live).held ≡ [])) }
-        ensures row { IfOk result (IfTook (λ live. live_row live ≤ live_row self + length piece.old)) }
+        ensures row { IfOk result
+            (IfTook (λ live. live_row live ≤ live_row self + length piece.old)) }
         ensures fails { (past : Past) → IsPrompt past self (W.taken wire.old.sink)
             → IfErr result (Fails (reached past.start past.bytes)
             (device S.left S.failed W.taken W.failed wire.old)
@@ -281,8 +295,11 @@ pub fn live_run<S: Source, W: Sink>(
     options: Options,
     wire: &mut Wire<S, W>,
 ) -> Result<(), RunFault>
-    ensures text { OnOk result (IfSome (S.left wire.old.source) (λ bytes. Appends (W.taken wire.old.sink) (W.taken wire.new.sink) (live_text (start_of options) bytes))) }
-    ensures complete { OnOk result (IfSome (S.left wire.old.source) (λ bytes. missing_after (start_of options) bytes ≡ None)) }
+    ensures text { OnOk result
+        (IfSome (S.left wire.old.source) (λ bytes. Appends (W.taken wire.old.sink)
+        (W.taken wire.new.sink) (live_text (start_of options) bytes))) }
+    ensures complete { OnOk result
+        (IfSome (S.left wire.old.source) (λ bytes. missing_after (start_of options) bytes ≡ None)) }
 
     // A failed read is answered exactly where the source has failed. Want of memory is not answered as a fault of the input.
     ensures read_failed { S.failed wire.new.source ≡ is_read_failed result }
@@ -312,7 +329,7 @@ pub fn live_run<S: Source, W: Sink>(
     let mut live = Live::new(options);
     let mut piece = [0; PIECE];
     'steps: loop {
-        if live.read > MOST_BYTES {
+        if live.read > MOST_READ {
             return Err(RunFault::Input(InputFault::TooLong));
         }
         match live.step(alloc, &mut piece, wire)? {

@@ -33,7 +33,8 @@ impl Model for Page {
 fn give<W: Sink>(before: usize, sink: &mut W, text: &[u8]) -> Result<usize, RunFault>
     ensures all { OnOk result (Appends (W.taken sink.old) (W.taken sink.new) text.now) }
     ensures count { IfOk result (λ after. after ≡ min (before + length text.now) (2 ^ 64 - 1)) }
-    ensures stopped { IfErr result (IsStopped before (W.failed sink.new) (W.taken sink.old) (W.taken sink.new) text.now) }
+    ensures stopped { IfErr result
+        (IsStopped before (W.failed sink.new) (W.taken sink.old) (W.taken sink.new) text.now) }
     ensures sound { OnOk result (W.failed sink.new ≡ W.failed sink.old) }
     ensures vain { VainlyGives (W.in_vain sink.old) (W.in_vain sink.new) result }
 {
@@ -66,9 +67,11 @@ impl Page {
 
     /// Gives to the sink what waits.
     pub(crate) fn flush<W: Sink>(&mut self, sink: &mut W) -> Result<(), RunFault>
-        ensures put { OnOk result (HasPut self.old self.new (W.taken sink.old) (W.taken sink.new) []) }
+        ensures put { OnOk result
+            (HasPut self.old self.new (W.taken sink.old) (W.taken sink.new) []) }
         ensures empty { OnOk result (self.new.held ≡ []) }
-        ensures stopped { IfErr result (IsStopped self.old.out (W.failed sink.new) (W.taken sink.old) (W.taken sink.new) self.old.held) }
+        ensures stopped { IfErr result (IsStopped self.old.out (W.failed sink.new)
+            (W.taken sink.old) (W.taken sink.new) self.old.held) }
         ensures sound { OnOk result (W.failed sink.new ≡ W.failed sink.old) }
         ensures vain { VainlyGives (W.in_vain sink.old) (W.in_vain sink.new) result }
     {
@@ -80,8 +83,10 @@ impl Page {
     /// Puts a text after what waits. Where there is no room for it, both are given to the sink.
     #[tactic(auto, using(crate::proofs::Puts::put_held, crate::proofs::Puts::put_given, crate::proofs::Puts::put_then, crate::proofs::Puts::put_stopped))]
     pub(crate) fn put<W: Sink>(&mut self, sink: &mut W, text: &[u8]) -> Result<(), RunFault>
-        ensures put { OnOk result (HasPut self.old self.new (W.taken sink.old) (W.taken sink.new) text.now) }
-        ensures stopped { IfErr result (IsStopped self.old.out (W.failed sink.new) (W.taken sink.old) (W.taken sink.new) (self.old.held ++ text.now)) }
+        ensures put { OnOk result
+            (HasPut self.old self.new (W.taken sink.old) (W.taken sink.new) text.now) }
+        ensures stopped { IfErr result (IsStopped self.old.out (W.failed sink.new)
+            (W.taken sink.old) (W.taken sink.new) (self.old.held ++ text.now)) }
         ensures sound { OnOk result (W.failed sink.new ≡ W.failed sink.old) }
         ensures vain { VainlyGives (W.in_vain sink.old) (W.in_vain sink.new) result }
     {
@@ -103,8 +108,10 @@ impl Page {
         text: &[u8],
         more: &[u8],
     ) -> Result<(), RunFault>
-        ensures put { OnOk result (HasPut self.old self.new (W.taken sink.old) (W.taken sink.new) (text.now ++ more.now)) }
-        ensures stopped { IfErr result (IsStopped self.old.out (W.failed sink.new) (W.taken sink.old) (W.taken sink.new) (self.old.held ++ (text.now ++ more.now))) }
+        ensures put { OnOk result (HasPut self.old self.new
+            (W.taken sink.old) (W.taken sink.new) (text.now ++ more.now)) }
+        ensures stopped { IfErr result (IsStopped self.old.out (W.failed sink.new)
+            (W.taken sink.old) (W.taken sink.new) (self.old.held ++ (text.now ++ more.now))) }
         ensures sound { OnOk result (W.failed sink.new ≡ W.failed sink.old) }
         ensures vain { VainlyGives (W.in_vain sink.old) (W.in_vain sink.new) result }
     {

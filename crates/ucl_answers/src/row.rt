@@ -13,7 +13,7 @@ use arrayvec::ArrayVec;
 use ucl_screen::Four;
 
 /// The most bytes that are read of a line: 256, and the two of its end.
-pub(crate) const MOST_BYTES: usize = 258;
+pub(crate) const MOST_LINE_BYTES: usize = 258;
 
 /// The most fields that so many bytes have.
 const MOST_FIELDS: usize = 259;
@@ -105,7 +105,7 @@ pub(crate) fn without_ends(text: &[u8]) -> &[u8]
 /// The fields of a row: their bytes, and where each ends.
 #[derive(Drop)]
 pub(crate) struct Fields {
-    bytes: ArrayVec<u8, MOST_BYTES>,
+    bytes: ArrayVec<u8, MOST_LINE_BYTES>,
     ends: ArrayVec<u16, MOST_FIELDS>,
 }
 
@@ -158,7 +158,8 @@ impl Fields {
         requires ends { length self.old.ends.items < 259 }
         requires bytes { length self.old.bytes.items < 258 }
         requires rising { Rising 0 self.old.ends.items (length self.old.bytes.items) }
-        ensures reads { (rest : List ℕ) → after_deed deed b (fields_in self.old) (field_in self.old) rest ≡ read_on result b (fields_in self.new) (field_in self.new) rest }
+        ensures reads { (rest : List ℕ) → after_deed deed b (fields_in self.old) (field_in self.old)
+            rest ≡ read_on result b (fields_in self.new) (field_in self.new) rest }
         ensures rising { Rising 0 self.new.ends.items (length self.new.bytes.items) }
         ensures ends { length self.new.ends.items ≤ length self.old.ends.items + 1 }
         ensures bytes { length self.new.bytes.items ≤ length self.old.bytes.items + 1 }
@@ -185,7 +186,8 @@ impl Fields {
         requires { length text.now ≤ 258 }
         ensures within { result ≤ length text.now }
         ensures rising { Rising 0 self.new.ends.items (length self.new.bytes.items) }
-        ensures record { (s : State) × (next_record default_config st.StartField [] [] text.now ≡ Some (fields_in self.new, s, drop result text.now)) }
+        ensures record { (s : State) × (next_record default_config st.StartField
+            [] [] text.now ≡ Some (fields_in self.new, s, drop result text.now)) }
     {
         self.bytes.clear();
         self.ends.clear();

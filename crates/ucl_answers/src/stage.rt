@@ -63,7 +63,8 @@ pub(crate) fn bad_row(row: u64) -> InputFault
 /// The club that a row says.
 fn club_said(alloc: Global, slot: u8, row: &Option<Four<'_>>) -> Result<Option<Club>, AllocError>
     requires { slot ≤ 4 }
-    ensures { IfOk result (λ club. option_map club_seen club ≡ club_said slot (of_row (option_map four_seen row.now))) }
+    ensures { IfOk result (λ club. option_map club_seen club ≡ club_said slot
+        (of_row (option_map four_seen row.now))) }
 {
     match row {
         None => Ok(None),
@@ -139,7 +140,9 @@ pub(crate) fn with_club(
     clubs: Clubs,
     said: &Option<Four<'_>>,
 ) -> Result<Stage, RunFault>
-    ensures { BecomesIfMemory (after_club row (clubs_seen clubs) (club_said (length (clubs_seen clubs) + 1) (of_row (option_map four_seen said.now)))) result }
+    ensures { BecomesIfMemory (after_club row (clubs_seen clubs)
+        (club_said (length (clubs_seen clubs) + 1) (of_row (option_map four_seen said.now))))
+        result }
 {
     match club_said(alloc, clubs.next_slot(), said)? {
         None => Err(RunFault::Input(bad_row(row))),
@@ -167,7 +170,9 @@ impl SomeWords {
 
     /// The stage after a row with this number that has to give a word.
     pub(crate) fn with_row(self, row: u64, said: &Option<Four<'_>>) -> Result<Stage, RunFault>
-        ensures { Becomes (after_word row self.roster self.words.items (word_said (length self.words.items + 1) (of_row (option_map four_seen said.now)))) result }
+        ensures { Becomes (after_word row self.roster self.words.items
+            (word_said (length self.words.items + 1) (of_row (option_map four_seen said.now))))
+            result }
     {
         let game = self.words.len() as u8 + 1;
         match word_said(game, said) {
@@ -178,7 +183,8 @@ impl SomeWords {
 
     /// The stage in which a row is read: where no word came yet, a row that is none opens the fresh board.
     fn opened(self, said: &Option<Four<'_>>) -> Stage
-        ensures { stage_seen result ≡ opened (Restoring self.roster self.words.items) (of_row (option_map four_seen said.now)) }
+        ensures { stage_seen result ≡ opened (Restoring self.roster self.words.items)
+            (of_row (option_map four_seen said.now)) }
     {
         if self.words.is_empty() && !is_word_row(said) {
             Stage::Open(Table {
@@ -194,7 +200,8 @@ impl SomeWords {
 impl Stage {
     /// The stage in which a row is read.
     pub(crate) fn opened(self, said: &Option<Four<'_>>) -> Stage
-        ensures { stage_seen result ≡ opened (stage_seen self) (of_row (option_map four_seen said.now)) }
+        ensures { stage_seen result ≡ opened (stage_seen self)
+            (of_row (option_map four_seen said.now)) }
     {
         match self {
             Stage::Naming(clubs) => Stage::Naming(clubs),

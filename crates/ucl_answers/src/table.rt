@@ -1,7 +1,7 @@
 //! The answers of an open board.
 
 ghost use Rattle.std.specs.Prelude.{◌≡◌, IfErr, OnOk};
-ghost use Rattle.ucl_answers.specs.Output.{FailsToPut, HasPut, SinkFails};
+ghost use Rattle.ucl_answers.specs.Output.{FailsToPut, HasPut, SinkFails, sink_change};
 ghost use Rattle.ucl_answers.specs.Stages.{next_board};
 ghost use Rattle.ucl_answers.specs.Stepping.{AsksOf, NeverRefused};
 ghost use Rattle.ucl_answers.specs.Text.{answer_of, event_answer, words_answer};
@@ -35,7 +35,7 @@ fn put_words<W: Sink>(
     ensures sound { OnOk result (W.failed sink.new ≡ W.failed sink.old) }
     ensures vain { OnOk result (W.in_vain sink.new ≡ W.in_vain sink.old) }
     ensures fails { IfErr result (FailsToPut page.old page.new
-        (W.failed sink.new) (W.taken sink.old) (W.taken sink.new)
+        (sink_change W.Sink sink.old sink.new)
         (words_answer format row board.now) (format ≡ Json) NeverRefused) }
     ensures sink_fails { IfErr result (SinkFails
         (W.in_vain sink.old) (W.in_vain sink.new)
@@ -66,7 +66,7 @@ impl Table {
         ensures sound { OnOk result (W.failed sink.new ≡ W.failed sink.old) }
         ensures vain { OnOk result (W.in_vain sink.new ≡ W.in_vain sink.old) }
         ensures fails { IfErr result (FailsToPut page.old page.new
-            (W.failed sink.new) (W.taken sink.old) (W.taken sink.new)
+            (sink_change W.Sink sink.old sink.new)
             (event_answer options.now row self.old.roster self.old.board event.now)
             (AsksOf options.now self.old.board (Event event.now)) NeverRefused) }
         ensures sink_fails { IfErr result (SinkFails
@@ -103,7 +103,7 @@ impl Table {
         ensures sound { OnOk result (W.failed sink.new ≡ W.failed sink.old) }
         ensures vain { OnOk result (W.in_vain sink.new ≡ W.in_vain sink.old) }
         ensures fails { IfErr result (FailsToPut page.old page.new
-            (W.failed sink.new) (W.taken sink.old) (W.taken sink.new)
+            (sink_change W.Sink sink.old sink.new)
             (answer_of options.now row self.old.roster self.old.board request.now)
             (AsksOf options.now self.old.board request.now) NeverRefused) }
         ensures sink_fails { IfErr result (SinkFails

@@ -33,6 +33,12 @@ library next_word read_word match_of board_version standings screen screen_json 
 /// What words there are.
 const USAGE: &str = "list, run SUBJECT WORKLOAD MS [FILE], or check SUBJECT standings|screen FILE";
 
+/// How many readers a night can have.
+const MOST_READERS: u8 = 16;
+
+/// How many reporters a night can have: one for each match.
+const MOST_REPORTERS: u8 = 12;
+
 /// Calls by one thread.
 #[derive(Clone, Copy)]
 pub enum Calls {
@@ -47,9 +53,9 @@ pub enum Workload {
     Nights(Plan),
 }
 
-/// How many readers, or reporters, a name asks for: 0 to 12.
-fn workers_of(digits: &str) -> Option<u8> {
-    digits.parse::<u8>().ok().filter(|workers| *workers <= 12)
+/// How many readers, or reporters, a name asks for: 0 to `most`.
+fn workers_of(digits: &str, most: u8) -> Option<u8> {
+    digits.parse::<u8>().ok().filter(|workers| *workers <= most)
 }
 
 /// A plan by its name: `mix-R-W` or `paced-R-W`, with R readers and W reporters; or `night`, with two of each.
@@ -70,8 +76,8 @@ fn plan_of(name: &str) -> Option<Plan> {
     };
     Some(Plan {
         style,
-        readers: workers_of(readers)?,
-        reporters: workers_of(reporters)?,
+        readers: workers_of(readers, MOST_READERS)?,
+        reporters: workers_of(reporters, MOST_REPORTERS)?,
     })
 }
 

@@ -9,34 +9,91 @@ use std::sync::Wait;
 use std::time::Clock;
 use ucl_board::Board;
 use ucl_screen::night_of_bytes;
-use ucl_word::{Kind, MatchRecord, ReporterNo, Side, migrate, next_word, unpack};
+use ucl_word::{
+    Kind, MatchRecord, Refusal, ReporterNo, Side, migrate, next_word, number_of, unpack,
+};
 
-/// The kind of the event that is tried in a match, whose place is counted from 0.
-fn kind_at(place: usize) -> Kind {
-    match place {
-        0 => Kind::KickOff,
-        1 => Kind::Goal(Side::Home),
-        2 => Kind::Goal(Side::Away),
-        3 => Kind::Disallow(Side::Home),
-        4 => Kind::Disallow(Side::Away),
-        5 => Kind::Yellow(Side::Home),
-        6 => Kind::Yellow(Side::Away),
-        7 => Kind::SecondYellow(Side::Home),
-        8 => Kind::SecondYellow(Side::Away),
-        9 => Kind::Red(Side::Home),
-        10 => Kind::Red(Side::Away),
-        _ => Kind::FullTime,
+/// The kinds of events, by their numbers for other languages.
+static KINDS: [Kind; 13] = [
+    Kind::KickOff,
+    Kind::Goal(Side::Home),
+    Kind::Goal(Side::Away),
+    Kind::Disallow(Side::Home),
+    Kind::Disallow(Side::Away),
+    Kind::Yellow(Side::Home),
+    Kind::Yellow(Side::Away),
+    Kind::SecondYellow(Side::Home),
+    Kind::SecondYellow(Side::Away),
+    Kind::Red(Side::Home),
+    Kind::Red(Side::Away),
+    Kind::FullTime,
+    Kind::Reopen,
+];
+
+/// An event that is tried in a match, by numbers.
+#[derive(Clone, Copy)]
+struct Tried {
+    reporter: u32,
+    /// How much too high the number is that was last seen.
+    wrong: u32,
+    kind: u32,
+}
+
+/// The words of a board, and the event that is tried in each match.
+#[derive(Clone, Copy)]
+struct Tries {
+    words: [u64; 12],
+    events: [Tried; 12],
+}
+
+/// Why an event was not entered.
+#[derive(Clone, Copy)]
+enum Unentered {
+    NoReporter,
+    NoKind,
+    BadWord,
+    Refused(Refusal),
+}
+
+/// The word of a match after an event that comes as numbers, or why it was not entered: judged in the order of the call for other languages.
+#[inline(never)]
+fn next_once(word: u64, reporter: u32, expected: u32, kind: u32) -> Result<u64, Unentered> {
+    let reporter = u8::try_from(reporter).ok().and_then(ReporterNo::new);
+    let Some(reporter) = reporter else {
+        return Err(Unentered::NoReporter);
+    };
+    let Some(kind) = KINDS.get(kind as usize).copied() else {
+        return Err(Unentered::NoKind);
+    };
+    if unpack(word).is_err() {
+        return Err(Unentered::BadWord);
+    }
+    let Ok(expected) = u16::try_from(expected) else {
+        let found = number_of(word);
+        return Err(Unentered::Refused(Refusal::Stale { found }));
+    };
+    match next_word(word, reporter, expected, kind) {
+        Ok(next) => Ok(next),
+        Err(refusal) => Err(Unentered::Refused(refusal)),
     }
 }
 
-/// The word of a match after an event, where reporter, word and rules allow it.
-#[inline(never)]
-fn next_once(word: u64, reporter: u8, expected: u16, kind: Kind) -> Option<u64> {
-    let reporter = ReporterNo::new(reporter)?;
-    if unpack(word).is_err() {
-        return None;
+/// The number of a reason, and where an event is stale the number found.
+fn number_and_found(reason: Unentered) -> u64 {
+    match reason {
+        Unentered::NoReporter => 50,
+        Unentered::NoKind => 51,
+        Unentered::BadWord => 10,
+        Unentered::Refused(Refusal::Stale { found }) => u64::from(found) + 1,
+        Unentered::Refused(Refusal::Finished) => 2,
+        Unentered::Refused(Refusal::NotStarted) => 3,
+        Unentered::Refused(Refusal::AlreadyStarted) => 4,
+        Unentered::Refused(Refusal::NumberFull) => 5,
+        Unentered::Refused(Refusal::NoGoal) => 6,
+        Unentered::Refused(Refusal::NoCaution) => 7,
+        Unentered::Refused(Refusal::LimitReached) => 8,
+        Unentered::Refused(Refusal::NotFinished) => 9,
     }
-    next_word(word, reporter, expected, kind).ok()
 }
 
 /// The word that a word is read as.
@@ -57,14 +114,43 @@ fn version_once(words: &[u64; 12]) -> Option<u16> {
     Board::of_words(words).ok().map(|board| board.version())
 }
 
-/// Tries an event in each match of a board, each from the number that is there.
-fn next_words(board: &Board) -> u64 {
-    let mut sum = 0u64;
-    for (place, word) in board.words().iter().enumerate() {
-        let expected = (*word & 4095) as u16;
-        if let Some(next) = next_once(*word, 1, expected, kind_at(place)) {
-            sum = sum.wrapping_add(next);
+/// The event for each match of each board, by the generator of `bench/plain/calls.c`.
+fn tries_of(alloc: Global, boards: &[Board]) -> Result<Vec<Tries>> {
+    let mut tries = Vec::new(alloc);
+    let mut chance = 1u64;
+    for board in boards {
+        let none = Tried {
+            reporter: 0,
+            wrong: 0,
+            kind: 0,
+        };
+        let mut events = [none; 12];
+        for event in events.iter_mut() {
+            chance = chance
+                .wrapping_mul(6_364_136_223_846_793_005)
+                .wrapping_add(1_442_695_040_888_963_407);
+            *event = Tried {
+                reporter: (chance >> 48) as u32 % 257,
+                wrong: u32::from((chance >> 40) % 16 == 0),
+                kind: (chance >> 33) as u32 % 14,
+            };
         }
+        let words = board.words();
+        tries.push(Tries { words, events })?;
+    }
+    Ok(tries)
+}
+
+/// Tries the event of each match of a board: the next words, the numbers found and those of the reasons, each in its turn.
+fn next_words(tries: &Tries) -> u64 {
+    let mut sum = 0u64;
+    for (word, event) in tries.words.iter().zip(&tries.events) {
+        let expected = ((*word & 4095) as u32).wrapping_add(event.wrong);
+        let answer = match next_once(*word, event.reporter, expected, event.kind) {
+            Ok(next) => next,
+            Err(reason) => number_and_found(reason),
+        };
+        sum = sum.wrapping_mul(31).wrapping_add(answer);
     }
     sum
 }
@@ -122,7 +208,10 @@ pub fn measure_library<R: Wait + Clock>(
     }
     let boards = boards_of(alloc, text)?;
     match name {
-        "next_word" => measure(rt, &boards, millis, |board| Ok(next_words(board))),
+        "next_word" => {
+            let tries = tries_of(alloc, &boards)?;
+            measure(rt, &tries, millis, |tries| Ok(next_words(tries)))
+        }
         "read_word" => measure(rt, &boards, millis, |board| Ok(read_words(board))),
         "match_of" => measure(rt, &boards, millis, |board| Ok(records(board))),
         "board_version" => measure(rt, &boards, millis, |board| {

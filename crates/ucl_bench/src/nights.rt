@@ -1,8 +1,9 @@
 //! Nights: readers and reporters in threads of their own, which stay for all nights, each of which has a fresh board. Nights without a
-//! clock, of which the rates are told, and nights in which each reading is timed and checked take turns.
+//! clock, of which the rates are told, nights in which each reading is timed and checked, and nights in which each report is timed take
+//! turns.
 
 use crate::clock::{FineQuotient, Quotient, nanos, nanos_since};
-use crate::subject::{Subject, read_once, report_once};
+use crate::subject::{Subject, Told, read_once, report_once};
 use anyhow::{Context, Result};
 use crossbeam_channel::{Receiver, Sender, unbounded};
 use std::alloc::Global;
@@ -13,7 +14,7 @@ use std::time::{Clock, Duration};
 use std::{fmt, thread};
 use ucl_bench_tally::events::{ALL_EVENTS, MATCHES, event_at, is_of};
 use ucl_bench_tally::tally::{Cut, Order, Tally, is_whole};
-use ucl_word::MatchNo;
+use ucl_word::{EventCall, MatchNo};
 
 /// How far apart the events of a paced reporter are.
 const PACE_NANOS: u64 = 5_000;
@@ -61,10 +62,27 @@ impl Plan {
     }
 }
 
+/// What is timed in a night.
+#[derive(Clone, Copy, PartialEq, Eq)]
+pub enum Timed {
+    Nothing,
+    Readings,
+    Reports,
+}
+
+/// What is timed in the night after so many.
+fn timed_after(nights: u64) -> Timed {
+    match nights % 3 {
+        0 => Timed::Nothing,
+        1 => Timed::Readings,
+        _ => Timed::Reports,
+    }
+}
+
 /// What the workers of one night share.
 #[derive(Drop)]
 pub struct Night {
-    is_timed: bool,
+    timed: Timed,
     workers: u64,
     come: AtomicU64,
     reporting: AtomicU64,
@@ -117,6 +135,7 @@ pub struct Nights {
     plan: Plan,
     sums: Sums,
     tally: Tally,
+    reports: Tally,
     clock_nanos: u64,
 }
 
@@ -141,6 +160,9 @@ impl fmt::Display for Nights {
         let p50 = tally.time_at(500);
         let p999 = tally.time_at(999);
         let max = tally.longest;
+        let report_p50 = self.reports.time_at(500);
+        let report_p999 = self.reports.time_at(999);
+        let report_max = self.reports.longest;
         let clock = self.clock_nanos;
         let checked = tally.checked;
         let whole = tally.whole;
@@ -155,19 +177,22 @@ impl fmt::Display for Nights {
         )?;
         write!(
             f,
-            "\"p50_ns\":{p50},\"p999_ns\":{p999},\"max_ns\":{max},\"clock_ns\":{clock},"
+            "\"p50_ns\":{p50},\"p999_ns\":{p999},\"max_ns\":{max},\"report_p50_ns\":{report_p50},"
+        )?;
+        write!(
+            f,
+            "\"report_p999_ns\":{report_p999},\"report_max_ns\":{report_max},\"clock_ns\":{clock},"
         )?;
         write!(f, "\"checked\":{checked},\"whole\":{whole},\"torn\":{torn}")
     }
 }
 
-/// Reads through a night without a clock.
+/// Reads through a night without a clock, and tells how many readings it took, and for how long.
 fn read_freely<S: Subject, R: Wait + Clock>(
     rt: &R,
     part: &mut S::Reader,
     night: &Night,
-    tally: &mut Tally,
-) {
+) -> (u64, u64) {
     let mut reads = 0u64;
     let begun = nanos(rt);
     for _ in rt.forever() {
@@ -179,7 +204,7 @@ fn read_freely<S: Subject, R: Wait + Clock>(
         }
         reads = reads.wrapping_add(READINGS_AT_ONCE);
     }
-    tally.add_reads(reads, nanos_since(rt, begun), S::retries_of(part));
+    (reads, nanos_since(rt, begun))
 }
 
 /// Reads through a night, and times and checks each reading.
@@ -218,10 +243,15 @@ pub fn read_nights<S: Subject, R: Wait + Clock>(
     for ticket in nights.iter(rt) {
         let Ticket { mut part, night } = ticket;
         night.begin(rt);
-        if night.is_timed {
-            read_timed::<S, R>(rt, &mut part, &night, cut, &mut tally);
-        } else {
-            read_freely::<S, R>(rt, &mut part, &night, &mut tally);
+        match night.timed {
+            Timed::Nothing => {
+                let (reads, nanos) = read_freely::<S, R>(rt, &mut part, &night);
+                tally.add_reads(reads, nanos, S::retries_of(&part));
+            }
+            Timed::Readings => read_timed::<S, R>(rt, &mut part, &night, cut, &mut tally),
+            Timed::Reports => {
+                let _ = read_freely::<S, R>(rt, &mut part, &night);
+            }
         }
     }
     tally
@@ -236,12 +266,31 @@ fn wait_for<R: Wait + Clock>(rt: &R, due: u64) {
     }
 }
 
+/// Makes a report, and counts its time where reports are timed.
+fn report<S: Subject, R: Wait + Clock>(
+    rt: &R,
+    part: &mut S::Reporter,
+    call: &EventCall,
+    timed: Timed,
+    tally: &mut Tally,
+) -> Told {
+    if timed != Timed::Reports {
+        return report_once::<S, R>(rt, part, call);
+    }
+    let begun = nanos(rt);
+    let told = report_once::<S, R>(rt, part, call);
+    tally.add_checked(nanos_since(rt, begun), true);
+    told
+}
+
 /// Enters the events of a reporter's own matches, and tells how many were accepted.
 fn enter_own<S: Subject, R: Wait + Clock>(
     rt: &R,
     part: &mut S::Reporter,
     index: u8,
     plan: Plan,
+    timed: Timed,
+    tally: &mut Tally,
 ) -> u64 {
     let cut = plan.cut();
     let mut due = nanos(rt);
@@ -255,7 +304,8 @@ fn enter_own<S: Subject, R: Wait + Clock>(
                 wait_for(rt, due);
                 due = due.wrapping_add(PACE_NANOS);
             }
-            let told = report_once::<S, R>(rt, part, &event_at(game, expected));
+            let call = event_at(game, expected);
+            let told = report::<S, R>(rt, part, &call, timed, tally);
             entered = entered.wrapping_add(u64::from(told.is_accepted));
         }
     }
@@ -264,7 +314,12 @@ fn enter_own<S: Subject, R: Wait + Clock>(
 
 /// Enters events of all matches, one of each in turn up to full time, with the number that the last reply of the match told, and tells
 /// how many were accepted. A match that another reporter has brought beyond the turn is passed over.
-fn enter_all<S: Subject, R: Wait>(rt: &R, part: &mut S::Reporter) -> u64 {
+fn enter_all<S: Subject, R: Wait + Clock>(
+    rt: &R,
+    part: &mut S::Reporter,
+    timed: Timed,
+    tally: &mut Tally,
+) -> u64 {
     let mut entered = 0u64;
     let mut numbers = [0; 12];
     for turn in 0..ALL_EVENTS {
@@ -273,7 +328,7 @@ fn enter_all<S: Subject, R: Wait>(rt: &R, part: &mut S::Reporter) -> u64 {
                 continue;
             };
             if *number == turn {
-                let told = report_once::<S, R>(rt, part, &event_at(game, turn));
+                let told = report::<S, R>(rt, part, &event_at(game, turn), timed, tally);
                 entered = entered.wrapping_add(u64::from(told.is_accepted));
                 *number = told.number;
             }
@@ -282,21 +337,26 @@ fn enter_all<S: Subject, R: Wait>(rt: &R, part: &mut S::Reporter) -> u64 {
     entered
 }
 
-/// Enters a reporter's events of all nights, and tells of each night.
+/// Enters a reporter's events of all nights, tells of each night, and hands back what its timed reports took.
 pub fn enter_nights<S: Subject, R: Wait + Clock>(
     rt: &R,
     nights: Receiver<Ticket<S::Reporter>>,
     index: u8,
     plan: Plan,
     shifts: Sender<Shift>,
-) {
+    tally: Tally,
+) -> Tally {
+    let mut tally = tally;
     for ticket in nights.iter(rt) {
         let Ticket { mut part, night } = ticket;
         night.begin(rt);
         let begun = nanos(rt);
+        let timed = night.timed;
         let entered = match plan.style {
-            Style::Mix | Style::Paced => enter_own::<S, R>(rt, &mut part, index, plan),
-            Style::Night => enter_all::<S, R>(rt, &mut part),
+            Style::Mix | Style::Paced => {
+                enter_own::<S, R>(rt, &mut part, index, plan, timed, &mut tally)
+            }
+            Style::Night => enter_all::<S, R>(rt, &mut part, timed, &mut tally),
         };
         let ended = nanos(rt);
         night.reporting.fetch_sub(1, Ordering::SeqCst);
@@ -306,9 +366,10 @@ pub fn enter_nights<S: Subject, R: Wait + Clock>(
             entered,
         };
         if shifts.send(rt, shift).is_err() {
-            return;
+            break;
         }
     }
+    tally
 }
 
 /// The ends to which the parts of each night are sent.
@@ -388,11 +449,11 @@ fn hold_night<S: Subject, R: Wait + Clock>(
 ) -> Result<()> {
     let reporters = crew.reporters.len() as u64;
     let workers = (crew.readers.len() as u64).wrapping_add(reporters);
-    let is_timed = sums.nights % 2 == 1;
+    let timed = timed_after(sums.nights);
     let night = Arc::new(
         alloc,
         Night {
-            is_timed,
+            timed,
             workers,
             come: AtomicU64::new(0),
             reporting: AtomicU64::new(reporters.max(1)),
@@ -406,7 +467,7 @@ fn hold_night<S: Subject, R: Wait + Clock>(
     let is_quiet = reporters == 0 || sent.is_err();
     let shift = end_night(rt, &night, reporters, is_quiet, shifts)?;
     sums.nights = sums.nights.wrapping_add(1);
-    if !is_timed {
+    if timed == Timed::Nothing {
         let taken = shift.ended.saturating_sub(shift.begun);
         sums.untimed = sums.untimed.wrapping_add(1);
         sums.nanos = sums.nanos.wrapping_add(taken);
@@ -415,7 +476,7 @@ fn hold_night<S: Subject, R: Wait + Clock>(
     sent
 }
 
-/// Holds nights for so many milliseconds, at least one without a clock and one that is timed.
+/// Holds nights for so many milliseconds, at least one of each sort.
 fn hold_nights<S: Subject, R: Wait + Clock>(
     rt: &R,
     alloc: Global,
@@ -432,7 +493,7 @@ fn hold_nights<S: Subject, R: Wait + Clock>(
     let begun = nanos(rt);
     for _ in rt.forever() {
         hold_night(rt, alloc, crew, shifts, &mut sums)?;
-        if sums.nights >= 2 && nanos_since(rt, begun) / 1_000_000 >= millis {
+        if sums.nights >= 3 && nanos_since(rt, begun) / 1_000_000 >= millis {
             break;
         }
     }
@@ -452,8 +513,9 @@ fn clock_nanos(clock: &impl Clock) -> u64 {
 /// What a reader's thread is given: the end at which its parts of nights come in, and an empty tally.
 pub type ReaderStart<T> = (Receiver<Ticket<T>>, Tally);
 
-/// What a reporter's thread is given: the end at which its parts of nights come in, and the one to which it tells of each.
-pub type ReporterStart<T> = (Receiver<Ticket<T>>, Sender<Shift>);
+/// What a reporter's thread is given: the end at which its parts of nights come in, the one to which it tells of each, and an empty
+/// tally.
+pub type ReporterStart<T> = (Receiver<Ticket<T>>, Sender<Shift>, Tally);
 
 /// All workers, and the ends by which they are reached.
 #[derive(Drop)]
@@ -464,7 +526,7 @@ pub struct Staff<S: Subject> {
     told: Sender<Shift>,
     shifts: Receiver<Shift>,
     readers: Vec<JoinHandle<Tally>>,
-    reporters: Vec<JoinHandle<()>>,
+    reporters: Vec<JoinHandle<Tally>>,
 }
 
 impl<S: Subject> Staff<S> {
@@ -497,7 +559,7 @@ impl<S: Subject> Staff<S> {
     pub fn next_reporter(&mut self) -> Result<ReporterStart<S::Reporter>> {
         let (to, from) = unbounded(self.alloc)?;
         self.crew.reporters.push(to)?;
-        Ok((from, self.told.clone()?))
+        Ok((from, self.told.clone()?, Tally::new(self.alloc)?))
     }
 
     /// Keeps a reader's thread.
@@ -508,7 +570,7 @@ impl<S: Subject> Staff<S> {
     }
 
     /// Keeps a reporter's thread.
-    pub fn add_reporter(&mut self, reporter: Option<JoinHandle<()>>) -> Result<()> {
+    pub fn add_reporter(&mut self, reporter: Option<JoinHandle<Tally>>) -> Result<()> {
         self.reporters
             .push(reporter.context("no thread for a reporter")?)?;
         Ok(())
@@ -532,13 +594,15 @@ impl<S: Subject> Staff<S> {
         for reader in readers {
             tally.add_all(&reader.join(rt));
         }
+        let mut reports = Tally::new(alloc)?;
         for reporter in reporters {
-            reporter.join(rt);
+            reports.add_all(&reporter.join(rt));
         }
         Ok(Nights {
             plan,
             sums,
             tally,
+            reports,
             clock_nanos: clock_nanos(rt),
         })
     }

@@ -25,9 +25,9 @@ macro_rules! hold_nights {
             staff.add_reader(reader.ok())?;
         }
         for index in 0..$plan.reporters {
-            let (nights, told) = staff.next_reporter()?;
+            let (nights, told, tally) = staff.next_reporter()?;
             let reporter = thread::spawn(&$rt, move || {
-                enter_nights::<$subject, R>(&$rt, nights, index, $plan, told)
+                enter_nights::<$subject, R>(&$rt, nights, index, $plan, told, tally)
             });
             staff.add_reporter(reporter.ok())?;
         }

@@ -179,10 +179,11 @@ fn compare_screens<T: Table>(alloc: Global, boards: &[Board], roster: &Roster) -
     Ok(())
 }
 
-/// Takes an answer of all boards, again and again, for so many milliseconds. The answers are added up, so that none is left out.
-pub fn measure<R: Wait + Clock, F: Fn(&Board) -> Result<u64>>(
+/// Takes an answer of all boards, or of what is tried on each, again and again, for so many milliseconds. The answers are added up, so that
+/// none is left out.
+pub fn measure<T, R: Wait + Clock, F: Fn(&T) -> Result<u64>>(
     rt: &R,
-    boards: &[Board],
+    boards: &[T],
     millis: u64,
     answer: F,
 ) -> Result<Rounds>

@@ -26,12 +26,12 @@ number_low : (word : ℕ) → (record_at word).number ≤ 4095
 unfolding record_at
 number_low word = grind arith
 
-version_low : (board : List ℕ) → length board ≡ 12 → version_of board < 100000
+pub version_low : (board : List ℕ) → length board ≡ 12 → version_of board < 100000
 version_low board twelve =
     let most = sum_by-le (λ word. (record_at word).number) 4095 board (λ k d h. number_low _) in
     omega arith
 
-in_play_low : (board : List ℕ) → length board ≡ 12 → in_play board < 100
+pub in_play_low : (board : List ℕ) → length board ≡ 12 → in_play board < 100
 in_play_low board twelve =
     let most = count_by-le-length (λ word. is_in_play (record_at word).state) board in
     omega arith
@@ -52,12 +52,12 @@ header_short group version playing low few =
     let two = length-decimal-le 2 playing (omega arith) (omega arith) (omega arith) in
     omega arith
 
-both : (a b : Bool) → (a && b) ≡ true → (a ≡ true) × (b ≡ true)
+pub both : (a b : Bool) → (a && b) ≡ true → (a ≡ true) × (b ≡ true)
 both true true h = (h, h)
 both true false h = absurd cc
 both false b h = absurd cc
 
-name_short : (roster : List NamedClub) (slot : ℕ) → IsRoster roster → IsSlot slot → length (name_of roster slot) ≤ 20
+pub name_short : (roster : List NamedClub) (slot : ℕ) → IsRoster roster → IsSlot slot → length (name_of roster slot) ≤ 20
 unfolding is_club
 name_short roster slot is place =
     let four : length roster ≡ 4 = is.four in

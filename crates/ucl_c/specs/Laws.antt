@@ -1,14 +1,18 @@
--- What holds of all words, and of the numbers of faults.
-use Rattle.std.specs.Prelude.{◌≡◌, ◌↔◌, ℕ, ◌++◌, true, List, length, Option, None, Some, Ok, Err, codes, decimal}
+-- What holds of all words, of the numbers of faults, and of how long screens are.
+use Rattle.std.specs.Prelude.{◌≡◌, ◌↔◌, ◌<◌, ◌≤◌, ◌^◌, ℕ, ◌++◌, true, List, length, Option, None, Some, Ok, Err, codes, decimal}
 use Rattle.ucl_word.specs.Layout.{IsWord}
-use Rattle.ucl_board.specs.Words.{AreReadAs, IsFirstBad}
+use Rattle.ucl_board.specs.Words.{AreReadAs, AreWords, IsFirstBad}
+use Rattle.ucl_order.specs.declared.profile.Profile.{Profile}
+use Rattle.ucl_order.specs.Roster.{IsRoster, NamedClub}
 use Rattle.ucl_screen.specs.declared.fault.InputFault.{InputFault}
 use Rattle.ucl_screen.specs.declared.fault.InputFault.TheVariants as input
+use Rattle.ucl_screen.specs.Screen.{IsGroup, screen_text}
 use Rattle.ucl_screen.specs.Texts.{input_fault_text}
 use Rattle.ucl_screen.specs.WordsRead.{is_word, read_words}
 use Rattle.ucl_runs.specs.declared.fault.RunFault.TheVariants.{TooManyReporters}
 use Rattle.ucl_runs.specs.Faults.{fault_text}
-use Rattle.ucl_json.specs.Values.{bad_row_value, coded_value}
+use Rattle.ucl_json.specs.Lines.{json_line}
+use Rattle.ucl_json.specs.Values.{bad_row_value, coded_value, screen_value}
 use Rattle.ucl_c.specs.declared.fault.Fault.{Fault}
 use Rattle.ucl_c.specs.declared.fault.Fault.TheVariants.{BadWord, BadRow, BadRoster, OutOfMemory, TooLong, FullBoard}
 use Rattle.ucl_c.specs.Codes.{name_of_status}
@@ -54,3 +58,9 @@ pub record FaultsAreWrittenByNumber : Type 0 where
   pub memory : input_fault_text input.OutOfMemory ≡ codes "out of memory " ++ decimal (fault_code OutOfMemory)
   pub full : fault_text TooManyReporters ≡ codes "board refused " ++ decimal (fault_code FullBoard)
   pub rows : (row : ℕ) → IsAnsweredByName row
+
+-- the screen of any board has no more bytes than this, and neither has the line of JSON that answers a row with it
+pub record ScreensAreShort : Type 0 where
+  pub text : (profile : Profile) (board : List ℕ) (roster : List NamedClub) (group : ℕ) → AreWords board → IsRoster roster → length (screen_text profile board roster group) ≤ 296
+  pub line : (row : ℕ) (profile : Profile) (board : List ℕ) (roster : List NamedClub) (group : ℕ) → row < 2 ^ 64 → AreWords board → IsRoster roster → IsGroup group
+      → length (json_line (screen_value row profile board roster group)) ≤ 1423

@@ -1,6 +1,6 @@
-//! What holds of all words, and of the numbers of faults. The functions do nothing: they are there for their contracts.
+//! What holds of all words, of the numbers of faults, and of how long screens are. The functions do nothing: they are there for their contracts.
 
-ghost use Rattle.ucl_c.specs.Laws.{FaultsAreWrittenByNumber, WordsAreJudged};
+ghost use Rattle.ucl_c.specs.Laws.{FaultsAreWrittenByNumber, ScreensAreShort, WordsAreJudged};
 
 /// Twelve words are read, or the first bad one is told, as the definitions of a board say: the function by which the contracts of calls tell
 /// the fault of words and the board that is shown agrees with them. A single word is judged by whether it is that of a valid record.
@@ -11,4 +11,9 @@ pub fn words_are_judged()
 /// The programs write each fault that calls tell too by its number, and answer a bad row by the number and the name of its status.
 pub fn faults_are_written_by_number()
     ensures { FaultsAreWrittenByNumber }
+{}
+
+/// A screen has at most 296 bytes, and its line of JSON at most 1,423 with its line feed: for each board, roster, group, order and row.
+pub fn screens_are_short()
+    ensures { ScreensAreShort }
 {}

@@ -2,6 +2,8 @@
 #![tactic(auto)]
 
 #[cfg(test)]
+mod evenings;
+#[cfg(test)]
 mod rows;
 #[cfg(test)]
 mod screens;

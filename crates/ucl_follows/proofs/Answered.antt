@@ -1,5 +1,6 @@
 -- What an evening answers tells its moment.
-use Rattle.std.proofs.Common.{◌≡◌, ◌∙◌, ℕ, zero, suc, ◌+◌, ◌*◌, ◌/◌, ◌%◌, ◌^◌, ◌<◌, ◌≤◌, ◌&&◌, ◌==◌, Bool, true, false, refl, sym, ap, arith, List, [], ◌∷◌, codes, length, get_or, Option, Some, None, le-leb, inl, inr}
+use Rattle.std.proofs.Common.{◌≡◌, ◌∙◌, ℕ, zero, suc, ◌+◌, ◌*◌, ◌/◌, ◌%◌, ◌^◌, ◌<◌, ◌≤◌, ◌&&◌, ◌==◌, Bool, true, false, refl, sym, ap, arith, List, [], ◌∷◌, codes}
+use Rattle.std.proofs.Common.{length, get_or, Option, Some, None, le-leb, inl, inr}
 use Rattle.std.specs.Prelude.{All, nat_le, nat_lt, option_and_then, Result, Ok}
 use Rattle.std.specs.Fmt.{digit_glyph}
 use Rattle.std.proofs.Math.Nat.{pow-suc}
@@ -20,7 +21,8 @@ use Rattle.ucl_screen.proofs.ReadWords.{all-read}
 use Rattle.ucl_json.specs.Values.{accepted_value, club_items, club_value, order_name, screen_value, word_items}
 use Rattle.ucl_answers.proofs.WordDigits.{low, word-digits}
 use Rattle.ucl_follows.specs.declared.moment.Moment.{Moment}
-use Rattle.ucl_follows.specs.Told.{board_told, club_told, clubs_told, each_told, group_told, if_read, just, letter_in, list_at, listed, moment_told, order_called, order_told, roster_told, text_at, unless_bad, word_told}
+use Rattle.ucl_follows.specs.Told.{board_told, club_told, clubs_told, each_told, group_told, if_read, just, letter_in, list_at, listed, moment_told, order_called}
+use Rattle.ucl_follows.specs.Told.{order_told, roster_told, text_at, unless_bad, word_told}
 use Rattle.ucl_follows.specs.Answered.{AnswersTellTheirMoment, IsMoment, TellsItsMoment}
 
 -- ---- digits
@@ -98,7 +100,8 @@ same-twelve n e = grind (arith, nat_tests)
 board-back : (board : List ℕ) → AreWords board → read_words 1 board ≡ Ok board
 board-back board w = all-read 1 board board refl (λ k less. inl (w.each k 0 less, refl))
 
-board-told : (board : List ℕ) → AreWords board → All (λ word. word < 2 ^ 64) board → option_and_then (λ words. if_read (read_words 1 words)) (just 12 word_told (listed (word_items board))) ≡ Some board
+board-told : (board : List ℕ) → AreWords board → All (λ word. word < 2 ^ 64) board
+    → option_and_then (λ words. if_read (read_words 1 words)) (just 12 word_told (listed (word_items board))) ≡ Some board
 board-told board w bits = rw (count-words board, same-twelve (length board) w.twelve, words-back board bits, board-back board w) refl
 
 -- ---- clubs
@@ -138,7 +141,8 @@ order-back AwayInTie = refl
 
 -- ---- a moment
 
-told-by : (value : Data) (m : Moment) → group_told value ≡ Some m.group → order_told value ≡ Some m.profile → clubs_told value ≡ Some m.roster → board_told value ≡ Some m.board → moment_told value ≡ Some m
+told-by : (value : Data) (m : Moment) → group_told value ≡ Some m.group → order_told value ≡ Some m.profile → clubs_told value ≡ Some m.roster → board_told value ≡ Some m.board
+    → moment_told value ≡ Some m
 unfolding moment_told
 told-by value m a b c d = rw (a, b, c, d) refl
 

@@ -1,5 +1,6 @@
 -- Bytes that a follower hears one after the other, and what it writes of them.
-use Rattle.std.proofs.Common.{◌≡◌, ℕ, ◌+◌, ◌-◌, ◌^◌, ◌≤◌, ◌<◌, ◌==◌, Bool, true, false, List, [], ◌∷◌, ◌++◌, length, min, take, drop, get_or, Option, refl, sym, ap, ◌∙◌, inl, inr, subst, append_assoc, append-nil, arith, length-append}
+use Rattle.std.proofs.Common.{◌≡◌, ℕ, ◌+◌, ◌-◌, ◌^◌, ◌≤◌, ◌<◌, ◌==◌, Bool, true, false, List, [], ◌∷◌, ◌++◌, length, min, take, drop, get_or, Option, refl, sym, ap, ◌∙◌}
+use Rattle.std.proofs.Common.{inl, inr, subst, append_assoc, append-nil, arith, length-append}
 use Rattle.std.specs.Prelude.{nat_le}
 use Rattle.std.specs.Io.KnownBytes.{Appends}
 use Rattle.std.proofs.lemmas.Bool.{cases_Bool}
@@ -61,7 +62,8 @@ unfolding sights followed
 sights-then shape f [] b = refl
 sights-then shape f (line ∷ a) b =
     let now = after_told f (moment_on line) in
-    ap (λ (l : List ℕ). told_text shape f (moment_on line) ++ l) (sights-then shape now a b) ∙ sym (append_assoc (told_text shape f (moment_on line)) (sights shape now a) (sights shape (followed now a) b))
+    ap (λ (l : List ℕ). told_text shape f (moment_on line) ++ l) (sights-then shape now a b) ∙ sym
+    (append_assoc (told_text shape f (moment_on line)) (sights shape now a) (sights shape (followed now a) b))
 
 -- ---- bytes
 
@@ -108,8 +110,9 @@ more-text shape h b e = rw (not-ten b e) refl
 
 -- ---- failures
 
-pub byte-fails : (shape : Shape) (h : Listener) (b out : ℕ) (failed : Bool) (x y : Option (List ℕ)) (f : RunFault) → b ≡ 10 → FailsToShow out failed x y (told_text shape h.following (moment_on h.torn)) f
-    → FailsToHear shape h (b ∷ []) out failed x y f
+pub byte-fails : (shape : Shape) (h : Listener) (b out : ℕ) (failed : Bool) (x y : Option (List ℕ)) (f : RunFault) → b ≡ 10
+    → FailsToShow out (record { failed = failed; old = x; new = y }) (told_text shape h.following (moment_on h.torn)) f
+    → FailsToHear shape h (b ∷ []) out (record { failed = failed; old = x; new = y }) f
 byte-fails shape h b out failed x y (WriteFailed written) e s = rw (end-text shape h b e) s
 byte-fails shape h b out failed x y OutOfMemory e s = record { front = []; rest = b ∷ []; parts = refl; out = rw (text-none shape h, s) (appends-none x) }
 byte-fails shape h b out failed x y (Input fault) e s = absurd s
@@ -123,7 +126,8 @@ parts-at bytes i h = sym (take-append-drop (i + 1) bytes) ∙ ap (λ (l : List �
 
 -- bytes were heard, and those after them were not all
 pub later-fails : (shape : Shape) (h : Listener) (xs ys : List ℕ) (out now : ℕ) (failed : Bool) (x y z : Option (List ℕ)) (f : RunFault) → Appends x y (heard_text shape h xs)
-    → now ≡ min (out + length (heard_text shape h xs)) (2 ^ 64 - 1) → FailsToHear shape (heard h xs) ys now failed y z f → FailsToHear shape h (xs ++ ys) out failed x z f
+    → now ≡ min (out + length (heard_text shape h xs)) (2 ^ 64 - 1) → FailsToHear shape (heard h xs) ys now (record { failed = failed; old = y; new = z }) f
+    → FailsToHear shape h (xs ++ ys) out (record { failed = failed; old = x; new = z }) f
 later-fails shape h xs ys out now failed x y z (WriteFailed written) p told s =
     rw (text-then shape h xs ys) (stopped_second out now failed x y z (heard_text shape h xs) (heard_text shape (heard h xs) ys) (WriteFailed written) p told s)
 later-fails shape h xs ys out now failed x y z OutOfMemory p told s = record {
@@ -140,7 +144,7 @@ later-fails shape h xs ys out now failed x y z (Strangers version) p told s = ab
 
 -- and there were more bytes
 pub before-fails : (shape : Shape) (h : Listener) (xs ys all : List ℕ) (out : ℕ) (failed : Bool) (x y : Option (List ℕ)) (f : RunFault) → all ≡ xs ++ ys
-    → FailsToHear shape h xs out failed x y f → FailsToHear shape h all out failed x y f
+    → FailsToHear shape h xs out (record { failed = failed; old = x; new = y }) f → FailsToHear shape h all out (record { failed = failed; old = x; new = y }) f
 before-fails shape h xs ys all out failed x y (WriteFailed written) e s =
     rw (e, text-then shape h xs ys) (stopped_first out failed x y (heard_text shape h xs) (heard_text shape (heard h xs) ys) (WriteFailed written) s)
 before-fails shape h xs ys all out failed x y OutOfMemory e s = record {
@@ -156,8 +160,11 @@ before-fails shape h xs ys all out failed x y TooManyReporters e s = absurd s
 before-fails shape h xs ys all out failed x y (Strangers version) e s = absurd s
 
 -- a byte was not heard, after those before it
-pub hear-fails : (shape : Shape) (h : Listener) (bytes : List ℕ) (i out now : ℕ) (failed : Bool) (x y z : Option (List ℕ)) (f : RunFault) → i < length bytes → Appends x y (heard_text shape h (take i bytes))
-    → now ≡ min (out + length (heard_text shape h (take i bytes))) (2 ^ 64 - 1) → FailsToHear shape (heard h (take i bytes)) (get_or bytes i 0 ∷ []) now failed y z f → FailsToHear shape h bytes out failed x z f
+pub hear-fails : (shape : Shape) (h : Listener) (bytes : List ℕ) (i out now : ℕ) (failed : Bool) (x y z : Option (List ℕ)) (f : RunFault) → i < length bytes
+    → Appends x y (heard_text shape h (take i bytes))
+    → now ≡ min (out + length (heard_text shape h (take i bytes))) (2 ^ 64 - 1)
+    → FailsToHear shape (heard h (take i bytes)) (get_or bytes i 0 ∷ []) now (record { failed = failed; old = y; new = z }) f
+    → FailsToHear shape h bytes out (record { failed = failed; old = x; new = z }) f
 hear-fails shape h bytes i out now failed x y z f less p told s =
     before-fails shape h (take i bytes ++ get_or bytes i 0 ∷ []) (drop (i + 1) bytes) bytes out failed x z f (parts-at bytes i less)
     (later-fails shape h (take i bytes) (get_or bytes i 0 ∷ []) out now failed x y z f p told s)

@@ -1,5 +1,6 @@
 -- What the members of a value tell.
-use Rattle.std.proofs.Common.{◌≡◌, ◌∙◌, ℕ, suc, ◌+◌, ◌<◌, ◌≤◌, ◌&&◌, ◌==◌, Bool, cond, true, false, refl, sym, ap, arith, List, [], ◌∷◌, ◌++◌, codes, length, take, drop, get_or, append_assoc, Option, Some, None, le-leb, leb-true, inl, inr}
+use Rattle.std.proofs.Common.{◌≡◌, ◌∙◌, ℕ, suc, ◌+◌, ◌<◌, ◌≤◌, ◌&&◌, ◌==◌, Bool, cond, true, false, refl, sym, ap, arith, List, [], ◌∷◌, ◌++◌, codes, length, take, drop}
+use Rattle.std.proofs.Common.{get_or, append_assoc, Option, Some, None, le-leb, leb-true, inl, inr}
 use Rattle.std.specs.Prelude.{nat_le, map, option_and_then, option_map}
 use Rattle.std.specs.List.{slice_index_or}
 use Rattle.std.specs.Str.{bytes_eq, is_utf8}
@@ -121,7 +122,8 @@ module _ {T : Type 0} (told : Data → Option T) where
 
   not-at : (values : List Value) (i : ℕ) (d : Value) → i < length values → None ≡ told (view (get_or values i d)) → each_told told (map view values) ≡ None
   not-at values i d h k =
-      let parts : values ≡ (take i values ++ get_or values i d ∷ []) ++ drop (i + 1) values = sym (take-append-drop (i + 1) values) ∙ ap (λ (l : List Value). l ++ drop (i + 1) values) (take_more values i d h) in
+      let parts : values ≡ (take i values ++ get_or values i d ∷ []) ++ drop (i + 1) values =
+      sym (take-append-drop (i + 1) values) ∙ ap (λ (l : List Value). l ++ drop (i + 1) values) (take_more values i d h) in
       let all = append_assoc (take i values) (get_or values i d ∷ []) (drop (i + 1) values) in
       ap (λ (l : List Value). each_told told (map view l)) (parts ∙ all) ∙ ap (each_told told) (map-then (take i values) (get_or values i d ∷ drop (i + 1) values))
       ∙ told-none (map view (take i values)) (map view (drop (i + 1) values)) (view (get_or values i d)) (sym k)
@@ -139,7 +141,8 @@ module _ {T : Type 0} (told : Data → Option T) where
   many [] = refl
   many (v ∷ values) = ap suc (many values)
 
-  pub all-told : (n : ℕ) (values : List Value) (i : ℕ) (all : List T) → length values ≡ n → length values ≤ i → each_told told (map view (take i values)) ≡ Some all → just n told (map view values) ≡ Some all
+  pub all-told : (n : ℕ) (values : List Value) (i : ℕ) (all : List T) → length values ≡ n → length values ≤ i → each_told told (map view (take i values)) ≡ Some all
+      → just n told (map view values) ≡ Some all
   all-told n values i all long end e = rw (many values, long, same n) (ap (λ (l : List Value). each_told told (map view l)) (sym (take_all i values end)) ∙ e)
     where
       same : (k : ℕ) → (k == k) ≡ true
@@ -169,7 +172,8 @@ module _ {T : Type 0} where
   four-each (Some x) (Some y) (Some z) (Some u) = refl
 
   four-told : (told : Data → Option T) (values : List Value) (d : Value) → 4 ≤ length values → length values < 5
-      → just 4 told (map view values) ≡ (told (view (get_or values 0 d)) >>= λ a. told (view (get_or values 1 d)) >>= λ b. told (view (get_or values 2 d)) >>= λ c. told (view (get_or values 3 d)) >>= λ e. Some (a ∷ b ∷ c ∷ e ∷ []))
+      → just 4 told (map view values) ≡ (told (view (get_or values 0 d)) >>= λ a. told (view (get_or values 1 d)) >>= λ b.
+      told (view (get_or values 2 d)) >>= λ c. told (view (get_or values 3 d)) >>= λ e. Some (a ∷ b ∷ c ∷ e ∷ []))
   unfolding each_told
   four-told told [] d some few = absurd (omega arith)
   four-told told (p ∷ []) d some few = absurd (omega arith)
@@ -188,7 +192,8 @@ abbrev pub by_four : Option NamedClub → Option NamedClub → Option NamedClub 
 by_four o p q r = (o >>= λ a. p >>= λ b. q >>= λ c. r >>= λ e. Some (a ∷ b ∷ c ∷ e ∷ [])) >>= λ clubs. unless_bad clubs (bad_slot clubs)
 
 pub four_clubs : (values : List Value) (d : Value) → 4 ≤ length values → length values < 5
-    → roster_told (map view values) ≡ by_four (club_told (view (get_or values 0 d))) (club_told (view (get_or values 1 d))) (club_told (view (get_or values 2 d))) (club_told (view (get_or values 3 d)))
+    → roster_told (map view values) ≡ by_four (club_told (view (get_or values 0 d))) (club_told (view (get_or values 1 d)))
+    (club_told (view (get_or values 2 d))) (club_told (view (get_or values 3 d)))
 four_clubs values d some few = ap (λ (o : Option (List NamedClub)). o >>= λ clubs. unless_bad clubs (bad_slot clubs)) (four-told club_told values d some few)
 
 abbrev Club : Value → Option NamedClub

@@ -25,7 +25,7 @@ from-none out n e = omega arith
 module _ (shape : Shape) (bytes : List ℕ) (origin old new : Device) (h : Listener) (out : ℕ)
     (hears : h ≡ heard unheard bytes) (all : Appends origin.taken old.taken (heard_text shape unheard bytes)) (count : out ≡ min (length (heard_text shape unheard bytes)) (2 ^ 64 - 1)) where
   heard-fails : (more : List ℕ) (f : RunFault) → Consumes origin.left new.left (bytes ++ more)
-      → FailsToHear shape unheard (bytes ++ more) 0 new.sink_failed origin.taken new.taken f → FollowFails shape origin new f
+      → FailsToHear shape unheard (bytes ++ more) 0 (record { failed = new.sink_failed; old = origin.taken; new = new.taken }) f → FollowFails shape origin new f
   heard-fails more (WriteFailed written) took s = record { bytes = bytes ++ more; consumed = took; why = record { text = heard_text shape unheard (bytes ++ more); text_is = inl refl; stopped = s } }
   heard-fails more OutOfMemory took s = record { bytes = bytes ++ more; consumed = took; why = s }
   heard-fails more (Input fault) took s = absurd s
@@ -35,12 +35,14 @@ module _ (shape : Shape) (bytes : List ℕ) (origin old new : Device) (h : Liste
   heard-fails more (Strangers version) took s = absurd s
 
   -- it failed in bytes that came
-  pub run-hears : (more : List ℕ) (f : RunFault) → Consumes origin.left new.left (bytes ++ more) → FailsToHear shape h more out new.sink_failed old.taken new.taken f → FollowFails shape origin new f
+  pub run-hears : (more : List ℕ) (f : RunFault) → Consumes origin.left new.left (bytes ++ more)
+      → FailsToHear shape h more out (record { failed = new.sink_failed; old = old.taken; new = new.taken }) f → FollowFails shape origin new f
   run-hears more f took s =
       let t = rw hears at s in
       heard-fails more f took (later-fails shape unheard bytes more 0 out new.sink_failed origin.taken old.taken new.taken f all (from-none out (length (heard_text shape unheard bytes)) count) t)
 
-  last-fails : (f : RunFault) → Consumes origin.left new.left bytes → HasEnded new.left → FailsToShow out new.sink_failed old.taken new.taken (resuming_text shape (heard unheard bytes).following.newest) f
+  last-fails : (f : RunFault) → Consumes origin.left new.left bytes → HasEnded new.left
+      → FailsToShow out (record { failed = new.sink_failed; old = old.taken; new = new.taken }) (resuming_text shape (heard unheard bytes).following.newest) f
       → FollowFails shape origin new f
   last-fails (WriteFailed written) took ended s = record {
     bytes = bytes;
@@ -48,7 +50,8 @@ module _ (shape : Shape) (bytes : List ℕ) (origin old new : Device) (h : Liste
     why = record {
       text = follow_text shape bytes;
       text_is = inr (ended, refl);
-      stopped = stopped_second 0 out new.sink_failed origin.taken old.taken new.taken (heard_text shape unheard bytes) (resuming_text shape (heard unheard bytes).following.newest) (WriteFailed written) all
+      stopped = stopped_second 0 out new.sink_failed origin.taken old.taken new.taken (heard_text shape unheard bytes)
+          (resuming_text shape (heard unheard bytes).following.newest) (WriteFailed written) all
           (from-none out (length (heard_text shape unheard bytes)) count) s;
     };
   }
@@ -60,7 +63,9 @@ module _ (shape : Shape) (bytes : List ℕ) (origin old new : Device) (h : Liste
   last-fails (Strangers version) took ended s = absurd s
 
   -- it failed in the rows of the end
-  pub run-ends : (f : RunFault) → Consumes origin.left new.left bytes → HasEnded new.left → FailsToShow out new.sink_failed old.taken new.taken (resuming_text shape h.following.newest) f → FollowFails shape origin new f
+  pub run-ends : (f : RunFault) → Consumes origin.left new.left bytes → HasEnded new.left
+      → FailsToShow out (record { failed = new.sink_failed; old = old.taken; new = new.taken }) (resuming_text shape h.following.newest) f
+      → FollowFails shape origin new f
   run-ends f took ended s = last-fails f took ended (rw hears at s)
 
 pub run-text : (shape : Shape) (bytes : List ℕ) (h : Listener) (left left2 taken mid taken2 : Option (List ℕ)) → h ≡ heard unheard bytes → Consumes left left2 bytes → IsAtEnd left2

@@ -10,7 +10,8 @@ use Rattle.ucl_follows.specs.declared.following.Following.{Following}
 use Rattle.ucl_follows.specs.declared.shape.Shape.TheVariants.{Text}
 use Rattle.ucl_follows.specs.Told.{moment_on}
 use Rattle.ucl_follows.specs.Follow.{after_told, followed, is_newer, passed_over, shown_too, sights, told_text, unseen, version_at}
-use Rattle.ucl_follows.specs.Latest.{IsLatest, IsLineOfThese, IsNoNewer, IsShownLast, IsToldIn, LatestIsShownLast, OthersDoNotMatter, RiseAbove, RisesInText, ShownVersionsRise, moments_shown, shown_of}
+use Rattle.ucl_follows.specs.Latest.{IsLatest, IsLineOfThese, IsNoNewer, IsShownLast, IsToldIn, LatestIsShownLast, OthersDoNotMatter, RiseAbove, RisesInText}
+use Rattle.ucl_follows.specs.Latest.{ShownVersionsRise, moments_shown, shown_of}
 
 abbrev Lines : Type 0
 Lines = List (List ℕ)
@@ -20,7 +21,8 @@ screen_of m = screen_text m.profile m.board m.roster m.group
 
 -- ---- rising
 
-rise-told : (f : Following) (o : Option Moment) (lines : Lines) → ((g : Following) → RiseAbove g.newest (moments_shown g lines)) → RiseAbove f.newest (shown_of f o ++ moments_shown (after_told f o) lines)
+rise-told : (f : Following) (o : Option Moment) (lines : Lines) → ((g : Following) → RiseAbove g.newest (moments_shown g lines))
+    → RiseAbove f.newest (shown_of f o ++ moments_shown (after_told f o) lines)
 rise-told f None lines k = k (passed_over f)
 rise-told f (Some m) lines k = elim (cases_Bool (is_newer f.newest m)) [
   | inl y ↦ rw y (y, k (shown_too f m))
@@ -126,7 +128,8 @@ module _ (m : Moment) where
       let later = rest (shown_too f m) lines refl all in
       (ap (λ (g : Following). (followed g lines).newest) now ∙ later.0, ([], ap₂ (λ (a b : List Moment). a ++ b) one (ap (λ (g : Following). moments_shown g lines) now ∙ later.1)))
 
-  step : (f : Following) (first : List ℕ) (more : Lines) (o : Option Moment) → moment_on first ≡ o → IsBelow f.newest → IsNoNewer m o → All Fits more → ((g : Following) → IsBelow g.newest → EndsWith g more)
+  step : (f : Following) (first : List ℕ) (more : Lines) (o : Option Moment) → moment_on first ≡ o → IsBelow f.newest → IsNoNewer m o → All Fits more
+      → ((g : Following) → IsBelow g.newest → EndsWith g more)
       → EndsWith f (first ∷ more)
   step f first more None e below h all k = onward f (passed_over f) first more [] (rw e refl) (rw e refl) (k (passed_over f) below)
   step f first more (Some other) e below (inl same) all k = here f first more below (e ∙ ap (λ (x : Moment). Some x) same) all

@@ -5,6 +5,7 @@ use Rattle.ucl_screen.specs.declared.fault.InputFault.TheVariants.{ReadFailed, T
 use Rattle.ucl_runs.specs.declared.fault.RunFault.{RunFault}
 use Rattle.ucl_runs.specs.declared.fault.RunFault.TheVariants.{Input, OutOfMemory, WriteFailed}
 use Rattle.ucl_runs.specs.Run.{StoppedShort}
+use Rattle.ucl_answers.specs.Output.{SinkChange}
 use Rattle.ucl_answers.specs.Stepping.{Device, HasEnded}
 use Rattle.ucl_follows.specs.declared.follower.Follower.{Follower}
 use Rattle.ucl_follows.specs.declared.following.Following.{Following}
@@ -36,10 +37,10 @@ abbrev pub heard_text : Shape → Listener → List ℕ → List ℕ
 heard_text shape h bytes = sights shape h.following (whole_lines h.torn bytes)
 
 -- a text was not written: the sink failed in it, or there was no memory for it
-abbrev pub FailsToShow : ℕ → Bool → Option (List ℕ) → Option (List ℕ) → List ℕ → RunFault → Type 0
-FailsToShow out failed old new text (WriteFailed written) = StoppedShort out failed old new text written
-FailsToShow out failed old new text OutOfMemory = new ≡ old
-FailsToShow out failed old new text _ = ⊥
+abbrev pub FailsToShow : ℕ → SinkChange → List ℕ → RunFault → Type 0
+FailsToShow out sink text (WriteFailed written) = StoppedShort out sink.failed sink.old sink.new text written
+FailsToShow out sink text OutOfMemory = sink.new ≡ sink.old
+FailsToShow out sink text _ = ⊥
 
 -- a first part of bytes was heard, and all that its lines made it write went out
 pub record HeardFirst (shape : Shape) (h : Listener) (bytes : List ℕ) (old new : Option (List ℕ)) : Type 0 where
@@ -49,10 +50,10 @@ pub record HeardFirst (shape : Shape) (h : Listener) (bytes : List ℕ) (old new
   pub out : Appends old new (heard_text shape h front)
 
 -- bytes were not all heard
-abbrev pub FailsToHear : Shape → Listener → List ℕ → ℕ → Bool → Option (List ℕ) → Option (List ℕ) → RunFault → Type 0
-FailsToHear shape h bytes out failed old new (WriteFailed written) = StoppedShort out failed old new (heard_text shape h bytes) written
-FailsToHear shape h bytes out failed old new OutOfMemory = HeardFirst shape h bytes old new
-FailsToHear shape h bytes out failed old new _ = ⊥
+abbrev pub FailsToHear : Shape → Listener → List ℕ → ℕ → SinkChange → RunFault → Type 0
+FailsToHear shape h bytes out sink (WriteFailed written) = StoppedShort out sink.failed sink.old sink.new (heard_text shape h bytes) written
+FailsToHear shape h bytes out sink OutOfMemory = HeardFirst shape h bytes sink.old sink.new
+FailsToHear shape h bytes out sink _ = ⊥
 
 -- ---- a whole run
 

@@ -2,7 +2,7 @@
 
 ghost use Rattle.std.specs.Prelude.{◌≡◌, ◌+◌, ◌-◌, ◌^◌, ◌<◌, ◌≤◌, [], ◌∷◌, IfErr, OnOk, length, min};
 ghost use Rattle.std.specs.Io.KnownBytes.{Appends};
-ghost use Rattle.ucl_answers.specs.Output.{SinkFails};
+ghost use Rattle.ucl_answers.specs.Output.{SinkFails, sink_change};
 ghost use Rattle.ucl_follows.specs.Heard.{kept_line};
 ghost use Rattle.ucl_follows.specs.Hearing.{FailsToHear, FailsToShow, heard, heard_text, hearing_of, out_of, unheard};
 ghost use Rattle.ucl_follows.specs.Follow.{resuming_text};
@@ -74,7 +74,7 @@ impl Follower {
         ensures count { OnOk result (out_of self.new ≡ min (out_of self.old
             + length (heard_text shape (hearing_of self.old) (b ∷ []))) (2 ^ 64 - 1)) }
         ensures fails { IfErr result (FailsToHear shape (hearing_of self.old) (b ∷ [])
-            (out_of self.old) (W.failed sink.new) (W.taken sink.old) (W.taken sink.new)) }
+            (out_of self.old) (sink_change W.Sink sink.old sink.new)) }
         ensures sound { OnOk result (W.failed sink.new ≡ W.failed sink.old) }
         ensures vain { OnOk result (W.in_vain sink.new ≡ W.in_vain sink.old) }
         ensures sink_fails { IfErr result (SinkFails
@@ -106,7 +106,7 @@ impl Follower {
         ensures count { OnOk result (out_of self.new ≡ min (out_of self.old
             + length (heard_text shape (hearing_of self.old) bytes.now)) (2 ^ 64 - 1)) }
         ensures fails { IfErr result (FailsToHear shape (hearing_of self.old) bytes.now
-            (out_of self.old) (W.failed sink.new) (W.taken sink.old) (W.taken sink.new)) }
+            (out_of self.old) (sink_change W.Sink sink.old sink.new)) }
         ensures sound { OnOk result (W.failed sink.new ≡ W.failed sink.old) }
         ensures vain { OnOk result (W.in_vain sink.new ≡ W.in_vain sink.old) }
         ensures sink_fails { IfErr result (SinkFails
@@ -129,8 +129,8 @@ impl Follower {
     ) -> Result<(), RunFault>
         ensures all { OnOk result (Appends (W.taken sink.old) (W.taken sink.new)
             (resuming_text shape (hearing_of self.now).following.newest)) }
-        ensures fails { IfErr result (FailsToShow (out_of self.now) (W.failed sink.new)
-            (W.taken sink.old) (W.taken sink.new)
+        ensures fails { IfErr result (FailsToShow (out_of self.now)
+            (sink_change W.Sink sink.old sink.new)
             (resuming_text shape (hearing_of self.now).following.newest)) }
         ensures sound { OnOk result (W.failed sink.new ≡ W.failed sink.old) }
         ensures vain { OnOk result (W.in_vain sink.new ≡ W.in_vain sink.old) }

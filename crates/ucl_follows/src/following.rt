@@ -3,7 +3,7 @@
 ghost use Rattle.std.specs.Prelude.{◌≡◌, ◌+◌, ◌-◌, ◌^◌, ◌<◌, ◌≤◌, IfErr, IfOk, OnOk, length, min, nat_lt};
 ghost use Rattle.std.specs.Io.KnownBytes.{Appends};
 ghost use Rattle.ucl_screen.specs.Screen.{IsGroup};
-ghost use Rattle.ucl_answers.specs.Output.{SinkFails};
+ghost use Rattle.ucl_answers.specs.Output.{SinkFails, sink_change};
 ghost use Rattle.ucl_follows.specs.Follow.{after_told, is_newer, one_more, sight_text, told_text, unseen};
 ghost use Rattle.ucl_follows.specs.Hearing.{FailsToShow};
 ghost use Rattle.ucl_follows.specs.Told.{moment_on};
@@ -29,8 +29,7 @@ pub(crate) struct Following {
 pub(crate) fn put<W: Sink>(sink: &mut W, out: usize, text: &[u8]) -> Result<usize, RunFault>
     ensures all { OnOk result (Appends (W.taken sink.old) (W.taken sink.new) text.now) }
     ensures count { IfOk result (λ after. after ≡ min (out + length text.now) (2 ^ 64 - 1)) }
-    ensures fails { IfErr result (FailsToShow out (W.failed sink.new)
-        (W.taken sink.old) (W.taken sink.new) text.now) }
+    ensures fails { IfErr result (FailsToShow out (sink_change W.Sink sink.old sink.new) text.now) }
     ensures sound { OnOk result (W.failed sink.new ≡ W.failed sink.old) }
     ensures vain { OnOk result (W.in_vain sink.new ≡ W.in_vain sink.old) }
     ensures sink_fails { IfErr result (SinkFails
@@ -60,8 +59,8 @@ fn show<W: Sink>(
         (sight_text shape row moment.now)) }
     ensures count { IfOk result (λ after.
         after ≡ min (out + length (sight_text shape row moment.now)) (2 ^ 64 - 1)) }
-    ensures fails { IfErr result (FailsToShow out (W.failed sink.new)
-        (W.taken sink.old) (W.taken sink.new) (sight_text shape row moment.now)) }
+    ensures fails { IfErr result (FailsToShow out (sink_change W.Sink sink.old sink.new)
+        (sight_text shape row moment.now)) }
     ensures sound { OnOk result (W.failed sink.new ≡ W.failed sink.old) }
     ensures vain { OnOk result (W.in_vain sink.new ≡ W.in_vain sink.old) }
     ensures sink_fails { IfErr result (SinkFails
@@ -131,8 +130,7 @@ impl Following {
             (told_text shape self.old (moment_on line.now))) }
         ensures count { IfOk result (λ after. after
             ≡ min (out + length (told_text shape self.old (moment_on line.now))) (2 ^ 64 - 1)) }
-        ensures fails { IfErr result (FailsToShow out (W.failed sink.new)
-            (W.taken sink.old) (W.taken sink.new)
+        ensures fails { IfErr result (FailsToShow out (sink_change W.Sink sink.old sink.new)
             (told_text shape self.old (moment_on line.now))) }
         ensures sound { OnOk result (W.failed sink.new ≡ W.failed sink.old) }
         ensures vain { OnOk result (W.in_vain sink.new ≡ W.in_vain sink.old) }

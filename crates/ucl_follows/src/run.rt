@@ -20,7 +20,7 @@ use ucl_screen::{InputFault, Sink, Source};
 const PIECE: usize = 16_384;
 
 /// The most bytes of an input, which none lives to see.
-const MOST_BYTES: usize = 0x4000_0000_0000_0000;
+const MOST_READ: usize = 0x4000_0000_0000_0000;
 
 /// How many lines came, and how many of them were shown: all others were passed over. A number past `u64::MAX` is told as that.
 #[derive(Clone, Copy, Debug, PartialEq, Eq)]
@@ -82,7 +82,7 @@ pub fn follow_run<S: Source, W: Sink>(
     let mut piece = [0; PIECE];
     let mut read: usize = 0;
     'steps: loop {
-        if read > MOST_BYTES {
+        if read > MOST_READ {
             return Err(RunFault::Input(InputFault::TooLong));
         }
         match wire.take(&mut piece) {

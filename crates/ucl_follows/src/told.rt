@@ -16,7 +16,7 @@ use ucl_order::{LentClub, Profile, Roster};
 use ucl_screen::{Four, is_group, word_of_fields};
 
 /// The most bytes of a line.
-const MOST_BYTES: usize = 4096;
+const MOST_ANSWER_BYTES: usize = 4096;
 
 /// The greatest coefficient of a club.
 const GREATEST_COEFFICIENT: u64 = 999_999;
@@ -199,7 +199,7 @@ pub(crate) fn moment_on(alloc: Global, line: &[u8]) -> Result<Option<Moment>, Al
     ensures told { IfOk result (λ moment. moment ≡ moment_on line.now) }
     ensures letter { IfOk result (λ told. IfSome told (λ moment. IsGroup moment.group)) }
 {
-    if line.len() > MOST_BYTES {
+    if line.len() > MOST_ANSWER_BYTES {
         return Ok(None);
     }
     match Value::from_slice(alloc, line) {

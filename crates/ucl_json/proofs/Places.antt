@@ -123,7 +123,8 @@ refused-shallow row NoGoal = omega arith
 refused-shallow row NoCaution = omega arith
 refused-shallow row LimitReached = omega arith
 
-pub reply-whole : (row game : ℕ) (reply : Result Accepted Refusal) (profile : Profile) (board : List ℕ) (roster : List NamedClub) (group : ℕ) → has_float (reply_value row game reply profile board roster group) ≡ false
+pub reply-whole : (row game : ℕ) (reply : Result Accepted Refusal) (profile : Profile) (board : List ℕ) (roster : List NamedClub) (group : ℕ)
+    → has_float (reply_value row game reply profile board roster group) ≡ false
 unfolding accepted_value
 reply-whole row game (Ok accepted) profile board roster group = rw (words-items board) refl
 reply-whole row game (Err refusal) profile board roster group = refused-whole row refusal

@@ -78,36 +78,6 @@ fn refused_value(alloc: Global, row: u64, refusal: Refusal) -> Result<Value, All
     }
 }
 
-/// The reply to an event of a match, with the board after it.
-fn reply_value(
-    alloc: Global,
-    row: u64,
-    game: u8,
-    reply: Result<Accepted, Refusal>,
-    board: &Board,
-    roster: &Roster,
-    group: u8,
-    profile: Profile,
-) -> Result<Value, AllocError>
-    requires { IsGroup group }
-    ensures { IfOk result (λ value. view value
-        ≡ reply_value row game reply profile board.now roster.now group) }
-{
-    match reply {
-        Ok(accepted) => accepted_value(
-            alloc,
-            row,
-            game,
-            accepted.number,
-            board,
-            roster,
-            group,
-            profile,
-        ),
-        Err(refusal) => refused_value(alloc, row, refusal),
-    }
-}
-
 /// The line of the reply to an event of a match, with the board after the event. Where the event was entered, the line stands for itself:
 /// the group, its order, the clubs and the words of that board are in it.
 ///
@@ -129,7 +99,19 @@ pub fn reply_json(
         IsLineOf (reply_value row game reply profile board.now roster.now group)
         (string_bytes line)) }
 {
-    let value = reply_value(alloc, row, game, reply, board, roster, group, profile)?;
+    let value = match reply {
+        Ok(accepted) => accepted_value(
+            alloc,
+            row,
+            game,
+            accepted.number,
+            board,
+            roster,
+            group,
+            profile,
+        )?,
+        Err(refusal) => refused_value(alloc, row, refusal)?,
+    };
     line_of(alloc, &value)
 }
 

@@ -1,5 +1,6 @@
 -- What a group can still become: points only rise, and never above what the club can reach.
-use Rattle.std.proofs.Common.{◌≡◌, ℕ, zero, suc, ◌+◌, ◌*◌, ◌≤◌, ◌==◌, ◌&&◌, Bool, true, false, not, if◌then◌else◌, List, [], ◌∷◌, Some, None, length, get_or, map, take, count_by, refl, sym, ap, arith, All, Contains, eqb-true, nat_le, nat_lt}
+use Rattle.std.proofs.Common.{◌≡◌, ℕ, zero, suc, ◌+◌, ◌*◌, ◌≤◌, ◌==◌, ◌&&◌, Bool, true, false, not, if◌then◌else◌, List, [], ◌∷◌, Some, None, length, get_or, map, take, count_by, refl, sym, ap, arith}
+use Rattle.std.proofs.Common.{All, Contains, eqb-true, nat_le, nat_lt}
 use Rattle.std.proofs.Common.{◌⊎◌, inl, inr}
 use Rattle.std.specs.List.{list_all}
 use Rattle.std.proofs.lemmas.Bool.{cases_Bool, and_parts}
@@ -58,7 +59,8 @@ unfinished-done m ms e = rw e
 unfinished-open : (m : Match) (ms : List Match) → has_finished m ≡ false → unfinished (m ∷ ms) ≡ m ∷ unfinished ms
 unfinished-open m ms e = rw e
 
-plays_alike : (at_home away : Bool) (h v h' v' : Appearance) → plays (if at_home then Some h else (if away then Some v else None)) ≡ plays (if at_home then Some h' else (if away then Some v' else None))
+plays_alike : (at_home away : Bool) (h v h' v' : Appearance)
+    → plays (if at_home then Some h else (if away then Some v else None)) ≡ plays (if at_home then Some h' else (if away then Some v' else None))
 unfolding plays
 plays_alike true away h v h' v' = refl
 plays_alike false true h v h' v' = refl
@@ -133,7 +135,8 @@ are_matches (suc (suc (suc (suc (suc (suc (suc (suc (suc (suc (suc (suc n)))))))
 
 -- Where all matches are finished, a completion is the board itself. --
 
-all_kept : (games board later : List ℕ) → All IsMatch games → IsCompletion board later → list_all has_finished (map (match_at board) games) ≡ true → map (match_at later) games ≡ map (match_at board) games
+all_kept : (games board later : List ℕ) → All IsMatch games → IsCompletion board later
+    → list_all has_finished (map (match_at board) games) ≡ true → map (match_at later) games ≡ map (match_at board) games
 all_kept [] board later are done all = refl
 all_kept (game ∷ games) board later are done all =
     let parts = and_parts (has_finished (match_at board game)) (list_all has_finished (map (match_at board) games)) all in
@@ -154,25 +157,29 @@ final_points : List ℕ → ℕ → ℕ
 final_points later club = points club (started_of later)
 
 -- the mark, at the tests that it makes
-plus_cases : (all through few many : Bool) → (if all then (if through then Plus else Minus) else (if few then Plus else (if many then Minus else Blank))) ≡ Plus → ((all ≡ true) × (through ≡ true)) ⊎ (few ≡ true)
+plus_cases : (all through few many : Bool) → (if all then (if through then Plus else Minus) else (if few then Plus else (if many then Minus else Blank))) ≡ Plus
+    → ((all ≡ true) × (through ≡ true)) ⊎ (few ≡ true)
 plus_cases true true few many h = inl (refl, refl)
 plus_cases true false few many h = absurd (cc)
 plus_cases false through true many h = inr refl
 plus_cases false through false true h = absurd (cc)
 plus_cases false through false false h = absurd (cc)
 
-minus_cases : (all through few many : Bool) → (if all then (if through then Plus else Minus) else (if few then Plus else (if many then Minus else Blank))) ≡ Minus → ((all ≡ true) × (through ≡ false)) ⊎ (many ≡ true)
+minus_cases : (all through few many : Bool) → (if all then (if through then Plus else Minus) else (if few then Plus else (if many then Minus else Blank))) ≡ Minus
+    → ((all ≡ true) × (through ≡ false)) ⊎ (many ≡ true)
 minus_cases true true few many h = absurd (cc)
 minus_cases true false few many h = inl (refl, refl)
 minus_cases false through true many h = absurd (cc)
 minus_cases false through false true h = inr refl
 minus_cases false through false false h = absurd (cc)
 
-reach_weaker : (last_club last_other sure_club reach_other : ℕ) (b : Bool) → sure_club ≤ last_club → last_other ≤ reach_other → (b && nat_le last_club last_other) ≡ true → (b && nat_le sure_club reach_other) ≡ true
+reach_weaker : (last_club last_other sure_club reach_other : ℕ) (b : Bool) → sure_club ≤ last_club
+    → last_other ≤ reach_other → (b && nat_le last_club last_other) ≡ true → (b && nat_le sure_club reach_other) ≡ true
 reach_weaker p q s r true l h e = grind (arith, nat_tests)
 reach_weaker p q s r false l h e = absurd (cc)
 
-pass_stronger : (last_club last_other reach_club sure_other : ℕ) (b : Bool) → last_club ≤ reach_club → sure_other ≤ last_other → (b && nat_lt reach_club sure_other) ≡ true → (b && nat_lt last_club last_other) ≡ true
+pass_stronger : (last_club last_other reach_club sure_other : ℕ) (b : Bool) → last_club ≤ reach_club
+    → sure_other ≤ last_other → (b && nat_lt reach_club sure_other) ≡ true → (b && nat_lt last_club last_other) ≡ true
 pass_stronger p q r s true l h e = grind (arith, nat_tests)
 pass_stronger p q r s false l h e = absurd (cc)
 
@@ -216,7 +223,8 @@ module _ (profile : Profile) (board later : List ℕ) (done : IsCompletion board
       let rival : ℕ → Bool = λ other. not (other == club) && nat_le (sure_points (matches_of board) club) (reach (matches_of board) other) in
       let fewer : count_by (reaches key club) all_clubs ≤ count_by rival all_clubs =
       count-le (reaches key club) rival all_clubs
-      (λ k d h. reach_weaker (key club) (key (get_or all_clubs k d)) (sure_points (matches_of board) club) (reach (matches_of board) (get_or all_clubs k d)) (not (get_or all_clubs k d == club)) (low club) (high (get_or all_clubs k d))) in
+      (λ k d h. reach_weaker (key club) (key (get_or all_clubs k d)) (sure_points (matches_of board) club)
+      (reach (matches_of board) (get_or all_clubs k d)) (not (get_or all_clubs k d == club)) (low club) (high (get_or all_clubs k d))) in
       let same : count_by (reaches key club) (order_of profile (started_of later) roster) ≡ count_by (reaches key club) all_clubs =
       sum_by-IsPermutation _ _ _ (IsPermutation-order profile later roster) in
       let long : length (order_of profile (started_of later) roster) ≡ 4 = length_permutation _ _ (IsPermutation-order profile later roster) in
@@ -229,7 +237,8 @@ module _ (profile : Profile) (board later : List ℕ) (done : IsCompletion board
       let gone : ℕ → Bool = λ other. not (other == club) && nat_lt (reach (matches_of board) club) (sure_points (matches_of board) other) in
       let more : count_by gone all_clubs ≤ count_by (passes key club) all_clubs =
       count-le gone (passes key club) all_clubs
-      (λ k d h. pass_stronger (key club) (key (get_or all_clubs k d)) (reach (matches_of board) club) (sure_points (matches_of board) (get_or all_clubs k d)) (not (get_or all_clubs k d == club)) (high club) (low (get_or all_clubs k d))) in
+      (λ k d h. pass_stronger (key club) (key (get_or all_clubs k d)) (reach (matches_of board) club)
+      (sure_points (matches_of board) (get_or all_clubs k d)) (not (get_or all_clubs k d == club)) (high club) (low (get_or all_clubs k d))) in
       let same : count_by (passes key club) (order_of profile (started_of later) roster) ≡ count_by (passes key club) all_clubs =
       sum_by-IsPermutation _ _ _ (IsPermutation-order profile later roster) in
       not_in_first_two key club (order_of profile (started_of later) roster) (order_falls profile later roster) (le_to _ _ _ same more many)
@@ -238,7 +247,9 @@ module _ (profile : Profile) (board later : List ℕ) (done : IsCompletion board
   pub plus_is_certain : (club : ℕ) → IsSlot club → mark_of profile board roster club ≡ Plus → GoesThrough profile later roster club
   unfolding mark_of
   plus_is_certain club slot h =
-      through_if (order_of profile (started_of later) roster) club (elim (plus_cases (list_all has_finished (matches_of board)) (is_in (take 2 (order_of profile (started_of board) roster)) club) (nat_le (rivals (matches_of board) club) 1) (nat_le 2 (out_of_reach (matches_of board) club)) h) [
+      through_if (order_of profile (started_of later) roster) club
+      (elim (plus_cases (list_all has_finished (matches_of board)) (is_in (take 2 (order_of profile (started_of board) roster)) club)
+      (nat_le (rivals (matches_of board) club) 1) (nat_le 2 (out_of_reach (matches_of board) club)) h) [
         | inl (all, now) ↦ rw (same_order profile board later roster (unchanged board later done all)) now
         | inr few ↦ through club slot (le_read _ _ few)
       ])
@@ -247,7 +258,8 @@ module _ (profile : Profile) (board later : List ℕ) (done : IsCompletion board
   pub minus_is_certain : (club : ℕ) → mark_of profile board roster club ≡ Minus → GoesThrough profile later roster club → ⊥
   unfolding mark_of
   minus_is_certain club h =
-      not_through_if (order_of profile (started_of later) roster) club (elim (minus_cases (list_all has_finished (matches_of board)) (is_in (take 2 (order_of profile (started_of board) roster)) club) (nat_le (rivals (matches_of board) club) 1) (nat_le 2 (out_of_reach (matches_of board) club)) h) [
+      not_through_if (order_of profile (started_of later) roster) club (elim (minus_cases (list_all has_finished (matches_of board))
+      (is_in (take 2 (order_of profile (started_of board) roster)) club) (nat_le (rivals (matches_of board) club) 1) (nat_le 2 (out_of_reach (matches_of board) club)) h) [
         | inl (all, now) ↦ rw (same_order profile board later roster (unchanged board later done all)) now
         | inr many ↦ out club (le_read _ _ many)
       ])

@@ -1,5 +1,6 @@
 -- What the clubs can still become, gathered in one pass over the matches.
-use Rattle.std.proofs.Common.{◌≡◌, ◌≢◌, ℕ, ◌+◌, ◌-◌, ◌*◌, ◌<◌, ◌≤◌, cond, not, Bool, true, false, Option, Some, None, List, [], ◌∷◌, ◌++◌, length, get_or, set, take, map, refl, sym, ap, arith, All, append-nil}
+use Rattle.std.proofs.Common.{◌≡◌, ◌≢◌, ℕ, ◌+◌, ◌-◌, ◌*◌, ◌<◌, ◌≤◌, cond, not, Bool, true, false, Option, Some, None, List, [], ◌∷◌, ◌++◌, length, get_or, set, take, map, refl, sym, ap, arith, All}
+use Rattle.std.proofs.Common.{append-nil}
 use Rattle.std.proofs.lemmas.List.{take_more, get_or-set_other}
 use Rattle.std.proofs.lemmas.List.Elements.{All-set, filter-append}
 use Rattle.ucl_order.specs.declared.game.Match.{Match}
@@ -54,11 +55,13 @@ module _ (ms : List Match) (i : ℕ) (d : Match) (h : i < length ms) (pair : IsP
   abbrev game : Match
   game = get_or ms i d
 
-  numbers_more : (v : Option Appearance → ℕ) (value : List Match → ℕ → ℕ) (e f : ℕ) (before after : List ℕ) (p q x y : ℕ) → v None ≡ 0 → ((c : ℕ) → value (take i ms) c + v (seen_by c game) ≡ value (take i ms ++ game ∷ []) c) →
+  numbers_more : (v : Option Appearance → ℕ) (value : List Match → ℕ → ℕ) (e f : ℕ) (before after : List ℕ) (p q x y : ℕ)
+      → v None ≡ 0 → ((c : ℕ) → value (take i ms) c + v (seen_by c game) ≡ value (take i ms ++ game ∷ []) c) →
       before ≡ map (value (take i ms)) all_clubs → p ≡ game.home - 1 → x ≡ v (Some (seen_from_home game)) → q ≡ game.away - 1 → y ≡ v (Some (seen_from_away game)) →
       after ≡ set (set before p (get_or before p e + x)) q (get_or (set before p (get_or before p e + x)) q f + y) → after ≡ map (value (take (i + 1) ms)) all_clubs
   numbers_more v value e f before after p q x y none next is at_p is_x at_q is_y is_after =
-      lists_more ℕ (λ n o. n + v o) (λ n. omega (arith, none)) (value (take i ms)) (value (take (i + 1) ms)) game e f before after p q (get_or before p e + x) (get_or (set before p (get_or before p e + x)) q f + y) pair
+      lists_more ℕ (λ n o. n + v o) (λ n. omega (arith, none)) (value (take i ms)) (value (take (i + 1) ms)) game e f before after p q
+      (get_or before p e + x) (get_or (set before p (get_or before p e + x)) q f + y) pair
       (λ c. rw (take_more ms i d h) (next c)) is at_p (rw is_x) at_q (rw is_y) is_after
 
   -- what a match is sure to give a club, and the most that it can give it
@@ -70,7 +73,8 @@ module _ (ms : List Match) (i : ℕ) (d : Match) (h : i < length ms) (pair : IsP
   most_by over None = 0
   most_by over (Some a) = (point_bounds over a).1
 
-  sure_is : (over : Bool) (club : ℕ) (seen : Option Appearance) → has_finished game ≡ over → seen ≡ seen_by club game → sure_points (take i ms) club + sure_by over seen ≡ sure_points (take i ms ++ game ∷ []) club
+  sure_is : (over : Bool) (club : ℕ) (seen : Option Appearance) → has_finished game ≡ over → seen ≡ seen_by club game
+      → sure_points (take i ms) club + sure_by over seen ≡ sure_points (take i ms ++ game ∷ []) club
   unfolding sure_by gains
   sure_is true club None e is = omega (arith, sure_done (take i ms) game e club, ap gains is)
   sure_is true club (Some a) e is = omega (arith, sure_done (take i ms) game e club, ap gains is)
@@ -84,12 +88,14 @@ module _ (ms : List Match) (i : ℕ) (d : Match) (h : i < length ms) (pair : IsP
   most_is false club None e is = omega (arith, reach_open (take i ms) game e club, ap plays is)
   most_is false club (Some a) e is = omega (arith, reach_open (take i ms) game e club, ap plays is)
 
-  pub sure_more : (e f : ℕ) (before after : List ℕ) (p q x y : ℕ) (over : Bool) → has_finished game ≡ over → before ≡ map (sure_points (take i ms)) all_clubs → p ≡ game.home - 1 → x ≡ (point_bounds over (seen_from_home game)).0 → q ≡ game.away - 1 → y ≡ (point_bounds over (seen_from_away game)).0 →
+  pub sure_more : (e f : ℕ) (before after : List ℕ) (p q x y : ℕ) (over : Bool) → has_finished game ≡ over → before ≡ map (sure_points (take i ms)) all_clubs
+      → p ≡ game.home - 1 → x ≡ (point_bounds over (seen_from_home game)).0 → q ≡ game.away - 1 → y ≡ (point_bounds over (seen_from_away game)).0 →
       after ≡ set (set before p (get_or before p e + x)) q (get_or (set before p (get_or before p e + x)) q f + y) → after ≡ map (sure_points (take (i + 1) ms)) all_clubs
   unfolding sure_by
   sure_more e f before after p q x y over is = numbers_more (sure_by over) sure_points e f before after p q x y refl (λ club. sure_is over club (seen_by club game) is refl)
 
-  pub reach_more : (e f : ℕ) (before after : List ℕ) (p q x y : ℕ) (over : Bool) → has_finished game ≡ over → before ≡ map (reach (take i ms)) all_clubs → p ≡ game.home - 1 → x ≡ (point_bounds over (seen_from_home game)).1 → q ≡ game.away - 1 → y ≡ (point_bounds over (seen_from_away game)).1 →
+  pub reach_more : (e f : ℕ) (before after : List ℕ) (p q x y : ℕ) (over : Bool) → has_finished game ≡ over → before ≡ map (reach (take i ms)) all_clubs
+      → p ≡ game.home - 1 → x ≡ (point_bounds over (seen_from_home game)).1 → q ≡ game.away - 1 → y ≡ (point_bounds over (seen_from_away game)).1 →
       after ≡ set (set before p (get_or before p e + x)) q (get_or (set before p (get_or before p e + x)) q f + y) → after ≡ map (reach (take (i + 1) ms)) all_clubs
   unfolding most_by
   reach_more e f before after p q x y over is = numbers_more (most_by over) reach e f before after p q x y refl (λ club. most_is over club (seen_by club game) is refl)

@@ -49,7 +49,8 @@ module _ (X : Type 0) (more : X → Option Appearance → X) (none : (r : X) →
 
   -- the pass over the matches: one match more, whose clubs are those at p and q
   pub lists_more : (f g : ℕ → X) (m : Match) (d e : X) (before after : List X) (p q : ℕ) (home away : X) → IsPairing m → ((c : ℕ) → more (f c) (seen_by c m) ≡ g c) → before ≡ map f all_clubs →
-      p ≡ m.home - 1 → home ≡ more (get_or before p d) (Some (seen_from_home m)) → q ≡ m.away - 1 → away ≡ more (get_or (set before p home) q e) (Some (seen_from_away m)) → after ≡ set (set before p home) q away →
+      p ≡ m.home - 1 → home ≡ more (get_or before p d) (Some (seen_from_home m)) → q ≡ m.away - 1
+      → away ≡ more (get_or (set before p home) q e) (Some (seen_from_away m)) → after ≡ set (set before p home) q away →
       after ≡ map g all_clubs
   lists_more f g m d e before after p q home away pair next is at_p is_home at_q is_away is_after =
       rw (is_after, is_away, at_q, is_home, at_p, is)
@@ -90,7 +91,8 @@ pub second_within : (n : ℕ) (before : List Results) (p q : ℕ) (home none : R
 second_within n before p q home none apart all h = rw (get_or-set_other before p q home none apart) (all q none h)
 
 -- two clubs have one match more, and the others as many as before
-pub within_two : (n : ℕ) (before : List Results) (p q : ℕ) (home away : Results) → All (IsWithin n) before → IsWithin (n + 1) home → IsWithin (n + 1) away → All (IsWithin (n + 1)) (set (set before p home) q away)
+pub within_two : (n : ℕ) (before : List Results) (p q : ℕ) (home away : Results) → All (IsWithin n) before
+    → IsWithin (n + 1) home → IsWithin (n + 1) away → All (IsWithin (n + 1)) (set (set before p home) q away)
 within_two n before p q home away all first second =
     let more : All (IsWithin (n + 1)) before = λ k d h. within_later n (n + 1) (get_or before k d) (omega arith) (all k d h) in
     All-set (IsWithin (n + 1)) (set before p home) q away second (All-set (IsWithin (n + 1)) before p home first more)

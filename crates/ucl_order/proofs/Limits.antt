@@ -149,7 +149,8 @@ module _ (profile : Profile) (board : List ℕ) (roster : List NamedClub) (valid
       let order : List ℕ = order_of profile (started_of board) roster in
       let long : length order ≡ 4 = length_permutation _ _ (IsPermutation-order profile board roster) in
       let slot : IsSlot (slice_index order (place - 1)) = All-permutation IsSlot all_clubs order (IsPermutation-order profile board roster) slots (place - 1) 0 (omega arith) in
-      within_table place (slice_index order (place - 1)) _ (started_of board) slot (All-filter has_started (λ m. IsValid m.result) (matches_of board) valid) (at_most_six board (slice_index order (place - 1)) slot)
+      within_table place (slice_index order (place - 1)) _ (started_of board) slot
+      (All-filter has_started (λ m. IsValid m.result) (matches_of board) valid) (at_most_six board (slice_index order (place - 1)) slot)
 
   pub rows_within : All IsWithinTable (rows_of profile board roster)
   rows_within zero d h = row_within 1 (omega arith) (omega arith)

@@ -1,5 +1,6 @@
 -- One match more in what a club has done.
-use Rattle.std.proofs.Common.{◌≡◌, ℕ, zero, suc, ◌+◌, ◌-◌, ◌<◌, ◌≤◌, ◌&&◌, Bool, true, false, cond, if◌then◌else◌, Option, List, [], ◌∷◌, ◌++◌, Some, None, length, get_or, take, map, filter, count_by, sum_by, refl, sym, ap, ◌∙◌, arith, append-nil, add-zero}
+use Rattle.std.proofs.Common.{◌≡◌, ℕ, zero, suc, ◌+◌, ◌-◌, ◌<◌, ◌≤◌, ◌&&◌, Bool, true, false, cond, if◌then◌else◌, Option, List, [], ◌∷◌, ◌++◌, Some, None, length, get_or, take, map, filter, count_by}
+use Rattle.std.proofs.Common.{sum_by, refl, sym, ap, ◌∙◌, arith, append-nil, add-zero}
 use Rattle.std.specs.List.{cons_option, filter_map}
 use Rattle.std.proofs.lemmas.List.{take_more, length_push, map-append}
 use Rattle.std.proofs.lemmas.List.Sums.{sum_by_push}
@@ -78,13 +79,16 @@ module _ (f : Match → Option Appearance) (ms : List Match) (i : ℕ) (d : Matc
   not_seen e = rw (take_more ms i d h, filter_map-append f (take i ms) (get_or ms i d ∷ []), ← e) (append-nil (filter_map f (take i ms)))
 
 -- the loop over the matches: one in which the club plays
-pub results_more : (club : ℕ) (ms : List Match) (i : ℕ) (d : Match) (a : Appearance) (before after : Results) → i < length ms → before ≡ results_of club (take i ms) → Some a ≡ seen_by club (get_or ms i d) → after ≡ with_match before a →
+pub results_more : (club : ℕ) (ms : List Match) (i : ℕ) (d : Match) (a : Appearance) (before after : Results) → i < length ms
+    → before ≡ results_of club (take i ms) → Some a ≡ seen_by club (get_or ms i d) → after ≡ with_match before a →
     after ≡ results_of club (take (i + 1) ms)
 results_more club ms i d a before after h is seen next =
-    next ∙ ap (λ r. with_match r a) (is ∙ results_are club (take i ms)) ∙ totals_push (appearances club (take i ms)) a ∙ sym (ap totals (seen_more (seen_by club) ms i d h a seen)) ∙ sym (results_are club (take (i + 1) ms))
+    next ∙ ap (λ r. with_match r a) (is ∙ results_are club (take i ms)) ∙ totals_push (appearances club (take i ms)) a
+    ∙ sym (ap totals (seen_more (seen_by club) ms i d h a seen)) ∙ sym (results_are club (take (i + 1) ms))
 
 -- ... and one in which it does not
-pub results_same : (club : ℕ) (ms : List Match) (i : ℕ) (d : Match) (before : Results) → i < length ms → before ≡ results_of club (take i ms) → None ≡ seen_by club (get_or ms i d) → before ≡ results_of club (take (i + 1) ms)
+pub results_same : (club : ℕ) (ms : List Match) (i : ℕ) (d : Match) (before : Results) → i < length ms
+    → before ≡ results_of club (take i ms) → None ≡ seen_by club (get_or ms i d) → before ≡ results_of club (take (i + 1) ms)
 results_same club ms i d before h is seen = is ∙ results_are club (take i ms) ∙ sym (ap totals (not_seen (seen_by club) ms i d h seen)) ∙ sym (results_are club (take (i + 1) ms))
 
 -- a match more at the end of a list: one in which the club plays
@@ -101,7 +105,8 @@ push_same club ms m seen =
 
 -- The same over the matches among some clubs. --
 
-seen_among_is : (both : Bool) (club : ℕ) (m : Match) (rest : List Match) → filter_map (seen_by club) (cond both (m ∷ rest) rest) ≡ cons_option (if both then seen_by club m else None) (filter_map (seen_by club) rest)
+seen_among_is : (both : Bool) (club : ℕ) (m : Match) (rest : List Match)
+    → filter_map (seen_by club) (cond both (m ∷ rest) rest) ≡ cons_option (if both then seen_by club m else None) (filter_map (seen_by club) rest)
 seen_among_is true club m rest = refl
 seen_among_is false club m rest = refl
 
@@ -114,12 +119,15 @@ module _ (club : ℕ) (clubs : List ℕ) where
   tied_are : (ms : List Match) → results_of club (among clubs ms) ≡ totals (filter_map (seen_among club clubs) ms)
   tied_are ms = results_are club (among clubs ms) ∙ ap totals (among_seen club clubs ms)
 
-  pub among_more : (ms : List Match) (i : ℕ) (d : Match) (a : Appearance) (before after : Results) → i < length ms → before ≡ results_of club (among clubs (take i ms)) → Some a ≡ seen_among club clubs (get_or ms i d) → after ≡ with_match before a →
+  pub among_more : (ms : List Match) (i : ℕ) (d : Match) (a : Appearance) (before after : Results) → i < length ms
+      → before ≡ results_of club (among clubs (take i ms)) → Some a ≡ seen_among club clubs (get_or ms i d) → after ≡ with_match before a →
       after ≡ results_of club (among clubs (take (i + 1) ms))
   among_more ms i d a before after h is seen next =
-      next ∙ ap (λ r. with_match r a) (is ∙ tied_are (take i ms)) ∙ totals_push (filter_map (seen_among club clubs) (take i ms)) a ∙ sym (ap totals (seen_more (seen_among club clubs) ms i d h a seen)) ∙ sym (tied_are (take (i + 1) ms))
+      next ∙ ap (λ r. with_match r a) (is ∙ tied_are (take i ms)) ∙ totals_push (filter_map (seen_among club clubs) (take i ms)) a
+      ∙ sym (ap totals (seen_more (seen_among club clubs) ms i d h a seen)) ∙ sym (tied_are (take (i + 1) ms))
 
-  pub among_same : (ms : List Match) (i : ℕ) (d : Match) (before : Results) → i < length ms → before ≡ results_of club (among clubs (take i ms)) → None ≡ seen_among club clubs (get_or ms i d) → before ≡ results_of club (among clubs (take (i + 1) ms))
+  pub among_same : (ms : List Match) (i : ℕ) (d : Match) (before : Results) → i < length ms → before ≡ results_of club (among clubs (take i ms))
+      → None ≡ seen_among club clubs (get_or ms i d) → before ≡ results_of club (among clubs (take (i + 1) ms))
   among_same ms i d before h is seen = is ∙ tied_are (take i ms) ∙ sym (ap totals (not_seen (seen_among club clubs) ms i d h seen)) ∙ sym (tied_are (take (i + 1) ms))
 
 bit : (b : Bool) → cond b 1 0 ≤ 1
@@ -166,7 +174,18 @@ within_later m n r e h = record {
 -- What is read off such results. --
 
 pub row_of_results : (place slot : ℕ) (mark : Mark) (ms : List Match) (r : Results) (p : ℕ) → r ≡ results_of slot ms → p ≡ points_for r.wins r.draws →
-    record { slot = slot; place = place; mark = mark; played = r.played; wins = r.wins; draws = r.draws; losses = r.losses; goals_for = r.goals_for; goals_against = r.goals_against; points = p } ≡ row_with place slot mark ms
+    record {
+      slot = slot;
+      place = place;
+      mark = mark;
+      played = r.played;
+      wins = r.wins;
+      draws = r.draws;
+      losses = r.losses;
+      goals_for = r.goals_for;
+      goals_against = r.goals_against;
+      points = p;
+    } ≡ row_with place slot mark ms
 unfolding results_of
 row_of_results place slot mark ms r p is h = rw (h, is)
 
@@ -188,7 +207,8 @@ number_at (suc (suc (suc (suc (suc (suc (suc (suc (suc (suc (suc zero)))))))))))
 number_at (suc (suc (suc (suc (suc (suc (suc (suc (suc (suc (suc (suc zero)))))))))))) h k = refl
 number_at (suc (suc (suc (suc (suc (suc (suc (suc (suc (suc (suc (suc (suc n))))))))))))) h k = absurd (omega arith)
 
-pub matches_more : (board : List ℕ) (n : ℕ) (before after : List Match) (m : Match) → 1 ≤ n → n ≤ 12 → before ≡ map (match_at board) (take (n - 1) match_numbers) → m ≡ match_at board n → after ≡ before ++ m ∷ [] →
+pub matches_more : (board : List ℕ) (n : ℕ) (before after : List Match) (m : Match) → 1 ≤ n → n ≤ 12
+    → before ≡ map (match_at board) (take (n - 1) match_numbers) → m ≡ match_at board n → after ≡ before ++ m ∷ [] →
     after ≡ map (match_at board) (take (n + 1 - 1) match_numbers)
 matches_more board n before after m low high is one next =
     let at : n + 1 - 1 ≡ n - 1 + 1 = omega arith in
@@ -199,5 +219,6 @@ pub matches_all : (board : List ℕ) (n : ℕ) (ms : List Match) → n ≡ 13 �
 unfolding matches_of
 matches_all board n ms last is = rw (is, last)
 
-pub match_is : (board : List ℕ) (n g h a : ℕ) (r : MatchRecord) → g ≡ n → h ≡ (fixture_of g).home → a ≡ (fixture_of g).away → r ≡ game_at board g → record { home = h; away = a; result = r } ≡ match_at board n
+pub match_is : (board : List ℕ) (n g h a : ℕ) (r : MatchRecord) → g ≡ n → h ≡ (fixture_of g).home
+    → a ≡ (fixture_of g).away → r ≡ game_at board g → record { home = h; away = a; result = r } ≡ match_at board n
 match_is board n g h a r same home away is = rw (home, away, is, same)

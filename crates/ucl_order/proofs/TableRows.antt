@@ -18,11 +18,13 @@ pub row_is : (place n : ℕ) (order : List ℕ) (ms now : List Match) (mark : Ma
     r ≡ row_with place (slice_index order (place - 1)) (mark_by ms order (slice_index order (place - 1))) (started ms)
 row_is place n order ms now mark r is_n is_now is_mark is = rw (is, is_mark, is_now, is_n)
 
-pub order_is : (profile : Profile) (board : List ℕ) (roster : List NamedClub) (now : List Match) (order : List ℕ) → now ≡ started_of board → order ≡ order_of profile now roster → order ≡ order_of profile (started_of board) roster
+pub order_is : (profile : Profile) (board : List ℕ) (roster : List NamedClub) (now : List Match) (order : List ℕ)
+    → now ≡ started_of board → order ≡ order_of profile now roster → order ≡ order_of profile (started_of board) roster
 unfolding order_of
 order_is profile board roster now order is_now is = rw (is, is_now)
 
-pub row_of_place : (profile : Profile) (board : List ℕ) (roster : List NamedClub) (place : ℕ) (ms given : List Match) (order : List ℕ) (r : Row) → ms ≡ matches_of board → given ≡ ms → order ≡ order_of profile (started_of board) roster →
+pub row_of_place : (profile : Profile) (board : List ℕ) (roster : List NamedClub) (place : ℕ) (ms given : List Match) (order : List ℕ) (r : Row)
+    → ms ≡ matches_of board → given ≡ ms → order ≡ order_of profile (started_of board) roster →
     r ≡ row_with place (slice_index order (place - 1)) (mark_by given order (slice_index order (place - 1))) (started given) → r ≡ row_of profile board roster place
 unfolding row_of mark_of
 row_of_place profile board roster place ms given order r is_ms is_given is_order is = rw (is, is_given, is_ms, is_order)

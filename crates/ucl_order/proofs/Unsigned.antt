@@ -23,7 +23,18 @@ use Rattle.ucl_order.specs.Rows.{row_with, row_of, rows_of}
 -- The record of a match without its reporter. --
 
 abbrev pub without : MatchRecord → MatchRecord
-without m = record { number = m.number; state = m.state; home_goals = m.home_goals; away_goals = m.away_goals; home_yellows = m.home_yellows; away_yellows = m.away_yellows; home_expulsions = m.home_expulsions; away_expulsions = m.away_expulsions; reporter = 0 }
+without m =
+    record {
+      number = m.number;
+      state = m.state;
+      home_goals = m.home_goals;
+      away_goals = m.away_goals;
+      home_yellows = m.home_yellows;
+      away_yellows = m.away_yellows;
+      home_expulsions = m.home_expulsions;
+      away_expulsions = m.away_expulsions;
+      reporter = 0;
+    }
 
 -- Matches without it. --
 
@@ -63,7 +74,8 @@ overall_is ms roster = fun_ext (λ (a : ℕ). fun_ext (λ (b : ℕ). rw (appeara
 
 -- The order. --
 
-within_is : (profile : Profile) (most : ℕ) (ms : List Match) (roster : List NamedClub) (clubs : List ℕ) → settled_within profile most (map forgotten ms) roster clubs ≡ settled_within profile most ms roster clubs
+within_is : (profile : Profile) (most : ℕ) (ms : List Match) (roster : List NamedClub) (clubs : List ℕ)
+    → settled_within profile most (map forgotten ms) roster clubs ≡ settled_within profile most ms roster clubs
 within_is profile most ms roster [] = refl
 within_is profile most ms roster (club ∷ []) = refl
 within_is profile zero ms roster (a ∷ b ∷ clubs) = refl

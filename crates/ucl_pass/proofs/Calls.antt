@@ -147,7 +147,11 @@ module _ (call : EventCall) (v w u : View) (x : List ℕ) (tried : TriedReport c
       takes = look_takes;
       missed = tried.missed;
       answered =
-          record { accesses = access Look call.game (word_at x call.game) (length u.seen) ∷ []; steps_are = refl; deciding = record { looked = word_at x call.game; accesses = refl; answer = answer } };
+          record {
+            accesses = access Look call.game (word_at x call.game) (length u.seen) ∷ [];
+            steps_are = refl;
+            deciding = record { looked = word_at x call.game; accesses = refl; answer = answer };
+          };
       lost = (let a = tried.lost in let b = looked.seen_all.listed in omega arith);
     }
 

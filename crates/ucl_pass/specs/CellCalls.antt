@@ -102,9 +102,9 @@ abbrev pub entries_added : Reply → ℕ
 entries_added (replies.Accepted accepted) = 1
 entries_added _ = 0
 
--- a call was answered, by one step that is all of it in the run: it is the last of the finished ones; it began when there were no fewer
--- entries than its pass had seen before the call, and ended when there were as many as the pass has then seen; and between its beginning
--- and its end no entry came, but its own where the reply is that it was accepted
+-- a call was answered: it is the last of the finished ones; it began when there were no fewer entries than its pass had seen before the
+-- call, and ended when there were as many as the pass has then seen; and no entry came within it but its own, where the reply is that it
+-- was accepted
 pub record FinishesCall (v : CellView) (call : Call) (reply : Reply) (w : CellView) : Type 0 where
   pub begun : ℕ
   pub after_seen : length v.pass.seen ≤ begun

@@ -1,10 +1,34 @@
 //! Single lines of the output.
 
-ghost use Rattle.std.specs.Prelude.{◌≡◌, ◌++◌, OnOk, string_bytes};
+ghost use Rattle.std.specs.Prelude.{◌≡◌, ◌++◌, OnOk, codes, decimal, string_bytes};
+ghost use Rattle.ucl_word.specs.Texts.{refusal_text};
 ghost use Rattle.ucl_runs.specs.Lines.{accepted_line, refused_line, word_line};
 
+use itoa::Buffer;
 use std::alloc::AllocError;
 use ucl_word::Refusal;
+
+/// Writes a number in decimal digits.
+fn push_number(out: &mut String, number: u32) -> Result<(), AllocError>
+    ensures { OnOk result (string_bytes out.new ≡ string_bytes out.old ++ decimal number) }
+{
+    out.push_str(Buffer::new().format(number))
+}
+
+/// Writes that an event is refused, with the number of the refusal and its name. Of most that are refused another event was first, so that
+/// one is written with no options.
+fn push_refusal(out: &mut String, refusal: Refusal) -> Result<(), AllocError>
+    ensures { OnOk result (string_bytes out.new
+        ≡ string_bytes out.old ++ codes " refused " ++ refusal_text refusal) }
+{
+    match refusal {
+        Refusal::Stale { found } => {
+            out.push_str(" refused 1 stale ")?;
+            push_number(out, u32::from(found))
+        }
+        _ => write!(out, " refused {refusal}"),
+    }
+}
 
 /// Writes the line of an event that was entered.
 pub fn push_accepted(
@@ -17,7 +41,15 @@ pub fn push_accepted(
     ensures { OnOk result (string_bytes out.new
         ≡ string_bytes out.old ++ accepted_line row game number version) }
 {
-    write!(out, "{row} ok {game} {number} {version}\n")
+    push_number(out, row)?;
+    out.push_str(" ok ")?;
+    push_number(out, u32::from(game))?;
+    out.push(' ')?;
+    push_number(out, u32::from(number))?;
+    out.push(' ')?;
+    push_number(out, u32::from(version))?;
+    out.push('\n')?;
+    Ok(())
 }
 
 /// Writes the line of an event that was refused.
@@ -25,7 +57,10 @@ pub fn push_refused(out: &mut String, row: u32, refusal: Refusal) -> Result<(), 
     ensures { OnOk result
         (string_bytes out.new ≡ string_bytes out.old ++ refused_line row refusal) }
 {
-    write!(out, "{row} refused {refusal}\n")
+    push_number(out, row)?;
+    push_refusal(out, refusal)?;
+    out.push('\n')?;
+    Ok(())
 }
 
 /// Writes the line of a match word.

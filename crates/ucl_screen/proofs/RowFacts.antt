@@ -1,5 +1,6 @@
 -- The records of a text, one after the other.
-use Rattle.std.proofs.Common.{◌≡◌, ℕ, zero, suc, ◌+◌, ◌<◌, ◌≤◌, ◌-◌, Bool, true, false, ◌==◌, ◌||◌, if◌then◌else◌, List, [], ◌∷◌, ◌++◌, length, Option, Some, None, refl, ap, ◌∙◌, arith, add-one, ◌⊎◌, inl, inr}
+use Rattle.std.proofs.Common.{◌≡◌, ℕ, zero, suc, ◌+◌, ◌<◌, ◌≤◌, ◌-◌, Bool, true, false, ◌==◌, ◌||◌, if◌then◌else◌, List, [], ◌∷◌, ◌++◌, length, Option, Some, None, refl, ap, ◌∙◌, arith, add-one, ◌⊎◌}
+use Rattle.std.proofs.Common.{inl, inr}
 use Rattle.std.proofs.lemmas.Bool.{cases_Bool}
 use Rattle.csv.specs.Machine.{Read, next_record, ends_at_end, step, is_end, fields_after, field_after, in_field, start_field, start_record}
 use Rattle.std.specs.Borrow.{Bor}
@@ -25,7 +26,9 @@ between-if true = refl
 between-if false = refl
 
 in-field : (c : ℕ) → Closes (in_field default_config c)
-in-field c = closes-if (c == 44) _ _ (λ h. cc h) (closes-if ((c == 13) || (c == 10)) (if c == 13 then st.AfterCr else st.StartRecord, act.EndRecord) (st.InField, act.Copy) (λ h. between-if (c == 13)) (λ h. cc h))
+in-field c =
+    closes-if (c == 44) _ _ (λ h. cc h)
+    (closes-if ((c == 13) || (c == 10)) (if c == 13 then st.AfterCr else st.StartRecord, act.EndRecord) (st.InField, act.Copy) (λ h. between-if (c == 13)) (λ h. cc h))
 
 start-field : (c : ℕ) → Closes (start_field default_config c)
 start-field c = closes-if (c == 34) _ _ (λ h. cc h) (in-field c)
@@ -116,7 +119,8 @@ rows-next s [] p b e = let no = nothing-left s b in cc
 rows-next s (c ∷ xs) p b e =
     let h = behind s [] [] (c ∷ xs) p e in
     let k = h.shorter in
-    let same : records_from default_config (length (c ∷ xs)) p.1 p.2 ≡ records_from default_config (length p.2 + 1) p.1 p.2 = enough (length (c ∷ xs)) (length p.2 + 1) p.1 p.2 h.between (omega arith) (omega arith) in
+    let same : records_from default_config (length (c ∷ xs)) p.1 p.2 ≡ records_from default_config (length p.2 + 1) p.1 p.2 =
+    enough (length (c ∷ xs)) (length p.2 + 1) p.1 p.2 h.between (omega arith) (omega arith) in
     rw (add-one (length (c ∷ xs)), e) (ap (λ (t : List Fields). p.0 ∷ t) same)
 
 pub rows-none : (s : State) (xs : List ℕ) → next_record default_config s [] [] xs ≡ None → rows_from s (Some xs) ≡ []

@@ -122,7 +122,8 @@ both-known None P Q p q = tt
 both-known (Some xs) P Q p q = q xs p
 
 pub sheet-taken : (sheet : Sheet) (words : List ℕ) (old new : Option (List ℕ)) (failed : Bool) (bytes : List ℕ) → failed ≡ false
-    → IfSome old (λ xs. whole_input xs ≡ Ok bytes) → rows_say bytes (Ok (record { clubs = sheet.roster; words = words })) → AreReadAs words sheet.board → Reads MeansSheet sheet_seen old new failed (Ok sheet)
+    → IfSome old (λ xs. whole_input xs ≡ Ok bytes) → rows_say bytes (Ok (record { clubs = sheet.roster; words = words }))
+    → AreReadAs words sheet.board → Reads MeansSheet sheet_seen old new failed (Ok sheet)
 sheet-taken sheet words old new failed bytes f h g read =
     let written : WrittenSheet = record { clubs = sheet.roster; words = words } in
     (f, both-known old (λ xs. sheet_of xs ≡ Ok written) (λ xs. MeansSheet xs (Ok (sheet_seen sheet))) (sheet-known old bytes (Ok written) h g) (λ xs e. (written, e, refl, read)))

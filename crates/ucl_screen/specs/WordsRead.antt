@@ -4,7 +4,7 @@ use Rattle.ucl_word.specs.declared.record.MatchRecord.{MatchRecord}
 use Rattle.ucl_word.specs.declared.record.State.{State}
 use Rattle.ucl_word.specs.declared.record.State.TheVariants.{Scheduled, InPlay, Finished}
 use Rattle.ucl_word.specs.Record.{last_in_play, last_number}
-use Rattle.ucl_word.specs.Layout.{first_layout, held_at, record_at, state_at, word_of}
+use Rattle.ucl_word.specs.Layout.{first_layout, record_at, record_in, word_of}
 use Rattle.ucl_word.specs.Migration.{first_word_of, most_in_first}
 
 abbrev pub is_within_limits : MatchRecord → Bool
@@ -32,17 +32,7 @@ is_valid m = is_within_limits m && suits m.state m
 
 -- what the fields of a word of the first layout hold
 unfoldable pub first_record_at : ℕ → MatchRecord
-first_record_at word = record {
-  number = held_at word first_layout.number;
-  state = state_at (held_at word first_layout.state);
-  home_goals = held_at word first_layout.home_goals;
-  away_goals = held_at word first_layout.away_goals;
-  home_yellows = held_at word first_layout.home_yellows;
-  away_yellows = held_at word first_layout.away_yellows;
-  home_expulsions = held_at word first_layout.home_expulsions;
-  away_expulsions = held_at word first_layout.away_expulsions;
-  reporter = held_at word first_layout.reporter;
-}
+first_record_at word = record_in first_layout word
 
 -- whether a word is that of the valid record which its fields hold
 abbrev pub is_word : ℕ → Bool

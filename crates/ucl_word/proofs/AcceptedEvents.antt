@@ -75,19 +75,45 @@ suits_in_play s m e low high r = subst (λ (s : State). SuitsState s m) (sym e) 
 module _ (m : MatchRecord) (reporter expected : ℕ) where
   after_within : (kind : Kind) → IsValid m → Accepts m expected kind → IsWithinLimits (after m reporter kind)
   unfolding after
-  after_within KickOff v a = let w = v.within in record { home_goals = omega arith; away_goals = omega arith; home_yellows = omega arith; away_yellows = omega arith; home_expulsions = omega arith; away_expulsions = omega arith }
-  after_within FullTime v a = let w = v.within in record { home_goals = omega arith; away_goals = omega arith; home_yellows = omega arith; away_yellows = omega arith; home_expulsions = omega arith; away_expulsions = omega arith }
-  after_within Reopen v a = let w = v.within in record { home_goals = omega arith; away_goals = omega arith; home_yellows = omega arith; away_yellows = omega arith; home_expulsions = omega arith; away_expulsions = omega arith }
-  after_within (Goal Home) v a = let w = v.within in let l = under 63 m.home_goals a.limit in record { home_goals = omega arith; away_goals = omega arith; home_yellows = omega arith; away_yellows = omega arith; home_expulsions = omega arith; away_expulsions = omega arith }
-  after_within (Goal Away) v a = let w = v.within in let l = under 63 m.away_goals a.limit in record { home_goals = omega arith; away_goals = omega arith; home_yellows = omega arith; away_yellows = omega arith; home_expulsions = omega arith; away_expulsions = omega arith }
-  after_within (Disallow Home) v a = let w = v.within in record { home_goals = omega arith; away_goals = omega arith; home_yellows = omega arith; away_yellows = omega arith; home_expulsions = omega arith; away_expulsions = omega arith }
-  after_within (Disallow Away) v a = let w = v.within in record { home_goals = omega arith; away_goals = omega arith; home_yellows = omega arith; away_yellows = omega arith; home_expulsions = omega arith; away_expulsions = omega arith }
-  after_within (Yellow Home) v a = let w = v.within in let l = under 63 m.home_yellows a.limit in record { home_goals = omega arith; away_goals = omega arith; home_yellows = omega arith; away_yellows = omega arith; home_expulsions = omega arith; away_expulsions = omega arith }
-  after_within (Yellow Away) v a = let w = v.within in let l = under 63 m.away_yellows a.limit in record { home_goals = omega arith; away_goals = omega arith; home_yellows = omega arith; away_yellows = omega arith; home_expulsions = omega arith; away_expulsions = omega arith }
-  after_within (SecondYellow Home) v a = let w = v.within in let l = under 31 m.home_expulsions a.limit in record { home_goals = omega arith; away_goals = omega arith; home_yellows = omega arith; away_yellows = omega arith; home_expulsions = omega arith; away_expulsions = omega arith }
-  after_within (SecondYellow Away) v a = let w = v.within in let l = under 31 m.away_expulsions a.limit in record { home_goals = omega arith; away_goals = omega arith; home_yellows = omega arith; away_yellows = omega arith; home_expulsions = omega arith; away_expulsions = omega arith }
-  after_within (Red Home) v a = let w = v.within in let l = under 31 m.home_expulsions a.limit in record { home_goals = omega arith; away_goals = omega arith; home_yellows = omega arith; away_yellows = omega arith; home_expulsions = omega arith; away_expulsions = omega arith }
-  after_within (Red Away) v a = let w = v.within in let l = under 31 m.away_expulsions a.limit in record { home_goals = omega arith; away_goals = omega arith; home_yellows = omega arith; away_yellows = omega arith; home_expulsions = omega arith; away_expulsions = omega arith }
+  after_within KickOff v a =
+      let w = v.within in
+      record { home_goals = omega arith; away_goals = omega arith; home_yellows = omega arith; away_yellows = omega arith; home_expulsions = omega arith; away_expulsions = omega arith }
+  after_within FullTime v a =
+      let w = v.within in
+      record { home_goals = omega arith; away_goals = omega arith; home_yellows = omega arith; away_yellows = omega arith; home_expulsions = omega arith; away_expulsions = omega arith }
+  after_within Reopen v a =
+      let w = v.within in
+      record { home_goals = omega arith; away_goals = omega arith; home_yellows = omega arith; away_yellows = omega arith; home_expulsions = omega arith; away_expulsions = omega arith }
+  after_within (Goal Home) v a =
+      let w = v.within in let l = under 63 m.home_goals a.limit in
+      record { home_goals = omega arith; away_goals = omega arith; home_yellows = omega arith; away_yellows = omega arith; home_expulsions = omega arith; away_expulsions = omega arith }
+  after_within (Goal Away) v a =
+      let w = v.within in let l = under 63 m.away_goals a.limit in
+      record { home_goals = omega arith; away_goals = omega arith; home_yellows = omega arith; away_yellows = omega arith; home_expulsions = omega arith; away_expulsions = omega arith }
+  after_within (Disallow Home) v a =
+      let w = v.within in
+      record { home_goals = omega arith; away_goals = omega arith; home_yellows = omega arith; away_yellows = omega arith; home_expulsions = omega arith; away_expulsions = omega arith }
+  after_within (Disallow Away) v a =
+      let w = v.within in
+      record { home_goals = omega arith; away_goals = omega arith; home_yellows = omega arith; away_yellows = omega arith; home_expulsions = omega arith; away_expulsions = omega arith }
+  after_within (Yellow Home) v a =
+      let w = v.within in let l = under 63 m.home_yellows a.limit in
+      record { home_goals = omega arith; away_goals = omega arith; home_yellows = omega arith; away_yellows = omega arith; home_expulsions = omega arith; away_expulsions = omega arith }
+  after_within (Yellow Away) v a =
+      let w = v.within in let l = under 63 m.away_yellows a.limit in
+      record { home_goals = omega arith; away_goals = omega arith; home_yellows = omega arith; away_yellows = omega arith; home_expulsions = omega arith; away_expulsions = omega arith }
+  after_within (SecondYellow Home) v a =
+      let w = v.within in let l = under 31 m.home_expulsions a.limit in
+      record { home_goals = omega arith; away_goals = omega arith; home_yellows = omega arith; away_yellows = omega arith; home_expulsions = omega arith; away_expulsions = omega arith }
+  after_within (SecondYellow Away) v a =
+      let w = v.within in let l = under 31 m.away_expulsions a.limit in
+      record { home_goals = omega arith; away_goals = omega arith; home_yellows = omega arith; away_yellows = omega arith; home_expulsions = omega arith; away_expulsions = omega arith }
+  after_within (Red Home) v a =
+      let w = v.within in let l = under 31 m.home_expulsions a.limit in
+      record { home_goals = omega arith; away_goals = omega arith; home_yellows = omega arith; away_yellows = omega arith; home_expulsions = omega arith; away_expulsions = omega arith }
+  after_within (Red Away) v a =
+      let w = v.within in let l = under 31 m.away_expulsions a.limit in
+      record { home_goals = omega arith; away_goals = omega arith; home_yellows = omega arith; away_yellows = omega arith; home_expulsions = omega arith; away_expulsions = omega arith }
 
   -- a match that goes on
   goes_on : (m' : MatchRecord) → IsValid m → IsReporter reporter → (is_finished m.state && true) ≡ false → (is_scheduled m.state && true) ≡ false → (nat_le last_in_play m.number && true) ≡ false

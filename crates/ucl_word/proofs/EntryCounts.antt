@@ -62,19 +62,30 @@ case_state InPlay kicks ends reopens c = rw (c.0, eq-eqb ends reopens c.1) refl
 case_state Finished kicks ends reopens c = rw (c.0, ne_eqb ends reopens (λ e. let more = c.1 in omega arith)) refl
 
 -- the record after one accepted entry more is the count of the longer list
-pub record_next : (es : List MatchEntry) (r : ℕ) (kind : Kind) → IsBalanced es → IsCase (state_of es) es → Accepts (counted_match es) (length es) kind → counted_match (entered es r kind) ≡ after (counted_match es) r kind
+pub record_next : (es : List MatchEntry) (r : ℕ) (kind : Kind) → IsBalanced es → IsCase (state_of es) es
+    → Accepts (counted_match es) (length es) kind → counted_match (entered es r kind) ≡ after (counted_match es) r kind
 unfolding counted_match after
-record_next es r KickOff b h a = let e = kicked_off (count is_kick_off es) (count is_full_time es) (count is_reopen es) (subst (λ (s : State). IsCase s es) (unbegun (state_of es) a.unfinished a.not_started) h) in simp (count_next, last_next, length-append, add-zero) cc
-record_next es r FullTime b h a = let e = ended (count is_kick_off es) (count is_full_time es) (count is_reopen es) (subst (λ (s : State). IsCase s es) (begun (state_of es) a.unfinished a.started) h) in simp (count_next, last_next, length-append, add-zero) cc
-record_next es r Reopen b h a = let e = reopened (count is_kick_off es) (count is_full_time es) (count is_reopen es) (subst (λ (s : State). IsCase s es) (over (state_of es) a.finished) h) in simp (count_next, last_next, length-append, add-zero) cc
+record_next es r KickOff b h a =
+    let e = kicked_off (count is_kick_off es) (count is_full_time es) (count is_reopen es) (subst (λ (s : State). IsCase s es) (unbegun (state_of es) a.unfinished a.not_started) h) in
+    simp (count_next, last_next, length-append, add-zero) cc
+record_next es r FullTime b h a =
+    let e = ended (count is_kick_off es) (count is_full_time es) (count is_reopen es) (subst (λ (s : State). IsCase s es) (begun (state_of es) a.unfinished a.started) h) in
+    simp (count_next, last_next, length-append, add-zero) cc
+record_next es r Reopen b h a =
+    let e = reopened (count is_kick_off es) (count is_full_time es) (count is_reopen es) (subst (λ (s : State). IsCase s es) (over (state_of es) a.finished) h) in
+    simp (count_next, last_next, length-append, add-zero) cc
 record_next es r (Goal Home) b h a = let e = more (count (is_goal Home) es) (count (is_disallow Home) es) (b.goals Home) in simp (count_next, last_next, length-append, add-zero) cc
 record_next es r (Goal Away) b h a = let e = more (count (is_goal Away) es) (count (is_disallow Away) es) (b.goals Away) in simp (count_next, last_next, length-append, add-zero) cc
 record_next es r (Disallow Home) b h a = let e = less (count (is_goal Home) es) (count (is_disallow Home) es) in simp (count_next, last_next, length-append, add-zero) cc
 record_next es r (Disallow Away) b h a = let e = less (count (is_goal Away) es) (count (is_disallow Away) es) in simp (count_next, last_next, length-append, add-zero) cc
 record_next es r (Yellow Home) b h a = let e = more (count (is_yellow Home) es) (count (is_second_yellow Home) es) (b.yellows Home) in simp (count_next, last_next, length-append, add-zero) cc
 record_next es r (Yellow Away) b h a = let e = more (count (is_yellow Away) es) (count (is_second_yellow Away) es) (b.yellows Away) in simp (count_next, last_next, length-append, add-zero) cc
-record_next es r (SecondYellow Home) b h a = let e = less (count (is_yellow Home) es) (count (is_second_yellow Home) es) in let f = sym (add_assoc (count (is_red Home) es) (count (is_second_yellow Home) es) 1) in simp (count_next, last_next, length-append, add-zero) cc
-record_next es r (SecondYellow Away) b h a = let e = less (count (is_yellow Away) es) (count (is_second_yellow Away) es) in let f = sym (add_assoc (count (is_red Away) es) (count (is_second_yellow Away) es) 1) in simp (count_next, last_next, length-append, add-zero) cc
+record_next es r (SecondYellow Home) b h a =
+    let e = less (count (is_yellow Home) es) (count (is_second_yellow Home) es) in let f = sym (add_assoc (count (is_red Home) es) (count (is_second_yellow Home) es) 1) in
+    simp (count_next, last_next, length-append, add-zero) cc
+record_next es r (SecondYellow Away) b h a =
+    let e = less (count (is_yellow Away) es) (count (is_second_yellow Away) es) in let f = sym (add_assoc (count (is_red Away) es) (count (is_second_yellow Away) es) 1) in
+    simp (count_next, last_next, length-append, add-zero) cc
 record_next es r (Red Home) b h a = let e = more_left (count (is_red Home) es) (count (is_second_yellow Home) es) in simp (count_next, last_next, length-append, add-zero) cc
 record_next es r (Red Away) b h a = let e = more_left (count (is_red Away) es) (count (is_second_yellow Away) es) in simp (count_next, last_next, length-append, add-zero) cc
 
@@ -127,7 +138,8 @@ goal_stands es Away (Disallow Away) h is = stands _ _ h
 goal_stands es Home (Disallow Away) h is = absurd cc
 goal_stands es Away (Disallow Home) h is = absurd cc
 
-yellow_stands : (es : List MatchEntry) (side : Side) (kind : Kind) → lacks_caution (counted_match es) kind ≡ false → is_second_yellow side kind ≡ true → count (is_second_yellow side) es < count (is_yellow side) es
+yellow_stands : (es : List MatchEntry) (side : Side) (kind : Kind) → lacks_caution (counted_match es) kind ≡ false
+    → is_second_yellow side kind ≡ true → count (is_second_yellow side) es < count (is_yellow side) es
 unfolding counted_match
 yellow_stands es side KickOff h is = absurd cc
 yellow_stands es side FullTime h is = absurd cc
@@ -149,8 +161,10 @@ stays taken given false false le lt = omega arith
 
 balanced_next : (es : List MatchEntry) (e : MatchEntry) → IsBalanced es → Accepts (counted_match es) (length es) e.kind → IsBalanced (es ++ e ∷ [])
 balanced_next es e b a = record {
-  goals = λ side. rw (count_next (is_disallow side) es e, count_next (is_goal side) es e) (stays _ _ (is_disallow side e.kind) (is_goal side e.kind) (b.goals side) (goal_stands es side e.kind a.goal));
-  yellows = λ side. rw (count_next (is_second_yellow side) es e, count_next (is_yellow side) es e) (stays _ _ (is_second_yellow side e.kind) (is_yellow side e.kind) (b.yellows side) (yellow_stands es side e.kind a.caution));
+  goals = λ side. rw (count_next (is_disallow side) es e, count_next (is_goal side) es e)
+      (stays _ _ (is_disallow side e.kind) (is_goal side e.kind) (b.goals side) (goal_stands es side e.kind a.goal));
+  yellows = λ side. rw (count_next (is_second_yellow side) es e, count_next (is_yellow side) es e)
+      (stays _ _ (is_second_yellow side e.kind) (is_yellow side e.kind) (b.yellows side) (yellow_stands es side e.kind a.caution));
 }
 
 pub legal_balanced : (es : List MatchEntry) → IsLegalMatch es → IsBalanced es
@@ -167,7 +181,8 @@ state_is es = refl
 pub legal_case : (es : List MatchEntry) → IsLegalMatch es → IsCase (state_of es) es
 legal_case = may_induction IsAccepted (λ es. IsCase (state_of es) es) (refl, refl, refl) (λ es e legal may h.
     let a = accepts (counted_match es) (length es) e.kind may.accepted in
-    let is : (after (counted_match es) e.reporter e.kind).state ≡ state_of (es ++ e ∷ []) = ap (λ (m : MatchRecord). m.state) (sym (record_next es e.reporter e.kind (legal_balanced es legal) h a)) ∙ state_is (es ++ e ∷ []) in
+    let is : (after (counted_match es) e.reporter e.kind).state ≡ state_of (es ++ e ∷ []) =
+    ap (λ (m : MatchRecord). m.state) (sym (record_next es e.reporter e.kind (legal_balanced es legal) h a)) ∙ state_is (es ++ e ∷ []) in
     subst (λ (s : State). IsCase s (es ++ e ∷ [])) is (case_next es e.reporter e.kind h a))
 
 pub one_case : OneCaseHolds
@@ -179,7 +194,17 @@ one_case es legal s = (
 -- the record after a legal list of entries is one that a match can have
 pub legal_valid : (es : List MatchEntry) → IsLegalMatch es → IsValid (counted_match es)
 legal_valid = may_induction IsAccepted (λ es. IsValid (counted_match es))
-    (rw record_none (record { within = record { home_goals = omega arith; away_goals = omega arith; home_yellows = omega arith; away_yellows = omega arith; home_expulsions = omega arith; away_expulsions = omega arith }; suits = refl }))
+    (rw record_none (record {
+      within = record {
+        home_goals = omega arith;
+        away_goals = omega arith;
+        home_yellows = omega arith;
+        away_yellows = omega arith;
+        home_expulsions = omega arith;
+        away_expulsions = omega arith;
+      };
+      suits = refl;
+    }))
     (λ es e legal may v. let a = accepts (counted_match es) (length es) e.kind may.accepted in
     rw (record_next es e.reporter e.kind (legal_balanced es legal) (legal_case es legal) a) (after_valid (counted_match es) e.reporter (length es) e.kind v may.reporter a))
 

@@ -42,6 +42,7 @@ unfolding refusal_of
 row4c = refl
 
 -- kick-off, goal, yellow and second yellow of the away side, goal disallowed, full time
-row19 : counted_match (record { reporter = 1; kind = KickOff } ∷ record { reporter = 1; kind = Goal Home } ∷ record { reporter = 1; kind = Yellow Away } ∷ record { reporter = 1; kind = SecondYellow Away } ∷ record { reporter = 1; kind = Disallow Home } ∷ record { reporter = 1; kind = FullTime } ∷ []) ≡ done
+row19 : counted_match (record { reporter = 1; kind = KickOff } ∷ record { reporter = 1; kind = Goal Home } ∷ record { reporter = 1; kind = Yellow Away }
+    ∷ record { reporter = 1; kind = SecondYellow Away } ∷ record { reporter = 1; kind = Disallow Home } ∷ record { reporter = 1; kind = FullTime } ∷ []) ≡ done
 unfolding counted_match
 row19 = refl

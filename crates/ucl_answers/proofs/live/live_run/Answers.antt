@@ -24,8 +24,8 @@ steps-init g c = record {
 pub step-requires-clause-few : goal.step-requires-clause-few
 step-requires-clause-few g c =
     let past : Past = record { start = start_of c.args.options; first = g.W.Sink.taken c.args.wire.now.sink; bytes = c.steps.invariant.bytes } in
-    let k = run-few past _ c.steps.live c.steps.invariant.prompt refl c.if-live-gt-MOST_BYTES.false in
-    let long = c.if-live-gt-MOST_BYTES.array_long in omega arith
+    let k = run-few past _ c.steps.live c.steps.invariant.prompt refl c.if-live-gt-MOST_READ.false in
+    let long = c.if-live-gt-MOST_READ.array_long in omega arith
 
 pub step-requires-clause-short : goal.step-requires-clause-short
 step-requires-clause-short g c =
@@ -92,7 +92,9 @@ steps-preserved g c =
       source_sound = inr c.in_ok-step.ensures.read_failed;
       sink_sound = c.in_ok-step.ensures.sink_sound ∙ so_far.sink_sound;
       sink_vain = c.in_ok-step.ensures.sink_vain ∙ so_far.sink_vain;
-      asked = asked-then _ _ _ _ _ _ _ (c.steps.wire.source, c.steps.wire.sink) so_far.asked c.in_ok-step.ensures.asked c.in_ok-step.ensures.one_call (so_far.bytes, so_far.consumed, so_far.prompt.answered);
+      asked =
+          asked-then _ _ _ _ _ _ _ (c.steps.wire.source, c.steps.wire.sink) so_far.asked c.in_ok-step.ensures.asked c.in_ok-step.ensures.one_call
+          (so_far.bytes, so_far.consumed, so_far.prompt.answered);
     }
 
 pub steps-smaller : goal.steps-smaller
@@ -100,7 +102,7 @@ steps-smaller g c =
     let so_far = c.steps.invariant in
     let past : Past = record { start = start_of c.args.options; first = g.W.Sink.taken c.args.wire.now.sink; bytes = so_far.bytes } in
     let s = stays-took past _ _ c.in_ok-step.field-0 c.in-Took.next c.in-Took.is (c.in_ok-step.ensures.prompt past so_far.prompt) in
-    let more = read-more so_far.bytes s.bytes c.steps.live.read c.in-Took.next.read so_far.prompt.at.read_is s.prompt.at.read_is s.some c.if-live-gt-MOST_BYTES.false in
-    let few = c.if-live-gt-MOST_BYTES.false in
+    let more = read-more so_far.bytes s.bytes c.steps.live.read c.in-Took.next.read so_far.prompt.at.read_is s.prompt.at.read_is s.some c.if-live-gt-MOST_READ.false in
+    let few = c.if-live-gt-MOST_READ.false in
     let less : 2 ^ 63 - c.in-Took.next.read < 2 ^ 63 - c.steps.live.read = omega arith in
     less

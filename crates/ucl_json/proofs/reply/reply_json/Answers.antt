@@ -1,8 +1,20 @@
+use Rattle.std.specs.Prelude.{Ok, Err}
 use Rattle.ucl_json.proofs.Places.{reply-shallow, reply-whole}
 use Rattle.ucl_json.proofs.reply.reply_json.Goals as goal
+use Rattle.ucl_json.proofs.reply.reply_json.Goals.{in-Ok+in_ok-value-in-Ok, in-Err+in_ok-value-in-Err}
 
 pub line_of-requires-clause-whole : goal.line_of-requires-clause-whole
-line_of-requires-clause-whole c = rw c.in_ok-value.ensures (reply-whole c.args.row c.args.game c.args.reply c.args.profile c.args.board.now c.args.roster.now c.args.group)
+line_of-requires-clause-whole c = elim c.match-reply.branch [
+  | in-Ok+in_ok-value-in-Ok w ↦ rw (w.value-is, w.in_ok-value-in-Ok.ensures)
+      (reply-whole c.args.row c.args.game (Ok w.in-Ok.accepted) c.args.profile c.args.board.now c.args.roster.now c.args.group)
+  | in-Err+in_ok-value-in-Err w ↦ rw (w.value-is, w.in_ok-value-in-Err.ensures)
+      (reply-whole c.args.row c.args.game (Err w.in-Err.refusal) c.args.profile c.args.board.now c.args.roster.now c.args.group)
+]
 
 pub line_of-requires-clause-shallow : goal.line_of-requires-clause-shallow
-line_of-requires-clause-shallow c = rw c.in_ok-value.ensures (reply-shallow c.args.row c.args.game c.args.reply c.args.profile c.args.board.now c.args.roster.now c.args.group)
+line_of-requires-clause-shallow c = elim c.match-reply.branch [
+  | in-Ok+in_ok-value-in-Ok w ↦ rw (w.value-is, w.in_ok-value-in-Ok.ensures)
+      (reply-shallow c.args.row c.args.game (Ok w.in-Ok.accepted) c.args.profile c.args.board.now c.args.roster.now c.args.group)
+  | in-Err+in_ok-value-in-Err w ↦ rw (w.value-is, w.in_ok-value-in-Err.ensures)
+      (reply-shallow c.args.row c.args.game (Err w.in-Err.refusal) c.args.profile c.args.board.now c.args.roster.now c.args.group)
+]

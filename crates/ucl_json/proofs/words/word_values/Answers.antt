@@ -3,7 +3,8 @@ use Rattle.ucl_json.proofs.words.word_values.Goals as goal
 
 pub loop-word-preserved : goal.loop-word-preserved
 loop-word-preserved c =
-    next-word c.loop-word.values.items c.push.new.self.items c.in_ok-word_value.field-0 c.args.words.now c.loop-word.word-index c.loop-word-test.true c.loop-word.invariant c.in_ok-word_value.ensures c.in_ok-push.ensures.items
+    next-word c.loop-word.values.items c.push.new.self.items c.in_ok-word_value.field-0 c.args.words.now c.loop-word.word-index c.loop-word-test.true c.loop-word.invariant
+    c.in_ok-word_value.ensures c.in_ok-push.ensures.items
 
 pub returns : goal.returns
 returns c = all-words c.loop-word.values.items c.args.words.now c.loop-word.word-index c.loop-word-test.false c.loop-word.invariant

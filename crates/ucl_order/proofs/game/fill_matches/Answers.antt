@@ -9,7 +9,8 @@ pub loop-number-preserved : goal.loop-number-preserved
 loop-number-preserved c = elim c.match-new.branch [
   | in-Some w ↦ rw w.matches-is (record {
     so_far = matches_more c.args.board.now c.loop-number.number c.loop-number.matches.items w.push.new.self.items _ (omega arith) (omega arith) c.loop-number.invariant.so_far
-        (match_is c.args.board.now c.loop-number.number w.in-Some.game w.home_of.result w.away_of.result w.game.result w.in-Some.ensures.value w.home_of.ensures.value w.away_of.ensures.value w.game.ensures.value)
+        (match_is c.args.board.now c.loop-number.number w.in-Some.game w.home_of.result w.away_of.result w.game.result
+        w.in-Some.ensures.value w.home_of.ensures.value w.away_of.ensures.value w.game.ensures.value)
         w.push.ensures.items;
     many = omega arith;
     valid = rw w.push.ensures.items (All-push (λ m. IsValid m.result) c.loop-number.matches.items _ c.loop-number.invariant.valid w.game.ensures.valid);

@@ -25,7 +25,8 @@ pub returns-clause-rows : goal.returns-clause-rows
 returns-clause-rows c =
     let ms : List Match = c.fill_matches.new.matches.items in
     let order : c.order-order.result ≡ order_of c.args.profile (started_of c.args.board.now) c.args.roster.now =
-    order_is c.args.profile c.args.board.now c.args.roster.now (started c.deref-2.result.now) c.order-order.result (ap started (c.deref-2.ensures.0 ∙ c.fill_matches.ensures.value)) c.order-order.ensures.value in
+    order_is c.args.profile c.args.board.now c.args.roster.now (started c.deref-2.result.now) c.order-order.result
+    (ap started (c.deref-2.ensures.0 ∙ c.fill_matches.ensures.value)) c.order-order.ensures.value in
     let marks = c.marks_of-marks.ensures ∙ ap (λ m. map (mark_by m c.order-order.result) c.order-order.result) c.deref-3.ensures.0 in
     let results = c.of_clubs-results.ensures.value ∙ ap (λ m. results_of_clubs (started m)) c.deref.ensures.0 in
     let first : c.row_at.result ≡ row_of c.args.profile c.args.board.now c.args.roster.now 1 =
@@ -40,11 +41,13 @@ returns-clause-rows c =
 
 pub returns-clause-within : goal.returns-clause-within
 returns-clause-within c =
-    let valid : All (λ m. IsValid m.result) (matches_of c.args.board.now) = (let P : List Match → Type 0 = All (λ m. IsValid m.result) in subst P c.fill_matches.ensures.value c.fill_matches.ensures.valid) in
+    let valid : All (λ m. IsValid m.result) (matches_of c.args.board.now) =
+    (let P : List Match → Type 0 = All (λ m. IsValid m.result) in subst P c.fill_matches.ensures.value c.fill_matches.ensures.valid) in
     All-same IsWithinTable _ (rows_of c.args.profile c.args.board.now c.args.roster.now) (returns-clause-rows c) (rows_within c.args.profile c.args.board.now c.args.roster.now valid)
 
 pub returns-clause-certain : goal.returns-clause-certain
 returns-clause-certain c =
-    let valid : All (λ m. IsValid m.result) (matches_of c.args.board.now) = (let P : List Match → Type 0 = All (λ m. IsValid m.result) in subst P c.fill_matches.ensures.value c.fill_matches.ensures.valid) in
+    let valid : All (λ m. IsValid m.result) (matches_of c.args.board.now) =
+    (let P : List Match → Type 0 = All (λ m. IsValid m.result) in subst P c.fill_matches.ensures.value c.fill_matches.ensures.valid) in
     All-same (MarkIsCertain c.args.profile c.args.board.now c.args.roster.now) _ (rows_of c.args.profile c.args.board.now c.args.roster.now) (returns-clause-rows c)
     (all_certain c.args.profile c.args.board.now c.args.roster.now (rows_within c.args.profile c.args.board.now c.args.roster.now valid))

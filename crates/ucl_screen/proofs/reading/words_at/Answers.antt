@@ -18,7 +18,9 @@ pub returns-in-None : goal.returns-in-None
 returns-in-None c =
     let next = rw c.if-not-branch.false at c.in_ok-next_row.ensures.reads in
     let left : 13 - c.games.game ≡ suc (12 - c.games.game) = omega arith in
-    let bad = word-bad (take (c.games.game - 1) c.games.words) (13 - c.games.game) (12 - c.games.game) c.games.game (fields_of c.next_row.new.row) (rows_left c.next_row.new.rows) left (sym c.in-None.ensures) in
+    let bad =
+    word-bad (take (c.games.game - 1) c.games.words) (13 - c.games.game) (12 - c.games.game) c.games.game
+    (fields_of c.next_row.new.row) (rows_left c.next_row.new.rows) left (sym c.in-None.ensures) in
     rw c.from.ensures (sym c.games.invariant.so_far ∙ rw next bad)
 
 pub games-preserved : goal.games-preserved
@@ -28,7 +30,9 @@ games-preserved c =
     let rest : 13 - (c.games.game + 1) ≡ 12 - c.games.game = omega arith in
     let place : c.games.game - 1 < length c.games.words = let n = c.games.invariant.twelve in omega arith in
     let written = take-set_at c.games.words (c.games.game - 1) (c.games.game + 1 - 1) c.in-Some.word (omega arith) place in
-    let more = word-more (take (c.games.game - 1) c.games.words) (13 - c.games.game) (12 - c.games.game) c.games.game (fields_of c.next_row.new.row) (rows_left c.next_row.new.rows) c.in-Some.word left (sym c.in-Some.ensures) in
+    let more =
+    word-more (take (c.games.game - 1) c.games.words) (13 - c.games.game) (12 - c.games.game) c.games.game
+    (fields_of c.next_row.new.row) (rows_left c.next_row.new.rows) c.in-Some.word left (sym c.in-Some.ensures) in
     record {
       reading = c.in_ok-next_row.ensures.reading c.if-not-branch.false;
       twelve = length-set c.games.words c.from-in-Some.result c.in-Some.word ∙ c.games.invariant.twelve;

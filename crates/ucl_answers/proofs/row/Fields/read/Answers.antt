@@ -17,12 +17,14 @@ pub returns-then-is_empty-2-clause-found : goal.returns-then-is_empty-2-clause-f
 returns-then-is_empty-2-clause-found c =
     let behind = c.without_ends-text.ensures.behind in
     let after = rw (rest-of c.fill-at.result c.without_ends-text.result.now) at c.without_ends.ensures.behind in
-    found-one c.args.text.now c.without_ends-text.result.now _ _ _ c.fill-at.ensures.record.0 behind (full-list c.is_empty.result _ c.is_empty.ensures c.if-is_empty.false) c.fill-at.ensures.record.1 after
+    found-one c.args.text.now c.without_ends-text.result.now _ _ _ c.fill-at.ensures.record.0 behind
+    (full-list c.is_empty.result _ c.is_empty.ensures c.if-is_empty.false) c.fill-at.ensures.record.1 after
     (empty-list c.is_empty-2.result _ c.is_empty-2.ensures c.if-is_empty-2.true)
 
 pub returns-else-is_empty-2-clause-found : goal.returns-else-is_empty-2-clause-found
 returns-else-is_empty-2-clause-found c =
     let behind = c.without_ends-text.ensures.behind in
     let after = rw (rest-of c.fill-at.result c.without_ends-text.result.now) at c.without_ends.ensures.behind in
-    found-more c.args.text.now c.without_ends-text.result.now _ _ _ c.fill-at.ensures.record.0 behind (full-list c.is_empty.result _ c.is_empty.ensures c.if-is_empty.false) c.fill-at.ensures.record.1 after
+    found-more c.args.text.now c.without_ends-text.result.now _ _ _ c.fill-at.ensures.record.0 behind
+    (full-list c.is_empty.result _ c.is_empty.ensures c.if-is_empty.false) c.fill-at.ensures.record.1 after
     (full-list c.is_empty-2.result _ c.is_empty-2.ensures c.if-is_empty-2.false)

@@ -22,5 +22,6 @@ owned_keyless owned k (block_ptr b o) = k (block_ptr b o)
 
 pub send : IsSend the_row
 send = let ps : IsSend RawPtr = search sendable in
-    owning_send the_type (ps, tt) (λ d. owned_keyless (λ p. box_owns freed inner.the_row p d.value) (λ p. (lies inner.the_row the_send p d.value, frees.frees heap (raw (lone inner.the_row.mir)) p)) d.at)
+    owning_send the_type (ps, tt) (λ d. owned_keyless (λ p. box_owns freed inner.the_row p d.value)
+    (λ p. (lies inner.the_row the_send p d.value, frees.frees heap (raw (lone inner.the_row.mir)) p)) d.at)
     (λ k. quiet (to the_type) (exits_of k (fields the_type)) ((struct_send (shape the_type) (ps, tt)).leaving k))

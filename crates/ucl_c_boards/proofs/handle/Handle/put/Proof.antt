@@ -66,7 +66,8 @@ put_spec 𝓤 𝓛 𝓜 𝓡 wired =
     -- [what the parts owned; self; the token]
     in_a_block ! d.ptr (λ p. box_owns freed inner.the_row p d.value) (fst∗ 𝓤 (never 𝓤) (sem 𝓛 (freed (bare (lone inner.the_row.mir)) null_ptr))) (λ b' o' e.
     rewrite ! 0 (λ (p : Ptr). ‵ (owned_at (λ q. box_owns freed inner.the_row q d.value) p)) (sym e) refl $
-    enter ! _ _ _ _ _ $ alloc_all ! (λ l. pass_all ! refl ((tt, tt), ((((parts_laws.the_row_laws inner.the_row heap.the_row ghosts inner_laws.the_row_laws heap_laws.the_row_laws).lawful 𝓛).typed d _ are.1.0).0, tt)) $
+    enter ! _ _ _ _ _ $ alloc_all ! (λ l. pass_all ! refl
+    ((tt, tt), ((((parts_laws.the_row_laws inner.the_row heap.the_row ghosts inner_laws.the_row_laws heap_laws.the_row_laws).lawful 𝓛).typed d _ are.1.0).0, tt)) $
     sets ! (of_opd ! (get_in ! (fld ! refl (stop !)) (sub ! 0 refl (whole !)))) refl good $
     sets ! (of_opd ! (get ! refl)) refl good $
     move ! (1 ∷ []) $ fsplit3 ! $ move ! (1 ∷ 2 ∷ 4 ∷ []) $ opens ! tt R b o (λ us.

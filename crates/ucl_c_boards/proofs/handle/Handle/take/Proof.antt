@@ -72,7 +72,8 @@ take_spec 𝓤 𝓛 𝓜 𝓡 wired =
     returns ! (look_at ! 0 refl) $ free_all ! refl $
     let d : (parts.the_row inner.the_row heap.the_row ghosts).Denot = record { ptr = block_ptr b' o'; alloc = g; value = h.value } in let pv = vstruct (vcons (vptr b' o') (vcons gv vnil)) in
     move ! (3 ∷ []) $ nothing ! $ move ! (6 ∷ 0 ∷ []) $ fjoin ! $ feq_i ! (List Val) (vptr b' o' ∷ []) (vptr b' o' ∷ []) refl $ fjoin ! $
-    feq_i ! (List Val) (pv ∷ []) (pv ∷ []) refl $ fjoin ! $ fpack ! (Valss (RawPtr ∷ heap.the_row ∷ [])) (within (shape (parts.the_type inner.the_row heap.the_row ghosts)) (block_ptr b' o', (g, tt)) (pv ∷ [])) (vptr b' o' ∷ [], (gv ∷ [], tt)) $ fjoin ! $
+    feq_i ! (List Val) (pv ∷ []) (pv ∷ []) refl $ fjoin ! $
+    fpack ! (Valss (RawPtr ∷ heap.the_row ∷ [])) (within (shape (parts.the_type inner.the_row heap.the_row ghosts)) (block_ptr b' o', (g, tt)) (pv ∷ [])) (vptr b' o' ∷ [], (gv ∷ [], tt)) $ fjoin ! $
     move ! (4 ∷ 1 ∷ 2 ∷ []) $
     suffices ! _ (ends_at 𝓛 f.ended stayed c y pv d (h', (tt, tt)) (tt, (tt, tt))) $ says ! (sym (ap (λ (p : Ptr). pass_at p h.value.pass) e), refl, refl) $
     group ! 3 $ nothing ! $ nothing ! $ join ! $ move ! (1 ∷ 0 ∷ []) $ join ! $ nothing ! $ move ! (3 ∷ 0 ∷ []) $ join ! $ frame ! $ frame ! $ done !))))))

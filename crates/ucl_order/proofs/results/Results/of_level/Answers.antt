@@ -10,7 +10,18 @@ use Rattle.ucl_order.proofs.results.Results.of_level.Goals.{then-is_level, else-
 pub loop-game-init : goal.loop-game-init
 loop-game-init c = record {
   are = nothing_done _ (sym (results_none 1));
-  within = nothing_within _ (record { played = omega arith; wins = omega arith; draws = omega arith; losses = omega arith; goals_for = omega arith; goals_against = omega arith; away_goals = omega arith; away_wins = omega arith; discipline = omega arith });
+  within =
+      nothing_within _ (record {
+        played = omega arith;
+        wins = omega arith;
+        draws = omega arith;
+        losses = omega arith;
+        goals_for = omega arith;
+        goals_against = omega arith;
+        away_goals = omega arith;
+        away_wins = omega arith;
+        discipline = omega arith;
+      });
 }
 
 pub add_match-requires-clause-few : goal.add_match-requires-clause-few
@@ -26,6 +37,8 @@ loop-game-preserved c = elim c.if-is_level.branch [
   | else-is_level b ↦ record {
     are = b.results-is ∙ c.loop-game.invariant.are
         ∙ ap results_of_clubs (sym (level_same c.args.keys.now c.args.matches.now c.loop-game.game-index _ c.loop-game-test.true (sym c.is_level.ensures ∙ b.if-is_level.false)));
-    within = subst (All (IsWithin (c.loop-game.game-index + 1))) (sym b.results-is) (λ k d h. within_later c.loop-game.game-index (c.loop-game.game-index + 1) _ (omega arith) (c.loop-game.invariant.within k d h));
+    within =
+        subst (All (IsWithin (c.loop-game.game-index + 1))) (sym b.results-is)
+        (λ k d h. within_later c.loop-game.game-index (c.loop-game.game-index + 1) _ (omega arith) (c.loop-game.invariant.within k d h));
   }
 ]

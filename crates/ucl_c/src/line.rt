@@ -1,6 +1,6 @@
 //! Twelve words as the line of a screen in JSON.
 
-ghost use Rattle.std.specs.Prelude.{◌≡◌, ◌≢◌, ◌⊎◌, length, None, Some, IfOk, IfErr, string_bytes};
+ghost use Rattle.std.specs.Prelude.{◌≡◌, ◌≢◌, ◌≤◌, ◌⊎◌, length, None, Some, IfOk, IfErr, string_bytes};
 ghost use Rattle.ucl_c.specs.declared.fault.Fault.TheVariants.{OutOfMemory};
 ghost use Rattle.ucl_c.specs.Faults.{fault_of_inputs, fault_of_shown, place_with, status_with};
 ghost use Rattle.ucl_c.specs.Tables.{IsWritten, clubs_handed, json_shown};
@@ -24,6 +24,7 @@ fn json_of(
         string_bytes text ≡ json_shown row profile group words.now (clubs_handed clubs.now)) }
     ensures sound { IfOk result (λ _.
         fault_of_inputs profile group words.now (clubs_handed clubs.now) ≡ None) }
+    ensures short { IfOk result (λ text. length (string_bytes text) ≤ 1423) }
     ensures refused { IfErr result (λ fault. fault ≢ OutOfMemory →
         fault_of_inputs profile group words.now (clubs_handed clubs.now) ≡ Some fault) }
 {
@@ -63,6 +64,7 @@ pub extern "C" fn uclboard_screen_json(
         out.old out.new }
     ensures measured { (result ≡ 0) ⊎ (result ≡ 56) →
         long.new ≡ length (json_shown row profile group words.now (clubs_handed clubs.now)) }
+    ensures room { 1424 ≤ length out.old → result ≢ 56 }
     ensures unchanged { result ≢ 0 → out.new ≡ out.old }
     ensures unmeasured { result ≢ 0 → result ≢ 56 → long.new ≡ long.old }
     ensures no_place { result ≡ 23 → at.new ≡ at.old }

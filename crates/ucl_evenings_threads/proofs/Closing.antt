@@ -1,0 +1,96 @@
+-- How a screen is closed.
+use Rattle.std.proofs.Common.{◌≡◌, ℕ, ◌+◌, ◌≤◌, List, [], ◌∷◌, length, Bool, Option, sym, ap, subst, true≢false}
+use Rattle.std.specs.Prelude.{⊤, Result, Ok, Err, is_ok}
+use mathlib.Core.List.{IsPrefix}
+use Rattle.ucl_board.specs.declared.entry.Entry.{Entry}
+use Rattle.ucl_board.proofs.Beginnings.{begins_same}
+use Rattle.ucl_order.specs.Roster.{NamedClub}
+use Rattle.ucl_runs.specs.declared.fault.RunFault.{RunFault}
+use Rattle.ucl_shared.specs.Passes.{PassView}
+use Rattle.ucl_answers.specs.declared.options.Options.{Options}
+use Rattle.ucl_evenings.specs.Showing.{EndsWithLatest, RiseWithin, ScreensEnd, Screening, ShowsFurther, ShowsSince, screens_shown}
+use Rattle.ucl_screen.specs.declared.stream.Sink as sinks
+use Rattle.ucl_shared.specs.declared.live_board.LiveBoard as boards
+use Rattle.ucl_evenings_threads.specs.declared.workers.ScreenEnd.{ScreenEnd}
+use Rattle.ucl_evenings_threads.specs.declared.workers.Looking.{Looking}
+use Rattle.ucl_evenings_threads.specs.declared.workers.Looked.{Looked}
+use Rattle.ucl_evenings_threads.specs.Runs.{LastIsAtLeast, HasLookedOn, HasShownAbove, SinkServed}
+use Rattle.ucl_evenings_threads.proofs.Ended.{above_less, above_note, failed_end, screens_end, served_same, served_then, shown_on}
+
+-- what a screen has shown, of the history that its pass has seen
+pub record Shown (options : Options) (clubs : List NamedClub) (before history : List Entry) (least : ℕ) (failed : Bool) (old new : Option (List ℕ)) (r : Result ⊤ RunFault) : Type 0 where
+  pub versions : List ℕ
+  pub rise : RiseWithin (length before) (length history + 1) versions
+  pub ends : ScreensEnd failed old new (screens_shown options clubs history 1 versions) (LastIsAtLeast least versions) r
+
+-- it failed before the end
+pub shown_failed : {N : Type 0} (noted : N → List Entry) (options : Options) (clubs : List NamedClub) (k m : PassView) (s : Screening) (told told2 : List N) (failed : Bool)
+    (old new : Option (List ℕ)) (least : ℕ) (r : Result ⊤ RunFault) (f : RunFault) → r ≡ Err f → ShowsSince noted options clubs k m s told told2 failed old new r
+    → Shown options clubs k.seen m.seen least failed old new (Err f)
+shown_failed noted options clubs k m s told told2 failed old new least r f is p = record {
+  versions = p.versions;
+  rise = p.risen.rise;
+  ends = failed_end failed old new (screens_shown options clubs m.seen 1 p.versions) (EndsWithLatest noted told told2 m p.versions) (LastIsAtLeast least p.versions) f
+      (subst (ScreensEnd failed old new (screens_shown options clubs m.seen 1 p.versions) (EndsWithLatest noted told told2 m p.versions)) is p.ends);
+}
+
+-- it was shown what a note tells
+pub shown_further : {N : Type 0} (noted : N → List Entry) (options : Options) (clubs : List NamedClub) (k m z : PassView) (s t : Screening) (told told2 : List N) (news : N) (failed failed2 : Bool)
+    (old mid new : Option (List ℕ)) (least : ℕ) (r r2 : Result ⊤ RunFault) → r ≡ Ok tt → length (noted news) ≡ least → ShowsSince noted options clubs k m s told told2 failed old mid r
+    → ShowsFurther noted options clubs m z s t [] (news ∷ []) failed2 mid new r2 → Shown options clubs k.seen z.seen least failed2 old new r2
+shown_further noted options clubs k m z s t told told2 news failed failed2 old mid new least (Ok done) r2 is long p f =
+    let q = f k old p.versions p.stands in record {
+      versions = q.versions;
+      rise = q.risen.rise;
+      ends = screens_end failed2 old new (screens_shown options clubs z.seen 1 q.versions) (EndsWithLatest noted [] (news ∷ []) z q.versions) (LastIsAtLeast least q.versions) r2
+          (above_note noted z news q.versions least long) q.ends;
+    }
+shown_further noted options clubs k m z s t told told2 news failed failed2 old mid new least (Err e) r2 is long p f = absurd (true≢false (sym (ap is_ok is)))
+
+module _ {B R P N V : Type 0} (live : boards.Ghosts B R P N) (board : B) (sink : sinks.Ghosts V) (clubs : List NamedClub) where
+  -- what was shown, with the options that were lent
+  lent : (history : List Entry) (least : ℕ) (looking : Looking R V) (options : Options) (pass : R) (kept : V) (r : Result ⊤ RunFault) → options ≡ looking.screen.options
+      → live.is_reader board pass → IsPrefix (live.reader pass).seen history → SinkServed sink looking.screen.sink kept r
+      → Shown options clubs (live.reader looking.pass).seen history least (sink.failed kept) (sink.taken looking.screen.sink) (sink.taken kept) r
+      → HasShownAbove live board sink clubs history least looking (record { pass = pass; sink = kept; result = r })
+  lent history least looking options pass kept r same own seen served p =
+      let q = subst (λ (o : Options). Shown o clubs (live.reader looking.pass).seen history least (sink.failed kept) (sink.taken looking.screen.sink) (sink.taken kept) r) same p in
+      record { own = own; seen = seen; versions = q.versions; rise = q.rise; ends = q.ends; served = served }
+
+  pub closed_failed : (looking : Looking R V) (looked : Looked R V) (least : ℕ) (f : RunFault) → looked.result ≡ Err f → HasLookedOn live board sink clubs looking looked
+      → HasShownAbove live board sink clubs (live.reader looked.pass).seen least looking (record { pass = looked.pass; sink = looked.screen.sink; result = Err f })
+  closed_failed looking looked least f is h =
+      lent (live.reader looked.pass).seen least looking looked.screen.options looked.pass looked.screen.sink (Err f) h.options h.own (begins_same (live.reader looked.pass).seen)
+      (served_same sink looking.screen.sink looked.screen.sink looked.result (Err f) is h.served)
+      (shown_failed live.noted looked.screen.options clubs (live.reader looking.pass) (live.reader looked.pass) looked.screens [] [] (sink.failed looked.screen.sink)
+      (sink.taken looking.screen.sink) (sink.taken looked.screen.sink) least looked.result f is h.shows)
+
+  pub closed_further : (looking : Looking R V) (looked : Looked R V) (theirs : R) (kept : V) (t : Screening) (news : N) (least : ℕ) (r : Result ⊤ RunFault) → looked.result ≡ Ok tt
+      → length (live.noted news) ≡ least → live.is_reader board theirs → SinkServed sink looked.screen.sink kept r → HasLookedOn live board sink clubs looking looked
+      → ShowsFurther live.noted looked.screen.options clubs (live.reader looked.pass) (live.reader theirs) looked.screens t [] (news ∷ [])
+      (sink.failed kept) (sink.taken looked.screen.sink) (sink.taken kept) r
+      → HasShownAbove live board sink clubs (live.reader theirs).seen least looking (record { pass = theirs; sink = kept; result = r })
+  closed_further looking looked theirs kept t news least r is long own served h f =
+      lent (live.reader theirs).seen least looking looked.screen.options theirs kept r h.options own (begins_same (live.reader theirs).seen)
+      (served_then sink looking.screen.sink looked.screen.sink kept r (served_same sink looking.screen.sink looked.screen.sink looked.result (Ok tt) is h.served) served)
+      (shown_further live.noted looked.screen.options clubs (live.reader looking.pass) (live.reader looked.pass) (live.reader theirs) looked.screens t [] [] news
+      (sink.failed looked.screen.sink) (sink.failed kept) (sink.taken looking.screen.sink) (sink.taken looked.screen.sink) (sink.taken kept) least looked.result r is long h.shows f)
+
+  -- its pass has told what it has seen
+  pub closed_told : (history : List Entry) (least : ℕ) (looking : Looking R V) (end : ScreenEnd R V) (pass : R) → live.is_reader board pass → live.reader pass ≡ live.reader end.pass
+      → HasShownAbove live board sink clubs history least looking end
+      → HasShownAbove live board sink clubs history least looking (record { pass = pass; sink = end.sink; result = end.result })
+  closed_told history least looking end pass own same p = record {
+    own = own;
+    seen = subst (λ (k : PassView). IsPrefix k.seen history) (sym same) p.seen;
+    versions = p.versions;
+    rise = p.rise;
+    ends = p.ends;
+    served = p.served;
+  }
+
+  -- of a history that goes on, and no less than a lower bound
+  pub closed_on : (s h : List Entry) (least less : ℕ) (looking : Looking R V) (end : ScreenEnd R V) → IsPrefix s h → less ≤ least
+      → HasShownAbove live board sink clubs s least looking end → HasShownAbove live board sink clubs h less looking end
+  closed_on s h least less looking end on le p =
+      shown_on live board sink clubs (live.reader looking.pass).seen s h (LastIsAtLeast least) (LastIsAtLeast less) looking.screen end on (λ versions e. above_less least less versions le e) p

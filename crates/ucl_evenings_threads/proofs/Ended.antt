@@ -1,0 +1,166 @@
+-- What reporters and screens hand back.
+use Rattle.std.proofs.Common.{◌≡◌, inl, inr, ℕ, ◌+◌, ◌<◌, ◌≤◌, Bool, List, [], ◌∷◌, ◌++◌, length, take, Option, refl, sym, ap, ◌∙◌, subst, arith}
+use Rattle.std.specs.Prelude.{⊤, All, Result, Ok, Err, OnOk, IfErr}
+use Rattle.std.proofs.lemmas.List.{length-take}
+use Rattle.std.proofs.lemmas.List.Elements.{All-head, All-push}
+use mathlib.Core.List.{IsPrefix}
+use Rattle.ucl_board.specs.declared.entry.Entry.{Entry}
+use Rattle.ucl_board.proofs.Beginnings.{begins_length, begins_through}
+use Rattle.ucl_order.specs.Roster.{NamedClub}
+use Rattle.ucl_shared.specs.Passes.{PassView, IsSound, ReportsMore}
+use Rattle.ucl_runs.specs.declared.fault.RunFault.{RunFault}
+use Rattle.ucl_runs.specs.declared.fault.RunFault.TheVariants.{Input, OutOfMemory, WriteFailed, NotOnDuty, NoThread, TooManyReporters, Strangers}
+use Rattle.ucl_answers.specs.declared.options.Options.{Options}
+use Rattle.ucl_answers.specs.Output.{SinkFails}
+use Rattle.ucl_answers.specs.Stepping.{Device}
+use Rattle.ucl_evenings.specs.declared.went.Went.{Went}
+use Rattle.ucl_evenings.specs.Answering.{calls_typed}
+use Rattle.ucl_evenings.specs.Reporting.{HasReportedRows}
+use Rattle.ucl_evenings.specs.Rows.{TookRows}
+use Rattle.ucl_evenings.specs.Showing.{EndsWithLatest, RiseWithin, ScreensEnd, Screening, ShowsSince, SoFar, AreFew, GoesOnOrStays, screens_shown}
+use Rattle.ucl_evenings.proofs.ShownScreens.{goes_next, rise_count, rise_lower, rise_upper, screens_on}
+use Rattle.ucl_screen.specs.declared.stream.Sink as sinks
+use Rattle.ucl_shared.specs.declared.live_board.LiveBoard as boards
+use Rattle.ucl_evenings_threads.specs.declared.workers.Screen.{Screen}
+use Rattle.ucl_evenings_threads.specs.declared.workers.ScreenEnd.{ScreenEnd}
+use Rattle.ucl_evenings_threads.specs.Runs.{LastIsAtLeast, LastIs, HasShownOf, SinkServed}
+use Rattle.ucl_evenings_threads.specs.Whole.{IsSeenIn}
+use Rattle.ucl_evenings_threads.proofs.Counting.{seen_on}
+
+-- a reporter's run, after its pass has told what it has seen
+pub took_later : (k m m2 : PassView) (a b c : ℕ → Type 0) (old new : Device) (r : Result ⊤ RunFault) (P Q : List Went → Type 0) → ((went : List Went) → P went → Q went)
+    → TookRows k m a b old new r P → m2 ≡ m → ReportsMore b 0 c → TookRows k m2 a c old new r Q
+took_later k m m2 a b c old new r P Q f t same more = record {
+  bytes = t.bytes;
+  lines = t.lines;
+  went = t.went;
+  consumed = t.consumed;
+  reported = record {
+    rows = subst (λ (x : PassView). HasReportedRows k x (calls_typed t.lines) t.went) (sym same) t.reported.rows;
+    reports = λ n h. subst c (omega arith) (more (n + length (calls_typed t.lines)) (t.reported.reports n h));
+  };
+  prompt = f t.went t.prompt;
+  ends = t.ends;
+}
+
+-- ---- a screen
+
+-- how a screen ends, by what is known of the last version
+pub screens_end : (failed : Bool) (old new : Option (List ℕ)) (text : List ℕ) (P Q : Type 0) (r : Result ⊤ RunFault) → (P → Q) → ScreensEnd failed old new text P r → ScreensEnd failed old new text Q r
+screens_end failed old new text P Q (Ok done) f e = (e.0, f e.1)
+screens_end failed old new text P Q (Err OutOfMemory) f e = e
+screens_end failed old new text P Q (Err (WriteFailed count)) f e = e
+screens_end failed old new text P Q (Err (Input fault)) f e = absurd e
+screens_end failed old new text P Q (Err (NotOnDuty row)) f e = absurd e
+screens_end failed old new text P Q (Err NoThread) f e = absurd e
+screens_end failed old new text P Q (Err TooManyReporters) f e = absurd e
+screens_end failed old new text P Q (Err (Strangers version)) f e = absurd e
+
+-- where it failed, nothing has to be known
+pub failed_end : (failed : Bool) (old new : Option (List ℕ)) (text : List ℕ) (P Q : Type 0) (f : RunFault) → ScreensEnd failed old new text P (Err f) → ScreensEnd failed old new text Q (Err f)
+failed_end failed old new text P Q OutOfMemory e = e
+failed_end failed old new text P Q (WriteFailed count) e = e
+failed_end failed old new text P Q (Input fault) e = absurd e
+failed_end failed old new text P Q (NotOnDuty row) e = absurd e
+failed_end failed old new text P Q NoThread e = absurd e
+failed_end failed old new text P Q TooManyReporters e = absurd e
+failed_end failed old new text P Q (Strangers version) e = absurd e
+
+-- what a screen has shown of a beginning it has shown of the whole
+module _ {B R P N V : Type 0} (live : boards.Ghosts B R P N) (board : B) (sink : sinks.Ghosts V) (clubs : List NamedClub) where
+  pub shown_on : (before s h : List Entry) (Ends More : List ℕ → Type 0) (screen : Screen V) (end : ScreenEnd R V) → IsPrefix s h → ((versions : List ℕ) → Ends versions → More versions)
+      → HasShownOf live board sink clubs before s Ends screen end → HasShownOf live board sink clubs before h More screen end
+  shown_on before s h Ends More screen end on f p =
+      let le = begins_length s h on in record {
+        own = p.own;
+        seen = begins_through (live.reader end.pass).seen s h p.seen on;
+        versions = p.versions;
+        rise = rise_upper (length before) (length s + 1) (length h + 1) p.versions p.rise (omega arith);
+        ends = subst (λ (text : List ℕ). ScreensEnd (sink.failed end.sink) (sink.taken screen.sink) (sink.taken end.sink) text (More p.versions) end.result)
+            (sym (screens_on screen.options clubs s h 1 (length before) (length s + 1) p.versions on p.rise (omega arith)))
+            (screens_end (sink.failed end.sink) (sink.taken screen.sink) (sink.taken end.sink) (screens_shown screen.options clubs s 1 p.versions) (Ends p.versions) (More p.versions)
+            end.result (f p.versions) p.ends);
+        served = p.served;
+      }
+
+-- what was shown since more had been seen was shown since less had been
+pub shown_since : {B R P N V : Type 0} (live : boards.Ghosts B R P N) (board : B) (sink : sinks.Ghosts V) (clubs : List NamedClub) (first before h : List Entry) (Ends : List ℕ → Type 0)
+    (screen : Screen V) (end : ScreenEnd R V) → IsPrefix first before → HasShownOf live board sink clubs before h Ends screen end → HasShownOf live board sink clubs first h Ends screen end
+shown_since live board sink clubs first before h Ends screen end on p =
+    let le = begins_length first before on in record {
+      own = p.own;
+      seen = p.seen;
+      versions = p.versions;
+      rise = rise_lower (length first) (length before) (length h + 1) p.versions p.rise (omega arith);
+      ends = p.ends;
+      served = p.served;
+    }
+
+-- the last version has what a note tells
+pub above_note : {N : Type 0} (noted : N → List Entry) (m : PassView) (news : N) (versions : List ℕ) (least : ℕ) → length (noted news) ≡ least → EndsWithLatest noted [] (news ∷ []) m versions
+    → LastIsAtLeast least versions
+above_note {N} noted m news versions least is e =
+    let Has : N → Type 0 = λ note. IsPrefix (noted note) (take e.version m.seen) in
+    let told = All-head Has news [] (subst (All Has) (sym e.has_all.more) e.has_all.each) in
+    let le = begins_length (noted news) (take e.version m.seen) told in
+    let most = length-take e.version m.seen in
+    record { version = e.version; before = e.shown_before; last = e.shown_last; least_is = omega arith }
+
+pub above_less : (least less : ℕ) (versions : List ℕ) → less ≤ least → LastIsAtLeast least versions → LastIsAtLeast less versions
+above_less least less versions le e = let at = e.least_is in record { version = e.version; before = e.before; last = e.last; least_is = omega arith }
+
+rise_last : (low high version : ℕ) (before : List ℕ) → RiseWithin low high (before ++ version ∷ []) → version < high
+unfolding RiseWithin
+rise_last low high version [] r = let at = r.1 in omega arith
+rise_last low high version (v ∷ before) r = rise_last (v + 1) high version before r.1
+
+pub ends_at : (low n : ℕ) (versions : List ℕ) → RiseWithin low (n + 1) versions → LastIsAtLeast n versions → LastIs n versions
+ends_at low n versions rise e =
+    let below = rise_last low (n + 1) e.version e.before (subst (RiseWithin low (n + 1)) e.last rise) in
+    let least = e.least_is in
+    let same : e.version ≡ n = omega arith in
+    record { before = e.before; last = e.last ∙ ap (λ (v : ℕ). e.before ++ v ∷ []) same }
+
+pub stands_few : (options : Options) (clubs : List NamedClub) (k m : PassView) (s : Screening) (old new : Option (List ℕ)) (versions : List ℕ) → SoFar options clubs k m s old new versions → AreFew s
+stands_few options clubs k m s old new versions p =
+    let n = rise_count (length k.seen) p.high versions p.rise in
+    let c = p.count in
+    let few = p.few in (elim p.high_is [ inl e ↦ omega arith | inr e ↦ omega arith ], omega arith)
+
+-- a screen whose thread ended well
+pub looked_few : {N : Type 0} (noted : N → List Entry) (options : Options) (clubs : List NamedClub) (k m : PassView) (s : Screening) (told told2 : List N) (failed : Bool) (old new : Option (List ℕ))
+    (r : Result ⊤ RunFault) → ShowsSince noted options clubs k m s told told2 failed old new r → OnOk r (AreFew s)
+looked_few noted options clubs k m s told told2 failed old new (Ok done) p = stands_few options clubs k m s old new p.versions p.stands
+looked_few noted options clubs k m s told told2 failed old new (Err f) p = tt
+
+-- ---- a sink
+
+module _ {W : Type 0} (sink : sinks.Ghosts W) where
+  pub served_same : (old new : W) (r r2 : Result ⊤ RunFault) → r ≡ r2 → SinkServed sink old new r → SinkServed sink old new r2
+  served_same old new r r2 same h = subst (SinkServed sink old new) same h
+
+  -- what take_rows and what a screen promise of theirs
+  pub served_by : (old new : W) (r : Result ⊤ RunFault) → OnOk r (sink.failed new ≡ sink.failed old) → OnOk r (sink.in_vain new ≡ sink.in_vain old)
+      → IfErr r (SinkFails (sink.in_vain old) (sink.in_vain new) (sink.failed old) (sink.failed new)) → SinkServed sink old new r
+  served_by old new (Ok done) sound vain fails = (vain, sound)
+  served_by old new (Err fault) sound vain fails = fails
+
+  -- after a run that ended well
+  pub served_then : (old mid new : W) (r : Result ⊤ RunFault) → SinkServed sink old mid (Ok tt) → SinkServed sink mid new r → SinkServed sink old new r
+  served_then old mid new (Ok done) a b = (b.0 ∙ a.0, b.1 ∙ a.1)
+  served_then old mid new (Err fault) a b =
+      subst (λ (n : ℕ). SinkFails n (sink.in_vain new) (sink.failed old) (sink.failed new) fault) a.0
+      (subst (λ (f : Bool). SinkFails (sink.in_vain mid) (sink.in_vain new) f (sink.failed new) fault) a.1 b)
+
+-- ---- passes that were heard
+
+pub goes_then : (k m z : PassView) → GoesOnOrStays k m → GoesOnOrStays m z → GoesOnOrStays k z
+goes_then k m z a (inl b) = inl (goes_next k m z a b)
+goes_then k m z a (inr e) = subst (GoesOnOrStays k) (sym e) a
+
+-- one pass more was heard
+pub heard_more : (s h : List Entry) (views : List PassView) (k : PassView) → IsPrefix s h → All (IsSeenIn s) views → IsSound k → IsPrefix k.seen h → All (IsSeenIn h) (views ++ k ∷ [])
+heard_more s h views k on all sound seen = All-push (IsSeenIn h) views k (seen_on s h views on all) (sound, seen)
+
+pub took_plain : (k m : PassView) (a b : ℕ → Type 0) (old new : Device) (r : Result ⊤ RunFault) (P : List Went → Type 0) → TookRows k m a b old new r P → TookRows k m a b old new r (λ went. ⊤)
+took_plain k m a b old new r P t = took_later k m m a b b old new r P (λ went. ⊤) (λ went h. tt) t refl (λ n h. subst b (omega arith) h)

@@ -1,0 +1,6 @@
+pub mod Counting
+pub mod Zips
+pub mod Ended
+pub mod Closing
+pub mod Holding
+pub mod Running

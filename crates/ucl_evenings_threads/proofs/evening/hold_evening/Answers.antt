@@ -1,0 +1,48 @@
+use Rattle.std.proofs.Common.{List, arith, subst, sym, ◌∙◌}
+use mathlib.Core.List.{IsPrefix}
+use Rattle.ucl_board.specs.declared.entry.Entry.{Entry}
+use Rattle.ucl_board.proofs.Beginnings.{begins_through}
+use Rattle.ucl_evenings.proofs.ShownScreens.{stays_prefix}
+use Rattle.ucl_evenings_threads.specs.Runs.{IsLooking, IsReadyToLook, IsReadyToRun, WasEnlisted}
+use Rattle.ucl_evenings_threads.proofs.Holding.{begins_whole, reported_at_end, shown_at_end, theirs_at_end, whole, whole_long}
+use Rattle.ucl_evenings_threads.proofs.Zips.{zip_right}
+use Rattle.ucl_evenings_threads.proofs.evening.hold_evening.Goals as goal
+
+pub run_threads-requires-clause-lent : goal.run_threads-requires-clause-lent
+run_threads-requires-clause-lent g c κs within = record {
+  own = c.enlist_all.ensures.own;
+  looking = zip_right (IsLooking g.B.LiveBoard c.args.board.now _) (IsReadyToLook g.B.LiveBoard c.args.board.now) (λ screen looking l. l.own) _ _ c.in_ok-screens.ensures.looking;
+  ready = zip_right (WasEnlisted g.B.LiveBoard c.args.board.now _) (IsReadyToRun g.B.LiveBoard c.args.board.now) (λ reporter enlisted l. l.ready) _ _ c.in_ok-all.ensures.enlisted;
+  tallied = rw (c.enlist_all.ensures.seen, c.look_all.ensures.seen) (record { views = _; tallied = c.in_ok-entered.ensures.tallied; heard = c.in_ok-entered.ensures.heard });
+}
+
+pub returns-clause-held : goal.returns-clause-held
+returns-clause-held g c =
+    let live = g.B.LiveBoard in
+    let board = c.args.board.now in
+    let known = g.B.LiveBoard.reader in
+    let first : List Entry = (known c.args.pass).seen in
+    let heard : List Entry = (known c.hear_all.new.pass).seen in
+    let looked : List Entry = (known c.look_all.new.pass).seen in
+    let p = known c.in_ok-pass.pass in
+    let z = known c.read-last.new.pass in
+    let last = c.read-last.result in
+    let read = c.read-last.ensures in
+    let ran = c.in_ok-pass.ensures.ran in
+    let early : IsPrefix first heard = stays_prefix _ _ c.hear_all.ensures.always in
+    let split : IsPrefix first looked = subst (IsPrefix first) (sym c.look_all.ensures.seen) early in
+    let before : IsPrefix heard p.seen = subst (λ (s : List Entry). IsPrefix s p.seen) (c.enlist_all.ensures.seen ∙ c.look_all.ensures.seen) (stays_prefix _ _ c.in_ok-pass.ensures.always) in
+    let on = begins_whole p z last read.always read.reading in
+    record {
+      own = read.own;
+      sound = read.always.sound;
+      high = read.reading.high;
+      last = read.reading.snapshot;
+      since = begins_through first p.seen (whole p z last read.always read.reading) (begins_through first heard p.seen early before) on;
+      kept = c.in_ok-entered.ensures.kept;
+      theirs = theirs_at_end p z last read.always read.reading heard _ _ _ before c.in_ok-entered.ensures.heard ran.heard (ran.tallied _ c.in_ok-entered.ensures.tallied)
+          (let same = c.if-from-ran.false in let from = c.from.ensures in omega arith);
+      reported = reported_at_end live board g.S.Source g.W.Sink first looked p.seen (whole p z last read.always read.reading) _ _ _ split on c.in_ok-all.ensures.enlisted ran.run ran.heard;
+      shown = shown_at_end live board g.V.Sink c.args.roster.now first heard p.seen (whole p z last read.always read.reading) last.version _ _ _ _ early on
+          (whole_long p z last read.always read.reading) (let same = c.if-from-ran.false in let from = c.from.ensures in omega arith) c.in_ok-screens.ensures.looking ran.shown;
+    }

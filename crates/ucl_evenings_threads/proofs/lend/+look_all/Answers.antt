@@ -1,0 +1,21 @@
+use Rattle.std.proofs.Common.{refl, subst, sym, ap, ◌∙◌}
+use mathlib.Core.List.{IsPrefix}
+use Rattle.ucl_board.proofs.Beginnings.{begins_same}
+use Rattle.ucl_shared.specs.Passes.{PassView}
+use Rattle.ucl_evenings_threads.specs.Runs.{IsLooking}
+use Rattle.ucl_evenings_threads.proofs.Zips.{zip_none, zip_push}
+use Rattle.ucl_evenings_threads.proofs.lend.+look_all.Goals as goal
+
+pub returns-in_default-clause-looking : goal.returns-in_default-clause-looking
+returns-in_default-clause-looking g t c = zip_none (IsLooking g.B.LiveBoard c.args.board.now (g.B.LiveBoard.reader c.args.pass.now).seen) _ _ c.in_default.ensures.none c.new.ensures.items
+
+pub returns-clause-looking : goal.returns-clause-looking
+returns-clause-looking g t c =
+    rw (c.in-Some.ensures.some, c.in_ok-put.ensures.items)
+    (zip_push (IsLooking g.B.LiveBoard c.args.board.now (g.B.LiveBoard.reader c.args.pass.now).seen) _ _ _ _ c.in_ok-all.ensures.looking
+    (record {
+      same = refl;
+      own = c.split-second.ensures.own.1;
+      since = subst (IsPrefix (g.B.LiveBoard.reader c.args.pass.now).seen) (sym (ap (λ (k : PassView). k.seen) c.split-second.ensures.given ∙ c.look_all.ensures.seen))
+          (begins_same (g.B.LiveBoard.reader c.args.pass.now).seen);
+    }))

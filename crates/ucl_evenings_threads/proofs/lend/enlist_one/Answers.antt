@@ -1,0 +1,13 @@
+use Rattle.ucl_evenings_threads.proofs.lend.enlist_one.Goals as goal
+
+pub returns-clause-ready : goal.returns-clause-ready
+returns-clause-ready g c = record {
+  own = c.in_ok-enlist.ensures.own;
+  sound = c.in_ok-enlist.ensures.enlisted.sound;
+  nothing = c.in_ok-enlist.ensures.enlisted.mine;
+  reported = c.in_ok-enlist.ensures.reported;
+}
+
+pub returns-clause-since : goal.returns-clause-since
+returns-clause-since g c =
+    rw c.split-second.ensures.given at c.in_ok-enlist.ensures.enlisted.on.seen

@@ -1,0 +1,15 @@
+use Rattle.ucl_evenings_threads.proofs.Ended.{served_by, took_plain}
+use Rattle.ucl_evenings_threads.proofs.reporters.report.Goals as goal
+
+pub returns : goal.returns
+returns g c =
+    let t = rw (c.new-wire.ensures.source, c.new-wire.ensures.sink) at c.take_rows-result.ensures.took in
+    record {
+      own = c.take_rows-result.ensures.own;
+      took = took_plain _ _ _ _ _ _ _ _ t;
+      read_failed = c.take_rows-result.ensures.read_failed;
+      vain = rw c.new-wire.ensures.source at c.take_rows-result.ensures.vain;
+      served = served_by g.W.Sink c.args.enlisted.replies c.take_rows-result.new.wire.sink.sink c.take_rows-result.result
+          (rw c.new-wire.ensures.sink at c.take_rows-result.ensures.sink_sound) (rw c.new-wire.ensures.sink at c.take_rows-result.ensures.sink_vain)
+          (rw c.new-wire.ensures.sink at c.take_rows-result.ensures.sink_fails);
+    }

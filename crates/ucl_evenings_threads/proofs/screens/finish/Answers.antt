@@ -1,0 +1,16 @@
+use Rattle.std.proofs.Common.{ap, length}
+use Rattle.ucl_board.specs.declared.entry.Entry.{Entry}
+use Rattle.ucl_evenings_threads.proofs.Closing.{closed_failed, closed_further}
+use Rattle.ucl_evenings_threads.proofs.Ended.{served_by}
+use Rattle.ucl_evenings_threads.proofs.screens.finish.Goals as goal
+
+pub returns-in-Err-clause-shown : goal.returns-in-Err-clause-shown
+returns-in-Err-clause-shown g c looking h =
+    closed_failed g.B.LiveBoard c.args.board.now g.V.Sink c.args.roster.now looking c.args.looked _ c.in-Err.fault c.in-Err.is h
+
+pub returns-clause-shown : goal.returns-clause-shown
+returns-clause-shown g c looking h =
+    closed_further g.B.LiveBoard c.args.board.now g.V.Sink c.args.roster.now looking c.args.looked c.show_noted-result.new.pass c.show_noted-result.new.sink c.show_noted-result.new.screens
+    c.note-news.result _ c.show_noted-result.result c.in_default.is (ap (length {A = Entry}) c.note-news.ensures.seen) c.show_noted-result.ensures.own
+    (served_by g.V.Sink c.args.looked.screen.sink c.show_noted-result.new.sink c.show_noted-result.result c.show_noted-result.ensures.sink_sound c.show_noted-result.ensures.sink_vain
+    c.show_noted-result.ensures.sink_fails) h c.show_noted-result.ensures.shows

@@ -1,0 +1,39 @@
+-- What an evening comes to.
+use Rattle.std.specs.Prelude.{◌≡◌, ◌≤◌, List, map, length, ◌++◌, take}
+use Rattle.std.specs.List.{AllZip}
+use mathlib.Core.List.{IsPrefix}
+use Rattle.ucl_board.specs.declared.entry.Entry.{Entry}
+use Rattle.ucl_board.specs.History.{snapshot_at}
+use Rattle.ucl_order.specs.Roster.{NamedClub}
+use Rattle.ucl_screen.specs.declared.stream.Source as sources
+use Rattle.ucl_screen.specs.declared.stream.Sink as sinks
+use Rattle.ucl_shared.specs.declared.live_board.LiveBoard as boards
+use Rattle.ucl_shared.specs.Passes.{PassView, IsSound}
+use Rattle.ucl_evenings_threads.specs.declared.workers.Reporter.{Reporter}
+use Rattle.ucl_evenings_threads.specs.declared.workers.Screen.{Screen}
+use Rattle.ucl_evenings_threads.specs.declared.evening.EveningEnd.{EveningEnd}
+use Rattle.ucl_evenings_threads.specs.Runs.{LastIs, HasAnsweredRows, HasShownOf, IsHandedBack, views_of}
+use Rattle.ucl_evenings_threads.specs.Whole.{IsTheirs}
+
+-- the passes of all who entered events: of those before the evening, and then of its reporters
+abbrev pub all_views : {B R P N S W V : Type 0} → boards.Ghosts B R P N → EveningEnd R P S W V → List PassView
+all_views live end = map live.reporter end.entered.items ++ views_of live end.reporters.items
+
+-- the one history, as the last reading has it
+abbrev pub history_of_end : {B R P N S W V : Type 0} → boards.Ghosts B R P N → EveningEnd R P S W V → List Entry
+history_of_end live end = take end.last.version (live.reader end.pass).seen
+
+-- there is one history, which goes on from what had been seen before: it is that of the accepted events of the reporters and of those who
+-- entered events before, and of no others; each reporter has answered its own rows, each by its place in it, whatever became of the others;
+-- each screen has shown boards of it, and ends with the last where it ended well; and the last reading is of all of it
+pub record HasHeld {B R P N S W V : Type 0} (live : boards.Ghosts B R P N) (board : B) (source : sources.Ghosts S) (replies : sinks.Ghosts W) (sink : sinks.Ghosts V)
+    (clubs : List NamedClub) (before : List Entry) (entered : List P) (reporters : List (Reporter S W)) (screens : List (Screen V)) (end : EveningEnd R P S W V) : Type 0 where
+  pub own : live.is_reader board end.pass
+  pub sound : IsSound (live.reader end.pass)
+  pub high : end.last.version ≤ length (live.reader end.pass).seen
+  pub last : end.last ≡ snapshot_at (live.reader end.pass).seen end.last.version
+  pub since : IsPrefix before (history_of_end live end)
+  pub kept : AllZip (IsHandedBack live board) entered end.entered.items
+  pub theirs : IsTheirs (all_views live end) (history_of_end live end)
+  pub reported : AllZip (HasAnsweredRows live board source replies before (history_of_end live end)) reporters end.reporters.items
+  pub shown : AllZip (HasShownOf live board sink clubs before (history_of_end live end) (LastIs end.last.version)) screens end.screens.items

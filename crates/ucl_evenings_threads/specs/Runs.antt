@@ -1,0 +1,165 @@
+-- What the threads of an evening are lent, and what they hand back, on any live board.
+use Rattle.std.specs.Prelude.{◌≡◌, ⊤, ℕ, ◌+◌, ◌≤◌, List, [], ◌∷◌, ◌++◌, All, length, map, Result, Ok, Err}
+use Rattle.std.specs.List.{AllZip}
+use mathlib.Core.List.{IsPrefix}
+use Rattle.ucl_board.specs.declared.entry.Entry.{Entry}
+use Rattle.ucl_order.specs.Roster.{NamedClub}
+use Rattle.ucl_screen.specs.declared.stream.Source as sources
+use Rattle.ucl_screen.specs.declared.stream.Sink as sinks
+use Rattle.ucl_shared.specs.declared.live_board.LiveBoard as boards
+use Rattle.ucl_shared.specs.Passes.{PassView, IsSound, ReportsMore}
+use Rattle.ucl_runs.specs.declared.fault.RunFault.{RunFault}
+use Rattle.ucl_runs.specs.declared.fault.RunFault.TheVariants.{OutOfMemory, NoThread, TooManyReporters, Strangers}
+use Rattle.ucl_runs.specs.Run.{is_read_failed}
+use Rattle.ucl_answers.specs.Output.{SinkFails}
+use Rattle.ucl_answers.specs.Stepping.{Device}
+use Rattle.ucl_evenings.specs.Answering.{calls_typed}
+use Rattle.ucl_evenings.specs.Reporting.{GoThrough}
+use Rattle.ucl_evenings.specs.Rows.{TookRows}
+use Rattle.ucl_evenings.specs.Showing.{RiseWithin, ScreensEnd, ShowsSince, screens_shown}
+use Rattle.ucl_evenings_threads.specs.declared.workers.Reporter.{Reporter}
+use Rattle.ucl_evenings_threads.specs.declared.workers.ReporterEnd.{ReporterEnd}
+use Rattle.ucl_evenings_threads.specs.declared.workers.Enlisted.{Enlisted}
+use Rattle.ucl_evenings_threads.specs.declared.workers.Screen.{Screen}
+use Rattle.ucl_evenings_threads.specs.declared.workers.ScreenEnd.{ScreenEnd}
+use Rattle.ucl_evenings_threads.specs.declared.workers.Looking.{Looking}
+use Rattle.ucl_evenings_threads.specs.declared.workers.Looked.{Looked}
+use Rattle.ucl_evenings_threads.specs.declared.screens.Ran.{Ran}
+use Rattle.ucl_evenings_threads.specs.declared.tally.Tally.{Tally}
+use Rattle.ucl_evenings_threads.specs.Whole.{AreAllHeard, AreTallied, IsSeenIn}
+
+-- the faults of an evening that is not held: want of memory, no thread, and a board that refuses its reporters
+abbrev pub IsOfThreads : RunFault → Type 0
+IsOfThreads OutOfMemory = ⊤
+IsOfThreads NoThread = ⊤
+IsOfThreads TooManyReporters = ⊤
+IsOfThreads (Strangers version) = ⊤
+IsOfThreads _ = ⊥
+
+-- a source and a sink as one device
+abbrev pub device_of : {S W : Type 0} → sources.Ghosts S → sinks.Ghosts W → S → W → Device
+device_of source sink rows replies = record { left = source.left rows; source_failed = source.failed rows; taken = sink.taken replies; sink_failed = sink.failed replies }
+
+-- a run tells a failed write just where a call of its sink failed, which it does not call again then; and it does not call it with nothing
+abbrev pub SinkServed : {W : Type 0} → sinks.Ghosts W → W → W → Result ⊤ RunFault → Type 0
+SinkServed sink old new (Ok done) = (sink.in_vain new ≡ sink.in_vain old) × (sink.failed new ≡ sink.failed old)
+SinkServed sink old new (Err fault) = SinkFails (sink.in_vain old) (sink.in_vain new) (sink.failed old) (sink.failed new) fault
+
+-- the last of the versions is no lower than this
+pub record LastIsAtLeast (least : ℕ) (versions : List ℕ) : Type 0 where
+  pub version : ℕ
+  pub before : List ℕ
+  pub last : versions ≡ before ++ version ∷ []
+  pub least_is : least ≤ version
+
+-- the last of the versions is this
+pub record LastIs (version : ℕ) (versions : List ℕ) : Type 0 where
+  pub before : List ℕ
+  pub last : versions ≡ before ++ version ∷ []
+
+-- what is known of the passes of reporters
+abbrev pub views_of : {B R P N S W : Type 0} → boards.Ghosts B R P N → List (ReporterEnd P S W) → List PassView
+views_of {B} {R} {P} {N} {S} {W} live ends = map (λ (end : ReporterEnd P S W). live.reporter end.pass) ends
+
+-- a pass that entered events before was handed back: it is of the board, and as it was
+pub record IsHandedBack {B R P N : Type 0} (live : boards.Ghosts B R P N) (board : B) (old new : P) : Type 0 where
+  pub own : live.is_reporter board new
+  pub unchanged : live.reporter new ≡ live.reporter old
+  pub reported : ReportsMore (live.has_reported old) 0 (live.has_reported new)
+
+-- ---- reporters
+
+-- a reporter's pass of the board that has reported nothing yet
+pub record IsReady {B R P N : Type 0} (live : boards.Ghosts B R P N) (board : B) (pass : P) : Type 0 where
+  pub own : live.is_reporter board pass
+  pub sound : IsSound (live.reporter pass)
+  pub nothing : (live.reporter pass).mine ≡ []
+  pub reported : live.has_reported pass 0
+
+abbrev pub reporter_of : {P S W : Type 0} → Enlisted P S W → Reporter S W
+reporter_of enlisted = record { rows = enlisted.rows; replies = enlisted.replies }
+
+abbrev pub IsReadyToRun : {B R P N S W : Type 0} → boards.Ghosts B R P N → B → Enlisted P S W → Type 0
+IsReadyToRun live board enlisted = IsReady live board enlisted.pass
+
+-- a reporter was lent a pass, which has seen all that had been seen before
+pub record WasEnlisted {B R P N S W : Type 0} (live : boards.Ghosts B R P N) (board : B) (before : List Entry) (reporter : Reporter S W) (enlisted : Enlisted P S W) : Type 0 where
+  pub same : reporter_of enlisted ≡ reporter
+  pub ready : IsReady live board enlisted.pass
+  pub since : IsPrefix before (live.reporter enlisted.pass).seen
+
+-- a reporter with this pass has taken rows from its source, and answered them: a failed read is told just where the source failed, which
+-- is not called again after it failed or told the end
+pub record HasTakenRows {B R P N S W : Type 0} (live : boards.Ghosts B R P N) (board : B) (source : sources.Ghosts S) (sink : sinks.Ghosts W) (pass : P) (reporter : Reporter S W)
+    (end : ReporterEnd P S W) : Type 0 where
+  pub own : live.is_reporter board end.pass
+  pub took : TookRows (live.reporter pass) (live.reporter end.pass) (live.has_reported pass) (live.has_reported end.pass)
+      (device_of source sink reporter.rows reporter.replies) (device_of source sink end.rows end.replies) end.result (λ went. ⊤)
+  pub read_failed : source.failed end.rows ≡ is_read_failed end.result
+  pub vain : source.in_vain end.rows ≤ source.in_vain reporter.rows + 1
+  pub served : SinkServed sink reporter.replies end.replies end.result
+
+abbrev pub HasRun : {B R P N S W : Type 0} → boards.Ghosts B R P N → B → sources.Ghosts S → sinks.Ghosts W → Enlisted P S W → ReporterEnd P S W → Type 0
+HasRun live board source sink enlisted end = HasTakenRows live board source sink enlisted.pass (reporter_of enlisted) end
+
+-- the same of a pass that had reported nothing before: its events went so in a history, after what had been seen before
+pub record HasAnsweredRows {B R P N S W : Type 0} (live : boards.Ghosts B R P N) (board : B) (source : sources.Ghosts S) (sink : sinks.Ghosts W) (before history : List Entry)
+    (reporter : Reporter S W) (end : ReporterEnd P S W) : Type 0 where
+  pub pass : P
+  pub ready : IsReady live board pass
+  pub run : HasTakenRows live board source sink pass reporter end
+  pub through : GoThrough (live.reporter end.pass).number history (length before) (length history) (calls_typed run.took.lines) run.took.went
+
+-- ---- screens
+
+-- a screen with a pass of the board
+abbrev pub IsReadyToLook : {B R P N V : Type 0} → boards.Ghosts B R P N → B → Looking R V → Type 0
+IsReadyToLook live board looking = live.is_reader board looking.pass
+
+-- a screen was lent a pass, which has seen all that had been seen before
+pub record IsLooking {B R P N V : Type 0} (live : boards.Ghosts B R P N) (board : B) (before : List Entry) (screen : Screen V) (looking : Looking R V) : Type 0 where
+  pub same : looking.screen ≡ screen
+  pub own : live.is_reader board looking.pass
+  pub since : IsPrefix before (live.reader looking.pass).seen
+
+-- a screen has shown boards, and its thread has ended
+pub record HasLookedOn {B R P N V : Type 0} (live : boards.Ghosts B R P N) (board : B) (sink : sinks.Ghosts V) (clubs : List NamedClub) (looking : Looking R V) (end : Looked R V) : Type 0 where
+  pub own : live.is_reader board end.pass
+  pub options : end.screen.options ≡ looking.screen.options
+  pub shows : ShowsSince live.noted end.screen.options clubs (live.reader looking.pass) (live.reader end.pass) end.screens [] []
+      (sink.failed end.screen.sink) (sink.taken looking.screen.sink) (sink.taken end.screen.sink) end.result
+  pub served : SinkServed sink looking.screen.sink end.screen.sink end.result
+
+-- a screen has shown boards of a history, of versions that rise, none below what had been seen before; they end so, where it ended well
+pub record HasShownOf {B R P N V : Type 0} (live : boards.Ghosts B R P N) (board : B) (sink : sinks.Ghosts V) (clubs : List NamedClub) (before history : List Entry)
+    (Ends : List ℕ → Type 0) (screen : Screen V) (end : ScreenEnd R V) : Type 0 where
+  pub own : live.is_reader board end.pass
+  pub seen : IsPrefix (live.reader end.pass).seen history
+  pub versions : List ℕ
+  pub rise : RiseWithin (length before) (length history + 1) versions
+  pub ends : ScreensEnd (sink.failed end.sink) (sink.taken screen.sink) (sink.taken end.sink) (screens_shown screen.options clubs history 1 versions) (Ends versions) end.result
+  pub served : SinkServed sink screen.sink end.sink end.result
+
+-- a screen with a lent pass has shown boards of a history, and the last of them is no lower than this, where it ended well
+abbrev pub HasShownAbove : {B R P N V : Type 0} → boards.Ghosts B R P N → B → sinks.Ghosts V → List NamedClub → List Entry → ℕ → Looking R V → ScreenEnd R V → Type 0
+HasShownAbove live board sink clubs history least looking end =
+    HasShownOf live board sink clubs (live.reader looking.pass).seen history (LastIsAtLeast least) looking.screen end
+
+-- ---- all of them
+
+-- what the threads begin with: main's pass, and what is lent; main's pass has seen what those have who entered events before
+pub record AreLent {B R P N S W V : Type 0} (live : boards.Ghosts B R P N) (board : B) (pass : R) (screens : List (Looking R V)) (all : List (Enlisted P S W)) (tally : Tally) : Type 0 where
+  pub own : live.is_reader board pass
+  pub looking : All (IsReadyToLook live board) screens
+  pub ready : All (IsReadyToRun live board) all
+  pub tallied : AreAllHeard (live.reader pass).seen tally
+
+-- all threads have run: the reporters are counted after those that were counted before, what they have seen is in a history, and so is what
+-- each screen has shown, up to all that was accepted
+pub record HaveRun {B R P N S W V : Type 0} (live : boards.Ghosts B R P N) (board : B) (source : sources.Ghosts S) (replies : sinks.Ghosts W) (sink : sinks.Ghosts V)
+    (clubs : List NamedClub) (history : List Entry) (tally : Tally) (screens : List (Looking R V)) (all : List (Enlisted P S W)) (ran : Ran R P S W V) : Type 0 where
+  pub run : AllZip (HasRun live board source replies) all ran.reporters.items
+  pub heard : All (IsSeenIn history) (views_of live ran.reporters.items)
+  pub tallied : (views : List PassView) → AreTallied views tally → AreTallied (views ++ views_of live ran.reporters.items) ran.tally
+  pub enough : ran.tally.accepted ≤ length history
+  pub shown : AllZip (HasShownAbove live board sink clubs history ran.tally.accepted) screens ran.screens.items

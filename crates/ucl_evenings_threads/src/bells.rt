@@ -1,0 +1,119 @@
+//! Bells: reporters ring them, and screens sleep until they ring.
+
+ghost use Rattle.std.specs.Prelude.{◌≡◌, IfErr, IfOk, vec_len};
+ghost use Rattle.ucl_evenings_threads.specs.Runs.{IsOfThreads};
+
+use crate::lists::put;
+use std::alloc::Global;
+use std::snapshot::Snapshot;
+use std::sync::Wait;
+use std::sync::atomic::{AtomicBool, Ordering};
+use std::thread::Parker;
+use ucl_evenings::{Bell, Ring};
+use ucl_runs::RunFault;
+
+/// What wakes one screen. A wake that comes while the screen is awake is kept for its next sleep, and several are one.
+#[derive(Drop)]
+pub struct Wake {
+    sleep: Parker,
+    is_over: AtomicBool,
+}
+
+impl Wake {
+    /// A screen that nobody has woken yet.
+    fn new() -> Wake {
+        Wake {
+            sleep: Parker::new(),
+            is_over: AtomicBool::new(false),
+        }
+    }
+
+    /// Wakes the screen, now or when it sleeps next.
+    fn wake(&self) {
+        self.sleep.unpark();
+    }
+
+    /// The evening is over: the screen is woken for the last time.
+    fn end(&self) {
+        self.is_over.store(true, Ordering::SeqCst);
+        self.sleep.unpark();
+    }
+}
+
+/// So many bells.
+pub fn hang_bells(alloc: Global, count: usize) -> Result<Vec<Wake>, RunFault>
+    ensures many { IfOk result (λ wakes. vec_len wakes ≡ count) }
+    ensures kinds { IfErr result IsOfThreads }
+{
+    let mut wakes = Vec::new(alloc);
+    'all: while wakes.len() < count {
+        put(&mut wakes, Wake::new())?;
+    }
+    Ok(wakes)
+}
+
+/// Tells all screens that the evening is over.
+pub fn end_all(wakes: &[Wake]) {
+    for wake in wakes {
+        wake.end();
+    }
+}
+
+/// The bells of all screens, in the hand of a reporter.
+#[derive(Clone, Copy)]
+pub struct Bells<'w> {
+    wakes: &'w [Wake],
+}
+
+impl<'w> Bells<'w> {
+    /// These bells.
+    pub fn of(wakes: &'w [Wake]) -> Bells<'w> {
+        Bells { wakes }
+    }
+}
+
+impl Ring for Bells<'_> {
+    ghost use Rattle.std.specs.Prelude.{⊤};
+
+    ghost rung = { λ _ _. ⊤ };
+
+    fn ring(&mut self) {
+        for wake in self.wakes {
+            wake.wake();
+        }
+    }
+}
+
+/// The bell of one screen, at the ear of its thread. It gives no notes, and tells the end once.
+#[derive(Drop)]
+pub struct Ear<'w, P> {
+    wake: &'w Wake,
+    told: Option<Snapshot<P>>,
+}
+
+impl<'w, P> Ear<'w, P> {
+    /// The ear at a bell, before the end was told.
+    pub fn at(wake: &'w Wake) -> Ear<'w, P> {
+        Ear { wake, told: None }
+    }
+}
+
+impl<N, P> Bell<N, P> for Ear<'_, P> {
+    ghost use Rattle.std.specs.Prelude.{[], option_map};
+    ghost use Rattle.std.specs.Option.{option_to_list};
+
+    ghost told = { λ _. [] };
+
+    ghost ends = { λ ear. option_to_list (option_map (λ told. told.value) ear.told) };
+
+    ghost gives = { λ _ _. ⊥ };
+
+    fn next<R: Wait>(&mut self, rt: &R, pass: &P) -> Option<Option<N>> {
+        self.wake.sleep.park(rt);
+        if self.told.is_none() && self.wake.is_over.load(Ordering::SeqCst) {
+            self.told = Some(Snapshot::of(pass));
+            return None;
+        }
+        Some(None)
+    }
+}

@@ -1,0 +1,146 @@
+//! An evening.
+
+ghost use Rattle.std.specs.Prelude.{◌≡◌, ◌++◌, ◌≤◌, All, IfErr, IfOk, length, map, take, vec_len};
+ghost use Rattle.std.specs.List.{AllZip};
+ghost use Rattle.ucl_board.specs.History.{snapshot_at};
+ghost use Rattle.ucl_evenings.specs.Showing.{GoesOnOrStays};
+ghost use Rattle.ucl_evenings_threads.specs.Runs.{AreLent, HaveRun, IsOfThreads};
+ghost use Rattle.ucl_evenings_threads.specs.Held.{HasHeld};
+
+use crate::bells::{Wake, hang_bells};
+use crate::lend::{enlist_all, look_all};
+use crate::screens::{Ran, run_screens};
+use crate::tally::{Tally, hear_all};
+use crate::workers::{Enlisted, Looking, Reporter, ReporterEnd, Screen, ScreenEnd};
+use std::alloc::Global;
+use std::sync::Wait;
+use std::thread;
+use std::thread::Threads;
+use ucl_board::Reading;
+use ucl_order::Roster;
+use ucl_runs::RunFault;
+use ucl_screen::{Sink, Source};
+use ucl_shared::LiveBoard;
+
+/// How an evening ended: `Q` is a reader's pass and `P` a reporter's, all of the board that was lent.
+#[derive(Drop)]
+pub struct EveningEnd<Q, P, S, W, V> {
+    /// How each reporter ended, in the order in which they were given.
+    pub reporters: Vec<ReporterEnd<P, S, W>>,
+    /// How each screen ended, in the order in which they were given.
+    pub screens: Vec<ScreenEnd<Q, V>>,
+    /// The passes that entered events before, as they were given.
+    pub entered: Vec<P>,
+    /// The last reading, of all that was entered.
+    pub last: Reading,
+    /// The pass that took it.
+    pub pass: Q,
+}
+
+/// Runs the threads, and hands the pass back that has heard them.
+fn run_threads<
+    B: LiveBoard,
+    S: Source + Send + Drop,
+    W: Sink + Send + Drop,
+    V: Sink + Send + Drop,
+    R: Threads + Wait + Sync,
+>(
+    rt: &R,
+    alloc: Global,
+    board: &B,
+    wakes: &[Wake],
+    roster: &Roster,
+    pass: B::ReaderPass,
+    screens: Vec<Looking<B::ReaderPass, V>>,
+    all: Vec<Enlisted<B::ReporterPass, S, W>>,
+    tally: Tally,
+) -> Result<(B::ReaderPass, Ran<B::ReaderPass, B::ReporterPass, S, W, V>), RunFault>
+    requires bells { vec_len screens ≤ length wakes.now }
+    requires lent { AreLent B.LiveBoard board.now pass screens.items all.items tally }
+    ensures own { IfOk result (λ r. B.is_reader board.entry.now r.0) }
+    ensures always { IfOk result (λ r. GoesOnOrStays (B.reader pass) (B.reader r.0)) }
+    ensures ran { IfOk result (λ r. HaveRun B.LiveBoard board.entry.now S.Source W.Sink V.Sink
+        roster.entry.now (B.reader r.0).seen tally screens.items all.items r.1) }
+    ensures kinds { IfErr result IsOfThreads }
+{
+    thread::scope(
+        thread::scope_env(),
+        rt,
+        move |scope| -> Result<
+            (B::ReaderPass, Ran<B::ReaderPass, B::ReporterPass, S, W, V>),
+            RunFault,
+        >
+            requires bells { vec_len screens ≤ length wakes.now }
+            requires lent { AreLent B.LiveBoard board.now pass screens.items all.items tally }
+            ensures own { IfOk result (λ r. B.is_reader board.entry.now r.0) }
+            ensures always { IfOk result (λ r. GoesOnOrStays (B.reader pass) (B.reader r.0)) }
+            ensures ran { IfOk result (λ r. HaveRun B.LiveBoard board.entry.now S.Source W.Sink
+                V.Sink roster.entry.now (B.reader r.0).seen tally screens.items all.items r.1) }
+            ensures kinds { IfErr result IsOfThreads }
+        {
+            let mut pass = pass;
+            let ran = run_screens(
+                scope, rt, alloc, board, wakes, roster, &mut pass, screens, all, tally,
+            )?;
+            Ok((pass, ran))
+        },
+    )
+}
+
+/// Holds an evening on a live board: each reporter takes rows from a source of its own and answers them, and each screen shows the
+/// board to a sink of its own, all in threads of their own. When all reporters have ended, the screens show the last board, and end.
+///
+/// `pass` is a reader's pass of the board: it is split once for each of them, and the reporters are enlisted in their order, before any
+/// thread starts. `entered` are reporters' passes that have entered events before, in the order in which they were enlisted. An accepted
+/// event wakes the screens; no reporter waits for one, and a slow one passes over versions. Replies and screens are as `take_rows` and
+/// `show_boards` say. The call may wait, and what it promises holds where it returns.
+///
+/// A reporter or a screen whose device fails ends alone, and its fault is its `result`.
+///
+/// # Errors
+///
+/// `TooManyReporters` where the board has no number left for a reporter, before any thread starts; `OutOfMemory` where there was none for a
+/// list of what is lent or handed back; `NoThread` where a thread could not be had; `Strangers` where the board has events that are of no
+/// reporter of the evening and of none of `entered`, or where these are not in their order. Threads that run go on to their end before any
+/// of these is told. What was entered stays entered, and no pass is handed back.
+pub fn hold_evening<
+    B: LiveBoard,
+    S: Source + Send + Drop,
+    W: Sink + Send + Drop,
+    V: Sink + Send + Drop,
+    R: Threads + Wait + Sync,
+>(
+    rt: &R,
+    alloc: Global,
+    board: &B,
+    mut pass: B::ReaderPass,
+    entered: Vec<B::ReporterPass>,
+    reporters: Vec<Reporter<S, W>>,
+    screens: Vec<Screen<V>>,
+    roster: &Roster,
+) -> Result<EveningEnd<B::ReaderPass, B::ReporterPass, S, W, V>, RunFault>
+    requires own { B.is_reader board.now pass }
+    requires entered { All (B.is_reporter board.now) entered.items }
+    ensures held { IfOk result (HasHeld B.LiveBoard board.entry.now S.Source W.Sink V.Sink
+        roster.entry.now (B.reader pass).seen entered.items reporters.items screens.items) }
+    ensures kinds { IfErr result IsOfThreads }
+{
+    let (entered, tally) = hear_all(rt, alloc, board, &mut pass, entered)?;
+    let screens = look_all(rt, alloc, board, &mut pass, screens)?;
+    let all = enlist_all(rt, alloc, board, &mut pass, reporters)?;
+    let wakes = hang_bells(alloc, screens.len())?;
+    let (mut pass, ran) = run_threads(rt, alloc, board, &wakes, roster, pass, screens, all, tally)?;
+    let last = board.read(rt, &mut pass);
+    if u32::from(last.version) != ran.tally.accepted {
+        return Err(RunFault::Strangers {
+            version: last.version,
+        });
+    }
+    Ok(EveningEnd {
+        reporters: ran.reporters,
+        screens: ran.screens,
+        entered,
+        last,
+        pass,
+    })
+}

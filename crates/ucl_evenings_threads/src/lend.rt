@@ -1,0 +1,90 @@
+//! The passes of an evening, lent before any thread starts.
+
+ghost use Rattle.std.specs.Prelude.{◌≡◌, IfErr, IfOk};
+ghost use mathlib.Core.List.{IsPrefix};
+ghost use Rattle.std.specs.List.{AllZip};
+ghost use Rattle.ucl_evenings_threads.specs.Runs.{WasEnlisted, IsLooking, IsOfThreads, IsReady};
+
+use crate::lists::{put, take_last};
+use crate::workers::{Enlisted, Looking, Reporter, Screen};
+use std::alloc::Global;
+use std::sync::Wait;
+use ucl_runs::RunFault;
+use ucl_shared::LiveBoard;
+
+/// Splits a pass off for a reporter, and enlists it.
+fn enlist_one<B: LiveBoard, R: Wait>(
+    rt: &R,
+    board: &B,
+    pass: &mut B::ReaderPass,
+) -> Result<B::ReporterPass, RunFault>
+    requires own { B.is_reader board.now pass.old }
+    ensures own { B.is_reader board.now pass.new }
+    ensures seen { (B.reader pass.new).seen ≡ (B.reader pass.old).seen }
+    ensures ready { IfOk result (IsReady B.LiveBoard board.now) }
+    ensures since { IfOk result (λ enlisted.
+        IsPrefix (B.reader pass.old).seen (B.reporter enlisted).seen) }
+    ensures kinds { IfErr result IsOfThreads }
+{
+    let second = board.split(rt, pass);
+    Ok(board.enlist(rt, second)?)
+}
+
+/// Enlists all reporters, in their order.
+pub fn enlist_all<B: LiveBoard, S: Drop, W: Drop, R: Wait>(
+    rt: &R,
+    alloc: Global,
+    board: &B,
+    pass: &mut B::ReaderPass,
+    mut reporters: Vec<Reporter<S, W>>,
+) -> Result<Vec<Enlisted<B::ReporterPass, S, W>>, RunFault>
+    requires own { B.is_reader board.now pass.old }
+    ensures own { B.is_reader board.now pass.new }
+    ensures seen { (B.reader pass.new).seen ≡ (B.reader pass.old).seen }
+    ensures enlisted { IfOk result (λ all.
+        AllZip (WasEnlisted B.LiveBoard board.now (B.reader pass.old).seen)
+        reporters.items all.items) }
+    ensures kinds { IfErr result IsOfThreads }
+{
+    let Some(Reporter { rows, replies }) = take_last(&mut reporters) else {
+        return Ok(Vec::new(alloc));
+    };
+    let mut all = enlist_all(rt, alloc, board, pass, reporters)?;
+    let second = enlist_one(rt, board, pass)?;
+    let enlisted = Enlisted {
+        pass: second,
+        rows,
+        replies,
+    };
+    put(&mut all, enlisted)?;
+    Ok(all)
+}
+
+/// Splits a pass off for each screen.
+pub fn look_all<B: LiveBoard, V: Drop, R: Wait>(
+    rt: &R,
+    alloc: Global,
+    board: &B,
+    pass: &mut B::ReaderPass,
+    mut screens: Vec<Screen<V>>,
+) -> Result<Vec<Looking<B::ReaderPass, V>>, RunFault>
+    requires own { B.is_reader board.now pass.old }
+    ensures own { B.is_reader board.now pass.new }
+    ensures seen { (B.reader pass.new).seen ≡ (B.reader pass.old).seen }
+    ensures looking { IfOk result (λ all.
+        AllZip (IsLooking B.LiveBoard board.now (B.reader pass.old).seen)
+        screens.items all.items) }
+    ensures kinds { IfErr result IsOfThreads }
+{
+    let Some(screen) = take_last(&mut screens) else {
+        return Ok(Vec::new(alloc));
+    };
+    let mut all = look_all(rt, alloc, board, pass, screens)?;
+    let second = board.split(rt, pass);
+    let looking = Looking {
+        pass: second,
+        screen,
+    };
+    put(&mut all, looking)?;
+    Ok(all)
+}

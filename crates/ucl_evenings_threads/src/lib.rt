@@ -1,0 +1,14 @@
+//! An evening with a thread for each reporter and for each screen, over any live board.
+#![tactic(auto)]
+
+mod bells;
+mod evening;
+mod lend;
+mod lists;
+mod reporters;
+mod screens;
+mod tally;
+mod workers;
+
+pub use evening::{EveningEnd, hold_evening};
+pub use workers::{Reporter, ReporterEnd, Screen, ScreenEnd};

@@ -1,0 +1,149 @@
+//! The threads of reporters.
+
+ghost use Rattle.std.specs.Prelude.{◌≡◌, ◌++◌, List, All, IfErr, IfOk};
+ghost use Rattle.std.specs.List.{AllZip};
+ghost use Rattle.ucl_shared.specs.Passes.{PassView};
+ghost use Rattle.ucl_evenings.specs.Showing.{GoesOnOrStays};
+ghost use Rattle.ucl_evenings_threads.specs.Runs.{HasRun, IsOfThreads, IsReadyToRun, views_of};
+ghost use Rattle.ucl_evenings_threads.specs.Whole.{AreTallied, IsSeenIn};
+
+use crate::bells::{Bells, Wake};
+use crate::lists::{put, take_last};
+use crate::tally::{Tally, hear_reporter};
+use crate::workers::{Enlisted, ReporterEnd};
+use std::alloc::Global;
+use std::snapshot::Snapshot;
+use std::sync::Wait;
+use std::thread::{Promise, PromisedHandle, Scope, Threads};
+use ucl_answers::Wire;
+use ucl_evenings::{Desk, take_rows};
+use ucl_runs::RunFault;
+use ucl_screen::{Sink, Source};
+use ucl_shared::LiveBoard;
+
+/// What the thread of a reporter does: it takes the rows of its source, and answers them.
+fn report<B: LiveBoard, S: Source, W: Sink, R: Wait>(
+    rt: &R,
+    board: &B,
+    wakes: &[Wake],
+    enlisted: Enlisted<B::ReporterPass, S, W>,
+) -> ReporterEnd<B::ReporterPass, S, W>
+    requires ready { IsReadyToRun B.LiveBoard board.now enlisted }
+    ensures { HasRun B.LiveBoard board.entry.now S.Source W.Sink enlisted result }
+{
+    let Enlisted {
+        mut pass,
+        rows,
+        replies,
+    } = enlisted;
+    let desk = Desk {
+        sink: replies,
+        bells: Bells::of(wakes),
+    };
+    let mut wire = Wire::new(rows, desk);
+    let result = take_rows(rt, board, &mut pass, &mut wire);
+    let Wire {
+        source,
+        sink,
+        asked: _,
+    } = wire;
+    let Desk { sink, bells: _ } = sink;
+    ReporterEnd {
+        pass,
+        rows: source,
+        replies: sink,
+        result,
+    }
+}
+
+/// What the thread of a reporter promises of what it hands back.
+#[derive(Drop)]
+pub struct Reporting<B: LiveBoard, S, W> {
+    board: Snapshot<B>,
+    enlisted: Snapshot<Enlisted<B::ReporterPass, S, W>>,
+}
+
+impl<B: LiveBoard, S: Source, W: Sink> Promise<ReporterEnd<B::ReporterPass, S, W>>
+    for Reporting<B, S, W> {
+    ghost kept_by = { λ p end.
+        HasRun B.LiveBoard p.board.value S.Source W.Sink p.enlisted.value end };
+}
+
+/// Starts the thread of a reporter.
+fn start_reporter<
+    's,
+    E,
+    B: LiveBoard,
+    S: Source + Send + Drop + 's,
+    W: Sink + Send + Drop + 's,
+    R: Wait + Sync,
+>(
+    scope: &Scope<'s, E>,
+    rt: &'s R,
+    board: &'s B,
+    wakes: &'s [Wake],
+    enlisted: Enlisted<B::ReporterPass, S, W>,
+) -> Result<PromisedHandle<ReporterEnd<B::ReporterPass, S, W>, Reporting<B, S, W>>, RunFault>
+where
+    B::ReporterPass: 's,
+    requires ready { IsReadyToRun B.LiveBoard board.now enlisted }
+    ensures board { IfOk result (λ worker. worker.promise.board.value ≡ board.now) }
+    ensures enlisted { IfOk result (λ worker. worker.promise.enlisted.value ≡ enlisted) }
+    ensures kinds { IfErr result IsOfThreads }
+{
+    let promise = Reporting {
+        board: Snapshot::of(board),
+        enlisted: Snapshot::of(&enlisted),
+    };
+    let started = scope.spawn_with(
+        promise,
+        move || -> ReporterEnd<B::ReporterPass, S, W>
+            requires { IsReadyToRun B.LiveBoard board.now enlisted }
+            ensures { HasRun B.LiveBoard board.entry.now S.Source W.Sink enlisted result }
+        { report(rt, board, wakes, enlisted) },
+    );
+    started.map_err(|_| RunFault::NoThread)
+}
+
+/// Runs all reporters, each in a thread of its own, and hears each when it has ended.
+pub fn run_reporters<
+    's,
+    E,
+    B: LiveBoard,
+    S: Source + Send + Drop + 's,
+    W: Sink + Send + Drop + 's,
+    R: Threads + Wait + Sync,
+>(
+    scope: &Scope<'s, E>,
+    rt: &'s R,
+    alloc: Global,
+    board: &'s B,
+    wakes: &'s [Wake],
+    pass: &mut B::ReaderPass,
+    mut all: Vec<Enlisted<B::ReporterPass, S, W>>,
+    tally: Tally,
+) -> Result<(Vec<ReporterEnd<B::ReporterPass, S, W>>, Tally), RunFault>
+where
+    B::ReporterPass: 's,
+    requires own { B.is_reader board.now pass.old }
+    requires ready { All (IsReadyToRun B.LiveBoard board.now) all.items }
+    ensures own { B.is_reader board.now pass.new }
+    ensures always { GoesOnOrStays (B.reader pass.old) (B.reader pass.new) }
+    ensures run { IfOk result (λ r.
+        AllZip (HasRun B.LiveBoard board.now S.Source W.Sink) all.items r.0.items) }
+    ensures heard { IfOk result (λ r. All (IsSeenIn (B.reader pass.new).seen)
+        (views_of B.LiveBoard r.0.items)) }
+    ensures tallied { IfOk result (λ r. (views : List PassView) → AreTallied views tally
+        → AreTallied (views ++ views_of B.LiveBoard r.0.items) r.1) }
+    ensures kinds { IfErr result IsOfThreads }
+{
+    let Some(enlisted) = take_last(&mut all) else {
+        return Ok((Vec::new(alloc), tally));
+    };
+    let worker = start_reporter(scope, rt, board, wakes, enlisted)?;
+    let (mut ends, tally) = run_reporters(scope, rt, alloc, board, wakes, pass, all, tally)?;
+    let mut end = worker.join(rt);
+    let tally = hear_reporter(rt, board, pass, &mut end.pass, tally)?;
+    put(&mut ends, end)?;
+    Ok((ends, tally))
+}

@@ -1,0 +1,252 @@
+//! The threads of screens.
+
+ghost use Rattle.std.specs.Prelude.{◌≡◌, ◌≤◌, All, IfErr, IfOk, OnOk, length, vec_len};
+ghost use Rattle.std.specs.List.{AllZip};
+ghost use mathlib.Core.List.{IsPrefix};
+ghost use Rattle.ucl_shared.specs.Passes.{Continues};
+ghost use Rattle.ucl_evenings.specs.Showing.{AreFew, GoesOnOrStays};
+ghost use Rattle.ucl_evenings_threads.specs.Runs.{HasLookedOn, HasShownAbove, HaveRun, IsOfThreads, IsReadyToLook, IsReadyToRun};
+ghost use Rattle.ucl_evenings_threads.specs.Whole.{AreAllHeard};
+
+use crate::bells::{Ear, Wake, end_all};
+use crate::lists::{put, take_last};
+use crate::reporters::run_reporters;
+use crate::tally::Tally;
+use crate::workers::{Enlisted, Looked, Looking, ReporterEnd, ScreenEnd};
+use std::alloc::Global;
+use std::snapshot::Snapshot;
+use std::sync::Wait;
+use std::thread::{Promise, PromisedHandle, Scope, Threads};
+use ucl_evenings::{Screens, show_noted, show_on};
+use ucl_order::Roster;
+use ucl_runs::RunFault;
+use ucl_screen::{Sink, Source};
+use ucl_shared::LiveBoard;
+
+/// What the thread of a screen does: it shows the board until the evening is over.
+fn look<B: LiveBoard, V: Sink, R: Wait>(
+    rt: &R,
+    alloc: Global,
+    board: &B,
+    wake: &Wake,
+    roster: &Roster,
+    looking: Looking<B::ReaderPass, V>,
+) -> Looked<B::ReaderPass, V>
+    requires ready { IsReadyToLook B.LiveBoard board.now looking }
+    ensures { HasLookedOn B.LiveBoard board.entry.now V.Sink roster.entry.now looking result }
+{
+    let Looking {
+        mut pass,
+        mut screen,
+    } = looking;
+    let mut screens = Screens::new();
+    let mut ear = Ear::at(wake);
+    let result = show_on(
+        rt,
+        alloc,
+        board,
+        &mut pass,
+        &mut ear,
+        &screen.options,
+        roster,
+        &mut screens,
+        &mut screen.sink,
+    );
+    Looked {
+        pass,
+        screen,
+        screens,
+        result,
+    }
+}
+
+/// What the thread of a screen promises of what it hands back.
+#[derive(Drop)]
+pub struct LookingOn<B: LiveBoard, V> {
+    board: Snapshot<B>,
+    roster: Snapshot<Roster>,
+    looking: Snapshot<Looking<B::ReaderPass, V>>,
+}
+
+impl<B: LiveBoard, V: Sink> Promise<Looked<B::ReaderPass, V>> for LookingOn<B, V> {
+    ghost kept_by = { λ p end.
+        HasLookedOn B.LiveBoard p.board.value V.Sink p.roster.value p.looking.value end };
+}
+
+/// Starts the thread of a screen.
+fn start_screen<'s, E, B: LiveBoard, V: Sink + Send + Drop + 's, R: Wait + Sync>(
+    scope: &Scope<'s, E>,
+    rt: &'s R,
+    alloc: Global,
+    board: &'s B,
+    wake: &'s Wake,
+    roster: &'s Roster,
+    looking: Looking<B::ReaderPass, V>,
+) -> Result<PromisedHandle<Looked<B::ReaderPass, V>, LookingOn<B, V>>, RunFault>
+where
+    B::ReaderPass: 's,
+    requires ready { IsReadyToLook B.LiveBoard board.now looking }
+    ensures board { IfOk result (λ worker. worker.promise.board.value ≡ board.now) }
+    ensures roster { IfOk result (λ worker. worker.promise.roster.value ≡ roster.now) }
+    ensures looking { IfOk result (λ worker. worker.promise.looking.value ≡ looking) }
+    ensures kinds { IfErr result IsOfThreads }
+{
+    let promise = LookingOn {
+        board: Snapshot::of(board),
+        roster: Snapshot::of(roster),
+        looking: Snapshot::of(&looking),
+    };
+    let started = scope.spawn_with(
+        promise,
+        move || -> Looked<B::ReaderPass, V>
+            requires { IsReadyToLook B.LiveBoard board.now looking }
+            ensures { HasLookedOn B.LiveBoard board.entry.now V.Sink roster.entry.now looking
+                result }
+        { look(rt, alloc, board, wake, roster, looking) },
+    );
+    started.map_err(|_| RunFault::NoThread)
+}
+
+/// Shows the last board on a screen whose thread has ended well, should it not have been shown there.
+fn finish<B: LiveBoard, V: Sink, R: Wait>(
+    rt: &R,
+    alloc: Global,
+    board: &B,
+    pass: &mut B::ReaderPass,
+    roster: &Roster,
+    looked: Looked<B::ReaderPass, V>,
+) -> ScreenEnd<B::ReaderPass, V>
+    requires own { B.is_reader board.now pass.old × B.is_reader board.now looked.pass }
+    requires few { OnOk looked.result (AreFew looked.screens) }
+    ensures own { B.is_reader board.now pass.new × B.is_reader board.now result.pass }
+    ensures unchanged { B.reader pass.new ≡ B.reader pass.old }
+    ensures shown { (looking : _)
+        → HasLookedOn B.LiveBoard board.now V.Sink roster.now looking looked
+        → HasShownAbove B.LiveBoard board.now V.Sink roster.now
+        (B.reader result.pass).seen (length (B.reader pass.old).seen) looking result }
+{
+    let Looked {
+        pass: mut theirs,
+        mut screen,
+        mut screens,
+        result,
+    } = looked;
+    if let Err(fault) = result {
+        return ScreenEnd {
+            pass: theirs,
+            sink: screen.sink,
+            result: Err(fault),
+        };
+    }
+    let news = board.note(rt, pass);
+    let result = show_noted(
+        rt,
+        alloc,
+        board,
+        &mut theirs,
+        news,
+        &screen.options,
+        roster,
+        &mut screens,
+        &mut screen.sink,
+    );
+    ScreenEnd {
+        pass: theirs,
+        sink: screen.sink,
+        result,
+    }
+}
+
+/// The same, and the pass hears what the screen's pass has seen.
+fn close_screen<B: LiveBoard, V: Sink, R: Wait>(
+    rt: &R,
+    alloc: Global,
+    board: &B,
+    pass: &mut B::ReaderPass,
+    roster: &Roster,
+    looked: Looked<B::ReaderPass, V>,
+) -> ScreenEnd<B::ReaderPass, V>
+    requires own { B.is_reader board.now pass.old × B.is_reader board.now looked.pass }
+    requires few { OnOk looked.result (AreFew looked.screens) }
+    ensures own { B.is_reader board.now pass.new }
+    ensures always { Continues (B.reader pass.old) (B.reader pass.new) }
+    ensures shown { (looking : _)
+        → HasLookedOn B.LiveBoard board.now V.Sink roster.now looking looked
+        → HasShownAbove B.LiveBoard board.now V.Sink roster.now
+        (B.reader pass.new).seen (length (B.reader pass.old).seen) looking result }
+{
+    let mut end = finish(rt, alloc, board, pass, roster, looked);
+    let note = board.note(rt, &mut end.pass);
+    board.hear(rt, pass, note);
+    end
+}
+
+/// What all threads of an evening handed back.
+#[derive(Drop)]
+pub struct Ran<Q, P, S, W, V> {
+    pub screens: Vec<ScreenEnd<Q, V>>,
+    pub reporters: Vec<ReporterEnd<P, S, W>>,
+    pub tally: Tally,
+}
+
+/// Runs all screens, each in a thread of its own, and all reporters while they run; when these have ended, so do the screens.
+pub fn run_screens<
+    's,
+    E,
+    B: LiveBoard,
+    S: Source + Send + Drop + 's,
+    W: Sink + Send + Drop + 's,
+    V: Sink + Send + Drop + 's,
+    R: Threads + Wait + Sync,
+>(
+    scope: &Scope<'s, E>,
+    rt: &'s R,
+    alloc: Global,
+    board: &'s B,
+    wakes: &'s [Wake],
+    roster: &'s Roster,
+    pass: &mut B::ReaderPass,
+    mut screens: Vec<Looking<B::ReaderPass, V>>,
+    all: Vec<Enlisted<B::ReporterPass, S, W>>,
+    tally: Tally,
+) -> Result<Ran<B::ReaderPass, B::ReporterPass, S, W, V>, RunFault>
+where
+    B::ReaderPass: 's,
+    B::ReporterPass: 's,
+    requires own { B.is_reader board.now pass.old }
+    requires bells { vec_len screens ≤ length wakes.now }
+    requires looking { All (IsReadyToLook B.LiveBoard board.now) screens.items }
+    requires ready { All (IsReadyToRun B.LiveBoard board.now) all.items }
+    requires tallied { AreAllHeard (B.reader pass.old).seen tally }
+    ensures own { B.is_reader board.now pass.new }
+    ensures always { GoesOnOrStays (B.reader pass.old) (B.reader pass.new) }
+    ensures ran { IfOk result (HaveRun B.LiveBoard board.now S.Source W.Sink V.Sink roster.now
+        (B.reader pass.new).seen tally screens.items all.items) }
+    ensures kinds { IfErr result IsOfThreads }
+{
+    let Some(looking) = take_last(&mut screens) else {
+        let run = run_reporters(scope, rt, alloc, board, wakes, pass, all, tally);
+        end_all(wakes);
+        let (reporters, tally) = run?;
+        return Ok(Ran {
+            screens: Vec::new(alloc),
+            reporters,
+            tally,
+        });
+    };
+    let wake = &wakes[screens.len()];
+    let worker = match start_screen(scope, rt, alloc, board, wake, roster, looking) {
+        Ok(worker) => worker,
+        Err(fault) => {
+            end_all(wakes);
+            return Err(fault);
+        }
+    };
+    let mut ran = run_screens(
+        scope, rt, alloc, board, wakes, roster, pass, screens, all, tally,
+    )?;
+    let looked = worker.join(rt);
+    let end = close_screen(rt, alloc, board, pass, roster, looked);
+    put(&mut ran.screens, end)?;
+    Ok(ran)
+}

@@ -1,0 +1,71 @@
+//! Who takes part in an evening, and how each ended.
+
+use ucl_answers::Options;
+use ucl_evenings::Screens;
+use ucl_runs::RunFault;
+
+/// A reporter of an evening.
+#[derive(Drop)]
+pub struct Reporter<S, W> {
+    /// Where its rows come from.
+    pub rows: S,
+    /// Where the answers go.
+    pub replies: W,
+}
+
+/// A screen of an evening.
+#[derive(Drop)]
+pub struct Screen<V> {
+    /// Where the screens go.
+    pub sink: V,
+    /// How they are written. Whether screens are shown is not looked at: they are.
+    pub options: Options,
+}
+
+/// How a reporter ended.
+#[derive(Drop)]
+pub struct ReporterEnd<P, S, W> {
+    /// The pass that entered its rows.
+    pub pass: P,
+    /// Where its rows came from.
+    pub rows: S,
+    /// Where the answers went.
+    pub replies: W,
+    /// How its run ended.
+    pub result: Result<(), RunFault>,
+}
+
+/// How a screen ended.
+#[derive(Drop)]
+pub struct ScreenEnd<P, V> {
+    /// The pass that read the board.
+    pub pass: P,
+    /// Where the screens went.
+    pub sink: V,
+    /// How its run ended.
+    pub result: Result<(), RunFault>,
+}
+
+/// A reporter with the pass that it is lent.
+#[derive(Drop)]
+pub struct Enlisted<P, S, W> {
+    pub pass: P,
+    pub rows: S,
+    pub replies: W,
+}
+
+/// A screen with the pass that it is lent.
+#[derive(Drop)]
+pub struct Looking<P, V> {
+    pub pass: P,
+    pub screen: Screen<V>,
+}
+
+/// A screen whose thread has ended.
+#[derive(Drop)]
+pub struct Looked<P, V> {
+    pub pass: P,
+    pub screen: Screen<V>,
+    pub screens: Screens,
+    pub result: Result<(), RunFault>,
+}
