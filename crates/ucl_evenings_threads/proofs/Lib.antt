@@ -4,3 +4,4 @@ pub mod Ended
 pub mod Closing
 pub mod Holding
 pub mod Running
+pub mod OneReporter

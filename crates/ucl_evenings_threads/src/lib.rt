@@ -3,6 +3,7 @@
 
 mod bells;
 mod evening;
+mod laws;
 mod lend;
 mod lists;
 mod reporters;
@@ -11,4 +12,5 @@ mod tally;
 mod workers;
 
 pub use evening::{EveningEnd, hold_evening};
+pub use laws::rows_decide_the_board;
 pub use workers::{Reporter, ReporterEnd, Screen, ScreenEnd};

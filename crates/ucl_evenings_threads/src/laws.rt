@@ -1,0 +1,10 @@
+//! What holds of every evening. The function does nothing: it is there for its contract.
+
+ghost use Rattle.ucl_evenings_threads.specs.OneReporter.{RowsDecideTheBoard};
+
+/// Where each match of an evening has one reporter, the board after it goes by what was there before and by the rows of each reporter
+/// alone, however the rows of one met those of another: it is that of the rows of the first reporter, and then those of the second,
+/// and so on, entered on the board of one thread.
+pub fn rows_decide_the_board()
+    ensures { RowsDecideTheBoard }
+{}
