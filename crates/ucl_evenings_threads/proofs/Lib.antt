@@ -5,3 +5,4 @@ pub mod Closing
 pub mod Holding
 pub mod Running
 pub mod OneReporter
+pub mod Decided

@@ -28,7 +28,7 @@ use Rattle.ucl_runs.proofs.Elements.{get_some, take_one}
 use Rattle.ucl_evenings.specs.declared.went.Went.{Went}
 use Rattle.ucl_evenings.specs.declared.went.Went.TheVariants.{Entered, Refused}
 use Rattle.ucl_evenings.specs.Reporting.{GoThrough, entered_in, accepted_in, past_point}
-use Rattle.ucl_evenings_threads.specs.OneReporter.{AddedBy, DifferInNumber, Entering, HaveMatchesOfTheirOwn, RowsDecideTheBoard, WentThrough, attempts_of}
+use Rattle.ucl_evenings_threads.specs.OneReporter.{AddedBy, DifferInNumber, Entering, HaveMatchesOfTheirOwn, RowsDecideTheBoard, WentThrough, attempts_of_all}
 
 -- ---- attempts, and the entries of one match
 
@@ -80,10 +80,10 @@ module _ (h : List Entry) (g : ℕ) where
 -- ---- a reporter's entries among the first of a history
 
 module _ (n : ℕ) (h : List Entry) where
-  abbrev own_at : ℕ → ℕ
+  abbrev pub own_at : ℕ → ℕ
   own_at p = length (entries_by n (take p h))
 
-  own_next : (p : ℕ) (x : Entry) → slice_get h p ≡ Some x → x.reporter ≡ n → own_at (suc p) ≡ own_at p + 1
+  pub own_next : (p : ℕ) (x : Entry) → slice_get h p ≡ Some x → x.reporter ≡ n → own_at (suc p) ≡ own_at p + 1
   own_next p x at is = ap (λ (l : List Entry). length (entries_by n l)) (take_one h p x at) ∙ (ap length (by_own n (take p h) x is) ∙ length-append (entries_by n (take p h)) (x ∷ []))
 
   other_next : (p : ℕ) (x : Entry) → slice_get h p ≡ Some x → x.reporter ≢ n → own_at (suc p) ≡ own_at p
@@ -103,7 +103,7 @@ module _ (n : ℕ) (h : List Entry) where
       let further : a + suc d ≡ suc (a + d) = omega arith in
       let e = ap own_at further in omega arith
 
-  own_from : (a p : ℕ) → a ≤ p → p ≤ length h → own_at a ≤ own_at p
+  pub own_from : (a p : ℕ) → a ≤ p → p ≤ length h → own_at a ≤ own_at p
   own_from a p low high =
       let e : a + (p - a) ≡ p = omega arith in
       subst (λ (x : ℕ). own_at a ≤ own_at x) e (own_rises a (p - a) (omega arith))
@@ -257,13 +257,13 @@ module _ (before h : List Entry) (whose : ℕ → ℕ) where
     abbrev after_one : List Entry → Entering → List Entry
     after_one s e = fold after_attempt s (map (attempted e.number) e.calls)
 
-    after_first : (s : List Entry) (e : Entering) (all : List Entering) → fold after_attempt s (attempts_of (e ∷ all)) ≡ fold after_attempt (after_one s e) (attempts_of all)
-    after_first s e all = fold-append after_attempt s (map (attempted e.number) e.calls) (attempts_of all)
+    after_first : (s : List Entry) (e : Entering) (all : List Entering) → fold after_attempt s (attempts_of_all (e ∷ all)) ≡ fold after_attempt (after_one s e) (attempts_of_all all)
+    after_first s e all = fold-append after_attempt s (map (attempted e.number) e.calls) (attempts_of_all all)
 
     one_passes : (s : List Entry) (e : Entering) → KeepsTo e → IsElse e → entries_of g (after_one s e) ≡ entries_of g s
     one_passes s e keeps other = others_pass g e.number s e.calls (calls_else e keeps other)
 
-    all_pass : (s : List Entry) (all : List Entering) → All KeepsTo all → All IsElse all → entries_of g (fold after_attempt s (attempts_of all)) ≡ entries_of g s
+    all_pass : (s : List Entry) (all : List Entering) → All KeepsTo all → All IsElse all → entries_of g (fold after_attempt s (attempts_of_all all)) ≡ entries_of g s
     all_pass s [] keeps other = refl
     all_pass s (e ∷ all) keeps other =
         ap (entries_of g) (after_first s e all) ∙ (all_pass (after_one s e) all (All-tail KeepsTo e all keeps) (All-tail IsElse e all other)
@@ -280,15 +280,15 @@ module _ (before h : List Entry) (whose : ℕ → ℕ) where
         (le_refl (length before)) w.through (omega arith) same
 
     -- the match is as in the history, or it is nobody's
-    abbrev IsDecided : List Entry → List Entering → Type 0
-    IsDecided s all = (entries_of g (fold after_attempt s (attempts_of all)) ≡ entries_at h g (length h)) ⊎ All IsElse all
+    abbrev RowsDecide : List Entry → List Entering → Type 0
+    RowsDecide s all = (entries_of g (fold after_attempt s (attempts_of_all all)) ≡ entries_at h g (length h)) ⊎ All IsElse all
 
-    decided_later : (s : List Entry) (e : Entering) (all : List Entering) → IsElse e → IsDecided (after_one s e) all → IsDecided s (e ∷ all)
+    decided_later : (s : List Entry) (e : Entering) (all : List Entering) → IsElse e → RowsDecide (after_one s e) all → RowsDecide s (e ∷ all)
     decided_later s e all other (inl done) = inl (ap (entries_of g) (after_first s e all) ∙ done)
     decided_later s e all other (inr none) = inr (All-cons IsElse e all other none)
 
     decided : (s : List Entry) (all : List Entering) → AreOfTheirMatches → AllPairs DifferInNumber all → All GoesThrough all → All KeepsTo all
-        → entries_of g s ≡ entries_at h g (length before) → IsDecided s all
+        → entries_of g s ≡ entries_at h g (length before) → RowsDecide s all
     decided s [] theirs apart went keeps same = inr (All-nil IsElse)
     decided s (e ∷ all) theirs apart went keeps same = elim (cases_eq e.number (whose g)) [
       | inl is ↦
@@ -301,7 +301,7 @@ module _ (before h : List Entry) (whose : ℕ → ℕ) where
     ]
 
     -- nobody's match has no entry after the beginning
-    match_decided : (all : List Entering) → AddedBy all before h → All KeepsTo all → entries_of g h ≡ entries_of g (fold after_attempt before (attempts_of all))
+    match_decided : (all : List Entering) → AddedBy all before h → All KeepsTo all → entries_of g h ≡ entries_of g (fold after_attempt before (attempts_of_all all))
     match_decided all t keeps =
         let theirs = of_their_matches all t keeps in
         let start : entries_of g before ≡ entries_at h g (length before) = ap (entries_of g) (sym (take_whole before h t.begins)) in
@@ -322,4 +322,4 @@ unfolding board_of
 same_boards x y same = λ i. map (λ game. word_of (counted_match (same game i))) match_numbers
 
 pub rows_decide : RowsDecideTheBoard
-rows_decide before history all whose t keeps = same_boards history (fold after_attempt before (attempts_of all)) (λ g. match_decided before history whose g all t keeps)
+rows_decide before history all whose t keeps = same_boards history (fold after_attempt before (attempts_of_all all)) (λ g. match_decided before history whose g all t keeps)

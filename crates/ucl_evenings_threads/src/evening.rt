@@ -6,6 +6,7 @@ ghost use Rattle.ucl_board.specs.History.{snapshot_at};
 ghost use Rattle.ucl_evenings.specs.Showing.{GoesOnOrStays};
 ghost use Rattle.ucl_evenings_threads.specs.Runs.{AreLent, HaveRun, IsOfThreads};
 ghost use Rattle.ucl_evenings_threads.specs.Held.{HasHeld};
+ghost use Rattle.ucl_evenings_threads.specs.OneReporter.{RowsDecide};
 
 use crate::bells::{Wake, hang_bells};
 use crate::lend::{enlist_all, look_all};
@@ -95,7 +96,8 @@ fn run_threads<
 /// event wakes the screens; no reporter waits for one, and a slow one passes over versions. Replies and screens are as `take_rows` and
 /// `show_boards` say. The call may wait, and what it promises holds where it returns.
 ///
-/// A reporter or a screen whose device fails ends alone, and its fault is its `result`.
+/// A reporter or a screen whose device fails ends alone, and its fault is its `result`. Where each match has one reporter, the last board
+/// goes by the rows of each alone, however these met: it is the one that they come to one reporter after the other.
 ///
 /// # Errors
 ///
@@ -123,6 +125,8 @@ pub fn hold_evening<
     requires entered { All (B.is_reporter board.now) entered.items }
     ensures held { IfOk result (HasHeld B.LiveBoard board.entry.now S.Source W.Sink V.Sink
         roster.entry.now (B.reader pass).seen entered.items reporters.items screens.items) }
+    ensures decided { IfOk result (RowsDecide B.LiveBoard S.Source (B.reader pass).seen
+        entered.items reporters.items) }
     ensures kinds { IfErr result IsOfThreads }
 {
     let (entered, tally) = hear_all(rt, alloc, board, &mut pass, entered)?;

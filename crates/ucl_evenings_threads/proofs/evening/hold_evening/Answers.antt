@@ -4,6 +4,7 @@ use Rattle.ucl_board.specs.declared.entry.Entry.{Entry}
 use Rattle.ucl_board.proofs.Beginnings.{begins_through}
 use Rattle.ucl_evenings.proofs.ShownScreens.{stays_prefix}
 use Rattle.ucl_evenings_threads.specs.Runs.{IsLooking, IsReadyToLook, IsReadyToRun, WasEnlisted}
+use Rattle.ucl_evenings_threads.proofs.Decided.{is_decided}
 use Rattle.ucl_evenings_threads.proofs.Holding.{begins_whole, reported_at_end, shown_at_end, theirs_at_end, whole, whole_long}
 use Rattle.ucl_evenings_threads.proofs.Zips.{zip_right}
 use Rattle.ucl_evenings_threads.proofs.evening.hold_evening.Goals as goal
@@ -46,3 +47,7 @@ returns-clause-held g c =
       shown = shown_at_end live board g.V.Sink c.args.roster.now first heard p.seen (whole p z last read.always read.reading) last.version _ _ _ _ early on
           (whole_long p z last read.always read.reading) (let same = c.if-from-ran.false in let from = c.from.ensures in omega arith) c.in_ok-screens.ensures.looking ran.shown;
     }
+
+pub returns-clause-decided : goal.returns-clause-decided
+returns-clause-decided g c =
+    is_decided g.B.LiveBoard c.args.board.now g.S.Source g.W.Sink g.V.Sink c.args.roster.now _ c.args.entered.items c.args.reporters.items c.args.screens.items _ (returns-clause-held g c)
