@@ -169,6 +169,24 @@ def of_help(top):
     ]
 
 
+WAYS = ["\n      --reporter <IN=OUT> ", "\n      --screen <OUT> ", "\n      --json <OUT> "]
+PLACES = ["\n  mkfifo north.rows north.replies\n", "\n  REPORTER,MATCH,EXPECTED,EVENT ", "\n  MATCH,EXPECTED,EVENT ", "\n  LINE ok MATCH NUMBER VERSION "]
+
+
+def of_threads(top):
+    """Help of the program of threads, its version, and words that it refuses. What else it does, checks/evening tries."""
+    texts = [text.encode() for text in ("Usage: ucl_evening ", *WAYS, *PLACES, GROUP, LETTERS, ORDER, ORDERS, *STATUSES[1:2])]
+    is_help = Holds("help with all that a user looks for", lambda text: all(part in b"\n" + text for part in texts))
+    ways = [word for number in range(17) for word in ("--reporter", f"{number}.rows={number}.replies")]
+    refused = [("no words", [], b"required"), ("no reporter", ["clubs.csv"], b"--reporter"), ("17 reporters", ["clubs.csv", *ways], b"1 to 16 reporters")]
+    refused += [("no output", ["clubs.csv", "--reporter", "rows"], b"IN=OUT"), ("a name twice", ["clubs.csv", "--reporter", "clubs.csv=replies"], b"twice")]
+    return [
+        Plain("help on evenings of threads", ["--help"], b"", is_help, program="ucl_evening"),
+        Plain("the version of the program of threads", ["-V"], b"", Has(b"ucl_evening 1.0.0 (proved with "), program="ucl_evening"),
+        *(Plain(f"evenings of threads, {name}", words, b"", NOTHING, 2, Has(b"error: ", text), program="ucl_evening") for name, words, text in refused),
+    ]
+
+
 def of_words():
     """Words that are refused."""
     return [
@@ -253,6 +271,7 @@ def cases(top):
         *of_followers(top),
         *of_season(top),
         *of_help(top),
+        *of_threads(top),
         *of_words(),
         *of_scripts(),
         *of_bad_sheets(top),

@@ -1,0 +1,37 @@
+//! The board of one group of the UEFA Champions League through an evening of threads: each reporter and each screen has a file or pipe of its
+//! own.
+#![tactic(auto)]
+
+mod files;
+mod hold;
+mod outputs;
+mod ready;
+
+use hold::hold;
+use outputs::tell_stop;
+use ready::ready_for;
+use std::process::ExitCode;
+pub use ucl_evening_command::{
+    LineFault, evening_of, evenings_that_are_asked_for, evenings_that_are_refused,
+};
+use ucl_program::{ended_unasked, words_of};
+use ucl_screen::ToWrite;
+
+/// Runs the program. Standard output has no buffer, so that nothing is left to flush.
+fn main(rt: HostRuntime) -> ExitCode {
+    let alloc = rt.alloc();
+    let mut output = ToWrite::new(rt.stdout());
+    let mut errors = ToWrite::new(rt.stderr());
+    let asked = match words_of(&rt, alloc) {
+        Ok(words) => evening_of(alloc, &words),
+        Err(fault) => Err(fault),
+    };
+    let status = match asked {
+        Ok(asked) => match ready_for(&rt, alloc, &asked) {
+            Ok(ready) => hold(&rt, alloc, &asked, ready, &mut output, &mut errors),
+            Err(stop) => tell_stop(&mut errors, stop),
+        },
+        Err(fault) => ended_unasked(&mut output, &mut errors, fault),
+    };
+    ExitCode::from(status)
+}

@@ -1,0 +1,106 @@
+//! What an evening needs before it begins: its script, and the files and pipes of its reporters and screens.
+
+ghost use Rattle.std.specs.Prelude.{◌≤◌, IfOk, length};
+ghost use Rattle.ucl_screen.specs.Input.{most_bytes};
+
+use crate::files::{Before, In, Out};
+use crate::outputs::{Befores, Stop, befores_of};
+use std::alloc::Global;
+use std::fs::{File, Files};
+use ucl_answers::{Format, Options};
+use ucl_evening_command::Asked;
+use ucl_evenings_threads::{Reporter, Screen};
+use ucl_runs::RunFault;
+use ucl_screen::{FromRead, Night, ToWrite, read_night};
+
+/// What an evening needs: `S` is where rows come from, and `V` where answers and screens go.
+#[derive(Drop)]
+pub struct Ready<S, V> {
+    /// The script.
+    pub night: Night,
+    /// The reporters, in the order of the words.
+    pub reporters: Vec<Reporter<S, V>>,
+    /// The screens: those of text, and then those of JSON, each in the order of the words.
+    pub screens: Vec<Screen<V>>,
+}
+
+/// The reporters, with their files and pipes.
+fn reporters_on<'r, R: Files<File = File>>(
+    rt: &'r R,
+    alloc: Global,
+    asked: &'r Asked,
+    befores: &[Before],
+) -> Result<Vec<Reporter<FromRead<In<'r, R>>, ToWrite<Out<'r, R>>>>, RunFault> {
+    let mut reporters = Vec::new(alloc);
+    for (ways, before) in asked.reporters.iter().zip(befores.iter()) {
+        let reporter = Reporter {
+            rows: FromRead::new(In::named(rt, ways.rows.as_str())),
+            replies: ToWrite::new(Out::named(rt, ways.replies.as_str(), *before)),
+        };
+        if reporters.push(reporter).is_err() {
+            return Err(RunFault::OutOfMemory);
+        }
+    }
+    Ok(reporters)
+}
+
+/// How a screen in this form shows.
+fn options_of(asked: &Asked, format: Format) -> Options {
+    let group = asked.group;
+    Options {
+        group,
+        profile: asked.profile,
+        screens: true,
+        format,
+    }
+}
+
+/// The screens, with their files and pipes.
+fn screens_on<'r, R: Files<File = File>>(
+    rt: &'r R,
+    alloc: Global,
+    asked: &'r Asked,
+    befores: &[Before],
+) -> Result<Vec<Screen<ToWrite<Out<'r, R>>>>, RunFault> {
+    let mut screens = Vec::new(alloc);
+    for (shown, before) in asked.screens.iter().zip(befores.iter()) {
+        let screen = Screen {
+            sink: ToWrite::new(Out::named(rt, shown.place.as_str(), *before)),
+            options: options_of(asked, shown.format),
+        };
+        if screens.push(screen).is_err() {
+            return Err(RunFault::OutOfMemory);
+        }
+    }
+    Ok(screens)
+}
+
+/// The script that the words name.
+fn script_of<R: Files<File = File>>(rt: &R, alloc: Global, name: &str) -> Result<Night, RunFault>
+    ensures few { IfOk result (λ night. length night.events.items ≤ most_bytes) }
+{
+    let mut source = FromRead::new(In::named(rt, name));
+    Ok(read_night(alloc, &mut source)?)
+}
+
+/// Looks at all names, reads the script, and gets the reporters and screens ready, none of whose files is opened yet.
+pub fn ready_for<'r, R: Files<File = File>>(
+    rt: &'r R,
+    alloc: Global,
+    asked: &'r Asked,
+) -> Result<Ready<FromRead<In<'r, R>>, ToWrite<Out<'r, R>>>, Stop>
+    ensures few { IfOk result (λ ready. length ready.night.events.items ≤ most_bytes) }
+{
+    let Befores {
+        replies: before_replies,
+        screens: before_screens,
+    } = befores_of(rt, alloc, asked)?;
+    let night = script_of(rt, alloc, asked.clubs.as_str())?;
+    let reporters = reporters_on(rt, alloc, asked, &before_replies)?;
+    let screens = screens_on(rt, alloc, asked, &before_screens)?;
+    Ok(Ready {
+        night,
+        reporters,
+        screens,
+    })
+}

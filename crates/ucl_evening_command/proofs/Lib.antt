@@ -1,0 +1,6 @@
+pub mod Judged
+pub mod Lines
+pub mod Lists
+pub mod Named
+pub mod Reading
+pub mod Told

@@ -1,0 +1,87 @@
+-- What is told of workers' faults, and the exit status.
+use Rattle.std.proofs.Common.{◌≡◌, ◌∙◌, ℕ, suc, ◌+◌, ◌<◌, ◌≤◌, Bool, refl, sym, ap, subst, List, [], ◌∷◌, ◌++◌, length, take, drop, get_or, Option}
+use Rattle.std.proofs.Common.{Some, None, inl, inr, length-append, arith}
+use Rattle.std.specs.Prelude.{unwrap_or}
+use Rattle.std.specs.Io.KnownBytes.{Appends}
+use Rattle.std.proofs.lemmas.List.{take-append-le}
+use Rattle.ucl_screen.proofs.Moves.{appends-then}
+use Rattle.ucl_runs.specs.declared.fault.RunFault.TheVariants.{Input, OutOfMemory, WriteFailed, NotOnDuty, NoThread, TooManyReporters, Strangers}
+use Rattle.ucl_runs.specs.Run.{IsCutShort}
+use Rattle.ucl_runs.specs.Telling.{Tells}
+use Rattle.ucl_runs.specs.declared.fault.RunFault.{RunFault}
+use Rattle.ucl_evening_command.specs.declared.ending.Part.{Part}
+use Rattle.ucl_evening_command.specs.Ending.{TellsAll, TellsEnd, first_status, status_at}
+use Rattle.ucl_evening_command.proofs.Lists.{first_left, past_end}
+
+-- ---- a line of two parts
+
+-- the first part broke off
+pub broke_first : (failed : Bool) (old new : Option (List ℕ)) (a b : List ℕ) (fault : RunFault) → IsCutShort failed old new a fault → Tells failed old new (a ++ b)
+broke_first failed old new a b (WriteFailed written) cut = let short = cut.1.cut in let long = length-append a b in inr (record {
+  failed_is = cut.0;
+  count = written;
+  first = record {
+    cut = omega arith;
+    out = subst (Appends old new) (sym (take-append-le written a b (omega arith))) cut.1.out;
+  };
+})
+broke_first failed old new a b (Input e) cut = absurd cut
+broke_first failed old new a b OutOfMemory cut = absurd cut
+broke_first failed old new a b (NotOnDuty row) cut = absurd cut
+broke_first failed old new a b NoThread cut = absurd cut
+broke_first failed old new a b TooManyReporters cut = absurd cut
+broke_first failed old new a b (Strangers version) cut = absurd cut
+
+take_beyond : (a b : List ℕ) (n : ℕ) → take (length a + n) (a ++ b) ≡ a ++ take n b
+take_beyond [] b n = let none : length {A = ℕ} [] + n ≡ n = omega arith in ap (λ k. take k b) none
+take_beyond (x ∷ a) b n =
+    let one : length (x ∷ a) + n ≡ suc (length a + n) = omega arith in ap (λ k. take k (x ∷ a ++ b)) one ∙ ap (λ (l : List ℕ). x ∷ l) (take_beyond a b n)
+
+-- the first part is out, and the second was told
+pub told_second : (failed : Bool) (old between new : Option (List ℕ)) (a b : List ℕ) → Appends old between a → Tells failed between new b → Tells failed old new (a ++ b)
+told_second failed old between new a b out (inl all) = inl (appends-then old between new a b out all)
+told_second failed old between new a b out (inr broke) = let short = broke.first.cut in let long = length-append a b in inr (record {
+  failed_is = broke.failed_is;
+  count = length a + broke.count;
+  first = record {
+    cut = omega arith;
+    out = subst (Appends old new) (sym (take_beyond a b broke.count)) (appends-then old between new a (take broke.count b) out broke.first.out);
+  };
+})
+
+-- ---- the status of the first fault
+
+pub status_passed : (i : ℕ) (parts : List Part) (d : Part) (whole : ℕ) → i < length parts → None ≡ status_at (get_or parts i d).result
+    → first_status (drop i parts) ≡ whole → first_status (drop (i + 1) parts) ≡ whole
+unfolding first_status
+status_passed i parts d whole h well so_far =
+    ap (λ (o : Option ℕ). unwrap_or o (first_status (drop (i + 1) parts))) well ∙ ap first_status (sym (first_left i parts d h)) ∙ so_far
+
+pub status_found : (i : ℕ) (parts : List Part) (d : Part) (code whole : ℕ) → i < length parts → Some code ≡ status_at (get_or parts i d).result
+    → first_status (drop i parts) ≡ whole → code ≡ whole
+unfolding first_status
+status_found i parts d code whole h failed so_far =
+    ap (λ (o : Option ℕ). unwrap_or o (first_status (drop (i + 1) parts))) failed ∙ ap first_status (sym (first_left i parts d h)) ∙ so_far
+
+pub status_none : (i : ℕ) (parts : List Part) (whole : ℕ) → length parts ≤ i → first_status (drop i parts) ≡ whole → 0 ≡ whole
+unfolding first_status
+status_none i parts whole h so_far = rw (past_end i parts h) at so_far
+
+-- ---- what is told
+
+-- what is told of the parts that are left completes what was told
+abbrev pub Completes : List Part → List Part → Option (List ℕ) → Option (List ℕ) → Type 0
+Completes left parts now old = (new : Option (List ℕ)) → TellsAll left now new → TellsAll parts old new
+
+pub told_start : (parts : List Part) (old : Option (List ℕ)) → Completes (drop 0 parts) parts old old
+told_start parts old new told = told
+
+pub told_step : (i : ℕ) (parts : List Part) (d : Part) (failed : Bool) (old now next : Option (List ℕ)) → i < length parts
+    → TellsEnd (get_or parts i d) failed now next → Completes (drop i parts) parts now old → Completes (drop (i + 1) parts) parts next old
+unfolding TellsAll
+told_step i parts d failed old now next h told so_far new rest =
+    so_far new (subst (λ (left : List Part). TellsAll left now new) (sym (first_left i parts d h)) (failed, next, told, rest))
+
+pub told_end : (i : ℕ) (parts : List Part) (old now : Option (List ℕ)) → length parts ≤ i → Completes (drop i parts) parts now old → TellsAll parts old now
+unfolding TellsAll
+told_end i parts old now h so_far = so_far now (subst (λ (left : List Part). TellsAll left now now) (sym (past_end i parts h)) refl)
