@@ -2,8 +2,6 @@
 #![tactic(auto)]
 
 #[cfg(test)]
-mod evenings;
-#[cfg(test)]
 mod rows;
 #[cfg(test)]
 mod screens;

@@ -59,7 +59,7 @@ fn club(alloc: Global, name: &str, coefficient: u32) -> Result<Club, Fail> {
     })
 }
 
-pub(crate) fn roster(alloc: Global) -> Result<Roster, Fail> {
+fn roster(alloc: Global) -> Result<Roster, Fail> {
     Ok(Roster::new([
         club(alloc, "Alpha", 60000)?,
         club(alloc, "Bravo", 95000)?,
