@@ -96,8 +96,9 @@ fn run_threads<
 /// event wakes the screens; no reporter waits for one, and a slow one passes over versions. Replies and screens are as `take_rows` and
 /// `show_boards` say. The call may wait, and what it promises holds where it returns.
 ///
-/// A reporter or a screen whose device fails ends alone, and its fault is its `result`. Where each match has one reporter, the last board
-/// goes by the rows of each alone, however these met: it is the one that they come to one reporter after the other.
+/// A reporter or a screen whose device fails ends alone, and its fault is its `result`. Where each match has one reporter, and
+/// `pass` had seen all that was entered before, the last board goes by that and by the rows of each reporter alone, however these met:
+/// it is the one that they come to one reporter after the other.
 ///
 /// # Errors
 ///
