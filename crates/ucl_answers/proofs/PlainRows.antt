@@ -17,7 +17,7 @@ use Rattle.ucl_answers.specs.declared.row.Stand.{Stand}
 use Rattle.ucl_answers.specs.declared.row.Stand.TheVariants.{StartField, InField}
 use Rattle.ucl_answers.specs.Reading.{AreJoining, EndsRow, IsBehindEnds, IsFieldBefore, begins_row, csv_state_of, is_joining, made}
 use Rattle.ucl_answers.proofs.RowBytes.{at-end, begins-field, between-same, by-deed, skip-one, some-record}
-use Rattle.ucl_answers.proofs.RowEnds.{found-one}
+use Rattle.ucl_answers.proofs.RowEnds.{found-one, no-record}
 
 -- a byte that joins a field is no comma, no quote and no end of a line
 record Apart (b : ℕ) : Type 0 where
@@ -97,10 +97,6 @@ stands-at-end : (xs : List ℕ) (b : ℕ) → ((b == 13) || (b == 10)) ≡ true 
 unfolding stand_after
 stands-at-end [] b h = elim (cases_Bool (b == 34)) [ inl y ↦ absurd (grind (arith, nat_tests)) | inr n ↦ rw n (line-end b h) ]
 stands-at-end (x ∷ xs) b h = line-end b h
-
-no-record : next_record default_config st.StartRecord [] [] [] ≡ None
-unfolding next_record
-no-record = refl
 
 -- where nothing but ends of lines comes, what comes first is one
 first-ends : (b : ℕ) (tail : List ℕ) → IsBehindEnds (b ∷ tail) [] → ((b == 13) || (b == 10)) ≡ true

@@ -22,7 +22,7 @@ whole : (line : List ℕ) → records default_config line ≡ rows_from st.Start
 unfolding rows_from
 whole line = refl
 
-no-record : next_record default_config st.StartRecord [] [] [] ≡ None
+pub no-record : next_record default_config st.StartRecord [] [] [] ≡ None
 unfolding next_record
 no-record = refl
 

@@ -16,12 +16,13 @@ use Rattle.ucl_answers.specs.declared.live.Progress.{Progress}
 use Rattle.ucl_answers.specs.declared.live.Progress.TheVariants.{Ended, Took}
 use Rattle.ucl_answers.specs.Output.{HasPut, Waiting}
 use Rattle.ucl_answers.specs.Text.{Evening, live_text, missing_after}
-use Rattle.ucl_answers.specs.Stepping.{Device, EveningIsRefused, Fails, FailsAfter, HasEnded, HasEndedPromptly, IfTook, IsAt, IsPrompt, IsPromptAgain, IsTextOf, IsTurnedAway, LineAsks, Moment, Past}
-use Rattle.ucl_answers.specs.Stepping.{StaysPrompt, answers_to, begins, last_answers, missing_at, moment_after, past_with, reached, unread}
+use Rattle.ucl_answers.specs.Stepping.{Device, EndsLine, EveningIsRefused, Fails, FailsAfter, HasEnded, HasEndedPromptly, IfTook, IsAt, IsPrompt, IsPromptAgain, IsTextOf, IsTurnedAway, LineAsks}
+use Rattle.ucl_answers.specs.Stepping.{Moment, Past, StaysPrompt, answers_to, begins, last_answers, missing_at, moment_after, past_with, reached, unread}
 use Rattle.ucl_answers.specs.Taking.{FailsToEnd, FailsToGive, GaveBefore, live_moment}
 use Rattle.ucl_answers.proofs.Moments.{answers-to-append, answers-to-none, begun-short, moment-append, moment-none, row-bound, same-moment, whole-missing, whole-text}
 use Rattle.ucl_answers.proofs.Puts.{all_out}
 use Rattle.ucl_answers.proofs.Silence.{missing-before, shut-before}
+use Rattle.ucl_answers.proofs.Wires.{ended, ended-since}
 
 -- where a prompt evening is
 pub prompt-moment : (past : Past) (live : Live) (taken : Option (List ℕ)) → IsPrompt past live taken → live_moment live ≡ moment_after (begins past.start) past.bytes
@@ -163,7 +164,7 @@ module _ (past : Past) (live : Live) (old : Device) (p : IsPrompt past live old.
         consumed = moved;
         why = record {
           text = answers_to m [] ++ last_answers (moment_after m []);
-          text_is = inr ((old.left, at-end, moved), refl);
+          text_is = inr (ended old.left new.left at-end moved, refl);
           stopped = told-short new.sink_failed new.taken (last_answers (live_moment live)) (answers_to m [] ++ last_answers (moment_after m [])) written last-there s;
         };
       }
@@ -176,7 +177,7 @@ module _ (past : Past) (live : Live) (old : Device) (p : IsPrompt past live old.
           rest = [];
           parts = refl;
           out = rw (answers-to-none m) s.0;
-          line = inr (refl, (old.left, at-end, moved));
+          line = inr (refl, ended old.left new.left at-end moved);
           asks = subst (λ (n : Moment). LineAsks n) (here ∙ sym (moment-none m)) s.1;
         };
       }
@@ -186,7 +187,7 @@ module _ (past : Past) (live : Live) (old : Device) (p : IsPrompt past live old.
         consumed = moved;
         why = inr (record {
           failed_is = well;
-          refused = inr ((old.left, at-end, moved), sym (ap missing_at (here ∙ sym (moment-none m))) ∙ s.1);
+          refused = inr (ended old.left new.left at-end moved, sym (ap missing_at (here ∙ sym (moment-none m))) ∙ s.1);
           out = s.0;
         });
       }
@@ -210,20 +211,27 @@ module _ (past : Past) (origin old new : Device) (took : Consumes origin.left ol
       stopped_second (min 0 (2 ^ 64 - 1)) (min (length (answers_to (begins past.start) past.bytes)) (2 ^ 64 - 1)) new.sink_failed origin.taken old.taken new.taken
       (answers_to (begins past.start) past.bytes) text (WriteFailed written) answered (omega arith) s
 
+  before : HasEnded old.left new.left → HasEnded origin.left new.left
+  before = ended-since origin.left old.left new.left past.bytes took
+
+  line-of : (rest : List ℕ) → EndsLine rest old.left new.left → EndsLine rest origin.left new.left
+  line-of rest (inl e) = inl e
+  line-of rest (inr e) = inr (e.0, before e.1)
+
   silence : (bytes : List ℕ) (fault : InputFault)
       → (EveningIsRefused (moment_after (moment_after (begins past.start) past.bytes) bytes).evening fault
-      ⊎ (HasEnded new.left × (missing_at (moment_after (moment_after (begins past.start) past.bytes) bytes) ≡ Some fault)))
+      ⊎ (HasEnded old.left new.left × (missing_at (moment_after (moment_after (begins past.start) past.bytes) bytes) ≡ Some fault)))
       → answers_to (begins past.start) past.bytes ≡ []
   silence bytes fault (inl r) = shut-before (begins past.start) past.bytes bytes fault r
   silence bytes fault (inr r) = missing-before (begins past.start) past.bytes bytes fault r.1
 
   refusal : (bytes : List ℕ) (fault : InputFault)
       → (EveningIsRefused (moment_after (moment_after (begins past.start) past.bytes) bytes).evening fault
-      ⊎ (HasEnded new.left × (missing_at (moment_after (moment_after (begins past.start) past.bytes) bytes) ≡ Some fault)))
+      ⊎ (HasEnded old.left new.left × (missing_at (moment_after (moment_after (begins past.start) past.bytes) bytes) ≡ Some fault)))
       → EveningIsRefused (moment_after (begins past.start) (past.bytes ++ bytes)).evening fault
-      ⊎ (HasEnded new.left × (missing_at (moment_after (begins past.start) (past.bytes ++ bytes)) ≡ Some fault))
+      ⊎ (HasEnded origin.left new.left × (missing_at (moment_after (begins past.start) (past.bytes ++ bytes)) ≡ Some fault))
   refusal bytes fault (inl r) = inl (subst (λ (n : Moment). EveningIsRefused n.evening fault) (all-moment bytes) r)
-  refusal bytes fault (inr r) = inr (r.0, subst (λ (n : Moment). missing_at n ≡ Some fault) (all-moment bytes) r.1)
+  refusal bytes fault (inr r) = inr (before r.0, subst (λ (n : Moment). missing_at n ≡ Some fault) (all-moment bytes) r.1)
 
   away : (bytes : List ℕ) (fault : InputFault) → IsTurnedAway (reached past.start past.bytes) bytes old new fault → IsTurnedAway (unread past.start) (past.bytes ++ bytes) origin new fault
   away bytes fault r = record {
@@ -232,13 +240,13 @@ module _ (past : Past) (origin old new : Device) (took : Consumes origin.left ol
     out = appends-then origin.taken old.taken new.taken [] [] (rw (silence bytes fault r.refused) at answered) r.out;
   }
 
-  all-of : (bytes text : List ℕ) → IsTextOf (moment_after (begins past.start) past.bytes) bytes new.left text
-      → IsTextOf (begins past.start) (past.bytes ++ bytes) new.left (answers_to (begins past.start) past.bytes ++ text)
+  all-of : (bytes text : List ℕ) → IsTextOf (moment_after (begins past.start) past.bytes) bytes old.left new.left text
+      → IsTextOf (begins past.start) (past.bytes ++ bytes) origin.left new.left (answers_to (begins past.start) past.bytes ++ text)
   all-of bytes text (inl e) = inl (ap (λ (t : List ℕ). answers_to (begins past.start) past.bytes ++ t) e ∙ all-text bytes)
   all-of bytes text (inr e) =
       let m = moment_after (begins past.start) past.bytes in
       inr (
-        e.0,
+        before e.0,
         ap (λ (t : List ℕ). answers_to (begins past.start) past.bytes ++ t) e.1
             ∙ sym (append_assoc (answers_to (begins past.start) past.bytes) (answers_to m bytes) (last_answers (moment_after m bytes)))
             ∙ ap (λ (t : List ℕ). t ++ last_answers (moment_after m bytes)) (all-text bytes)
@@ -257,7 +265,7 @@ module _ (past : Past) (origin old new : Device) (took : Consumes origin.left ol
     parts = ap (λ (t : List ℕ). past.bytes ++ t) r.parts ∙ sym (append_assoc past.bytes r.front r.rest);
     out = subst (Appends origin.taken new.taken) (all-text r.front)
         (appends-then origin.taken old.taken new.taken (answers_to (begins past.start) past.bytes) (answers_to (moment_after (begins past.start) past.bytes) r.front) answered r.out);
-    line = r.line;
+    line = line-of r.rest r.line;
     asks = subst (λ (n : Moment). LineAsks n) (all-moment r.front) r.asks;
   }
   run-after bytes (Input fault) (inl r) = inl (record {

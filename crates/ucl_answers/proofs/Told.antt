@@ -1,12 +1,11 @@
 -- The members of an answer in JSON say what it says as text.
 use Rattle.std.proofs.Common.{◌≡◌, ℕ, zero, suc, ◌+◌, ◌-◌, ◌≤◌, ◌<◌, ℤ, pos, negsuc, ◌-ℤ◌, Bool, true, false, List, [], ◌∷◌, ◌++◌, codes, Option, Some, None}
-use Rattle.std.proofs.Common.{refl, sym, ap, ◌∙◌, append-nil, inl, inr, arith, cond, le-leb, ltb}
-use Rattle.std.specs.Prelude.{Result, Ok, Err, decimal, flat_map, nat_le, option_and_then}
+use Rattle.std.proofs.Common.{refl, sym, ap, ◌∙◌, append-nil, arith, cond, le-leb, ltb}
+use Rattle.std.specs.Prelude.{Result, Ok, Err, decimal, flat_map, option_and_then}
 use Rattle.std.proofs.lemmas.Fmt.{decimal_digit}
 use Rattle.std.proofs.lemmas.List.{append_assoc}
 use Rattle.itoa.proofs.Decimal.{decimal_two, pair}
-use Rattle.std.proofs.lemmas.Bool.{cases_Bool, ltb-false, ltb-true}
-use Rattle.std.proofs.lemmas.Bool.Decides.{nat_tests}
+use Rattle.std.proofs.lemmas.Bool.{lt-leb, ltb-false, ltb-true}
 use Rattle.serde_json.specs.Data.{Data, Items, number}
 use Rattle.serde_json.specs.Find.{as_integer, as_number, of_integer}
 use Rattle.serde_json.proofs.OnLiterals.{serde_json_on_literals}
@@ -102,9 +101,6 @@ integer-back : (z : ℤ) → as_integer (of_integer z) ≡ Some z
 integer-back (pos n) = refl
 integer-back (negsuc n) = refl
 
-above : (n m : ℕ) → m < n → nat_le n m ≡ false
-above n m h = elim (cases_Bool (nat_le n m)) [ inl y ↦ absurd (grind (arith, nat_tests)) | inr other ↦ other ]
-
 marked : (mark : Mark) → mark_column (mark_name mark) ≡ mark_text mark
 marked Plus = refl
 marked Minus = refl
@@ -113,7 +109,7 @@ marked Blank = refl
 signs : (f a : ℕ) (t : Bool) → ltb f (suc a) ≡ t → signed_text (cond t (negsuc (suc a - suc f)) (pos (f - suc a))) ≡ difference_text f (suc a)
 signs f a true e =
     let h : f < suc a = ltb-true f (suc a) e in
-    rw (above (suc a) f h) (ap (λ (n : ℕ). codes "-" ++ decimal n) (omega (arith, h)))
+    rw (lt-leb (suc a) f h) (ap (λ (n : ℕ). codes "-" ++ decimal n) (omega (arith, h)))
 signs f a false e = rw (le-leb (suc a) f (ltb-false f (suc a) e)) refl
 
 difference : (f a : ℕ) → signed_text (pos f -ℤ pos a) ≡ difference_text f a

@@ -1,7 +1,7 @@
 -- The lines as they are read, and as they came.
 use Rattle.std.proofs.Common.{◌≡◌, ℕ, ◌+◌, ◌-◌, ◌≤◌, ◌<◌, ◌==◌, false, List, [], ◌∷◌, ◌++◌, length, get_or, refl, ap, inl, inr, arith, length-append}
 use Rattle.std.specs.Prelude.{⊤, ◌⊎◌, nat_le}
-use Rattle.std.proofs.lemmas.Bool.{cases_Bool}
+use Rattle.std.proofs.lemmas.Bool.{cases_Bool, lt-leb}
 use Rattle.std.proofs.lemmas.Bool.Decides.{nat_tests}
 use Rattle.ucl_answers.specs.Lines.{begun_line, ended_lines, last_lines, lines_of, longer}
 use Rattle.ucl_answers.specs.UncutLines.{uncut_after, uncut_lines}
@@ -12,9 +12,6 @@ use Rattle.ucl_answers.specs.Laws.{LinesAreReadWhole}
 -- a line and what was kept of it: the same, or both too long
 abbrev pub Alike : List ℕ → List ℕ → Type 0
 Alike line whole = (line ≡ whole) ⊎ ((258 ≤ length line) × (258 ≤ length whole))
-
-above : (n m : ℕ) → m < n → nat_le n m ≡ false
-above n m h = elim (cases_Bool (nat_le n m)) [ inl y ↦ absurd (grind (arith, nat_tests)) | inr other ↦ other ]
 
 longer-by : (line : List ℕ) (b : ℕ) → length (line ++ b ∷ []) ≡ length line + 1
 longer-by line b = length-append line (b ∷ [])
@@ -34,8 +31,8 @@ one-more line whole b (inr (p, q)) = elim (cases_Bool (nat_le 258 (length line))
 
 no-room : (text : List ℕ) → 258 < length text → fits text ≡ false
 no-room text h = elim (cases_Bool (get_or text (length text - 2) 0 == 13)) [
-  | inl y ↦ rw y (above (length text) 258 h)
-  | inr n ↦ rw n (above (length text) 257 (omega (arith, h)))
+  | inl y ↦ rw y (lt-leb (length text) 258 h)
+  | inr n ↦ rw n (lt-leb (length text) 257 (omega (arith, h)))
 ]
 
 too-long : (row : ℕ) (line : List ℕ) → 258 ≤ length line → said_on row line ≡ Garbled

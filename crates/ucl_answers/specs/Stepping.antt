@@ -1,5 +1,5 @@
 -- An evening between two bytes, and what is left of it where it fails.
-use Rattle.std.specs.Prelude.{◌≡◌, ◌⊎◌, ⊤, ℕ, ◌+◌, ◌-◌, ◌^◌, min, Bool, true, false, List, [], ◌∷◌, ◌++◌, length, Option, Some, None}
+use Rattle.std.specs.Prelude.{◌≡◌, ◌⊎◌, ⊤, ℕ, ◌+◌, ◌-◌, ◌^◌, min, Bool, true, false, List, [], ◌∷◌, ◌++◌, length, Option, Some, None, IfSome}
 use Rattle.std.specs.Result.{is_ok}
 use Rattle.std.specs.Io.KnownBytes.{Appends, Consumes, IsAtEnd}
 use Rattle.ucl_word.specs.Rules.{reply_of}
@@ -176,24 +176,24 @@ IsOfEvening OutOfMemory = ⊤
 IsOfEvening (WriteFailed written) = ⊤
 IsOfEvening _ = ⊥
 
--- the source had no byte left, and gave none
-abbrev pub HasEnded : Option (List ℕ) → Type 0
-HasEnded left2 = (left : Option (List ℕ)) × IsAtEnd left × Consumes left left2 []
+-- no byte is left of a source, where its bytes were known at first
+abbrev pub HasEnded : Option (List ℕ) → Option (List ℕ) → Type 0
+HasEnded left left2 = IfSome left (λ _. left2 ≡ Some [])
 
 -- the text that the sink failed in: the answers to the bytes that were taken, or these and that to a last line without an end
-abbrev pub IsTextOf : Moment → List ℕ → Option (List ℕ) → List ℕ → Type 0
-IsTextOf m bytes left2 text =
-    (text ≡ answers_to m bytes) ⊎ (HasEnded left2 × (text ≡ answers_to m bytes ++ last_answers (moment_after m bytes)))
+abbrev pub IsTextOf : Moment → List ℕ → Option (List ℕ) → Option (List ℕ) → List ℕ → Type 0
+IsTextOf m bytes left left2 text =
+    (text ≡ answers_to m bytes) ⊎ (HasEnded left left2 × (text ≡ answers_to m bytes ++ last_answers (moment_after m bytes)))
 
 -- the sink failed in it, and the number of all bytes that went out is told
 pub record WriteFails (at : Reached) (bytes : List ℕ) (old new : Device) (count : ℕ) : Type 0 where
   pub text : List ℕ
-  pub text_is : IsTextOf at.moment bytes new.left text
+  pub text_is : IsTextOf at.moment bytes old.left new.left text
   pub stopped : StoppedShort (min at.written (2 ^ 64 - 1)) new.sink_failed old.taken new.taken text count
 
 -- the bytes end a line here, or are at their end
-abbrev pub EndsLine : List ℕ → Option (List ℕ) → Type 0
-EndsLine rest left2 = ((more : List ℕ) × (rest ≡ 10 ∷ more)) ⊎ ((rest ≡ []) × HasEnded left2)
+abbrev pub EndsLine : List ℕ → Option (List ℕ) → Option (List ℕ) → Type 0
+EndsLine rest left left2 = ((more : List ℕ) × (rest ≡ 10 ∷ more)) ⊎ ((rest ≡ []) × HasEnded left left2)
 
 -- a line was not answered, for which there was no memory: it asks for some, and those before it were answered, whole
 pub record RanOut (at : Reached) (bytes : List ℕ) (old new : Device) : Type 0 where
@@ -201,7 +201,7 @@ pub record RanOut (at : Reached) (bytes : List ℕ) (old new : Device) : Type 0 
   pub rest : List ℕ
   pub parts : bytes ≡ front ++ rest
   pub out : Appends old.taken new.taken (answers_to at.moment front)
-  pub line : EndsLine rest new.left
+  pub line : EndsLine rest old.left new.left
   pub asks : LineAsks (moment_after at.moment front)
 
 -- the source failed, and the number of bytes that came before is told: all lines that have an end were answered
@@ -214,7 +214,7 @@ pub record ReadFails (at : Reached) (bytes : List ℕ) (old new : Device) (fault
 pub record IsTurnedAway (at : Reached) (bytes : List ℕ) (old new : Device) (fault : InputFault) : Type 0 where
   pub failed_is : new.source_failed ≡ false
   pub refused :
-      EveningIsRefused (moment_after at.moment bytes).evening fault ⊎ (HasEnded new.left × (missing_at (moment_after at.moment bytes) ≡ Some fault))
+      EveningIsRefused (moment_after at.moment bytes).evening fault ⊎ (HasEnded old.left new.left × (missing_at (moment_after at.moment bytes) ≡ Some fault))
   pub out : Appends old.taken new.taken []
 
 -- why a run that was so far fails once it has taken these bytes

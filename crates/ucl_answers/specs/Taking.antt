@@ -31,9 +31,6 @@ live_waiting live = live.desk.page
 abbrev pub line_begun_in : Live → List ℕ
 line_begun_in live = live.desk.line.items
 
-abbrev pub read_by : Live → ℕ
-read_by live = live.read
-
 -- a line that ends in the bytes was not answered: it asks for memory, and the answers before it were put
 pub record LeavesLine (m : Moment) (bytes : List ℕ) (before after : Waiting) (old new : Option (List ℕ)) : Type 0 where
   pub front : List ℕ

@@ -19,14 +19,14 @@ use ucl_runs::RunFault;
 use ucl_screen::screen;
 use ucl_word::{Accepted, Refusal};
 
-/// Room for the line of a reply.
-const LINE: usize = 64;
+/// The line of a reply, which takes no memory.
+pub type ReplyLine = ArrayString<64>;
 
 /// An answer.
 #[derive(Drop)]
 pub(crate) enum Answer {
-    /// A line that took no memory.
-    Short(ArrayString<LINE>),
+    /// The line of a reply.
+    Short(ReplyLine),
     /// Any text.
     Long(String),
 }
@@ -44,7 +44,7 @@ impl Answer {
 }
 
 /// The line of an event that was entered.
-fn accepted_line(row: u64, game: u8, number: u16, version: u16) -> ArrayString<LINE>
+pub fn accepted_line(row: u64, game: u8, number: u16, version: u16) -> ReplyLine
     ensures { result.bytes ≡ accepted_line row game number version }
 {
     let mut line = ArrayString::new();
@@ -60,7 +60,7 @@ fn accepted_line(row: u64, game: u8, number: u16, version: u16) -> ArrayString<L
 }
 
 /// Writes the number of a refusal and its name.
-fn push_refusal(line: &mut ArrayString<LINE>, refusal: Refusal)
+fn push_refusal(line: &mut ReplyLine, refusal: Refusal)
     requires { array_string_len line.old ≤ 40 }
     ensures text { line.new.bytes ≡ line.old.bytes ++ refusal_text refusal }
     ensures short { array_string_len line.new ≤ 60 }
@@ -82,7 +82,7 @@ fn push_refusal(line: &mut ArrayString<LINE>, refusal: Refusal)
 }
 
 /// The line of an event that was refused.
-fn refused_line(row: u64, refusal: Refusal) -> ArrayString<LINE>
+pub fn refused_line(row: u64, refusal: Refusal) -> ReplyLine
     ensures { result.bytes ≡ refused_line row refusal }
 {
     let mut line = ArrayString::new();
@@ -94,7 +94,7 @@ fn refused_line(row: u64, refusal: Refusal) -> ArrayString<LINE>
 }
 
 /// The line of a row that asks for nothing that there is.
-fn bad_line(row: u64) -> ArrayString<LINE>
+pub fn bad_line(row: u64) -> ReplyLine
     ensures { result.bytes ≡ bad_line row }
 {
     let mut line = ArrayString::new();
@@ -104,12 +104,7 @@ fn bad_line(row: u64) -> ArrayString<LINE>
 }
 
 /// The line of a reply, where so many events were accepted before.
-fn reply_line(
-    row: u64,
-    game: u8,
-    before: u16,
-    reply: Result<Accepted, Refusal>,
-) -> ArrayString<LINE>
+fn reply_line(row: u64, game: u8, before: u16, reply: Result<Accepted, Refusal>) -> ReplyLine
     requires { before < 2 ^ 16 - 1 }
     ensures { result.bytes ≡ line_of_reply row game before reply }
 {

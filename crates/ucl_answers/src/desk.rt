@@ -74,48 +74,8 @@ fn plain_row(row: u64, text: &[u8]) -> Option<Four<'_>>
     }
 }
 
-/// Answers a line with its line feed, whatever it is.
-#[tactic(auto, using(crate::proofs::Puts::put_nothing))]
-fn answer_any<W: Sink>(
-    alloc: Global,
-    evening: &mut Evening,
-    fields: &mut Fields,
-    text: &[u8],
-    page: &mut Page,
-    sink: &mut W,
-) -> Result<(), RunFault>
-    requires row { evening.old.row < 2 ^ 64 - 1 }
-    ensures next { OnOk result (evening_seen evening.new
-        ≡ next (evening_seen evening.old) (said_by_text evening.old.row text.now)) }
-    ensures put { OnOk result (HasPut page.old page.new (W.taken sink.old) (W.taken sink.new)
-        (answer_said (evening_seen evening.old) (said_by_text evening.old.row text.now))) }
-    ensures sound { OnOk result (W.failed sink.new ≡ W.failed sink.old) }
-    ensures vain { OnOk result (W.in_vain sink.new ≡ W.in_vain sink.old) }
-    ensures fails { IfErr result (FailsToPut page.old page.new
-        (sink_change W.Sink sink.old sink.new)
-        (answer_said (evening_seen evening.old) (said_by_text evening.old.row text.now))
-        (AsksForMemory (evening_seen evening.old) (said_by_text evening.old.row text.now))
-        (EveningIsRefused
-        (next (evening_seen evening.old) (said_by_text evening.old.row text.now)))) }
-    ensures sink_fails { IfErr result (SinkFails
-        (W.in_vain sink.old) (W.in_vain sink.new)
-        (W.failed sink.old) (W.failed sink.new)) }
-{
-    let _written = page.written();
-    match read(fields, evening.row, text) {
-        Found::Nothing => {
-            evening.pass();
-            Ok(())
-        }
-        Found::More => evening.answer(alloc, &None, page, sink),
-        Found::One => {
-            let said = fields.four();
-            evening.answer(alloc, &said, page, sink)
-        }
-    }
-}
-
 /// Answers a line with its line feed. A row with no quotes, which most are, is read where it lies.
+#[tactic(auto, using(crate::proofs::Puts::put_nothing))]
 fn answer_text<W: Sink>(
     alloc: Global,
     evening: &mut Evening,
@@ -141,9 +101,20 @@ fn answer_text<W: Sink>(
         (W.in_vain sink.old) (W.in_vain sink.new)
         (W.failed sink.old) (W.failed sink.new)) }
 {
-    match plain_row(evening.row, text) {
-        Some(four) => evening.answer(alloc, &Some(four), page, sink),
-        None => answer_any(alloc, evening, fields, text, page, sink),
+    if let Some(four) = plain_row(evening.row, text) {
+        return evening.answer(alloc, &Some(four), page, sink);
+    }
+    let _written = page.written();
+    match read(fields, evening.row, text) {
+        Found::Nothing => {
+            evening.pass();
+            Ok(())
+        }
+        Found::More => evening.answer(alloc, &None, page, sink),
+        Found::One => {
+            let said = fields.four();
+            evening.answer(alloc, &said, page, sink)
+        }
     }
 }
 

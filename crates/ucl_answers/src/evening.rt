@@ -6,7 +6,7 @@ ghost use Rattle.ucl_answers.specs.Output.{FailsToPut, HasPut, SinkFails, sink_c
 ghost use Rattle.ucl_answers.specs.Rows.{Nothing, of_row};
 ghost use Rattle.ucl_answers.specs.Requests.{request_of};
 ghost use Rattle.ucl_answers.specs.Seen.{evening_seen, stage_seen};
-ghost use Rattle.ucl_answers.specs.Stages.{after_row, opened};
+ghost use Rattle.ucl_answers.specs.Stages.{after_row};
 ghost use Rattle.ucl_answers.specs.Stepping.{AsksAt, AsksForMemory, EveningIsRefused, StageIsRefused};
 ghost use Rattle.ucl_answers.specs.Text.{answer_said, answer_at, next};
 
@@ -79,47 +79,6 @@ impl Evening {
         self.row += 1;
     }
 
-    /// Answers a row, which has four fields or is garbled, before the board is open.
-    fn answer_early<W: Sink>(
-        &mut self,
-        alloc: Global,
-        said: &Option<Four<'_>>,
-        page: &mut Page,
-        sink: &mut W,
-    ) -> Result<(), RunFault>
-        ensures options { OnOk result (self.new.options ≡ self.old.options) }
-        ensures row { OnOk result (self.new.row ≡ self.old.row) }
-        ensures stage { OnOk result (stage_seen self.new.stage
-            ≡ after_row self.old.row
-            (opened (stage_seen self.old.stage) (of_row (option_map four_seen said.now)))
-            (of_row (option_map four_seen said.now))) }
-        ensures put { OnOk result (HasPut page.old page.new (W.taken sink.old) (W.taken sink.new)
-            (answer_said (evening_seen self.old) (of_row (option_map four_seen said.now)))) }
-        ensures sound { OnOk result (W.failed sink.new ≡ W.failed sink.old) }
-        ensures vain { OnOk result (W.in_vain sink.new ≡ W.in_vain sink.old) }
-        ensures fails { IfErr result (FailsToPut page.old page.new
-            (sink_change W.Sink sink.old sink.new)
-            (answer_said (evening_seen self.old) (of_row (option_map four_seen said.now)))
-            (AsksForMemory (evening_seen self.old) (of_row (option_map four_seen said.now)))
-            (EveningIsRefused
-            (next (evening_seen self.old) (of_row (option_map four_seen said.now))))) }
-        ensures sink_fails { IfErr result (SinkFails
-            (W.in_vain sink.old) (W.in_vain sink.new)
-            (W.failed sink.old) (W.failed sink.new)) }
-    {
-        let stage = mem::replace(&mut self.stage, Stage::Naming(Clubs::NoClub));
-        self.stage = after_row(
-            alloc,
-            &self.options,
-            self.row,
-            stage.opened(said),
-            said,
-            page,
-            sink,
-        )?;
-        Ok(())
-    }
-
     /// Answers a row, which has four fields or is garbled.
     pub(crate) fn answer<W: Sink>(
         &mut self,
@@ -150,7 +109,18 @@ impl Evening {
                 let request = request_of(said);
                 table.answered(alloc, &self.options, self.row, &request, page, sink)?;
             }
-            _ => self.answer_early(alloc, said, page, sink)?,
+            _ => {
+                let stage = mem::replace(&mut self.stage, Stage::Naming(Clubs::NoClub));
+                self.stage = after_row(
+                    alloc,
+                    &self.options,
+                    self.row,
+                    stage.opened(said),
+                    said,
+                    page,
+                    sink,
+                )?;
+            }
         }
         self.row += 1;
         Ok(())

@@ -20,6 +20,7 @@ mod table;
 mod wire;
 mod words;
 
+pub use answer::{ReplyLine, accepted_line, bad_line, refused_line};
 pub use asked::Asked;
 pub use laws::{
     beginnings_are_answered, boards_take_events, evenings_are_sequential, evenings_say_the_same,
@@ -28,5 +29,6 @@ pub use laws::{
 };
 pub use live::{Live, Progress, live_run};
 pub use options::{Format, Options};
+pub use row::MOST_LINE_BYTES;
 pub use wire::Wire;
 pub use words::{Lines, word_lines};

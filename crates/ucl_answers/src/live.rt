@@ -7,7 +7,7 @@ ghost use Rattle.ucl_runs.specs.Run.{is_read_failed};
 ghost use Rattle.ucl_answers.specs.Text.{live_text, missing_after, start_of};
 ghost use Rattle.ucl_answers.specs.Stepping.{EveningIsRefused, Fails, IfTook, IsAt, IsOfEvening, IsPrompt, LineAsks, Past, StaysPrompt, answers_to, begins, device, ended_at, last_answers, missing_at, moment_after, reached, unread};
 ghost use Rattle.ucl_answers.specs.Seen.{evening_seen};
-ghost use Rattle.ucl_answers.specs.Wires.{AskedMore, IsAnsweredSoFar};
+ghost use Rattle.ucl_answers.specs.Wires.{AskedMore, IsAnsweredSoFar, VainlyTakes};
 ghost use Rattle.ucl_answers.specs.Taking.{FailsToEnd, FailsToGive, FailsToTake, RunFails, line_begun_in, held_row, live_moment, live_row, live_waiting, moment_of};
 
 use crate::desk::Desk;
@@ -235,7 +235,8 @@ impl Live {
         ensures asked { wire.new.asked.times
             ≡ wire.old.asked.times ++ (wire.old.source, wire.old.sink) ∷ [] }
         ensures one_call { S.calls wire.new.source ≡ S.calls wire.old.source + 1 }
-        ensures vain { S.in_vain wire.new.source ≤ S.in_vain wire.old.source + 1 }
+        ensures vain { VainlyTakes (S.in_vain wire.old.source) (S.in_vain wire.new.source)
+            (S.failed wire.new.source) (S.left wire.old.source) (S.left wire.new.source) }
         ensures moved { IfOk result
             (IfTook (λ _. S.in_vain wire.new.source ≡ S.in_vain wire.old.source)) }
         ensures read_failed { S.failed wire.new.source ≡ is_read_failed result }
@@ -305,14 +306,16 @@ pub fn live_run<S: Source, W: Sink>(
     ensures read_failed { S.failed wire.new.source ≡ is_read_failed result }
     ensures kinds { IfErr result IsOfEvening }
 
-    // Each time that bytes were asked for, also in a run that failed, the answers to all lines that had an end by then were out.
-    ensures prompt { AskedMore wire.old.asked.times wire.new.asked.times
+    // Just before each call for bytes, also in a run that failed, the answers to all lines that had an end by then were out.
+    ensures prompt { AskedMore (λ time. S.calls time.0)
+        wire.old.asked.times wire.new.asked.times
         (S.calls wire.old.source) (S.calls wire.new.source)
         (λ time. IsAnsweredSoFar (start_of options)
         (S.left wire.old.source) (S.left time.0) (W.taken wire.old.sink) (W.taken time.1)) }
 
-    // A source that has failed, or told the end, is not called again.
-    ensures vain { S.in_vain wire.new.source ≤ S.in_vain wire.old.source + 1 }
+    // A source that has failed, or told the end, is not called again, and no other call is in vain.
+    ensures vain { VainlyTakes (S.in_vain wire.old.source) (S.in_vain wire.new.source)
+        (S.failed wire.new.source) (S.left wire.old.source) (S.left wire.new.source) }
 
     // A failed write is answered exactly where the sink has failed, which is not called again then; and it is not called with nothing.
     ensures sink_sound { OnOk result (W.failed wire.new.sink ≡ W.failed wire.old.sink) }

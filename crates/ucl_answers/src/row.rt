@@ -13,7 +13,7 @@ use arrayvec::ArrayVec;
 use ucl_screen::Four;
 
 /// The most bytes that are read of a line: 256, and the two of its end.
-pub(crate) const MOST_LINE_BYTES: usize = 258;
+pub const MOST_LINE_BYTES: usize = 258;
 
 /// The most fields that so many bytes have.
 const MOST_FIELDS: usize = 259;

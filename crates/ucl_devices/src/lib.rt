@@ -1,8 +1,11 @@
 //! Readers and writers that fail once, after so many bytes, and work again afterwards: what tests of runs put in place of the standard
-//! streams. Every function is safe, and no more is said of it.
+//! streams. Every function is safe, and no more is said of it. Beside them stands the run that these tests have stored.
 #![tactic(auto)]
 
+mod stored;
+
 use std::io;
+pub use stored::{CLUBS, STORED, STORED_REPLIES, STORED_SCREEN, STORED_WORDS};
 
 /// A reader of a text, which gives at most `piece` bytes at a time, fails after `room` bytes, and then reads on.
 #[derive(Drop)]

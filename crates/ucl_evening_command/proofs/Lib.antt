@@ -1,3 +1,4 @@
+pub mod Entering
 pub mod Judged
 pub mod Lines
 pub mod Lists

@@ -9,7 +9,7 @@ use Rattle.std.proofs.lemmas.Grind.{common_steps}
 use Rattle.std.proofs.lemmas.List.{append-nil}
 use Rattle.clap.specs.Words.{Text}
 use Rattle.ucl_evening_command.specs.declared.asked.Ways.{Ways}
-use Rattle.ucl_evening_command.specs.Wanting.{Way, are_apart, each_way, joined, way_seen, ways_of}
+use Rattle.ucl_evening_command.specs.Wanting.{Way, each_way, joined, names_are_apart, way_seen, ways_of}
 
 -- ---- what is left of a list
 
@@ -81,19 +81,19 @@ in_found i names d name whole h so_far same =
 pub in_end : (i : ℕ) (names : List (Bor Text)) (name : Text) (whole : Bool) → length names ≤ i → is_in name (texts_at (drop i names)) ≡ whole → false ≡ whole
 in_end i names name whole h so_far = rw (past_end i names h) at so_far
 
-pub apart_none : (names : List (Bor Text)) → length names ≡ 0 → true ≡ are_apart (texts_at names)
-unfolding are_apart
+pub apart_none : (names : List (Bor Text)) → length names ≡ 0 → true ≡ names_are_apart (texts_at names)
+unfolding names_are_apart
 apart_none [] none = refl
 apart_none (name ∷ names) none = absurd (omega arith)
 
 pub apart_some : (names rest : List (Bor Text)) (first : Bor Text) → names ≡ first ∷ rest → is_in first.now (texts_at rest) ≡ false
-    → are_apart (texts_at rest) ≡ are_apart (texts_at names)
-unfolding are_apart
+    → names_are_apart (texts_at rest) ≡ names_are_apart (texts_at names)
+unfolding names_are_apart
 apart_some names rest first is none =
-    ap (λ (b : Bool). not b && are_apart (texts_at rest)) (sym none) ∙ ap (λ (all : List (Bor Text)). are_apart (texts_at all)) (sym is)
+    ap (λ (b : Bool). not b && names_are_apart (texts_at rest)) (sym none) ∙ ap (λ (all : List (Bor Text)). names_are_apart (texts_at all)) (sym is)
 
 pub apart_twice : (names rest : List (Bor Text)) (first : Bor Text) → names ≡ first ∷ rest → is_in first.now (texts_at rest) ≡ true
-    → false ≡ are_apart (texts_at names)
-unfolding are_apart
+    → false ≡ names_are_apart (texts_at names)
+unfolding names_are_apart
 apart_twice names rest first is some =
-    ap (λ (b : Bool). not b && are_apart (texts_at rest)) (sym some) ∙ ap (λ (all : List (Bor Text)). are_apart (texts_at all)) (sym is)
+    ap (λ (b : Bool). not b && names_are_apart (texts_at rest)) (sym some) ∙ ap (λ (all : List (Bor Text)). names_are_apart (texts_at all)) (sym is)

@@ -1,8 +1,11 @@
 -- The events that were entered before an evening: each is accepted after those before it, or the first row whose event is not is told.
-use Rattle.std.specs.Prelude.{◌≡◌, ⊤, ℕ, ◌+◌, if◌then◌else◌, List, [], ◌∷◌, Result, Ok, Err}
+use Rattle.std.specs.Prelude.{◌≡◌, ⊤, ℕ, ◌+◌, ◌-◌, ◌==◌, ◌≤◌, true, if◌then◌else◌, List, [], ◌∷◌, All, length, map, filter, slice_index, Result, Ok, Err}
 use Rattle.std.specs.Result.{is_ok}
+use mathlib.Core.List.{IsPrefix}
 use Rattle.ucl_board.specs.declared.entry.Entry.{Entry}
-use Rattle.ucl_board.specs.History.{after_attempt, sequential_reply}
+use Rattle.ucl_board.specs.History.{after_attempt, entry_of, followed_by, sequential_reply}
+use Rattle.ucl_shared.specs.declared.live_board.LiveBoard as boards
+use Rattle.ucl_shared.specs.Passes.{PassView, entries_by}
 use Rattle.ucl_screen.specs.declared.fault.InputFault.TheVariants.{BadRow}
 use Rattle.ucl_screen.specs.declared.night.NightEvent.{NightEvent}
 use Rattle.ucl_runs.specs.declared.fault.RunFault.{RunFault}
@@ -27,3 +30,47 @@ abbrev pub TellsRefused : {A : Type 0} → Result (List Entry) RunFault → Resu
 TellsRefused (Ok history) r = ⊤
 TellsRefused (Err fault) (Ok earlier) = ⊥
 TellsRefused (Err fault) (Err told) = told ≡ fault
+
+-- ---- on a live board
+
+-- the entries of one reporter's events of a script, in their order, on a board where the reporter has this number
+abbrev pub entries_for : ℕ → List NightEvent → ℕ → List Entry
+entries_for reporter events number = map (λ event. entry_of number event.call) (filter (λ event. event.reporter == reporter) events)
+
+-- passes have entered just the events of a script's reporters: the first pass those of this reporter, the second those of the next, and so on
+unfoldable pub HaveEntered : ℕ → List NightEvent → List PassView → Type 0
+HaveEntered reporter events [] = ⊤
+HaveEntered reporter events (k ∷ views) = (k.mine ≡ entries_for reporter events k.number) × HaveEntered (reporter + 1) events views
+
+-- the numbers of passes on their board
+abbrev pub numbers_of : List PassView → List ℕ
+numbers_of views = map (λ k. k.number) views
+
+-- after a beginning, a history has these events one after the other, each accepted after all before it; on the board the script's reporters have these numbers
+unfoldable pub HasInOrder : List ℕ → List Entry → List NightEvent → List Entry → Type 0
+HasInOrder numbers start [] history = IsPrefix start history
+HasInOrder numbers start (event ∷ events) history =
+    (before : List Entry) × IsPrefix start before × (is_ok (sequential_reply before event.call) ≡ true)
+    × HasInOrder numbers (followed_by before (entry_of (slice_index numbers (event.reporter - 1)) event.call)) events history
+
+-- the entries of a pass in a history are just those that it has entered
+abbrev pub HasJustItsOwn : List Entry → PassView → Type 0
+HasJustItsOwn history k = entries_by k.number history ≡ k.mine
+
+-- the events of a script were entered on a live board, on which this had been seen before: each by the pass that stands for its reporter, and
+-- these passes have entered nothing else in all that the pass which is handed back has seen
+pub record WereEntered {B R P N : Type 0} (live : boards.Ghosts B R P N) (before : List Entry) (events : List NightEvent) (pass : R) (reporters : List P) : Type 0 where
+  pub enough : All (λ event. event.reporter ≤ length reporters) events
+  pub each : HaveEntered 1 events (map live.reporter reporters)
+  pub in_order : HasInOrder (numbers_of (map live.reporter reporters)) before events (live.reader pass).seen
+  pub own : All (HasJustItsOwn (live.reader pass).seen) (map live.reporter reporters)
+
+-- an event was entered by a reporter's pass, k before and m after, after all that a reader's pass had seen, p before and q after; that pass has then seen it
+pub record WasEntered (p k : PassView) (event : NightEvent) (m q : PassView) : Type 0 where
+  pub before : List Entry
+  pub since : IsPrefix p.seen before
+  pub accepted : is_ok (sequential_reply before event.call) ≡ true
+  pub seen : IsPrefix (followed_by before (entry_of m.number event.call)) q.seen
+  pub number : m.number ≡ k.number
+  pub mine : m.mine ≡ followed_by k.mine (entry_of m.number event.call)
+  pub known : IsPrefix m.mine (entries_by m.number q.seen)

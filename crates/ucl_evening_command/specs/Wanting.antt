@@ -89,9 +89,9 @@ abbrev pub names_of : Wanted → List Text
 names_of wanted = wanted.clubs ∷ names_of_ways wanted.reporters ++ map place_of wanted.screens
 
 -- no text stands there twice
-unfoldable pub are_apart : List Text → Bool
-are_apart [] = true
-are_apart (text ∷ texts) = not (list_any (λ t. bytes_eq t text) texts) && are_apart texts
+unfoldable pub names_are_apart : List Text → Bool
+names_are_apart [] = true
+names_are_apart (text ∷ texts) = not (list_any (λ t. bytes_eq t text) texts) && names_are_apart texts
 
 -- ---- the evening that matches name
 
@@ -105,7 +105,7 @@ most = 16
 
 -- an evening whose names are apart
 abbrev pub if_apart : Wanted → Result Wanted Reason
-if_apart wanted = if are_apart (names_of wanted) then Ok wanted else Err Twice
+if_apart wanted = if names_are_apart (names_of wanted) then Ok wanted else Err Twice
 
 -- an evening of at most 16 screens
 abbrev pub if_few : Wanted → Result Wanted Reason

@@ -3,7 +3,7 @@
 ghost use Rattle.std.specs.Prelude.{◌≡◌, ◌++◌, IfOk, OnOk, drop, map};
 ghost use Rattle.std.specs.List.{list_any};
 ghost use Rattle.std.specs.Str.{bytes_eq};
-ghost use Rattle.ucl_evening_command.specs.Wanting.{are_apart, names_of, wanted_of, way_seen, shown_seen, names_of_ways, place_of};
+ghost use Rattle.ucl_evening_command.specs.Wanting.{names_are_apart, names_of, wanted_of, way_seen, shown_seen, names_of_ways, place_of};
 
 use crate::asked::{Asked, Shown, Ways};
 use std::alloc::{AllocError, Global};
@@ -29,7 +29,7 @@ fn is_among(name: &str, names: &[&str]) -> bool
 
 /// Whether no name stands there twice.
 pub(crate) fn are_apart(names: &[&str]) -> bool
-    ensures { result ≡ are_apart (map (λ n. n.now) names.now) }
+    ensures { result ≡ names_are_apart (map (λ n. n.now) names.now) }
 {
     let Some((first, rest)) = names.split_first() else {
         return true;

@@ -13,7 +13,7 @@ use Rattle.ucl_answers.specs.Lines.{begun_line, ended_lines, last_lines, lines_o
 use Rattle.ucl_answers.specs.Stepping.{Device, HasEnded}
 use Rattle.ucl_answers.specs.Wires.{AskedMore}
 use Rattle.ucl_answers.proofs.Moments.{ended-append}
-use Rattle.ucl_answers.proofs.Wires.{asked-then}
+use Rattle.ucl_answers.proofs.Wires.{asked-then, ended, ended-since}
 use Rattle.ucl_evenings.specs.declared.went.Went.{Went}
 use Rattle.ucl_evenings.specs.Answering.{calls_typed, typed_answers}
 use Rattle.ucl_evenings.specs.Reporting.{RangFor}
@@ -23,7 +23,10 @@ use Rattle.ucl_evenings.proofs.Lines.{answered_then, begins_behind, lines_count,
 
 -- ---- each time that the source was asked
 
-module _ {S W : Type 0} (left : S → Option (List ℕ)) (taken : W → Option (List ℕ)) (rung : W → ℕ → Type 0) (left0 taken0 : Option (List ℕ)) (rung0 : ℕ → Type 0) where
+module _ {S W : Type 0} (calls_of : S → ℕ) (left : S → Option (List ℕ)) (taken : W → Option (List ℕ)) (rung : W → ℕ → Type 0) (left0 taken0 : Option (List ℕ)) (rung0 : ℕ → Type 0) where
+  abbrev count : S × W → ℕ
+  count time = calls_of time.0
+
   abbrev Prompt : List Went → S × W → Type 0
   Prompt went time = IsAnsweredUpTo went left0 (left time.0) taken0 (taken time.1) rung0 (rung time.1)
 
@@ -38,19 +41,21 @@ module _ {S W : Type 0} (left : S → Option (List ℕ)) (taken : W → Option (
     rang = u.rang;
   }
 
-  asked_longer : (old new : List (S × W)) (calls calls2 : ℕ) (went later : List Went) → AskedMore old new calls calls2 (Prompt went) → AskedMore old new calls calls2 (Prompt (went ++ later))
+  asked_longer : (old new : List (S × W)) (calls calls2 : ℕ) (went later : List Went) → AskedMore count old new calls calls2 (Prompt went)
+      → AskedMore count old new calls calls2 (Prompt (went ++ later))
   asked_longer old new calls calls2 went later p = record {
     times = p.times;
     more = p.more;
     each = p.each;
+    in_turn = p.in_turn;
     held = λ i d below. up_to_longer went later _ (p.held i d below);
   }
 
   -- it was asked once more
-  pub asked_again : (old mid new : List (S × W)) (calls calls2 calls3 : ℕ) (went later : List Went) (time : S × W) → AskedMore old mid calls calls2 (Prompt went) → new ≡ mid ++ time ∷ []
-      → calls3 ≡ calls2 + 1 → Prompt went time → AskedMore old new calls calls3 (Prompt (went ++ later))
-  asked_again old mid new calls calls2 calls3 went later time p e n now =
-      asked_longer old new calls calls3 went later (asked-then old mid new calls calls2 calls3 (Prompt went) time p e n now)
+  pub asked_again : (old mid new : List (S × W)) (calls calls2 calls3 : ℕ) (went later : List Went) (time : S × W) → AskedMore count old mid calls calls2 (Prompt went) → new ≡ mid ++ time ∷ []
+      → calls3 ≡ calls2 + 1 → count time ≡ calls2 → Prompt went time → AskedMore count old new calls calls3 (Prompt (went ++ later))
+  asked_again old mid new calls calls2 calls3 went later time p e n is now =
+      asked_longer old new calls calls3 went later (asked-then count old mid new calls calls2 calls3 (Prompt went) time p e n is now)
 
 -- what is out by now
 pub up_to_now : (k m : PassView) (a b : ℕ → Type 0) (bytes : List ℕ) (went : List Went) (out out2 : ℕ) (left left2 taken taken2 : Option (List ℕ)) (rung rung2 : ℕ → Type 0) → Consumes left left2 bytes
@@ -86,7 +91,7 @@ module _ (k m z : PassView) (a b c : ℕ → Type 0) (old mid new : Device) (byt
 
   -- the sink failed in some lines of more bytes, or in a last line
   stops : (more : List ℕ) (first : List (List ℕ)) (later : List Went) (count : ℕ) → Consumes mid.left new.left more
-      → (IsPrefix (done ++ first) (ended_lines [] (bytes ++ more)) ⊎ (HasEnded new.left × IsPrefix (done ++ first) (lines_of (bytes ++ more))))
+      → (IsPrefix (done ++ first) (ended_lines [] (bytes ++ more)) ⊎ (HasEnded old.left new.left × IsPrefix (done ++ first) (lines_of (bytes ++ more))))
       → (s : AnswersStop m z b c (1 + length done) first written new.sink_failed mid.taken new.taken count) → s.went ≡ later → Prompt (went ++ later)
       → TookRows k z a c old new (Err (WriteFailed count)) Prompt
   stops more first later count moved some s is prompt = record {
@@ -113,7 +118,10 @@ module _ (k m z : PassView) (a b c : ℕ → Type 0) (old mid new : Device) (byt
   run_stopped more TooManyReporters moved q prompt = absurd q
   run_stopped more (Strangers version) moved q prompt = absurd q
 
-  last_stopped : (f : RunFault) → Consumes mid.left new.left [] → HasEnded new.left
+  at_last : IsAtEnd mid.left → Consumes mid.left new.left [] → HasEnded old.left new.left
+  at_last at_end moved = ended-since old.left mid.left new.left bytes consumed (ended mid.left new.left at_end moved)
+
+  last_stopped : (f : RunFault) → Consumes mid.left new.left [] → HasEnded old.left new.left
       → FailsToAnswer m z b c (1 + length done) (last_lines (begun_line [] bytes)) written new.sink_failed mid.taken new.taken f
       → ((later : List Went) → Prompt (went ++ later)) → TookRows k z a c old new (Err f) Prompt
   last_stopped (WriteFailed count) moved at_end q prompt =
@@ -140,9 +148,9 @@ module _ (k m z : PassView) (a b c : ℕ → Type 0) (old mid new : Device) (byt
         consumed = subst (Consumes old.left new.left) (append-nil bytes) (consumes-then old.left mid.left new.left bytes [] consumed moved);
         reported = all.reported;
         prompt = prompt q.0;
-        ends = record { ended = (mid.left, at_end, moved); all = refl; answered = all.given };
+        ends = record { ended = at_last at_end moved; all = refl; answered = all.given };
       }
-  run_ended out2 (Err f) at_end moved q e prompt = last_stopped f moved (mid.left, at_end, moved) e prompt
+  run_ended out2 (Err f) at_end moved q e prompt = last_stopped f moved (at_last at_end moved) e prompt
 
 -- it goes on
 pub goes_further : (k m z : PassView) (a b c : ℕ → Type 0) (bytes more : List ℕ) (went later : List Went) (written out2 : ℕ) (w x y : Option (List ℕ))

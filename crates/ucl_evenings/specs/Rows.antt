@@ -63,7 +63,7 @@ pub record IsAnsweredUpTo (went : List Went) (left left2 taken taken2 : Option (
 
 -- the sink failed in it, after so many bytes; no event of a later line was reported
 pub record SinkStops (old new : Device) (bytes : List ℕ) (lines : List (List ℕ)) (text : List ℕ) (count : ℕ) : Type 0 where
-  pub some : IsPrefix lines (ended_lines [] bytes) ⊎ (HasEnded new.left × IsPrefix lines (lines_of bytes))
+  pub some : IsPrefix lines (ended_lines [] bytes) ⊎ (HasEnded old.left new.left × IsPrefix lines (lines_of bytes))
   pub stopped : StoppedShort 0 new.sink_failed old.taken new.taken text count
 
 -- all lines that have an end were answered
@@ -73,7 +73,7 @@ pub record EndsAfter (old new : Device) (bytes : List ℕ) (lines : List (List �
 
 -- all were, and a last one without an end too
 pub record EndsWell (old new : Device) (bytes : List ℕ) (lines : List (List ℕ)) (text : List ℕ) : Type 0 where
-  pub ended : HasEnded new.left
+  pub ended : HasEnded old.left new.left
   pub all : lines ≡ lines_of bytes
   pub answered : Appends old.taken new.taken text
 

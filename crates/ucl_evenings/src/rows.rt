@@ -9,19 +9,17 @@ ghost use Rattle.ucl_answers.specs.Lines.{begun_line, ended_lines, last_lines, l
 ghost use Rattle.ucl_evenings.specs.Reporting.{RangFor};
 ghost use Rattle.ucl_evenings.specs.Rows.{AreAnswered, FailsToAnswer};
 
-use crate::answer::{bad_line, went_line};
+use crate::answer::went_line;
 use crate::give::give;
 use crate::ring::Ring;
 use crate::typed::{Typed, typed_on};
 use crate::went::enter;
 use arrayvec::ArrayVec;
 use std::sync::Wait;
+use ucl_answers::{MOST_LINE_BYTES, bad_line};
 use ucl_runs::RunFault;
 use ucl_screen::Sink;
 use ucl_shared::LiveBoard;
-
-/// The most bytes of a line that are kept. What comes after them is passed over.
-const LINE: usize = 258;
 
 /// Enters the event of a line, if it has one, rings where it was accepted, and answers the line after so many bytes. Says how many
 /// bytes are out then.
@@ -62,11 +60,11 @@ fn answer_line<B: LiveBoard, R: Wait, W: Sink, V: Ring>(
     }
 }
 
-/// The lines of a reporter between two bytes: the line that has begun, its number, and how many bytes of answers went out. A number
+/// The lines of a reporter between two bytes: what is kept of the line that has begun, its number, and how many bytes of answers went out. A number
 /// past `usize::MAX` is told as that.
 #[derive(Drop)]
 pub(crate) struct Rows {
-    begun: ArrayVec<u8, LINE>,
+    begun: ArrayVec<u8, MOST_LINE_BYTES>,
     row: u64,
     written: usize,
 }
@@ -94,7 +92,7 @@ impl Rows {
         ensures row { self.new.row ≡ self.old.row }
         ensures written { self.new.written ≡ self.old.written }
     {
-        if self.begun.len() < LINE {
+        if self.begun.len() < MOST_LINE_BYTES {
             self.begun.push(b);
         }
     }

@@ -1,12 +1,12 @@
 //! A reporter of an evening, in a thread of its own.
 
-ghost use Rattle.std.specs.Prelude.{◌≡◌, ◌+◌, ◌≤◌, IfErr, OnOk};
+ghost use Rattle.std.specs.Prelude.{◌≡◌, IfErr, OnOk};
 ghost use Rattle.ucl_shared.specs.Passes.{IsSound};
 ghost use Rattle.ucl_runs.specs.Run.{is_read_failed};
 ghost use Rattle.ucl_screen.specs.Stream.{VainlyGives};
 ghost use Rattle.ucl_answers.specs.Output.{SinkFails};
 ghost use Rattle.ucl_answers.specs.Stepping.{device};
-ghost use Rattle.ucl_answers.specs.Wires.{AskedMore};
+ghost use Rattle.ucl_answers.specs.Wires.{AskedMore, VainlyTakes};
 ghost use Rattle.ucl_evenings.specs.Reporting.{RangFor};
 ghost use Rattle.ucl_evenings.specs.Rows.{IsAnsweredUpTo, TookRows, at_sink};
 
@@ -45,15 +45,16 @@ pub fn take_rows<B: LiveBoard, S: Source, W: Sink, V: Ring, R: Wait>(
     requires sound { IsSound (B.reporter pass.old) }
     ensures own { B.is_reporter board.now pass.new }
 
-    // Which bytes it took, which rows it entered and how they went, what is out, and how it ended. Each time that bytes were asked
-    // for, the answers to all lines that had an end by then were out, and nothing else, and it had rung for each event among them that
+    // Which bytes it took, which rows it entered and how they went, what is out, and how it ended. Just before each call for
+    // bytes, the answers to all lines that had an end by then were out, and nothing else, and it had rung for each event among them that
     // was accepted.
     ensures took { TookRows (B.reporter pass.old) (B.reporter pass.new)
         (B.has_reported pass.old) (B.has_reported pass.new)
         (device S.left S.failed (at_sink W.taken) (at_sink W.failed) wire.old)
         (device S.left S.failed (at_sink W.taken) (at_sink W.failed) wire.new)
         result
-        (λ went. AskedMore wire.old.asked.times wire.new.asked.times
+        (λ went. AskedMore (λ time. S.calls time.0)
+        wire.old.asked.times wire.new.asked.times
         (S.calls wire.old.source) (S.calls wire.new.source)
         (λ time. IsAnsweredUpTo went (S.left wire.old.source) (S.left time.0)
         (W.taken wire.old.sink.sink) (W.taken time.1.sink)
@@ -71,7 +72,8 @@ pub fn take_rows<B: LiveBoard, S: Source, W: Sink, V: Ring, R: Wait>(
         (W.failed wire.old.sink.sink) (W.failed wire.new.sink.sink)) }
 
     // A source that has failed, or told the end, is not called again, and a sink is not called with nothing.
-    ensures vain { S.in_vain wire.new.source ≤ S.in_vain wire.old.source + 1 }
+    ensures vain { VainlyTakes (S.in_vain wire.old.source) (S.in_vain wire.new.source)
+        (S.failed wire.new.source) (S.left wire.old.source) (S.left wire.new.source) }
     ensures sink_vain { OnOk result (W.in_vain wire.new.sink.sink ≡ W.in_vain wire.old.sink.sink) }
 {
     let mut rows = Rows::new();

@@ -7,7 +7,7 @@ use ucl_screen::{Four, event_of_fields};
 use ucl_word::EventCall;
 
 /// The most bytes of a line before its end.
-const MOST_BYTES: usize = 256;
+const MOST_ROW_BYTES: usize = 256;
 
 /// What a reporter's line says.
 #[derive(Clone, Copy, Debug, PartialEq, Eq)]
@@ -77,7 +77,7 @@ pub(crate) fn typed_on(line: &[u8]) -> Typed
     let text = without_return(line);
     if text.is_empty() {
         Typed::Nothing
-    } else if text.len() > MOST_BYTES {
+    } else if text.len() > MOST_ROW_BYTES {
         Typed::Bad
     } else {
         match call_on(text) {

@@ -6,7 +6,7 @@ use Rattle.ucl_board.specs.declared.entry.Entry.{Entry}
 use Rattle.ucl_board.proofs.Beginnings.{begins_same}
 use Rattle.ucl_order.specs.Roster.{NamedClub}
 use Rattle.ucl_runs.specs.declared.fault.RunFault.{RunFault}
-use Rattle.ucl_shared.specs.Passes.{PassView}
+use Rattle.ucl_shared.specs.Passes.{Continues, PassView}
 use Rattle.ucl_answers.specs.declared.options.Options.{Options}
 use Rattle.ucl_evenings.specs.Showing.{EndsWithLatest, RiseWithin, ScreensEnd, Screening, ShowsFurther, ShowsSince, screens_shown}
 use Rattle.ucl_screen.specs.declared.stream.Sink as sinks
@@ -46,6 +46,10 @@ shown_further noted options clubs k m z s t told told2 news failed failed2 old m
           (above_note noted z news q.versions least long) q.ends;
     }
 shown_further noted options clubs k m z s t told told2 news failed failed2 old mid new least (Err e) r2 is long p f = absurd (true≢false (sym (ap is_ok is)))
+
+-- a pass that changed nothing heard something
+pub heard_on : (k m z : PassView) → m ≡ k → Continues m z → Continues k z
+heard_on k m z same on = subst (λ (p : PassView). Continues p z) same on
 
 module _ {B R P N V : Type 0} (live : boards.Ghosts B R P N) (board : B) (sink : sinks.Ghosts V) (clubs : List NamedClub) where
   -- what was shown, with the options that were lent

@@ -13,6 +13,7 @@ use Rattle.ucl_runs.specs.declared.fault.RunFault.TheVariants.{OutOfMemory, NoTh
 use Rattle.ucl_runs.specs.Run.{is_read_failed}
 use Rattle.ucl_answers.specs.Output.{SinkFails}
 use Rattle.ucl_answers.specs.Stepping.{Device}
+use Rattle.ucl_answers.specs.Wires.{VainlyTakes}
 use Rattle.ucl_evenings.specs.Answering.{calls_typed}
 use Rattle.ucl_evenings.specs.Reporting.{GoThrough}
 use Rattle.ucl_evenings.specs.Rows.{TookRows}
@@ -96,7 +97,7 @@ pub record HasTakenRows {B R P N S W : Type 0} (live : boards.Ghosts B R P N) (b
   pub took : TookRows (live.reporter pass) (live.reporter end.pass) (live.has_reported pass) (live.has_reported end.pass)
       (device_of source sink reporter.rows reporter.replies) (device_of source sink end.rows end.replies) end.result (λ went. ⊤)
   pub read_failed : source.failed end.rows ≡ is_read_failed end.result
-  pub vain : source.in_vain end.rows ≤ source.in_vain reporter.rows + 1
+  pub vain : VainlyTakes (source.in_vain reporter.rows) (source.in_vain end.rows) (source.failed end.rows) (source.left reporter.rows) (source.left end.rows)
   pub served : SinkServed sink reporter.replies end.replies end.result
 
 abbrev pub HasRun : {B R P N S W : Type 0} → boards.Ghosts B R P N → B → sources.Ghosts S → sinks.Ghosts W → Enlisted P S W → ReporterEnd P S W → Type 0

@@ -3,7 +3,6 @@
 ghost use Rattle.std.specs.Prelude.{◌≡◌, ◌≤◌, All, IfErr, IfOk, OnOk, length, vec_len};
 ghost use Rattle.std.specs.List.{AllZip};
 ghost use mathlib.Core.List.{IsPrefix};
-ghost use Rattle.ucl_shared.specs.Passes.{Continues};
 ghost use Rattle.ucl_evenings.specs.Showing.{AreFew, GoesOnOrStays};
 ghost use Rattle.ucl_evenings_threads.specs.Runs.{HasLookedOn, HasShownAbove, HaveRun, IsOfThreads, IsReadyToLook, IsReadyToRun};
 ghost use Rattle.ucl_evenings_threads.specs.Whole.{AreAllHeard};
@@ -157,30 +156,6 @@ fn finish<B: LiveBoard, V: Sink, R: Wait>(
     }
 }
 
-/// The same, and the pass hears what the screen's pass has seen.
-fn close_screen<B: LiveBoard, V: Sink, R: Wait>(
-    rt: &R,
-    alloc: Global,
-    board: &B,
-    pass: &mut B::ReaderPass,
-    roster: &Roster,
-    looked: Looked<B::ReaderPass, V>,
-) -> ScreenEnd<B::ReaderPass, V>
-    requires own { B.is_reader board.now pass.old × B.is_reader board.now looked.pass }
-    requires few { OnOk looked.result (AreFew looked.screens) }
-    ensures own { B.is_reader board.now pass.new }
-    ensures always { Continues (B.reader pass.old) (B.reader pass.new) }
-    ensures shown { (looking : _)
-        → HasLookedOn B.LiveBoard board.now V.Sink roster.now looking looked
-        → HasShownAbove B.LiveBoard board.now V.Sink roster.now
-        (B.reader pass.new).seen (length (B.reader pass.old).seen) looking result }
-{
-    let mut end = finish(rt, alloc, board, pass, roster, looked);
-    let note = board.note(rt, &mut end.pass);
-    board.hear(rt, pass, note);
-    end
-}
-
 /// What all threads of an evening handed back.
 #[derive(Drop)]
 pub struct Ran<Q, P, S, W, V> {
@@ -246,7 +221,9 @@ where
         scope, rt, alloc, board, wakes, roster, pass, screens, all, tally,
     )?;
     let looked = worker.join(rt);
-    let end = close_screen(rt, alloc, board, pass, roster, looked);
+    let mut end = finish(rt, alloc, board, pass, roster, looked);
+    let note = board.note(rt, &mut end.pass);
+    board.hear(rt, pass, note);
     put(&mut ran.screens, end)?;
     Ok(ran)
 }

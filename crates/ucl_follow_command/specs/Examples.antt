@@ -2,7 +2,7 @@
 use Rattle.std.specs.Prelude.{List, [], ◌∷◌, codes}
 use Rattle.clap.specs.Words.{Kinds, Text}
 use Rattle.clap.specs.declared.error.kind.ErrorKind.TheVariants as kind
-use Rattle.ucl_program.specs.Lines.{IsReading, IsRefusing}
+use Rattle.ucl_program.specs.Lines.{IsRefusing, ReadsLine}
 use Rattle.ucl_program.specs.Written.{words}
 use Rattle.ucl_follows.specs.declared.shape.Shape.{Shape}
 use Rattle.ucl_follows.specs.declared.shape.Shape.TheVariants.{Text as Screens, Json, Rows}
@@ -10,7 +10,7 @@ use Rattle.ucl_follow_command.specs.Asking.{follow_command, shape_named}
 
 -- `clap` takes the words and reads this from them
 abbrev pub MeansFollowing : List Text → Shape → Type 0
-MeansFollowing = IsReading follow_command shape_named
+MeansFollowing = ReadsLine follow_command shape_named
 
 -- `clap` refuses the words, by one of these kinds of error
 abbrev pub FailsToFollow : List Text → Kinds → Type 0

@@ -31,7 +31,8 @@ Exit status:
   5  there is no memory
 
 Examples:
-  ucl_live --format json < rows | tee -a evening.jsonl | ucl_follow
+  ucl_live --format json < rows >> evening.jsonl
+  tail -n +1 -F evening.jsonl | ucl_follow
   (ucl_follow --resume < evening.jsonl; cat rows) | ucl_live --format json
 
 docs/RULES.md has the rules of what is followed.";

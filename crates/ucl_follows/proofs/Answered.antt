@@ -63,7 +63,7 @@ low-back (suc k) n a rest h =
     low-back k (n / 16) a (digit_glyph false (n % 16) ∷ rest) few ∙ one-digit (a * 16 ^ k + n / 16) (n % 16) rest last
     ∙ ap (λ (m : ℕ). hex_after m rest) (spell (n / 16) (n % 16) (16 ^ k) (16 ^ suc k) n p parts a)
 
-long : (k n : ℕ) (rest : List ℕ) → length (low k n rest) ≡ k + length rest
+pub long : (k n : ℕ) (rest : List ℕ) → length (low k n rest) ≡ k + length rest
 long zero n rest = omega arith
 long (suc k) n rest = long k (n / 16) (digit_glyph false (n % 16) ∷ rest) ∙ omega arith
 
@@ -77,7 +77,7 @@ none-left : (n : ℕ) → hex_after n [] ≡ Some n
 unfolding hex_after
 none-left n = refl
 
-word-back : (word : ℕ) → word < 2 ^ 64 → hex_word (hex_digits word) ≡ Some word
+pub word-back : (word : ℕ) → word < 2 ^ 64 → hex_word (hex_digits word) ≡ Some word
 word-back word h =
     let back = low-back 16 word 0 [] (omega arith) ∙ none-left (0 * 16 ^ 16 + word) ∙ ap (λ (n : ℕ). Some n) (omega arith) in
     ap hex_word (word-digits word h) ∙ of-sixteen (low 16 word []) word (long 16 word []) back
@@ -97,7 +97,7 @@ count-words (word ∷ words) = ap suc (count-words words)
 same-twelve : (n : ℕ) → n ≡ 12 → (n == 12) ≡ true
 same-twelve n e = grind (arith, nat_tests)
 
-board-back : (board : List ℕ) → AreWords board → read_words 1 board ≡ Ok board
+pub board-back : (board : List ℕ) → AreWords board → read_words 1 board ≡ Ok board
 board-back board w = all-read 1 board board refl (λ k less. inl (w.each k 0 less, refl))
 
 board-told : (board : List ℕ) → AreWords board → All (λ word. word < 2 ^ 64) board
@@ -106,7 +106,7 @@ board-told board w bits = rw (count-words board, same-twelve (length board) w.tw
 
 -- ---- clubs
 
-both : (a b : Bool) → (a && b) ≡ true → (a ≡ true) × (b ≡ true)
+pub both : (a b : Bool) → (a && b) ≡ true → (a ≡ true) × (b ≡ true)
 both true b h = (refl, h)
 both false b h = cc
 
@@ -114,7 +114,7 @@ club-back : (club : NamedClub) → IsClub club → club_told (object (member (co
 unfolding is_club serde_json_on_literals
 club-back club h = let p = both (is_name club.name) (nat_le club.coefficient 999999) h in rw p.1 refl
 
-no-bad : (a b c d : NamedClub) → IsClub a → IsClub b → IsClub c → IsClub d → bad_slot (a ∷ b ∷ c ∷ d ∷ []) ≡ None
+pub no-bad : (a b c d : NamedClub) → IsClub a → IsClub b → IsClub c → IsClub d → bad_slot (a ∷ b ∷ c ∷ d ∷ []) ≡ None
 unfolding bad_slot_from
 no-bad a b c d p q r s = rw (p, q, r, s) refl
 

@@ -3,3 +3,6 @@ pub mod Bytes
 pub mod Shown
 pub mod Runs
 pub mod Answered
+pub mod Repeats
+pub mod RowTexts
+pub mod Resumed

@@ -41,7 +41,7 @@ module _ (shape : Shape) (bytes : List ℕ) (origin old new : Device) (h : Liste
       let t = rw hears at s in
       heard-fails more f took (later-fails shape unheard bytes more 0 out new.sink_failed origin.taken old.taken new.taken f all (from-none out (length (heard_text shape unheard bytes)) count) t)
 
-  last-fails : (f : RunFault) → Consumes origin.left new.left bytes → HasEnded new.left
+  last-fails : (f : RunFault) → Consumes origin.left new.left bytes → HasEnded origin.left new.left
       → FailsToShow out (record { failed = new.sink_failed; old = old.taken; new = new.taken }) (resuming_text shape (heard unheard bytes).following.newest) f
       → FollowFails shape origin new f
   last-fails (WriteFailed written) took ended s = record {
@@ -63,7 +63,7 @@ module _ (shape : Shape) (bytes : List ℕ) (origin old new : Device) (h : Liste
   last-fails (Strangers version) took ended s = absurd s
 
   -- it failed in the rows of the end
-  pub run-ends : (f : RunFault) → Consumes origin.left new.left bytes → HasEnded new.left
+  pub run-ends : (f : RunFault) → Consumes origin.left new.left bytes → HasEnded origin.left new.left
       → FailsToShow out (record { failed = new.sink_failed; old = old.taken; new = new.taken }) (resuming_text shape h.following.newest) f
       → FollowFails shape origin new f
   run-ends f took ended s = last-fails f took ended (rw hears at s)

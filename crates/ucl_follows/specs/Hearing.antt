@@ -66,12 +66,12 @@ abbrev pub IsFollowedSoFar : Shape → Option (List ℕ) → Option (List ℕ) �
 IsFollowedSoFar shape left left2 taken taken2 = (bytes : List ℕ) × Consumes left left2 bytes × Appends taken taken2 (heard_text shape unheard bytes)
 
 -- the text that the sink failed in: that of the lines that came; or the whole text, once the input has ended
-abbrev pub IsTextFollowed : Shape → List ℕ → Option (List ℕ) → List ℕ → Type 0
-IsTextFollowed shape bytes left2 text = (text ≡ heard_text shape unheard bytes) ⊎ (HasEnded left2 × (text ≡ follow_text shape bytes))
+abbrev pub IsTextFollowed : Shape → List ℕ → Option (List ℕ) → Option (List ℕ) → List ℕ → Type 0
+IsTextFollowed shape bytes left left2 text = (text ≡ heard_text shape unheard bytes) ⊎ (HasEnded left left2 × (text ≡ follow_text shape bytes))
 
 pub record FollowStops (shape : Shape) (bytes : List ℕ) (old new : Device) (written : ℕ) : Type 0 where
   pub text : List ℕ
-  pub text_is : IsTextFollowed shape bytes new.left text
+  pub text_is : IsTextFollowed shape bytes old.left new.left text
   pub stopped : StoppedShort 0 new.sink_failed old.taken new.taken text written
 
 -- why a follower fails that has taken these bytes: the source failed after them, they are more than any input has, the sink failed, or

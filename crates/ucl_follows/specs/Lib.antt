@@ -4,3 +4,5 @@ pub mod Follow
 pub mod Hearing
 pub mod Latest
 pub mod Answered
+pub mod Repeats
+pub mod Resuming

@@ -2,6 +2,8 @@
 
 ghost use Rattle.ucl_follows.specs.Answered.{AnswersTellTheirMoment};
 ghost use Rattle.ucl_follows.specs.Latest.{LatestIsShownLast, OthersDoNotMatter, ShownVersionsRise};
+ghost use Rattle.ucl_follows.specs.Repeats.{RepeatedRowsChangeNothing};
+ghost use Rattle.ucl_follows.specs.Resuming.{ResumedRowsOpenTheBoard};
 
 /// What is shown are moments that lines told, each newer than all before, in the order of their lines; as text, each by its screen.
 pub fn versions_rise()
@@ -23,4 +25,16 @@ pub fn answers_tell_their_moment()
 /// moment that is shown is the same.
 pub fn others_do_not_matter()
     ensures { OthersDoNotMatter }
+{}
+
+/// Events that were accepted and come again, at any later places and any number of times, change nothing: the history and the board are
+/// those of the events without them.
+pub fn repeated_rows_change_nothing()
+    ensures { RepeatedRowsChangeNothing }
+{}
+
+/// An evening that has read the rows which a follower writes of a moment has answered nothing, and stands on the clubs and the board of that
+/// moment: what comes next is answered on that board.
+pub fn resumed_rows_open_the_board()
+    ensures { ResumedRowsOpenTheBoard }
 {}

@@ -1,10 +1,10 @@
 //! A whole run of a follower.
 
-ghost use Rattle.std.specs.Prelude.{◌≡◌, ◌+◌, ◌≤◌, IfErr, IfOk, IfSome, OnOk};
+ghost use Rattle.std.specs.Prelude.{◌≡◌, IfErr, IfOk, IfSome, OnOk};
 ghost use Rattle.std.specs.Io.KnownBytes.{Appends};
 ghost use Rattle.ucl_answers.specs.Output.{SinkFails};
 ghost use Rattle.ucl_answers.specs.Stepping.{IsOfEvening, device};
-ghost use Rattle.ucl_answers.specs.Wires.{AskedMore};
+ghost use Rattle.ucl_answers.specs.Wires.{AskedMore, VainlyTakes};
 ghost use Rattle.ucl_runs.specs.Run.{is_read_failed};
 ghost use Rattle.ucl_follows.specs.Follow.{follow_end, follow_text};
 ghost use Rattle.ucl_follows.specs.Hearing.{FollowFails, IsFollowedSoFar, counts_of};
@@ -57,14 +57,16 @@ pub fn follow_run<S: Source, W: Sink>(
     ensures read_failed { S.failed wire.new.source ≡ is_read_failed result }
     ensures kinds { IfErr result IsOfEvening }
 
-    // Each time that bytes were asked for, also in a run that failed, the screens of all lines that had an end by then were out.
-    ensures prompt { AskedMore wire.old.asked.times wire.new.asked.times
+    // Just before each call for bytes, also in a run that failed, the screens of all lines that had an end by then were out.
+    ensures prompt { AskedMore (λ time. S.calls time.0)
+        wire.old.asked.times wire.new.asked.times
         (S.calls wire.old.source) (S.calls wire.new.source)
         (λ time. IsFollowedSoFar shape
         (S.left wire.old.source) (S.left time.0) (W.taken wire.old.sink) (W.taken time.1)) }
 
-    // A source that has failed, or told the end, is not called again.
-    ensures vain { S.in_vain wire.new.source ≤ S.in_vain wire.old.source + 1 }
+    // A source that has failed, or told the end, is not called again, and no other call is in vain.
+    ensures vain { VainlyTakes (S.in_vain wire.old.source) (S.in_vain wire.new.source)
+        (S.failed wire.new.source) (S.left wire.old.source) (S.left wire.new.source) }
 
     // A failed write is answered exactly where the sink has failed, which is not called again then; and it is not called with nothing.
     ensures sink_sound { OnOk result (W.failed wire.new.sink ≡ W.failed wire.old.sink) }

@@ -1,5 +1,5 @@
 -- What the program does with what its words ask for.
-use Rattle.std.specs.Prelude.{◌≡◌, ◌≤◌, ◌+◌, ℕ, ⊤, Bool, List, Option, None, IfSome, Result, Ok, Err, IfErr, OnOk}
+use Rattle.std.specs.Prelude.{◌≡◌, ℕ, ⊤, Bool, List, Option, None, IfSome, Result, Ok, Err, IfErr, OnOk}
 use Rattle.std.specs.Io.KnownBytes.{Appends}
 use Rattle.ucl_screen.specs.declared.stream.Source as reads
 use Rattle.ucl_screen.specs.declared.stream.Sink as writes
@@ -11,21 +11,21 @@ use Rattle.ucl_answers.specs.Output.{SinkFails}
 use Rattle.ucl_answers.specs.Stepping.{IsOfEvening, device}
 use Rattle.ucl_answers.specs.Taking.{RunFails}
 use Rattle.ucl_answers.specs.Text.{live_text, missing_after, start_of}
-use Rattle.ucl_answers.specs.Wires.{AskedMore, IsAnsweredSoFar}
+use Rattle.ucl_answers.specs.Wires.{AskedMore, IsAnsweredSoFar, VainlyTakes}
 use Rattle.ucl_program.specs.declared.fault.LineFault.{LineFault}
 use Rattle.ucl_program.specs.Ending.{Ends, EndsUnasked}
 
--- an evening was held over a device for both ways, or has the fault r. Where it ends well, its whole text went out. Each time that bytes were
--- asked for, also where it failed, the answers to all lines that had an end by then were out, and nothing else
+-- an evening was held over a device for both ways, or has the fault r. Where it ends well, its whole text went out. Just before each call for
+-- bytes, also where it failed, the answers to all lines that had an end by then were out, and nothing else
 pub record HoldsEvening {S W : Type 0} (source : reads.Ghosts S) (sink : writes.Ghosts W) (options : Options) (before after : Wire S W) (r : Result ⊤ RunFault) : Type 0 where
   pub text : OnOk r (IfSome (source.left before.source) (λ bytes. Appends (sink.taken before.sink) (sink.taken after.sink) (live_text (start_of options) bytes)))
   pub complete : OnOk r (IfSome (source.left before.source) (λ bytes. missing_after (start_of options) bytes ≡ None))
   pub read_failed : source.failed after.source ≡ is_read_failed r
   pub kinds : IfErr r IsOfEvening
   pub sink_sound : OnOk r (sink.failed after.sink ≡ sink.failed before.sink)
-  pub prompt : AskedMore before.asked.times after.asked.times (source.calls before.source) (source.calls after.source)
+  pub prompt : AskedMore (λ time. source.calls time.0) before.asked.times after.asked.times (source.calls before.source) (source.calls after.source)
       (λ time. IsAnsweredSoFar (start_of options) (source.left before.source) (source.left time.0) (sink.taken before.sink) (sink.taken time.1))
-  pub vain : source.in_vain after.source ≤ source.in_vain before.source + 1
+  pub vain : VainlyTakes (source.in_vain before.source) (source.in_vain after.source) (source.failed after.source) (source.left before.source) (source.left after.source)
   pub sink_vain : OnOk r (sink.in_vain after.sink ≡ sink.in_vain before.sink)
   pub sink_fails : IfErr r (SinkFails (sink.in_vain before.sink) (sink.in_vain after.sink) (sink.failed before.sink) (sink.failed after.sink))
   pub fails : IfErr r (RunFails (start_of options) (device source.left source.failed sink.taken sink.failed before) (device source.left source.failed sink.taken sink.failed after))

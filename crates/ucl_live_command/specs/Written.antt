@@ -7,7 +7,7 @@ use Rattle.ucl_order.specs.declared.profile.Profile.TheVariants.{Uefa, AwayInTie
 use Rattle.ucl_screen.specs.Screen.{IsGroup}
 use Rattle.ucl_answers.specs.declared.options.Format.{Format}
 use Rattle.ucl_answers.specs.declared.options.Format.TheVariants as form
-use Rattle.ucl_program.specs.Lines.{IsReading, IsRefusing}
+use Rattle.ucl_program.specs.Lines.{IsRefusing, ReadsLine}
 use Rattle.ucl_program.specs.Written.{words}
 use Rattle.ucl_live_command.specs.CommandLine.{Choices, choices_named, evening_command}
 
@@ -17,7 +17,7 @@ chosen group profile screens format = record { group = group; profile = profile;
 
 -- `clap` takes the words and reads the choices from them
 abbrev pub MeansEvening : List Text → Choices → Type 0
-MeansEvening = IsReading evening_command choices_named
+MeansEvening = ReadsLine evening_command choices_named
 
 -- `clap` refuses the words, by one of these kinds of error
 abbrev pub FailsForEvening : List Text → Kinds → Type 0

@@ -5,7 +5,7 @@ use Rattle.ucl_answers.specs.declared.live.Progress.{Progress}
 use Rattle.ucl_answers.specs.Stepping.{Past}
 use Rattle.ucl_answers.specs.Text.{start_of}
 use Rattle.ucl_answers.proofs.FaultKinds.{same-read}
-use Rattle.ucl_answers.proofs.Wires.{asked-none, asked-then}
+use Rattle.ucl_answers.proofs.Wires.{asked-none, asked-then, vain-since}
 use Rattle.ucl_answers.proofs.Steps.{prompt-none, read-more, run-complete, run-fails, run-few, run-moved, run-short, run-text, stays-ended, stays-took}
 use Rattle.ucl_answers.proofs.live.live_run.Goals as goal
 
@@ -18,7 +18,7 @@ steps-init g c = record {
   source_sound = inl c.new-live.ensures.figures.read_is;
   sink_sound = refl;
   sink_vain = refl;
-  asked = asked-none _ _ _;
+  asked = asked-none _ _ _ _;
 }
 
 pub step-requires-clause-few : goal.step-requires-clause-few
@@ -52,7 +52,13 @@ returns-in_err-step-clause-kinds g c =
 pub returns-in_err-step-clause-prompt : goal.returns-in_err-step-clause-prompt
 returns-in_err-step-clause-prompt g c =
     let so_far = c.steps.invariant in
-    asked-then _ _ _ _ _ _ _ (c.steps.wire.source, c.steps.wire.sink) so_far.asked c.in_err-step.ensures.asked c.in_err-step.ensures.one_call (so_far.bytes, so_far.consumed, so_far.prompt.answered)
+    asked-then _ _ _ _ _ _ _ _ (c.steps.wire.source, c.steps.wire.sink) so_far.asked c.in_err-step.ensures.asked c.in_err-step.ensures.one_call refl
+    (so_far.bytes, so_far.consumed, so_far.prompt.answered)
+
+pub returns-in_err-step-clause-vain : goal.returns-in_err-step-clause-vain
+returns-in_err-step-clause-vain g c =
+    let so_far = c.steps.invariant in
+    vain-since _ _ _ _ _ _ _ so_far.bytes so_far.vain so_far.consumed c.in_err-step.ensures.vain
 
 pub returns-in_err-step-clause-sink_fails : goal.returns-in_err-step-clause-sink_fails
 returns-in_err-step-clause-sink_fails g c =
@@ -63,7 +69,13 @@ returns-in_err-step-clause-sink_fails g c =
 pub returns-in-Ended-clause-prompt : goal.returns-in-Ended-clause-prompt
 returns-in-Ended-clause-prompt g c =
     let so_far = c.steps.invariant in
-    asked-then _ _ _ _ _ _ _ (c.steps.wire.source, c.steps.wire.sink) so_far.asked c.in_ok-step.ensures.asked c.in_ok-step.ensures.one_call (so_far.bytes, so_far.consumed, so_far.prompt.answered)
+    asked-then _ _ _ _ _ _ _ _ (c.steps.wire.source, c.steps.wire.sink) so_far.asked c.in_ok-step.ensures.asked c.in_ok-step.ensures.one_call refl
+    (so_far.bytes, so_far.consumed, so_far.prompt.answered)
+
+pub returns-in-Ended-clause-vain : goal.returns-in-Ended-clause-vain
+returns-in-Ended-clause-vain g c =
+    let so_far = c.steps.invariant in
+    vain-since _ _ _ _ _ _ _ so_far.bytes so_far.vain so_far.consumed c.in_ok-step.ensures.vain
 
 pub returns-in-Ended-clause-text : goal.returns-in-Ended-clause-text
 returns-in-Ended-clause-text g c =
@@ -93,7 +105,7 @@ steps-preserved g c =
       sink_sound = c.in_ok-step.ensures.sink_sound ∙ so_far.sink_sound;
       sink_vain = c.in_ok-step.ensures.sink_vain ∙ so_far.sink_vain;
       asked =
-          asked-then _ _ _ _ _ _ _ (c.steps.wire.source, c.steps.wire.sink) so_far.asked c.in_ok-step.ensures.asked c.in_ok-step.ensures.one_call
+          asked-then _ _ _ _ _ _ _ _ (c.steps.wire.source, c.steps.wire.sink) so_far.asked c.in_ok-step.ensures.asked c.in_ok-step.ensures.one_call refl
           (so_far.bytes, so_far.consumed, so_far.prompt.answered);
     }
 

@@ -14,7 +14,7 @@ invariant-steps g l = record {
   source_sound : (l.live.read ≡ 0) ⊎ (g.S.Source.failed l.wire.source ≡ false);
   sink_sound : g.W.Sink.failed l.wire.sink ≡ g.W.Sink.failed l.initial.wire.sink;
   sink_vain : g.W.Sink.in_vain l.wire.sink ≡ g.W.Sink.in_vain l.initial.wire.sink;
-  asked : AskedMore l.initial.wire.asked.times l.wire.asked.times (g.S.Source.calls l.initial.wire.source) (g.S.Source.calls l.wire.source)
+  asked : AskedMore (λ time. g.S.Source.calls time.0) l.initial.wire.asked.times l.wire.asked.times (g.S.Source.calls l.initial.wire.source) (g.S.Source.calls l.wire.source)
       (λ time. IsAnsweredSoFar (start_of l.fn.options) (g.S.Source.left l.initial.wire.source) (g.S.Source.left time.0) (g.W.Sink.taken l.initial.wire.sink) (g.W.Sink.taken time.1));
 }
 

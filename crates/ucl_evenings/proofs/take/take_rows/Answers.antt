@@ -6,7 +6,7 @@ use Rattle.ucl_answers.specs.Lines.{begun_line, ended_lines}
 use Rattle.ucl_answers.specs.Stepping.{device}
 use Rattle.ucl_answers.proofs.Moments.{begun-append, begun-none, begun-short, ended-append, ended-none}
 use Rattle.ucl_answers.proofs.Steps.{not-vain, sound}
-use Rattle.ucl_answers.proofs.Wires.{asked-none, asked-then}
+use Rattle.ucl_answers.proofs.Wires.{asked-none, asked-then, ended, vain-since}
 use Rattle.ucl_evenings.specs.Rows.{at_bells, at_sink}
 use Rattle.ucl_evenings.proofs.ByteLines.{few_lines}
 use Rattle.ucl_evenings.proofs.Events.{rang_none, rang_then}
@@ -29,7 +29,7 @@ pieces-init g c =
       row = omega arith;
       answered = rw (ended-none [], c.new-rows.ensures.written)
           (answered_none (g.B.LiveBoard.reporter c.args.pass.now) (g.B.LiveBoard.has_reported c.args.pass.now) 1 0 (g.W.Sink.taken c.args.wire.now.sink.sink) c.requires.sound (omega arith));
-      asked = asked-none _ _ _;
+      asked = asked-none _ _ _ _;
       rang = rang_none (g.B.LiveBoard.reporter c.args.pass.now) (g.V.Ring.rung c.args.wire.now.sink.bells);
       source_sound = inl refl;
       vain = refl;
@@ -48,7 +48,7 @@ returns-in-None-clause-took g c =
     run_read_failed (known c.args.pass.now) (known c.pieces.pass) (known c.pieces.pass) (reports c.args.pass.now) (reports c.pieces.pass) (reports c.pieces.pass)
     old mid _ so_far.bytes so_far.went _ so_far.consumed so_far.answered _
     _ c.in-None.ensures.moves (ap (at_sink g.W.Sink.taken) c.take.ensures.sink) so_far.read
-    (asked-then _ _ _ _ _ _ _ (c.pieces.wire.source, c.pieces.wire.sink) so_far.asked c.take.ensures.asked c.take.ensures.counts now)
+    (asked-then _ _ _ _ _ _ _ _ (c.pieces.wire.source, c.pieces.wire.sink) so_far.asked c.take.ensures.asked c.take.ensures.counts refl now)
 
 pub end-requires-clause-sound : goal.end-requires-clause-sound
 end-requires-clause-sound g c κs within = c.pieces.invariant.answered.reported.rows.always.sound
@@ -78,8 +78,8 @@ returns-in-Some-eq0-clause-took g c =
     run_ended (known c.args.pass.now) (known c.pieces.pass) (known c.end.new.pass) (reports c.args.pass.now) (reports c.pieces.pass) (reports c.end.new.pass)
     old mid _ so_far.bytes so_far.went _ so_far.consumed so_far.answered _
     _ c.end.result (c.in-Some-eq0.ensures.end c.in-Some-eq0.field-0-test (omega arith)) moved answered fails
-    (λ later. asked_again g.S.Source.left (at_sink g.W.Sink.taken) (at_bells g.V.Ring.rung) _ _ _ _ _ _ _ _ _
-    so_far.went later (c.pieces.wire.source, c.pieces.wire.sink) so_far.asked c.take.ensures.asked c.take.ensures.counts now)
+    (λ later. asked_again g.S.Source.calls g.S.Source.left (at_sink g.W.Sink.taken) (at_bells g.V.Ring.rung) _ _ _ _ _ _ _ _ _
+    so_far.went later (c.pieces.wire.source, c.pieces.wire.sink) so_far.asked c.take.ensures.asked c.take.ensures.counts refl now)
 
 pub enter-requires-clause-sound : goal.enter-requires-clause-sound
 enter-requires-clause-sound g c κs within = c.pieces.invariant.answered.reported.rows.always.sound
@@ -114,8 +114,8 @@ returns-in_err-enter-in-Some-clause-took g c =
     rw (e.1, e.2) (run_stopped (known c.args.pass.now) (known c.pieces.pass) (known c.enter.new.pass) (reports c.args.pass.now) (reports c.pieces.pass) (reports c.enter.new.pass)
     old mid _ so_far.bytes so_far.went _ so_far.consumed so_far.answered _
     (take c.in-Some.n c.take.new.buf) _ c.in-Some.ensures.moves fails
-    (λ later. asked_again g.S.Source.left (at_sink g.W.Sink.taken) (at_bells g.V.Ring.rung) _ _ _ _ _ _ _ _ _
-    so_far.went later (c.pieces.wire.source, c.pieces.wire.sink) so_far.asked c.take.ensures.asked c.take.ensures.counts now))
+    (λ later. asked_again g.S.Source.calls g.S.Source.left (at_sink g.W.Sink.taken) (at_bells g.V.Ring.rung) _ _ _ _ _ _ _ _ _
+    so_far.went later (c.pieces.wire.source, c.pieces.wire.sink) so_far.asked c.take.ensures.asked c.take.ensures.counts refl now))
 
 pub pieces-preserved : goal.pieces-preserved
 pieces-preserved g c =
@@ -147,8 +147,8 @@ pieces-preserved g c =
       row = omega arith;
       answered = goes_further (known c.args.pass.now) (known c.pieces.pass) (known c.enter.new.pass) (reports c.args.pass.now) (reports c.pieces.pass) (reports c.enter.new.pass)
           so_far.bytes more so_far.went there.0 c.pieces.rows.written c.enter.new.self.written _ _ _ so_far.answered there.1;
-      asked = asked_again g.S.Source.left (at_sink g.W.Sink.taken) (at_bells g.V.Ring.rung) _ _ _ _ _ _ _ _ _
-          so_far.went there.0 (c.pieces.wire.source, c.pieces.wire.sink) so_far.asked c.take.ensures.asked c.take.ensures.counts now;
+      asked = asked_again g.S.Source.calls g.S.Source.left (at_sink g.W.Sink.taken) (at_bells g.V.Ring.rung) _ _ _ _ _ _ _ _ _
+          so_far.went there.0 (c.pieces.wire.source, c.pieces.wire.sink) so_far.asked c.take.ensures.asked c.take.ensures.counts refl now;
       rang = rang_then (known c.args.pass.now) (known c.pieces.pass) (known c.enter.new.pass) _ _ _ so_far.rang (rw c.take.ensures.sink at c.enter.ensures.rang);
       source_sound = inr (sound _ (λ h. true≢false (c.in-Some.ensures.fails.1 h)));
       vain = c.in-Some.ensures.vain ∙ not-vain (g.S.Source.in_vain c.pieces.wire.source) n c.in-Some.n-test.1 ∙ so_far.vain;
@@ -168,3 +168,20 @@ pub returns-in_err-enter-in-Some-clause-rang : goal.returns-in_err-enter-in-Some
 returns-in_err-enter-in-Some-clause-rang g c =
     let known = g.B.LiveBoard.reporter in
     rang_then (known c.args.pass.now) (known c.pieces.pass) (known c.enter.new.pass) _ _ _ c.pieces.invariant.rang (rw c.take.ensures.sink at c.enter.ensures.rang)
+
+pub returns-in-None-clause-vain : goal.returns-in-None-clause-vain
+returns-in-None-clause-vain g c =
+    let so_far = c.pieces.invariant in
+    vain-since _ _ _ _ _ (g.S.Source.left c.pieces.wire.source) _ so_far.bytes so_far.vain so_far.consumed (inr (c.in-None.ensures.vain, inl (c.in-None.ensures.fails.0 refl)))
+
+pub returns-in-Some-eq0-clause-vain : goal.returns-in-Some-eq0-clause-vain
+returns-in-Some-eq0-clause-vain g c =
+    let so_far = c.pieces.invariant in
+    let room = so_far.room in
+    let moved = rw c.in-Some-eq0.field-0-test at c.in-Some-eq0.ensures.moves in
+    let at_end = ended (g.S.Source.left c.pieces.wire.source) _ (c.in-Some-eq0.ensures.end c.in-Some-eq0.field-0-test (omega arith)) moved in
+    vain-since _ _ _ _ _ _ _ so_far.bytes so_far.vain so_far.consumed (inr (rw c.in-Some-eq0.field-0-test at c.in-Some-eq0.ensures.vain, inr at_end))
+
+pub returns-in_err-enter-in-Some-clause-vain : goal.returns-in_err-enter-in-Some-clause-vain
+returns-in_err-enter-in-Some-clause-vain g c =
+    inl (c.in-Some.ensures.vain ∙ not-vain (g.S.Source.in_vain c.pieces.wire.source) c.in-Some.n c.in-Some.n-test.1 ∙ c.pieces.invariant.vain)

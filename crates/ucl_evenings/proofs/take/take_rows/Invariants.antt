@@ -24,7 +24,7 @@ invariant-pieces g l =
       row : l.rows.row ≡ 1 + length (ended_lines [] bytes);
       answered : AreAnsweredSo (known l.initial.pass) (known l.pass) (reports l.initial.pass) (reports l.pass) 1 (ended_lines [] bytes) went
           0 l.rows.written (taken l.initial.wire.sink.sink) (taken l.wire.sink.sink);
-      asked : AskedMore l.initial.wire.asked.times l.wire.asked.times (g.S.Source.calls l.initial.wire.source) (g.S.Source.calls l.wire.source)
+      asked : AskedMore (λ time. g.S.Source.calls time.0) l.initial.wire.asked.times l.wire.asked.times (g.S.Source.calls l.initial.wire.source) (g.S.Source.calls l.wire.source)
           (λ time. IsAnsweredUpTo went (left l.initial.wire.source) (left time.0) (taken l.initial.wire.sink.sink) (taken time.1.sink)
           (g.V.Ring.rung l.initial.wire.sink.bells) (g.V.Ring.rung time.1.bells));
       rang : RangFor (known l.initial.pass) (known l.pass) (g.V.Ring.rung l.initial.wire.sink.bells) (g.V.Ring.rung l.wire.sink.bells);

@@ -1,6 +1,7 @@
-use Rattle.std.proofs.Common.{refl, inl}
+use Rattle.std.proofs.Common.{refl, inl, length, le_refl}
 use Rattle.ucl_evenings.proofs.ShownScreens.{stays_prefix}
 use Rattle.ucl_evenings_threads.specs.Runs.{HasLookedOn}
+use Rattle.ucl_evenings_threads.proofs.Closing.{closed_on, closed_told, heard_on}
 use Rattle.ucl_evenings_threads.proofs.Ended.{goes_then, looked_few}
 use Rattle.ucl_evenings_threads.proofs.Running.{ran_first, ran_more}
 use Rattle.ucl_evenings_threads.proofs.screens.+run_screens.Goals as goal
@@ -13,24 +14,30 @@ returns-in_default-clause-ran g t c =
     c.args.screens.items c.args.all.items _ c.in_default.ensures.none c.new.ensures.items (stays_prefix _ _ c.run_reporters-run.ensures.always) c.requires.tallied
     run.run run.heard run.tallied
 
-pub close_screen-end-requires-clause-few : goal.close_screen-end-requires-clause-few
-close_screen-end-requires-clause-few g t c κs within =
+pub finish-end-requires-clause-few : goal.finish-end-requires-clause-few
+finish-end-requires-clause-few g t c κs within =
     let looked : HasLookedOn g.B.LiveBoard c.args.board.now g.V.Sink c.args.roster.now c.in-Some.looking c.join-looked.result =
     rw (c.in-Ok.ensures.board, c.in-Ok.ensures.roster, c.in-Ok.ensures.looking) at c.join-looked.ensures in
     looked_few _ _ _ _ _ _ _ _ _ _ _ _ looked.shows
 
 pub returns-in_err-put-clause-always : goal.returns-in_err-put-clause-always
-returns-in_err-put-clause-always g t c = goes_then _ _ _ c.run_screens.ensures.always (inl c.close_screen-end.ensures.always)
+returns-in_err-put-clause-always g t c =
+    goes_then _ _ _ c.run_screens.ensures.always (inl (heard_on _ _ _ c.finish-end.ensures.unchanged c.hear.ensures.always))
 
 pub returns-clause-always : goal.returns-clause-always
-returns-clause-always g t c = goes_then _ _ _ c.run_screens.ensures.always (inl c.close_screen-end.ensures.always)
+returns-clause-always g t c =
+    goes_then _ _ _ c.run_screens.ensures.always (inl (heard_on _ _ _ c.finish-end.ensures.unchanged c.hear.ensures.always))
 
 pub returns-clause-ran : goal.returns-clause-ran
 returns-clause-ran g t c =
     let known = g.B.LiveBoard.reader in
+    let least = length (known c.run_screens.new.pass).seen in
     let looked : HasLookedOn g.B.LiveBoard c.args.board.now g.V.Sink c.args.roster.now c.in-Some.looking c.join-looked.result =
     rw (c.in-Ok.ensures.board, c.in-Ok.ensures.roster, c.in-Ok.ensures.looking) at c.join-looked.ensures in
-    ran_more g.B.LiveBoard c.args.board.now g.S.Source g.W.Sink g.V.Sink c.args.roster.now (known c.run_screens.new.pass).seen (known c.close_screen-end.new.pass).seen c.args.tally
-    _ c.args.screens.items c.in-Some.looking c.args.all.items c.in_ok-ran.ran _ c.close_screen-end.result
-    c.in-Some.ensures.some c.in_ok-put.ensures.items refl refl c.close_screen-end.ensures.always.on.seen c.in_ok-ran.ensures.ran
-    (c.close_screen-end.ensures.shown c.in-Some.looking looked)
+    ran_more g.B.LiveBoard c.args.board.now g.S.Source g.W.Sink g.V.Sink c.args.roster.now (known c.run_screens.new.pass).seen (known c.hear.new.pass).seen c.args.tally
+    _ c.args.screens.items c.in-Some.looking c.args.all.items c.in_ok-ran.ran _ _
+    c.in-Some.ensures.some c.in_ok-put.ensures.items refl refl (heard_on _ _ _ c.finish-end.ensures.unchanged c.hear.ensures.always).on.seen c.in_ok-ran.ensures.ran
+    (closed_on g.B.LiveBoard c.args.board.now g.V.Sink c.args.roster.now (known c.finish-end.result.pass).seen (known c.hear.new.pass).seen least least c.in-Some.looking _
+    (rw c.note-note.ensures.seen at c.hear.ensures.heard.met) (le_refl least)
+    (closed_told g.B.LiveBoard c.args.board.now g.V.Sink c.args.roster.now (known c.finish-end.result.pass).seen least c.in-Some.looking c.finish-end.result _
+    c.note-note.ensures.own.0 c.note-note.ensures.unchanged (c.finish-end.ensures.shown c.in-Some.looking looked)))

@@ -5,7 +5,7 @@ use Rattle.std.proofs.lemmas.Result.{err_from_is_err_and}
 use Rattle.ucl_screen.proofs.Moves.{appends-none, appends-then, consumes-none, consumes-then}
 use Rattle.ucl_answers.specs.Stepping.{device}
 use Rattle.ucl_answers.proofs.Steps.{not-vain, sound}
-use Rattle.ucl_answers.proofs.Wires.{asked-none, asked-then}
+use Rattle.ucl_answers.proofs.Wires.{asked-none, asked-then, ended, ended-since, vain-since}
 use Rattle.ucl_follows.specs.Hearing.{Listener, heard, heard_text, hearing_of, out_of, unheard}
 use Rattle.ucl_follows.proofs.Bytes.{heard-none, heard-then, text-none, text-then}
 use Rattle.ucl_follows.proofs.Runs.{count-on, run-ends, run-hears, run-text, took-none}
@@ -23,18 +23,18 @@ steps-init g c = record {
   source_sound = inl refl;
   sink_sound = refl;
   sink_vain = refl;
-  asked = asked-none _ _ _;
+  asked = asked-none _ _ _ _;
 }
 
 pub returns-in-None-clause-prompt : goal.returns-in-None-clause-prompt
 returns-in-None-clause-prompt g c =
     let so_far = c.steps.invariant in
-    asked-then _ _ _ _ _ _ _ (c.steps.wire.source, c.steps.wire.sink) so_far.asked c.take.ensures.asked c.take.ensures.counts (so_far.bytes, so_far.consumed, so_far.all)
+    asked-then _ _ _ _ _ _ _ _ (c.steps.wire.source, c.steps.wire.sink) so_far.asked c.take.ensures.asked c.take.ensures.counts refl (so_far.bytes, so_far.consumed, so_far.all)
 
 pub returns-in_err-end-in-Some-eq0-clause-prompt : goal.returns-in_err-end-in-Some-eq0-clause-prompt
 returns-in_err-end-in-Some-eq0-clause-prompt g c =
     let so_far = c.steps.invariant in
-    asked-then _ _ _ _ _ _ _ (c.steps.wire.source, c.steps.wire.sink) so_far.asked c.take.ensures.asked c.take.ensures.counts (so_far.bytes, so_far.consumed, so_far.all)
+    asked-then _ _ _ _ _ _ _ _ (c.steps.wire.source, c.steps.wire.sink) so_far.asked c.take.ensures.asked c.take.ensures.counts refl (so_far.bytes, so_far.consumed, so_far.all)
 
 pub returns-in_err-end-in-Some-eq0-clause-fails : goal.returns-in_err-end-in-Some-eq0-clause-fails
 returns-in_err-end-in-Some-eq0-clause-fails g c =
@@ -45,7 +45,7 @@ returns-in_err-end-in-Some-eq0-clause-fails g c =
     let fails = rw c.take.ensures.sink at c.in_err-end-in-Some-eq0.ensures.fails in
     let old = device g.S.Source.left g.S.Source.failed g.W.Sink.taken g.W.Sink.failed c.steps.wire in
     rw (e.1, e.2) (run-ends c.args.shape so_far.bytes _ old _ (hearing_of c.steps.follower) (out_of c.steps.follower) so_far.hears so_far.all so_far.count _
-    (took-none _ _ _ so_far.bytes so_far.consumed moved) (old.left, at-end, moved) fails)
+    (took-none _ _ _ so_far.bytes so_far.consumed moved) (ended-since _ _ _ so_far.bytes so_far.consumed (ended old.left _ at-end moved)) fails)
 
 pub returns-in-Some-eq0-clause-text : goal.returns-in-Some-eq0-clause-text
 returns-in-Some-eq0-clause-text g c =
@@ -57,12 +57,12 @@ returns-in-Some-eq0-clause-text g c =
 pub returns-in-Some-eq0-clause-prompt : goal.returns-in-Some-eq0-clause-prompt
 returns-in-Some-eq0-clause-prompt g c =
     let so_far = c.steps.invariant in
-    asked-then _ _ _ _ _ _ _ (c.steps.wire.source, c.steps.wire.sink) so_far.asked c.take.ensures.asked c.take.ensures.counts (so_far.bytes, so_far.consumed, so_far.all)
+    asked-then _ _ _ _ _ _ _ _ (c.steps.wire.source, c.steps.wire.sink) so_far.asked c.take.ensures.asked c.take.ensures.counts refl (so_far.bytes, so_far.consumed, so_far.all)
 
 pub returns-in_err-hear-in-Some-clause-prompt : goal.returns-in_err-hear-in-Some-clause-prompt
 returns-in_err-hear-in-Some-clause-prompt g c =
     let so_far = c.steps.invariant in
-    asked-then _ _ _ _ _ _ _ (c.steps.wire.source, c.steps.wire.sink) so_far.asked c.take.ensures.asked c.take.ensures.counts (so_far.bytes, so_far.consumed, so_far.all)
+    asked-then _ _ _ _ _ _ _ _ (c.steps.wire.source, c.steps.wire.sink) so_far.asked c.take.ensures.asked c.take.ensures.counts refl (so_far.bytes, so_far.consumed, so_far.all)
 
 pub returns-in_err-hear-in-Some-clause-fails : goal.returns-in_err-hear-in-Some-clause-fails
 returns-in_err-hear-in-Some-clause-fails g c =
@@ -101,5 +101,28 @@ steps-preserved g c =
       source_sound = inr (sound _ (λ h. true≢false (c.in-Some.ensures.fails.1 h)));
       sink_sound = rw c.take.ensures.sink at new.sound ∙ so_far.sink_sound;
       sink_vain = rw c.take.ensures.sink at new.vain ∙ so_far.sink_vain;
-      asked = asked-then _ _ _ _ _ _ _ (c.steps.wire.source, c.steps.wire.sink) so_far.asked c.take.ensures.asked c.take.ensures.counts (so_far.bytes, so_far.consumed, so_far.all);
+      asked = asked-then _ _ _ _ _ _ _ _ (c.steps.wire.source, c.steps.wire.sink) so_far.asked c.take.ensures.asked c.take.ensures.counts refl (so_far.bytes, so_far.consumed, so_far.all);
     }
+
+pub returns-in-None-clause-vain : goal.returns-in-None-clause-vain
+returns-in-None-clause-vain g c =
+    let so_far = c.steps.invariant in
+    vain-since _ _ _ _ _ (g.S.Source.left c.steps.wire.source) _ so_far.bytes so_far.vain so_far.consumed (inr (c.in-None.ensures.vain, inl (c.in-None.ensures.fails.0 refl)))
+
+pub returns-in_err-end-in-Some-eq0-clause-vain : goal.returns-in_err-end-in-Some-eq0-clause-vain
+returns-in_err-end-in-Some-eq0-clause-vain g c =
+    let so_far = c.steps.invariant in
+    let moved = rw c.in-Some-eq0.field-0-test at c.in-Some-eq0.ensures.moves in
+    let at-end = ended (g.S.Source.left c.steps.wire.source) _ (c.in-Some-eq0.ensures.end c.in-Some-eq0.field-0-test (search rules)) moved in
+    vain-since _ _ _ _ _ _ _ so_far.bytes so_far.vain so_far.consumed (inr (rw c.in-Some-eq0.field-0-test at c.in-Some-eq0.ensures.vain, inr at-end))
+
+pub returns-in-Some-eq0-clause-vain : goal.returns-in-Some-eq0-clause-vain
+returns-in-Some-eq0-clause-vain g c =
+    let so_far = c.steps.invariant in
+    let moved = rw c.in-Some-eq0.field-0-test at c.in-Some-eq0.ensures.moves in
+    let at-end = ended (g.S.Source.left c.steps.wire.source) _ (c.in-Some-eq0.ensures.end c.in-Some-eq0.field-0-test (search rules)) moved in
+    vain-since _ _ _ _ _ _ _ so_far.bytes so_far.vain so_far.consumed (inr (rw c.in-Some-eq0.field-0-test at c.in-Some-eq0.ensures.vain, inr at-end))
+
+pub returns-in_err-hear-in-Some-clause-vain : goal.returns-in_err-hear-in-Some-clause-vain
+returns-in_err-hear-in-Some-clause-vain g c =
+    inl (c.in-Some.ensures.vain ∙ not-vain (g.S.Source.in_vain c.steps.wire.source) c.in-Some.n c.in-Some.n-test.1 ∙ c.steps.invariant.vain)

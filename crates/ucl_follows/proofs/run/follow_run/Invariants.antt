@@ -16,7 +16,7 @@ invariant-steps g l = record {
   source_sound : (l.read ≡ 0) ⊎ (g.S.Source.failed l.wire.source ≡ false);
   sink_sound : g.W.Sink.failed l.wire.sink ≡ g.W.Sink.failed l.initial.wire.sink;
   sink_vain : g.W.Sink.in_vain l.wire.sink ≡ g.W.Sink.in_vain l.initial.wire.sink;
-  asked : AskedMore l.initial.wire.asked.times l.wire.asked.times (g.S.Source.calls l.initial.wire.source) (g.S.Source.calls l.wire.source)
+  asked : AskedMore (λ time. g.S.Source.calls time.0) l.initial.wire.asked.times l.wire.asked.times (g.S.Source.calls l.initial.wire.source) (g.S.Source.calls l.wire.source)
       (λ time. IsFollowedSoFar l.fn.shape (g.S.Source.left l.initial.wire.source) (g.S.Source.left time.0) (g.W.Sink.taken l.initial.wire.sink) (g.W.Sink.taken time.1));
 }
 

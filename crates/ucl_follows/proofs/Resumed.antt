@@ -1,0 +1,188 @@
+-- An evening that reads the rows by which it goes on from a moment.
+use Rattle.std.proofs.Common.{◌≡◌, ◌∙◌, ℕ, ◌+◌, ◌^◌, ◌<◌, refl, sym, ap, subst, arith, List, [], ◌∷◌, ◌++◌, codes, length, append_assoc, append-nil, length-append, ne_eqb}
+use Rattle.std.proofs.Common.{Option, Some, None}
+use Rattle.std.specs.Prelude.{All}
+use Rattle.std.proofs.lemmas.List.Elements.{All-head, All-tail}
+use Rattle.ucl_board.specs.Words.{AreWords}
+use Rattle.ucl_order.specs.Roster.{IsRoster, NamedClub, bad_slot}
+use Rattle.ucl_runs.specs.Feed.{word_lines}
+use Rattle.ucl_runs.specs.Lines.{word_line}
+use Rattle.ucl_screen.specs.Rows.{FourFields}
+use Rattle.ucl_screen.specs.Script.{club_of, word_of_row}
+use Rattle.ucl_answers.specs.declared.options.Options.{Options}
+use Rattle.ucl_answers.specs.Lines.{begun_line, ended_lines, last_lines, lines_of}
+use Rattle.ucl_answers.specs.Requests.{request_of}
+use Rattle.ucl_answers.specs.Rows.{Row}
+use Rattle.ucl_answers.specs.Stages.{Stage, Naming, Open, Restoring, after_club, after_row, after_word, next_stage, opened, with_clubs, with_roster, with_words}
+use Rattle.ucl_answers.specs.Stepping.{Moment as Point, answers_to, begins, moment_after}
+use Rattle.ucl_answers.specs.Text.{Evening, after_lines, answer_at, answer_said, answers, live_text, next, start_of}
+use Rattle.ucl_answers.proofs.Boards.{sequential}
+use Rattle.ucl_answers.proofs.Moments.{answers-append, answers-to-append, begun-append, ended-append, moment-append, same-moment}
+use Rattle.ucl_answers.proofs.WholeLines.{line-answers, line-begun, line-evening, said_with, whole-said}
+use Rattle.ucl_follows.specs.declared.moment.Moment.{Moment}
+use Rattle.ucl_follows.specs.Follow.{club_row, resuming_rows}
+use Rattle.ucl_follows.specs.Resuming.{ResumedRowsOpenTheBoard, opened_at}
+use Rattle.ucl_follows.proofs.Answered.{board-back, no-bad}
+use Rattle.ucl_follows.proofs.RowTexts.{SaysClub, SaysRow, SaysWord, club_row_says, word_row_says}
+
+-- a text of whole lines, to which an evening answers nothing, and after which it is another
+record Passes (e : Evening) (text : List ℕ) (f : Evening) : Type 0 where
+  silent : answers_to (begins e) text ≡ []
+  after : moment_after (begins e) text ≡ begins f
+
+passes-both : (e f g : Evening) (a b : List ℕ) → Passes e a f → Passes f b g → Passes e (a ++ b) g
+passes-both e f g a b p q = record {
+  silent = answers-to-append (begins e) a b ∙ (ap (λ (l : List ℕ). l ++ answers_to (moment_after (begins e) a) b) p.silent ∙ (ap (λ (m : Point). answers_to m b) p.after ∙ q.silent));
+  after = moment-append (begins e) a b ∙ (ap (λ (m : Point). moment_after m b) p.after ∙ q.after);
+}
+
+passes-same : (e f g : Evening) (a b : List ℕ) → Passes e a f → a ≡ b → f ≡ g → Passes e b g
+passes-same e f g a b p text end = subst (λ (h : Evening). Passes e b h) end (subst (λ (t : List ℕ). Passes e t f) text p)
+
+row-passes : (e : Evening) (text : List ℕ) (f : FourFields) → SaysRow text f → answer_said e (Row f) ≡ [] → Passes e text (next e (Row f))
+row-passes e text f says none =
+    let line = says.line in
+    let row : said_with (begins e) line.front ≡ Row f = sym (whole-said (begins e) text line refl) ∙ says.said e.row in
+    record {
+      silent = line-answers (begins e) text line ∙ (ap (answer_said e) row ∙ none);
+      after = same-moment (moment_after (begins e) text) (begins (next e (Row f))) (line-evening (begins e) text line ∙ ap (next e) row) (line-begun (begins e) text line);
+    }
+
+abbrev at : Options → ℕ → Stage → Evening
+at options row stage = record { options = options; row = row; stage = stage }
+
+at-same : (options : Options) (a b : ℕ) (s t : Stage) → a ≡ b → s ≡ t → at options a s ≡ at options b t
+at-same options a b s t p q = rw (p, q) refl
+
+-- ---- the rows of clubs
+
+club-passes : (options : Options) (row slot : ℕ) (clubs : List NamedClub) (text : List ℕ) (club : NamedClub) → length clubs + 1 ≡ slot → SaysClub slot text club
+    → Passes (at options row (Naming clubs)) text (at options (row + 1) (with_clubs (clubs ++ club ∷ [])))
+club-passes options row slot clubs text club here says =
+    let one = row-passes (at options row (Naming clubs)) text says.fields says.says refl in
+    let is : club_of (length clubs + 1) says.fields ≡ Some club = ap (λ (n : ℕ). club_of n says.fields) here ∙ says.club_is in
+    subst (λ (o : Option NamedClub). Passes (at options row (Naming clubs)) text (at options (row + 1) (after_club row clubs o))) is one
+
+four-pass : (options : Options) (t u v w : List ℕ) (a b c d : NamedClub) → SaysClub 1 t a → SaysClub 2 u b → SaysClub 3 v c → SaysClub 4 w d → bad_slot (a ∷ b ∷ c ∷ d ∷ []) ≡ None
+    → Passes (start_of options) (t ++ u ++ v ++ w) (at options 5 (Restoring (a ∷ b ∷ c ∷ d ∷ []) []))
+four-pass options t u v w a b c d first second third fourth good =
+    let clubs = a ∷ b ∷ c ∷ d ∷ [] in
+    let one = club-passes options 1 1 [] t a refl first in
+    let two = club-passes options 2 2 (a ∷ []) u b refl second in
+    let three = club-passes options 3 3 (a ∷ b ∷ []) v c refl third in
+    let four = club-passes options 4 4 (a ∷ b ∷ c ∷ []) w d refl fourth in
+    let last = subst (λ (o : Option ℕ). Passes (at options 4 (Naming (a ∷ b ∷ c ∷ []))) w (at options 5 (with_roster clubs o))) good four in
+    let end = at options 5 (Restoring clubs []) in
+    let begun = passes-both (start_of options) (at options 2 (Naming (a ∷ []))) (at options 3 (Naming (a ∷ b ∷ []))) t u one two in
+    let all_but_one = passes-both (start_of options) (at options 3 (Naming (a ∷ b ∷ []))) (at options 4 (Naming (a ∷ b ∷ c ∷ []))) (t ++ u) v begun three in
+    passes-both (start_of options) (at options 4 (Naming (a ∷ b ∷ c ∷ []))) end (t ++ u ++ v) w all_but_one last
+
+abbrev club_rows : List NamedClub → List ℕ
+club_rows roster = club_row roster 1 ++ club_row roster 2 ++ club_row roster 3 ++ club_row roster 4
+
+clubs-pass : (options : Options) (roster : List NamedClub) → IsRoster roster → Passes (start_of options) (club_rows roster) (at options 5 (Restoring roster []))
+clubs-pass options [] is = absurd (let t = is.four in omega arith)
+clubs-pass options (a ∷ []) is = absurd (let t = is.four in omega arith)
+clubs-pass options (a ∷ b ∷ []) is = absurd (let t = is.four in omega arith)
+clubs-pass options (a ∷ b ∷ c ∷ []) is = absurd (let t = is.four in omega arith)
+clubs-pass options (a ∷ b ∷ c ∷ d ∷ []) is =
+    let roster = a ∷ b ∷ c ∷ d ∷ [] in
+    let first = is.each 0 a (omega arith) in
+    let second = is.each 1 a (omega arith) in
+    let third = is.each 2 a (omega arith) in
+    let fourth = is.each 3 a (omega arith) in
+    four-pass options (club_row roster 1) (club_row roster 2) (club_row roster 3) (club_row roster 4) a b c d
+    (club_row_says roster 1 (omega arith) first) (club_row_says roster 2 (omega arith) second)
+    (club_row_says roster 3 (omega arith) third) (club_row_says roster 4 (omega arith) fourth) (no-bad a b c d first second third fourth)
+clubs-pass options (a ∷ b ∷ c ∷ d ∷ e ∷ more) is = absurd (let t = is.four in omega arith)
+
+-- ---- the rows of words
+
+opened-same : (clubs : List NamedClub) (words : List ℕ) (f : FourFields) → f.first ≡ codes "word" → opened (Restoring clubs words) (Row f) ≡ Restoring clubs words
+opened-same clubs [] f first = rw first refl
+opened-same clubs (word ∷ words) f first = refl
+
+word-passes : (options : Options) (row index : ℕ) (clubs : List NamedClub) (words text : List ℕ) (word : ℕ) → length words + 1 ≡ index → SaysWord index text word
+    → Passes (at options row (Restoring clubs words)) text (at options (row + 1) (with_words clubs (words ++ word ∷ [])))
+word-passes options row index clubs words text word here says =
+    let f = says.fields in
+    let e = at options row (Restoring clubs words) in
+    let still = opened-same clubs words f says.first in
+    let one = row-passes e text f says.says (ap (λ (s : Stage). answer_at options row s (request_of (Row f))) still) in
+    let is : word_of_row (length words + 1) f ≡ Some word = ap (λ (n : ℕ). word_of_row n f) here ∙ says.word_is in
+    let stage : next_stage row (Restoring clubs words) (Row f) ≡ with_words clubs (words ++ word ∷ []) =
+    ap (λ (s : Stage). after_row row s (Row f)) still ∙ ap (λ (o : Option ℕ). after_word row clubs words o) is in
+    subst (λ (s : Stage). Passes e text (at options (row + 1) s)) stage one
+
+too-few : (clubs : List NamedClub) (words : List ℕ) → length words < 12 → with_words clubs words ≡ Restoring clubs words
+too-few clubs words h = rw (ne_eqb (length words) 12 (λ e. omega arith)) refl
+
+words-pass : (options : Options) (clubs : List NamedClub) (word : ℕ) (more done : List ℕ) (row index : ℕ) → length done + 1 ≡ index → index + length more ≡ 12 → All (λ w. w < 2 ^ 64) (word ∷ more)
+    → Passes (at options row (Restoring clubs done)) (word_lines index (word ∷ more)) (at options (row + 1 + length more) (with_words clubs (done ++ word ∷ more)))
+unfolding word_lines
+words-pass options clubs word [] done row index here twelve bits =
+    let says = word_row_says index word (omega arith) (All-head (λ w. w < 2 ^ 64) word [] bits) in
+    let end = with_words clubs (done ++ word ∷ []) in
+    passes-same (at options row (Restoring clubs done)) (at options (row + 1) end) (at options (row + 1 + 0) end) (word_line index word) (word_line index word ++ [])
+    (word-passes options row index clubs done (word_line index word) word here says) (sym (append-nil (word_line index word))) (at-same options (row + 1) (row + 1 + 0) end end (omega arith) refl)
+words-pass options clubs word (other ∷ more) done row index here twelve bits =
+    let says = word_row_says index word (omega arith) (All-head (λ w. w < 2 ^ 64) word (other ∷ more) bits) in
+    let done_2 = done ++ word ∷ [] in
+    let long = length-append done (word ∷ []) in
+    let start = at options row (Restoring clubs done) in
+    let middle = at options (row + 1) (Restoring clubs done_2) in
+    let few = too-few clubs done_2 (omega arith) in
+    let one = subst (λ (s : Stage). Passes start (word_line index word) (at options (row + 1) s)) few (word-passes options row index clubs done (word_line index word) word here says) in
+    let rest = words-pass options clubs other more done_2 (row + 1) (index + 1) (omega arith) (omega arith) (All-tail (λ w. w < 2 ^ 64) word (other ∷ more) bits) in
+    let end = at options (row + 1 + 1 + length more) (with_words clubs (done_2 ++ other ∷ more)) in
+    let text = word_line index word ++ word_lines (index + 1) (other ∷ more) in
+    let all = passes-both start middle end (word_line index word) (word_lines (index + 1) (other ∷ more)) one rest in
+    passes-same start end (at options (row + 1 + length (other ∷ more)) (with_words clubs (done ++ word ∷ other ∷ more))) text text all refl
+    (at-same options (row + 1 + 1 + length more) (row + 1 + length (other ∷ more)) (with_words clubs (done_2 ++ other ∷ more)) (with_words clubs (done ++ word ∷ other ∷ more))
+    (omega arith) (ap (with_words clubs) (append_assoc done (word ∷ []) (other ∷ more))))
+
+restored-words : (clubs : List NamedClub) (board : List ℕ) → AreWords board → with_words clubs board ≡ Open clubs board
+restored-words clubs board are = let twelve = are.twelve in let back = board-back board are in rw (twelve, back) refl
+
+board-passes : (options : Options) (clubs : List NamedClub) (board : List ℕ) → AreWords board → All (λ w. w < 2 ^ 64) board
+    → Passes (at options 5 (Restoring clubs [])) (word_lines 1 board) (at options 17 (Open clubs board))
+board-passes options clubs [] are bits = absurd (let t = are.twelve in omega arith)
+board-passes options clubs (word ∷ more) are bits =
+    let twelve = are.twelve in
+    let board = word ∷ more in
+    passes-same (at options 5 (Restoring clubs [])) (at options (5 + 1 + length more) (with_words clubs board)) (at options 17 (Open clubs board)) (word_lines 1 board) (word_lines 1 board)
+    (words-pass options clubs word more [] 5 1 refl (omega arith) bits) refl
+    (at-same options (5 + 1 + length more) 17 (with_words clubs board) (Open clubs board) (omega arith) (restored-words clubs board are))
+
+-- ---- what comes next
+
+whole-lines : (text : List ℕ) → begun_line [] text ≡ [] → lines_of text ≡ ended_lines [] text
+whole-lines text none = ap (λ (l : List ℕ). ended_lines [] text ++ last_lines l) none ∙ append-nil (ended_lines [] text)
+
+goes-on : (e f : Evening) (text bytes : List ℕ) → Passes e text f → live_text e (text ++ bytes) ≡ live_text f bytes
+goes-on e f text bytes p =
+    let none : begun_line [] text ≡ [] = ap (λ (m : Point). m.begun) p.after in
+    let after : after_lines e (ended_lines [] text) ≡ f = ap (λ (m : Point). m.evening) p.after in
+    let ended : ended_lines [] (text ++ bytes) ≡ ended_lines [] text ++ ended_lines [] bytes =
+    ended-append [] text bytes ∙ ap (λ (l : List ℕ). ended_lines [] text ++ ended_lines l bytes) none in
+    let begun : begun_line [] (text ++ bytes) ≡ begun_line [] bytes = begun-append [] text bytes ∙ ap (λ (l : List ℕ). begun_line l bytes) none in
+    let lines : lines_of (text ++ bytes) ≡ ended_lines [] text ++ lines_of bytes =
+    ap (λ (ls : List (List ℕ)). ls ++ last_lines (begun_line [] (text ++ bytes))) ended ∙ ap (λ (l : List ℕ). (ended_lines [] text ++ ended_lines [] bytes) ++ last_lines l) begun
+    ∙ append_assoc (ended_lines [] text) (ended_lines [] bytes) (last_lines (begun_line [] bytes)) in
+    ap (answers e) lines ∙ (answers-append e (ended_lines [] text) (lines_of bytes)
+    ∙ (ap (λ (l : List ℕ). l ++ answers (after_lines e (ended_lines [] text)) (lines_of bytes)) p.silent ∙ ap (λ (g : Evening). answers g (lines_of bytes)) after))
+
+moment-passes : (options : Options) (m : Moment) → IsRoster m.roster → AreWords m.board → All (λ w. w < 2 ^ 64) m.board → Passes (start_of options) (resuming_rows m) (opened_at options m)
+moment-passes options m clubs words bits =
+    passes-both (start_of options) (at options 5 (Restoring m.roster [])) (opened_at options m) (club_rows m.roster) (word_lines 1 m.board)
+    (clubs-pass options m.roster clubs) (board-passes options m.roster m.board words bits)
+
+pub resumed : ResumedRowsOpenTheBoard
+resumed options m is =
+    let p = moment-passes options m is.clubs is.words is.bits in
+    let whole = whole-lines (resuming_rows m) (ap (λ (k : Point). k.begun) p.after) in record {
+      silent = ap (answers (start_of options)) whole ∙ p.silent;
+      opens = ap (after_lines (start_of options)) whole ∙ ap (λ (k : Point). k.evening) p.after;
+      goes_on = λ bytes. goes-on (start_of options) (opened_at options m) (resuming_rows m) bytes p;
+      sequential = λ h lines legal same. sequential (opened_at options m) lines m.roster h legal (ap (Open m.roster) same);
+    }

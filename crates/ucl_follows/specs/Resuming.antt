@@ -1,0 +1,28 @@
+-- What an evening makes of the rows by which it goes on from a moment.
+use Rattle.std.specs.Prelude.{◌≡◌, ℕ, List, [], ◌++◌}
+use Rattle.ucl_board.specs.declared.entry.Entry.{Entry}
+use Rattle.ucl_board.specs.History.{IsLegal, board_of}
+use Rattle.ucl_answers.specs.declared.options.Options.{Options}
+use Rattle.ucl_answers.specs.Laws.{IsSequential}
+use Rattle.ucl_answers.specs.Lines.{lines_of}
+use Rattle.ucl_answers.specs.Stages.{Open}
+use Rattle.ucl_answers.specs.Text.{Evening, after_lines, answers, live_text, start_of}
+use Rattle.ucl_follows.specs.declared.moment.Moment.{Moment}
+use Rattle.ucl_follows.specs.Answered.{IsMoment}
+use Rattle.ucl_follows.specs.Follow.{resuming_rows}
+
+-- sixteen rows were read, of four clubs and twelve words, and the board of the moment is open
+abbrev pub opened_at : Options → Moment → Evening
+opened_at options moment = record { options = options; row = 17; stage = Open moment.roster moment.board }
+
+-- an evening that has read the rows of a moment has answered nothing, and its board is open; what comes next is answered on that board, so
+-- each reply and each screen is that of the history which the board is of
+pub record OpensTheBoard (options : Options) (moment : Moment) : Type 0 where
+  pub silent : answers (start_of options) (lines_of (resuming_rows moment)) ≡ []
+  pub opens : after_lines (start_of options) (lines_of (resuming_rows moment)) ≡ opened_at options moment
+  pub goes_on : (bytes : List ℕ) → live_text (start_of options) (resuming_rows moment ++ bytes) ≡ live_text (opened_at options moment) bytes
+  pub sequential : (history : List Entry) (lines : List (List ℕ)) → IsLegal history → moment.board ≡ board_of history
+      → IsSequential (opened_at options moment) lines moment.roster history
+
+abbrev pub ResumedRowsOpenTheBoard : Type 0
+ResumedRowsOpenTheBoard = (options : Options) (moment : Moment) → IsMoment moment → OpensTheBoard options moment
