@@ -1,7 +1,7 @@
 /* The table board of one group of the UEFA Champions League, for C and C++. docs/C.md says the same at length, and docs/RULES.md the rules.
  *
- * Every call but uclboard_version answers a status: 0 (UCLBOARD_DONE) where it was done, and else why not. At any other status whatever a call
- * writes to is as it was, but for what the call says that it tells then.
+ * Every call answers a status: 0 (UCLBOARD_DONE) where it was done, and else why not; but uclboard_version answers a number, and
+ * uclboard_pass_drop nothing. At any other status whatever a call writes to is as it was, but for what the call says that it tells then.
  *
  * What a caller owes: a pointer points to as many elements as are passed beside it, one where no number stands beside it, and is aligned as their
  * type is; it is not null, not even where that number is 0; and what a call writes to overlaps nothing else that it is given. Any other input has
@@ -53,7 +53,7 @@ enum {
     UCLBOARD_BAD_WORD = 10,       /* a word of no valid record; of twelve, the first such word is told, 1 to 12 */
     UCLBOARD_BAD_ROW = 20,        /* a row of a script that is missing, or is not as its place demands: the first is told, counted from 1 */
     UCLBOARD_BAD_ROSTER = 21,     /* a name that is not 1 to 20 bytes from 0x20 to 0x7e, or a coefficient over 999,999: the least slot is told */
-    UCLBOARD_OUT_OF_MEMORY = 23,  /* malloc refused memory */
+    UCLBOARD_OUT_OF_MEMORY = 23,  /* malloc refused memory, or a board has more handles than can be counted */
     UCLBOARD_TOO_LONG = 24,       /* a script of more than 4,194,304 bytes */
     UCLBOARD_FULL_BOARD = 30,     /* 255 reporters are enlisted, as many as there are numbers */
     UCLBOARD_NO_REPORTER = 50,    /* not the number of a reporter, 1 to 255 */
@@ -209,7 +209,8 @@ UCLBOARD_NEEDS_LOOK uclboard_status uclboard_text_of_status(uint32_t status, cha
 
 /* A board that threads share, behind handles. A handle is a pointer that begins as NULL and then holds a pass of a board. Each call is given the
    address of the handle. The passes of a board are shares of it: the board is there as long as one of its handles is. No call waits: a report is
-   one load and at most one exchange of a word, a reading loads all words twice, again where another thread was quicker.
+   one load and at most one exchange of a word, an enlistment at most 255 exchanges of another, a reading loads all words twice, again where another
+   thread was quicker.
 
    What a caller owes: a handle that is not NULL was given by this library and not yet dropped; it is not copied; it is in one call at a time, and
    nothing reads or writes what it points to. It may go to another thread, by that thread's start or end, by a lock, or by an atomic that is

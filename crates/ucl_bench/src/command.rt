@@ -8,8 +8,7 @@ use crate::plain_words::PlainSubject;
 use crate::starts::measure_nights;
 use crate::subject::Subject;
 use crate::tables::{
-    OurTable, ReadTable, Rounds, Table, boards_of, measure_screens, measure_standings,
-    print_screens, print_standings,
+    OurTable, Rounds, boards_of, measure_screens, measure_standings, print_screens, print_standings,
 };
 use anyhow::{Context, Result};
 use std::alloc::Global;
@@ -26,7 +25,6 @@ const LIST: &str = "word_board read report mix-R-W paced-R-W night
 cell_board read report mix-R-W paced-R-W night
 plain_words read report mix-R-W paced-R-W night
 table standings screen
-read_table standings screen
 library next_word read_word match_of board_version standings screen screen_json script
 ";
 
@@ -120,7 +118,7 @@ fn calls_of<R: Wait + Clock>(
 }
 
 /// Measures the table or the screen of boards.
-fn measure_table<T: Table, R: Wait + Clock>(
+fn measure_table<R: Wait + Clock>(
     rt: &R,
     alloc: Global,
     name: &str,
@@ -128,22 +126,22 @@ fn measure_table<T: Table, R: Wait + Clock>(
     boards: &[Board],
 ) -> Result<Rounds> {
     match name {
-        "standings" => measure_standings::<T, R>(rt, alloc, boards, millis),
-        "screen" => measure_screens::<T, R>(rt, alloc, boards, millis),
+        "standings" => measure_standings::<OurTable, R>(rt, alloc, boards, millis),
+        "screen" => measure_screens::<OurTable, R>(rt, alloc, boards, millis),
         _ => anyhow::bail!("no such workload"),
     }
 }
 
 /// Prints the rows, or the screens, of boards.
-fn print_table<T: Table, R: Print + AllocGlobal>(
+fn print_table<R: Print + AllocGlobal>(
     rt: &R,
     alloc: Global,
     name: &str,
     boards: &[Board],
 ) -> Result<()> {
     match name {
-        "standings" => print_standings::<T, R>(rt, alloc, boards),
-        "screen" => print_screens::<T, R>(rt, alloc, boards),
+        "standings" => print_standings(rt, alloc, boards),
+        "screen" => print_screens(rt, alloc, boards),
         _ => anyhow::bail!("no such workload"),
     }
 }
@@ -167,8 +165,7 @@ fn check<R: Print + Files + AllocGlobal>(rt: &R, alloc: Global, words: &[String]
     let name = word_at(words, 3);
     let boards = boards_in(rt, alloc, word_at(words, 4))?;
     match word_at(words, 2) {
-        "table" => print_table::<OurTable, R>(rt, alloc, name, &boards),
-        "read_table" => print_table::<ReadTable, R>(rt, alloc, name, &boards),
+        "table" => print_table(rt, alloc, name, &boards),
         _ => anyhow::bail!("no such subject"),
     }
 }
@@ -189,12 +186,7 @@ fn run_workload<R: Print + Files + AllocGlobal + Threads + Wait + Clock + Copy +
     match subject {
         "table" => {
             let boards = boards_in(&rt, alloc, word_at(words, 5))?;
-            let rounds = measure_table::<OurTable, R>(&rt, alloc, name, millis, &boards)?;
-            println!(&rt; "{head}{rounds}}}")?;
-        }
-        "read_table" => {
-            let boards = boards_in(&rt, alloc, word_at(words, 5))?;
-            let rounds = measure_table::<ReadTable, R>(&rt, alloc, name, millis, &boards)?;
+            let rounds = measure_table(&rt, alloc, name, millis, &boards)?;
             println!(&rt; "{head}{rounds}}}")?;
         }
         "library" => {

@@ -293,10 +293,10 @@ fn print_row<R: Print>(rt: &R, row: &Row) -> Result<()> {
 }
 
 /// Prints the rows of each board.
-pub fn print_standings<T: Table, R: Print>(rt: &R, alloc: Global, boards: &[Board]) -> Result<()> {
+pub fn print_standings<R: Print>(rt: &R, alloc: Global, boards: &[Board]) -> Result<()> {
     let roster = roster(alloc)?;
     for board in boards {
-        for row in &T::standings(board, &roster) {
+        for row in &OurTable::standings(board, &roster) {
             print_row(rt, row)?;
         }
     }
@@ -304,10 +304,10 @@ pub fn print_standings<T: Table, R: Print>(rt: &R, alloc: Global, boards: &[Boar
 }
 
 /// Prints the screen of each board.
-pub fn print_screens<T: Table, R: Print>(rt: &R, alloc: Global, boards: &[Board]) -> Result<()> {
+pub fn print_screens<R: Print>(rt: &R, alloc: Global, boards: &[Board]) -> Result<()> {
     let roster = roster(alloc)?;
     for board in boards {
-        let text = T::screen(alloc, board, &roster)?;
+        let text = OurTable::screen(alloc, board, &roster)?;
         print!(rt; "{text}")?;
     }
     Ok(())

@@ -15,7 +15,7 @@ pub enum Fault {
     BadRow { row: u32 },
     /// 21: the least slot whose club no roster takes in.
     BadRoster { slot: u8 },
-    /// 23: an allocation was refused.
+    /// 23: an allocation was refused, or a board has more handles than can be counted.
     OutOfMemory,
     /// 24: a script has more than 4,194,304 bytes.
     TooLong,

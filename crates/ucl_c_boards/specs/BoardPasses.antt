@@ -9,7 +9,7 @@ use Rattle.ucl_steps.specs.declared.step.Call.TheVariants as calls
 use Rattle.ucl_steps.specs.declared.trace.Reply.TheVariants as replies
 use Rattle.ucl_steps.specs.Protocol.{nothing_done}
 use Rattle.ucl_steps.specs.Trails.{most_loads}
-use Rattle.ucl_shared.specs.Passes.{Continues, AcceptedReport, RefusedReport, SharedReading, Enlistment, FullBoard, opening_pass, split_pass}
+use Rattle.ucl_shared.specs.Passes.{IsSound, Continues, AcceptedReport, RefusedReport, SharedReading, Enlistment, FullBoard, opening_pass, split_pass}
 use Rattle.ucl_shared.specs.Views.{count_of, kept_of, pass_view_of, trail_of}
 use Rattle.ucl_shared.specs.CallSteps.{HasCopyOf}
 use Rattle.ucl_words.specs.WordCalls.{EnlistTries, KeepsTrail, ReportSteps, ReadingSteps}
@@ -49,6 +49,7 @@ IsOpened _ = ⊥
 pub record HasGivenHalf (k m : WordPass) : Type 0 where
   pub own : m.board ≡ k.board
   pub seat : m.seat ≡ k.seat
+  pub sound : IsSound (pass_view_of k.view)
   pub kept : m.view ≡ kept_of k.view
   pub does : m.doing ≡ k.doing
   pub stands : Stands k.seat (view_of k) → Stands m.seat (view_of m)
@@ -76,6 +77,7 @@ pub record BecomesReporter (k n : WordPass) : Type 0 where
   pub tries : EnlistTries k.view (Some n.view.number) n.view
   pub does : n.doing ≡ k.doing
   pub reported : WordHasReported n.doing 0
+  pub most : count_of n.view ≤ count_of k.view + 255
   pub stands : Stands n.seat (view_of n)
 
 abbrev pub IsEnlistedFrom : WordPass → AnyPass → Type 0
@@ -103,6 +105,7 @@ pub record FoundFull (k : WordPass) : Type 0 where
   pub trail : KeepsTrail k.view found.view
   pub tries : EnlistTries k.view None found.view
   pub does : found.doing ≡ k.doing
+  pub most : count_of found.view ≤ count_of k.view + 255
   pub stands : Stands found.seat (view_of found)
 
 -- and it was one that had been split off a pass k

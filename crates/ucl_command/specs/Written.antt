@@ -7,13 +7,13 @@ use Rattle.ucl_order.specs.declared.profile.Profile.TheVariants.{Uefa, AwayInTie
 use Rattle.ucl_screen.specs.Screen.{IsGroup}
 use Rattle.ucl_command.specs.declared.command_line.Line.{Line}
 use Rattle.ucl_command.specs.declared.command_line.Line.TheVariants.{Feed, Show, Night}
-use Rattle.ucl_program.specs.Lines.{IsReading, IsRefusing}
+use Rattle.ucl_program.specs.Lines.{IsRefusing, ReadsLine}
 use Rattle.ucl_program.specs.Written.{words}
 use Rattle.ucl_command.specs.CommandLine.{line_named, program}
 
 -- `clap` takes the words and reads the line from them
 abbrev pub Means : List Text → Line → Type 0
-Means = IsReading program line_named
+Means = ReadsLine program line_named
 
 -- `clap` refuses the words, by one of these kinds of error
 abbrev pub FailsAs : List Text → Kinds → Type 0

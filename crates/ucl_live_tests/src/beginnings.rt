@@ -7,7 +7,7 @@ use ucl_answers::Format;
 use ucl_screen::InputFault;
 
 /// Beginnings that are refused, and why.
-static REFUSED_CLUBS: [(&str, InputFault); 13] = [
+static REFUSED_CLUBS: [(&str, InputFault); 16] = [
     ("", InputFault::BadRow { row: 1 }),
     ("\n\r\n", InputFault::BadRow { row: 3 }),
     ("club,1,Alpha,60000", InputFault::BadRow { row: 2 }),
@@ -31,6 +31,18 @@ static REFUSED_CLUBS: [(&str, InputFault); 13] = [
     ("club,1,Alpha,0000000001\n", InputFault::BadRow { row: 1 }),
     ("club,1,Alpha,-1\n", InputFault::BadRow { row: 1 }),
     ("club,1,\"Alp", InputFault::BadRow { row: 1 }),
+    (
+        "row,slot,name,coefficient\nclub,1,Alpha,60000\n",
+        InputFault::BadRow { row: 1 },
+    ),
+    (
+        "club;1;Alpha;60000\nclub;2;Bravo;95000\n",
+        InputFault::BadRow { row: 1 },
+    ),
+    (
+        "5 ok 1 1 1\nword,1,2001000000000001,\n",
+        InputFault::BadRow { row: 1 },
+    ),
     (
         "club,1,Alpha,60000\nclub,2,Bravo Bravo Bravo Bra,95000\nclub,3,Charlie,1000000\nclub,4,Delta,81500\n",
         InputFault::BadRoster { slot: 2 },

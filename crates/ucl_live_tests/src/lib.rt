@@ -16,11 +16,8 @@ mod rows;
 
 #[cfg(test)]
 use std::alloc::{AllocError, Global};
-
-/// The rows of the clubs.
 #[cfg(test)]
-const CLUBS: &str =
-    "club,1,Alpha,60000\nclub,2,Bravo,95000\nclub,3,Charlie,60000\nclub,4,Delta,81500\n";
+use ucl_devices::CLUBS;
 
 /// Texts, one after the other.
 #[cfg(test)]

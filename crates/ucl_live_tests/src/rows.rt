@@ -6,36 +6,14 @@ use std::alloc::Global;
 use std::process::Abort;
 use std::test::Fail;
 use ucl_answers::Format;
-use ucl_devices::{Cut, Full};
-
-/// The rows of the stored run, after those of the clubs.
-const STORED: &str =
-    "1,1,0,kickoff\n1,1,1,goal-home\n2,1,1,goal-away\n2,2,0,goal-home\n2,2,0,kickoff\n1,1,2,yellow-away\n1,1,3,second-yellow-away\n1,1,4,disallow-home\n1,1,5,disallow-home\n1,1,5,fulltime\n";
-
-/// The answers to them.
-const STORED_OUT: &str =
-    "5 ok 1 1 1\n6 ok 1 2 2\n7 refused 1 stale 2\n8 refused 3 not-started\n9 ok 2 1 3\n10 ok 1 3 4\n11 ok 1 4 5\n12 ok 1 5 6\n13 refused 6 no-goal\n14 ok 1 6 7\n";
-
-/// The words after them.
-const STORED_WORDS: &str =
-    "word,1,2001080000002006,\nword,2,2002000000001001,\nword,3,2000000000000000,\nword,4,2000000000000000,\nword,5,2000000000000000,\nword,6,2000000000000000,\nword,7,2000000000000000,\nword,8,2000000000000000,\nword,9,2000000000000000,\nword,10,2000000000000000,\nword,11,2000000000000000,\nword,12,2000000000000000,\n";
-
-/// The screen after them.
-const STORED_SCREEN: &str = "\
-GROUP A v00007 IN PLAY 1
-    Club                  P  W  D  L  GF  GA   GD Pts
-1   Bravo                 1  0  1  0   0   0   +0   1
-2   Delta                 1  0  1  0   0   0   +0   1
-3   Alpha                 1  0  1  0   0   0   +0   1
-4   Charlie               1  0  1  0   0   0   +0   1
-";
+use ucl_devices::{Cut, Full, STORED, STORED_REPLIES, STORED_SCREEN, STORED_WORDS};
 
 /// The stored run, and then the screen and the words that it leaves, however the input comes.
 #[test]
 fn stored_run(rt: HostRuntime) -> Result<(), Fail> {
     let alloc = rt.alloc();
     let text = joined(alloc, &[CLUBS, STORED, "screen,,,\nwords,,,\n"])?;
-    let wanted = joined(alloc, &[STORED_OUT, STORED_SCREEN, STORED_WORDS])?;
+    let wanted = joined(alloc, &[STORED_REPLIES, STORED_SCREEN, STORED_WORDS])?;
     for piece in [1, 2, 13, 64, usize::MAX] {
         let evening = held(alloc, Format::Text, text.as_bytes(), piece);
         assert!(rt; has_written(&evening, wanted.as_str()), "by {piece}");
@@ -229,7 +207,7 @@ fn answers_within(text: &str, bytes: usize) -> usize {
     }
     let mut answered = 4usize;
     let mut length = 0usize;
-    for b in STORED_OUT.as_bytes() {
+    for b in STORED_REPLIES.as_bytes() {
         if answered >= lines {
             return length;
         }
@@ -255,7 +233,7 @@ fn cut_after_each_byte(rt: HostRuntime) -> Result<(), Fail> {
         let evening = held_with(alloc, (Format::Text, false), input, usize::MAX, Full::Fails);
         let written = answers_within(text.as_str(), room);
         assert!(rt;
-            has_broken_off(&evening, STORED_OUT, room, written),
+            has_broken_off(&evening, STORED_REPLIES, room, written),
             "at {room}"
         );
     }
@@ -274,7 +252,7 @@ fn assert_stops(rt: &impl Abort, alloc: Global, text: &str, wanted: &str, full: 
 fn full_outputs(rt: HostRuntime) -> Result<(), Fail> {
     let alloc = rt.alloc();
     let text = joined(alloc, &[CLUBS, STORED, "screen,,,\nwords,,,\n"])?;
-    let wanted = joined(alloc, &[STORED_OUT, STORED_SCREEN, STORED_WORDS])?;
+    let wanted = joined(alloc, &[STORED_REPLIES, STORED_SCREEN, STORED_WORDS])?;
     assert_stops(&rt, alloc, text.as_str(), wanted.as_str(), Full::Fails);
     assert_stops(&rt, alloc, text.as_str(), wanted.as_str(), Full::TakesNone);
     Ok(())

@@ -51,5 +51,5 @@ module _ {T : Type 0} (program : T → App) where
     IsAskedFor words line = (t : T) × (fault_of (program t) words ≡ []) × (named t words ≡ Some line)
 
     -- `clap` takes the words and reads the line from them
-    abbrev pub IsReading : List Text → L → Type 0
-    IsReading words line = (t : T) → (takes (program t) words ≡ true) × (named t words ≡ Some line)
+    abbrev pub ReadsLine : List Text → L → Type 0
+    ReadsLine words line = (t : T) → (takes (program t) words ≡ true) × (named t words ≡ Some line)

@@ -7,7 +7,7 @@ use std::sync::Wait;
 use std::test::Fail;
 use std::thread::Threads;
 use ucl_command::{Line, LineFault, feed, line_of, night_on, run, show};
-use ucl_devices::{Full, Out};
+use ucl_devices::{CLUBS, Full, Out};
 use ucl_order::Profile;
 use ucl_pass::{CellBoard, LiveBoard};
 use ucl_runs::{OpenGate, RunFault};
@@ -24,11 +24,11 @@ club,4,Delta,81500
 1,1,0,kickoff
 ";
 
-const SHEET: &str = "\
-club,1,Alpha,60000
-club,2,Bravo,95000
-club,3,Charlie,60000
-club,4,Delta,81500
+/// The replies to it.
+const REPLIES: &str = "5 ok 1 1 1\n6 refused 1 stale 1\n";
+
+/// The words after it.
+const WORDS: &str = "\
 word,1,2001000000001001,
 word,2,2000000000000000,
 word,3,2000000000000000,
@@ -43,23 +43,7 @@ word,11,2000000000000000,
 word,12,2000000000000000,
 ";
 
-const REPLIES: &str = "\
-5 ok 1 1 1
-6 refused 1 stale 1
-word,1,2001000000001001,
-word,2,2000000000000000,
-word,3,2000000000000000,
-word,4,2000000000000000,
-word,5,2000000000000000,
-word,6,2000000000000000,
-word,7,2000000000000000,
-word,8,2000000000000000,
-word,9,2000000000000000,
-word,10,2000000000000000,
-word,11,2000000000000000,
-word,12,2000000000000000,
-";
-
+/// The screen after it.
 const SCREEN: &str = "\
 GROUP A v00001 IN PLAY 1
     Club                  P  W  D  L  GF  GA   GD Pts
@@ -289,11 +273,11 @@ fn ran<R: Threads + Wait + Sync>(
     Ok((status, out, errors))
 }
 
-/// A line of words, its input, and the two parts of the text that it writes.
-static DONE: [(&str, &str, &str, &str); 3] = [
-    ("ucl_night feed", SCRIPT, "", REPLIES),
-    ("ucl_night show", SHEET, "", SCREEN),
-    ("ucl_night night", SCRIPT, "FINAL\n", SCREEN),
+/// A line of words, and the two parts of its input and of the text that it writes.
+static DONE: [(&str, [&str; 2], [&str; 2]); 3] = [
+    ("ucl_night feed", [SCRIPT, ""], [REPLIES, WORDS]),
+    ("ucl_night show", [CLUBS, WORDS], ["", SCREEN]),
+    ("ucl_night night", [SCRIPT, ""], ["FINAL\n", SCREEN]),
 ];
 
 /// What is told of an output that is full after so many bytes.
@@ -344,9 +328,10 @@ fn assert_stops<R: Threads + Wait + Sync + Abort>(
 
 #[test]
 fn lines_are_done(rt: HostRuntime) -> Result<(), Fail> {
-    for &(line, input, heading, text) in DONE.as_slice() {
+    for &(line, [clubs, rows], [heading, text]) in DONE.as_slice() {
+        let input = joined(rt.alloc(), clubs, rows)?;
         let output = joined(rt.alloc(), heading, text)?;
-        let row = (line, input, output.as_str());
+        let row = (line, input.as_str(), output.as_str());
         let end = end_of(&rt, rt.alloc(), row, "")?;
         assert_eq!(rt; end, (0, true, true), "at {line}");
         assert_stops(&rt, rt.alloc(), row)?;
@@ -456,11 +441,13 @@ fn lines_that_never_wait(rt: HostRuntime) -> Result<(), Fail> {
         &mut FromRead::new(SCRIPT.as_bytes()),
         &mut ToWrite::new(&mut out),
     );
-    assert!(rt; fed.is_ok() && out.as_slice() == REPLIES.as_bytes());
+    let replies = joined(alloc, REPLIES, WORDS)?;
+    assert!(rt; fed.is_ok() && out.as_slice() == replies.as_bytes());
     let mut out = Vec::new(alloc);
+    let sheet = joined(alloc, CLUBS, WORDS)?;
     let shown = show(
         alloc,
-        &mut FromRead::new(SHEET.as_bytes()),
+        &mut FromRead::new(sheet.as_bytes()),
         &mut ToWrite::new(&mut out),
         b'A',
         Profile::Uefa,

@@ -9,41 +9,19 @@ use devices::{fed, has_refused, has_stopped, has_written, shown};
 use std::alloc::{AllocError, Global};
 use std::process::Abort;
 use std::test::Fail;
-use ucl_devices::{Cut, Full};
+use ucl_devices::{CLUBS, Cut, Full, STORED, STORED_REPLIES, STORED_SCREEN, STORED_WORDS};
 use ucl_order::Profile;
 use ucl_runs::{RunFault, status_of};
 use ucl_screen::{FromRead, InputFault, read_night, screen};
 use ucl_steps::{Call, Caller, Cast, Reply, Step, run_steps};
 use ucl_word::{EventCall, Kind, MatchNo, ReporterNo};
 
-const CLUBS: &str =
-    "club,1,Alpha,60000\nclub,2,Bravo,95000\nclub,3,Charlie,60000\nclub,4,Delta,81500\n";
-
-const TWO_MATCHES: &str =
-    "1,1,0,kickoff\n1,1,1,goal-home\n2,1,1,goal-away\n2,2,0,goal-home\n2,2,0,kickoff\n1,1,2,yellow-away\n1,1,3,second-yellow-away\n1,1,4,disallow-home\n1,1,5,disallow-home\n1,1,5,fulltime\n";
-
-const TWO_MATCHES_OUT: &str =
-    "5 ok 1 1 1\n6 ok 1 2 2\n7 refused 1 stale 2\n8 refused 3 not-started\n9 ok 2 1 3\n10 ok 1 3 4\n11 ok 1 4 5\n12 ok 1 5 6\n13 refused 6 no-goal\n14 ok 1 6 7\nword,1,2001080000002006,\nword,2,2002000000001001,\nword,3,2000000000000000,\nword,4,2000000000000000,\nword,5,2000000000000000,\nword,6,2000000000000000,\nword,7,2000000000000000,\nword,8,2000000000000000,\nword,9,2000000000000000,\nword,10,2000000000000000,\nword,11,2000000000000000,\nword,12,2000000000000000,\n";
-
 const NO_EVENT_OUT: &str =
     "word,1,2000000000000000,\nword,2,2000000000000000,\nword,3,2000000000000000,\nword,4,2000000000000000,\nword,5,2000000000000000,\nword,6,2000000000000000,\nword,7,2000000000000000,\nword,8,2000000000000000,\nword,9,2000000000000000,\nword,10,2000000000000000,\nword,11,2000000000000000,\nword,12,2000000000000000,\n";
 
-/// The word lines of the stored run.
-const TWO_MATCHES_WORDS: &str =
-    "word,1,2001080000002006,\nword,2,2002000000001001,\nword,3,2000000000000000,\nword,4,2000000000000000,\nword,5,2000000000000000,\nword,6,2000000000000000,\nword,7,2000000000000000,\nword,8,2000000000000000,\nword,9,2000000000000000,\nword,10,2000000000000000,\nword,11,2000000000000000,\nword,12,2000000000000000,\n";
-
-/// The same matches in words of the first layout.
-const TWO_MATCHES_OLD_WORDS: &str =
+/// The stored run in words of the first layout.
+const STORED_OLD_WORDS: &str =
     "word,1,0000420000000806,\nword,2,0000800000000401,\nword,3,0000000000000000,\nword,4,0000000000000000,\nword,5,0000000000000000,\nword,6,0000000000000000,\nword,7,0000000000000000,\nword,8,0000000000000000,\nword,9,0000000000000000,\nword,10,0000000000000000,\nword,11,0000000000000000,\nword,12,0000000000000000,\n";
-
-const TWO_MATCHES_SCREEN: &str = "\
-GROUP A v00007 IN PLAY 1
-    Club                  P  W  D  L  GF  GA   GD Pts
-1   Bravo                 1  0  1  0   0   0   +0   1
-2   Delta                 1  0  1  0   0   0   +0   1
-3   Alpha                 1  0  1  0   0   0   +0   1
-4   Charlie               1  0  1  0   0   0   +0   1
-";
 
 /// Each fault of a run, its line and its status.
 static FAULTS: [(RunFault, &str, u8); 12] = [
@@ -115,10 +93,11 @@ fn fault_lines_and_statuses(rt: HostRuntime) -> Result<(), Fail> {
 #[test]
 fn stored_run(rt: HostRuntime) -> Result<(), Fail> {
     let alloc = rt.alloc();
-    let script = joined(alloc, CLUBS, TWO_MATCHES)?;
+    let script = joined(alloc, CLUBS, STORED)?;
     let (answer, out) = fed(alloc, script.as_bytes(), usize::MAX, Full::Fails);
     assert_eq!(rt; answer, Ok(()));
-    assert!(rt; out.as_slice() == TWO_MATCHES_OUT.as_bytes());
+    let wanted = joined(alloc, STORED_REPLIES, STORED_WORDS)?;
+    assert!(rt; out.as_slice() == wanted.as_bytes());
     Ok(())
 }
 
@@ -259,7 +238,7 @@ fn head_to_head(rt: HostRuntime) -> Result<(), Fail> {
 #[test]
 fn two_reopenings(rt: HostRuntime) -> Result<(), Fail> {
     let alloc = rt.alloc();
-    let script = joined(alloc, CLUBS, TWO_MATCHES)?;
+    let script = joined(alloc, CLUBS, STORED)?;
     let script = joined(alloc, script.as_str(), "1,1,6,reopen\n1,3,0,reopen\n")?;
     let (answer, out) = fed(alloc, script.as_bytes(), usize::MAX, Full::Fails);
     assert_eq!(rt; answer, Ok(()));
@@ -269,14 +248,11 @@ fn two_reopenings(rt: HostRuntime) -> Result<(), Fail> {
     Ok(())
 }
 
-/// Asserts that `feed` writes just the front of the stored run that fits wherever its output is full.
-fn assert_feed_stops(rt: &impl Abort, alloc: Global, script: &[u8], full: Full) {
-    for room in 0..TWO_MATCHES_OUT.len() {
+/// Asserts that `feed` writes just the front of its text that fits wherever its output is full.
+fn assert_feed_stops(rt: &impl Abort, alloc: Global, script: &[u8], wanted: &str, full: Full) {
+    for room in 0..wanted.len() {
         let ran = fed(alloc, script, room, full);
-        assert!(rt;
-            has_stopped(&ran, TWO_MATCHES_OUT, room),
-            "{full:?} at {room}"
-        );
+        assert!(rt; has_stopped(&ran, wanted, room), "{full:?} at {room}");
     }
 }
 
@@ -284,10 +260,11 @@ fn assert_feed_stops(rt: &impl Abort, alloc: Global, script: &[u8], full: Full) 
 #[test]
 fn failing_devices(rt: HostRuntime) -> Result<(), Fail> {
     let alloc = rt.alloc();
-    let script = joined(alloc, CLUBS, TWO_MATCHES)?;
+    let script = joined(alloc, CLUBS, STORED)?;
     let text = script.as_bytes();
-    assert_feed_stops(&rt, alloc, text, Full::Fails);
-    assert_feed_stops(&rt, alloc, text, Full::TakesNone);
+    let wanted = joined(alloc, STORED_REPLIES, STORED_WORDS)?;
+    assert_feed_stops(&rt, alloc, text, wanted.as_str(), Full::Fails);
+    assert_feed_stops(&rt, alloc, text, wanted.as_str(), Full::TakesNone);
     for room in [0, 1, 100, text.len()] {
         let piece = usize::MAX;
         let ran = fed(alloc, Cut { text, piece, room }, usize::MAX, Full::Fails);
@@ -366,8 +343,8 @@ fn assert_screen(rt: &impl Abort, alloc: Global, words: &str, screen: &str) -> R
 
 /// Word lines that are written down here, and their screens.
 static SCREENS: [(&str, &str); 3] = [
-    (TWO_MATCHES_WORDS, TWO_MATCHES_SCREEN),
-    (TWO_MATCHES_OLD_WORDS, TWO_MATCHES_SCREEN),
+    (STORED_WORDS, STORED_SCREEN),
+    (STORED_OLD_WORDS, STORED_SCREEN),
     (NO_EVENT_OUT, FRESH_SCREEN),
 ];
 

@@ -1,59 +1,10 @@
 //! The worked screens.
 
-use std::alloc::Global;
+use crate::order::{LEVEL_AGAIN, played, sample_roster};
 use std::test::Fail;
 use ucl_board::Board;
 use ucl_order::Profile::{AwayInTie, Uefa};
-use ucl_order::{Club, Roster};
 use ucl_screen::{is_group, screen};
-use ucl_word::{EventCall, Kind, MatchNo, ReporterNo, Side};
-
-fn club(alloc: Global, name: &[u8], coefficient: u32) -> Result<Club, Fail> {
-    Ok(Club {
-        name: Vec::from_slice(alloc, name)?,
-        coefficient,
-    })
-}
-
-fn sample_roster(alloc: Global) -> Result<Roster, Fail> {
-    Ok(Roster::new([
-        club(alloc, b"Alpha", 60000)?,
-        club(alloc, b"Bravo", 95000)?,
-        club(alloc, b"Charlie", 60000)?,
-        club(alloc, b"Delta", 81500)?,
-    ])?)
-}
-
-/// Enters an event of reporter 1 at the match's number.
-fn enter(board: &mut Board, game: MatchNo, kind: Kind) -> Result<(), Fail> {
-    let call = EventCall {
-        game,
-        expected: board.game(game).number,
-        kind,
-    };
-    let reporter = ReporterNo::new(1).ok_or("no reporter 1")?;
-    board.report(reporter, &call)?;
-    Ok(())
-}
-
-/// The board after each match has been played to this score.
-fn played(scores: &[(u8, u8); 12]) -> Result<Board, Fail> {
-    let mut board = Board::fresh();
-    let mut number = 1;
-    for (home, away) in scores {
-        let game = MatchNo::new(number).ok_or("no such match")?;
-        enter(&mut board, game, Kind::KickOff)?;
-        for _ in 0..*home {
-            enter(&mut board, game, Kind::Goal(Side::Home))?;
-        }
-        for _ in 0..*away {
-            enter(&mut board, game, Kind::Goal(Side::Away))?;
-        }
-        enter(&mut board, game, Kind::FullTime)?;
-        number = number.wrapping_add(1);
-    }
-    Ok(board)
-}
 
 const HEAD_TO_HEAD_AGAIN: &str = "\
 GROUP A v00040 IN PLAY 0
@@ -66,21 +17,8 @@ GROUP A v00040 IN PLAY 0
 
 #[test]
 fn head_to_head_again(rt: HostRuntime) -> Result<(), Fail> {
-    let board = played(&[
-        (1, 0),
-        (1, 0),
-        (1, 0),
-        (5, 0),
-        (1, 0),
-        (1, 0),
-        (2, 0),
-        (0, 1),
-        (0, 0),
-        (0, 0),
-        (0, 2),
-        (0, 1),
-    ])?;
-    let roster = sample_roster(rt.alloc())?;
+    let board = played(LEVEL_AGAIN).expect(&rt, "a legal run");
+    let roster = sample_roster(rt.alloc())?.expect(&rt, "a good roster");
     let text = screen(rt.alloc(), &board, &roster, b'A', Uefa)?;
     assert_eq!(rt; text.as_str(), HEAD_TO_HEAD_AGAIN);
     Ok(())
@@ -107,21 +45,11 @@ GROUP A v00039 IN PLAY 0
 /// Clubs 1 and 2 are level head to head, where club 2 has the one away goal.
 #[test]
 fn screens_by_both_profiles(rt: HostRuntime) -> Result<(), Fail> {
-    let board = played(&[
-        (1, 0),
-        (0, 3),
-        (2, 1),
-        (1, 0),
-        (0, 1),
-        (1, 0),
-        (1, 0),
-        (0, 1),
-        (0, 1),
-        (1, 0),
-        (1, 0),
-        (0, 0),
-    ])?;
-    let roster = sample_roster(rt.alloc())?;
+    let board = played("1-0 0-3 2-1 1-0 0-1 1-0 1-0 0-1 0-1 1-0 1-0 0-0").expect(
+        &rt,
+        "a legal run",
+    );
+    let roster = sample_roster(rt.alloc())?.expect(&rt, "a good roster");
     for (profile, expected) in [(Uefa, BY_ALL_MATCHES), (AwayInTie, BY_AWAY_GOALS)] {
         let text = screen(rt.alloc(), &board, &roster, b'A', profile)?;
         assert_eq!(rt; text.as_str(), expected);
@@ -140,7 +68,7 @@ GROUP H v00000 IN PLAY 0
 
 #[test]
 fn fresh_board_screen(rt: HostRuntime) -> Result<(), Fail> {
-    let roster = sample_roster(rt.alloc())?;
+    let roster = sample_roster(rt.alloc())?.expect(&rt, "a good roster");
     let text = screen(rt.alloc(), &Board::fresh(), &roster, b'H', Uefa)?;
     assert_eq!(rt; text.as_str(), FRESH_BOARD);
     Ok(())
@@ -175,7 +103,7 @@ GROUP A v49140 IN PLAY 0
 
 #[test]
 fn screens_of_words(rt: HostRuntime) -> Result<(), Fail> {
-    let roster = sample_roster(rt.alloc())?;
+    let roster = sample_roster(rt.alloc())?.expect(&rt, "a good roster");
     let mut two_matches = [0x2000000000000000; 12];
     two_matches[0] = 0x2001080000002006;
     two_matches[1] = 0x2002000000001001;
