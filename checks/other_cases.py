@@ -156,14 +156,35 @@ def block_of(text, heading):
     return text.split(heading + "\n", 1)[1].split("\n\n", 1)[0].split("\n")
 
 
+def starts_of_help(program):
+    """The examples of a program's help."""
+    return [line.strip() for line in block_of(ran([program, "--help"]).stdout.decode(), "Examples:") if line.strip()]
+
+
+def started_badly(line, command):
+    """What is not well of an example that has to write something and to end well."""
+    run = ran(["bash", "-c", command])
+    well = not run.returncode and run.stdout and not run.stderr
+    return None if well else f"'{line}' ends with {run.returncode}; standard error: {run.stderr[:200]!r}"
+
+
 def examples_of_help():
     """Each example of the help, as it stands there, ends well and writes something."""
-    starts = [line.strip() for line in block_of(ran([NIGHT, "--help"]).stdout.decode(), "Examples:") if line.strip()]
-    for line in starts:
-        run = ran(["bash", "-c", f"./{line}"])
-        if run.returncode or not run.stdout or run.stderr:
-            return f"'{line}' ends with {run.returncode}; standard error: {run.stderr[:200]!r}"
-    return None if len(starts) == 3 else f"there are {len(starts)} examples"
+    starts = starts_of_help(NIGHT)
+    wrong = [it for it in (started_badly(line, f"./{line}") for line in starts) if it]
+    return (wrong or [None])[0] if len(starts) == 3 else f"there are {len(starts)} examples"
+
+
+def examples_of_evenings():
+    """Of an evening too: the first example as it stands, and the one of two terminals with a script in the place of what is typed."""
+    starts = [re.split(r" {4,}", line)[0] for line in starts_of_help(LIVE)]
+    if len(starts) != 3:
+        return f"there are {len(starts)} examples"
+    pipe, evening = starts[1].split("; ")
+    typed = f"{starts[2]} < {EXAMPLES}/one_goal.csv"
+    with tempfile.TemporaryDirectory() as folder:
+        both = f"cd {folder} && {pipe} && {{ {TOP}/{evening} & {typed}; wait $!; }}"
+        return started_badly(starts[0], f"./{starts[0]}") or started_badly(starts[1], both)
 
 
 def events_of_help():
@@ -198,6 +219,7 @@ def small_repository(room, rt):
         (place / name).parent.mkdir(parents=True)
         (place / name).write_text("")
     (place / "crates.txt").write_text("low:\none: low\n")
+    (place / "HANDLES").write_text("")
     shutil.copy(str(TOP / "build"), room)
     (place / "rt").write_text("#!/bin/sh\n" + rt)
     (place / "rt").chmod(0o755)
@@ -217,9 +239,9 @@ def proves_at_once():
     if len(os.sched_getaffinity(0)) < 2:
         return None
     wait = "for i in $(seq 100); do [ -e $there ] && break; sleep 0.1; done; [ -e $there ] || exit 1\n"
-    begun = "mkdir -p ../../begun && touch ../../begun/$(basename $PWD)\n"
-    there = "case $PWD in *left) there=../../begun/right ;; *right) there=../../begun/left ;; *) there=. ;; esac\n"
     with tempfile.TemporaryDirectory(prefix="build-") as room:
+        begun = f"cd {room}/crates/$(basename $PWD) && mkdir -p ../../begun && touch ../../begun/$(basename $PWD)\n"
+        there = "case $PWD in *left) there=../../begun/right ;; *right) there=../../begun/left ;; *) there=. ;; esac\n"
         build = small_repository(room, begun + there + wait + "[ $1 = lib ] || { echo 'echo built' >out/one && chmod +x out/one; }\n")
         (pathlib.Path(room) / "crates.txt").write_text("low:\nleft: low\nright: low\none: left right\n")
         for name in "left", "right":
@@ -229,9 +251,10 @@ def proves_at_once():
 
 
 def proves_what_changed():
-    """`./build` proves what is not proved from the sources as they are and no more, counts it, and stops where a proof fails."""
-    rt = "pwd >>../../proved\n[ ! -e fails ] || exit 1\n[ $1 = lib ] || { echo 'echo built' >out/one && chmod +x out/one; }\n"
+    """`./build` proves what is not proved from the sources as they are and no more, counts it, and stops where a proof fails. A library is proved
+    in a copy first, and then taken over."""
     with tempfile.TemporaryDirectory(prefix="build-") as room:
+        rt = f"pwd >>{room}/proved\n[ ! -e fails ] || exit 1\n[ $1 = lib ] || {{ echo 'echo built' >out/one && chmod +x out/one; }}\n"
         place, build = pathlib.Path(room), small_repository(room, rt)
         first, again, start = build("one"), build("one"), build("--start", "one")
         (place / "crates/one/src/main.rt").write_text("changed")
@@ -241,7 +264,7 @@ def proves_what_changed():
         third = build("one")
         proved = [pathlib.Path(line).name for line in (place / "proved").read_text().split()]
     told = [run.returncode for run in (first, again, start, unbuilt, second, third)] + [proved, start.stdout, unbuilt.stdout]
-    wanted = [0, 0, 0, 1, 0, 1, ["low", "one", "one", "low"], b"built\n", b"one\n"]
+    wanted = [0, 0, 0, 1, 0, 1, ["low", "low", "one", "one", "low"], b"built\n", b"one\n"]
     counts = b"proved: 2;" in first.stderr and not again.stderr and b"proved: 1;" in second.stderr and b"low failed" in third.stderr
     return None if told == wanted and counts else f"{told}, {[run.stderr for run in (first, again, second, third)]}"
 
@@ -309,6 +332,7 @@ CASES = [
     Other("evenings that are followed", lambda: well("checks/followers"), ["ucl_live", "ucl_follow"]),
     Other("an evening in little memory", little_for_evening, ["ucl_live"]),
     Other("the examples of the help", examples_of_help),
+    Other("the examples of an evening's help", examples_of_evenings, ["ucl_live"]),
     Other("the events in the help", events_of_help),
     Other("a screen by away goals in a tie", lambda: ordered("away_in_tie", "--order", "away-in-tie")),
     Other("a screen by the order of the Regulations", lambda: ordered("expected", "--order", "uefa")),
@@ -326,7 +350,7 @@ CASES = [
     Other("too little memory", little_for_input),
     Other("a thread that is refused", no_thread),
     *[Other(f"refused memory: {name}", lambda name=name: well("checks/refused", name), [maker]) for name, maker in SWEEPS.items()],
-    Other("a second of soak", lambda: well("checks/soak", "1"), ["ucl_night", "ucl_hostile"]),
+    Other("a second of soak", lambda: well("checks/soak", "1"), ["ucl_night", "ucl_live", "ucl_evening", "ucl_hostile"]),
     Other("workloads", measures, ["ucl_bench"]),
     Other("words that are no workload", measures_no, ["ucl_bench"]),
 ]
