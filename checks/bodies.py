@@ -8,6 +8,7 @@ import clauses
 import edits
 
 FUNCTION = re.compile(r'^( *)(?:pub(?:\(\w+\))? )?(const )?(?:unsafe )?(?:extern "C" )?fn (\w+)')
+TYPE = re.compile(r"^(?:pub(?:\(\w+\))? )?(?:struct|enum) (\w+)", re.M)
 
 
 class Function(typing.NamedTuple):
@@ -56,8 +57,8 @@ def end_of(lines, start, indent):
     return body, first_from(lines, body, lambda line: line == indent + "}")
 
 
-def functions_of(path, text):
-    """The functions of a file, but those inside of others."""
+def functions_of(path, text, homes):
+    """The functions of a file, but those inside of others. A method that is of no trait is named by the modules of its type, its home."""
     lines, found, after = text.split("\n"), [], 0
     blocks = owners(lines)
     for at, line in enumerate(lines):
@@ -66,7 +67,8 @@ def functions_of(path, text):
             body, last = end_of(lines, at, head[1])
             trait, owner = blocks[at] or (None, None)
             types = [owner + trait if trait and trait != owner else owner] if owner else []
-            symbol = "::".join([*module_of(path), *types, head[3]])
+            home = module_of(path) if trait else homes.get(owner, module_of(path))
+            symbol = "::".join([*home, *types, head[3]])
             named = f"{owner}::{head[3]}" if owner else head[3]
             found.append(Function(path, symbol, named, at, body, last, bool(head[2])))
             after = last
@@ -75,8 +77,9 @@ def functions_of(path, text):
 
 def functions_below(folder):
     """The functions of a crate."""
-    files = sorted((folder / "src").glob("**/*.rt"))
-    return [it for file in files for it in functions_of(str(file.relative_to(folder)), file.read_text())]
+    texts = {str(file.relative_to(folder)): file.read_text() for file in sorted((folder / "src").glob("**/*.rt"))}
+    homes = {name: module_of(path) for path, text in texts.items() for name in TYPE.findall(text)}
+    return [it for path, text in texts.items() for it in functions_of(path, text, homes)]
 
 
 def words_of(lines):

@@ -40,11 +40,14 @@ class Rows:
                 if error.errno != errno.ENXIO or time.monotonic() > self.end:
                     raise Trouble(f"nobody reads {path.name}") from error
             time.sleep(0.01)
-        os.set_blocking(self.pipe, True)
 
     def write(self, text):
         """Writes a text into the pipe."""
-        os.write(self.pipe, text.encode())
+        left, end = text.encode(), time.monotonic() + LIMIT
+        while left:
+            if not select.select([], [self.pipe], [], max(0, end - time.monotonic()))[1]:
+                raise Trouble(f"waited {LIMIT} seconds for room in a pipe of rows")
+            left = left[os.write(self.pipe, left) :]
 
     def close(self):
         """Ends the rows."""
@@ -123,6 +126,20 @@ class Room:
         """Makes named pipes."""
         for name in names:
             os.mkfifo(self.path / name)
+
+    def carry(self, source, sink):
+        """Begins to carry what comes from a file or pipe to another."""
+        process = subprocess.Popen(["sh", "-c", 'exec cat <"$0" >"$1"', source, sink], cwd=self.path, stdin=subprocess.DEVNULL)
+        self.running.append(process)
+        return process
+
+    def carried(self, processes, limit=LIMIT):
+        """Awaits that all is carried."""
+        for process in processes:
+            try:
+                wanted("how a carrier ended", process.wait(timeout=limit), 0)
+            except subprocess.TimeoutExpired as error:
+                raise Trouble(f"a pipe has not ended after {limit} seconds") from error
 
     def rows(self, name):
         """The writing end of a pipe."""

@@ -121,21 +121,23 @@ def fed(top, work, how, options):
 
 
 def typed(top, work):
-    """The program of the README in C and that of docs/C.md in Python, run as they say: both print the screen of a board with one kick-off."""
-    title = "the program of the README in C, and that of docs/C.md in Python, typed as they stand there"
-    pages = {"c": (top / "README.md").read_text(), "python": (top / "docs/C.md").read_text()}
-    blocks = {name: re.search(rf"^```{name}\n(.*?)^```$", page, re.M | re.S) for name, page in pages.items()}
-    line = re.search(r"`(cc board\.c [^`]*) && \./board`", pages["c"])
-    if line is None or None in blocks.values():
+    """The programs of the README in C and Python and that of docs/C.md in Python, run as they say: each prints the screen of a board with one
+    kick-off."""
+    title = "the programs of the README in C and Python, and that of docs/C.md in Python, typed as they stand there"
+    readme, page = ((top / path).read_text() for path in ("README.md", "docs/C.md"))
+    files = {"board.c": ("c", readme), "readme.py": ("python", readme), "page.py": ("python", page)}
+    blocks = {file: re.findall(rf"^```{name}\n(.*?)^```$", text, re.M | re.S) for file, (name, text) in files.items()}
+    line = re.search(r"`(cc board\.c [^`]*) && \./board`", readme)
+    if line is None or [len(found) for found in blocks.values()] != [1, 1, 1]:
         yield "FAILED: the pages have no such programs", title
         return
-    (work / "board.c").write_text(blocks["c"][1])
-    (work / "board.py").write_text(blocks["python"][1])
+    for file, found in blocks.items():
+        (work / file).write_text(found[0])
     (work / "library").symlink_to(top / "library")
     shutil.copy(top / "examples/python/uclboard.py", work)
     shutil.copy(top / "library/libuclboard.so", work)
     verdict = None
-    for command in [*line[1].split(), "-Wall", "-Wextra", "-Werror"], ["./board"], ["python3", "-B", "board.py"]:
+    for command in [*line[1].split(), "-Wall", "-Wextra", "-Werror"], ["./board"], ["python3", "-B", "readme.py"], ["python3", "-B", "page.py"]:
         ran = subprocess.run(command, cwd=work, stdout=subprocess.PIPE, stderr=subprocess.STDOUT, universal_newlines=True, timeout=60)
         wanted = "" if command[0] == "cc" else kicked_off(top)
         verdict = verdict or (None if ran.returncode == 0 and ran.stdout == wanted else f"FAILED: {command[0]}: {ran.stdout.strip()[:400]}")

@@ -342,11 +342,42 @@ def names_differ(top):
     return found + [f"status {code} has no name" for code in board.EXCEPTIONS if board.name_of(code).startswith("status ")]
 
 
+def answered(call):
+    """What a call of the module returns, or the class of its exception and what that tells."""
+    try:
+        return call()
+    except Exception as error:
+        return type(error), getattr(error, "told", None)
+
+
+def numbers_are_cut(top):
+    """The numbers without room where the library takes them that the module in Python hands on, cut by ctypes, and does not refuse."""
+    board = module_of("uclboard", top / "examples/python/uclboard.py")
+    new, reporter, scheduled = board.Board(), board.Pass.open().enlist(), board.SCHEDULED_WORD
+    clubs = [("Alpha", 60000), ("Bravo", 95000), ("Charlie", 60000), ("Delta", 81500)]
+    refused = [
+        ("a word of 65 bits", lambda: board.Board([scheduled] * 11 + [2**64 + scheduled]), (board.BadWord, 12)),
+        ("a word below 0", lambda: board.Board([scheduled - 2**64] + [scheduled] * 11), (board.BadWord, 1)),
+        ("a row of 65 bits", lambda: new.json(clubs, row=2**64 + 5), (board.BadRow, 2**64 + 5)),
+        ("a row below 0", lambda: new.json(clubs, row=-1), (board.BadRow, -1)),
+        ("a reporter of 33 bits", lambda: new.report(1, 2**32 + 1, 0, "kickoff"), (board.NoReporter, None)),
+        ("an expected number of 33 bits", lambda: new.report(1, 1, 2**32, "kickoff"), (board.Stale, 0)),
+        ("a match of 33 bits", lambda: reporter.report(2**32 + 1, 0, "kickoff"), (board.NoMatch, None)),
+        ("an expected number of 33 bits behind a handle", lambda: reporter.report(1, 2**32, "kickoff"), (board.Stale, 0)),
+        ("a coefficient of 33 bits", lambda: new.standings([0, 2**32, 0, 0]), (board.BadRoster, 2)),
+        ("a coefficient below 0", lambda: new.screen(clubs[:3] + [("Delta", 81500 - 2**32)]), (board.BadRoster, 4)),
+    ]
+    found = [f"{what}: {answered(call)}" for what, call, wanted in refused if answered(call) != wanted]
+    line = str(answered(lambda: new.json(clubs, row=2**64 - 1)))
+    return found + ([] if str(2**64 - 1) in line else [f"the greatest row: {line[:80]}"])
+
+
 def cases(top, count, seed):
     """A verdict and a name for each."""
     for name, look in (
         (f"{count} random events by Python, {count // 10} sheets and {count // 50} scripts, of seed {seed}", lambda: differ(top, count, seed)),
         (f"{count} random events by Python on a board behind handles, of seed {seed}", lambda: by_handles(top, count, seed)),
+        ("numbers that have no room are refused in Python, and never cut", lambda: numbers_are_cut(top)),
         ("the names of statuses", lambda: names_differ(top)),
     ):
         try:

@@ -15,6 +15,8 @@ STRUCTS = {
     "uclboard_club": ("group.rt", "ClubOfC"),
     "uclboard_reply": ("script.rt", "ReplyOfC"),
 }
+# Names that a linker may add to what a library shows.
+ADDED_BY_LINKERS = {"_init", "_fini", "_edata", "_end", "__bss_start"}
 SIZES = {"u32": 4, "[u8; 20]": 20}
 # Names that the header gives otherwise than the definitions.
 OTHER_NAMES = {
@@ -184,9 +186,22 @@ def calls_of_code(top):
 
 
 def shown_by(path, *options):
-    """The names that a library shows."""
+    """The names that a library shows, but for those that linkers add."""
     told = subprocess.run(["nm", *options, "--defined-only", "--format=posix", str(path)], stdout=subprocess.PIPE, universal_newlines=True, check=True).stdout
-    return sorted(line.split()[0] for line in told.splitlines() if len(line.split()) > 1 and not line.split()[0].startswith("_"))
+    return sorted(line.split()[0] for line in told.splitlines() if len(line.split()) > 1 and line.split()[0] not in ADDED_BY_LINKERS)
+
+
+def leaks_unseen(top):
+    """What is not seen of a name that a library shows and that is mangled, beside a call: such a name begins with `_`."""
+    wanted = ["_ZN7ucl_c4leak", "uclboard_version"]
+    program = "".join(f"int {name}(void);\nint {name}(void) {{ return 1; }}\n" for name in wanted)
+    with tempfile.TemporaryDirectory() as folder:
+        compiled, archive, shared = (f"{folder}/leak{ending}" for ending in (".o", ".a", ".so"))
+        subprocess.run(["cc", "-fPIC", "-c", "-x", "c", "-", "-o", compiled], input=program.encode(), check=True)
+        subprocess.run(["ar", "rcs", archive, compiled], check=True)
+        subprocess.run(["cc", "-shared", "-o", shared, compiled], check=True)
+        found = {"an archive": shown_by(archive, "--extern-only"), "a shared library": shown_by(shared, "--dynamic")}
+    return [f"{where} that shows {wanted} is taken to show {names}" for where, names in found.items() if names != wanted]
 
 
 def names_differ(top):
@@ -231,6 +246,7 @@ def cases(top):
         ("each name of the header has its prefix", lambda: names_without_prefix(top)),
         ("a compiler warns where a status is thrown away", lambda: unwarned(top)),
         ("header, code, archive and shared library have the same calls", lambda: names_differ(top)),
+        ("a name that a library shows and should not would be seen", lambda: leaks_unseen(top)),
         ("header, code, soname and pkg-config have one version", lambda: version_differs(top)),
     ]
     for name, look in tried:

@@ -1,11 +1,15 @@
 """Looks at what no contract can see of a board that threads share: a step that goes through no pass, a kind of step that the file of its rule
-does not have, a pass that does something when it is let go, and another rule than the one that its laws speak of."""
+does not have, a pass that does something when it is let go, and another rule than the one that its laws speak of; and of a device, a call that
+is listed elsewhere than where it is made."""
 
 import re
 
 UNCOUNTED = re.compile(r"\b(peek|park|wake_one|load_new_seat|swap_new_seat|into_badge|close|close_with)\b|\.pass\(")
 DROP = re.compile(r"^impl(<.*>)? (std::ops::)?Drop\b.* for ")
 KIND_OF_STEP = re.compile(r"^impl(?:<[^>]*>)? (Play|Outcome|Split|Join)<.* for ([A-Za-z]+)")
+FUNCTION = re.compile(r"^ *(?:pub(?:\([a-z]+\))? )?fn (\w+)")
+# What makes, lengthens or replaces the list of the times at which a source was asked.
+LISTS = re.compile(r"\basked\.and\(|\.asked\s*=(?!=)|&mut [\w.]+\.asked\b|\bAsked::(?:new|and)\b")
 HOLDS = re.compile(r"^ *ghost holds = \{ (?:λ _\. )?(\w+) \};$", re.M)
 
 # The kinds of step of each board, in the order of the file of its rule.
@@ -70,6 +74,25 @@ def night_on_words(top):
     return other + ([] if opened else ["program.rt opens no WordBoard"])
 
 
+def times_by_two(top):
+    """The list of these times has no functions but `new`, which makes an empty one, and `and`, which adds one time."""
+    names = [FUNCTION.match(line)[1] for path, _, line in lines_of(top, "ucl_answers") if path.name == "asked.rt" and FUNCTION.match(line)]
+    return [] if names == ["new", "and"] else [f"asked.rt has the functions {', '.join(names)}"]
+
+
+def times_at_calls(top):
+    """A device begins with an empty list, and its `take` alone adds to it, once."""
+    found, function = [], ""
+    for crate in sorted(path.name for path in (top / "crates").iterdir()):
+        for path, at, line in lines_of(top, crate):
+            function = FUNCTION.match(line)[1] if FUNCTION.match(line) else function
+            if LISTS.search(line):
+                found.append((path.name == "wire.rt" and crate == "ucl_answers" and (function, line.strip()), at))
+    meant = [("new", "asked: Asked::new(),"), ("take", "self.asked = self.asked.and(&self.source, &self.sink);")]
+    elsewhere = [f"{at}: lists when a source was asked" for what, at in found if what not in meant]
+    return elsewhere + ([] if [what for what, _ in found if what] == meant else ["wire.rt does not list each call of `take` once"])
+
+
 LOOKS = [
     ("the word board goes through its passes", through_passes("ucl_words")),
     ("the cell board goes through its passes", through_passes("ucl_pass")),
@@ -81,4 +104,6 @@ LOOKS = [
     ("the rule of the word board is that of one history", holds_one_history("ucl_words")),
     ("the rule of the cell board is that of one history", holds_one_history("ucl_pass")),
     ("a night of the program is on the word board", night_on_words),
+    ("the times at which a source was asked are listed by two functions", times_by_two),
+    ("a source's calls are listed where they are made", times_at_calls),
 ]

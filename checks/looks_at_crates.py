@@ -7,7 +7,7 @@ import clauses
 import covers
 import edits
 
-DEFINED = re.compile(r"^(?:abbrev pub|unfoldable pub|pub record|pub data) (\S+)", re.M)
+DEFINED = re.compile(r"^ *(?:abbrev pub|unfoldable pub|pub record|pub data) (\S+)", re.M)
 WIDEST = 100
 LISTS = "checks/lists"
 
@@ -86,9 +86,10 @@ def each_function_is_broken_in_the_gate(top):
 def defined_twice(top):
     """The names that more than one file of specs/ defines, with these files."""
     files = collections.defaultdict(list)
-    for path in sorted(top.glob("crates/*/specs/*.antt")):
+    for path in sorted(top.glob("crates/*/specs/**/*.antt")):
+        crate, _, *inner = path.relative_to(top / "crates").with_suffix("").parts
         for name in DEFINED.findall(path.read_text()):
-            files[name].append(f"{path.parts[-3]}/{path.stem}")
+            files[name].append("/".join([crate, *inner]))
     return {name: f"defined in {', '.join(where)}" for name, where in files.items() if len(where) > 1}
 
 
@@ -151,6 +152,20 @@ def clauses_are_narrow(top):
     ]
 
 
+def statuses_are_named(top):
+    """The numbers beside the names of statuses are 0 and those of refusals and of faults, each once."""
+    codes, faults = ((top / "crates/ucl_c/specs" / file).read_text() for file in ("Codes.antt", "Faults.antt"))
+    names = "".join(re.findall(r"^names_of_statuses =(.*?)∷ \[\]$", codes, re.M | re.S))
+    named = [int(number) for number in re.findall(r"\((\d+), codes ", names)]
+    given = re.findall(r"^refusal_code .* = (\d+)$", codes, re.M) + re.findall(r"^fault_code .* = (\d+)$", faults, re.M)
+    known = [0, *map(int, given)]
+    return [
+        f"{number}: beside {named.count(number)} names, and the code of {known.count(number)}"
+        for number in sorted({*named, *known})
+        if not named.count(number) == known.count(number) == 1
+    ]
+
+
 def shrink_list(top, name, kept):
     """Writes a list anew: its comment, and the lines that are kept; None drops a line."""
     path = top / LISTS / name
@@ -176,4 +191,5 @@ LOOKS = [
     ("each definition's name is defined once", each_name_once),
     ("each crate uses what it stands on", each_dependency_is_used),
     ("clauses have at most 100 columns", clauses_are_narrow),
+    ("each status has a name", statuses_are_named),
 ]

@@ -151,11 +151,17 @@ def waiting_is_told(top):
     return table_is_of_signatures(top, "Calls that may wait", may_wait)
 
 
-# A struct or an enum with its parts; what a part is of; and the types of other crates and of the language that have a fixed size. A roster
-# and a club hold names, each of which came on one line.
+# A struct or an enum with its parts; what a part is of; and the types of other crates and of the language that have a fixed size, as an
+# option of one has. A roster and a club hold names, each of which came on one line.
 TYPE = re.compile(r"^(?:pub(?:\(crate\))? )?(?:struct|enum) (\w+)(?:<[^>]*>)? \{\n(.*?)^\}", re.M | re.S)
 PART = re.compile(r"^ *(?:pub(?:\(crate\))? )?\w+: (.*),$|^ *\w+\((.*)\),$", re.M)
-FIXED = {"u8", "u16", "u32", "u64", "usize", "bool", "ArrayVec", "Board", "Club", "Profile", "Roster"}
+FIXED = {"u8", "u16", "u32", "u64", "usize", "bool", "ArrayVec", "Board", "Club", "Option", "Profile", "Roster"}
+
+# What is kept from one step to the next: the crate, the type, and types that have to be found among its parts.
+KEPT = [
+    ("ucl_answers", "Live", {"Desk", "Page", "Stage", "Table"}),
+    ("ucl_follows", "Follower", {"Following", "Moment"}),
+]
 
 
 def parts_of(top, crate):
@@ -167,9 +173,9 @@ def parts_of(top, crate):
     }
 
 
-def evenings_are_of_fixed_size(top):
-    """What an evening keeps from one step to the next has a fixed size by its types."""
-    parts, waiting, seen, found = parts_of(top, "ucl_answers"), ["Live"], set(), []
+def parts_are_of_fixed_size(top, crate, start, known):
+    """This type of a crate has a fixed size, by its parts, theirs and so on, among which are those that are known."""
+    parts, waiting, seen, found = parts_of(top, crate), [start], set(), []
     while waiting:
         name = waiting.pop()
         seen.add(name)
@@ -177,13 +183,18 @@ def evenings_are_of_fixed_size(top):
             if word in parts:
                 waiting.append(word)
             else:
-                found.append(f"ucl_answers: `{name}` has a part of type `{word}`")
-    return found + ([] if {"Desk", "Page", "Stage", "Table"} <= seen else [f"only these were found of an evening: {', '.join(sorted(seen))}"])
+                found.append(f"{crate}: `{name}` has a part of type `{word}`")
+    return found + ([] if known <= seen else [f"{crate}: only these were found of `{start}`: {', '.join(sorted(seen))}"])
+
+
+def evenings_are_of_fixed_size(top):
+    """What an evening and a follower keep from one step to the next has a fixed size by its types."""
+    return [what for crate, start, known in KEPT for what in parts_are_of_fixed_size(top, crate, start, known)]
 
 
 LOOKS = [
     ("each promise names its function and its clause", promises_are_carried),
     ("the calls that are given an allocator are those of the signatures", memory_is_told),
     ("the calls that may wait are those of the signatures", waiting_is_told),
-    ("what an evening keeps is of fixed size", evenings_are_of_fixed_size),
+    ("what an evening and a follower keep is of fixed size", evenings_are_of_fixed_size),
 ]

@@ -41,6 +41,19 @@ FAULTS = {
         ("crates/ucl_command/src/program.rt", "WordBoard::open", "OtherBoard::open"),
         ("crates/ucl_command/src/night.rt", None, "\nuse ucl_pass::CellBoard;\n"),
     ],
+    "the times at which a source was asked are listed by two functions": [
+        ("crates/ucl_answers/src/asked.rt", "    pub fn and(&self", "    pub fn or(&self"),
+        ("crates/ucl_answers/src/asked.rt", None, "\nimpl<S, W> Asked<S, W> {\n    pub(crate) fn without(&self) -> Asked<S, W>\n"),
+    ],
+    "a source's calls are listed where they are made": [
+        ("crates/ucl_follows/src/run.rt", "match wire.take(&mut piece) {", "wire.asked = other; match wire.take(&mut piece) {"),
+        ("crates/ucl_evenings/src/take.rt", "match wire.take(&mut piece) {", "let asked = wire.asked.and(&wire.source, &wire.sink); match wire.take(&mut piece) {"),
+        ("crates/ucl_answers/src/live.rt", "let mut live = Live::new(options);", "let mut live = Live::new(options); let _none = Asked::new();"),
+        ("crates/ucl_answers/src/live.rt", "let mut live = Live::new(options);", "std::mem::swap(&mut wire.asked, other); let mut live = Live::new(options);"),
+        ("crates/ucl_answers/src/wire.rt", "        self.asked = self.asked.and(&self.source, &self.sink);\n", ""),
+        ("crates/ucl_answers/src/wire.rt", "        self.source.take(buf)\n", "        self.asked = self.asked.and(&self.source, &self.sink);\n        self.source.take(buf)\n"),
+        ("crates/ucl_answers/src/wire.rt", "    pub fn take(", "    pub fn took("),
+    ],
     "wrong bodies and controls fit the text": [
         ("crates/ucl_word/must-fail/limits_ignored.edit", "old: ", "old: not there "),
         ("checks/wrong/ucl_word/fault.edit", None, "file: src/rules.rt\nold: fn next_word(\nnew: fn next_word(\n"),
@@ -64,6 +77,8 @@ FAULTS = {
     ],
     "each definition's name is defined once": [
         ("crates/ucl_board/specs/Words.antt", None, "\nabbrev pub refusal_of : ℕ\n"),
+        ("crates/ucl_board/specs/Words.antt", None, "\nmodule _ {T : Type 0} where\n  abbrev pub refusal_of : ℕ\n"),
+        ("crates/ucl_order/specs/Code/Rounds.antt", None, "\nabbrev pub refusal_of : ℕ\n"),
         ("checks/lists/defined_twice", None, "refusal_of: not so\n"),
     ],
     "each crate uses what it stands on": [
@@ -74,6 +89,12 @@ FAULTS = {
         ("crates/ucl_words/src/board.rt", None, "    ensures wide { " + "wide × " * 20 + "}\n"),
         ("crates/ucl_bench_tally/src/lib.rt", None, "    ensures wide { " + "wide × " * 20 + "}\n"),
         ("checks/lists/wide_lines", None, "crates/ucl_bench_tally/src/lib.rt: 1\n"),
+    ],
+    "each status has a name": [
+        ("crates/ucl_c/specs/Codes.antt", '(24, codes "too long")', '(25, codes "too long")'),
+        ("crates/ucl_c/specs/Codes.antt", '(63, codes "not a reporter")', '(62, codes "not a reporter")'),
+        ("crates/ucl_c/specs/Codes.antt", "refusal_code NotFinished = 9", "refusal_code NotFinished = 11"),
+        ("crates/ucl_c/specs/Faults.antt", "fault_code NoMatch = 62", "fault_code NoMatch = 61"),
     ],
     "lines of proofs have at most 200 columns": [
         ("crates/ucl_words/proofs/Moves.antt", None, "-- " + "wide " * 40 + "\n"),
@@ -110,10 +131,13 @@ FAULTS = {
         ("docs/PROMISES.md", "`night_run`, `report_and_show`", "`night_run`"),
         ("crates/ucl_command/src/program.rt", "pub fn feed<S: Source, W: Sink>(", "pub fn feed<S: Source, W: Sink, R: Wait>("),
     ],
-    "what an evening keeps is of fixed size": [
+    "what an evening and a follower keep is of fixed size": [
         ("crates/ucl_answers/src/desk.rt", "    pub(crate) page: Page,\n", "    pub(crate) page: Page,\n    pub(crate) lines: Vec<u8>,\n"),
         ("crates/ucl_answers/src/stage.rt", "    Open(Table),\n", "    Open(Box<Table>),\n"),
         ("crates/ucl_answers/src/live.rt", "pub struct Live {", "pub struct Alive {"),
+        ("crates/ucl_follows/src/follower.rt", "    pub(crate) out: usize,\n", "    pub(crate) out: usize,\n    pub(crate) lines: Vec<u8>,\n"),
+        ("crates/ucl_follows/src/following.rt", "    pub(crate) newest: Option<Moment>,\n", "    pub(crate) newest: Option<Box<Moment>>,\n"),
+        ("crates/ucl_follows/src/moment.rt", "struct Moment {", "struct Instant {"),
     ],
     "the table of definitions is that of the files": [
         ("docs/ARCHITECTURE.md", "`ucl_word`: `Migration`", "`ucl_word`: `Migrations`"),

@@ -34,8 +34,8 @@ MARKS = ["", "+", "-"]
 STATES = ["scheduled", "in play", "finished"]
 SCHEDULED_WORD = 0x2000000000000000
 WORDS, CLUBS, NAME, SCREEN_ROOM, NAME_ROOM, JSON_ROOM = 12, 4, 20, 320, 32, 1536
-# What stands for a kind, an order or a group that has no number: the library refuses it.
-NO_CODE = 0xFFFFFFFF
+# What stands for a kind, an order or a group that has no number, and for a number or a word that has no room: the library refuses it.
+NO_CODE, NO_WORD = 0xFFFFFFFF, 0xFFFFFFFFFFFFFFFF
 
 
 class Match(c.Structure):
@@ -136,9 +136,14 @@ def need(status, told=None):
         raise EXCEPTIONS.get(status, Refused)(name_of(status), told)
 
 
+def has_room(value, bits):
+    """Whether it is a number with room in so many bits. Of any other, ctypes would silently hand on its lowest bits."""
+    return isinstance(value, int) and 0 <= value < 1 << bits
+
+
 def number(value):
     """A number as the library takes it: one that has no room in 32 bits is none that it knows."""
-    return value if isinstance(value, int) and 0 <= value < NO_CODE else NO_CODE
+    return value if has_room(value, 32) else NO_CODE
 
 
 def clubs_of(clubs):
@@ -154,9 +159,9 @@ class Board:
     """The twelve matches of a group: a new board, or that of twelve words, of today's layout or the first."""
 
     def __init__(self, words=(SCHEDULED_WORD,) * WORDS):
-        self.words = (c.c_uint64 * len(words))(*words)
+        self.words = (c.c_uint64 * len(words))(*(word if has_room(word, 64) else NO_WORD for word in words))
         self.version()
-        for index, word in enumerate(words):
+        for index, word in enumerate(self.words):
             read = c.c_uint64()
             need(read_word(word, read), index + 1)
             self.words[index] = read.value
@@ -199,7 +204,9 @@ class Board:
         return self.text(screen, clubs, group, order, SCREEN_ROOM)
 
     def json(self, clubs, group="A", order="uefa", row=0):
-        """The screen as a line of JSON, which says that it answers this row."""
+        """The screen as a line of JSON, which says that it answers this row. A row that has no room in 64 bits is a bad row."""
+        if not has_room(row, 64):
+            raise EXCEPTIONS[20](name_of(20), row)
         return self.text(lambda *given: screen_json(row, *given), clubs, group, order, JSON_ROOM)
 
     def text(self, call, clubs, group, order, room):
