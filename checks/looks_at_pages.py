@@ -130,7 +130,7 @@ def counts_of(top):
     faults = sum(map(len, looks_tried.FAULTS.values()))
     chain = longest_chain(top)
     return [
-        (r"it has \d+ crates and \d+ wrong bodies now", f"it has {len(crates_of(top))} crates and {gate} wrong bodies now"),
+        (r"\d+ crates and \d+ wrong bodies", f"{len(crates_of(top))} crates and {gate} wrong bodies"),
         (r"\d+ looks, \d+ faults", f"{len(looks_tried.FAULTS)} looks, {faults} faults"),
         (r"on what is built \| \d+ cases", f"on what is built | {len(plain) + len(other_cases.CASES)} cases"),
         (r"on busy cores \| \d+ cases", f"on busy cores | {sum(case.is_small for case in plain)} cases"),
