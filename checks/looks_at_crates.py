@@ -128,8 +128,9 @@ def each_dependency_is_used(top):
 
 
 def is_wide(line):
-    """The line is of a clause or a ghost item, and too wide. Comments, imports and texts in quotes are no clauses."""
-    return len(line) > WIDEST and '"' not in line and not line.strip().startswith(("//", "ghost use "))
+    """The line is of a clause or a ghost item, and too wide. Comments, imports, attributes (of which `rt fmt` makes one line) and texts in quotes
+    are no clauses."""
+    return len(line) > WIDEST and '"' not in line and not line.strip().startswith(("//", "ghost use ", "#["))
 
 
 def wide_lines(top):

@@ -75,6 +75,10 @@ FAULTS = {
         ("crates/ucl_word/must-fail/match_12_taken_for_11.edit", "", None),
         ("crates/ucl_board/must-fail/fixture_turned_round.edit", "", None),
     ],
+    "wrong bodies that were tried were refused, and controls proved": [
+        ("checks/lists/tried", None, "ucl_word 81 80 0 81 81 3.0 0\n"),
+        ("checks/lists/tried", None, "ucl_word 81 81 0 81 80 3.0 0\n"),
+    ],
     "each definition's name is defined once": [
         ("crates/ucl_board/specs/Words.antt", None, "\nabbrev pub refusal_of : ℕ\n"),
         ("crates/ucl_board/specs/Words.antt", None, "\nmodule _ {T : Type 0} where\n  abbrev pub refusal_of : ℕ\n"),
@@ -97,12 +101,12 @@ FAULTS = {
         ("crates/ucl_c/specs/Faults.antt", "fault_code NoMatch = 62", "fault_code NoMatch = 61"),
     ],
     "lines of proofs have at most 200 columns": [
-        ("crates/ucl_words/proofs/Moves.antt", None, "-- " + "wide " * 40 + "\n"),
+        ("crates/ucl_words/proofs/KeptRule.antt", None, "-- " + "wide " * 40 + "\n"),
         ("checks/lists/wide_lines_of_proofs", None, "ucl_night: 1\n"),
     ],
     "lemmas have at most 60 lines": [
-        ("crates/ucl_words/proofs/Moves.antt", None, "\npub long : ⊤\nlong =\n" + "    tt\n" * 59),
-        ("checks/lists/long_lemmas", None, "ucl_words/Moves long: not so\n"),
+        ("crates/ucl_words/proofs/KeptRule.antt", None, "\npub long : ⊤\nlong =\n" + "    tt\n" * 59),
+        ("checks/lists/long_lemmas", None, "ucl_words/KeptRule long: not so\n"),
     ],
     "each name in backticks is there": [
         ("docs/PROMISES.md", "`whole_is_alone`", "`whole_is_lonely`"),

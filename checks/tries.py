@@ -30,23 +30,27 @@ class Try(typing.NamedTuple):
     seconds: float
 
 
+def linked(file, copy):
+    """A copy of a file: of what was proved or built a link, since `rt` replaces such a file and never changes it; a link reaches no other
+    file system."""
+    try:
+        if file.endswith(".oantt") or "/out/rlib/" in file:
+            os.link(file, copy)
+            return copy
+    except OSError:
+        pass
+    return shutil.copy2(file, copy)
+
+
 def copied(top, room):
-    """A copy of the crates in a folder, without their wrong bodies and without what is built, which `rt` finds again."""
+    """A copy of the crates in a folder, without their wrong bodies, and with what was proved of them before, which `rt` takes where it is of
+    these sources."""
     for name in "crates.txt", "HANDLES":
         shutil.copy(str(top / name), str(room))
     (room / "crates").mkdir()
     for crate in sorted((top / "crates").iterdir()):
-        shutil.copytree(str(crate), str(room / "crates" / crate.name), ignore=shutil.ignore_patterns("out", "must-fail"))
+        shutil.copytree(str(crate), str(room / "crates" / crate.name), copy_function=linked, ignore=shutil.ignore_patterns("must-fail"))
     return room
-
-
-def linked(file, copy):
-    """A copy of a file: of what was proved or built a link, since `rt` replaces such a file and never changes it."""
-    if file.endswith(".oantt") or "/out/rlib/" in file:
-        os.link(file, copy)
-    else:
-        shutil.copy2(file, copy)
-    return copy
 
 
 def copied_with_work(room, place, crate):

@@ -2,7 +2,7 @@
 use Rattle.std.proofs.Common.{◌≡◌, ℕ, Bool, List, [], ◌∷◌, ◌++◌, take, Option, Some, refl, sym, ap, ◌∙◌, subst, append_assoc, append-nil}
 use Rattle.std.specs.Prelude.{Result, Ok, Err, IfErr, IfOk, OnOk}
 use Rattle.std.specs.Io.KnownBytes.{Appends}
-use Rattle.ucl_screen.proofs.Moves.{appends-none}
+use Rattle.ucl_screen.proofs.MovedBytes.{appends-none}
 use Rattle.ucl_screen.specs.declared.fault.InputFault.{InputFault}
 use Rattle.ucl_runs.specs.declared.fault.RunFault.{RunFault}
 use Rattle.ucl_runs.specs.declared.fault.RunFault.TheVariants.{Input, OutOfMemory, WriteFailed, NotOnDuty, NoThread, TooManyReporters, Strangers}
@@ -96,16 +96,6 @@ before-stopped m bytes a b failed x y z f p none s =
     let all = sym (answers-to-append m p.front (10 ∷ p.more)) ∙ ap (answers_to m) (sym p.parts) in
     stopped-give m bytes a.out failed x z f (stopped_more a.out failed x z [] (answers_to m p.front) (answers_to (moment_after m p.front) (10 ∷ p.more)) (answers_to m bytes) f all some)
 
--- it took the answers before that line
-pub gave-before : (m : Moment) (bytes : List ℕ) (a b c : Waiting) (x y z : Option (List ℕ)) → LeavesLine m bytes a b x y → HasPut b c y z [] → a.held ≡ [] → c.held ≡ [] → GaveBefore m bytes x z
-gave-before m bytes a b c x y z p q none empty = record {
-  front = p.front;
-  more = p.more;
-  parts = p.parts;
-  out = subst (Appends x z) (append-nil (answers_to m p.front)) (all_out a c x z (answers_to m p.front ++ []) (put_then a b c x y z (answers_to m p.front) [] p.put q) none empty);
-  asks = p.asks;
-}
-
 -- it was for want of memory
 pub left-line : (m : Moment) (bytes : List ℕ) (a b : Waiting) (failed : Bool) (x y : Option (List ℕ)) (f : RunFault)
     → f ≡ OutOfMemory → FailsToTake m bytes a b (record { failed = failed; old = x; new = y }) f → LeavesLine m bytes a b x y
@@ -166,10 +156,6 @@ if-err (Err f) P Q h p = h f p
 pub if-both : {V : Type 0} (r : Result V RunFault) (P R : V → Type 0) (Q : Type 0) → ((v : V) → P v → Q → R v) → IfOk r P → OnOk r Q → IfOk r R
 if-both (Ok v) P R Q h p q = h v p q
 if-both (Err f) P R Q h p q = tt
-
-pub if-ok : {V : Type 0} (r : Result V RunFault) (P R : V → Type 0) → ((v : V) → P v → R v) → IfOk r P → IfOk r R
-if-ok (Ok v) P R h p = h v p
-if-ok (Err f) P R h p = tt
 
 pub on-ok : {V : Type 0} (r : Result V RunFault) (P R : Type 0) → (P → R) → OnOk r P → OnOk r R
 on-ok (Ok v) P R h p = h p

@@ -151,18 +151,6 @@ end-evening m c k = ap (after_lines m.evening) (one-line m c k) ∙ after-last m
 pub end-begun : (m : Moment) (c : ℕ) → c ≡ 10 → (moment_after m (c ∷ [])).begun ≡ []
 end-begun m c k = begun-end m.begun [] c k ∙ begun-none []
 
-no-line : (m : Moment) (c : ℕ) → (c ≡ 10 → ⊥) → ended_lines m.begun (c ∷ []) ≡ []
-no-line m c h = ended-more m.begun [] c (not-ten c h) ∙ ended-none (longer m.begun c)
-
-pub more-answers : (m : Moment) (c : ℕ) → (c ≡ 10 → ⊥) → answers_to m (c ∷ []) ≡ []
-more-answers m c h = ap (answers m.evening) (no-line m c h) ∙ answers-none m.evening
-
-pub more-evening : (m : Moment) (c : ℕ) → (c ≡ 10 → ⊥) → (moment_after m (c ∷ [])).evening ≡ m.evening
-more-evening m c h = ap (after_lines m.evening) (no-line m c h) ∙ after-none m.evening
-
-pub more-begun : (m : Moment) (c : ℕ) → (c ≡ 10 → ⊥) → (moment_after m (c ∷ [])).begun ≡ longer m.begun c
-more-begun m c h = begun-more m.begun [] c (not-ten c h) ∙ begun-none (longer m.begun c)
-
 pub same-moment : (m n : Moment) → m.evening ≡ n.evening → m.begun ≡ n.begun → m ≡ n
 same-moment m n e b = moments m.evening n.evening m.begun n.begun e b
 

@@ -1,7 +1,7 @@
 -- Texts that are put one after the other.
 use Rattle.std.proofs.Common.{◌≡◌, ℕ, ◌+◌, ◌-◌, ◌^◌, ◌≤◌, min, Bool, List, [], ◌++◌, length, Option, refl, sym, ap, ◌∙◌, subst, append_assoc, append-nil, arith, length-append}
 use Rattle.std.specs.Io.KnownBytes.{Appends}
-use Rattle.ucl_screen.proofs.Moves.{appends-none, appends-then}
+use Rattle.ucl_screen.proofs.MovedBytes.{appends-none, appends-then}
 use Rattle.ucl_screen.specs.declared.fault.InputFault.{InputFault}
 use Rattle.ucl_runs.specs.declared.fault.RunFault.{RunFault}
 use Rattle.ucl_runs.specs.declared.fault.RunFault.TheVariants.{Input, OutOfMemory, WriteFailed, NotOnDuty, NoThread, TooManyReporters, Strangers}
@@ -49,10 +49,6 @@ put_held a b x text h e k = record { given = []; went = appends-none x; rest = e
 -- a text that went out
 pub put_given : (a b : Waiting) (x y : Option (List ℕ)) (text : List ℕ) → a.held ≡ [] → b.held ≡ a.held → Appends x y text → b.out ≡ min (a.out + length text) (2 ^ 64 - 1) → HasPut a b x y text
 put_given a b x y text none same out told = record { given = text; went = out; rest = rw (same, none) (append-nil text); told = told }
-
--- a text was put, and then all went out
-pub flushed : (a b c : Waiting) (x y z : Option (List ℕ)) (t : List ℕ) → HasPut a b x y t → HasPut b c y z [] → a.held ≡ [] → c.held ≡ [] → Appends x z t
-flushed a b c x y z t p q none none2 = subst (Appends x z) (append-nil t) (all_out a c x z (t ++ []) (put_then a b c x y z t [] p q) none none2)
 
 -- it failed in the first of two texts
 pub stopped_before : (out : ℕ) (failed : Bool) (x y : Option (List ℕ)) (h t u : List ℕ) (f : RunFault) → IsStopped out failed x y (h ++ t) f → IsStopped out failed x y (h ++ (t ++ u)) f

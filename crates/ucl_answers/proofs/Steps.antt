@@ -4,7 +4,7 @@ use Rattle.std.proofs.Common.{append_assoc, append-nil, arith, length-append}
 use Rattle.std.specs.Prelude.{IfSome}
 use Rattle.std.specs.Io.KnownBytes.{Appends, Consumes, IsAtEnd, Keeps}
 use Rattle.ucl_screen.specs.Stream.{vain_after}
-use Rattle.ucl_screen.proofs.Moves.{appends-none, appends-then, consumes-then}
+use Rattle.ucl_screen.proofs.MovedBytes.{appends-none, appends-then, consumes-then}
 use Rattle.ucl_screen.specs.declared.fault.InputFault.{InputFault}
 use Rattle.ucl_screen.specs.declared.fault.InputFault.TheVariants.{ReadFailed}
 use Rattle.ucl_runs.specs.declared.fault.RunFault.{RunFault}

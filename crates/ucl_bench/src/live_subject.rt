@@ -27,13 +27,17 @@ pub trait Opens: LiveBoard + Send + Drop + 'static {
         ensures { IfOk result (λ opened. reader_id opened.1 ≡ board_id opened.0) };
 
     // A pass is of the board that it tells, and of no other: the same fact, in a form that a struct can keep.
-    ghost reads: { (board : Self) (pass : Self.ReaderPass) → reader_id pass ≡ board_id board → Self.LiveBoard.is_reader board pass };
+    ghost reads: { (board : Self) (pass : Self.ReaderPass) → reader_id pass ≡ board_id board
+        → Self.LiveBoard.is_reader board pass };
 
-    ghost reads_it: { (board : Self) (pass : Self.ReaderPass) → Self.LiveBoard.is_reader board pass → reader_id pass ≡ board_id board };
+    ghost reads_it: { (board : Self) (pass : Self.ReaderPass) → Self.LiveBoard.is_reader board pass
+        → reader_id pass ≡ board_id board };
 
-    ghost reports: { (board : Self) (pass : Self.ReporterPass) → reporter_id pass ≡ board_id board → Self.LiveBoard.is_reporter board pass };
+    ghost reports: { (board : Self) (pass : Self.ReporterPass) → reporter_id pass ≡ board_id board
+        → Self.LiveBoard.is_reporter board pass };
 
-    ghost reports_it: { (board : Self) (pass : Self.ReporterPass) → Self.LiveBoard.is_reporter board pass → reporter_id pass ≡ board_id board };
+    ghost reports_it: { (board : Self) (pass : Self.ReporterPass)
+        → Self.LiveBoard.is_reporter board pass → reporter_id pass ≡ board_id board };
 }
 
 impl Opens for WordBoard {

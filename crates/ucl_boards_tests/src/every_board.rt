@@ -506,7 +506,8 @@ fn enter_while_two_read<B: LiveBoard, R: Threads + Wait + Sync>(
     reader: B::ReaderPass,
     other: B::ReaderPass,
 ) -> (B::ReporterPass, u32, bool)
-    requires { B.is_reporter board.now reporter × B.is_reader board.now reader × B.is_reader board.now other }
+    requires { B.is_reporter board.now reporter × B.is_reader board.now reader
+        × B.is_reader board.now other }
     ensures { B.is_reporter board.now result.0 }
 {
     let ((reporter, accepted, rise), rise_too) = thread::join(
@@ -606,7 +607,8 @@ fn enter_by_two<B: LiveBoard, R: Threads + Wait + Sync>(
     second: B::ReporterPass,
     reader: B::ReaderPass,
 ) -> ([u32; 2], bool)
-    requires { B.is_reporter board.now first × B.is_reporter board.now second × B.is_reader board.now reader }
+    requires { B.is_reporter board.now first × B.is_reporter board.now second
+        × B.is_reader board.now reader }
 {
     let (one, (two, rise)) = thread::join(
         rt,

@@ -13,7 +13,7 @@ use Rattle.ucl_pass.specs.CellViews.{actor_of, actors_of}
 use Rattle.ucl_pass.specs.CellRule.{CellState, CellMeetsItsRule}
 use Rattle.ucl_steps.proofs.Seats.{map_long}
 use Rattle.ucl_steps.proofs.LongerRuns.{longer_runs}
-use Rattle.ucl_pass.proofs.CellMoves.{match_words}
+use Rattle.ucl_pass.proofs.KeptRule.{match_words}
 use Rattle.ucl_pass.proofs.CellRuns.{cell_goes_on}
 use Rattle.ucl_words.specs.declared.view.WordView.{WordView}
 use Rattle.ucl_words.specs.WordRule.{word_actor, word_actors, TableKeepsOneHistory}

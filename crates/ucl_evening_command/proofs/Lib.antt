@@ -1,4 +1,5 @@
 pub mod Entering
+pub mod Stopped
 pub mod Judged
 pub mod Lines
 pub mod Lists

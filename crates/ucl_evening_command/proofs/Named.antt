@@ -86,13 +86,6 @@ no_group o g p r s clubs named is =
     subst (λ (x : Option Text). IsReadBy wanted_of (with_all x g p r s) (Err (stop.Refused Unnamed))) named
     (subst (λ (x : Option ℕ). IsReadBy wanted_of (with_all (Some clubs) x p r s) (Err (stop.Refused Unnamed))) is refl)
 
-pub no_profile : (o : Option Text) (g : Option ℕ) (p : Option Profile) (r : Result (List Way) Reason) (s : List Place) (clubs : Text) (group : ℕ) → Some clubs ≡ o → Some group ≡ g
-    → None ≡ p → IsReadBy wanted_of (with_all o g p r s) (Err (stop.Refused Unnamed))
-no_profile o g p r s clubs group named in_group is =
-    subst (λ (x : Option Text). IsReadBy wanted_of (with_all x g p r s) (Err (stop.Refused Unnamed))) named
-    (subst (λ (x : Option ℕ). IsReadBy wanted_of (with_all (Some clubs) x p r s) (Err (stop.Refused Unnamed))) in_group
-    (subst (λ (x : Option Profile). IsReadBy wanted_of (with_all (Some clubs) (Some group) x r s) (Err (stop.Refused Unnamed))) is refl))
-
 -- ---- an evening all of whose parts are named
 
 module _ {V : Type 0} (seen : V → List Way) (o : Option Text) (g : Option ℕ) (p : Option Profile) (r : Result (List Way) Reason) (s : List Place)

@@ -46,12 +46,6 @@ answers given t read r kinds is told = go (wanted_by t given) refl read r is tol
     go (Err why) same (Err (stop.Refused reason)) (Err (words.Refused text)) is told =
         inr (t, kinds, (why, same, told ∙ ap reason_text is))
 
--- the values of an option, or none where it is not there
-pub values_are : (r : Option (Bor (List (Bor Text)))) (none : Bor (List (Bor Text))) (o : Option (List Text)) → option_map (λ s. map (λ v. v.now) s.now) r ≡ o → none.now ≡ []
-    → map (λ v. v.now) (unwrap_or r none).now ≡ unwrap_or o []
-values_are None none o is empty = rw (← is) (ap (map (λ v. v.now)) empty)
-values_are (Some s) none o is empty = rw (← is) refl
-
 -- what is told of an error of `clap`
 pub told_by_clap : (given : List Text) (fault : LineFault) → ToldOf shared_command given fault → IsFaultOfShared given fault
 told_by_clap given words.OutOfMemory told = tt

@@ -1,5 +1,5 @@
 -- The events that were entered before an evening: each is accepted after those before it, or the first row whose event is not is told.
-use Rattle.std.specs.Prelude.{◌≡◌, ⊤, ℕ, ◌+◌, ◌-◌, ◌==◌, ◌≤◌, true, if◌then◌else◌, List, [], ◌∷◌, All, length, map, filter, slice_index, Result, Ok, Err}
+use Rattle.std.specs.Prelude.{◌≡◌, ◌⊎◌, ⊤, ℕ, ◌+◌, ◌-◌, ◌==◌, ◌≤◌, true, false, if◌then◌else◌, List, [], ◌∷◌, ◌++◌, All, length, map, filter, slice_index, Result, Ok, Err}
 use Rattle.std.specs.Result.{is_ok}
 use mathlib.Core.List.{IsPrefix}
 use Rattle.ucl_board.specs.declared.entry.Entry.{Entry}
@@ -8,8 +8,9 @@ use Rattle.ucl_shared.specs.declared.live_board.LiveBoard as boards
 use Rattle.ucl_shared.specs.Passes.{PassView, entries_by}
 use Rattle.ucl_screen.specs.declared.fault.InputFault.TheVariants.{BadRow}
 use Rattle.ucl_screen.specs.declared.night.NightEvent.{NightEvent}
+use Rattle.ucl_screen.specs.Script.{first_event_row}
 use Rattle.ucl_runs.specs.declared.fault.RunFault.{RunFault}
-use Rattle.ucl_runs.specs.declared.fault.RunFault.TheVariants.{Input}
+use Rattle.ucl_runs.specs.declared.fault.RunFault.TheVariants.{Input, OutOfMemory, TooManyReporters}
 use Rattle.ucl_runs.specs.Feed.{attempt_of}
 
 -- the history after events, the first of which is in this row, where each is accepted; or the first row whose event is refused
@@ -74,3 +75,50 @@ pub record WasEntered (p k : PassView) (event : NightEvent) (m q : PassView) : T
   pub number : m.number ≡ k.number
   pub mine : m.mine ≡ followed_by k.mine (entry_of m.number event.call)
   pub known : IsPrefix m.mine (entries_by m.number q.seen)
+
+-- an event was refused to a reporter's pass, k before and m after, which had then seen all that a reader's pass had, p
+pub record WasNotEntered (p k : PassView) (event : NightEvent) (m : PassView) : Type 0 where
+  pub since : IsPrefix p.seen m.seen
+  pub refused : is_ok (sequential_reply m.seen event.call) ≡ false
+  pub number : m.number ≡ k.number
+  pub mine : m.mine ≡ k.mine
+
+-- ---- why events were not entered
+
+-- all numbers of a live board are given, as a pass of it has seen
+pub record HasNoNumberLeft {B R P N : Type 0} (live : boards.Ghosts B R P N) (board : B) : Type 0 where
+  pub pass : R
+  pub own : live.is_reader board pass
+  pub listed : (live.reader pass).listed ≡ 255
+
+-- reporters were not enlisted on a live board, for want of memory or of numbers
+abbrev pub IsOfEnlisting : {B R P N : Type 0} → boards.Ghosts B R P N → B → RunFault → Type 0
+IsOfEnlisting live board OutOfMemory = ⊤
+IsOfEnlisting live board TooManyReporters = HasNoNumberLeft live board
+IsOfEnlisting live board _ = ⊥
+
+-- the event of a row was refused on a live board, on which this had been seen before: as the pass of its reporter has seen, which had
+-- entered those of its events that come before it, and nothing else
+pub record WasRefused {B R P N : Type 0} (live : boards.Ghosts B R P N) (board : B) (before : List Entry) (events : List NightEvent) (row : ℕ) : Type 0 where
+  pub earlier : List NightEvent
+  pub event : NightEvent
+  pub later : List NightEvent
+  pub script : events ≡ earlier ++ event ∷ later
+  pub row_is : row ≡ first_event_row + length earlier
+  pub pass : P
+  pub own : live.is_reporter board pass
+  pub mine : (live.reporter pass).mine ≡ entries_for event.reporter earlier (live.reporter pass).number
+  pub since : IsPrefix before (live.reporter pass).seen
+  pub refused : is_ok (sequential_reply (live.reporter pass).seen event.call) ≡ false
+
+-- a live board stops the entering of events: there is no memory, or no number for a reporter, or an event is refused
+unfoldable pub StopsEntering : {B R P N : Type 0} → boards.Ghosts B R P N → B → List Entry → List NightEvent → RunFault → Type 0
+StopsEntering live board before events OutOfMemory = 1 ≤ length events
+StopsEntering live board before events TooManyReporters = (1 ≤ length events) × HasNoNumberLeft live board
+StopsEntering live board before events (Input (BadRow row)) = WasRefused live board before events row
+StopsEntering live board before events _ = ⊥
+
+-- events were not entered: a board of one thread refuses one of them after those before it, or the live board stopped it
+abbrev pub IsWhyNotEntered : {B R P N : Type 0} → boards.Ghosts B R P N → B → List Entry → List NightEvent → RunFault → Type 0
+IsWhyNotEntered live board before events fault =
+    (entered_from first_event_row [] events ≡ Err fault) ⊎ StopsEntering live board before events fault

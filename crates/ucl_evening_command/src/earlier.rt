@@ -1,9 +1,9 @@
 //! The events that were entered before an evening.
 
-ghost use Rattle.std.specs.Prelude.{◌≡◌, ◌≤◌, [], All, IfOk, IsTrue, OnOk, length, map, vec_len};
+ghost use Rattle.std.specs.Prelude.{◌≡◌, ◌≤◌, [], All, IfErr, IfOk, IsFalse, IsTrue, OnOk, length, map, vec_len};
 ghost use Rattle.ucl_screen.specs.Input.{most_bytes};
 ghost use Rattle.ucl_screen.specs.Script.{first_event_row};
-ghost use Rattle.ucl_evening_command.specs.Earlier.{WereEntered, WasEntered, TellsRefused, entered_from};
+ghost use Rattle.ucl_evening_command.specs.Earlier.{WereEntered, WasEntered, WasNotEntered, TellsRefused, StopsEntering, IsWhyNotEntered, IsOfEnlisting, entered_from};
 
 use crate::judging::judge;
 use std::alloc::Global;
@@ -23,7 +23,8 @@ pub struct Earlier<Q, P> {
 
 /// The highest number of a reporter of these events, and 0 where there is none.
 fn highest_of(events: &[NightEvent]) -> usize
-    ensures { All (λ event. event.reporter ≤ result) events.now }
+    ensures highest { All (λ event. event.reporter ≤ result) events.now }
+    ensures some { 1 ≤ result → 1 ≤ length events.now }
 {
     let mut highest = 0;
     for event in events {
@@ -47,6 +48,8 @@ fn enlist_up_to<B: LiveBoard, R: Wait>(
     ensures nothing { IfOk result (λ enlisted.
         All (λ k. k.mine ≡ []) (map B.reporter enlisted.items)) }
     ensures enough { IfOk result (λ enlisted. count ≤ vec_len enlisted) }
+    ensures stopped { IfErr result (λ fault. (1 ≤ count)
+        × IsOfEnlisting B.LiveBoard board.entry.now fault) }
 {
     let mut reporters = Vec::new(alloc);
     'enlisted: while reporters.len() < count {
@@ -71,6 +74,8 @@ fn enter_one<B: LiveBoard, R: Wait>(
     ensures own { B.is_reader board.now pass.new × B.is_reporter board.now reporter.new }
     ensures entered { IsTrue result → WasEntered (B.reader pass.old) (B.reporter reporter.old)
         event.now (B.reporter reporter.new) (B.reader pass.new) }
+    ensures refused { IsFalse result → WasNotEntered (B.reader pass.old) (B.reporter reporter.old)
+        event.now (B.reporter reporter.new) }
 {
     let before = board.note(rt, pass);
     board.hear_own(rt, reporter, before);
@@ -100,6 +105,8 @@ fn enter_each<B: LiveBoard, R: Wait>(
     ensures reporters { All (B.is_reporter board.now) reporters.new.items }
     ensures entered { OnOk result (WereEntered B.LiveBoard (B.reader pass.old).seen events.now
         pass.new reporters.new.items) }
+    ensures stopped { IfErr result (StopsEntering B.LiveBoard board.entry.now
+        (B.reader pass.old).seen events.now) }
 {
     let mut row = u32::from(FIRST_EVENT_ROW);
     for event in events {
@@ -145,6 +152,11 @@ pub fn enter_earlier<B: LiveBoard, R: Wait>(
     // The events were entered, in their order, each by the reporter that stands for its own, and these have entered nothing else.
     ensures entered { IfOk result (λ earlier. WereEntered B.LiveBoard (B.reader pass).seen
         events.now earlier.pass earlier.reporters.items) }
+
+    // Where they were not, the fault says why: a row whose event is refused, on a board of one thread or on this one; that no number
+    // is left, or no memory, and neither where there is no event.
+    ensures faults { IfErr result (IsWhyNotEntered B.LiveBoard board.entry.now (B.reader pass).seen
+        events.now) }
 {
     judge(events)?;
     let mut reporters = enlist_up_to(rt, alloc, board, &mut pass, highest_of(events))?;

@@ -42,7 +42,3 @@ ended_all line bytes i = ap (ended_lines line) (sym (take-append-drop i bytes)) 
 
 pub last_none : (line : List ℕ) → line ≡ [] → last_lines line ≡ []
 last_none line e = ap last_lines e
-
-pub last_one : (line : List ℕ) → (line ≡ [] → ⊥) → last_lines line ≡ line ∷ []
-last_one [] h = absurd (h refl)
-last_one (b ∷ line) h = refl

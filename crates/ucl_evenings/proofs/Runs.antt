@@ -5,7 +5,7 @@ use Rattle.std.specs.Io.KnownBytes.{Appends, Consumes, IsAtEnd, Keeps}
 use mathlib.Core.List.{IsPrefix}
 use Rattle.ucl_board.proofs.Beginnings.{begins_longer, begins_same}
 use Rattle.ucl_screen.specs.declared.fault.InputFault.TheVariants.{ReadFailed}
-use Rattle.ucl_screen.proofs.Moves.{consumes-kept, consumes-then}
+use Rattle.ucl_screen.proofs.MovedBytes.{consumes-kept, consumes-then}
 use Rattle.ucl_shared.specs.Passes.{PassView}
 use Rattle.ucl_runs.specs.declared.fault.RunFault.{RunFault}
 use Rattle.ucl_runs.specs.declared.fault.RunFault.TheVariants.{Input, OutOfMemory, WriteFailed, NotOnDuty, NoThread, TooManyReporters, Strangers}

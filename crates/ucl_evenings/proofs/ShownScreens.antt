@@ -11,7 +11,7 @@ use Rattle.ucl_board.specs.History.{board_of}
 use Rattle.ucl_board.proofs.HistoryLaws.{versions as versions_are}
 use Rattle.ucl_board.proofs.Beginnings.{begins_length, begins_same, begins_take, begins_through, take_beginning}
 use Rattle.ucl_order.specs.Roster.{NamedClub}
-use Rattle.ucl_screen.proofs.Moves.{appends-none, appends-then}
+use Rattle.ucl_screen.proofs.MovedBytes.{appends-none, appends-then}
 use Rattle.ucl_runs.specs.declared.fault.RunFault.TheVariants.{WriteFailed}
 use Rattle.ucl_runs.specs.Run.{StoppedShort}
 use Rattle.ucl_runs.proofs.EnteredRows.{goes_on}
@@ -120,11 +120,6 @@ module _ (options : Options) (clubs : List NamedClub) (k m z : PassView) (s : Sc
 
   pub risen : HasRisen k z versions
   risen = record { always = goes_next k m z p.goes on; rise = rise_upper (length k.seen) p.high (length z.seen + 1) versions p.rise (let l = below in let n = longer in omega arith) }
-
-  pub few_shown : s.number ≤ 2 ^ 16 + 1
-  few_shown =
-      let n = rise_count (length k.seen) p.high versions p.rise in
-      let c = p.count in elim p.high_is [ inl e ↦ (let f = p.few in omega arith) | inr e ↦ omega arith ]
 
   -- a reading was shown
   module _ (reading : Reading) (read : SharedReading m reading z) (rises : s.next ≤ reading.version) where

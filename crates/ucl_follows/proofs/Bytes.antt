@@ -7,7 +7,7 @@ use Rattle.std.proofs.lemmas.Bool.{cases_Bool}
 use Rattle.std.proofs.lemmas.Bool.Decides.{nat_tests}
 use Rattle.std.proofs.lemmas.List.{take-append-drop, take_more}
 use Rattle.ucl_screen.specs.declared.fault.InputFault.{InputFault}
-use Rattle.ucl_screen.proofs.Moves.{appends-none, appends-then}
+use Rattle.ucl_screen.proofs.MovedBytes.{appends-none, appends-then}
 use Rattle.ucl_runs.specs.declared.fault.RunFault.{RunFault}
 use Rattle.ucl_runs.specs.declared.fault.RunFault.TheVariants.{Input, OutOfMemory, WriteFailed, NotOnDuty, NoThread, TooManyReporters, Strangers}
 use Rattle.ucl_runs.proofs.Parts.{stopped_first, stopped_second}

@@ -141,24 +141,11 @@ module _ {T : Type 0} (told : Data → Option T) where
   many [] = refl
   many (v ∷ values) = ap suc (many values)
 
-  pub all-told : (n : ℕ) (values : List Value) (i : ℕ) (all : List T) → length values ≡ n → length values ≤ i → each_told told (map view (take i values)) ≡ Some all
-      → just n told (map view values) ≡ Some all
-  all-told n values i all long end e = rw (many values, long, same n) (ap (λ (l : List Value). each_told told (map view l)) (sym (take_all i values end)) ∙ e)
-    where
-      same : (k : ℕ) → (k == k) ≡ true
-      same k = grind (arith, nat_tests)
-
   pub not-told : (n : ℕ) (values : List Value) → length values ≡ n → each_told told (map view values) ≡ None → just n told (map view values) ≡ None
   not-told n values long e = rw (many values, long, same n) e
     where
       same : (k : ℕ) → (k == k) ≡ true
       same k = grind (arith, nat_tests)
-
-  pub not-many : (n : ℕ) (values : List Value) → (length values ≡ n → ⊥) → just n told (map view values) ≡ None
-  not-many n values apart = rw (many values, differ) refl
-    where
-      differ : (length values == n) ≡ false
-      differ = elim (cases_Bool (length values == n)) [ inl y ↦ absurd (apart (grind (arith, nat_tests))) | inr other ↦ other ]
 
 -- ---- four values
 

@@ -56,7 +56,8 @@ pub(crate) fn letter_of(group: u8) -> &'static str
 
 /// Puts what a club has done in its matches.
 fn put_matches(map: &mut Map<String, Value>, alloc: Global, row: &Row) -> Result<(), AllocError>
-    ensures { OnOk result (members_view map.new.entries ≡ with_matches row.now (members_view map.old.entries)) }
+    ensures { OnOk result (members_view map.new.entries
+        ≡ with_matches row.now (members_view map.old.entries)) }
 {
     put(map, alloc, "won", Value::from(row.wins))?;
     put(map, alloc, "played", Value::from(row.played))?;
@@ -67,7 +68,8 @@ fn put_matches(map: &mut Map<String, Value>, alloc: Global, row: &Row) -> Result
 /// Puts the points of a club, and its goals.
 fn put_goals(map: &mut Map<String, Value>, alloc: Global, row: &Row) -> Result<(), AllocError>
     requires { IsWithinTable row.now }
-    ensures { OnOk result (members_view map.new.entries ≡ with_goals row.now (members_view map.old.entries)) }
+    ensures { OnOk result (members_view map.new.entries
+        ≡ with_goals row.now (members_view map.old.entries)) }
 {
     let difference = i32::from(row.goals_for) - i32::from(row.goals_against);
     put(map, alloc, "points", Value::from(row.points))?;
@@ -84,7 +86,8 @@ fn put_club(
     roster: &Roster,
 ) -> Result<(), AllocError>
     requires { IsWithinTable row.now }
-    ensures { OnOk result (members_view map.new.entries ≡ with_club roster.now row.now (members_view map.old.entries)) }
+    ensures { OnOk result (members_view map.new.entries
+        ≡ with_club roster.now row.now (members_view map.old.entries)) }
 {
     let name = String::from_str(alloc, text_of(roster.name(row.slot)))?;
     let mark = String::from_str(alloc, mark_name(row.mark))?;
@@ -129,7 +132,8 @@ fn screen_value(
     profile: Profile,
 ) -> Result<Value, AllocError>
     requires { IsGroup group }
-    ensures { IfOk result (λ value. view value ≡ screen_value row profile board.now roster.now group) }
+    ensures { IfOk result (λ value. view value
+        ≡ screen_value row profile board.now roster.now group) }
 {
     let table = place_values(alloc, &standings(board, roster, profile), roster)?;
     let clubs = club_values(alloc, roster)?;
@@ -161,7 +165,9 @@ pub fn screen_json(
     profile: Profile,
 ) -> Result<String, AllocError>
     requires { IsGroup group }
-    ensures { IfOk result (λ line. IsLineOf (screen_value row profile board.now roster.now group) (string_bytes line)) }
+    ensures { IfOk result
+        (λ line. IsLineOf (screen_value row profile board.now roster.now group)
+        (string_bytes line)) }
 {
     let value = screen_value(alloc, row, board, roster, group, profile)?;
     line_of(alloc, &value)

@@ -145,19 +145,6 @@ pub record AreBytes (a : Appearance) : Type 0 where
   pub yellows : a.yellows ≤ 255
   pub expulsions : a.expulsions ≤ 255
 
-pub within_more : (n : ℕ) (r : Results) (a : Appearance) → AreBytes a → IsWithin n r → IsWithin (n + 1) (with_match r a)
-within_more n r a fits h = record {
-  played = omega arith;
-  wins = omega (arith, bit (is_won a));
-  draws = omega (arith, bit (is_drawn a));
-  losses = omega (arith, bit (is_lost a));
-  goals_for = omega arith;
-  goals_against = omega arith;
-  away_goals = omega (arith, part a.is_away a.scored);
-  away_wins = omega (arith, bit (a.is_away && is_won a));
-  discipline = omega arith;
-}
-
 pub within_later : (m n : ℕ) (r : Results) → m ≤ n → IsWithin m r → IsWithin n r
 within_later m n r e h = record {
   played = omega arith;

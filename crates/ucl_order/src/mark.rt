@@ -56,7 +56,8 @@ impl PointBounds {
     /// The points of the club from finished matches.
     fn sure_points(&self, club: u8) -> u8
         requires { IsSlot club }
-        ensures { (matches : List Match) → ArePointBounds matches self.now → result ≡ sure_points matches club }
+        ensures { (matches : List Match) → ArePointBounds matches self.now
+            → result ≡ sure_points matches club }
     {
         self.sure[usize::from(club - 1)]
     }
@@ -64,7 +65,8 @@ impl PointBounds {
     /// The points of the club if it wins each match that it has left.
     fn reach(&self, club: u8) -> u8
         requires { IsSlot club }
-        ensures { (matches : List Match) → ArePointBounds matches self.now → result ≡ reach matches club }
+        ensures { (matches : List Match) → ArePointBounds matches self.now
+            → result ≡ reach matches club }
     {
         self.reach[usize::from(club - 1)]
     }
@@ -73,7 +75,8 @@ impl PointBounds {
     fn is_rival(&self, club: u8, other: u8) -> bool
         requires club { IsSlot club }
         requires other { IsSlot other }
-        ensures { (matches : List Match) → ArePointBounds matches self.now → result ≡ is_rival matches club other }
+        ensures { (matches : List Match) → ArePointBounds matches self.now
+            → result ≡ is_rival matches club other }
     {
         other != club && self.sure_points(club) <= self.reach(other)
     }
@@ -82,7 +85,8 @@ impl PointBounds {
     fn is_out_of_reach(&self, club: u8, other: u8) -> bool
         requires club { IsSlot club }
         requires other { IsSlot other }
-        ensures { (matches : List Match) → ArePointBounds matches self.now → result ≡ is_out_of_reach matches club other }
+        ensures { (matches : List Match) → ArePointBounds matches self.now
+            → result ≡ is_out_of_reach matches club other }
     {
         other != club && self.reach(club) < self.sure_points(other)
     }
@@ -90,7 +94,8 @@ impl PointBounds {
     /// How many other clubs can reach the club's points.
     fn rivals(&self, club: u8) -> u8
         requires { IsSlot club }
-        ensures { (matches : List Match) → ArePointBounds matches self.now → result ≡ rivals matches club }
+        ensures { (matches : List Match) → ArePointBounds matches self.now
+            → result ≡ rivals matches club }
     {
         u8::from(self.is_rival(club, 1))
             + u8::from(self.is_rival(club, 2))
@@ -101,7 +106,8 @@ impl PointBounds {
     /// How many other clubs have more points than the club can reach.
     fn out_of_reach(&self, club: u8) -> u8
         requires { IsSlot club }
-        ensures { (matches : List Match) → ArePointBounds matches self.now → result ≡ out_of_reach matches club }
+        ensures { (matches : List Match) → ArePointBounds matches self.now
+            → result ≡ out_of_reach matches club }
     {
         u8::from(self.is_out_of_reach(club, 1))
             + u8::from(self.is_out_of_reach(club, 2))
@@ -112,7 +118,8 @@ impl PointBounds {
     /// The mark before the last match is finished: by points alone.
     fn early_mark(&self, club: u8) -> Mark
         requires { IsSlot club }
-        ensures { (matches : List Match) → ArePointBounds matches self.now → result ≡ early_mark matches club }
+        ensures { (matches : List Match) → ArePointBounds matches self.now
+            → result ≡ early_mark matches club }
     {
         if self.rivals(club) <= 1 {
             Mark::Plus

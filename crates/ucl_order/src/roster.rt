@@ -116,8 +116,10 @@ fn member_with(slot: u8, name: &[u8], coefficient: u32) -> Result<Member, BadRos
 
 /// A copy of the club in this slot, where a roster takes it in.
 fn member_of(slot: u8, club: &Club) -> Result<Member, BadRoster>
-    ensures taken { IfOk result (λ m. IsClub (club_seen club.now) × (member_seen m ≡ club_seen club.now)) }
-    ensures refused { IfErr result (λ bad. (is_club (club_seen club.now) ≡ false) × (bad.slot ≡ slot)) }
+    ensures taken { IfOk result (λ m. IsClub (club_seen club.now)
+        × (member_seen m ≡ club_seen club.now)) }
+    ensures refused { IfErr result (λ bad. (is_club (club_seen club.now) ≡ false)
+        × (bad.slot ≡ slot)) }
 {
     member_with(slot, &club.name, club.coefficient)
 }
@@ -140,7 +142,8 @@ impl Roster {
     /// answer names the least slot with such a club.
     #[tactic(auto, unfolding(crate::specs::Roster::bad_slot_from))]
     pub fn new(clubs: [Club; 4]) -> Result<Roster, BadRoster>
-        ensures taken { IfOk result (λ roster. (roster ≡ map club_seen clubs) × (bad_slot (map club_seen clubs) ≡ None)) }
+        ensures taken { IfOk result (λ roster. (roster ≡ map club_seen clubs)
+            × (bad_slot (map club_seen clubs) ≡ None)) }
         ensures refused { IfErr result (λ bad. bad_slot (map club_seen clubs) ≡ Some bad.slot) }
     {
         let members = [

@@ -47,7 +47,8 @@ pub struct Row {
 /// The row of a club at its place, by what it has done.
 fn row_with(place: u8, slot: u8, mark: Mark, results: &Results) -> Row
     requires { IsWithin 12 results.now }
-    ensures { (matches : List Match) → results.now ≡ results_of slot matches → result ≡ row_with place slot mark matches }
+    ensures { (matches : List Match) → results.now ≡ results_of slot matches
+        → result ≡ row_with place slot mark matches }
 {
     Row {
         slot,
@@ -70,7 +71,8 @@ fn row_at(place: u8, order: &[u8; 4], marks: &[Mark; 4], results: &[Results; 4])
     requires at_most { place ≤ 4 }
     requires slots { All IsSlot order.now }
     requires few { All (IsWithin 12) results.now }
-    ensures { (matches : List Match) → marks.now ≡ map (mark_by matches order.now) order.now → results.now ≡ results_of_clubs (started matches) →
+    ensures { (matches : List Match) → marks.now ≡ map (mark_by matches order.now) order.now
+        → results.now ≡ results_of_clubs (started matches) →
         let slot = slice_index order.now (place - 1) in
         result ≡ row_with place slot (mark_by matches order.now slot) (started matches) }
 {

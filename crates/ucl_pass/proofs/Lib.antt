@@ -1,7 +1,7 @@
 pub mod Bursts
-pub mod CellMoves
+pub mod KeptRule
 pub mod Standing
-pub mod Calls
+pub mod CallsBySteps
 pub mod Reports
 pub mod WholeReports
 pub mod CellRuns

@@ -15,9 +15,6 @@ use Rattle.ucl_pass.specs.CellCalls.{CellAnswered, CellEnlistAnswered, CellEnlis
 looks : List Taken → ℕ
 looks steps = length (filter (λ x. looks_for_report x.target) steps)
 
-misses : List Taken → ℕ
-misses steps = length (filter (λ x. was_missed x.target x.entry) steps)
-
 count_more : (p : Taken → Bool) (xs ys : List Taken) → length (filter p (xs ++ ys)) ≡ length (filter p xs) + length (filter p ys)
 count_more p xs ys = ap length (filter-append p xs ys) ∙ length-append (filter p xs) (filter p ys)
 

@@ -17,8 +17,8 @@ use Rattle.ucl_pass.specs.declared.view.CellView.{CellView}
 use Rattle.ucl_pass.specs.CellRule.{IsUpToDate}
 use Rattle.ucl_pass.specs.CellSteps.{word_looked_at, LooksOnly, StoresEntry, HasAccepted, AreAccepting, DecidesReport, LookOfCell}
 use Rattle.ucl_pass.specs.CellCalls.{CellReport, FinishesReport}
-use Rattle.ucl_pass.proofs.Calls.{won, lost, same_word, TriedReport, look_continues, refuses, refused_steps, missed_again, accepts, accepted_continues, accepted_steps, looked_number, finishes_refused}
-use Rattle.ucl_pass.proofs.Calls.{are_accepting, still_finished, finishes_accepted}
+use Rattle.ucl_pass.proofs.CallsBySteps.{won, lost, same_word, TriedReport, look_continues, refuses, refused_steps, missed_again, accepts, accepted_continues, accepted_steps, looked_number}
+use Rattle.ucl_pass.proofs.CallsBySteps.{are_accepting, still_finished, finishes_accepted, finishes_refused}
 
 -- what a report says
 pub record CellReported (v : CellView) (call : EventCall) (reply : Result Accepted Refusal) (w : CellView) : Type 0 where

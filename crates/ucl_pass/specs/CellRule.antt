@@ -18,7 +18,7 @@ abbrev pub words_after : List Entry → ℕ → List ℕ
 words_after history enlisted = board_of history ++ enlisted ∷ []
 
 -- the rule of the cell: that of every shared board, and that its history is that of one run of the machine, with as many readers as there
--- are seats, or more: a step of the cell that decides a call is all steps of this call, in a row
+-- are seats, or more: a step of the cell that decides a call is all steps of this call, and no entry but its own comes within it
 pub record CellKeepsOneHistory (words : List ℕ) (views : List CellView) : Type 0 where
   pub shared : KeepsOneHistory words_after words (views_known views)
   pub one_run : (readers : ℕ) → length views ≤ readers → IsRunOfActors readers shared.enlisted (history_of shared.log) (actors_of views)

@@ -18,9 +18,9 @@ pub fn each_cell_step_is_logged<K: Asking>()
 {}
 
 /// Between any two steps of any threads there is one run of the protocol's machine (`ucl_steps`) from the fresh board, with the history of
-/// the log and the words that are there: a step of the cell that decides a call is all steps of that call, in a row. Each call of each pass
-/// has its reply there, and there are no other calls. All reports and readings of all passes are linearizable in real time (Herlihy and
-/// Wing), also where two passes never met.
+/// the log and the words that are there: a step of the cell that decides a call is all steps of that call, and no entry but its own
+/// comes within it. Each call of each pass has its reply there, and there are no other calls. All reports and readings of all passes are
+/// linearizable in real time (Herlihy and Wing), also where two passes never met.
 pub fn cell_boards_are_runs()
     ensures { CellBoardsAreRuns }
 {}

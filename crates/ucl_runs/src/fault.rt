@@ -20,11 +20,11 @@ pub enum RunFault {
     WriteFailed { written: usize },
     /// 25: a row of a night is of a reporter other than 1 and 2. `row` is the first such row, counted from 1.
     NotOnDuty { row: usize },
-    /// 27: no thread could be had for a worker of a night.
+    /// 27: no thread could be had for a worker of a night or of an evening.
     NoThread,
-    /// 30: the board of a night has no number left for a reporter.
+    /// 30: the board has no number left for a reporter.
     TooManyReporters,
-    /// 31: the board of a night has events of a third reporter. `version` is that of the reading that was taken.
+    /// 31: the board has events of a reporter that is none of the night or of the evening. `version` is that of the reading that was taken.
     Strangers { version: u16 },
 }
 

@@ -123,7 +123,7 @@ pub fn feed_run<S: Source, W: Sink>(
     ensures written { WritesFirst IsFed (S.left source.old)
         (W.taken sink.old) (W.taken sink.new) result }
 
-    // Each byte takes at most one call of the source.
+    // The source is called at most as often as the longest input has bytes, and two times more.
     ensures calls { CallsWithin (S.calls source.old) (S.calls source.new) }
 {
     let night = read_night(alloc, source)?;

@@ -50,7 +50,7 @@ pub fn show_run<S: Source, W: Sink>(
     ensures written { WritesFirst (IsShown profile group) (S.left source.old)
         (W.taken sink.old) (W.taken sink.new) result }
 
-    // Each byte takes at most one call of the source.
+    // The source is called at most as often as the longest input has bytes, and two times more.
     ensures calls { CallsWithin (S.calls source.old) (S.calls source.new) }
 {
     let sheet = read_words(alloc, source)?;

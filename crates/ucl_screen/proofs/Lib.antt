@@ -1,4 +1,4 @@
-pub mod Moves
+pub mod MovedBytes
 pub mod FourFacts
 pub mod RowFacts
 pub mod Digits

@@ -13,10 +13,6 @@ use Rattle.ucl_screen.specs.Script.{◌>>=◌, said_by, events_from, word_of_row
 abbrev pub with_front : {A : Type 0} → List A → Result (List A) InputFault → Result (List A) InputFault
 with_front front read = read >>= λ xs. Ok (front ++ xs)
 
-pub at-start : {A : Type 0} (read : Result (List A) InputFault) → with_front [] read ≡ read
-at-start (Ok xs) = refl
-at-start (Err fault) = refl
-
 pub joins : {A : Type 0} (front : List A) (x : A) (read : Result (List A) InputFault)
     → with_front (front ++ (x ∷ [])) read ≡ with_front front (read >>= λ xs. Ok (x ∷ xs))
 joins {A} front x (Ok xs) = ap (λ (t : List A). Ok t) (append_assoc front (x ∷ []) xs)

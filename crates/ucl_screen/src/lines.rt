@@ -35,7 +35,8 @@ fn push_number(out: &mut String, number: u16) -> Result<(), AllocError>
 
 /// Writes a number at the right of so many columns.
 fn push_right(out: &mut String, width: usize, number: u16) -> Result<(), AllocError>
-    ensures { OnOk result (string_bytes out.new ≡ string_bytes out.old ++ right width (decimal number)) }
+    ensures { OnOk result (string_bytes out.new ≡ string_bytes out.old
+        ++ right width (decimal number)) }
 {
     let mut buffer = Buffer::new();
     let digits = buffer.format(number);
@@ -45,7 +46,8 @@ fn push_right(out: &mut String, width: usize, number: u16) -> Result<(), AllocEr
 
 /// Writes a number in so many digits, with leading zeros.
 fn push_zeros_before(out: &mut String, width: usize, number: u16) -> Result<(), AllocError>
-    ensures { OnOk result (string_bytes out.new ≡ string_bytes out.old ++ zeros_before width number) }
+    ensures { OnOk result (string_bytes out.new ≡ string_bytes out.old
+        ++ zeros_before width number) }
 {
     let mut buffer = Buffer::new();
     let digits = buffer.format(number);
@@ -55,7 +57,8 @@ fn push_zeros_before(out: &mut String, width: usize, number: u16) -> Result<(), 
 
 /// Writes the difference of two numbers with its sign, at the right of five columns.
 fn push_difference(out: &mut String, scored: u16, conceded: u16) -> Result<(), AllocError>
-    ensures { OnOk result (string_bytes out.new ≡ string_bytes out.old ++ right 5 (difference_text scored conceded)) }
+    ensures { OnOk result (string_bytes out.new ≡ string_bytes out.old
+        ++ right 5 (difference_text scored conceded)) }
 {
     let mut buffer = Buffer::new();
     let (sign, digits) = if conceded <= scored {
@@ -71,7 +74,8 @@ fn push_difference(out: &mut String, scored: u16, conceded: u16) -> Result<(), A
 /// Writes the header line of a group, whose letter is of ASCII.
 pub fn push_header(out: &mut String, group: u8, version: u16, in_play: u8) -> Result<(), AllocError>
     requires { group ≤ 127 }
-    ensures { OnOk result (string_bytes out.new ≡ string_bytes out.old ++ header group version in_play) }
+    ensures { OnOk result (string_bytes out.new ≡ string_bytes out.old
+        ++ header group version in_play) }
 {
     out.push_str("GROUP ")?;
     out.push(char::from(group))?;
@@ -96,7 +100,8 @@ fn sign_of(mark: Mark) -> &'static str
 
 /// Writes the line of a place, whose club has this name.
 pub fn push_row(out: &mut String, row: &Row, name: &str) -> Result<(), AllocError>
-    ensures { OnOk result (string_bytes out.new ≡ string_bytes out.old ++ place_line row.now name.now) }
+    ensures { OnOk result (string_bytes out.new ≡ string_bytes out.old
+        ++ place_line row.now name.now) }
 {
     push_right(out, 1, u16::from(row.place))?;
     out.push_str(sign_of(row.mark))?;

@@ -174,7 +174,8 @@ pub fn night_of_bytes(alloc: Global, bytes: &[u8]) -> Result<Night, InputFault>
 ///
 /// `OutOfMemory` can come in place of any answer. A refusal leaves nothing but a source that has given bytes.
 pub fn read_night<S: Source>(alloc: Global, source: &mut S) -> Result<Night, InputFault>
-    ensures reads { Reads MeansNight night_seen (S.left source.old) (S.left source.new) (S.failed source.new) result }
+    ensures reads { Reads MeansNight night_seen (S.left source.old) (S.left source.new)
+        (S.failed source.new) result }
     ensures calls { S.calls source.new ≤ S.calls source.old + most_bytes + 2 }
     ensures each { CallsRead (S.left source.old) (S.calls source.old) (S.calls source.new) result }
     ensures vain { S.in_vain source.new ≤ S.in_vain source.old + 1 }
@@ -250,7 +251,8 @@ fn roster_and_words(alloc: Global, text: &[u8]) -> Result<(Roster, [u64; 12]), I
 ///
 /// `OutOfMemory` can come in place of any answer. A refusal leaves nothing but a source that has given bytes.
 pub fn read_words<S: Source>(alloc: Global, source: &mut S) -> Result<Sheet, InputFault>
-    ensures reads { Reads MeansSheet sheet_seen (S.left source.old) (S.left source.new) (S.failed source.new) result }
+    ensures reads { Reads MeansSheet sheet_seen (S.left source.old) (S.left source.new)
+        (S.failed source.new) result }
     ensures calls { S.calls source.new ≤ S.calls source.old + most_bytes + 2 }
     ensures each { CallsRead (S.left source.old) (S.calls source.old) (S.calls source.new) result }
     ensures vain { S.in_vain source.new ≤ S.in_vain source.old + 1 }

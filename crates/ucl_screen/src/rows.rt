@@ -36,7 +36,8 @@ pub(crate) fn open(alloc: Global, text: &[u8]) -> Reader<&[u8]>
 pub(crate) fn next_row(rows: &mut Reader<&[u8]>, row: &mut ByteRecord) -> Result<bool, AllocError>
     requires { IsReading rows.old }
     ensures reading { IfOk result (λ found. found ≡ true → IsReading rows.new) }
-    ensures reads { IfOk result (λ found. ReadsRow found (rows_left rows.old) (fields_of row.new) (rows_left rows.new)) }
+    ensures reads { IfOk result
+        (λ found. ReadsRow found (rows_left rows.old) (fields_of row.new) (rows_left rows.new)) }
 {
     let Ok(found) = rows.read_byte_record(row) else {
         return Err(AllocError);

@@ -50,7 +50,8 @@ pub fn text_of(name: &[u8]) -> &str
 /// Writes a line for each row of the table.
 fn push_rows(out: &mut String, rows: &[Row], roster: &Roster) -> Result<(), AllocError>
     requires { All IsWithinTable rows.now }
-    ensures { OnOk result (string_bytes out.new ≡ string_bytes out.old ++ flat_map (row_line roster.now) rows.now) }
+    ensures { OnOk result (string_bytes out.new ≡ string_bytes out.old
+        ++ flat_map (row_line roster.now) rows.now) }
 {
     for row in rows {
         push_row(out, row, text_of(roster.name(row.slot)))?;
@@ -70,7 +71,8 @@ pub fn screen(
     profile: Profile,
 ) -> Result<String, OutOfMemory>
     requires { IsGroup group }
-    ensures { IfOk result (λ text. string_bytes text ≡ screen_text profile board.now roster.now group) }
+    ensures { IfOk result (λ text. string_bytes text
+        ≡ screen_text profile board.now roster.now group) }
 {
     let rows = standings(board, roster, profile);
     let mut text = String::new(alloc);

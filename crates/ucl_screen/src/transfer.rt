@@ -39,7 +39,8 @@ pub fn give_all<W: Sink>(sink: &mut W, text: &[u8]) -> Result<(), usize>
 
 /// All the bytes of a source, which are at most 4,194,304.
 pub(crate) fn read_all<S: Source>(alloc: Global, source: &mut S) -> Result<Vec<u8>, InputFault>
-    ensures reads { Reads (λ bytes r. whole_input bytes ≡ r) (λ v. v.items) (S.left source.old) (S.left source.new) (S.failed source.new) result }
+    ensures reads { Reads (λ bytes r. whole_input bytes ≡ r) (λ v. v.items) (S.left source.old)
+        (S.left source.new) (S.failed source.new) result }
     ensures few { IfOk result (λ v. length v.items ≤ most_bytes) }
     ensures calls { S.calls source.new ≤ S.calls source.old + most_bytes + 2 }
     ensures each { CallsRead (S.left source.old) (S.calls source.old) (S.calls source.new) result }

@@ -2,6 +2,6 @@ pub mod Lists
 pub mod Halves
 pub mod Alone
 pub mod SettledPasses
-pub mod Moves
-pub mod Calls
+pub mod KeptRule
+pub mod CallsBySteps
 pub mod LogFacts

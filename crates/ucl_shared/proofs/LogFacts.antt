@@ -20,7 +20,7 @@ use Rattle.ucl_shared.specs.Views.{opener}
 use Rattle.ucl_shared.specs.OneHistory.{KeepsOneHistory, BoardsOpenFresh, StepsComeLast, LastStepsSeeAll, IsHeld, MakeUp, HoldersDidAll}
 use Rattle.ucl_shared.proofs.Halves.{in_whole, on_a_side}
 use Rattle.ucl_shared.proofs.Alone.{taken_here, taken_else, some_here, only_own, view_at, none_beyond}
-use Rattle.ucl_shared.proofs.Moves.{place_below}
+use Rattle.ucl_shared.proofs.KeptRule.{place_below}
 
 -- lists
 

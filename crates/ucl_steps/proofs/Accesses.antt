@@ -31,10 +31,6 @@ pub follows_ends : (h : List Entry) (low high : ℕ) (ms : List Access) → Foll
 follows_ends h low high [] f = f
 follows_ends h low high (m ∷ ms) f = let a = f.0 in let b = follows_ends h m.at high ms f.2 in omega arith
 
--- a word that was found in a longer history, at a place within this one
-pub found_shorter : (h h' : List Entry) (m : Access) → IsPrefix h h' → m.at ≤ length h → IsFoundIn h' m → IsFoundIn h m
-found_shorter h h' m p le found = found ∙ ap (λ (z : List Entry). word_of (match_after z m.game)) (take_beginning h h' m.at p le)
-
 -- the history may be longer
 pub follows_longer : (h h' : List Entry) (low high : ℕ) (ms : List Access) → IsPrefix h h' → high ≤ length h → Follows h low ms high → Follows h' low ms high
 follows_longer h h' low high [] p le f = f
@@ -203,9 +199,6 @@ reading_whole h low high reading ms legal le f accesses =
 pub none_of_ok : (n : ℕ) (o : Option Refusal) → IsOk (answer n o) → o ≡ None
 none_of_ok n None is = refl
 none_of_ok n (Some r) is = absurd (false≢true is)
-
-ok_is_none : (n : ℕ) (o : Option Refusal) (a : Accepted) → answer n o ≡ Ok a → IsOk (answer n o)
-ok_is_none n o a e = subst (λ (z : Result Accepted Refusal). IsOk z) (sym e) refl
 
 -- the record of the word that an access of a match found
 pub found_record : (h : List Entry) (m : Access) (game : ℕ) → IsLegal h → IsFoundIn h m → m.game ≡ game → record_at m.found ≡ match_after (take m.at h) game

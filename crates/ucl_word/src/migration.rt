@@ -52,7 +52,8 @@ fn unpack_first(word: u64) -> Result<MatchRecord, BadWord>
     ensures valid { IfOk result IsFirstValid }
     ensures packed { IfOk result (λ m. first_word_of m ≡ word) }
     ensures refused { IfErr result (λ _. IsFirstWord word → ⊥) }
-    ensures read_back { (m : MatchRecord) → IsFirstValid m → first_word_of m ≡ word → result ≡ Ok m }
+    ensures read_back { (m : MatchRecord) → IsFirstValid m → first_word_of m ≡ word
+        → result ≡ Ok m }
 {
     if !has_no_mark(word) {
         return Err(BadWord);
@@ -71,7 +72,8 @@ fn unpack_first(word: u64) -> Result<MatchRecord, BadWord>
 /// of the first layout as the word of the same record. A word that is neither is a bad word; none is both.
 pub fn migrate(word: u64) -> Result<u64, BadWord>
     ensures kept { IsWord word → result ≡ Ok word }
-    ensures moved { (m : MatchRecord) → IsFirstValid m → first_word_of m ≡ word → result ≡ Ok (word_of m) }
+    ensures moved { (m : MatchRecord) → IsFirstValid m → first_word_of m ≡ word
+        → result ≡ Ok (word_of m) }
     ensures read { IfOk result (IsReadAs word) }
     ensures refused { IfErr result (λ _. (IsWord word → ⊥) × (IsFirstWord word → ⊥)) }
 {

@@ -69,7 +69,8 @@ fn expelled_low(side: Side) -> u32
 #[tactic(auto, unfolding(crate::specs::Rules::refusal_of))]
 fn in_turn(word: u64, expected: u16, kind: Kind) -> Result<(), Refusal>
     ensures { MatchResult result
-        (λ _. ((record_at word).state ≡ state_for kind) × (refusal_of (record_at word) expected kind ≡ change_refusal (record_at word) kind))
+        (λ _. ((record_at word).state ≡ state_for kind)
+        × (refusal_of (record_at word) expected kind ≡ change_refusal (record_at word) kind))
         (λ refusal. refusal_of (record_at word) expected kind ≡ Some refusal) }
 {
     let number = number_of(word);
@@ -147,10 +148,12 @@ fn changed(word: u64, kind: Kind) -> Result<u64, Refusal>
 pub fn next_word(word: u64, reporter: ReporterNo, expected: u16, kind: Kind) -> Result<u64, Refusal>
     requires { IsWord word }
     ensures refused { IfErr result (λ r. refusal_of (record_at word) expected kind ≡ Some r) }
-    ensures accepted { IfOk result (λ next. (refusal_of (record_at word) expected kind ≡ None) × (next ≡ word_of (after (record_at word) reporter kind))) }
+    ensures accepted { IfOk result (λ next. (refusal_of (record_at word) expected kind ≡ None)
+        × (next ≡ word_of (after (record_at word) reporter kind))) }
     ensures record { IfOk result (λ next. record_at next ≡ after (record_at word) reporter kind) }
     ensures valid { IfOk result IsWord }
-    ensures counted { IfOk result (λ next. CountsOneMore (record_at word) reporter kind (record_at next)) }
+    ensures counted { IfOk result
+        (λ next. CountsOneMore (record_at word) reporter kind (record_at next)) }
 {
     in_turn(word, expected, kind)?;
     let changed = changed(word, kind)?;
@@ -172,7 +175,8 @@ pub fn apply(
 ) -> Result<MatchRecord, Refusal>
     requires { IsValid before.now }
     ensures refused { IfErr result (λ r. refusal_of before.now expected kind ≡ Some r) }
-    ensures accepted { IfOk result (λ m. (refusal_of before.now expected kind ≡ None) × (m ≡ after before.now reporter kind)) }
+    ensures accepted { IfOk result (λ m. (refusal_of before.now expected kind ≡ None)
+        × (m ≡ after before.now reporter kind)) }
     ensures valid { IfOk result IsValid }
     ensures counted { IfOk result (CountsOneMore before.now reporter kind) }
 {

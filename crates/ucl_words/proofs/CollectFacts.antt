@@ -103,9 +103,6 @@ module _ (kind : AccessKind) (v x w : View) (words : List ℕ) (i n : ℕ) (belo
         shown = shows ∙ ap (λ (l : List ℕ). l ++ length v.seen ∷ []) was.shown;
       }
 
-pub collects_all : (v w : View) (words : List ℕ) → Collected First v words 12 w → Collects v words w
-collects_all v w words all = record { accesses = all.accesses; walks = all.walks; collect = record { twelve = all.many; words_are = all.words_are; last = all.last }; shown = all.shown }
-
 -- tries, none of them clean
 pub record Tried (v x : View) : Type 0 where
   pub tries : List (List Access)

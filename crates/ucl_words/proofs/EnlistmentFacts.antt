@@ -13,7 +13,7 @@ use Rattle.ucl_shared.specs.Views.{pass_view_of, steps_of, count_of, trail_of, T
 use Rattle.ucl_shared.specs.CallSteps.{FoundEnlisted, IsOnEnlisted, EnlistSteps, MeetingSteps}
 use Rattle.ucl_shared.proofs.Lists.{none_by_zero}
 use Rattle.ucl_shared.proofs.Halves.{half_acts, half_not_whole}
-use Rattle.ucl_shared.proofs.Calls.{all_more, takes_none, takes_on, takes_count, one_more, sound_kept}
+use Rattle.ucl_shared.proofs.CallsBySteps.{all_more, takes_none, takes_on, takes_count, one_more, sound_kept}
 use Rattle.ucl_words.specs.WordSteps.{LoadsEnlisted, EnlistMissed, EnlistWon}
 use Rattle.ucl_words.specs.WordCalls.{HasTrail, IsSteady, Enlisting, EnlistTries, KeepsTrail}
 use Rattle.ucl_words.proofs.StepRuns.{trail_longer, takes_trail}
@@ -165,17 +165,8 @@ pub tries_told : (v w : View) (r : Option ℕ) (n : ℕ) → w.number ≡ n → 
 tries_told v w (Some k) n is tries told some = subst (λ (z : ℕ). EnlistTries v (Some z) w) (is ∙ sym told) tries
 tries_told v w None n is tries told some = absurd (false≢true some)
 
-pub missed_continues : (v x : View) (n : ℕ) → Missed v x n → Continues (pass_view_of v) (pass_view_of x)
-missed_continues v x n was = record { sound = was.steady.sound; on = was.on; number = was.number }
-
-pub missed_full : (v x : View) (n : ℕ) → Missed v x n → 255 ≤ n → FullBoard (pass_view_of v) (pass_view_of x)
-missed_full v x n was high = let few = was.steady.sound.few in let known = was.known in record { listed = omega arith; mine = was.mine; shown = was.shown }
-
 pub missed_tries : (v x : View) (n : ℕ) → Missed v x n → 255 ≤ n → EnlistTries v None x
 missed_tries v x n was high = record { steps = was.steps.steps; takes = was.steps.takes; tries = tries_full 0 n was.steps.steps was.tries high }
-
-pub missed_trail : (v x : View) (n : ℕ) → Missed v x n → KeepsTrail v x
-missed_trail v x n was = record { steps = was.steps; trail = was.trail; whole_trail = was.steady.trail }
 
 -- a second pass
 second_trail : (v : View) → trail_of (second_of v) ≡ trail_of v

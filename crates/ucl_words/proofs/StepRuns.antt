@@ -15,7 +15,7 @@ use Rattle.ucl_steps.proofs.Accesses.{follows_longer, follows_wider, follows_app
 use Rattle.ucl_shared.specs.declared.view.View.{View}
 use Rattle.ucl_shared.specs.Passes.{Continues}
 use Rattle.ucl_shared.specs.Views.{pass_view_of, count_of, trail_of, Takes}
-use Rattle.ucl_shared.proofs.Calls.{takes_none, takes_on, takes_count}
+use Rattle.ucl_shared.proofs.CallsBySteps.{takes_none, takes_on, takes_count}
 use Rattle.ucl_words.specs.WordSteps.{LoadsMatch}
 use Rattle.ucl_words.specs.Code.{Walks}
 use Rattle.ucl_shared.specs.CallSteps.{steps_with}

@@ -1,6 +1,6 @@
 use Rattle.std.proofs.Common.{[], ◌++◌, ◌-◌, ◌^◌, ◌<◌, ◌∙◌, refl, inl, inr, arith}
 use Rattle.std.proofs.lemmas.Result.{err_from_is_err_and}
-use Rattle.ucl_screen.proofs.Moves.{consumes-none, consumes-then}
+use Rattle.ucl_screen.proofs.MovedBytes.{consumes-none, consumes-then}
 use Rattle.ucl_answers.specs.declared.live.Progress.{Progress}
 use Rattle.ucl_answers.specs.Stepping.{Past}
 use Rattle.ucl_answers.specs.Text.{start_of}

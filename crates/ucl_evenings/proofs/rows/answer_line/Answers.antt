@@ -1,5 +1,5 @@
 use Rattle.std.proofs.Common.{[], ◌∷◌, sym, ◌∙◌, arith}
-use Rattle.ucl_screen.proofs.Moves.{appends-none}
+use Rattle.ucl_screen.proofs.MovedBytes.{appends-none}
 use Rattle.ucl_answers.proofs.Failures.{if-both, if-err}
 use Rattle.ucl_evenings.specs.declared.typed.Typed.TheVariants.{Nothing, Bad, Event}
 use Rattle.ucl_evenings.proofs.Events.{rows_none}

@@ -1,7 +1,7 @@
 use Rattle.std.proofs.Common.{[], ◌++◌, ◌≡◌, List, ℕ, length, take, inl, inr, refl, sym, ap, ◌∙◌, arith, length-append, true≢false}
 use Rattle.std.proofs.lemmas.List.{length-take}
 use Rattle.std.proofs.lemmas.Result.{err_from_is_err_and}
-use Rattle.ucl_screen.proofs.Moves.{consumes-none, consumes-then}
+use Rattle.ucl_screen.proofs.MovedBytes.{consumes-none, consumes-then}
 use Rattle.ucl_answers.specs.Lines.{begun_line, ended_lines}
 use Rattle.ucl_answers.specs.Stepping.{device}
 use Rattle.ucl_answers.proofs.Moments.{begun-append, begun-none, begun-short, ended-append, ended-none}

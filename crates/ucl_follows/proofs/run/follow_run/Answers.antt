@@ -2,7 +2,7 @@ use Rattle.std.specs.Io.KnownBytes.{Appends}
 use Rattle.std.proofs.Common.{rules, ◌≡◌, ◌+◌, ◌-◌, ◌^◌, min, subst, [], ◌++◌, ◌∙◌, length, take, refl, sym, ap, inl, inr, arith, length-append, true≢false}
 use Rattle.std.proofs.lemmas.List.{length-take}
 use Rattle.std.proofs.lemmas.Result.{err_from_is_err_and}
-use Rattle.ucl_screen.proofs.Moves.{appends-none, appends-then, consumes-none, consumes-then}
+use Rattle.ucl_screen.proofs.MovedBytes.{appends-none, appends-then, consumes-none, consumes-then}
 use Rattle.ucl_answers.specs.Stepping.{device}
 use Rattle.ucl_answers.proofs.Steps.{not-vain, sound}
 use Rattle.ucl_answers.proofs.Wires.{asked-none, asked-then, ended, ended-since, vain-since}

@@ -1,6 +1,6 @@
 use Rattle.std.proofs.Common.{◌+◌, ◌<◌, ◌≤◌, ◌∙◌, ℕ, length, arith, length-drop}
 use Rattle.std.proofs.lemmas.List.{length-take}
-use Rattle.ucl_screen.proofs.Moves.{gives-more, not_vain, same_failed}
+use Rattle.ucl_screen.proofs.MovedBytes.{gives-more, not_vain, same_failed}
 use Rattle.ucl_screen.proofs.transfer.give_all.Goals as goal
 
 pub loop-at-preserved : goal.loop-at-preserved

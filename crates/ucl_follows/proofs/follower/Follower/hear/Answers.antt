@@ -2,7 +2,7 @@ use Rattle.std.specs.Io.KnownBytes.{Appends}
 use Rattle.std.proofs.Common.{◌≡◌, ◌+◌, ◌-◌, ◌^◌, min, subst, [], ◌∷◌, get_or, length, take, sym, ap, ◌∙◌, refl, arith, length-append}
 use Rattle.std.proofs.lemmas.List.{take_more}
 use Rattle.std.proofs.lemmas.Result.{err_from_is_err_and}
-use Rattle.ucl_screen.proofs.Moves.{appends-none, appends-then}
+use Rattle.ucl_screen.proofs.MovedBytes.{appends-none, appends-then}
 use Rattle.ucl_follows.specs.Hearing.{Listener, heard, heard_text, hearing_of, out_of}
 use Rattle.ucl_follows.proofs.Bytes.{count-more, hear-fails, heard-none, heard-then, text-none, text-then}
 use Rattle.ucl_follows.proofs.follower.Follower.hear.Goals as goal

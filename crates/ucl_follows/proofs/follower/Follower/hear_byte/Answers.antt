@@ -1,6 +1,6 @@
 use Rattle.std.proofs.Common.{◌∙◌, sym, arith}
 use Rattle.std.proofs.lemmas.Result.{err_from_is_err_and}
-use Rattle.ucl_screen.proofs.Moves.{appends-none}
+use Rattle.ucl_screen.proofs.MovedBytes.{appends-none}
 use Rattle.ucl_follows.specs.Hearing.{hearing_of}
 use Rattle.ucl_follows.proofs.Bytes.{byte-fails, end-heard, end-text, hearings, more-heard, more-text}
 use Rattle.ucl_follows.proofs.follower.Follower.hear_byte.Goals as goal

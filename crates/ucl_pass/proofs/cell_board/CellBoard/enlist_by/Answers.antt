@@ -1,8 +1,8 @@
 use Rattle.std.proofs.Common.{◌≡◌, ◌≢◌, sym, ◌∙◌}
 use Rattle.ucl_pass.specs.CellViews.{knows}
 use Rattle.ucl_pass.specs.CellSteps.{LooksAtEnlisted, StoresReporter}
-use Rattle.ucl_shared.proofs.Calls.{number_told}
-use Rattle.ucl_pass.proofs.Calls.{won, lost, tried_again, enlisted_says, new_number}
+use Rattle.ucl_shared.proofs.CallsBySteps.{number_told}
+use Rattle.ucl_pass.proofs.CallsBySteps.{won, lost, tried_again, enlisted_says, new_number}
 use Rattle.ucl_pass.proofs.cell_board.CellBoard.enlist_by.Goals as goal
 
 pub returns-then-is_ok-clause-enlisted : goal.returns-then-is_ok-clause-enlisted

@@ -8,8 +8,8 @@ use Rattle.ucl_pass.specs.declared.view.CellView.{CellView}
 use Rattle.ucl_pass.specs.CellRule.{CellKeepsOneHistory}
 use Rattle.ucl_pass.specs.CellViews.{knows, new_cell_pass, told_cell_pass}
 use Rattle.ucl_pass.specs.CellSteps.{LooksAtEnlisted}
-use Rattle.ucl_pass.proofs.CellMoves.{joins}
-use Rattle.ucl_pass.proofs.Calls.{met_says}
+use Rattle.ucl_pass.proofs.KeptRule.{joins}
+use Rattle.ucl_pass.proofs.CallsBySteps.{met_says}
 use Rattle.ucl_pass.proofs.cell_board.CellBoard.hear_by.Goals as goal
 
 pub join_pass-requires : goal.join_pass-requires

@@ -2,7 +2,7 @@ use Rattle.std.proofs.Common.{rules, ℕ, sym, subst}
 use Rattle.crossbeam_utils.specs.Seq.{cell_view}
 use Rattle.ucl_pass.specs.declared.view.CellView.{CellView}
 use Rattle.ucl_pass.specs.CellRule.{CellStands}
-use Rattle.ucl_pass.proofs.CellMoves.{seconds, split_stands}
+use Rattle.ucl_pass.proofs.KeptRule.{seconds, split_stands}
 use Rattle.ucl_pass.proofs.cell_board.CellBoard.split_seat.Goals as goal
 
 pub split_pass-requires : goal.split_pass-requires

@@ -5,7 +5,7 @@ use Rattle.ucl_shared.specs.Passes.{ReportsMore}
 use Rattle.ucl_shared.specs.Views.{pass_view_of}
 use Rattle.ucl_pass.specs.CellViews.{CellPass}
 use Rattle.ucl_pass.specs.CellCalls.{CellHasReported}
-use Rattle.ucl_shared.proofs.Calls.{room}
+use Rattle.ucl_shared.proofs.CallsBySteps.{room}
 use Rattle.ucl_pass.proofs.Reports.{report_counts}
 use Rattle.ucl_pass.proofs.live_cell.CellBoardLiveBoard.report.Goals as goal
 

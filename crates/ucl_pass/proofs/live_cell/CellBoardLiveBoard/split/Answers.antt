@@ -6,7 +6,7 @@ use Rattle.ucl_shared.specs.declared.view.View.{View}
 use Rattle.ucl_shared.specs.Passes.{IsSound}
 use Rattle.ucl_shared.specs.Views.{pass_view_of}
 use Rattle.ucl_pass.specs.CellCalls.{CellHasReported}
-use Rattle.ucl_shared.proofs.Calls.{sound_second, sound_kept}
+use Rattle.ucl_shared.proofs.CallsBySteps.{sound_second, sound_kept}
 use Rattle.ucl_pass.proofs.live_cell.CellBoardLiveBoard.split.Goals as goal
 
 abbrev IsReader : View → Type 0

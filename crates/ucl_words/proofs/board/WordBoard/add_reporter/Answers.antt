@@ -1,6 +1,6 @@
 use Rattle.std.proofs.Common.{ℕ, sym, ◌∙◌, subst, arith}
 use Rattle.ucl_words.specs.WordRule.{Stands}
-use Rattle.ucl_words.proofs.Moves.{enlists}
+use Rattle.ucl_words.proofs.KeptRule.{enlists}
 use Rattle.ucl_words.proofs.board.WordBoard.add_reporter.Goals as goal
 
 pub compare_exchange-requires : goal.compare_exchange-requires

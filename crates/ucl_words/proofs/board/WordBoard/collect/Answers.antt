@@ -1,7 +1,7 @@
 use Rattle.std.proofs.Common.{ℕ, ◌+◌, length, inl, refl, sym, ◌∙◌, arith, length-set}
 use Rattle.ucl_board.specs.Log.{First}
 use Rattle.ucl_board.proofs.Beginnings.{begins_length, begins_through}
-use Rattle.ucl_words.proofs.Moves.{firsts}
+use Rattle.ucl_words.proofs.KeptRule.{firsts}
 use Rattle.ucl_words.proofs.CollectFacts.{collected_none, collected_set}
 use Rattle.ucl_words.proofs.DoingFacts.{first_next, first_on, firsts_all}
 use Rattle.ucl_steps.specs.declared.step.Call.TheVariants as calls

@@ -4,7 +4,7 @@ use Rattle.ucl_board.specs.Log as trails
 use Rattle.ucl_steps.specs.Protocol.{after_look}
 use Rattle.ucl_words.specs.WordSteps.{Loads}
 use Rattle.ucl_words.specs.WordRule.{Stands}
-use Rattle.ucl_words.proofs.Moves.{looks}
+use Rattle.ucl_words.proofs.KeptRule.{looks}
 use Rattle.ucl_words.proofs.board.WordBoard.look.Goals as goal
 
 pub load-requires : goal.load-requires

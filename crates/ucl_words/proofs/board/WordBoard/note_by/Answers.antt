@@ -1,5 +1,5 @@
 use Rattle.std.proofs.Common.{ap, sym, ◌∙◌, arith}
-use Rattle.ucl_words.proofs.Moves.{notes}
+use Rattle.ucl_words.proofs.KeptRule.{notes}
 use Rattle.ucl_words.proofs.board.WordBoard.note_by.Goals as goal
 
 pub split_seat-requires : goal.split_seat-requires

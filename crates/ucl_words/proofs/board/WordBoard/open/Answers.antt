@@ -2,7 +2,7 @@ use Rattle.ucl_shared.proofs.LogFacts.{opens_fresh}
 use Rattle.ucl_words.specs.WordRule.{words_after}
 use Rattle.std.proofs.Common.{ℕ, sym, subst}
 use Rattle.ucl_words.specs.WordRule.{Stands}
-use Rattle.ucl_words.proofs.Moves.{opens, opened_stands}
+use Rattle.ucl_words.proofs.KeptRule.{opens, opened_stands}
 use Rattle.ucl_words.proofs.board.WordBoard.open.Goals as goal
 
 pub of_words-requires : goal.of_words-requires

@@ -1,7 +1,7 @@
 use Rattle.std.proofs.Common.{ℕ, ap, sym, ◌∙◌, subst, arith}
 use Rattle.ucl_words.specs.declared.view.WordView.{WordView}
 use Rattle.ucl_words.specs.WordRule.{Stands}
-use Rattle.ucl_words.proofs.Moves.{seconds, split_stands}
+use Rattle.ucl_words.proofs.KeptRule.{seconds, split_stands}
 use Rattle.ucl_words.proofs.board.WordBoard.split_by.Goals as goal
 
 pub split_seat-requires : goal.split_seat-requires

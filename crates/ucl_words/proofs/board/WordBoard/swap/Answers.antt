@@ -5,7 +5,7 @@ use Rattle.atomic_table.specs.Table.{step, Allows}
 use Rattle.ucl_board.specs.declared.entry.Entry.{Entry}
 use Rattle.ucl_words.specs.WordRule.{TableKeepsOneHistory, Stands}
 use Rattle.ucl_words.specs.WordSteps.{ExchangeStep, ExchangeMissed}
-use Rattle.ucl_words.proofs.Moves.{swaps}
+use Rattle.ucl_words.proofs.KeptRule.{swaps}
 use Rattle.ucl_words.proofs.board.WordBoard.swap.Goals as goal
 
 pub compare_exchange_with-requires : goal.compare_exchange_with-requires

@@ -21,9 +21,9 @@ use Rattle.ucl_shared.specs.declared.view.View.{View}
 use Rattle.ucl_shared.specs.Views.{newcomer, opener}
 use Rattle.ucl_shared.specs.OneHistory.{KeepsOneHistory}
 use Rattle.ucl_shared.specs.Steps.{Enlists}
-use Rattle.ucl_shared.proofs.Moves.{logged, look, looked, same_history, look_keeps, look_same, look_tells, add, entered, longer_history, add_keeps, add_same, add_tells, count, enlisted_as}
-use Rattle.ucl_shared.proofs.Moves.{unchanged_history, enlist_keeps, enlist_same, enlist_tells, second_added, second_same, note_added, note_same, note_joined, joined_same}
-use Rattle.ucl_shared.proofs.Moves as moves
+use Rattle.ucl_shared.proofs.KeptRule.{logged, look, looked, same_history, look_keeps, look_same, look_tells, add, entered, longer_history, add_keeps, add_same, add_tells, count, enlisted_as}
+use Rattle.ucl_shared.proofs.KeptRule.{unchanged_history, enlist_keeps, enlist_same, enlist_tells, second_added, second_same, note_added, note_same, note_joined, joined_same}
+use Rattle.ucl_shared.proofs.KeptRule as moves
 use Rattle.ucl_steps.specs.declared.step.Caller.{Caller}
 use Rattle.ucl_steps.specs.declared.step.Caller.TheVariants.{Reporter, Reader}
 use Rattle.ucl_steps.specs.declared.step.Cast.{Cast}

@@ -38,8 +38,8 @@ use Rattle.ucl_pass.specs.CellViews.{new_cell_pass, first_cell_pass, left_cell_p
 use Rattle.ucl_pass.specs.CellRule.{words_after, CellKeepsOneHistory, CellStands}
 use Rattle.ucl_pass.specs.CellSteps.{IsNextBoard, with_one_more, word_looked_at, Looks, StoresEntry, StoresReporter, LooksOnly, LooksAtEnlisted, AddsOrLooks, EnlistsOrLooks, finished_too, after_load}
 use Rattle.ucl_pass.specs.CellSteps.{HasAccepted, DecidesReport, AreAccepting, LookOfCell, AddOfCell, ReadOfCell, CountOfCell, EnlistOfCell, TellsAndStands}
-use Rattle.ucl_shared.proofs.Moves.{looked, look_keeps, look_tells, same_history, entered, add_keeps, add_tells, longer_history, enlisted_as, enlist_keeps, enlist_tells, unchanged_history}
-use Rattle.ucl_shared.proofs.Moves.{second_added, note_added, note_joined, opens, look_same, add_same, enlist_same, second_same, note_same, joined_same, opens_same}
+use Rattle.ucl_shared.proofs.KeptRule.{looked, look_keeps, look_tells, same_history, entered, add_keeps, add_tells, longer_history, enlisted_as, enlist_keeps, enlist_tells, unchanged_history}
+use Rattle.ucl_shared.proofs.KeptRule.{second_added, note_added, note_joined, opens, look_same, add_same, enlist_same, second_same, note_same, joined_same, opens_same}
 use Rattle.ucl_pass.proofs.Bursts.{reading_at_once, refused_at_once, accepted_at_once}
 use Rattle.ucl_steps.proofs.Seats.{map_at, map_there, map_set, map_more, map_long, set_same, place_below}
 use Rattle.ucl_steps.proofs.ActorRuns.{Burst, Apart, run_burst, run_enlisted, run_more, run_begins}

@@ -36,8 +36,8 @@ use Rattle.ucl_pass.specs.CellSteps.{IsNextBoard, with_one_more, word_looked_at,
 use Rattle.ucl_pass.specs.CellSteps.{after_load, HasAccepted, AreAccepting, LookOfCell, ReadOfCell}
 use Rattle.ucl_shared.specs.CallSteps.{steps_with, entry_made, MeetingSteps}
 use Rattle.ucl_pass.specs.CellCalls.{CellMissed, no_event_between, WereLost, CellReport, CellEnlistMissed, CellEnlistment, CellReading, FinishesReport, FinishesReading}
-use Rattle.ucl_shared.proofs.Calls.{takes_none, takes_on, takes_count, Stays, stays_none, stays_more, all_more}
-use Rattle.ucl_pass.proofs.CellMoves.{match_words, match_word, last_word, one_more_last}
+use Rattle.ucl_shared.proofs.CallsBySteps.{takes_none, takes_on, takes_count, Stays, stays_none, stays_more, all_more}
+use Rattle.ucl_pass.proofs.KeptRule.{match_words, match_word, last_word, one_more_last}
 
 -- an exchange that was won
 pub won : (r : Result (List ℕ) (List ℕ)) (P Q : List ℕ → Type 0) → MatchResult r P Q → is_ok r ≡ true → (x : List ℕ) × P x
@@ -288,9 +288,6 @@ pub record TriedEnlist (v w : View) : Type 0 where
   pub missed : AllByRecursion CellEnlistMissed tries
   pub lost : WereLost v.listed tries w.listed
 
-pub untried : (v : View) → TriedEnlist v v
-untried v = record { stays = stays_none v; tries = []; takes = takes_none v; missed = tt; lost = omega arith }
-
 -- one load for an enlistment, and what came of it
 module _ (v w u : View) (x : List ℕ) (tried : TriedEnlist v w) (looked : LooksAtEnlisted w x x u) where
   abbrev count_step : Taken
@@ -324,25 +321,6 @@ module _ (v w u : View) (x : List ℕ) (tried : TriedEnlist v w) (looked : Looks
             let a = looked.seen_all.listed in
             omega arith);
       }
-
-  pub full_continues : Continues (pass_view_of v) (pass_view_of u)
-  full_continues = record { sound = sound x w u looked.seen_all looked.sees.goes; on = count_stays.on; number = count_stays.number }
-
-  pub full_says : 255 ≤ slice_index x 12 → FullBoard (pass_view_of v) (pass_view_of u)
-  full_says high =
-      let last = last_seen x w u looked.seen_all looked.sees.goes in
-      let few = looked.sees.goes.few in
-      record { listed = omega arith; mine = count_stays.mine; shown = count_stays.shown }
-
-  pub full_steps : CellEnlistment v false u
-  full_steps = record {
-    tries = tried.tries;
-    last = count_step ∷ [];
-    takes = count_takes;
-    missed = tried.missed;
-    lost = (let a = tried.lost in let b = looked.seen_all.listed in omega arith);
-    answered = (slice_index x 12, refl);
-  }
 
   module _ (z : View) (next : List ℕ) (stored : StoresReporter u next z) where
     pub enlisted_says : Enlistment (pass_view_of v) (pass_view_of z)

@@ -53,9 +53,6 @@ stays_more v w u t goes le mine number shown = record {
   shown = shown ∙ t.shown;
 }
 
-pub stays_continues : (v u : View) → Stays v u → Goes v u → Continues (pass_view_of v) (pass_view_of u)
-stays_continues v u t goes = record { sound = record { legal = goes.legal; own = goes.own; few = goes.few; acts = goes.acts; alone = goes.alone }; on = t.on; number = t.number }
-
 pub all_more : {X : Type 0} (P : X → Type 0) (xs : List X) (x : X) → AllByRecursion P xs → P x → AllByRecursion P (xs ++ x ∷ [])
 all_more P [] x all one = (one, tt)
 all_more P (y ∷ xs) x all one = (all.0, all_more P xs x all.1 one)
