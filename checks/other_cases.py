@@ -251,10 +251,11 @@ def proves_at_once():
 
 
 def proves_what_changed():
-    """`./build` proves what is not proved from the sources as they are and no more, counts it, and stops where a proof fails. A library is proved
-    in a copy first, and then taken over."""
+    """`./build` proves what is not proved from the sources as they are and no more, counts it, and stops where a proof fails. It proves in copies,
+    which are given what is built of the crates below, and from which comes what is made there."""
     with tempfile.TemporaryDirectory(prefix="build-") as room:
-        rt = f"pwd >>{room}/proved\n[ ! -e fails ] || exit 1\n[ $1 = lib ] || {{ echo 'echo built' >out/one && chmod +x out/one; }}\n"
+        rt = f"pwd >>{room}/proved\n[ ! -e fails ] || exit 1\n[ $1 = run ] || {{ mkdir -p out/rlib && exec touch out/rlib/low; }}\n"
+        rt += "[ -e ../low/out/rlib/low ] && echo 'echo built' >out/one && chmod +x out/one\n"
         place, build = pathlib.Path(room), small_repository(room, rt)
         first, again, start = build("one"), build("one"), build("--start", "one")
         (place / "crates/one/src/main.rt").write_text("changed")
@@ -264,7 +265,7 @@ def proves_what_changed():
         third = build("one")
         proved = [pathlib.Path(line).name for line in (place / "proved").read_text().split()]
     told = [run.returncode for run in (first, again, start, unbuilt, second, third)] + [proved, start.stdout, unbuilt.stdout]
-    wanted = [0, 0, 0, 1, 0, 1, ["low", "low", "one", "one", "low"], b"built\n", b"one\n"]
+    wanted = [0, 0, 0, 1, 0, 1, ["low", "one", "one", "low"], b"built\n", b"one\n"]
     counts = b"proved: 2;" in first.stderr and not again.stderr and b"proved: 1;" in second.stderr and b"low failed" in third.stderr
     return None if told == wanted and counts else f"{told}, {[run.stderr for run in (first, again, second, third)]}"
 

@@ -1,17 +1,17 @@
-"""Of which crates all wrong bodies and controls were tried on the sources as they are. A run over all crates takes hours, so each crate that was
-tried whole is written down in checks/lists/tried, with a sum of the text that decides what such a try comes to: the crate's code, definitions
-and proofs, its wrong bodies and controls, the code and the definitions of the crates that it stands on, and the kit's logic. Comments and
-blank lines do not count, nor do the proofs of the crates below, for no contract depends on how a proof goes."""
+"""Which wrong bodies were refused, with their controls proved, on the sources as they are. A run over all of them takes hours, so each that was
+tried so is written down in checks/lists/tried, with a sum of the text that decides what such a try comes to: the crate's code, definitions and
+proofs, the code and the definitions of the crates that it stands on, the wrong body, its control, and the kit's logic. Comments and blank lines
+do not count, nor do the proofs of the crates below, for no contract depends on how a proof goes."""
 
+import functools
 import hashlib
-import re
+import pathlib
 import subprocess
 
 import edits
 import looks_at_crates
 
 TRIED = "checks/lists/tried"
-COUNTS = ("wrong", "refused", "limits", "controls", "proved")
 
 
 def plain(path):
@@ -27,60 +27,63 @@ def files_of(top, crate, parts):
 
 def below(uses, crate):
     """The crates of the repository that a crate stands on."""
-    found = {it for used in uses[crate] if used in uses for it in [used, *below(uses, used)]}
-    return sorted(found)
+    return sorted({it for used in uses[crate] if used in uses for it in [used, *below(uses, used)]})
 
 
-def logic():
-    """The sum of the kit's logic."""
-    said = subprocess.run(["rt", "version"], stdout=subprocess.PIPE, universal_newlines=True).stdout
-    return re.search(r"logic ([0-9a-f]+)", said)[1]
-
-
-def sum_of(top, crate):
-    """The sum of the text that decides what trying the wrong bodies and the controls of a crate comes to."""
-    uses = looks_at_crates.crates_of(top)
-    tried = [edit for pattern in (edits.OF_THE_GATE, edits.FURTHER, edits.CONTROLS) for of, edit in edits.edits_of(top, pattern) if of == crate]
+@functools.lru_cache(maxsize=None)
+def sum_of_crate(top, crate):
+    """The sum of the kit's logic and of the text that a check of the crate goes by."""
+    logic = subprocess.run(["rt", "version"], stdout=subprocess.PIPE, universal_newlines=True).stdout.split(" logic ")[-1]
     read = files_of(top, crate, ("src", "specs", "proofs"))
-    for other in below(uses, crate):
+    for other in below(looks_at_crates.crates_of(top), crate):
         read += files_of(top, other, ("src", "specs"))
-    found = hashlib.sha256(logic().encode())
-    for path in [*read, *tried]:
-        found.update(f"\n{path.relative_to(top)}\n{plain(path)}".encode())
-    return found.hexdigest()[:16]
+    texts = [logic, *(f"{path.relative_to(top)}\n{plain(path)}" for path in read)]
+    return hashlib.sha256("\n".join(texts).encode()).hexdigest()
+
+
+def sum_of(top, edit):
+    """The sum of what decides what trying a wrong body and its control comes to."""
+    crate = edits.crate_of(edit)
+    both = [path.read_text() for path in (edit, top / "checks/controls" / crate / edit.name) if path.exists()]
+    return hashlib.sha256("\n".join([sum_of_crate(top, crate), *both]).encode()).hexdigest()[:12]
+
+
+def name_of(edit):
+    """The name by which a wrong body, or its control, is written down."""
+    return f"{edits.crate_of(edit)}/{edit.stem}"
 
 
 def records(top):
-    """What was written down of each crate: the five counts, the minutes and the sum."""
+    """The sums that are written down, by the names of the wrong bodies."""
     path = top / TRIED
     lines = [line.split() for line in (path.read_text() if path.exists() else "").split("\n") if line and not line.startswith("#")]
-    return {line[0]: line[1:] for line in lines}
+    return dict(lines)
 
 
-def write(top, crate, counts, seconds):
-    """Writes down that the crate was tried whole."""
-    path = top / TRIED
-    found = records(top)
-    found[crate] = [*(str(counts[name]) for name in COUNTS), f"{seconds / 60:.1f}", sum_of(top, crate)]
+def write(top, tried):
+    """Writes down of wrong bodies that they were refused, with their controls proved, or strikes them out where they were not."""
+    path, found = top / TRIED, records(top)
+    for edit, is_well in tried.items():
+        found.pop(name_of(edit), None)
+        found.update({name_of(edit): sum_of(top, edit)} if is_well else {})
     head = [line for line in path.read_text().split("\n") if line.startswith("#")]
-    path.write_text("\n".join([*head, *(" ".join([name, *found[name]]) for name in sorted(found))]) + "\n")
+    path.write_text("\n".join([*head, *(f"{name} {found[name]}" for name in sorted(found))]) + "\n")
 
 
-def left(top, crates):
-    """Those of these crates that were not tried whole on the sources as they are, those with the fewest wrong bodies first."""
-    found = records(top)
-    counts = {crate: sum(of == crate for pattern in (edits.OF_THE_GATE, edits.FURTHER) for of, _ in edits.edits_of(top, pattern)) for crate in crates}
-    return sorted((it for it in crates if it not in found or found[it][-1] != sum_of(top, it)), key=lambda it: counts[it])
+def is_left(top, edit):
+    """The wrong body was not tried on the sources as they are."""
+    return records(top).get(name_of(edit)) != sum_of(top, edit)
 
 
-def none_came_through(top):
-    """Where a crate was tried whole, each wrong body was refused and each control proved."""
-    numbers = {crate: [int(count) for count in found[: len(COUNTS)]] for crate, found in records(top).items()}
-    return [
-        f"{crate}: {refused} of {wrong} wrong bodies were refused, and {proved} of {controls} controls proved"
-        for crate, (wrong, refused, _, controls, proved) in numbers.items()
-        if (wrong, controls) != (refused, proved)
-    ]
+def wrong_bodies(top):
+    """All wrong bodies of both tiers."""
+    return [edit for pattern in (edits.OF_THE_GATE, edits.FURTHER) for _, edit in edits.edits_of(top, pattern)]
 
 
-LOOKS = [("wrong bodies that were tried were refused, and controls proved", none_came_through)]
+def each_is_there(top):
+    """What is written down was tried of a wrong body that is there, and of no other."""
+    there = {name_of(edit) for edit in wrong_bodies(pathlib.Path(top))}
+    return [f"{name}: there is no such wrong body" for name in records(top) if name not in there]
+
+
+LOOKS = [("each wrong body that is written down is there", each_is_there)]

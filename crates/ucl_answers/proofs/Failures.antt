@@ -10,9 +10,9 @@ use Rattle.ucl_runs.specs.Run.{IsStopped}
 use Rattle.ucl_answers.specs.Lines.{ended_lines}
 use Rattle.ucl_answers.specs.Output.{FailsToPut, HasPut, Waiting}
 use Rattle.ucl_answers.specs.Stepping.{EveningIsRefused, LineAsks, Moment, answers_to, ended_at, last_answers, missing_at, moment_after}
-use Rattle.ucl_answers.specs.Taking.{FailsToEnd, FailsToGive, FailsToTake, GaveBefore, LeavesLine}
+use Rattle.ucl_answers.specs.Taking.{FailsToEnd, FailsToGive, FailsToTake, LeavesLine}
 use Rattle.ucl_answers.proofs.Moments.{answers-to-append, moment-append}
-use Rattle.ucl_answers.proofs.Puts.{all_out, put_stopped, put_then, stopped_more}
+use Rattle.ucl_answers.proofs.Puts.{put_stopped, put_then, stopped_more}
 use Rattle.ucl_answers.proofs.Silence.{missing-last, refused-missing, shut-before, stays-refused}
 
 -- ---- bytes

@@ -12,7 +12,7 @@ use Rattle.ucl_runs.specs.Feed.{attempt_of}
 use Rattle.ucl_evening_command.specs.Earlier.{IsJudgedAs, entered_from}
 use Rattle.ucl_evening_command.proofs.Lists.{first_left, past_end}
 
-event_left : (i : ℕ) (events : List NightEvent) (e : NightEvent) → i < length events → e ≡ get_or events i e → drop i events ≡ e ∷ drop (i + 1) events
+pub event_left : (i : ℕ) (events : List NightEvent) (e : NightEvent) → i < length events → e ≡ get_or events i e → drop i events ≡ e ∷ drop (i + 1) events
 event_left i events e h is = first_left i events e h ∙ ap (λ (x : NightEvent). x ∷ drop (i + 1) events) (sym is)
 
 -- where an event is accepted, the history goes on by its entry, and the board with it

@@ -1,7 +1,6 @@
 -- What is answered for the evening that was read from matches, or for the reason why none was.
-use Rattle.std.proofs.Common.{◌≡◌, ◌∙◌, ap, sym, refl, inl, inr, List, map, Option, Some, None}
-use Rattle.std.specs.Prelude.{Result, Ok, Err, IfErr, IfOk, [], option_map, unwrap_or}
-use Rattle.std.specs.Borrow.{Bor}
+use Rattle.std.proofs.Common.{◌≡◌, ◌∙◌, ap, sym, refl, inl, inr, List}
+use Rattle.std.specs.Prelude.{Result, Ok, Err, IfErr, IfOk, []}
 use Rattle.clap.specs.Words.{Text, fault_of}
 use Rattle.ucl_program.specs.declared.fault.LineFault.{LineFault}
 use Rattle.ucl_program.specs.Lines.{ToldOf}

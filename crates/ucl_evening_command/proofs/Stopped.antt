@@ -1,6 +1,6 @@
 -- Why events were not entered on a live board.
-use Rattle.std.proofs.Common.{◌≡◌, ◌∙◌, ℕ, zero, suc, ◌+◌, ◌-◌, ◌<◌, refl, sym, ap, subst, List, [], ◌∷◌, ◌++◌, length, map, drop, take, get_or, arith}
-use Rattle.std.specs.Prelude.{Err, Ok, Result, slice_index, ⊤}
+use Rattle.std.proofs.Common.{◌≡◌, ◌∙◌, ℕ, zero, suc, ◌+◌, ◌-◌, ◌<◌, ◌≤◌, sym, ap, subst, List, [], ◌∷◌, ◌++◌, length, map, drop, take, get_or, arith}
+use Rattle.std.specs.Prelude.{slice_index}
 use Rattle.std.proofs.lemmas.List.{length-map, length-take-le, take-append-drop}
 use mathlib.Core.List.{IsPrefix}
 use Rattle.ucl_board.specs.declared.entry.Entry.{Entry}
@@ -10,7 +10,8 @@ use Rattle.ucl_shared.specs.declared.live_board.LiveBoard as boards
 use Rattle.ucl_shared.specs.Passes.{PassView}
 use Rattle.ucl_screen.specs.declared.night.NightEvent.{NightEvent}
 use Rattle.ucl_runs.specs.declared.fault.RunFault.{RunFault}
-use Rattle.ucl_evening_command.specs.Earlier.{HaveEntered, HasInOrder, IsJudgedAs, WasNotEntered, WasRefused, entries_for, numbers_of}
+use Rattle.ucl_runs.specs.declared.fault.RunFault.TheVariants.{Input, OutOfMemory, WriteFailed, NotOnDuty, NoThread, TooManyReporters, Strangers}
+use Rattle.ucl_evening_command.specs.Earlier.{HaveEntered, HasInOrder, IsOfEnlisting, StopsEntering, WasNotEntered, WasRefused, entries_for, numbers_of}
 use Rattle.ucl_evening_command.proofs.Entering.{HaveSoFar, view_there}
 use Rattle.ucl_evening_command.proofs.Judged.{event_left}
 
@@ -33,10 +34,16 @@ order_begins numbers start (e ∷ events) h o =
     begins_through start o.0 h o.1
     (begins_through o.0 (followed_by o.0 entry) h (begins_more o.0 o.0 entry (begins_same o.0)) (order_begins numbers (followed_by o.0 entry) events h o.3))
 
--- a board of one thread refuses the first event that it tells
-pub judged_so : (judged : Result (List Entry) RunFault) (fault : RunFault) → IsJudgedAs judged (Err fault) → judged ≡ Err fault
-judged_so (Ok history) fault h = absurd h
-judged_so (Err told) fault h = ap Err (sym h)
+-- where reporters were not enlisted, no event was entered
+pub enlisting_stops : {B R P N : Type 0} (live : boards.Ghosts B R P N) (board : B) (before : List Entry) (events : List NightEvent) (fault : RunFault) → 1 ≤ length events
+    → IsOfEnlisting live board fault → StopsEntering live board before events fault
+enlisting_stops live board before events OutOfMemory some h = some
+enlisting_stops live board before events TooManyReporters some h = (some, h)
+enlisting_stops live board before events (Input e) some h = absurd h
+enlisting_stops live board before events (WriteFailed written) some h = absurd h
+enlisting_stops live board before events (NotOnDuty row) some h = absurd h
+enlisting_stops live board before events NoThread some h = absurd h
+enlisting_stops live board before events (Strangers version) some h = absurd h
 
 -- the event at a place was refused to the pass at the place of its reporter
 pub refused_there : {B R P N : Type 0} (live : boards.Ghosts B R P N) (board : B) (start : List Entry) (events : List NightEvent) (i row : ℕ) (e : NightEvent) (passes : List P) (at : ℕ)

@@ -112,7 +112,7 @@ pub record WasRefused {B R P N : Type 0} (live : boards.Ghosts B R P N) (board :
   pub refused : is_ok (sequential_reply (live.reporter pass).seen event.call) ≡ false
 
 -- a live board stops the entering of events: there is no memory, or no number for a reporter, or an event is refused
-unfoldable pub StopsEntering : {B R P N : Type 0} → boards.Ghosts B R P N → B → List Entry → List NightEvent → RunFault → Type 0
+abbrev pub StopsEntering : {B R P N : Type 0} → boards.Ghosts B R P N → B → List Entry → List NightEvent → RunFault → Type 0
 StopsEntering live board before events OutOfMemory = 1 ≤ length events
 StopsEntering live board before events TooManyReporters = (1 ≤ length events) × HasNoNumberLeft live board
 StopsEntering live board before events (Input (BadRow row)) = WasRefused live board before events row

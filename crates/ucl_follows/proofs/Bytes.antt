@@ -1,12 +1,11 @@
 -- Bytes that a follower hears one after the other, and what it writes of them.
-use Rattle.std.proofs.Common.{◌≡◌, ℕ, ◌+◌, ◌-◌, ◌^◌, ◌≤◌, ◌<◌, ◌==◌, Bool, true, false, List, [], ◌∷◌, ◌++◌, length, min, take, drop, get_or, Option, refl, sym, ap, ◌∙◌}
-use Rattle.std.proofs.Common.{inl, inr, subst, append_assoc, append-nil, arith, length-append}
+use Rattle.std.proofs.Common.{◌≡◌, ℕ, ◌+◌, ◌-◌, ◌^◌, ◌≤◌, ◌<◌, ◌==◌, Bool, false, List, [], ◌∷◌, ◌++◌, length, min, take, drop, get_or, Option, refl, sym, ap, ◌∙◌}
+use Rattle.std.proofs.Common.{inl, inr, append_assoc, append-nil, arith}
 use Rattle.std.specs.Prelude.{nat_le}
 use Rattle.std.specs.Io.KnownBytes.{Appends}
 use Rattle.std.proofs.lemmas.Bool.{cases_Bool}
 use Rattle.std.proofs.lemmas.Bool.Decides.{nat_tests}
 use Rattle.std.proofs.lemmas.List.{take-append-drop, take_more}
-use Rattle.ucl_screen.specs.declared.fault.InputFault.{InputFault}
 use Rattle.ucl_screen.proofs.MovedBytes.{appends-none, appends-then}
 use Rattle.ucl_runs.specs.declared.fault.RunFault.{RunFault}
 use Rattle.ucl_runs.specs.declared.fault.RunFault.TheVariants.{Input, OutOfMemory, WriteFailed, NotOnDuty, NoThread, TooManyReporters, Strangers}
@@ -16,7 +15,7 @@ use Rattle.ucl_follows.specs.declared.shape.Shape.{Shape}
 use Rattle.ucl_follows.specs.Heard.{kept_line, torn_line, whole_lines}
 use Rattle.ucl_follows.specs.Told.{moment_on}
 use Rattle.ucl_follows.specs.Follow.{after_told, followed, sights, told_text}
-use Rattle.ucl_follows.specs.Hearing.{FailsToHear, FailsToShow, HeardFirst, Listener, heard, heard_text}
+use Rattle.ucl_follows.specs.Hearing.{FailsToHear, FailsToShow, Listener, heard, heard_text}
 
 -- ---- a text
 

@@ -1,7 +1,7 @@
 -- What the members of a value tell.
 use Rattle.std.proofs.Common.{◌≡◌, ◌∙◌, ℕ, suc, ◌+◌, ◌<◌, ◌≤◌, ◌&&◌, ◌==◌, Bool, cond, true, false, refl, sym, ap, arith, List, [], ◌∷◌, ◌++◌, codes, length, take, drop}
 use Rattle.std.proofs.Common.{get_or, append_assoc, Option, Some, None, le-leb, leb-true, inl, inr}
-use Rattle.std.specs.Prelude.{nat_le, map, option_and_then, option_map}
+use Rattle.std.specs.Prelude.{nat_le, map, option_and_then}
 use Rattle.std.specs.List.{slice_index_or}
 use Rattle.std.specs.Str.{bytes_eq, is_utf8}
 use Rattle.std.specs.Prelude.{IsUtf8}
@@ -11,9 +11,9 @@ use Rattle.ucl_follows.specs.declared.moment.Moment.{Moment}
 use Rattle.std.proofs.lemmas.Slice.Eq.{bytes_eq-Decides}
 use Rattle.std.proofs.lemmas.Bool.{cases_Bool}
 use Rattle.std.proofs.lemmas.Bool.Decides.{nat_tests}
-use Rattle.std.proofs.lemmas.List.{take-append-drop, take_all, take_more}
-use Rattle.serde_json.specs.Data.{Data, Items}
-use Rattle.serde_json.specs.View.{items_of, items_view, view}
+use Rattle.std.proofs.lemmas.List.{take-append-drop, take_more}
+use Rattle.serde_json.specs.Data.{Data}
+use Rattle.serde_json.specs.View.{items_view, view}
 use Rattle.serde_json.specs.declared.value.Value.{Value}
 use Rattle.ucl_order.specs.Roster.{NamedClub, bad_slot}
 use Rattle.ucl_board.specs.Words.{AreReadAs, IsFirstBad}

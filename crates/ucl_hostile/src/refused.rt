@@ -11,7 +11,10 @@ use ucl_board::Board;
 use ucl_order::Profile;
 use ucl_pass::{CellBoard, LiveBoard};
 use ucl_runs::{OpenGate, RunFault, feed_run, night_run, show_run};
-use ucl_screen::{FromRead, InputFault, Night, ToWrite, read_night, read_words, screen};
+use ucl_screen::{
+    FromRead, InputFault, Night, NightEvent, Sheet, ToWrite, night_of_bytes, read_night,
+    read_words, screen,
+};
 use ucl_steps::{Call, Caller, Cast, Step, StepFault, run_steps};
 use ucl_word::{EventCall, Kind, MatchNo, OutOfMemory, ReporterNo};
 use ucl_words::WordBoard;
@@ -39,18 +42,39 @@ fn text_of(alloc: Global, bytes: &[u8]) -> anyhow::Result<String> {
     Ok(String::from_str(alloc, std::str::from_utf8(bytes)?)?)
 }
 
-/// The night of a script, and the board after its rows.
-fn night_of(alloc: Global, input: &[u8]) -> anyhow::Result<(Night, Board)> {
-    let night = read_night(alloc, &mut FromRead::new(input))?;
+/// The night of a script.
+fn night_of(alloc: Global, input: &[u8]) -> anyhow::Result<Night> {
+    Ok(night_of_bytes(alloc, input)?)
+}
+
+/// The board after the rows of a script.
+fn board_after(events: &[NightEvent]) -> Board {
     let mut board = Board::fresh();
-    for event in &night.events {
+    for event in events {
         let _ = board.report(event.reporter, &event.call);
     }
-    Ok((night, board))
+    board
+}
+
+/// How many events a script has that was read.
+fn events_of(read: &Result<Night, InputFault>) -> Option<usize> {
+    match read {
+        Ok(night) => Some(night.events.len()),
+        Err(_) => None,
+    }
+}
+
+/// The board of a sheet that was read.
+fn board_of(read: &Result<Sheet, InputFault>) -> Option<Board> {
+    match read {
+        Ok(sheet) => Some(sheet.board),
+        Err(_) => None,
+    }
 }
 
 fn screens(alloc: Global, input: &[u8]) -> anyhow::Result<Outcome<OutOfMemory>> {
-    let (night, board) = night_of(alloc, input)?;
+    let night = night_of(alloc, input)?;
+    let board = board_after(&night.events);
     let words = board.words();
     begins(alloc)?;
     let first = screen(alloc, &board, &night.roster, b'A', Profile::Uefa);
@@ -68,15 +92,10 @@ fn scripts(alloc: Global, input: &[u8]) -> anyhow::Result<Outcome<InputFault>> {
     begins(alloc)?;
     let first = read_night(alloc, &mut FromRead::new(input));
     ends(alloc)?;
-    let second = read_night(alloc, &mut FromRead::new(input));
-    let night = second?;
-    let events = night.events.len();
+    let events = night_of(alloc, input)?.events.len();
+    let found = events_of(&first).unwrap_or(events);
     Ok(Outcome {
-        is_kept: lent.as_slice() == input
-            && (first.is_err()
-                || first
-                    .as_ref()
-                    .is_ok_and(|night| night.events.len() == events)),
+        is_kept: lent.as_slice() == input && found == events,
         first: first.err(),
         second: None,
         text: format!(in alloc; "{events} events\n")?,
@@ -88,11 +107,10 @@ fn sheets(alloc: Global, input: &[u8]) -> anyhow::Result<Outcome<InputFault>> {
     begins(alloc)?;
     let first = read_words(alloc, &mut FromRead::new(input));
     ends(alloc)?;
-    let second = read_words(alloc, &mut FromRead::new(input));
-    let sheet = second?;
+    let sheet = read_words(alloc, &mut FromRead::new(input))?;
+    let found = board_of(&first).unwrap_or(sheet.board);
     Ok(Outcome {
-        is_kept: lent.as_slice() == input
-            && (first.is_err() || first.as_ref().is_ok_and(|other| other.board == sheet.board)),
+        is_kept: lent.as_slice() == input && found == sheet.board,
         first: first.err(),
         second: None,
         text: screen(alloc, &sheet.board, &sheet.roster, b'A', Profile::Uefa)?,
@@ -282,12 +300,12 @@ pub fn run<R: Print + Threads + Wait + Sync>(
         Some("feed_run") => tell(rt, runs(alloc, Engine::Feed, input)?),
         Some("show_run") => tell(rt, runs(alloc, Engine::Show, input)?),
         Some("night_run") => {
-            let night = read_night(alloc, &mut FromRead::new(input))?;
+            let night = night_of(alloc, input)?;
             let (first, second) = (WordBoard::open(rt, alloc)?, WordBoard::open(rt, alloc)?);
             tell(rt, nights(rt, alloc, first, second, &night)?)
         }
         Some("night_run_in_a_cell") => {
-            let night = read_night(alloc, &mut FromRead::new(input))?;
+            let night = night_of(alloc, input)?;
             let (first, second) = (CellBoard::open(rt, alloc)?, CellBoard::open(rt, alloc)?);
             tell(rt, nights(rt, alloc, first, second, &night)?)
         }

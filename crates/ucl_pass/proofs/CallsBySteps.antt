@@ -24,7 +24,7 @@ use Rattle.ucl_board.proofs.Histories.{board_words, word_after}
 use Rattle.ucl_board.proofs.HistoryLaws.{versions}
 use Rattle.ucl_board.proofs.Beginnings.{begins_length, begins_through}
 use Rattle.ucl_shared.specs.declared.view.View.{View}
-use Rattle.ucl_shared.specs.Passes.{IsSound, Continues, AcceptedReport, RefusedReport, SharedReading, Enlistment, FullBoard, Hearing}
+use Rattle.ucl_shared.specs.Passes.{IsSound, Continues, AcceptedReport, RefusedReport, SharedReading, Enlistment, Hearing}
 use Rattle.ucl_shared.specs.Views.{pass_view_of, count_of, Takes, note_of, told_by}
 use Rattle.ucl_shared.specs.Steps.{Goes}
 use Rattle.ucl_steps.specs.declared.step.Call.TheVariants as calls

@@ -10,7 +10,7 @@ use Rattle.ucl_board.specs.History.{entry_of}
 use Rattle.ucl_board.specs.Log.{Enlisted, Taken, step_taken}
 use Rattle.ucl_board.proofs.Beginnings.{begins_same, begins_through}
 use Rattle.ucl_shared.specs.declared.view.View.{View}
-use Rattle.ucl_shared.specs.Passes.{PassView, IsSound, SeesOn, Continues, AcceptedReport, Enlistment}
+use Rattle.ucl_shared.specs.Passes.{PassView, IsSound, SeesOn, AcceptedReport, Enlistment}
 use Rattle.ucl_shared.specs.Views.{pass_view_of, count_of, Takes, kept_of, second_of, note_of, IsNote}
 use Rattle.ucl_shared.specs.Steps.{Goes}
 use Rattle.ucl_shared.specs.CallSteps.{IsOnEnlisted, EnlistSteps}

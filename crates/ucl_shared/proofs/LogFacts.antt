@@ -1,7 +1,7 @@
 -- What the rule says of a log: a board opens with none, each step is its end, and the last one has seen the whole history.
 use Rattle.std.proofs.Common.{◌≡◌, ◌≢◌, ◌⊎◌, inl, inr, ⊎_elim, ℕ, zero, suc, ◌<◌, ◌≤◌, Bool, true, false, List, [], ◌∷◌, ◌++◌, length, map, set, refl, sym, ap, ◌∙◌, subst, arith, append-nil}
 use Rattle.std.proofs.Common.{length-append}
-use Rattle.std.specs.Prelude.{All, drop, filter, Some, None, IsTrue, IsSome}
+use Rattle.std.specs.Prelude.{All, drop, Some, None, IsTrue}
 use Rattle.std.proofs.lemmas.List.{length-set, nil_from_length}
 use Rattle.std.proofs.lemmas.List.Elements.{All-head, All-cons, All-nil}
 use mathlib.Core.List.{IsPrefix}

@@ -11,7 +11,7 @@ use Rattle.ucl_board.specs.declared.entry.Entry.{Entry}
 use Rattle.ucl_board.specs.declared.reading.Reading.{Reading}
 use Rattle.ucl_board.proofs.Beginnings.{begins_length, begins_take, begins_through}
 use Rattle.ucl_shared.specs.Passes.{PassView, entries_by, IsSound, Continues, SharedReading, Meeting}
-use Rattle.ucl_shared.specs.Settling.{both_accepted, Settled, IsOfBoth}
+use Rattle.ucl_shared.specs.Settling.{AreAlone, both_accepted, Settled, IsOfBoth}
 use Rattle.ucl_shared.proofs.Lists.{by_more}
 
 pub differ : (a b : ℕ) (r : Bool) → r ≡ not (a == b) → r ≡ true → a ≢ b
@@ -132,6 +132,13 @@ module _ (a b a1 b1 d : PassView) (reading : Reading) (same : a1 ≡ a) (met : M
 
     pub of_both : n ≢ m → reading.version ≡ i + j → IsOfBoth a b (take reading.version d.seen)
     of_both apart sum = all_theirs sound (λ is. apart (numbers.1 is)) (sum ∙ sum_is)
+
+    pub alone : n ≢ m → reading.version ≡ i + j → AreAlone a b reading.version
+    alone apart sum = (λ is. apart (numbers.1 is), sum ∙ sum_is)
+
+    pub not_alone : (n ≡ m) ⊎ (reading.version ≢ i + j) → AreAlone a b reading.version → ⊥
+    not_alone (inl is) are = are.0 (numbers.0 is)
+    not_alone (inr not) are = not (are.1 ∙ sym sum_is)
 
     pub strangers : (n ≡ m) ⊎ (reading.version ≢ i + j) → a.number ≢ b.number → both_accepted a b < reading.version
     strangers (inl is) other = absurd (other (numbers.0 is))

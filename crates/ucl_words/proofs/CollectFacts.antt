@@ -11,7 +11,7 @@ use Rattle.ucl_board.specs.Words.{AreWords, greatest_version, version_of}
 use Rattle.ucl_board.specs.History.{board_of, reading_of}
 use Rattle.ucl_board.proofs.Histories.{board_words}
 use Rattle.ucl_board.proofs.HistoryLaws.{versions}
-use Rattle.ucl_board.specs.Log.{AccessKind, First, Second, Access, access}
+use Rattle.ucl_board.specs.Log.{AccessKind, Second, Access, access}
 use Rattle.ucl_steps.specs.Trails.{most_loads, IsCollect, IsUnclean, IsClean, accesses_of, ReadingAccesses}
 use Rattle.ucl_steps.specs.Laws.{IsReadFrom}
 use Rattle.ucl_steps.proofs.Accesses.{collect_none, collect_more, collect_set, unclean_try, clean_shows, reading_whole}

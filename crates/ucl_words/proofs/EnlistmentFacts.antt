@@ -8,7 +8,7 @@ use Rattle.ucl_board.specs.Log.{Access, Enlisted, Taken, step_taken, accesses_in
 use Rattle.ucl_board.proofs.Beginnings.{begins_same, begins_through}
 use Rattle.ucl_steps.specs.Trails.{Follows}
 use Rattle.ucl_shared.specs.declared.view.View.{View}
-use Rattle.ucl_shared.specs.Passes.{SeesOn, Continues, Enlistment, FullBoard, Hearing}
+use Rattle.ucl_shared.specs.Passes.{SeesOn, Continues, Enlistment, Hearing}
 use Rattle.ucl_shared.specs.Views.{pass_view_of, steps_of, count_of, trail_of, Takes, kept_of, second_of, note_of, told_by}
 use Rattle.ucl_shared.specs.CallSteps.{FoundEnlisted, IsOnEnlisted, EnlistSteps, MeetingSteps}
 use Rattle.ucl_shared.proofs.Lists.{none_by_zero}

@@ -8,6 +8,7 @@ use Rattle.ucl_shared.specs.Passes.{PassView}
 use Rattle.ucl_screen.specs.declared.night.NightEvent.{NightEvent}
 use Rattle.ucl_evening_command.specs.Earlier.{WereEntered, HasJustItsOwn}
 use Rattle.ucl_evening_command.proofs.Entering.{HaveSoFar, so_far_none, so_far_next, so_far_heard, told_next, written_back}
+use Rattle.ucl_evening_command.proofs.Stopped.{refused_there}
 use Rattle.ucl_evening_command.proofs.earlier.enter_each.Goals as goal
 
 pub loop-event-init : goal.loop-event-init
@@ -42,6 +43,23 @@ loop-event-preserved g c =
       so_far = so_far_next view _ c.args.events.now c.loop-event.event-index e passes at c.index_mut.result.now _ _ _ lt there long c.index_mut.ensures.value place
           (c.enter_one.ensures.entered c.if-not-enter_one.false) known.so_far;
     }
+
+pub returns-then-not-enter_one-clause-stopped : goal.returns-then-not-enter_one-clause-stopped
+returns-then-not-enter_one-clause-stopped g c =
+    let live = g.B.LiveBoard in
+    let known = c.loop-event.invariant in
+    let passes = c.loop-event.reporters.items in
+    let e = c.event-item.result in
+    let lt = c.loop-event-test.true in
+    let within = c.get.ensures.within in
+    let high : e.reporter ≤ vec_len c.args.reporters.now =
+    subst (λ (x : NightEvent). x.reporter ≤ vec_len c.args.reporters.now) (sym c.event-item.is)
+    (All-get_or (λ (x : NightEvent). x.reporter ≤ vec_len c.args.reporters.now) c.args.events.now c.loop-event.event-index e lt c.requires.enough) in
+    let at = c.from-at.result - 1 in
+    let row = known.row_is in
+    refused_there live c.args.board.now (live.reader c.args.pass.now).seen c.args.events.now c.loop-event.event-index c.loop-event.row e passes at c.index_mut.result.now
+    c.enter_one.new.reporter (live.reader c.loop-event.pass) lt (omega arith) c.event-item.is (omega arith) c.index_mut.ensures.value (omega arith) c.enter_one.ensures.own.1
+    (c.enter_one.ensures.refused c.if-not-enter_one.true) known.so_far
 
 pub loop-reporter-init : goal.loop-reporter-init
 loop-reporter-init g c =

@@ -1,6 +1,6 @@
-use Rattle.std.proofs.Common.{◌≡◌, ◌≢◌, ◌⊎◌, inl, inr, ◌+◌, List, [], ◌∷◌, ◌++◌, ℕ, ap, ◌∙◌, arith}
+use Rattle.std.proofs.Common.{◌≡◌, ◌≢◌, ◌⊎◌, inl, inr, ◌+◌, List, [], ◌∷◌, ◌++◌, ℕ, refl, ap, ◌∙◌, arith}
 use Rattle.ucl_shared.proofs.Lists.{unchanged}
-use Rattle.ucl_shared.proofs.SettledPasses.{through, of_both, strangers, differ, one_number}
+use Rattle.ucl_shared.proofs.SettledPasses.{through, settled, alone, of_both, strangers, differ, one_number}
 use Rattle.ucl_shared.proofs.settling.settle.Goals as goal
 use Rattle.ucl_shared.proofs.settling.settle.Goals.{else-ne-via-then-ne+else-from-accepted, else-ne-via-else-ne}
 
@@ -35,6 +35,19 @@ returns-then-from-accepted-clause-of_both g c =
     (differ c.number_of.result c.number_of-2.result c.ne.result c.ne.ensures c.if-ne.true)
     (let f1 = c.from.ensures in let f2 = c.from-2.ensures in let f3 = c.from-then-ne.ensures in let t = c.if-from-accepted.true in omega arith)
 
+pub returns-then-from-accepted-clause-exactly : goal.returns-then-from-accepted-clause-exactly
+returns-then-from-accepted-clause-exactly g c =
+    let k = g.B.LiveBoard.reporter in
+    let m = c.meet.ensures in
+    let r = c.read_own-reading.ensures in (
+      λ _. alone (k c.args.first.now) (k c.args.second.now) (k c.meet.new.first) (k c.meet.new.second) (k c.read_own-reading.new.pass) c.read_own-reading.result
+          m.unchanged m.meeting m.always r.always r.reading m.sound c.number_of.result c.number_of-2.result c.accepted_of.result c.accepted_of-2.result c.number_of.ensures c.number_of-2.ensures
+          c.accepted_of.ensures c.accepted_of-2.ensures
+          (differ c.number_of.result c.number_of-2.result c.ne.result c.ne.ensures c.if-ne.true)
+          (let f1 = c.from.ensures in let f2 = c.from-2.ensures in let f3 = c.from-then-ne.ensures in let t = c.if-from-accepted.true in omega arith),
+      λ _. refl,
+    )
+
 pub returns-else-ne-clause-strangers : goal.returns-else-ne-clause-strangers
 returns-else-ne-clause-strangers g c ne =
     let k = g.B.LiveBoard.reporter in
@@ -55,3 +68,19 @@ returns-then-from-accepted-clause-shown g c = let r = c.read_own-reading in r.en
 
 pub returns-else-ne-clause-shown : goal.returns-else-ne-clause-shown
 returns-else-ne-clause-shown g c = let r = c.read_own-reading in r.ensures.reading.shown ∙ ap (λ (shown : List ℕ). shown ++ r.result.version ∷ []) c.meet.ensures.meeting.shown
+
+pub returns-then-from-accepted-clause-settled : goal.returns-then-from-accepted-clause-settled
+returns-then-from-accepted-clause-settled g c =
+    let k = g.B.LiveBoard.reporter in
+    let m = c.meet.ensures in
+    let r = c.read_own-reading.ensures in
+    settled (k c.args.first.now) (k c.args.second.now) (k c.meet.new.first) (k c.meet.new.second) (k c.read_own-reading.new.pass) c.read_own-reading.result
+    m.unchanged m.meeting m.always r.always r.reading
+
+pub returns-else-ne-clause-settled : goal.returns-else-ne-clause-settled
+returns-else-ne-clause-settled g c =
+    let k = g.B.LiveBoard.reporter in
+    let m = c.meet.ensures in
+    let r = c.read_own-reading.ensures in
+    settled (k c.args.first.now) (k c.args.second.now) (k c.meet.new.first) (k c.meet.new.second) (k c.read_own-reading.new.pass) c.read_own-reading.result
+    m.unchanged m.meeting m.always r.always r.reading
