@@ -1,7 +1,7 @@
 """Which wrong bodies were refused, with their controls proved, on the sources as they are. A run over all of them takes hours, so each that was
 tried so is written down in checks/lists/tried, with a sum of the text that decides what such a try comes to: the crate's code, definitions and
-proofs, the code and the definitions of the crates that it stands on, the wrong body, its control, and the kit's logic. Comments and blank lines
-do not count, nor do the proofs of the crates below, for no contract depends on how a proof goes."""
+proofs, the code and the definitions of the crates that it stands on, the wrong body, its control, and the kit's logic. Comments, blank lines and
+lines `breaks:` do not count, nor do the proofs of the crates below, for no contract depends on how a proof goes."""
 
 import functools
 import hashlib
@@ -15,9 +15,9 @@ TRIED = "checks/lists/tried"
 
 
 def plain(path):
-    """The text of a file without its comments and blank lines."""
+    """The text of a file without its comments, its blank lines, and the lines that tell what a wrong body breaks."""
     lines = (line.strip() for line in path.read_text().split("\n"))
-    return "\n".join(line for line in lines if line and not line.startswith(("//", "--")))
+    return "\n".join(line for line in lines if line and not line.startswith(("//", "--", "breaks:")))
 
 
 def files_of(top, crate, parts):
@@ -44,7 +44,7 @@ def sum_of_crate(top, crate):
 def sum_of(top, edit):
     """The sum of what decides what trying a wrong body and its control comes to."""
     crate = edits.crate_of(edit)
-    both = [path.read_text() for path in (edit, top / "checks/controls" / crate / edit.name) if path.exists()]
+    both = [plain(path) for path in (edit, top / "checks/controls" / crate / edit.name) if path.exists()]
     return hashlib.sha256("\n".join([sum_of_crate(top, crate), *both]).encode()).hexdigest()[:12]
 
 
