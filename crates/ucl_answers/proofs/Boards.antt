@@ -1,24 +1,20 @@
 -- The board of an evening as that of a legal history.
-use Rattle.std.proofs.Common.{◌≡◌, ℕ, ◌+◌, ◌-◌, ◌≤◌, ◌==◌, ◌&&◌, Bool, true, false, List, [], ◌∷◌, ◌++◌, length, set, Option, Some, None, refl, sym, ap, ap₂, ◌∙◌, inl, inr, append-nil, arith}
+use Rattle.std.proofs.Common.{◌≡◌, ℕ, ◌+◌, ◌-◌, ◌≤◌, ◌==◌, ◌&&◌, Bool, true, false, List, [], ◌∷◌, ◌++◌, length, Option, Some, None, refl, sym, ap, ap₂, ◌∙◌, inl, inr, append-nil, arith}
 use Rattle.std.specs.Str.{bytes_eq}
 use Rattle.std.specs.Prelude.{All, codes, nat_le, if◌then◌else◌, Result}
 use Rattle.std.specs.List.{fold}
 use Rattle.std.proofs.lemmas.Bool.{cases_Bool}
 use Rattle.std.proofs.lemmas.Bool.Decides.{nat_tests}
-use Rattle.std.specs.Result.{is_ok}
 use Rattle.std.proofs.lemmas.List.Elements.{All-append, All-head, All-tail}
 use Rattle.ucl_word.specs.declared.event.Accepted.{Accepted}
-use Rattle.ucl_word.specs.declared.event.EventCall.{EventCall}
 use Rattle.ucl_word.specs.declared.event.Kind.{Kind}
 use Rattle.ucl_word.specs.declared.refusal.Refusal.{Refusal}
-use Rattle.ucl_word.specs.Layout.{word_of}
-use Rattle.ucl_word.specs.Rules.{after, answer as answered, refusal_of, reply_of}
-use Rattle.ucl_word.proofs.EntryCounts.{counted}
+use Rattle.ucl_word.specs.Rules.{after, reply_of}
 use Rattle.ucl_board.specs.declared.entry.Entry.{Entry}
-use Rattle.ucl_board.specs.Words.{game_at, version_of}
-use Rattle.ucl_board.specs.History.{Attempt, IsAttempt, IsLegal, after_attempt, board_after, board_of, entry_of, followed_by, match_after, sequential_reply}
+use Rattle.ucl_board.specs.Words.{game_at}
+use Rattle.ucl_board.specs.History.{Attempt, IsAttempt, IsLegal, after_attempt, board_after, board_of, sequential_reply}
 use Rattle.ucl_board.proofs.HistoryLaws.{attempt_board, attempt_legal, versions}
-use Rattle.ucl_board.proofs.Histories.{game_after, next_board as next_words, reply_is}
+use Rattle.ucl_board.proofs.Histories.{reply_is}
 use Rattle.ucl_order.specs.Roster.{NamedClub}
 use Rattle.ucl_runs.specs.Feed.{attempt_of, line_of_reply, reply_line}
 use Rattle.ucl_screen.specs.declared.night.NightEvent.{NightEvent}
@@ -32,7 +28,7 @@ use Rattle.ucl_answers.specs.declared.request.Request.{Request}
 use Rattle.ucl_answers.specs.declared.request.Request.TheVariants.{Bad, Event, Screen, Words}
 use Rattle.ucl_answers.specs.Requests.{asked_by, event_or_bad, request_of}
 use Rattle.ucl_answers.specs.Rows.{Said, Nothing, Garbled, Row, said_on}
-use Rattle.ucl_answers.specs.Stages.{Stage, Open, Restoring, is_word_row, next_board, next_stage}
+use Rattle.ucl_answers.specs.Stages.{Stage, Open, Restoring, next_board, next_stage}
 use Rattle.ucl_answers.specs.Text.{Evening, after_lines, answer_said, answer_of, answers, next, reply_answer, reply_in, screen_after}
 use Rattle.ucl_answers.specs.ByHistory.{answer_by_history, answers_by_history, attempts_in, attempts_of, attempts_on, line_by_history, reply_by_history}
 use Rattle.ucl_answers.specs.Laws.{BoardsTakeEvents, EveningsAreSequential, FirstRowsOpenTheBoard, IsOtherRow, RefusedEveningsAreSilent, RepliesAreThoseOfFeed}

@@ -10,12 +10,11 @@ use Rattle.ucl_runs.specs.Run.{is_read_failed}
 use Rattle.ucl_answers.specs.declared.stage.Stage.{Stage as Reached}
 use Rattle.ucl_answers.specs.declared.stage.Stage.TheVariants as held
 use Rattle.ucl_answers.specs.Lines.{ended_lines, last_lines}
-use Rattle.ucl_answers.specs.Requests.{request_of}
 use Rattle.ucl_answers.specs.Rows.{Said, Nothing, Garbled, Row, said_on}
 use Rattle.ucl_answers.specs.Seen.{stage_seen}
-use Rattle.ucl_answers.specs.Stages.{Stage, Naming, Restoring, Open, Refused, after_club, after_row, after_word, club_said, is_word_row, missing, next_stage, opened, restored, told_row, with_clubs}
-use Rattle.ucl_answers.specs.Stages.{with_roster, with_words, word_said}
-use Rattle.ucl_answers.specs.Stepping.{EveningIsRefused, IsOfEvening, Moment, ended_at, missing_at, moment_after}
+use Rattle.ucl_answers.specs.Stages.{Stage, Naming, Restoring, Open, Refused, after_club, after_row, after_word, club_said, is_word_row, missing, next_stage, opened, restored, told_row}
+use Rattle.ucl_answers.specs.Stages.{with_roster, word_said}
+use Rattle.ucl_answers.specs.Stepping.{IsOfEvening, Moment}
 use Rattle.ucl_answers.specs.Taking.{FailsToEnd, FailsToGive}
 use Rattle.ucl_answers.specs.Text.{Evening, after_lines, next}
 use Rattle.ucl_screen.specs.WordsRead.{read_words}

@@ -71,11 +71,15 @@ none (a ∷ b ∷ c ∷ d ∷ e ∷ fields) h = refl
 pub four-none : (ends bytes : List ℕ) → length ends ≢ 4 → four_of (cut_from 0 ends bytes) ≡ None
 four-none ends bytes h = none (cut_from 0 ends bytes) (λ e. h (sym (cut-length 0 ends bytes) ∙ e))
 
+-- a field from one place to another lies within the bytes
+abbrev Lies : List ℕ → ℕ → ℕ → Type 0
+Lies bytes start end = (start ≤ end) × (end ≤ length bytes)
+
 pub record FourEnds (ends bytes : List ℕ) : Type 0 where
-  pub first : get_or ends 0 0 ≤ get_or ends 1 0
-  pub second : get_or ends 1 0 ≤ get_or ends 2 0
-  pub third : get_or ends 2 0 ≤ get_or ends 3 0
-  pub fourth : get_or ends 3 0 ≤ length bytes
+  pub first : Lies bytes 0 (get_or ends 0 0)
+  pub second : Lies bytes (get_or ends 0 0) (get_or ends 1 0)
+  pub third : Lies bytes (get_or ends 1 0) (get_or ends 2 0)
+  pub fourth : Lies bytes (get_or ends 2 0) (get_or ends 3 0)
   pub fields : four_of (cut_from 0 ends bytes) ≡ Some (record {
     first = take (get_or ends 0 0 - 0) (drop 0 bytes);
     second = take (get_or ends 1 0 - get_or ends 0 0) (drop (get_or ends 0 0) bytes);
@@ -85,7 +89,11 @@ pub record FourEnds (ends bytes : List ℕ) : Type 0 where
 
 pub four-ends : (ends bytes : List ℕ) → length ends ≡ 4 → Rising 0 ends (length bytes) → FourEnds ends bytes
 unfolding Rising cut_from
-four-ends (a ∷ b ∷ c ∷ d ∷ []) bytes n r = record { first = r.1.0; second = r.1.1.0; third = r.1.1.1.0; fourth = r.1.1.1.1; fields = refl }
+four-ends (a ∷ b ∷ c ∷ d ∷ []) bytes n r =
+    let c-within : c ≤ length bytes = omega (arith, r.1.1.1.0, r.1.1.1.1) in
+    let b-within : b ≤ length bytes = omega (arith, r.1.1.0, c-within) in
+    let a-within : a ≤ length bytes = omega (arith, r.1.0, b-within) in
+    record { first = (omega arith, a-within); second = (r.1.0, b-within); third = (r.1.1.0, c-within); fourth = (r.1.1.1.0, r.1.1.1.1); fields = refl }
 four-ends [] bytes n r = absurd (omega arith)
 four-ends (a ∷ []) bytes n r = absurd (omega arith)
 four-ends (a ∷ b ∷ []) bytes n r = absurd (omega arith)

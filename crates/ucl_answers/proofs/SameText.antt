@@ -1,6 +1,6 @@
 -- An evening in JSON says what it says as text.
 use Rattle.std.proofs.Common.{◌≡◌, ◌∙◌, ℕ, ◌+◌, ◌==◌, Bool, true, false, List, [], ◌∷◌, ◌++◌, length, Option, Some, None, refl, sym, ap, inl, inr, append_assoc, append-nil, arith}
-use Rattle.std.specs.Prelude.{⊤, All, flat_map, if◌then◌else◌, Result, Ok, Err}
+use Rattle.std.specs.Prelude.{⊤, if◌then◌else◌, Result, Ok, Err}
 use Rattle.std.specs.Result.{is_ok}
 use Rattle.std.proofs.lemmas.Bool.{cases_Bool}
 use Rattle.std.proofs.lemmas.Bool.Decides.{nat_tests}
@@ -11,7 +11,7 @@ use Rattle.ucl_word.specs.declared.event.Accepted.{Accepted}
 use Rattle.ucl_word.specs.declared.refusal.Refusal.{Refusal}
 use Rattle.ucl_word.specs.Rules.{refusal_of, reply_of}
 use Rattle.ucl_board.specs.Words.{AreWords, game_at, version_of}
-use Rattle.ucl_board.specs.History.{Attempt, IsAttempt, board_after, board_of}
+use Rattle.ucl_board.specs.History.{IsAttempt, board_of}
 use Rattle.ucl_board.proofs.Repeats.{no_refusal}
 use Rattle.ucl_order.specs.Roster.{NamedClub, bad_slot}
 use Rattle.ucl_runs.specs.Feed.{attempt_of, line_of_reply, word_lines}
@@ -26,13 +26,12 @@ use Rattle.ucl_answers.specs.declared.options.Format.TheVariants.{Json}
 use Rattle.ucl_answers.specs.declared.options.Options.{Options}
 use Rattle.ucl_answers.specs.declared.request.Request.{Request}
 use Rattle.ucl_answers.specs.declared.request.Request.TheVariants.{Bad, Event, Screen, Words}
-use Rattle.ucl_answers.specs.ByHistory.{attempts_of}
 use Rattle.ucl_answers.specs.Lines.{lines_of}
 use Rattle.ucl_answers.specs.Members.{text_told, texts_told}
 use Rattle.ucl_answers.specs.Requests.{request_of}
 use Rattle.ucl_answers.specs.Rows.{Said, Nothing, Garbled, Row, said_on}
 use Rattle.ucl_answers.specs.Stages.{Stage, Naming, Restoring, Open, Refused}
-use Rattle.ucl_answers.specs.Stages.{after_club, after_row, after_word, club_said, is_word_row, next_board, next_stage, opened, restored, with_clubs, with_roster, with_words, word_said}
+use Rattle.ucl_answers.specs.Stages.{after_club, after_row, after_word, club_said, is_word_row, next_board, next_stage, opened, restored, with_roster, with_words, word_said}
 use Rattle.ucl_answers.specs.Text.{Evening, answer_at, answer_of, answer_said, answers, bad_line, next, reply_answer, screen_after, screen_answer, start_of}
 use Rattle.ucl_answers.specs.Laws.{AreLinesSaying, EveningsSayTheSame, RaisesVersion, as_text}
 use Rattle.ucl_answers.proofs.Boards.{AreAttempts, asked}

@@ -1,13 +1,13 @@
 -- The members of an answer in JSON say what it says as text.
-use Rattle.std.proofs.Common.{◌≡◌, ℕ, zero, suc, ◌+◌, ◌-◌, ◌≤◌, ◌<◌, ℤ, pos, negsuc, ◌-ℤ◌, Bool, true, false, List, [], ◌∷◌, ◌++◌, codes, Option, Some, None}
+use Rattle.std.proofs.Common.{◌≡◌, ℕ, zero, suc, ◌+◌, ◌-◌, ◌≤◌, ◌<◌, ℤ, pos, negsuc, ◌-ℤ◌, Bool, true, false, List, [], ◌∷◌, ◌++◌, codes, Some}
 use Rattle.std.proofs.Common.{refl, sym, ap, ◌∙◌, append-nil, arith, cond, le-leb, ltb}
-use Rattle.std.specs.Prelude.{Result, Ok, Err, decimal, flat_map, option_and_then}
+use Rattle.std.specs.Prelude.{Result, Ok, Err, decimal, flat_map}
 use Rattle.std.proofs.lemmas.Fmt.{decimal_digit}
 use Rattle.std.proofs.lemmas.List.{append_assoc}
 use Rattle.itoa.proofs.Decimal.{decimal_two, pair}
 use Rattle.std.proofs.lemmas.Bool.{lt-leb, ltb-false, ltb-true}
-use Rattle.serde_json.specs.Data.{Data, Items, number}
-use Rattle.serde_json.specs.Find.{as_integer, as_number, of_integer}
+use Rattle.serde_json.specs.Data.{number}
+use Rattle.serde_json.specs.Find.{as_integer, of_integer}
 use Rattle.serde_json.proofs.OnLiterals.{serde_json_on_literals}
 use Rattle.ucl_word.specs.declared.event.Accepted.{Accepted}
 use Rattle.ucl_word.specs.declared.refusal.Refusal.{Refusal}
@@ -17,16 +17,16 @@ use Rattle.ucl_order.specs.declared.mark.Mark.{Mark}
 use Rattle.ucl_order.specs.declared.mark.Mark.TheVariants.{Plus, Minus, Blank}
 use Rattle.ucl_order.specs.declared.profile.Profile.{Profile}
 use Rattle.ucl_order.specs.declared.table.Row.{Row}
-use Rattle.ucl_order.specs.Roster.{NamedClub, name_of}
+use Rattle.ucl_order.specs.Roster.{NamedClub}
 use Rattle.ucl_order.specs.Rows.{rows_of}
 use Rattle.ucl_runs.specs.Feed.{line_of_reply, word_lines}
-use Rattle.ucl_runs.specs.Lines.{accepted_line, hex_digits}
+use Rattle.ucl_runs.specs.Lines.{accepted_line}
 use Rattle.ucl_screen.specs.Lines.{difference_text, mark_text, place_line}
-use Rattle.ucl_screen.specs.Screen.{in_play, row_line, screen_text}
+use Rattle.ucl_screen.specs.Screen.{row_line, screen_text}
 use Rattle.ucl_json.specs.Values.{accepted_value, bad_row_value, coded_value, mark_name, place_items, place_value, refused_value, reply_value, screen_value, stale_value, word_items, words_value}
 use Rattle.ucl_answers.specs.Members.{mark_column, place_line_of, place_lines_of, signed_text, text_told, word_lines_of}
 use Rattle.ucl_answers.specs.Text.{bad_line}
-use Rattle.ucl_answers.specs.Laws.{JsonSaysTheSame, RaisesVersion, SaysTheSame}
+use Rattle.ucl_answers.specs.Laws.{JsonSaysTheSame, RaisesVersion}
 
 -- ---- replies
 

@@ -1,9 +1,9 @@
 -- Accepted events that are entered again, and boards that go on from a history.
-use Rattle.std.proofs.Common.{◌≡◌, ◌≢◌, ℕ, ◌+◌, ◌≤◌, true, false, ◌==◌, not, List, [], ◌∷◌, ◌++◌, length, Option, Some, None, Err, refl, sym, ap, ◌∙◌, subst, arith, ne_eqb, true≢false}
+use Rattle.std.proofs.Common.{◌≡◌, ◌≢◌, ℕ, ◌+◌, ◌≤◌, true, false, ◌==◌, not, List, [], ◌∷◌, ◌++◌, length, Option, Some, None, refl, sym, ap, ◌∙◌, arith, ne_eqb, true≢false}
 use Rattle.std.specs.List.{fold, All}
 use Rattle.std.specs.Result.{is_ok}
 use Rattle.std.proofs.lemmas.Bool.Decides.{nat_tests}
-use Rattle.std.proofs.lemmas.List.Elements.{All-head, All-tail}
+use Rattle.std.proofs.lemmas.List.Elements.{All-head}
 use mathlib.Core.Logic.{dite}
 use mathlib.Core.List.{IsPrefix}
 use native.Mathlib.Decide.{ℕ_discrete}
@@ -15,11 +15,11 @@ use Rattle.ucl_word.specs.Rules.{refusal_of, answer}
 use Rattle.ucl_word.proofs.EntryCounts.{number_of_count}
 use Rattle.ucl_word.proofs.AcceptedEvents.{accepts}
 use Rattle.ucl_board.specs.declared.entry.Entry.{Entry}
-use Rattle.ucl_board.specs.History.{entries_of, match_after, board_of, IsLegal, followed_by, sequential_reply, Attempt, IsAttempt, entry_of, after_attempt, board_after}
-use Rattle.ucl_board.specs.Laws.{IsStaleAgain, AcceptedEventsGoStale, RepeatsChangeNothing, IsGoneOn, BoardsGoOn}
+use Rattle.ucl_board.specs.History.{entries_of, match_after, board_of, IsLegal, followed_by, Attempt, IsAttempt, entry_of, after_attempt, board_after}
+use Rattle.ucl_board.specs.Laws.{IsStaleAgain, AcceptedEventsGoStale, RepeatsChangeNothing, BoardsGoOn}
 use Rattle.ucl_board.proofs.Beginnings.{begins_same, begins_more, begins_through}
-use Rattle.ucl_board.proofs.Histories.{entries_same, entries_else}
-use Rattle.ucl_board.proofs.HistoryLaws.{attempt_board, attempt_legal, attempts_from, more}
+use Rattle.ucl_board.proofs.Histories.{entries_else}
+use Rattle.ucl_board.proofs.HistoryLaws.{attempt_board, attempts_from, more}
 
 entries_grow : (game : ℕ) (h : List Entry) (e : Entry) → length (entries_of game h) ≤ length (entries_of game (followed_by h e))
 entries_grow game h e = dite (ℕ_discrete e.game game)

@@ -158,6 +158,21 @@ within_later m n r e h = record {
   discipline = omega arith;
 }
 
+-- nothing is within no match
+pub none_within : (r : Results) → r ≡ results_of 1 [] → IsWithin 0 r
+unfolding results_of
+none_within r is = rw is (record {
+  played = omega arith;
+  wins = omega arith;
+  draws = omega arith;
+  losses = omega arith;
+  goals_for = omega arith;
+  goals_against = omega arith;
+  away_goals = omega arith;
+  away_wins = omega arith;
+  discipline = omega arith;
+})
+
 -- What is read off such results. --
 
 pub row_of_results : (place slot : ℕ) (mark : Mark) (ms : List Match) (r : Results) (p : ℕ) → r ≡ results_of slot ms → p ≡ points_for r.wins r.draws →

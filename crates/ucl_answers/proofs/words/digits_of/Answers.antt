@@ -1,4 +1,4 @@
-use Rattle.std.proofs.Common.{◌≡◌, ◌-◌, ◌^◌, ◌<◌, ◌≤◌, ◌∙◌, length, set, refl, arith, length-set}
+use Rattle.std.proofs.Common.{◌≡◌, ◌-◌, ◌^◌, ◌<◌, ◌≤◌, ◌∙◌, length, refl, arith, length-set}
 use Rattle.ucl_answers.proofs.WordDigits.{digits-end, digits-step}
 use Rattle.ucl_answers.proofs.words.digits_of.Goals as goal
 

@@ -1,4 +1,4 @@
-use Rattle.std.proofs.Common.{arith, sym}
+use Rattle.std.proofs.Common.{sym}
 use Rattle.ucl_answers.proofs.RowEnds.{four-ends, four-none}
 use Rattle.ucl_answers.proofs.row.Fields.four.Goals as goal
 
@@ -7,35 +7,23 @@ returns-then-ends-ne4 c = sym (four-none c.args.self.now.ends.items c.args.self.
 
 pub part-requires : goal.part-requires
 part-requires c =
-    let f = four-ends c.args.self.now.ends.items c.args.self.now.bytes.items (rw c.as_slice-ends.ensures.value at c.if-ends-ne4.false) c.requires in
-    let a = f.first in
-    let b = f.second in
-    let d = f.third in
-    let e = f.fourth in rw (c.as_slice-ends.ensures.value, c.as_slice-bytes.ensures.value) (omega arith, omega arith)
+    rw (c.as_slice-ends.ensures.value, c.as_slice-bytes.ensures.value)
+    (four-ends c.args.self.now.ends.items c.args.self.now.bytes.items (rw c.as_slice-ends.ensures.value at c.if-ends-ne4.false) c.requires).first
 
 pub part-requires-2 : goal.part-requires-2
 part-requires-2 c =
-    let f = four-ends c.args.self.now.ends.items c.args.self.now.bytes.items (rw c.as_slice-ends.ensures.value at c.if-ends-ne4.false) c.requires in
-    let a = f.first in
-    let b = f.second in
-    let d = f.third in
-    let e = f.fourth in rw (c.as_slice-ends.ensures.value, c.as_slice-bytes.ensures.value) (omega arith, omega arith)
+    rw (c.as_slice-ends.ensures.value, c.as_slice-bytes.ensures.value)
+    (four-ends c.args.self.now.ends.items c.args.self.now.bytes.items (rw c.as_slice-ends.ensures.value at c.if-ends-ne4.false) c.requires).second
 
 pub part-requires-3 : goal.part-requires-3
 part-requires-3 c =
-    let f = four-ends c.args.self.now.ends.items c.args.self.now.bytes.items (rw c.as_slice-ends.ensures.value at c.if-ends-ne4.false) c.requires in
-    let a = f.first in
-    let b = f.second in
-    let d = f.third in
-    let e = f.fourth in rw (c.as_slice-ends.ensures.value, c.as_slice-bytes.ensures.value) (omega arith, omega arith)
+    rw (c.as_slice-ends.ensures.value, c.as_slice-bytes.ensures.value)
+    (four-ends c.args.self.now.ends.items c.args.self.now.bytes.items (rw c.as_slice-ends.ensures.value at c.if-ends-ne4.false) c.requires).third
 
 pub part-requires-4 : goal.part-requires-4
 part-requires-4 c =
-    let f = four-ends c.args.self.now.ends.items c.args.self.now.bytes.items (rw c.as_slice-ends.ensures.value at c.if-ends-ne4.false) c.requires in
-    let a = f.first in
-    let b = f.second in
-    let d = f.third in
-    let e = f.fourth in rw (c.as_slice-ends.ensures.value, c.as_slice-bytes.ensures.value) (omega arith, omega arith)
+    rw (c.as_slice-ends.ensures.value, c.as_slice-bytes.ensures.value)
+    (four-ends c.args.self.now.ends.items c.args.self.now.bytes.items (rw c.as_slice-ends.ensures.value at c.if-ends-ne4.false) c.requires).fourth
 
 pub returns : goal.returns
 returns c =

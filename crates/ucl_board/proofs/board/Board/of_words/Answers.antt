@@ -2,7 +2,6 @@ use Rattle.std.proofs.Common.{refl, ap, ◌∙◌, arith, Ok}
 use Rattle.std.proofs.lemmas.List.{length-set}
 use Rattle.ucl_board.proofs.ReadWords.{next_read, are_read, are_words, are_readable, are_kept}
 use Rattle.ucl_board.proofs.board.Board.of_words.Goals as goal
-use Rattle.ucl_board.proofs.board.Board.of_words.Goals.{After-loop-i}
 
 pub loop-i-preserved : goal.loop-i-preserved
 loop-i-preserved c = (

@@ -1,7 +1,7 @@
 use Rattle.std.proofs.Common.{◌+◌, ◌∙◌, ap, sym, subst, take, arith, All}
 use Rattle.ucl_order.specs.Code.Counting.{IsWithin}
 use Rattle.ucl_order.specs.Code.Rounds.{level_matches, results_of_clubs}
-use Rattle.ucl_order.proofs.OneMatchMore.{results_none, within_later}
+use Rattle.ucl_order.proofs.OneMatchMore.{none_within, results_none, within_later}
 use Rattle.ucl_order.proofs.GatheredResults.{nothing_done, nothing_within}
 use Rattle.ucl_order.proofs.LevelMatches.{level_more, level_same}
 use Rattle.ucl_order.proofs.results.Results.of_level.Goals as goal
@@ -10,18 +10,7 @@ use Rattle.ucl_order.proofs.results.Results.of_level.Goals.{then-is_level, else-
 pub loop-game-init : goal.loop-game-init
 loop-game-init c = record {
   are = nothing_done _ (sym (results_none 1));
-  within =
-      nothing_within _ (record {
-        played = omega arith;
-        wins = omega arith;
-        draws = omega arith;
-        losses = omega arith;
-        goals_for = omega arith;
-        goals_against = omega arith;
-        away_goals = omega arith;
-        away_wins = omega arith;
-        discipline = omega arith;
-      });
+  within = nothing_within _ (none_within _ (sym (results_none 1)));
 }
 
 pub add_match-requires-clause-few : goal.add_match-requires-clause-few
