@@ -1,6 +1,6 @@
 //! Text that is gathered before it is given to a sink.
 
-ghost use Rattle.std.specs.Prelude.{◌≡◌, ◌+◌, ◌-◌, ◌^◌, ◌≤◌, [], ◌++◌, min, length, IfErr, IfOk, OnOk};
+ghost use Rattle.std.specs.Prelude.{◌≡◌, ◌≤◌, [], ◌++◌, length, IfErr, IfOk, OnOk};
 ghost use Rattle.std.specs.Io.KnownBytes.{Appends};
 ghost use Rattle.ucl_screen.specs.Stream.{VainlyGives};
 ghost use Rattle.ucl_runs.specs.Run.{IsStopped};
@@ -8,8 +8,8 @@ ghost use Rattle.ucl_answers.specs.Output.{HasPut};
 
 use arrayvec::ArrayVec;
 use std::marker::Model;
-use ucl_runs::RunFault;
-use ucl_screen::{Sink, give_all};
+use ucl_runs::{RunFault, put_bytes};
+use ucl_screen::Sink;
 
 /// How many bytes are gathered.
 const PAGE: usize = 4096;
@@ -27,23 +27,6 @@ impl Model for Page {
     ghost Value = { Waiting };
 
     ghost view = { λ p. record { held = p.held.items; out = p.out } };
-}
-
-/// Gives a text to the sink after so many bytes, and says how many are out then.
-fn give<W: Sink>(before: usize, sink: &mut W, text: &[u8]) -> Result<usize, RunFault>
-    ensures all { OnOk result (Appends (W.taken sink.old) (W.taken sink.new) text.now) }
-    ensures count { IfOk result (λ after. after ≡ min (before + length text.now) (2 ^ 64 - 1)) }
-    ensures stopped { IfErr result
-        (IsStopped before (W.failed sink.new) (W.taken sink.old) (W.taken sink.new) text.now) }
-    ensures sound { OnOk result (W.failed sink.new ≡ W.failed sink.old) }
-    ensures vain { VainlyGives (W.in_vain sink.old) (W.in_vain sink.new) result }
-{
-    match give_all(sink, text) {
-        Ok(()) => Ok(before.saturating_add(text.len())),
-        Err(more) => Err(RunFault::WriteFailed {
-            written: before.saturating_add(more),
-        }),
-    }
 }
 
 impl Page {
@@ -75,7 +58,7 @@ impl Page {
         ensures sound { OnOk result (W.failed sink.new ≡ W.failed sink.old) }
         ensures vain { VainlyGives (W.in_vain sink.old) (W.in_vain sink.new) result }
     {
-        self.out = give(self.out, sink, self.held.as_slice())?;
+        self.out = put_bytes(sink, self.out, self.held.as_slice())?;
         self.held.clear();
         Ok(())
     }
@@ -96,7 +79,7 @@ impl Page {
             Err(_) => {}
         }
         self.flush(sink)?;
-        self.out = give(self.out, sink, text)?;
+        self.out = put_bytes(sink, self.out, text)?;
         Ok(())
     }
 

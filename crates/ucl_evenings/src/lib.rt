@@ -3,7 +3,6 @@
 #![tactic(auto)]
 
 mod answer;
-mod give;
 mod ring;
 mod rows;
 mod show;

@@ -10,14 +10,13 @@ ghost use Rattle.ucl_evenings.specs.Reporting.{RangFor};
 ghost use Rattle.ucl_evenings.specs.Rows.{AreAnswered, FailsToAnswer};
 
 use crate::answer::went_line;
-use crate::give::give;
 use crate::ring::Ring;
 use crate::typed::{Typed, typed_on};
 use crate::went::enter;
 use arrayvec::ArrayVec;
 use std::sync::Wait;
 use ucl_answers::{MOST_LINE_BYTES, bad_line};
-use ucl_runs::RunFault;
+use ucl_runs::{RunFault, put_bytes};
 use ucl_screen::Sink;
 use ucl_shared::LiveBoard;
 
@@ -51,11 +50,11 @@ fn answer_line<B: LiveBoard, R: Wait, W: Sink, V: Ring>(
 {
     match typed_on(line) {
         Typed::Nothing => Ok(before),
-        Typed::Bad => give(before, sink, bad_line(row).as_str().as_bytes()),
+        Typed::Bad => put_bytes(sink, before, bad_line(row).as_str().as_bytes()),
         Typed::Event(call) => {
             let went = enter(rt, board, pass, &call, bells);
             let answer = went_line(row, call.game.get(), went);
-            give(before, sink, answer.as_str().as_bytes())
+            put_bytes(sink, before, answer.as_str().as_bytes())
         }
     }
 }

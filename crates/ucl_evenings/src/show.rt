@@ -7,7 +7,6 @@ ghost use Rattle.ucl_answers.specs.Output.{SinkFails};
 ghost use Rattle.ucl_answers.specs.Text.{screen_answer};
 ghost use Rattle.ucl_evenings.specs.Showing.{AreFew, EndWasTold, GaveNotes, GoesOnOrStays, FailsToShowReading, HasShownReading, OnlyGives, ShowsBoards, ShowsFurther, ends_by, no_screen};
 
-use crate::give::give;
 use std::alloc::Global;
 use std::marker::Model;
 use std::sync::Wait;
@@ -15,7 +14,7 @@ use ucl_answers::{Format, Options};
 use ucl_board::{Board, Reading};
 use ucl_json::screen_json;
 use ucl_order::Roster;
-use ucl_runs::RunFault;
+use ucl_runs::{RunFault, put_bytes};
 use ucl_screen::{Sink, screen};
 use ucl_shared::LiveBoard;
 
@@ -121,7 +120,7 @@ impl Screens {
             return Ok(());
         }
         let text = screen_of(alloc, options, roster, self.number, &reading.board)?;
-        self.written = give(self.written, sink, text.as_str().as_bytes())?;
+        self.written = put_bytes(sink, self.written, text.as_str().as_bytes())?;
         self.next = version + 1;
         self.number += 1;
         Ok(())

@@ -21,7 +21,7 @@ pub use feed::feed_run;
 pub use gate::{Gate, OpenGate};
 pub use laws::schedule_does_not_matter;
 pub use night::{NightEnd, night_run, put_night};
-pub use output::put_text;
+pub use output::{put_bytes, put_text};
 pub use show::show_run;
 pub use telling::tell;
 pub use telling_screens::{ToldScreen, report_and_show};

@@ -23,18 +23,22 @@ pub fn put_text<W: Sink>(sink: &mut W, text: &str) -> Result<(), RunFault>
     }
 }
 
-/// Writes a part of an output after so many bytes, and tells how many bytes are out then. A number past `usize::MAX` is told as
-/// that.
-pub fn put_part<W: Sink>(sink: &mut W, before: usize, part: &str) -> Result<usize, RunFault>
-    ensures all { OnOk result (Appends (W.taken sink.old) (W.taken sink.new) part.now) }
-    ensures count { IfOk result (λ after. after ≡ min (before + length part.now) (2 ^ 64 - 1)) }
+/// Writes bytes of an output after so many, and tells how many are out then. A number past `usize::MAX` is told as that. A sink that has
+/// failed is not called again, and none is called with nothing.
+///
+/// # Errors
+///
+/// `WriteFailed`, only where the sink has failed: with how many bytes of the output are out, those before among them.
+pub fn put_bytes<W: Sink>(sink: &mut W, before: usize, bytes: &[u8]) -> Result<usize, RunFault>
+    ensures all { OnOk result (Appends (W.taken sink.old) (W.taken sink.new) bytes.now) }
+    ensures count { IfOk result (λ after. after ≡ min (before + length bytes.now) (2 ^ 64 - 1)) }
     ensures part { IfErr result (IsStopped before (W.failed sink.new) (W.taken sink.old)
-        (W.taken sink.new) part.now) }
+        (W.taken sink.new) bytes.now) }
     ensures sound { OnOk result (W.failed sink.new ≡ W.failed sink.old) }
     ensures vain { VainlyGives (W.in_vain sink.old) (W.in_vain sink.new) result }
 {
-    match give_all(sink, part.as_bytes()) {
-        Ok(()) => Ok(before.saturating_add(part.len())),
+    match give_all(sink, bytes) {
+        Ok(()) => Ok(before.saturating_add(bytes.len())),
         Err(more) => Err(RunFault::WriteFailed {
             written: before.saturating_add(more),
         }),
@@ -59,8 +63,8 @@ pub fn put_under<W: Sink>(
     ensures sound { OnOk result (W.failed sink.new ≡ W.failed sink.old) }
     ensures vain { VainlyGives (W.in_vain sink.old) (W.in_vain sink.new) result }
 {
-    let before = put_part(sink, before, heading)?;
-    put_part(sink, before, text)
+    let before = put_bytes(sink, before, heading.as_bytes())?;
+    put_bytes(sink, before, text.as_bytes())
 }
 
 /// Writes a line of three parts.

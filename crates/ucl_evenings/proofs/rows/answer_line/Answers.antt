@@ -22,12 +22,12 @@ returns-in-Bad-clause-answered g c =
     let k = g.B.LiveBoard.reporter c.args.pass.now in
     let b = g.B.LiveBoard.has_reported c.args.pass.now in
     let text = c.as_bytes.ensures.value ∙ (c.as_str.ensures.value ∙ c.bad_line.ensures) in
-    let all = rw text at c.give.ensures.all in
-    let count = rw text at c.give.ensures.count in
-    if-both c.give.result _ _ _ (λ after told given. (
+    let all = rw text at c.put_bytes.ensures.all in
+    let count = rw text at c.put_bytes.ensures.count in
+    if-both c.put_bytes.result _ _ _ (λ after told given. (
       [],
       line_answered k k b b c.args.row c.args.line.now Bad (sym c.typed_on.ensures ∙ c.in-Bad.is) [] (rows_none k c.requires.sound) (reports_none b)
-          c.args.before after (g.W.Sink.taken c.args.sink.now) (g.W.Sink.taken c.give.new.sink) given told,
+          c.args.before after (g.W.Sink.taken c.args.sink.now) (g.W.Sink.taken c.put_bytes.new.sink) given told,
     )) count all
 
 pub returns-in-Bad-clause-fails : goal.returns-in-Bad-clause-fails
@@ -35,10 +35,10 @@ returns-in-Bad-clause-fails g c =
     let k = g.B.LiveBoard.reporter c.args.pass.now in
     let b = g.B.LiveBoard.has_reported c.args.pass.now in
     let text = c.as_bytes.ensures.value ∙ (c.as_str.ensures.value ∙ c.bad_line.ensures) in
-    let stopped = rw text at c.give.ensures.stopped in
-    if-err c.give.result _ _ (λ f s.
+    let stopped = rw text at c.put_bytes.ensures.part in
+    if-err c.put_bytes.result _ _ (λ f s.
     line_stopped k k b b c.args.row c.args.line.now Bad (sym c.typed_on.ensures ∙ c.in-Bad.is) [] (rows_none k c.requires.sound) (reports_none b)
-    c.args.before (g.W.Sink.failed c.give.new.sink) (g.W.Sink.taken c.args.sink.now) (g.W.Sink.taken c.give.new.sink) f s) stopped
+    c.args.before (g.W.Sink.failed c.put_bytes.new.sink) (g.W.Sink.taken c.args.sink.now) (g.W.Sink.taken c.put_bytes.new.sink) f s) stopped
 
 pub returns-in-Event-clause-answered : goal.returns-in-Event-clause-answered
 returns-in-Event-clause-answered g c =
@@ -48,12 +48,12 @@ returns-in-Event-clause-answered g c =
     let d = g.B.LiveBoard.has_reported c.enter-went.new.pass in
     let went = c.enter-went.result in
     let text = rw c.get.ensures.value at (c.as_bytes-in-Event.ensures.value ∙ (c.as_str-in-Event.ensures.value ∙ c.went_line-answer.ensures)) in
-    let all = rw text at c.give-in-Event.ensures.all in
-    let count = rw text at c.give-in-Event.ensures.count in
-    if-both c.give-in-Event.result _ _ _ (λ after told given. (
+    let all = rw text at c.put_bytes-in-Event.ensures.all in
+    let count = rw text at c.put_bytes-in-Event.ensures.count in
+    if-both c.put_bytes-in-Event.result _ _ _ (λ after told given. (
       went ∷ [],
       line_answered k m b d c.args.row c.args.line.now (Event c.in-Event.call) (sym c.typed_on.ensures ∙ c.in-Event.is) (went ∷ []) c.enter-went.ensures.went c.enter-went.ensures.reported
-          c.args.before after (g.W.Sink.taken c.args.sink.now) (g.W.Sink.taken c.give-in-Event.new.sink) given told,
+          c.args.before after (g.W.Sink.taken c.args.sink.now) (g.W.Sink.taken c.put_bytes-in-Event.new.sink) given told,
     )) count all
 
 pub returns-in-Event-clause-fails : goal.returns-in-Event-clause-fails
@@ -64,7 +64,7 @@ returns-in-Event-clause-fails g c =
     let d = g.B.LiveBoard.has_reported c.enter-went.new.pass in
     let went = c.enter-went.result in
     let text = rw c.get.ensures.value at (c.as_bytes-in-Event.ensures.value ∙ (c.as_str-in-Event.ensures.value ∙ c.went_line-answer.ensures)) in
-    let stopped = rw text at c.give-in-Event.ensures.stopped in
-    if-err c.give-in-Event.result _ _ (λ f s.
+    let stopped = rw text at c.put_bytes-in-Event.ensures.part in
+    if-err c.put_bytes-in-Event.result _ _ (λ f s.
     line_stopped k m b d c.args.row c.args.line.now (Event c.in-Event.call) (sym c.typed_on.ensures ∙ c.in-Event.is) (went ∷ []) c.enter-went.ensures.went c.enter-went.ensures.reported
-    c.args.before (g.W.Sink.failed c.give-in-Event.new.sink) (g.W.Sink.taken c.args.sink.now) (g.W.Sink.taken c.give-in-Event.new.sink) f s) stopped
+    c.args.before (g.W.Sink.failed c.put_bytes-in-Event.new.sink) (g.W.Sink.taken c.args.sink.now) (g.W.Sink.taken c.put_bytes-in-Event.new.sink) f s) stopped

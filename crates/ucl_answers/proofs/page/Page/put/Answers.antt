@@ -11,7 +11,7 @@ returns-in_err-self-inside-clause-stopped g c =
     let x = g.W.Sink.taken c.args.sink.now in
     let y = g.W.Sink.taken c.flush.new.sink in
     let put = subst (λ (w : Waiting). HasPut w c.flush.new.self x y []) c.self.view_is (rw c.in-Err.ensures.err at c.in_ok-flush.ensures.put) in
-    rw (p.1, p.2) (put_stopped c.args.self.now c.flush.new.self _ x y _ [] c.args.text.now _ put (rw (c.in_ok-flush.ensures.empty, ← out) c.in_err-self-inside.ensures.stopped))
+    rw (p.1, p.2) (put_stopped c.args.self.now c.flush.new.self _ x y _ [] c.args.text.now _ put (rw (c.in_ok-flush.ensures.empty, ← out) c.in_err-self-inside.ensures.part))
 
 pub returns-clause-put : goal.returns-clause-put
 returns-clause-put g c =
@@ -19,7 +19,7 @@ returns-clause-put g c =
     let held = ap (λ (x : Waiting). x.held) c.self-2.view_is in
     let x = g.W.Sink.taken c.args.sink.now in
     let y = g.W.Sink.taken c.flush.new.sink in
-    let z = g.W.Sink.taken c.give.new.sink in
+    let z = g.W.Sink.taken c.put_bytes.new.sink in
     let put = subst (λ (w : Waiting). HasPut w c.flush.new.self x y []) c.self.view_is (rw c.in-Err.ensures.err at c.in_ok-flush.ensures.put) in
     put_then c.args.self.now c.flush.new.self _ x y z [] c.args.text.now put
     (put_given c.flush.new.self _ y z c.args.text.now c.in_ok-flush.ensures.empty held c.in_ok-self-inside.ensures.all (rw (← out) c.in_ok-self-inside.ensures.count))
