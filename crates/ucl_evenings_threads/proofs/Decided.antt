@@ -1,15 +1,15 @@
 -- Where each match has one reporter: an evening's board goes by the rows of its reporters.
-use Rattle.std.proofs.Common.{◌≡◌, inl, inr, ⊎_elim, ◌⊎◌, ℕ, zero, suc, ◌+◌, ◌<◌, ◌≤◌, List, [], ◌∷◌, ◌++◌, map, length, take, slice_get, Some, refl, sym, ap, ◌∙◌, subst, arith}
+use Rattle.std.proofs.Common.{◌≡◌, inl, inr, ⊎_elim, ◌⊎◌, ℕ, zero, suc, ◌+◌, ◌<◌, ◌≤◌, List, [], ◌∷◌, ◌++◌, map, length, slice_get, Some, refl, sym, ap, ◌∙◌, subst, arith}
 use Rattle.std.specs.Prelude.{⊤, All, IfOk, Result, Ok, Err}
 use Rattle.std.specs.List.{AllPairs, AllZip, Any, zip}
 use Rattle.std.proofs.lemmas.Option.{get_or_from_slice_get}
-use Rattle.std.proofs.lemmas.List.Elements.{All-append, All-cons, All-get_or, All-head, All-nil, All-tail}
+use Rattle.std.proofs.lemmas.List.Elements.{All-cons, All-get_or, All-head, All-nil, All-tail}
 use Rattle.std.proofs.Math.Seq.{take-length}
 use mathlib.Core.List.{IsPrefix}
 use Rattle.ucl_word.proofs.Sequences.{at_below}
 use Rattle.ucl_board.specs.declared.entry.Entry.{Entry}
 use Rattle.ucl_board.specs.declared.reading.Reading.{Reading}
-use Rattle.ucl_board.proofs.Beginnings.{begins_length, take_whole}
+use Rattle.ucl_board.proofs.Beginnings.{take_whole}
 use Rattle.ucl_order.specs.Roster.{NamedClub}
 use Rattle.ucl_screen.specs.declared.stream.Source as sources
 use Rattle.ucl_screen.specs.declared.stream.Sink as sinks
@@ -26,7 +26,7 @@ use Rattle.ucl_evenings_threads.specs.declared.workers.Reporter.{Reporter}
 use Rattle.ucl_evenings_threads.specs.declared.workers.ReporterEnd.{ReporterEnd}
 use Rattle.ucl_evenings_threads.specs.declared.workers.Screen.{Screen}
 use Rattle.ucl_evenings_threads.specs.Runs.{HasAnsweredRows, IsHandedBack, views_of}
-use Rattle.ucl_evenings_threads.specs.Whole.{IsOneOf, IsTheirs, NumbersRise}
+use Rattle.ucl_evenings_threads.specs.Whole.{IsOneOf, NumbersRise}
 use Rattle.ucl_evenings_threads.specs.Held.{HasHeld, history_of_end}
 use Rattle.ucl_evenings_threads.specs.OneReporter.{AddedBy, RanOn, DifferInNumber, Entering, HadEntered, RowsDecide, WentThrough}
 use Rattle.ucl_evenings_threads.proofs.OneReporter.{own_at, own_from, own_next, rows_decide}

@@ -1,15 +1,14 @@
 -- Where each match has one reporter: match by match, the history is that of its reporter's rows.
-use Rattle.std.proofs.Common.{◌≡◌, ◌≢◌, inl, inr, ⊎_elim, ◌⊎◌, ℕ, zero, suc, ◌+◌, ◌-◌, ◌<◌, ◌≤◌, ◌==◌, Bool, true, false, cond, List, [], ◌∷◌, ◌++◌, map, length, take, slice_get, Some, Ok, Err}
+use Rattle.std.proofs.Common.{◌≡◌, ◌≢◌, inl, inr, ◌⊎◌, ℕ, zero, suc, ◌+◌, ◌-◌, ◌<◌, ◌≤◌, ◌==◌, Bool, true, false, cond, List, [], ◌∷◌, ◌++◌, map, length, take, slice_get, Some, Ok}
 use Rattle.std.proofs.Common.{refl, sym, ap, ◌∙◌, subst, arith, add-zero, length-append, eq-eqb, le_refl}
-use Rattle.std.specs.Prelude.{All, filter}
-use Rattle.std.specs.List.{AllPairs, Any, fold, slice_index_or}
+use Rattle.std.specs.Prelude.{All}
+use Rattle.std.specs.List.{AllPairs, fold}
 use Rattle.std.specs.Result.{is_ok}
 use Rattle.std.proofs.lemmas.Bool.{cases_eq}
 use Rattle.std.proofs.lemmas.Option.{none-some, same_Some}
 use Rattle.std.proofs.lemmas.List.Elements.{All-head, All-tail, All-cons, All-nil}
 use Rattle.std.proofs.lemmas.List.Sums.{fold-append}
 use Rattle.std.proofs.Math.Seq.{take-length}
-use mathlib.Core.List.{IsPrefix}
 use Rattle.ucl_word.specs.declared.event.EventCall.{EventCall}
 use Rattle.ucl_word.specs.declared.event.Accepted.{Accepted}
 use Rattle.ucl_word.specs.Layout.{word_of}
@@ -27,8 +26,8 @@ use Rattle.ucl_shared.proofs.Lists.{by_own, by_other}
 use Rattle.ucl_runs.proofs.Elements.{get_some, take_one}
 use Rattle.ucl_evenings.specs.declared.went.Went.{Went}
 use Rattle.ucl_evenings.specs.declared.went.Went.TheVariants.{Entered, Refused}
-use Rattle.ucl_evenings.specs.Reporting.{GoThrough, entered_in, accepted_in, past_point}
-use Rattle.ucl_evenings_threads.specs.OneReporter.{AddedBy, DifferInNumber, Entering, HaveMatchesOfTheirOwn, RowsDecideTheBoard, WentThrough, attempts_of_all}
+use Rattle.ucl_evenings.specs.Reporting.{GoThrough, entered_in, accepted_in}
+use Rattle.ucl_evenings_threads.specs.OneReporter.{AddedBy, DifferInNumber, Entering, RowsDecideTheBoard, WentThrough, attempts_of_all}
 
 -- ---- attempts, and the entries of one match
 

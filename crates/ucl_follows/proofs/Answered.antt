@@ -1,13 +1,12 @@
 -- What an evening answers tells its moment.
-use Rattle.std.proofs.Common.{◌≡◌, ◌∙◌, ℕ, zero, suc, ◌+◌, ◌*◌, ◌/◌, ◌%◌, ◌^◌, ◌<◌, ◌≤◌, ◌&&◌, ◌==◌, Bool, true, false, refl, sym, ap, arith, List, [], ◌∷◌, codes}
-use Rattle.std.proofs.Common.{length, get_or, Option, Some, None, le-leb, inl, inr}
-use Rattle.std.specs.Prelude.{All, nat_le, nat_lt, option_and_then, Result, Ok}
+use Rattle.std.proofs.Common.{◌≡◌, ◌∙◌, ℕ, zero, suc, ◌+◌, ◌*◌, ◌/◌, ◌%◌, ◌^◌, ◌<◌, ◌≤◌, ◌&&◌, ◌==◌, Bool, true, false, refl, ap, arith, List, [], ◌∷◌, codes}
+use Rattle.std.proofs.Common.{length, Option, Some, None, le-leb, inl}
+use Rattle.std.specs.Prelude.{All, nat_le, option_and_then, Ok}
 use Rattle.std.specs.Fmt.{digit_glyph}
 use Rattle.std.proofs.Math.Nat.{pow-suc}
-use Rattle.std.proofs.lemmas.Bool.{cases_Bool}
 use Rattle.std.proofs.lemmas.Bool.Decides.{nat_tests}
 use Rattle.std.proofs.lemmas.List.Elements.{All-head, All-tail}
-use Rattle.serde_json.specs.Data.{Data, item, member, no_items, no_members, number, object, string, unsigned}
+use Rattle.serde_json.specs.Data.{Data, member, no_members, number, object, string, unsigned}
 use Rattle.serde_json.proofs.OnLiterals.{serde_json_on_literals}
 use Rattle.ucl_board.specs.Words.{AreWords}
 use Rattle.ucl_order.specs.declared.profile.Profile.{Profile}
@@ -18,12 +17,12 @@ use Rattle.ucl_screen.specs.Numbers.{hex_after, hex_digit, hex_word}
 use Rattle.ucl_screen.specs.Screen.{IsGroup}
 use Rattle.ucl_screen.specs.WordsRead.{read_words}
 use Rattle.ucl_screen.proofs.ReadWords.{all-read}
-use Rattle.ucl_json.specs.Values.{accepted_value, club_items, club_value, order_name, screen_value, word_items}
+use Rattle.ucl_json.specs.Values.{accepted_value, club_items, order_name, screen_value, word_items}
 use Rattle.ucl_answers.proofs.WordDigits.{low, word-digits}
 use Rattle.ucl_follows.specs.declared.moment.Moment.{Moment}
 use Rattle.ucl_follows.specs.Told.{board_told, club_told, clubs_told, each_told, group_told, if_read, just, letter_in, list_at, listed, moment_told, order_called}
-use Rattle.ucl_follows.specs.Told.{order_told, roster_told, text_at, unless_bad, word_told}
-use Rattle.ucl_follows.specs.Answered.{AnswersTellTheirMoment, IsMoment, TellsItsMoment}
+use Rattle.ucl_follows.specs.Told.{order_told, roster_told, text_at, word_told}
+use Rattle.ucl_follows.specs.Answered.{AnswersTellTheirMoment, IsMoment}
 
 -- ---- digits
 

@@ -1,6 +1,6 @@
 -- What is shown of lines.
-use Rattle.std.proofs.Common.{◌≡◌, ℕ, ◌+◌, ◌<◌, ◌≤◌, Bool, true, false, List, [], ◌∷◌, ◌++◌, length, Option, Some, None, refl, sym, ap, ap₂, ◌∙◌, inl, inr, subst, append_assoc, append-nil, arith}
-use Rattle.std.specs.Prelude.{⊤, All, flat_map, if◌then◌else◌, nat_lt}
+use Rattle.std.proofs.Common.{◌≡◌, ℕ, ◌+◌, ◌<◌, ◌≤◌, true, false, List, [], ◌∷◌, ◌++◌, Option, Some, None, refl, sym, ap, ap₂, ◌∙◌, inl, inr, subst, append_assoc, append-nil, arith}
+use Rattle.std.specs.Prelude.{⊤, All, flat_map, if◌then◌else◌}
 use Rattle.std.proofs.lemmas.Bool.{cases_Bool}
 use Rattle.std.proofs.lemmas.Bool.Decides.{nat_tests}
 use Rattle.std.proofs.lemmas.List.Elements.{All-append, All-cons, All-head, All-nil, All-tail}
@@ -10,7 +10,7 @@ use Rattle.ucl_follows.specs.declared.following.Following.{Following}
 use Rattle.ucl_follows.specs.declared.shape.Shape.TheVariants.{Text}
 use Rattle.ucl_follows.specs.Told.{moment_on}
 use Rattle.ucl_follows.specs.Follow.{after_told, followed, is_newer, passed_over, shown_too, sights, told_text, unseen, version_at}
-use Rattle.ucl_follows.specs.Latest.{IsLatest, IsLineOfThese, IsNoNewer, IsShownLast, IsToldIn, LatestIsShownLast, OthersDoNotMatter, RiseAbove, RisesInText}
+use Rattle.ucl_follows.specs.Latest.{IsLineOfThese, IsNoNewer, IsShownLast, IsToldIn, LatestIsShownLast, OthersDoNotMatter, RiseAbove}
 use Rattle.ucl_follows.specs.Latest.{ShownVersionsRise, moments_shown, shown_of}
 
 abbrev Lines : Type 0

@@ -1,5 +1,5 @@
 -- Words without a fault name choices.
-use Rattle.std.proofs.Common.{◌≡◌, ℕ, Bool, true, false, inl, inr, refl, List, [], ◌∷◌, drop, codes, Option, Some, None, is_some}
+use Rattle.std.proofs.Common.{◌≡◌, ℕ, Bool, true, inl, inr, refl, List, [], ◌∷◌, drop, codes, Option, Some, None, is_some}
 use Rattle.clap.specs.Walk.{has_row, rows_after, stop_after}
 use Rattle.clap.specs.Words.{Row, Shape, Text, fault_of}
 use Rattle.clap.specs.Simple.{built, entered}

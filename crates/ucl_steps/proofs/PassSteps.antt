@@ -13,7 +13,7 @@ use Rattle.ucl_word.proofs.Sequences.{at_below, at_longer, at_end}
 use Rattle.ucl_board.specs.declared.entry.Entry.{Entry}
 use Rattle.ucl_board.specs.History.{board_of, reading_of, entry_of}
 use Rattle.ucl_board.specs.Log as log
-use Rattle.ucl_board.specs.Log.{Access, access}
+use Rattle.ucl_board.specs.Log.{Access}
 use Rattle.ucl_steps.specs.declared.step.Cast.{Cast}
 use Rattle.ucl_steps.specs.declared.step.Caller.{Caller}
 use Rattle.ucl_steps.specs.declared.step.Caller.TheVariants.{Reporter, Reader}

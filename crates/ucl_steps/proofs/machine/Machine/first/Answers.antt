@@ -11,38 +11,28 @@ use Rattle.ucl_steps.proofs.machine.Machine.first.Goals as goal
 
 pub offset_bounds-self-loaded : goal.offset_bounds-self-loaded
 offset_bounds-self-loaded c =
-    let is : c.held-held.result ≡ Some (has.Collecting c.in-Some-Collecting.call c.in-Some-Collecting.words c.in-Some-Collecting.loaded) = search rules in
-    let twelve : length c.in-Some-Collecting.words ≡ 12 = search rules in
-    let few = loaded_few (state_of c.args.self.now) c.requires c.args.caller c.held-held.result c.held-held.ensures c.in-Some-Collecting.call c.in-Some-Collecting.words c.in-Some-Collecting.loaded is
-    twelve in omega arith
+    let few = loaded_few (state_of c.args.self.now) c.requires c.args.caller c.held-held.result c.held-held.ensures c.in-Some-Collecting.call c.in-Some-Collecting.words c.in-Some-Collecting.loaded
+    (search rules) (search rules) in omega arith
 
 pub bounds-self-loaded : goal.bounds-self-loaded
 bounds-self-loaded c =
-    let is : c.held-held.result ≡ Some (has.Collecting c.in-Some-Collecting.call c.in-Some-Collecting.words c.in-Some-Collecting.loaded) = search rules in
-    let twelve : length c.in-Some-Collecting.words ≡ 12 = search rules in
-    let few = loaded_few (state_of c.args.self.now) c.requires c.args.caller c.held-held.result c.held-held.ensures c.in-Some-Collecting.call c.in-Some-Collecting.words c.in-Some-Collecting.loaded is
-    twelve in omega arith
+    let few = loaded_few (state_of c.args.self.now) c.requires c.args.caller c.held-held.result c.held-held.ensures c.in-Some-Collecting.call c.in-Some-Collecting.words c.in-Some-Collecting.loaded
+    (search rules) (search rules) in omega arith
 
 pub offset_bounds-words-loaded : goal.offset_bounds-words-loaded
 offset_bounds-words-loaded c =
-    let is : c.held-held.result ≡ Some (has.Collecting c.in-Some-Collecting.call c.in-Some-Collecting.words c.in-Some-Collecting.loaded) = search rules in
-    let twelve : length c.in-Some-Collecting.words ≡ 12 = search rules in
-    let few = loaded_few (state_of c.args.self.now) c.requires c.args.caller c.held-held.result c.held-held.ensures c.in-Some-Collecting.call c.in-Some-Collecting.words c.in-Some-Collecting.loaded is
-    twelve in omega arith
+    let few = loaded_few (state_of c.args.self.now) c.requires c.args.caller c.held-held.result c.held-held.ensures c.in-Some-Collecting.call c.in-Some-Collecting.words c.in-Some-Collecting.loaded
+    (search rules) (search rules) in omega arith
 
 pub bounds-words-loaded : goal.bounds-words-loaded
 bounds-words-loaded c =
-    let is : c.held-held.result ≡ Some (has.Collecting c.in-Some-Collecting.call c.in-Some-Collecting.words c.in-Some-Collecting.loaded) = search rules in
-    let twelve : length c.in-Some-Collecting.words ≡ 12 = search rules in
-    let few = loaded_few (state_of c.args.self.now) c.requires c.args.caller c.held-held.result c.held-held.ensures c.in-Some-Collecting.call c.in-Some-Collecting.words c.in-Some-Collecting.loaded is
-    twelve in omega arith
+    let few = loaded_few (state_of c.args.self.now) c.requires c.args.caller c.held-held.result c.held-held.ensures c.in-Some-Collecting.call c.in-Some-Collecting.words c.in-Some-Collecting.loaded
+    (search rules) (search rules) in omega arith
 
 pub overflow_add-next : goal.overflow_add-next
 overflow_add-next c =
-    let is : c.held-held.result ≡ Some (has.Collecting c.in-Some-Collecting.call c.in-Some-Collecting.words c.in-Some-Collecting.loaded) = search rules in
-    let twelve : length c.in-Some-Collecting.words ≡ 12 = search rules in
-    let few = loaded_few (state_of c.args.self.now) c.requires c.args.caller c.held-held.result c.held-held.ensures c.in-Some-Collecting.call c.in-Some-Collecting.words c.in-Some-Collecting.loaded is
-    twelve in omega arith
+    let few = loaded_few (state_of c.args.self.now) c.requires c.args.caller c.held-held.result c.held-held.ensures c.in-Some-Collecting.call c.in-Some-Collecting.words c.in-Some-Collecting.loaded
+    (search rules) (search rules) in omega arith
 
 pub returns : goal.returns
 returns c =

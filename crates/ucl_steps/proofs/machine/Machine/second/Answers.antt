@@ -11,27 +11,23 @@ use Rattle.ucl_steps.proofs.machine.Machine.second.Goals as goal
 
 pub offset_bounds-self-checked : goal.offset_bounds-self-checked
 offset_bounds-self-checked c =
-    let is : c.held-held.result ≡ Some (has.Checking c.in-Some-Checking.call c.in-Some-Checking.words c.in-Some-Checking.checked c.in-Some-Checking.point) = search rules in
     let few = checked_few (state_of c.args.self.now) c.requires c.args.caller c.held-held.result c.held-held.ensures c.in-Some-Checking.call c.in-Some-Checking.words c.in-Some-Checking.checked
-    c.in-Some-Checking.point is in omega arith
+    c.in-Some-Checking.point (search rules) in omega arith
 
 pub bounds-self-checked : goal.bounds-self-checked
 bounds-self-checked c =
-    let is : c.held-held.result ≡ Some (has.Checking c.in-Some-Checking.call c.in-Some-Checking.words c.in-Some-Checking.checked c.in-Some-Checking.point) = search rules in
     let few = checked_few (state_of c.args.self.now) c.requires c.args.caller c.held-held.result c.held-held.ensures c.in-Some-Checking.call c.in-Some-Checking.words c.in-Some-Checking.checked
-    c.in-Some-Checking.point is in omega arith
+    c.in-Some-Checking.point (search rules) in omega arith
 
 pub offset_bounds-words-checked : goal.offset_bounds-words-checked
 offset_bounds-words-checked c =
-    let is : c.held-held.result ≡ Some (has.Checking c.in-Some-Checking.call c.in-Some-Checking.words c.in-Some-Checking.checked c.in-Some-Checking.point) = search rules in
     let few = checked_few (state_of c.args.self.now) c.requires c.args.caller c.held-held.result c.held-held.ensures c.in-Some-Checking.call c.in-Some-Checking.words c.in-Some-Checking.checked
-    c.in-Some-Checking.point is in omega arith
+    c.in-Some-Checking.point (search rules) in omega arith
 
 pub bounds-words-checked : goal.bounds-words-checked
 bounds-words-checked c =
-    let is : c.held-held.result ≡ Some (has.Checking c.in-Some-Checking.call c.in-Some-Checking.words c.in-Some-Checking.checked c.in-Some-Checking.point) = search rules in
     let few = checked_few (state_of c.args.self.now) c.requires c.args.caller c.held-held.result c.held-held.ensures c.in-Some-Checking.call c.in-Some-Checking.words c.in-Some-Checking.checked
-    c.in-Some-Checking.point is in omega arith
+    c.in-Some-Checking.point (search rules) in omega arith
 
 pub reply-requires-clause-call : goal.reply-requires-clause-call
 reply-requires-clause-call c =
@@ -41,21 +37,18 @@ reply-requires-clause-call c =
 
 pub overflow_add-next : goal.overflow_add-next
 overflow_add-next c =
-    let is : c.held-held.result ≡ Some (has.Checking c.in-Some-Checking.call c.in-Some-Checking.words c.in-Some-Checking.checked c.in-Some-Checking.point) = search rules in
     let few = checked_few (state_of c.args.self.now) c.requires c.args.caller c.held-held.result c.held-held.ensures c.in-Some-Checking.call c.in-Some-Checking.words c.in-Some-Checking.checked
-    c.in-Some-Checking.point is in omega arith
+    c.in-Some-Checking.point (search rules) in omega arith
 
 pub of_packed-requires : goal.of_packed-requires
 of_packed-requires c =
-    let is : c.held-held.result ≡ Some (has.Checking c.in-Some-Checking.call c.in-Some-Checking.words c.in-Some-Checking.checked c.in-Some-Checking.point) = search rules in
     collected_words (state_of c.args.self.now) c.requires c.args.caller c.held-held.result c.held-held.ensures c.in-Some-Checking.call c.in-Some-Checking.words c.in-Some-Checking.checked
-    c.in-Some-Checking.point is
+    c.in-Some-Checking.point (search rules)
 
 pub returns-then-checked-eq11 : goal.returns-then-checked-eq11
 returns-then-checked-eq11 c =
-    let is : c.held-held.result ≡ Some (has.Checking c.in-Some-Checking.call c.in-Some-Checking.words c.in-Some-Checking.checked c.in-Some-Checking.point) = search rules in
     let same : slice_index c.args.self.now.words c.in-Some-Checking.checked ≡ slice_index c.in-Some-Checking.words c.in-Some-Checking.checked = search rules in
     clean_step (state_of c.args.self.now) c.requires c.args.caller c.held-held.result c.held-held.ensures c.in-Some-Checking.call c.in-Some-Checking.words c.in-Some-Checking.checked
-    c.in-Some-Checking.point is same c.if-checked-eq11.true
+    c.in-Some-Checking.point (search rules) same c.if-checked-eq11.true
     ∙ ap Some (sym (c.reply.ensures ∙ ap (λ (r : Reading). after_reply c.args.caller c.in-Some-Checking.call c.in-Some-Checking.point (Copied r) (state_of c.args.self.now))
     (c.of-reading.ensures ∙ ap reading_of c.of_packed.ensures)))
