@@ -3,6 +3,7 @@ tried so is written down in checks/lists/tried, with a sum of the text that deci
 proofs, the code and the definitions of the crates that it stands on, the wrong body, its control, and the kit's logic. Comments, blank lines and
 lines `breaks:` do not count, nor do the proofs of the crates below, for no contract depends on how a proof goes."""
 
+import fcntl
 import functools
 import hashlib
 import pathlib
@@ -61,13 +62,17 @@ def records(top):
 
 
 def write(top, tried):
-    """Writes down of wrong bodies that they were refused, with their controls proved, or strikes them out where they were not."""
-    path, found = top / TRIED, records(top)
-    for edit, is_well in tried.items():
-        found.pop(name_of(edit), None)
-        found.update({name_of(edit): sum_of(top, edit)} if is_well else {})
-    head = [line for line in path.read_text().split("\n") if line.startswith("#")]
-    path.write_text("\n".join([*head, *(f"{name} {found[name]}" for name in sorted(found))]) + "\n")
+    """Writes down of wrong bodies that they were refused, with their controls proved, or strikes them out where they were not. Runs at the same
+    time write one after the other."""
+    path = top / TRIED
+    with path.open("r+") as held:
+        fcntl.flock(held, fcntl.LOCK_EX)
+        found = records(top)
+        for edit, is_well in tried.items():
+            found.pop(name_of(edit), None)
+            found.update({name_of(edit): sum_of(top, edit)} if is_well else {})
+        head = [line for line in path.read_text().split("\n") if line.startswith("#")]
+        path.write_text("\n".join([*head, *(f"{name} {found[name]}" for name in sorted(found))]) + "\n")
 
 
 def is_left(top, edit):
