@@ -22,11 +22,12 @@ impl Drop for Tally {
 }
 
 impl Tally {
-    /// The count that a number is.
-    fn of(number: &u8) -> Tally
-        ensures { result.value ≡ number.now }
+    /// The count that a proof takes from what is passed.
+    fn counted<T>(by: &T) -> Tally
+        ghost count: { ℕ }
+        ensures { result.value ≡ count }
     {
-        let _ = number;
+        let _ = by;
         Tally {
             marker: PhantomData,
         }
@@ -36,15 +37,13 @@ impl Tally {
     pub(crate) fn start() -> Tally
         ensures { result.value ≡ 0 }
     {
-        Tally::of(&0)
+        Tally::counted(&())
     }
 
     /// One call more.
     pub(crate) fn next(&self) -> Tally
         ensures { result.value ≡ self.now.value + 1 }
     {
-        Tally {
-            marker: PhantomData,
-        }
+        Tally::counted(self)
     }
 }

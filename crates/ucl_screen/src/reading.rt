@@ -152,7 +152,7 @@ fn night_of(alloc: Global, text: &[u8]) -> Result<Night, InputFault>
 pub fn night_of_bytes(alloc: Global, bytes: &[u8]) -> Result<Night, InputFault>
     ensures gives { AnswersAsSaid night_seen result (night_of bytes.now) }
     ensures kinds { IfErr result IsFaultOfScript }
-    ensures few { IfOk result (λ night. length night.events.items ≤ 4194304) }
+    ensures few { IfOk result (λ night. length night.events.items ≤ most_bytes) }
 {
     if bytes.len() > MOST_INPUT_BYTES {
         return Err(InputFault::TooLong);
