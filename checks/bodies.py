@@ -49,9 +49,9 @@ def first_from(lines, start, holds):
 
 def end_of(lines, start, indent):
     """The lines at which the body of a function begins and ends. Its head ends in a brace, on the line of `fn`, on that of the closing
-    parenthesis, or, after clauses, on a line of its own; a method of a trait may have no body."""
+    parenthesis, or, after clauses, on a line of its own; a method of a trait may have no body, and then ends where its last clause does."""
     opens = (indent + "{", indent + "{}", indent + "fn", indent + "pub", indent + "const", indent + "unsafe", indent + ")")
-    body = first_from(lines, start, lambda line: line.endswith(("{", "{}", ";")) and line.startswith(opens))
+    body = first_from(lines, start, lambda line: line.endswith("};") or (line.endswith(("{", "{}", ";")) and line.startswith(opens)))
     if lines[body].endswith(("{}", ";")):
         return body, body
     return body, first_from(lines, body, lambda line: line == indent + "}")

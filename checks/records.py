@@ -54,20 +54,19 @@ def name_of(edit):
     return f"{edits.crate_of(edit)}/{edit.stem}"
 
 
-def records(top):
-    """The sums that are written down, by the names of the wrong bodies."""
-    path = top / TRIED
+def records(path):
+    """The sums that are written down in a file, by the names of the wrong bodies."""
     lines = [line.split() for line in (path.read_text() if path.exists() else "").split("\n") if line and not line.startswith("#")]
     return dict(lines)
 
 
-def write(top, tried):
-    """Writes down of wrong bodies that they were refused, with their controls proved, or strikes them out where they were not. Runs at the same
-    time write one after the other."""
-    path = top / TRIED
-    with path.open("r+") as held:
+def write(top, tried, path):
+    """Writes down in a file of wrong bodies that they were refused, or strikes them out where they were not. Runs at the same time write one after
+    the other."""
+    path.parent.mkdir(parents=True, exist_ok=True)
+    with path.open("a+") as held:
         fcntl.flock(held, fcntl.LOCK_EX)
-        found = records(top)
+        found = records(path)
         for edit, is_well in tried.items():
             found.pop(name_of(edit), None)
             found.update({name_of(edit): sum_of(top, edit)} if is_well else {})
@@ -75,9 +74,9 @@ def write(top, tried):
         path.write_text("\n".join([*head, *(f"{name} {found[name]}" for name in sorted(found))]) + "\n")
 
 
-def is_left(top, edit):
-    """The wrong body was not tried on the sources as they are."""
-    return records(top).get(name_of(edit)) != sum_of(top, edit)
+def is_left(top, edit, path):
+    """It is not written down in this file that the wrong body was tried on the sources as they are."""
+    return records(path).get(name_of(edit)) != sum_of(top, edit)
 
 
 def wrong_bodies(top):
@@ -88,7 +87,7 @@ def wrong_bodies(top):
 def each_is_there(top):
     """What is written down was tried of a wrong body that is there, and of no other."""
     there = {name_of(edit) for edit in wrong_bodies(pathlib.Path(top))}
-    return [f"{name}: there is no such wrong body" for name in records(top) if name not in there]
+    return [f"{name}: there is no such wrong body" for name in records(pathlib.Path(top) / TRIED) if name not in there]
 
 
 LOOKS = [("each wrong body that is written down is there", each_is_there)]

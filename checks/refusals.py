@@ -54,6 +54,11 @@ def proved(said):
     return {line[2] for line in FUNCTION.finditer(said) if line[3].split(",")[0] == "proved"}
 
 
+def without_a_proof(said):
+    """The functions of the crate that have no proof, since their form is one for which none is made, and why."""
+    return [(line[2], line[3]) for line in FUNCTION.finditer(said) if line[3].startswith("no proof") and "does not cover this function yet" in line[3]]
+
+
 def is_verdict(said):
     """Whether the check came to an end, and did not stop at what it could not read or at the machine's memory."""
     return bool(VERDICT.search(said))

@@ -12,22 +12,21 @@ import pathlib
 import shutil
 import subprocess
 import tempfile
-import time
 import typing
 
 import bodies
 import edits
 
 MOST = 6
+HOW = {"stdin": subprocess.DEVNULL, "stdout": subprocess.PIPE, "stderr": subprocess.STDOUT, "universal_newlines": True, "errors": "replace"}
 
 
 class Try(typing.NamedTuple):
-    """What a check came to with edits in place: what it said, its status, and how many seconds it took. Without a status the edits could not
-    all be made, and why is what is said."""
+    """What a check came to with edits in place: what it said, and its status. Without a status the edits could not all be made, and why is what is
+    said."""
 
     said: str
     status: typing.Optional[int]
-    seconds: float
 
 
 def linked(file, copy):
@@ -65,10 +64,8 @@ def copied_with_work(room, place, crate):
 
 def check(folder, jobs):
     """What a check of the crate in a folder came to."""
-    how = {"stdin": subprocess.DEVNULL, "stdout": subprocess.PIPE, "stderr": subprocess.STDOUT, "universal_newlines": True, "errors": "replace"}
-    begun = time.monotonic()
-    ran = subprocess.run(["rt", "check", "--jobs", str(jobs)], cwd=str(folder), **how)
-    return Try(ran.stdout, ran.returncode, time.monotonic() - begun)
+    ran = subprocess.run(["rt", "check", "--jobs", str(jobs)], cwd=str(folder), **HOW)
+    return Try(ran.stdout, ran.returncode)
 
 
 def put(folder, edit):
@@ -86,7 +83,7 @@ def tried(room, crate, group):
             for edit in group:
                 put(folder, edit)
         except (OSError, ValueError) as error:
-            return Try(str(error), None, 0.0)
+            return Try(str(error), None)
         return check(folder, 1)
 
 
@@ -102,14 +99,14 @@ def changed_by_all(folder, found):
     return changed
 
 
-def grouped(changed):
+def grouped(changed, most=MOST):
     """The edits in groups, each to be tried in one check: those of the function that most edits change first, each in the smallest group
     that changes none of its functions."""
     crowded = collections.Counter(function for functions in changed.values() for function in functions or ())
     told_apart = {edit: functions for edit, functions in changed.items() if functions}
     groups = []
     for edit in sorted(told_apart, key=lambda edit: -max(crowded[it] for it in told_apart[edit])):
-        fitting = [group for group in groups if len(group) < MOST and not any(changed[other] & changed[edit] for other in group)]
+        fitting = [group for group in groups if len(group) < most and not any(changed[other] & changed[edit] for other in group)]
         if fitting:
             min(fitting, key=len).append(edit)
         else:

@@ -93,6 +93,9 @@ class Judges:
         own = {symbol: goals[symbol] for symbol in sorted(it.symbol for it in changed) if symbol in goals} if changed else goals
         if own and refusals.is_verdict(it.said):
             return self.refused(own, refusals.in_doubt(it.said))
+        form = next((why for symbol, why in refusals.without_a_proof(it.said) if symbol in {it.symbol for it in changed or ()}), None)
+        if form and is_alone:
+            return Verdict(False, f"only for its form: {form[:200]}")
         return self.wrong_alone(it) if is_alone else None
 
     def wrong_alone(self, it):
