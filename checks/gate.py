@@ -10,6 +10,8 @@ import re
 import shutil
 import subprocess
 import tempfile
+import time
+import typing
 
 import bodies
 import edits
@@ -20,25 +22,47 @@ import verdicts
 
 PARTS = "src", "specs", "proofs"
 PROVED = "proved"
+MEMORY = 5 << 30
+# The last line of the file in which a run of `rt ci` tells of the crates that it has proved.
+ENDED = "rt ci has ended\n"
 MOST = 12
 # A right body, which has to come through where it is tried like the others: the judge of this run is judged.
 RIGHT = "checks/controls/ucl_shared/settle_takes_one_number_for_two.edit"
 
 
+class Built(typing.NamedTuple):
+    """What is built of the crates of a folder: all, or, where a run of `rt ci` is at work there, those of which it has told so far in a file."""
+
+    top: pathlib.Path
+    told: typing.Optional[pathlib.Path]
+
+    def rlib(self, name):
+        """The folder that has a crate's rlib."""
+        return self.top / "crates" / name / "out/rlib"
+
+    def has(self, names):
+        """Whether these crates are built; None where they will not be."""
+        if not self.told:
+            return True
+        text = self.told.read_text(errors="replace") if self.told.exists() else ""
+        is_over = text.endswith(ENDED) or not self.told.parent.is_dir()
+        is_built = {*names} <= {*re.findall(r"^rt: (\w+) (?:proved|is kept: .*)$", text, re.M)}
+        return True if is_built else None if is_over else False
+
+
 class Crate:
     """A crate whose wrong bodies are tried."""
 
-    def __init__(self, top, name, kit):
+    def __init__(self, top, name, kit, built):
         self.folder, self.name, self.changed = top / "crates" / name, name, {}
         self.functions = bodies.functions_below(self.folder)
         self.judges = verdicts.Judges(self.folder)
         uses = looks_at_crates.crates_of(top)
-        self.below = len(records.below(uses, name))
-        built = {other: top / "crates" / other / "out/rlib" for other in uses}
+        self.below = records.below(uses, name)
         self.words = [str(kit / "bin/rattle"), "check", "--crate-name", name, "src/lib.rt", "--jobs", "1", "--incremental", PROVED]
         for used in "std", *uses[name]:
-            self.words += ["--extern", f"{used}={built.get(used, kit / 'rlibs')}/{used}.rlib"]
-        for place in kit / "rlibs", *(built[other] for other in records.below(uses, name)):
+            self.words += ["--extern", f"{used}={built.rlib(used) if used in uses else kit / 'rlibs'}/{used}.rlib"]
+        for place in kit / "rlibs", *map(built.rlib, self.below):
             self.words += ["-L", f"dependency={place}"]
         self.words += ["--antt-project", str(kit / "rattle/logic/antt-project.json"), "--logic-built", str(kit / "logic_built")]
         if re.search(rf"^{name} .*\bstaticlib\b.*:", (top / "crates.txt").read_text(), re.M):
@@ -56,6 +80,7 @@ class Crate:
             for edit in group:
                 tries.put(room, edit)
             only = [word for it in sorted(functions) for word in ("--only", it)]
+            wait_for_memory()
             ran = subprocess.run(self.words + only, cwd=str(room), **tries.HOW)
             return tries.Try(ran.stdout, ran.returncode)
         except (OSError, ValueError) as error:
@@ -106,10 +131,19 @@ def to_try(top, names, is_anew):
     return found, before
 
 
-def verdicts_on(top, found, jobs):
-    """The verdicts on these edits, by crates, as they come. A crate's first check is made first, since what it proves serves the others."""
+def wait_for_memory():
+    """Waits, but not for ever, until a check has the memory that it may take."""
+    for _ in range(100):
+        if int(re.search(r"MemAvailable: *(\d+)", pathlib.Path("/proc/meminfo").read_text())[1]) << 10 > MEMORY:
+            return
+        time.sleep(5)
+
+
+def verdicts_on(top, found, jobs, built):
+    """The verdicts on these edits, by crates, as they come: those of a crate once the crates below are built. Its first check is made first, since
+    what it proves serves the others."""
     kit = pathlib.Path(subprocess.run(["rt", "doc"], check=True, **tries.HOW).stdout.strip()).parent
-    crates = sorted((Crate(top, name, kit) for name in found), key=lambda it: -len(found[it.name]) - it.below)
+    waiting = sorted((Crate(top, name, kit, built) for name in found), key=lambda it: -len(found[it.name]) - len(it.below))
     with tempfile.TemporaryDirectory(prefix="gate-") as folder, concurrent.futures.ThreadPoolExecutor(jobs) as pool:
         begun = {}
 
@@ -117,24 +151,30 @@ def verdicts_on(top, found, jobs):
             room = pathlib.Path(tempfile.mkdtemp(dir=folder))
             begun[pool.submit(crate.judged, group, room, earlier)] = crate, later, room
 
-        for crate in crates:
-            first, *later = crate.groups(found[crate.name])
-            begin(crate, first, later, None)
-        while begun:
-            for done in concurrent.futures.wait(begun, return_when=concurrent.futures.FIRST_COMPLETED).done:
+        while waiting or begun:
+            for crate in list(waiting):
+                is_built = built.has(crate.below)
+                if is_built is None:
+                    yield from ((edit, verdicts.Verdict(False, "not tried: what it stands on is not proved")) for edit in found[crate.name])
+                elif is_built:
+                    first, *later = crate.groups(found[crate.name])
+                    begin(crate, first, later, None)
+                waiting = [it for it in waiting if it is not crate or is_built is False]
+            for done in concurrent.futures.wait(begun, timeout=2, return_when=concurrent.futures.FIRST_COMPLETED).done:
                 crate, later, room = begun.pop(done)
                 for group in later:
                     begin(crate, group, [], room)
                 yield from done.result().items()
+            time.sleep(0 if begun else 2)
 
 
-def run(top, jobs, names, is_anew):
+def run(top, jobs, names, is_anew, built):
     """Tries the wrong bodies of the gate, all or of these crates, tells each verdict as it comes, and returns how many are as they have to be and
     how many are not."""
     found, before = to_try(top, names, is_anew)
     for edit in before:
         print(f"refused     {records.name_of(edit)}, by an earlier run on this machine", flush=True)
-    well = [counted(top, edit, verdict) for edit, verdict in verdicts_on(top, found, jobs)]
+    well = [counted(top, edit, verdict) for edit, verdict in verdicts_on(top, found, jobs, built)]
     return len(before) + sum(well), len(well) - sum(well)
 
 
