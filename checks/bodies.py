@@ -30,12 +30,18 @@ def module_of(path):
     return parts[:-1] if parts[-1] in ("lib", "main", "mod") else parts
 
 
+def source_of(head):
+    """Of the head of an `impl` of `From` what the prover adds to its name: the path of the type that is turned into another."""
+    found = re.search(r"\bFrom<((?:\w+::)*\w+)", head)
+    return "".join(part[0].upper() + part[1:] for part in found[1].split("::") if part != "crate") if found else ""
+
+
 def owners(lines):
-    """Of each line the block that it stands in: the trait and the type of an `impl`, a trait twice, or None."""
+    """Of each line the block that it stands in: the trait and the type of an `impl`, a trait twice, and what its name has besides; or None."""
     block, found = None, []
     for at, line in enumerate(lines):
         if clauses.BLOCK.match(line):
-            block = clauses.block_of(lines, at)
+            block = (*clauses.block_of(lines, at), source_of(line))
         found.append(block)
         if line == "}":
             block = None
@@ -65,8 +71,8 @@ def functions_of(path, text, homes):
         head = FUNCTION.match(line) if at >= after else None
         if head and len(head[1]) == (4 if blocks[at] else 0):
             body, last = end_of(lines, at, head[1])
-            trait, owner = blocks[at] or (None, None)
-            types = [owner + trait if trait and trait != owner else owner] if owner else []
+            trait, owner, more = blocks[at] or (None, None, "")
+            types = [owner + trait + more if trait and trait != owner else owner] if owner else []
             home = module_of(path) if trait else homes.get(owner, module_of(path))
             symbol = "::".join([*home, *types, head[3]])
             named = f"{owner}::{head[3]}" if owner else head[3]
