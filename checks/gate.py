@@ -4,6 +4,7 @@ more than bodies is tried alone, at the functions that it breaks by its lines `b
 for each, which reads all that the crate stands on once more.)"""
 
 import concurrent.futures
+import hashlib
 import os
 import pathlib
 import re
@@ -114,8 +115,10 @@ class Crate:
 
 
 def kept():
-    """The file that has on this machine what was refused."""
-    return pathlib.Path(os.environ.get("XDG_CACHE_HOME") or pathlib.Path.home() / ".cache") / "kodzmeli/refused"
+    """The file that has on this machine what was refused, by these programs as they are: another judge begins anew."""
+    texts = [path.read_bytes() for path in sorted(pathlib.Path(__file__).resolve().parent.glob("*.py"))]
+    cache = pathlib.Path(os.environ.get("XDG_CACHE_HOME") or pathlib.Path.home() / ".cache")
+    return cache / f"kodzmeli/refused-{hashlib.sha256(b''.join(texts)).hexdigest()[:12]}"
 
 
 def to_try(top, names, is_anew):
