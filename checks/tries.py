@@ -1,24 +1,41 @@
-"""Tries edits on copies of the repository, several of one crate in one check where they change different functions.
+"""Tries edits on copies of a crate, several in one check where they change different functions.
 
 A check of a crate reads all that it stands on, whatever was changed, so several edits in one check cost little more than one. They are told
 apart by the functions that they change: what the prover leaves open of one function does not follow from the body of another, for a function
 knows of another its clauses alone. So edits share a check only where each changes the bodies of functions and nothing else, and no function is
 changed by two of them. What is left unclear is tried once more, each edit alone.
+
+A check proves the functions that its edits change, with those that these call, and no others, over what is built of the crates below, and takes
+what was proved of the same text before. An edit that changes more than bodies is tried alone, at the functions that it breaks by its lines
+`breaks:`, or at all. (`rt ci` and `rt must-fail` make a check of the whole crate for each.)
 """
 
 import collections
+import concurrent.futures
 import os
 import pathlib
+import re
 import shutil
 import subprocess
 import tempfile
+import time
 import typing
 
 import bodies
 import edits
+import looks_at_crates
+import records
+import verdicts
 
-MOST = 6
+MOST = 12
+PARTS = "src", "specs", "proofs"
+PROVED = "proved"
+# The memory that is free where a check begins, and how much of what is free at first each processor is given.
+MEMORY = 5 << 30
+SHARE = 4 << 30
 HOW = {"stdin": subprocess.DEVNULL, "stdout": subprocess.PIPE, "stderr": subprocess.STDOUT, "universal_newlines": True, "errors": "replace"}
+# The last line of the file in which a run of `rt ci` tells of the crates that it has proved.
+ENDED = "rt ci has ended\n"
 
 
 class Try(typing.NamedTuple):
@@ -29,77 +46,119 @@ class Try(typing.NamedTuple):
     status: typing.Optional[int]
 
 
+class Built(typing.NamedTuple):
+    """What is built of the crates of a folder: all, or, where a run of `rt ci` is at work there, those of which it has told so far in a file."""
+
+    top: pathlib.Path
+    told: typing.Optional[pathlib.Path]
+
+    def rlib(self, name):
+        """The folder that has a crate's rlib."""
+        return self.top / "crates" / name / "out/rlib"
+
+    def has(self, names):
+        """Whether these crates are built; None where they will not be."""
+        if not self.told:
+            return True
+        text = self.told.read_text(errors="replace") if self.told.exists() else ""
+        is_over = text.endswith(ENDED) or not self.told.parent.is_dir()
+        is_built = {*names} <= {*re.findall(r"^rt: (\w+) (?:proved|is kept: .*)$", text, re.M)}
+        return True if is_built else None if is_over else False
+
+    def proved(self, name):
+        """The folder of what was proved of a crate, or None where there is none yet."""
+        folder = self.top / "crates" / name / "out/incremental"
+        return folder if self.has([name]) and folder.is_dir() else None
+
+
+class Crate:
+    """A crate of which edits are tried. Each check begins with what was proved of it before, by a build, or else by the first of these checks."""
+
+    def __init__(self, top, name, kit, built):
+        self.folder, self.name, self.changed = top / "crates" / name, name, {}
+        self.functions = bodies.functions_below(self.folder)
+        self.judges = verdicts.Judges(self.folder)
+        self.proved = None
+        uses = looks_at_crates.crates_of(top)
+        self.below = records.below(uses, name)
+        self.words = [str(kit / "bin/rattle"), "check", "--crate-name", name, "src/lib.rt", "--jobs", "1", "--incremental", PROVED]
+        for used in "std", *uses[name]:
+            self.words += ["--extern", f"{used}={built.rlib(used) if used in uses else kit / 'rlibs'}/{used}.rlib"]
+        for place in kit / "rlibs", *map(built.rlib, self.below):
+            self.words += ["-L", f"dependency={place}"]
+        self.words += ["--antt-project", str(kit / "rattle/logic/antt-project.json"), "--logic-built", str(kit / "logic_built")]
+        if re.search(rf"^{name} .*\bstaticlib\b.*:", (top / "crates.txt").read_text(), re.M):
+            self.words += ["--crate-type", "staticlib"]
+
+    def groups(self, found, most=MOST):
+        """These edits in groups, each to be tried in one check."""
+        self.changed.update({edit: self.changed_by(edit) for edit in found})
+        return grouped({edit: self.changed[edit] for edit in found}, most)
+
+    def changed_by(self, edit):
+        """The functions that an edit changes, where it changes nothing but their bodies; else, or where it does not fit, None."""
+        try:
+            return bodies.changed_by(self.folder, edit, self.functions)
+        except (OSError, ValueError):
+            return None
+
+    def asked(self, edit):
+        """The functions at which an edit is tried: those whose bodies it changes, or those that it breaks; none where it names none."""
+        broken = {clause.split(" ")[0] for clause in edits.broken_by(edit)}
+        return {it.symbol for it in self.changed[edit] or [it for it in self.functions if it.named in broken]}
+
+    def tried(self, room, group, is_whole):
+        """A check in a room with these edits in place, of the functions at which they are tried, or of all."""
+        functions = set() if is_whole else set().union(*(self.asked(edit) for edit in group))
+        self.put_back(room)
+        try:
+            for edit in group:
+                put(room, edit)
+            wait_for_memory()
+            ran = subprocess.run(self.words + [word for it in sorted(functions) for word in ("--only", it)], cwd=str(room), **HOW)
+            return Try(ran.stdout, ran.returncode)
+        except (OSError, ValueError) as error:
+            return Try(str(error), None)
+
+    def put_back(self, room):
+        """The crate's own files in a room, as they are."""
+        for part in PARTS:
+            shutil.rmtree(str(room / part), ignore_errors=True)
+            if (self.folder / part).is_dir():
+                shutil.copytree(str(self.folder / part), str(room / part))
+
+    def judged(self, group, place, judge, is_whole):
+        """The verdicts on these edits, by one check, and by one of its own on each that it leaves unclear. The first check of a crate leaves in the
+        place what it has proved, where nothing was proved before."""
+        with tempfile.TemporaryDirectory(dir=place) as folder:
+            room = pathlib.Path(folder)
+            if self.proved:
+                shutil.copytree(str(self.proved), str(room / PROVED), copy_function=linked)
+            it = self.tried(room, group, is_whole and len(group) == 1)
+            found = {edit: judge(self, edit)(it, self.changed[edit], len(group) == 1) for edit in group}
+            for edit in [edit for edit in group if found[edit] is None]:
+                found[edit] = judge(self, edit)(self.tried(room, [edit], is_whole), self.changed[edit], True)
+            if not self.proved and (room / PROVED).is_dir():
+                self.proved = (room / PROVED).rename(pathlib.Path(place) / self.name)
+            return found
+
+
 def linked(file, copy):
-    """A copy of a file: of what was proved or built a link, since `rt` replaces such a file and never changes it; a link reaches no other
-    file system."""
+    """A copy of a file that was proved: a link, since the prover replaces such a file and never changes it; a link reaches no other file system."""
     try:
-        if file.endswith(".oantt") or "/out/rlib/" in file:
-            os.link(file, copy)
-            return copy
+        os.link(file, copy)
+        return copy
     except OSError:
-        pass
-    return shutil.copy2(file, copy)
-
-
-def copied(top, room):
-    """A copy of the crates in a folder, without their wrong bodies, and with what was proved of them before, which `rt` takes where it is of
-    these sources."""
-    for name in "crates.txt", "HANDLES":
-        shutil.copy(str(top / name), str(room))
-    (room / "crates").mkdir()
-    for crate in sorted((top / "crates").iterdir()):
-        shutil.copytree(str(crate), str(room / "crates" / crate.name), copy_function=linked, ignore=shutil.ignore_patterns("must-fail"))
-    return room
-
-
-def copied_with_work(room, place, crate):
-    """A copy of the crates with what is built of them, and with the kept work of the one whose folder it gives."""
-    for name in "crates.txt", "HANDLES":
-        shutil.copy(str(room / name), str(place))
-    for other in sorted((room / "crates").iterdir()):
-        ignored = None if other.name == crate else shutil.ignore_patterns("incremental")
-        shutil.copytree(str(other), str(place / "crates" / other.name), copy_function=linked, ignore=ignored)
-    return place / "crates" / crate
-
-
-def check(folder, jobs):
-    """What a check of the crate in a folder came to."""
-    ran = subprocess.run(["rt", "check", "--jobs", str(jobs)], cwd=str(folder), **HOW)
-    return Try(ran.stdout, ran.returncode)
+        return shutil.copy2(file, copy)
 
 
 def put(folder, edit):
-    """Makes an edit in a copy of a crate, whose files may be links."""
+    """Makes an edit in a copy of a crate."""
     for path, text in edits.edited(folder, edit).items():
-        path.unlink()
         path.write_text(text)
 
 
-def tried(room, crate, group):
-    """A check of a copy of a crate with these edits in place."""
-    with tempfile.TemporaryDirectory(prefix="try-", dir=str(room)) as own:
-        folder = copied_with_work(room, pathlib.Path(own), crate)
-        try:
-            for edit in group:
-                put(folder, edit)
-        except (OSError, ValueError) as error:
-            return Try(str(error), None)
-        return check(folder, 1)
-
-
-def changed_by_all(folder, found):
-    """The functions that each of these edits changes, where it changes nothing but their bodies; else None. An edit that does not fit changes
-    none."""
-    functions, changed = bodies.functions_below(folder), {}
-    for edit in found:
-        try:
-            changed[edit] = bodies.changed_by(folder, edit, functions)
-        except (OSError, ValueError):
-            changed[edit] = None
-    return changed
-
-
-def grouped(changed, most=MOST):
+def grouped(changed, most):
     """The edits in groups, each to be tried in one check: those of the function that most edits change first, each in the smallest group
     that changes none of its functions."""
     crowded = collections.Counter(function for functions in changed.values() for function in functions or ())
@@ -112,3 +171,50 @@ def grouped(changed, most=MOST):
         else:
             groups.append([edit])
     return groups + [[edit] for edit in changed if edit not in told_apart]
+
+
+def available():
+    """The memory that is free, in bytes."""
+    return int(re.search(r"MemAvailable: *(\d+)", pathlib.Path("/proc/meminfo").read_text())[1]) << 10
+
+
+def wait_for_memory():
+    """Waits, but not for ever, until a check has the memory that it may take."""
+    for _ in range(100):
+        if available() > MEMORY:
+            return
+        time.sleep(5)
+
+
+def processors():
+    """One for each processor, and one for each 4 GiB of memory that are free."""
+    return max(1, min(len(os.sched_getaffinity(0)), available() // SHARE))
+
+
+def verdicts_on(top, found, built, jobs, judge, most=MOST, is_whole=False):
+    """The verdicts on these edits, by their crates, as they come, in so many checks at the same time: those of a crate once the crates below are built.
+    The judge of an edit says what a check came to for it. Edits that change more than bodies are tried at the whole crate, where that is asked for."""
+    kit = pathlib.Path(subprocess.run(["rt", "doc"], check=True, **HOW).stdout.strip()).parent
+    waiting = sorted((Crate(top, name, kit, built) for name in found), key=lambda it: -len(found[it.name]) - len(it.below))
+    with tempfile.TemporaryDirectory(prefix="tries-") as place, concurrent.futures.ThreadPoolExecutor(jobs or processors()) as pool:
+        begun = {}
+
+        def begin(crate, groups):
+            crate.proved = crate.proved or built.proved(crate.name)
+            now, later = (groups, []) if crate.proved else (groups[:1], groups[1:])
+            begun.update({pool.submit(crate.judged, group, place, judge, is_whole): (crate, later) for group in now})
+
+        while waiting or begun:
+            for crate in list(waiting):
+                is_built = built.has(crate.below)
+                if is_built is None:
+                    yield from ((crate, edit, verdicts.Verdict(False, "not tried: what it stands on is not proved")) for edit in found[crate.name])
+                elif is_built:
+                    begin(crate, crate.groups(found[crate.name], most))
+                waiting = [it for it in waiting if it is not crate or is_built is False]
+            for done in concurrent.futures.wait(begun, timeout=2, return_when=concurrent.futures.FIRST_COMPLETED).done:
+                crate, later = begun.pop(done)
+                if later:
+                    begin(crate, later)
+                yield from ((crate, edit, verdict) for edit, verdict in done.result().items())
+            time.sleep(0 if begun else 2)

@@ -29,20 +29,25 @@ class Sums:
     """How many were tried, and how they are."""
 
     def __init__(self):
-        self.all = dict.fromkeys(("wrong", "refused", "limits", "controls", "proved", "unlike"), 0)
+        self.wrong = self.refused = self.limits = self.controls = self.proved = self.unlike = 0
 
-    def update(self, **more):
-        for name, count in more.items():
-            self.all[name] += count
+    def add(self, is_control, verdict):
+        """Adds an edit."""
+        if is_control:
+            self.controls += 1
+            self.proved += verdict.well
+        else:
+            self.wrong += 1
+            self.refused += verdict.well
+            self.limits += verdict.is_limit
 
     def are_well(self):
-        each = self.all
-        return each["wrong"] + each["controls"] > 0 and each["wrong"] == each["refused"] and each["controls"] == each["proved"] and not each["unlike"]
+        return self.wrong + self.controls > 0 and self.wrong == self.refused and self.controls == self.proved and not self.unlike
 
     def __str__(self):
-        text = "{wrong} wrong bodies, {refused} refused ({limits} only by a limit of the prover); {controls} controls, {proved} proved"
-        unlike = "; {unlike} tell by `breaks:` what the prover does not" if self.all["unlike"] else ""
-        return (text + unlike).format(**self.all)
+        unlike = f"; {self.unlike} tell by `breaks:` what the prover does not" if self.unlike else ""
+        text = f"{self.wrong} wrong bodies, {self.refused} refused ({self.limits} only by a limit of the prover); "
+        return f"{text}{self.controls} controls, {self.proved} proved{unlike}"
 
 
 def shown(named, goals):
