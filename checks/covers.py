@@ -1,10 +1,12 @@
-"""Of which wrong bodies the gate has to be made, so that each function of which any breaks a clause, and each field of the rules of shared
-boards, is broken in it: those that checks/lists/kept_in_the_gate names, and else as few as are found greedily."""
+"""Of which wrong bodies the gate has to be made, so that of each clause of a public function, and each field of the rules of shared boards, that any
+breaks, one is in it: those that checks/lists/kept_in_the_gate names, and else as few as are found greedily. For the clauses that
+checks/lists/clauses_left_out_of_the_gate has, one of their function is enough."""
 
 import clauses
 import edits
 
 KEPT = "checks/lists/kept_in_the_gate"
+LEFT_OUT = "checks/lists/clauses_left_out_of_the_gate"
 
 
 def breaking(top):
@@ -19,6 +21,17 @@ def part_of(clause):
     return clause if clauses.is_field(clause) else clause.split(" ")[0]
 
 
+def left_out(top):
+    """The clauses of which the gate need not have a wrong body, each with one that breaks it."""
+    lines = [line.split(": ") for line in (top / LEFT_OUT).read_text().split("\n") if line and not line.startswith("#")]
+    return dict(lines)
+
+
+def parts_of(broken, excepted):
+    """What each wrong body breaks of what the gate has to have: the clauses that are not excepted, and its functions."""
+    return {edit: {*map(part_of, found)} | {clause for clause in found if clause not in excepted} for edit, found in broken.items()}
+
+
 def kept(top, broken):
     """The wrong bodies that the list keeps in the gate. A ValueError tells of one that is not there."""
     names = {f"{edits.crate_of(edit)}/{edit.stem}": edit for edit in broken}
@@ -29,11 +42,10 @@ def kept(top, broken):
     return [names[line] for line in lines]
 
 
-def cover(broken, chosen):
+def cover(broken, chosen, excepted):
     """These wrong bodies, and others with which they break all parts: each the one that breaks most parts that none before it breaks; of two
     that break as many one that is in the gate already, or that breaks more clauses."""
-    parts = {edit: {part_of(clause) for clause in found} for edit, found in broken.items()}
-    chosen = list(chosen)
+    parts, chosen = parts_of(broken, excepted), list(chosen)
     left = set().union(*parts.values()) - set().union(*(parts[edit] for edit in chosen))
     while left:
         best = max(sorted(broken), key=lambda edit: (len(parts[edit] & left), edit.parent.name == "must-fail", len(broken[edit])))
@@ -45,7 +57,7 @@ def cover(broken, chosen):
 def tell(top):
     """Prints which wrong bodies have to come into the gate, and which of it break nothing that none of the others breaks."""
     broken = breaking(top)
-    chosen = set(cover(broken, kept(top, broken)))
+    chosen = set(cover(broken, kept(top, broken), left_out(top)))
     gate = {edit for edit in broken if edit.parent.name == "must-fail"}
     for edit in sorted(chosen - gate):
         print(f"into the gate:  {edits.crate_of(edit)}/{edit.stem}")

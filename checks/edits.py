@@ -47,10 +47,11 @@ def write_broken(edit, broken):
     edit.write_text("\n".join(lines_of(broken) + kept))
 
 
-def edited(folder, edit):
-    """The texts that an edit changes, by their files below the crate's folder. A ValueError says why it does not fit."""
+def edited(folder, *several):
+    """The texts that an edit, or several one after the other, change, by their files below the crate's folder. A ValueError says why one does not
+    fit."""
     texts, was, path, old = {}, {}, None, None
-    for line in edit.read_text().split("\n"):
+    for line in (line for edit in several for line in edit.read_text().split("\n")):
         if line.startswith("file:"):
             path = folder / after(line, "file:").strip()
             was.setdefault(path, path.read_text())

@@ -73,14 +73,23 @@ def each_clause_is_broken(top):
     )
 
 
-def each_function_is_broken_in_the_gate(top):
-    """Each public function of which any wrong body breaks a clause, and each such field of the rules, has one in the gate."""
-    known = set(clauses.clauses_of(top))
-    gate, either = (
-        {covers.part_of(clause) for clause in broken_by_all(top, patterns) & known}
-        for patterns in ((edits.OF_THE_GATE,), (edits.OF_THE_GATE, edits.FURTHER))
+def outside_the_gate(top):
+    """The clauses of public functions, and fields of the rules, that any wrong body breaks and none of the gate."""
+    gate, either = (broken_by_all(top, patterns) for patterns in ((edits.OF_THE_GATE,), (edits.OF_THE_GATE, edits.FURTHER)))
+    return {clause: "no wrong body of the gate breaks it" for clause in sorted(set(clauses.clauses_of(top)) & either - gate)}
+
+
+def each_clause_is_broken_in_the_gate(top):
+    """Each public function and each clause of it, and each field of the rules, that any wrong body breaks is broken in the gate, or of a clause it is
+    listed which wrong body breaks it besides."""
+    broken, excepted, outside = covers.breaking(top), covers.left_out(top), outside_the_gate(top)
+    gate = {covers.part_of(clause) for clause in broken_by_all(top, (edits.OF_THE_GATE,))}
+    names = {f"{edits.crate_of(edit)}/{edit.stem}": found for edit, found in broken.items()}
+    return (
+        [f"{clause}: no wrong body of the gate breaks its function" for clause in outside if covers.part_of(clause) not in gate]
+        + [f"{clause}: {name} does not break it" for clause, name in excepted.items() if clause not in names.get(name, ())]
+        + against_list(outside, excepted)
     )
-    return [f"{part}: no wrong body of the gate breaks it" for part in sorted(either - gate)]
 
 
 def defined_twice(top):
@@ -177,8 +186,9 @@ def shrink_list(top, name, kept):
 
 def shrink_lists(top):
     """Takes out of the lists what is no longer needed."""
-    twice, needless, wide, whole = defined_twice(top), unused(top), wide_lines(top), unbroken(top)
+    twice, needless, wide, whole, outside = defined_twice(top), unused(top), wide_lines(top), unbroken(top), outside_the_gate(top)
     shrink_list(top, "clauses_without_a_wrong_body", lambda what, why: why if what in whole else None)
+    shrink_list(top, "clauses_left_out_of_the_gate", lambda what, why: why if what in outside else None)
     shrink_list(top, "defined_twice", lambda what, why: why if what in twice else None)
     shrink_list(top, "unused_dependencies", lambda what, why: why if what in needless else None)
     shrink_list(top, "wide_lines", lambda what, most: min(int(most), wide.get(what, 0)))
@@ -188,7 +198,7 @@ LOOKS = [
     ("wrong bodies and controls fit the text", edits_fit),
     ("each wrong body has a control", wrong_bodies_have_controls),
     ("each clause has a wrong body", each_clause_is_broken),
-    ("each function has a wrong body in the gate", each_function_is_broken_in_the_gate),
+    ("each clause has a wrong body in the gate", each_clause_is_broken_in_the_gate),
     ("each definition's name is defined once", each_name_once),
     ("each crate uses what it stands on", each_dependency_is_used),
     ("clauses have at most 100 columns", clauses_are_narrow),

@@ -71,9 +71,11 @@ FAULTS = {
         ("checks/lists/clauses_without_a_wrong_body", None, "Board::of_packed: not so\n"),
         ("crates/ucl_words/specs/WordRule.antt", "  pub one_run : ", "  pub other : ℕ\n  pub one_run : "),
     ],
-    "each function has a wrong body in the gate": [
-        ("crates/ucl_word/must-fail/match_12_taken_for_11.edit", "", None),
-        ("crates/ucl_board/must-fail/fixture_turned_round.edit", "", None),
+    "each clause has a wrong body in the gate": [
+        ("crates/ucl_word/must-fail/apply_ends_the_match.edit", "", None),
+        ("crates/ucl_board/must-fail/game_of_no_valid_match.edit", "", None),
+        ("checks/lists/clauses_left_out_of_the_gate", None, "Board::report reply: ucl_board/fixture_turned_round\n"),
+        ("checks/lists/clauses_left_out_of_the_gate", ": ucl_runs/", ": ucl_runs/not_"),
     ],
     "each wrong body that is written down is there": [("checks/lists/tried", None, "ucl_word/no_wrong_body 0\n")],
     "each definition's name is defined once": [

@@ -71,6 +71,16 @@ class Built(typing.NamedTuple):
         return folder if self.has([name]) and folder.is_dir() else None
 
 
+class How(typing.NamedTuple):
+    """How edits are tried: who says of an edit of a crate what a check came to for it; how many share a check; whether those that change more than bodies
+    are tried at the whole crate; and whether those that change the same functions are merged."""
+
+    judge: typing.Callable
+    most: int = MOST
+    is_whole: bool = False
+    is_merged: bool = False
+
+
 class Crate:
     """A crate of which edits are tried. Each check begins with what was proved of it before, by a build, or else by the first of these checks."""
 
@@ -90,10 +100,15 @@ class Crate:
         if re.search(rf"^{name} .*\bstaticlib\b.*:", (top / "crates.txt").read_text(), re.M):
             self.words += ["--crate-type", "staticlib"]
 
-    def groups(self, found, most=MOST):
-        """These edits in groups, each to be tried in one check."""
+    def groups(self, found, how):
+        """These edits in groups, each to be tried in one check: all of one group have one judge, for a right body that calls a wrong one is not proved; and no
+        two of it change the same function, or, where they may be merged, the same line."""
         self.changed.update({edit: self.changed_by(edit) for edit in found})
-        return grouped({edit: self.changed[edit] for edit in found}, most)
+        told_apart, groups = [edit for edit in found if self.changed[edit]], []
+        for judge in dict.fromkeys(how.judge(self, edit) for edit in told_apart):
+            of_one = [edit for edit in told_apart if how.judge(self, edit) == judge]
+            groups += grouped(of_one, self.changed, how.most, self.can_be_merged if how.is_merged else self.change_others)
+        return groups + [[edit] for edit in found if not self.changed[edit]]
 
     def changed_by(self, edit):
         """The functions that an edit changes, where it changes nothing but their bodies; else, or where it does not fit, None."""
@@ -101,6 +116,21 @@ class Crate:
             return bodies.changed_by(self.folder, edit, self.functions)
         except (OSError, ValueError):
             return None
+
+    def change_others(self, group, edit):
+        """None of these edits changes a function that this one does."""
+        return not any(self.changed[other] & self.changed[edit] for other in group)
+
+    def can_be_merged(self, group, edit):
+        """None of these edits changes a line that this one does, it still fits after them, and of each is known what it breaks; or none changes a function
+        that this one does."""
+        if not all(map(edits.broken_by, [*group, edit])):
+            return self.change_others(group, edit)
+        try:
+            edits.edited(self.folder, *group, edit)
+        except ValueError:
+            return False
+        return not any(bodies.lines_of(self.folder, other) & bodies.lines_of(self.folder, edit) for other in group)
 
     def asked(self, edit):
         """The functions at which an edit is tried: those whose bodies it changes, or those that it breaks; none where it names none."""
@@ -112,8 +142,8 @@ class Crate:
         functions = set() if is_whole else set().union(*(self.asked(edit) for edit in group))
         self.put_back(room)
         try:
-            for edit in group:
-                put(room, edit)
+            for path, text in edits.edited(room, *group).items():
+                path.write_text(text)
             wait_for_memory()
             ran = subprocess.run(self.words + [word for it in sorted(functions) for word in ("--only", it)], cwd=str(room), **HOW)
             return Try(ran.stdout, ran.returncode)
@@ -127,20 +157,35 @@ class Crate:
             if (self.folder / part).is_dir():
                 shutil.copytree(str(self.folder / part), str(room / part))
 
-    def judged(self, group, place, judge, is_whole):
-        """The verdicts on these edits, by one check, and by one of its own on each that it leaves unclear. The first check of a crate leaves in the
-        place what it has proved, where nothing was proved before."""
+    def judged(self, group, place, how):
+        """The verdicts on these edits, by one check, and by further ones where it leaves any unclear. The first check of a crate leaves in the place what
+        it has proved, where nothing was proved before."""
         with tempfile.TemporaryDirectory(dir=place) as folder:
             room = pathlib.Path(folder)
             if self.proved:
                 shutil.copytree(str(self.proved), str(room / PROVED), copy_function=linked)
-            it = self.tried(room, group, is_whole and len(group) == 1)
-            found = {edit: judge(self, edit)(it, self.changed[edit], len(group) == 1) for edit in group}
-            for edit in [edit for edit in group if found[edit] is None]:
-                found[edit] = judge(self, edit)(self.tried(room, [edit], is_whole), self.changed[edit], True)
+            found = self.verdicts(room, group, how)
             if not self.proved and (room / PROVED).is_dir():
                 self.proved = (room / PROVED).rename(pathlib.Path(place) / self.name)
             return found
+
+    def verdicts(self, room, group, how):
+        """The verdicts on these edits by a check in a room. Where it leaves all unclear, and some were merged, they are tried again with none merged; else
+        those that it leaves unclear each in a check of its own."""
+        it = self.tried(room, group, how.is_whole and len(group) == 1)
+        found = {edit: self.verdict(it, edit, group, how) for edit in group}
+        unclear = [edit for edit in group if found[edit] is None]
+        again = grouped(unclear, self.changed, len(group), self.change_others)
+        for part in again if unclear == group and len(again) > 1 else [[edit] for edit in unclear]:
+            found.update(self.verdicts(room, part, how))
+        return found
+
+    def verdict(self, it, edit, group, how):
+        """The verdict of a check on one of a group of edits; None where it does not tell: of an edit with which others were merged it tells where all
+        clauses were refused that this one breaks by its lines `breaks:`."""
+        verdict, said = how.judge(self, edit)(it, self.changed[edit], len(group) == 1), edits.broken_by(edit)
+        is_merged = not self.change_others([other for other in group if other is not edit], edit)
+        return None if verdict and is_merged and not {*said} <= {*verdict.told(said)} else verdict
 
 
 def linked(file, copy):
@@ -152,25 +197,23 @@ def linked(file, copy):
         return shutil.copy2(file, copy)
 
 
-def put(folder, edit):
-    """Makes an edit in a copy of a crate."""
-    for path, text in edits.edited(folder, edit).items():
-        path.write_text(text)
-
-
-def grouped(changed, most):
-    """The edits in groups, each to be tried in one check: those of the function that most edits change first, each in the smallest group
-    that changes none of its functions."""
-    crowded = collections.Counter(function for functions in changed.values() for function in functions or ())
-    told_apart = {edit: functions for edit, functions in changed.items() if functions}
+def grouped(found, changed, most, fits):
+    """These edits in groups: those of the function that most of them change first, each in a group into which it fits, of these in the one that changes
+    most of its functions already, or else in the smallest."""
+    crowded = collections.Counter(function for edit in found for function in changed[edit])
     groups = []
-    for edit in sorted(told_apart, key=lambda edit: -max(crowded[it] for it in told_apart[edit])):
-        fitting = [group for group in groups if len(group) < most and not any(changed[other] & changed[edit] for other in group)]
+    for edit in sorted(found, key=lambda edit: -max(crowded[it] for it in changed[edit])):
+        fitting = [group for group in groups if len(group) < most and fits(group, edit)]
         if fitting:
-            min(fitting, key=len).append(edit)
+            max(fitting, key=lambda group: (len(changed[edit] & changed_by_any(group, changed)), -len(group))).append(edit)
         else:
             groups.append([edit])
-    return groups + [[edit] for edit in changed if edit not in told_apart]
+    return groups
+
+
+def changed_by_any(group, changed):
+    """The functions that any of these edits changes."""
+    return set().union(*(changed[edit] for edit in group))
 
 
 def available():
@@ -191,9 +234,9 @@ def processors():
     return max(1, min(len(os.sched_getaffinity(0)), available() // SHARE))
 
 
-def verdicts_on(top, found, built, jobs, judge, most=MOST, is_whole=False):
+def verdicts_on(top, found, built, jobs, how):
     """The verdicts on these edits, by their crates, as they come, in so many checks at the same time: those of a crate once the crates below are built.
-    The judge of an edit says what a check came to for it. Edits that change more than bodies are tried at the whole crate, where that is asked for."""
+    """
     kit = pathlib.Path(subprocess.run(["rt", "doc"], check=True, **HOW).stdout.strip()).parent
     waiting = sorted((Crate(top, name, kit, built) for name in found), key=lambda it: -len(found[it.name]) - len(it.below))
     with tempfile.TemporaryDirectory(prefix="tries-") as place, concurrent.futures.ThreadPoolExecutor(jobs or processors()) as pool:
@@ -202,7 +245,7 @@ def verdicts_on(top, found, built, jobs, judge, most=MOST, is_whole=False):
         def begin(crate, groups):
             crate.proved = crate.proved or built.proved(crate.name)
             now, later = (groups, []) if crate.proved else (groups[:1], groups[1:])
-            begun.update({pool.submit(crate.judged, group, place, judge, is_whole): (crate, later) for group in now})
+            begun.update({pool.submit(crate.judged, group, place, how): (crate, later) for group in now})
 
         while waiting or begun:
             for crate in list(waiting):
@@ -210,7 +253,7 @@ def verdicts_on(top, found, built, jobs, judge, most=MOST, is_whole=False):
                 if is_built is None:
                     yield from ((crate, edit, verdicts.Verdict(False, "not tried: what it stands on is not proved")) for edit in found[crate.name])
                 elif is_built:
-                    begin(crate, crate.groups(found[crate.name], most))
+                    begin(crate, crate.groups(found[crate.name], how))
                 waiting = [it for it in waiting if it is not crate or is_built is False]
             for done in concurrent.futures.wait(begun, timeout=2, return_when=concurrent.futures.FIRST_COMPLETED).done:
                 crate, later = begun.pop(done)
