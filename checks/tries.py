@@ -122,10 +122,12 @@ class Crate:
         return not any(self.changed[other] & self.changed[edit] for other in group)
 
     def can_be_merged(self, group, edit):
-        """None of these edits changes a line that this one does, it still fits after them, and of each is known what it breaks; or none changes a function
-        that this one does."""
-        if not all(map(edits.broken_by, [*group, edit])):
-            return self.change_others(group, edit)
+        """None of these edits changes a line that this one does or breaks a clause that it breaks, of each is known what it breaks, and it still fits
+        after them; or none changes a function that this one does."""
+        if self.change_others(group, edit):
+            return True
+        if not all(map(edits.broken_by, [*group, edit])) or any({*edits.broken_by(other)} & {*edits.broken_by(edit)} for other in group):
+            return False
         try:
             edits.edited(self.folder, *group, edit)
         except ValueError:
@@ -235,8 +237,7 @@ def processors():
 
 
 def verdicts_on(top, found, built, jobs, how):
-    """The verdicts on these edits, by their crates, as they come, in so many checks at the same time: those of a crate once the crates below are built.
-    """
+    """The verdicts on these edits, as they come, in so many checks at the same time: those of a crate once the crates below are built."""
     kit = pathlib.Path(subprocess.run(["rt", "doc"], check=True, **HOW).stdout.strip()).parent
     waiting = sorted((Crate(top, name, kit, built) for name in found), key=lambda it: -len(found[it.name]) - len(it.below))
     with tempfile.TemporaryDirectory(prefix="tries-") as place, concurrent.futures.ThreadPoolExecutor(jobs or processors()) as pool:
