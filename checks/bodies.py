@@ -1,7 +1,6 @@
 """Where the functions of a crate stand, as the prover names them, and which of them an edit changes."""
 
 import difflib
-import functools
 import re
 import typing
 
@@ -98,12 +97,6 @@ def changed_lines(was, now):
     """The lines that differ, by their places before: of lines that are only added the one before."""
     steps = difflib.SequenceMatcher(None, was.split("\n"), now.split("\n"), autojunk=False).get_opcodes()
     return [at for kind, start, end, _, _ in steps if kind != "equal" for at in (range(start, end) if end > start else [start - 1])]
-
-
-@functools.lru_cache(maxsize=None)
-def lines_of(folder, edit):
-    """The lines that an edit changes, each by its file and its place."""
-    return {(path, at) for path, text in edits.edited(folder, edit).items() for at in changed_lines(path.read_text(), text)}
 
 
 def changed_by(folder, edit, functions):

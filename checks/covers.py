@@ -1,6 +1,6 @@
 """Of which wrong bodies the gate has to be made, so that of each clause of a public function, and each field of the rules of shared boards, that any
 breaks, one is in it: those that checks/lists/kept_in_the_gate names, and else as few as are found greedily. For the clauses that
-checks/lists/clauses_left_out_of_the_gate has, one of their function is enough."""
+checks/lists/clauses_left_out_of_the_gate has, one of their function is enough, or none where it has the function too."""
 
 import clauses
 import edits
@@ -22,14 +22,19 @@ def part_of(clause):
 
 
 def left_out(top):
-    """The clauses of which the gate need not have a wrong body, each with one that breaks it."""
+    """The clauses, and functions, of which the gate need not have a wrong body, each with one that breaks it."""
     lines = [line.split(": ") for line in (top / LEFT_OUT).read_text().split("\n") if line and not line.startswith("#")]
     return dict(lines)
 
 
 def parts_of(broken, excepted):
-    """What each wrong body breaks of what the gate has to have: the clauses that are not excepted, and its functions."""
-    return {edit: {*map(part_of, found)} | {clause for clause in found if clause not in excepted} for edit, found in broken.items()}
+    """What each wrong body breaks of what the gate has to have: the clauses and functions that are not excepted."""
+    return {edit: both(found) - {*excepted} for edit, found in broken.items()}
+
+
+def both(found):
+    """These clauses, and what they are of."""
+    return {*map(part_of, found), *found}
 
 
 def kept(top, broken):

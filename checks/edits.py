@@ -48,10 +48,24 @@ def write_broken(edit, broken):
 
 
 def edited(folder, *several):
-    """The texts that an edit, or several one after the other, change, by their files below the crate's folder. A ValueError says why one does not
-    fit."""
+    """The texts that edits change, by their files below the crate's folder. Each is made on the texts as they stand, in which it changes lines and adds
+    none; of several no two may change one line. A ValueError says why one does not fit."""
+    texts, was = {}, {}
+    for edit in several:
+        for path, text in edited_alone(folder, edit).items():
+            lines = was.setdefault(path, path.read_text().split("\n"))
+            made = texts.setdefault(path, list(lines))
+            for at, line in enumerate(text.split("\n")):
+                if line != lines[at] and made[at] != lines[at]:
+                    raise ValueError("two edits change one line")
+                made[at] = line if line != lines[at] else made[at]
+    return {path: "\n".join(lines) for path, lines in texts.items()}
+
+
+def edited_alone(folder, edit):
+    """The same of one edit."""
     texts, was, path, old = {}, {}, None, None
-    for line in (line for edit in several for line in edit.read_text().split("\n")):
+    for line in edit.read_text().split("\n"):
         if line.startswith("file:"):
             path = folder / after(line, "file:").strip()
             was.setdefault(path, path.read_text())

@@ -74,22 +74,21 @@ def each_clause_is_broken(top):
 
 
 def outside_the_gate(top):
-    """The clauses of public functions, and fields of the rules, that any wrong body breaks and none of the gate."""
-    gate, either = (broken_by_all(top, patterns) for patterns in ((edits.OF_THE_GATE,), (edits.OF_THE_GATE, edits.FURTHER)))
-    return {clause: "no wrong body of the gate breaks it" for clause in sorted(set(clauses.clauses_of(top)) & either - gate)}
+    """The public functions and their clauses, and fields of the rules, that any wrong body breaks and none of the gate."""
+    tiers = ((edits.OF_THE_GATE,), (edits.OF_THE_GATE, edits.FURTHER))
+    gate, either = (covers.both(broken_by_all(top, patterns)) for patterns in tiers)
+    return {what: "no wrong body of the gate breaks it" for what in sorted(covers.both(clauses.clauses_of(top)) & either - gate)}
 
 
 def each_clause_is_broken_in_the_gate(top):
-    """Each public function and each clause of it, and each field of the rules, that any wrong body breaks is broken in the gate, or of a clause it is
-    listed which wrong body breaks it besides."""
-    broken, excepted, outside = covers.breaking(top), covers.left_out(top), outside_the_gate(top)
-    gate = {covers.part_of(clause) for clause in broken_by_all(top, (edits.OF_THE_GATE,))}
-    names = {f"{edits.crate_of(edit)}/{edit.stem}": found for edit, found in broken.items()}
-    return (
-        [f"{clause}: no wrong body of the gate breaks its function" for clause in outside if covers.part_of(clause) not in gate]
-        + [f"{clause}: {name} does not break it" for clause, name in excepted.items() if clause not in names.get(name, ())]
-        + against_list(outside, excepted)
-    )
+    """Each public function and each clause of it, and each field of the rules, that any wrong body breaks is broken in the gate, or it is listed which
+    wrong body breaks it besides."""
+    excepted = covers.left_out(top)
+    names = {f"{edits.crate_of(edit)}/{edit.stem}": covers.both(found) for edit, found in covers.breaking(top).items()}
+    return [
+        *(f"{what}: {name} does not break it" for what, name in excepted.items() if what not in names.get(name, ())),
+        *against_list(outside_the_gate(top), excepted),
+    ]
 
 
 def defined_twice(top):

@@ -122,17 +122,16 @@ class Crate:
         return not any(self.changed[other] & self.changed[edit] for other in group)
 
     def can_be_merged(self, group, edit):
-        """None of these edits changes a line that this one does or breaks a clause that it breaks, of each is known what it breaks, and it still fits
-        after them; or none changes a function that this one does."""
+        """None of these edits changes a line that this one does or breaks a clause that it breaks, and of each is known what it breaks; or none changes a
+        function that this one does."""
         if self.change_others(group, edit):
             return True
         if not all(map(edits.broken_by, [*group, edit])) or any({*edits.broken_by(other)} & {*edits.broken_by(edit)} for other in group):
             return False
         try:
-            edits.edited(self.folder, *group, edit)
+            return bool(edits.edited(self.folder, *group, edit))
         except ValueError:
             return False
-        return not any(bodies.lines_of(self.folder, other) & bodies.lines_of(self.folder, edit) for other in group)
 
     def asked(self, edit):
         """The functions at which an edit is tried: those whose bodies it changes, or those that it breaks; none where it names none."""

@@ -114,29 +114,46 @@ fn version_once(words: &[u64; 12]) -> Option<u16> {
     Board::of_words(words).ok().map(|board| board.version())
 }
 
-/// The event for each match of each board, by the generator of `bench/plain/calls.c`.
+/// The next number of the generator of `bench/plain/calls.c`.
+fn next_chance(chance: u64) -> u64 {
+    chance
+        .wrapping_mul(6_364_136_223_846_793_005)
+        .wrapping_add(1_442_695_040_888_963_407)
+}
+
+/// The event that a number of the generator stands for.
+fn event_by(chance: u64) -> Tried {
+    Tried {
+        reporter: (chance >> 48) as u32 % 257,
+        wrong: u32::from((chance >> 40) % 16 == 0),
+        kind: (chance >> 33) as u32 % 14,
+    }
+}
+
+/// The events for the matches of a board, by the next numbers of the generator.
+fn events_by(chance: &mut u64) -> [Tried; 12] {
+    let none = Tried {
+        reporter: 0,
+        wrong: 0,
+        kind: 0,
+    };
+    let mut events = [none; 12];
+    for event in events.iter_mut() {
+        *chance = next_chance(*chance);
+        *event = event_by(*chance);
+    }
+    events
+}
+
+/// The event for each match of each board.
 fn tries_of(alloc: Global, boards: &[Board]) -> Result<Vec<Tries>> {
     let mut tries = Vec::new(alloc);
     let mut chance = 1u64;
     for board in boards {
-        let none = Tried {
-            reporter: 0,
-            wrong: 0,
-            kind: 0,
-        };
-        let mut events = [none; 12];
-        for event in events.iter_mut() {
-            chance = chance
-                .wrapping_mul(6_364_136_223_846_793_005)
-                .wrapping_add(1_442_695_040_888_963_407);
-            *event = Tried {
-                reporter: (chance >> 48) as u32 % 257,
-                wrong: u32::from((chance >> 40) % 16 == 0),
-                kind: (chance >> 33) as u32 % 14,
-            };
-        }
-        let words = board.words();
-        tries.push(Tries { words, events })?;
+        tries.push(Tries {
+            words: board.words(),
+            events: events_by(&mut chance),
+        })?;
     }
     Ok(tries)
 }

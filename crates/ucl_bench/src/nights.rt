@@ -70,12 +70,14 @@ pub enum Timed {
     Reports,
 }
 
-/// What is timed in the night after so many.
-fn timed_after(nights: u64) -> Timed {
-    match nights % 3 {
-        0 => Timed::Nothing,
-        1 => Timed::Readings,
-        _ => Timed::Reports,
+impl Timed {
+    /// What is timed in the next night.
+    fn next(self) -> Timed {
+        match self {
+            Timed::Nothing => Timed::Readings,
+            Timed::Readings => Timed::Reports,
+            Timed::Reports => Timed::Nothing,
+        }
     }
 }
 
@@ -120,10 +122,12 @@ pub struct Shift {
     entered: u64,
 }
 
-/// What all nights came to: how many there were, and of those without a clock how many, for how long, and how many events.
+/// What all nights came to: how many there were, what is timed in the next, and of those without a clock how many, for how long, and how
+/// many events.
 #[derive(Clone, Copy)]
 struct Sums {
     nights: u64,
+    next: Timed,
     untimed: u64,
     nanos: u64,
     entered: u64,
@@ -151,6 +155,7 @@ impl fmt::Display for Nights {
             untimed,
             nanos,
             entered,
+            ..
         } = self.sums;
         let tally = &self.tally;
         let reads_per_s = Quotient(tally.reads.wrapping_mul(1_000_000), tally.nanos / 1000);
@@ -295,8 +300,11 @@ fn enter_own<S: Subject, R: Wait + Clock>(
     let cut = plan.cut();
     let mut due = nanos(rt);
     let mut entered = 0u64;
-    for game in (1..=MATCHES).filter_map(MatchNo::new) {
-        if !is_of(game.get(), index, cut.reporters) {
+    for number in 1..=MATCHES {
+        let Some(game) = MatchNo::new(number) else {
+            continue;
+        };
+        if !is_of(number, index, cut.reporters) {
             continue;
         }
         for expected in 0..cut.events {
@@ -379,6 +387,18 @@ struct Crew<S: Subject> {
     reporters: Vec<Sender<Ticket<S::Reporter>>>,
 }
 
+/// Sends a worker its part of a night.
+fn send<T: Drop, R: Wait>(
+    rt: &R,
+    worker: &Sender<Ticket<T>>,
+    part: T,
+    night: &Arc<Night>,
+) -> Result<()> {
+    let night = Arc::try_clone(night)?;
+    let sent = worker.send(rt, Ticket { part, night });
+    sent.ok().context("a worker has gone")
+}
+
 /// Sends each worker its part of a night on a fresh board.
 fn begin_night<S: Subject, R: Wait>(
     rt: &R,
@@ -390,17 +410,11 @@ fn begin_night<S: Subject, R: Wait>(
     for reporter in crew.reporters.iter() {
         let second = S::split(rt, &mut first)?;
         let part = S::enlist(rt, second).context("no number is left")?;
-        let night = Arc::try_clone(night)?;
-        if reporter.send(rt, Ticket { part, night }).is_err() {
-            anyhow::bail!("a reporter has gone");
-        }
+        send(rt, reporter, part, night)?;
     }
     for reader in crew.readers.iter() {
         let part = S::split(rt, &mut first)?;
-        let night = Arc::try_clone(night)?;
-        if reader.send(rt, Ticket { part, night }).is_err() {
-            anyhow::bail!("a reader has gone");
-        }
+        send(rt, reader, part, night)?;
     }
     Ok(())
 }
@@ -449,7 +463,7 @@ fn hold_night<S: Subject, R: Wait + Clock>(
 ) -> Result<()> {
     let reporters = crew.reporters.len() as u64;
     let workers = (crew.readers.len() as u64).wrapping_add(reporters);
-    let timed = timed_after(sums.nights);
+    let timed = sums.next;
     let night = Arc::new(
         alloc,
         Night {
@@ -467,6 +481,7 @@ fn hold_night<S: Subject, R: Wait + Clock>(
     let is_quiet = reporters == 0 || sent.is_err();
     let shift = end_night(rt, &night, reporters, is_quiet, shifts)?;
     sums.nights = sums.nights.wrapping_add(1);
+    sums.next = timed.next();
     if timed == Timed::Nothing {
         let taken = shift.ended.saturating_sub(shift.begun);
         sums.untimed = sums.untimed.wrapping_add(1);
@@ -486,6 +501,7 @@ fn hold_nights<S: Subject, R: Wait + Clock>(
 ) -> Result<Sums> {
     let mut sums = Sums {
         nights: 0,
+        next: Timed::Nothing,
         untimed: 0,
         nanos: 0,
         entered: 0,

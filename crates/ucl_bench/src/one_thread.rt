@@ -42,7 +42,10 @@ impl fmt::Display for Chunks {
 /// The events of all matches, one match after the other, up to this number.
 pub fn events_to(alloc: Global, last: u16) -> Result<Vec<EventCall>> {
     let mut events = Vec::new(alloc);
-    for game in (1..=MATCHES).filter_map(MatchNo::new) {
+    for number in 1..=MATCHES {
+        let Some(game) = MatchNo::new(number) else {
+            continue;
+        };
         for expected in 0..last {
             events.push(event_at(game, expected))?;
         }

@@ -35,6 +35,33 @@ macro_rules! hold_nights {
     }};
 }
 
+fn nights_of_words<R: Threads + Wait + Clock + Copy + Send + 'static>(
+    rt: R,
+    alloc: Global,
+    plan: Plan,
+    millis: u64,
+) -> Result<Nights> {
+    hold_nights!(LiveSubject<WordBoard>, rt, alloc, plan, millis)
+}
+
+fn nights_in_cells<R: Threads + Wait + Clock + Copy + Send + 'static>(
+    rt: R,
+    alloc: Global,
+    plan: Plan,
+    millis: u64,
+) -> Result<Nights> {
+    hold_nights!(LiveSubject<CellBoard>, rt, alloc, plan, millis)
+}
+
+fn nights_of_plain_words<R: Threads + Wait + Clock + Copy + Send + 'static>(
+    rt: R,
+    alloc: Global,
+    plan: Plan,
+    millis: u64,
+) -> Result<Nights> {
+    hold_nights!(PlainSubject, rt, alloc, plan, millis)
+}
+
 /// Nights of the subject of this name.
 pub fn measure_nights<R: Threads + Wait + Clock + Copy + Send + 'static>(
     rt: R,
@@ -44,9 +71,9 @@ pub fn measure_nights<R: Threads + Wait + Clock + Copy + Send + 'static>(
     millis: u64,
 ) -> Result<Nights> {
     match subject {
-        "word_board" => hold_nights!(LiveSubject<WordBoard>, rt, alloc, plan, millis),
-        "cell_board" => hold_nights!(LiveSubject<CellBoard>, rt, alloc, plan, millis),
-        "plain_words" => hold_nights!(PlainSubject, rt, alloc, plan, millis),
+        "word_board" => nights_of_words(rt, alloc, plan, millis),
+        "cell_board" => nights_in_cells(rt, alloc, plan, millis),
+        "plain_words" => nights_of_plain_words(rt, alloc, plan, millis),
         _ => anyhow::bail!("no such subject"),
     }
 }

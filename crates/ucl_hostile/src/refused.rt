@@ -127,19 +127,17 @@ fn short_run(alloc: Global) -> anyhow::Result<Vec<Step>> {
             expected: 0,
             kind: Kind::KickOff,
         };
-        steps.push(Step::Begin(reporter, Call::Event(kick_off)))?;
-        steps.push(Step::Look(reporter))?;
-        steps.push(Step::Swap(reporter))?;
-        steps.push(Step::End(reporter))?;
+        steps.extend_from_slice(&[
+            Step::Begin(reporter, Call::Event(kick_off)),
+            Step::Look(reporter),
+            Step::Swap(reporter),
+            Step::End(reporter),
+        ])?;
     }
     let reader = Caller::Reader(1);
     steps.push(Step::Begin(reader, Call::Reading))?;
-    for _ in 0..12 {
-        steps.push(Step::First(reader))?;
-    }
-    for _ in 0..12 {
-        steps.push(Step::Second(reader))?;
-    }
+    steps.extend_from_slice(&[Step::First(reader); 12])?;
+    steps.extend_from_slice(&[Step::Second(reader); 12])?;
     steps.push(Step::End(reader))?;
     Ok(steps)
 }

@@ -170,20 +170,24 @@ fn accepted_next(entered: &[Entered], game: MatchNo, before: u16) -> Option<Opti
     Some(found)
 }
 
+/// Whether an event that was refused so is refused so by the rules too, if that was after so many events of its match.
+fn is_refused(one: &Entered, refusal: Refusal, board: &Board) -> bool {
+    let record = board.game(one.call.game);
+    let is_here = match refusal {
+        Refusal::Stale { found } => found == record.number,
+        _ => one.call.expected == record.number,
+    };
+    let by_rules = apply(&record, one.reporter, one.call.expected, one.call.kind);
+    !is_here || by_rules.err() == Some(refusal)
+}
+
 /// Whether each event of a match that was refused after so many is refused by the rules there.
 fn are_refused(entered: &[Entered], board: &Board, game: MatchNo) -> bool {
-    let record = board.game(game);
     for one in entered {
-        let Err(refusal) = one.answer else {
-            continue;
-        };
-        let is_here = match refusal {
-            Refusal::Stale { found } => found == record.number,
-            _ => one.call.expected == record.number,
-        };
-        let by_rules = apply(&record, one.reporter, one.call.expected, one.call.kind);
-        if one.call.game == game && is_here && by_rules.err() != Some(refusal) {
-            return false;
+        if let Err(refusal) = one.answer {
+            if one.call.game == game && !is_refused(one, refusal, board) {
+                return false;
+            }
         }
     }
     true

@@ -1,4 +1,4 @@
-//! What no clause says of evenings: their texts and statuses, what words ask for, and each call once with ample memory.
+//! What no clause says of evenings and of their threads: their texts and statuses, what words ask for, and each call once with ample memory.
 #![tactic(auto)]
 
 #[cfg(test)]
@@ -13,6 +13,8 @@ mod held;
 mod json;
 #[cfg(test)]
 mod rows;
+#[cfg(test)]
+mod threads;
 
 #[cfg(test)]
 use std::alloc::{AllocError, Global};

@@ -304,9 +304,9 @@ fn play(steps: &mut Vec<Step>, turn: Turn) -> Result<(), Fail> {
 
 /// The words of a board of which only matches 1 to 3 have begun.
 fn words_after(begun: [u64; 3]) -> [u64; 12] {
-    [
-        begun[0], begun[1], begun[2], FRESH, FRESH, FRESH, FRESH, FRESH, FRESH, FRESH, FRESH, FRESH,
-    ]
+    let mut words = [FRESH; 12];
+    words[..3].copy_from_slice(&begun);
+    words
 }
 
 fn reading(words: &[u64; 12], version: u16) -> Option<Reply> {

@@ -49,7 +49,7 @@ fn first_words(first: [u64; 3]) -> [u64; 12] {
 }
 
 /// What the first matches of a night can have at one moment, and the version.
-const OF_ONE_MOMENT: [(&str, [u64; 3], u16, Cut); 7] = [
+static OF_ONE_MOMENT: [(&str, [u64; 3], u16, Cut); 7] = [
     ("fresh", [SCHEDULED; 3], 0, PACED_BY_ONE),
     (
         "kicked off",
@@ -91,14 +91,14 @@ const OF_ONE_MOMENT: [(&str, [u64; 3], u16, Cut); 7] = [
 
 #[test]
 fn words_of_one_moment(rt: HostRuntime) {
-    for (name, first, version, cut) in OF_ONE_MOMENT {
+    for &(name, first, version, cut) in OF_ONE_MOMENT.as_slice() {
         assert!(rt; is_whole(&first_words(first), version, cut), "{name}");
     }
     assert!(rt; is_whole(&[ENDED; 12], 49140, WHOLE_BY_ONE), "all ended");
 }
 
 /// The same of two moments.
-const OF_TWO_MOMENTS: [(&str, [u64; 3], u16, Cut); 5] = [
+static OF_TWO_MOMENTS: [(&str, [u64; 3], u16, Cut); 5] = [
     (
         "stands",
         [AFTER_99, KICKED_OFF, SCHEDULED],
@@ -134,7 +134,7 @@ const OF_TWO_MOMENTS: [(&str, [u64; 3], u16, Cut); 5] = [
 /// What a single collect can give: it copies a match, and a later one when that has gone on.
 #[test]
 fn words_of_two_moments(rt: HostRuntime) {
-    for (name, first, version, cut) in OF_TWO_MOMENTS {
+    for &(name, first, version, cut) in OF_TWO_MOMENTS.as_slice() {
         assert!(rt; !is_whole(&first_words(first), version, cut), "{name}");
     }
 }

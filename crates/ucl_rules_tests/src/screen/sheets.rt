@@ -37,9 +37,9 @@ fn told_of(sheet: &Sheet) -> Option<Told> {
 
 /// A board of which matches 3 and 4 have this word, and matches 5 to 12 have not begun.
 fn board_of(first: u64, second: u64, both: u64) -> [u64; 12] {
-    [
-        first, second, both, both, FRESH, FRESH, FRESH, FRESH, FRESH, FRESH, FRESH, FRESH,
-    ]
+    let mut words = [FRESH; 12];
+    words[..4].copy_from_slice(&[first, second, both, both]);
+    words
 }
 
 /// Words of a sheet, the one that follows, and the third word and the version of the board, or why the sheet is refused. Words of the
