@@ -38,7 +38,7 @@ def run(top, jobs, names, is_anew, built):
     found, before = to_try(top, names, is_anew)
     for edit in before:
         print(f"refused     {records.name_of(edit)}, by an earlier run on this machine", flush=True)
-    judged = tries.verdicts_on(top, found, built, jobs, tries.How(lambda crate, _: crate.judges.wrong, is_merged=True, is_started=True))
+    judged = tries.verdicts_on(top, found, built, jobs, tries.How(lambda crate, _: crate.judges.wrong, is_merged=True))
     well = [counted(top, edit, verdict) for _, edit, verdict in judged]
     return len(before) + sum(well), len(well) - sum(well)
 

@@ -8,10 +8,6 @@ changed by two of them. What is left unclear is tried once more, each edit alone
 A check proves the functions that its edits change, with those that these call, and no others, over what is built of the crates below, and takes
 what was proved of the same text before. An edit that changes more than bodies is tried alone, at the functions that it breaks by its lines
 `breaks:`, or at all. (`rt ci` and `rt must-fail` make a check of the whole crate for each.)
-
-Functions whose proofs have no file of answers can be tried by a start in place of a check: the prover then writes the file that a proof of each would
-have to begin with, which has the goals that its search does not prove. It proves no function that these call, and searches once, where a check that
-refuses anything does so again to show what is left. What a start does not tell is left to a check.
 """
 
 import collections
@@ -37,9 +33,6 @@ PROVED = "proved"
 # The memory that is free where a check begins, and how much of what is free at first each processor is given.
 MEMORY = 5 << 30
 SHARE = 4 << 30
-# What a start says that it wrote, and a goal in such a file that is left open.
-WROTE = re.compile(r"^wrote \./proofs/(\S+)/(Answers|Invariants|Proof)\.antt$", re.M)
-LEFT = re.compile(r"^(\S+)(?: \w+)* = \?$", re.M)
 HOW = {"stdin": subprocess.DEVNULL, "stdout": subprocess.PIPE, "stderr": subprocess.STDOUT, "universal_newlines": True, "errors": "replace"}
 # The last line of the file in which a run of `rt ci` tells of the crates that it has proved.
 ENDED = "rt ci has ended\n"
@@ -80,13 +73,12 @@ class Built(typing.NamedTuple):
 
 class How(typing.NamedTuple):
     """How edits are tried: who says of an edit of a crate what a check came to for it; how many share a check; whether those that change more than bodies
-    are tried at the whole crate; whether those that change the same functions are merged; and whether those that can be are tried by a start."""
+    are tried at the whole crate; and whether those that change the same functions are merged."""
 
     judge: typing.Callable
     most: int = MOST
     is_whole: bool = False
     is_merged: bool = False
-    is_started: bool = False
 
 
 class Crate:
@@ -113,21 +105,10 @@ class Crate:
         two of it change the same function, or, where they may be merged, the same line."""
         self.changed.update({edit: self.changed_by(edit) for edit in found})
         told_apart, groups = [edit for edit in found if self.changed[edit]], []
-        kinds = {edit: (how.is_started and self.can_be_started(edit), how.judge(self, edit)) for edit in told_apart}
-        for kind in dict.fromkeys(kinds.values()):
-            of_one = [edit for edit in told_apart if kinds[edit] == kind]
+        for judge in dict.fromkeys(how.judge(self, edit) for edit in told_apart):
+            of_one = [edit for edit in told_apart if how.judge(self, edit) == judge]
             groups += grouped(of_one, self.changed, how.most, self.can_be_merged if how.is_merged else self.change_others)
         return groups + [[edit] for edit in found if not self.changed[edit]]
-
-    def apart(self, groups, how):
-        """These groups in two: those that are tried by a start, and the others."""
-        started = [group for group in groups if how.is_started and all(map(self.can_be_started, group))]
-        return started, [group for group in groups if group not in started]
-
-    def can_be_started(self, edit):
-        """Only bodies of functions are changed, and no proof of these has a file but for the invariants of loops."""
-        places = [self.folder / "proofs" / it.symbol.replace("::", "/") for it in self.changed[edit] or ()]
-        return bool(places) and not any((place / file).exists() for place in places for file in ("Answers.antt", "Proof.antt"))
 
     def changed_by(self, edit):
         """The functions that an edit changes, where it changes nothing but their bodies; else, or where it does not fit, None."""
@@ -159,32 +140,13 @@ class Crate:
 
     def tried(self, room, group, is_whole):
         """A check in a room with these edits in place, of the functions at which they are tried, or of all."""
-        return self.ran(room, group, [] if is_whole else self.named("--only", group))
-
-    def started(self, room, group):
-        """A start in a room with these edits in place, told as a check tells it: which goals of which functions are left open."""
-        it = self.ran(room, group, self.named("--start", group))
-        if it.status != 0:
-            return it
-        texts = {place: (room / "proofs" / place / "Answers.antt").read_text() for place, file in WROTE.findall(it.said) if file == "Answers"}
-        lines = [
-            f"fn {self.name}::{place.replace('/', '::')}: no proof: `search` did not prove {', '.join(f'`{goal}`' for goal in LEFT.findall(text))}"
-            for place, text in texts.items()
-        ]
-        return Try("\n".join([*lines, f"only={len(lines)}"]), 1)
-
-    def named(self, flag, group):
-        """The words that ask for the functions at which these edits are tried."""
-        return [word for it in sorted(set().union(*map(self.asked, group))) for word in (flag, it)]
-
-    def ran(self, room, group, words):
-        """A run of the prover with these words, in a room with these edits in place."""
+        functions = set() if is_whole else set().union(*(self.asked(edit) for edit in group))
         self.put_back(room)
         try:
             for path, text in edits.edited(room, *group).items():
                 path.write_text(text)
             wait_for_memory()
-            ran = subprocess.run(self.words + words, cwd=str(room), **HOW)
+            ran = subprocess.run(self.words + [word for it in sorted(functions) for word in ("--only", it)], cwd=str(room), **HOW)
             return Try(ran.stdout, ran.returncode)
         except (OSError, ValueError) as error:
             return Try(str(error), None)
@@ -203,27 +165,26 @@ class Crate:
             room = pathlib.Path(folder)
             if self.proved:
                 shutil.copytree(str(self.proved), str(room / PROVED), copy_function=linked)
-            found = self.verdicts(room, group, how, bool(self.apart([group], how)[0]))
+            found = self.verdicts(room, group, how)
             if not self.proved and (room / PROVED).is_dir():
                 self.proved = (room / PROVED).rename(pathlib.Path(place) / self.name)
             return found
 
-    def verdicts(self, room, group, how, by_a_start=False):
-        """The verdicts on these edits by a check in a room, or by a start. Where it leaves all unclear, and some were merged, they are tried again with
-        none merged; else those that it leaves unclear each in a check of its own; those that a start leaves unclear together in a check."""
-        it = self.started(room, group) if by_a_start else self.tried(room, group, how.is_whole and len(group) == 1)
-        found = {edit: self.verdict(it, edit, group, how, len(group) == 1 and not by_a_start) for edit in group}
+    def verdicts(self, room, group, how):
+        """The verdicts on these edits by a check in a room. Where it leaves all unclear, and some were merged, they are tried again with none merged; else
+        those that it leaves unclear each in a check of its own."""
+        it = self.tried(room, group, how.is_whole and len(group) == 1)
+        found = {edit: self.verdict(it, edit, group, how) for edit in group}
         unclear = [edit for edit in group if found[edit] is None]
         again = grouped(unclear, self.changed, len(group), self.change_others)
-        parts = again if unclear == group and len(again) > 1 else [[edit] for edit in unclear]
-        for part in [unclear] if by_a_start and unclear else parts:
+        for part in again if unclear == group and len(again) > 1 else [[edit] for edit in unclear]:
             found.update(self.verdicts(room, part, how))
         return found
 
-    def verdict(self, it, edit, group, how, is_alone):
+    def verdict(self, it, edit, group, how):
         """The verdict of a check on one of a group of edits; None where it does not tell: of an edit with which others were merged it tells where all
         clauses were refused that this one breaks by its lines `breaks:`."""
-        verdict, said = how.judge(self, edit)(it, self.changed[edit], is_alone), edits.broken_by(edit)
+        verdict, said = how.judge(self, edit)(it, self.changed[edit], len(group) == 1), edits.broken_by(edit)
         is_merged = not self.change_others([other for other in group if other is not edit], edit)
         return None if verdict and is_merged and not {*said} <= {*verdict.told(said)} else verdict
 
@@ -283,9 +244,7 @@ def verdicts_on(top, found, built, jobs, how):
 
         def begin(crate, groups):
             crate.proved = crate.proved or built.proved(crate.name)
-            started, others = crate.apart(groups, how)
-            now, later = (others, []) if crate.proved else (others[:1], others[1:])
-            begun.update({pool.submit(crate.judged, group, place, how): (crate, []) for group in started})
+            now, later = (groups, []) if crate.proved else (groups[:1], groups[1:])
             begun.update({pool.submit(crate.judged, group, place, how): (crate, later) for group in now})
 
         while waiting or begun:
