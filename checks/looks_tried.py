@@ -76,6 +76,7 @@ FAULTS = {
         ("crates/ucl_board/must-fail/game_of_no_valid_match.edit", "", None),
         ("checks/lists/clauses_left_out_of_the_gate", None, "Board::report reply: ucl_board/fixture_turned_round\n"),
         ("checks/lists/clauses_left_out_of_the_gate", ": ucl_runs/", ": ucl_runs/not_"),
+        ("checks/lists/clauses_left_out_of_the_gate", "hold_evening: ucl_evenings_threads/strangers_passed_over\n", ""),
     ],
     "each wrong body that is written down is there": [("checks/lists/tried", None, "ucl_word/no_wrong_body 0\n")],
     "each definition's name is defined once": [
