@@ -236,28 +236,28 @@ def processors():
 
 
 def verdicts_on(top, found, built, jobs, how):
-    """The verdicts on these edits, as they come, in so many checks at the same time: those of a crate once the crates below are built."""
+    """The verdicts on these edits, as they come, in so many checks at the same time: those of a crate once the crates below are built. Of a crate of which
+    nothing is proved one check comes first, and the others right after it, before those of crates that are built later."""
     kit = pathlib.Path(subprocess.run(["rt", "doc"], check=True, **HOW).stdout.strip()).parent
     waiting = sorted((Crate(top, name, kit, built) for name in found), key=lambda it: -len(found[it.name]) - len(it.below))
-    with tempfile.TemporaryDirectory(prefix="tries-") as place, concurrent.futures.ThreadPoolExecutor(jobs or processors()) as pool:
-        begun = {}
-
-        def begin(crate, groups):
-            crate.proved = crate.proved or built.proved(crate.name)
-            now, later = (groups, []) if crate.proved else (groups[:1], groups[1:])
-            begun.update({pool.submit(crate.judged, group, place, how): (crate, later) for group in now})
-
-        while waiting or begun:
+    jobs = jobs or processors()
+    with tempfile.TemporaryDirectory(prefix="tries-") as place, concurrent.futures.ThreadPoolExecutor(jobs) as pool:
+        ready, begun = [], {}
+        while waiting or ready or begun:
             for crate in list(waiting):
                 is_built = built.has(crate.below)
                 if is_built is None:
                     yield from ((crate, edit, verdicts.Verdict(False, "not tried: what it stands on is not proved")) for edit in found[crate.name])
                 elif is_built:
-                    begin(crate, crate.groups(found[crate.name], how))
+                    crate.proved, groups = built.proved(crate.name), crate.groups(found[crate.name], how)
+                    now = groups if crate.proved else groups[:1]
+                    ready += [(crate, group, groups[len(now) :]) for group in now]
                 waiting = [it for it in waiting if it is not crate or is_built is False]
+            while ready and len(begun) < jobs:
+                crate, group, later = ready.pop(0)
+                begun[pool.submit(crate.judged, group, place, how)] = crate, later
             for done in concurrent.futures.wait(begun, timeout=2, return_when=concurrent.futures.FIRST_COMPLETED).done:
                 crate, later = begun.pop(done)
-                if later:
-                    begin(crate, later)
+                ready[:0] = [(crate, group, []) for group in later]
                 yield from ((crate, edit, verdict) for edit, verdict in done.result().items())
             time.sleep(0 if begun else 2)
