@@ -65,13 +65,12 @@ put_fails a b failed x y t Asks Refuses NoThread s = absurd s
 put_fails a b failed x y t Asks Refuses TooManyReporters s = absurd s
 put_fails a b failed x y t Asks Refuses (Strangers version) s = absurd s
 
--- a failed write is one call in vain
-pub vain_fails : (out : ℕ) (failed failed2 : Bool) (x y : Option (List ℕ)) (t : List ℕ) (vain vain2 : ℕ) (f : RunFault) → IsStopped out failed2 x y t f → vain2 ≡ vain + 1
-    → SinkFails vain vain2 failed failed2 f
-vain_fails out failed failed2 x y t vain vain2 (WriteFailed written) s e = (e, s.failed_is)
-vain_fails out failed failed2 x y t vain vain2 OutOfMemory s e = absurd s
-vain_fails out failed failed2 x y t vain vain2 (Input fault) s e = absurd s
-vain_fails out failed failed2 x y t vain vain2 (NotOnDuty row) s e = absurd s
-vain_fails out failed failed2 x y t vain vain2 NoThread s e = absurd s
-vain_fails out failed failed2 x y t vain vain2 TooManyReporters s e = absurd s
-vain_fails out failed failed2 x y t vain vain2 (Strangers version) s e = absurd s
+-- a failed write is told where the sink has failed
+pub stopped_fails : (out : ℕ) (failed failed2 : Bool) (x y : Option (List ℕ)) (t : List ℕ) (f : RunFault) → IsStopped out failed2 x y t f → SinkFails failed failed2 f
+stopped_fails out failed failed2 x y t (WriteFailed written) s = s.failed_is
+stopped_fails out failed failed2 x y t OutOfMemory s = absurd s
+stopped_fails out failed failed2 x y t (Input fault) s = absurd s
+stopped_fails out failed failed2 x y t (NotOnDuty row) s = absurd s
+stopped_fails out failed failed2 x y t NoThread s = absurd s
+stopped_fails out failed failed2 x y t TooManyReporters s = absurd s
+stopped_fails out failed failed2 x y t (Strangers version) s = absurd s

@@ -3,7 +3,6 @@ use Rattle.std.proofs.Common.{◌≡◌, ℕ, zero, suc, ◌+◌, ◌-◌, ◌^�
 use Rattle.std.proofs.Common.{append_assoc, append-nil, arith, length-append}
 use Rattle.std.specs.Prelude.{IfSome}
 use Rattle.std.specs.Io.KnownBytes.{Appends, Consumes, IsAtEnd, Keeps}
-use Rattle.ucl_screen.specs.Stream.{vain_after}
 use Rattle.ucl_screen.proofs.MovedBytes.{appends-none, appends-then, consumes-then}
 use Rattle.ucl_screen.specs.declared.fault.InputFault.{InputFault}
 use Rattle.ucl_screen.specs.declared.fault.InputFault.TheVariants.{ReadFailed}
@@ -321,11 +320,3 @@ stays-took past old new progress live e s = subst (StaysPrompt past old new) e s
 pub read-more : (before bytes : List ℕ) (old new : ℕ) → old ≡ min (length before) (2 ^ 64 - 1) → new ≡ min (length (before ++ bytes)) (2 ^ 64 - 1) → (bytes ≡ [] → ⊥) → old ≤ 2 ^ 62 → old < new
 read-more before [] old new p q some few = absurd (some refl)
 read-more before (b ∷ bytes) old new p q some few = let k = length-append before (b ∷ bytes) in omega arith
-
--- a step that took bytes made no call in vain
-pub run-moved : (old new : ℕ) (live : Live) (progress : Progress) → progress ≡ Took live → IfTook (λ (_ : Live). new ≡ old) progress → new ≡ old
-run-moved old new live progress e s = subst (IfTook (λ (_ : Live). new ≡ old)) e s
-
-pub not-vain : (before n : ℕ) → (n ≡ 0 → ⊥) → vain_after before (Some n) ≡ before
-not-vain before zero h = absurd (h refl)
-not-vain before (suc n) h = refl

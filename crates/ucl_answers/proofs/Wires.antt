@@ -1,9 +1,9 @@
--- A source that is asked once more, and calls of it in vain.
+-- A source that is asked once more.
 use Rattle.std.proofs.Common.{◌≡◌, ℕ, ◌+◌, Bool, List, [], ◌∷◌, ◌++◌, length, Option, Some, None, sym, ap, ◌∙◌, inl, inr, append_assoc, append-nil, arith, length-append}
 use Rattle.std.specs.Io.KnownBytes.{Consumes, IsAtEnd}
 use Rattle.std.proofs.lemmas.List.Elements.{All-nil, All-push}
 use Rattle.ucl_answers.specs.Stepping.{HasEnded}
-use Rattle.ucl_answers.specs.Wires.{AskedMore, InTurn, VainlyTakes}
+use Rattle.ucl_answers.specs.Wires.{AskedMore, InTurn}
 
 turn-none : {T : Type 0} (count : T → ℕ) (calls : ℕ) → InTurn count calls []
 unfolding InTurn
@@ -42,10 +42,3 @@ pub ended-since : (first left left2 : Option (List ℕ)) (bytes : List ℕ) → 
 ended-since None left left2 bytes took h = tt
 ended-since (Some xs) None left2 bytes took h = absurd took
 ended-since (Some xs) (Some ys) left2 bytes took h = h
-
--- no call was in vain before
-pub vain-since : (before old new : ℕ) (failed : Bool) (first left left2 : Option (List ℕ)) (bytes : List ℕ) → old ≡ before → Consumes first left bytes → VainlyTakes old new failed left left2
-    → VainlyTakes before new failed first left2
-vain-since before old new failed first left left2 bytes same took (inl e) = inl (e ∙ same)
-vain-since before old new failed first left left2 bytes same took (inr (e, inl is)) = inr (e ∙ ap (λ (n : ℕ). n + 1) same, inl is)
-vain-since before old new failed first left left2 bytes same took (inr (e, inr h)) = inr (e ∙ ap (λ (n : ℕ). n + 1) same, inr (ended-since first left left2 bytes took h))

@@ -35,8 +35,7 @@ FailsToPut before after sink text Asks Refuses OutOfMemory = (after ≡ before) 
 FailsToPut before after sink text Asks Refuses (Input fault) = (after ≡ before) × (sink.new ≡ sink.old) × Refuses fault
 FailsToPut before after sink text Asks Refuses _ = ⊥
 
--- of the calls of the sink none was in vain, and none failed, but the last one where writing failed: it is not called again then, and none
--- is called with nothing
-abbrev pub SinkFails : ℕ → ℕ → Bool → Bool → RunFault → Type 0
-SinkFails vain vain2 failed failed2 (WriteFailed written) = (vain2 ≡ vain + 1) × (failed2 ≡ true)
-SinkFails vain vain2 failed failed2 _ = (vain2 ≡ vain) × (failed2 ≡ failed)
+-- a failed write is told only where the sink has failed; after any other fault the sink is as it was in this
+abbrev pub SinkFails : Bool → Bool → RunFault → Type 0
+SinkFails failed failed2 (WriteFailed written) = failed2 ≡ true
+SinkFails failed failed2 _ = failed2 ≡ failed

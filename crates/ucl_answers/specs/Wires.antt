@@ -17,10 +17,6 @@ pub record AskedMore {T : Type 0} (count : T → ℕ) (old new : List T) (calls 
   pub in_turn : InTurn count calls times
   pub held : All P times
 
--- of the calls that were made to take bytes none was in vain, but one in which the source failed, or told its end
-abbrev pub VainlyTakes : ℕ → ℕ → Bool → Option (List ℕ) → Option (List ℕ) → Type 0
-VainlyTakes old new failed left left2 = (new ≡ old) ⊎ ((new ≡ old + 1) × ((failed ≡ true) ⊎ HasEnded left left2))
-
 -- an evening began here: of what was left then some bytes were taken by now, and the answers to all their lines that have an end are out,
 -- and nothing else
 abbrev pub IsAnsweredSoFar : Evening → Option (List ℕ) → Option (List ℕ) → Option (List ℕ) → Option (List ℕ) → Type 0

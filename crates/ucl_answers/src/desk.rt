@@ -90,16 +90,13 @@ fn answer_text<W: Sink>(
     ensures put { OnOk result (HasPut page.old page.new (W.taken sink.old) (W.taken sink.new)
         (answer_said (evening_seen evening.old) (said_by_text evening.old.row text.now))) }
     ensures sound { OnOk result (W.failed sink.new ≡ W.failed sink.old) }
-    ensures vain { OnOk result (W.in_vain sink.new ≡ W.in_vain sink.old) }
     ensures fails { IfErr result (FailsToPut page.old page.new
         (sink_change W.Sink sink.old sink.new)
         (answer_said (evening_seen evening.old) (said_by_text evening.old.row text.now))
         (AsksForMemory (evening_seen evening.old) (said_by_text evening.old.row text.now))
         (EveningIsRefused
         (next (evening_seen evening.old) (said_by_text evening.old.row text.now)))) }
-    ensures sink_fails { IfErr result (SinkFails
-        (W.in_vain sink.old) (W.in_vain sink.new)
-        (W.failed sink.old) (W.failed sink.new)) }
+    ensures sink_fails { IfErr result (SinkFails (W.failed sink.old) (W.failed sink.new)) }
 {
     if let Some(four) = plain_row(evening.row, text) {
         return evening.answer(alloc, &Some(four), page, sink);
@@ -173,16 +170,13 @@ impl Desk {
             (answer_said (evening_seen evening.old)
             (said_on evening.old.row self.old.line.items))) }
         ensures sound { OnOk result (W.failed sink.new ≡ W.failed sink.old) }
-        ensures vain { OnOk result (W.in_vain sink.new ≡ W.in_vain sink.old) }
         ensures fails { IfErr result (FailsToPut self.old.page self.new.page
             (sink_change W.Sink sink.old sink.new)
             (answer_said (evening_seen evening.old) (said_on evening.old.row self.old.line.items))
             (AsksForMemory (evening_seen evening.old) (said_on evening.old.row self.old.line.items))
             (EveningIsRefused
             (next (evening_seen evening.old) (said_on evening.old.row self.old.line.items)))) }
-        ensures sink_fails { IfErr result (SinkFails
-            (W.in_vain sink.old) (W.in_vain sink.new)
-            (W.failed sink.old) (W.failed sink.new)) }
+        ensures sink_fails { IfErr result (SinkFails (W.failed sink.old) (W.failed sink.new)) }
     {
         self.line.push(b'\n');
         answer_text(
@@ -216,13 +210,10 @@ impl Desk {
             (W.taken sink.old) (W.taken sink.new)
             (answers_to (moment_of evening.old self.old) end.now)) }
         ensures sound { OnOk result (W.failed sink.new ≡ W.failed sink.old) }
-        ensures vain { OnOk result (W.in_vain sink.new ≡ W.in_vain sink.old) }
         ensures fails { IfErr result (FailsToTake (moment_of evening.old self.old) end.now
             self.old.page self.new.page
             (sink_change W.Sink sink.old sink.new)) }
-        ensures sink_fails { IfErr result (SinkFails
-            (W.in_vain sink.old) (W.in_vain sink.new)
-            (W.failed sink.old) (W.failed sink.new)) }
+        ensures sink_fails { IfErr result (SinkFails (W.failed sink.old) (W.failed sink.new)) }
     {
         let _written = self.page.written();
         if self.line.is_empty() {

@@ -44,7 +44,6 @@ fn after_row<W: Sink>(
         (answer_at options.now row (stage_seen stage)
         (request_of (of_row (option_map four_seen said.now))))) }
     ensures sound { OnOk result (W.failed sink.new ≡ W.failed sink.old) }
-    ensures vain { OnOk result (W.in_vain sink.new ≡ W.in_vain sink.old) }
     ensures fails { IfErr result (FailsToPut page.old page.new
         (sink_change W.Sink sink.old sink.new)
         (answer_at options.now row (stage_seen stage)
@@ -53,9 +52,7 @@ fn after_row<W: Sink>(
         (request_of (of_row (option_map four_seen said.now))))
         (StageIsRefused
         (after_row row (stage_seen stage) (of_row (option_map four_seen said.now))))) }
-    ensures sink_fails { IfErr result (SinkFails
-        (W.in_vain sink.old) (W.in_vain sink.new)
-        (W.failed sink.old) (W.failed sink.new)) }
+    ensures sink_fails { IfErr result (SinkFails (W.failed sink.old) (W.failed sink.new)) }
 {
     let _written = page.written();
     match stage {
@@ -93,16 +90,13 @@ impl Evening {
         ensures put { OnOk result (HasPut page.old page.new (W.taken sink.old) (W.taken sink.new)
             (answer_said (evening_seen self.old) (of_row (option_map four_seen said.now)))) }
         ensures sound { OnOk result (W.failed sink.new ≡ W.failed sink.old) }
-        ensures vain { OnOk result (W.in_vain sink.new ≡ W.in_vain sink.old) }
         ensures fails { IfErr result (FailsToPut page.old page.new
             (sink_change W.Sink sink.old sink.new)
             (answer_said (evening_seen self.old) (of_row (option_map four_seen said.now)))
             (AsksForMemory (evening_seen self.old) (of_row (option_map four_seen said.now)))
             (EveningIsRefused
             (next (evening_seen self.old) (of_row (option_map four_seen said.now))))) }
-        ensures sink_fails { IfErr result (SinkFails
-            (W.in_vain sink.old) (W.in_vain sink.new)
-            (W.failed sink.old) (W.failed sink.new)) }
+        ensures sink_fails { IfErr result (SinkFails (W.failed sink.old) (W.failed sink.new)) }
     {
         match &mut self.stage {
             Stage::Open(table) => {

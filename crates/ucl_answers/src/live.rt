@@ -7,7 +7,7 @@ ghost use Rattle.ucl_runs.specs.Run.{is_read_failed};
 ghost use Rattle.ucl_answers.specs.Text.{live_text, missing_after, start_of};
 ghost use Rattle.ucl_answers.specs.Stepping.{EveningIsRefused, Fails, IfTook, IsAt, IsOfEvening, IsPrompt, LineAsks, Past, StaysPrompt, answers_to, begins, device, ended_at, last_answers, missing_at, moment_after, reached, unread};
 ghost use Rattle.ucl_answers.specs.Seen.{evening_seen};
-ghost use Rattle.ucl_answers.specs.Wires.{AskedMore, IsAnsweredSoFar, VainlyTakes};
+ghost use Rattle.ucl_answers.specs.Wires.{AskedMore, IsAnsweredSoFar};
 ghost use Rattle.ucl_answers.specs.Taking.{FailsToEnd, FailsToGive, FailsToTake, RunFails, line_begun_in, held_row, live_moment, live_row, live_waiting, moment_of};
 
 use crate::desk::Desk;
@@ -61,12 +61,9 @@ fn enter<W: Sink>(
     ensures put { OnOk result (HasPut desk.old.page desk.new.page (W.taken sink.old)
         (W.taken sink.new) (answers_to (moment_of evening desk.old) bytes.now)) }
     ensures sound { OnOk result (W.failed sink.new ≡ W.failed sink.old) }
-    ensures vain { OnOk result (W.in_vain sink.new ≡ W.in_vain sink.old) }
     ensures fails { IfErr result (FailsToTake (moment_of evening desk.old) bytes.now
         desk.old.page desk.new.page (sink_change W.Sink sink.old sink.new)) }
-    ensures sink_fails { IfErr result (SinkFails
-        (W.in_vain sink.old) (W.in_vain sink.new)
-        (W.failed sink.old) (W.failed sink.new)) }
+    ensures sink_fails { IfErr result (SinkFails (W.failed sink.old) (W.failed sink.new)) }
 {
     let _written = desk.page.written();
     let mut evening = evening;
@@ -112,12 +109,9 @@ fn take_in<W: Sink>(
     ensures put { OnOk result (HasPut desk.old.page desk.new.page (W.taken sink.old)
         (W.taken sink.new) (answers_to (moment_of evening desk.old) bytes.now)) }
     ensures sound { OnOk result (W.failed sink.new ≡ W.failed sink.old) }
-    ensures vain { OnOk result (W.in_vain sink.new ≡ W.in_vain sink.old) }
     ensures fails { IfErr result (FailsToGive (moment_of evening desk.old)
         bytes.now desk.old.page.out (sink_change W.Sink sink.old sink.new)) }
-    ensures sink_fails { IfErr result (SinkFails
-        (W.in_vain sink.old) (W.in_vain sink.new)
-        (W.failed sink.old) (W.failed sink.new)) }
+    ensures sink_fails { IfErr result (SinkFails (W.failed sink.old) (W.failed sink.new)) }
 {
     match enter(alloc, evening, desk, bytes, sink) {
         Ok(after) => {
@@ -148,14 +142,11 @@ fn answer_last<W: Sink>(
     ensures put { OnOk result (HasPut desk.old.page desk.new.page (W.taken sink.old)
         (W.taken sink.new) (last_answers (moment_of evening desk.old))) }
     ensures sound { OnOk result (W.failed sink.new ≡ W.failed sink.old) }
-    ensures vain { OnOk result (W.in_vain sink.new ≡ W.in_vain sink.old) }
     ensures fails { IfErr result (FailsToPut desk.old.page desk.new.page
         (sink_change W.Sink sink.old sink.new)
         (last_answers (moment_of evening desk.old)) (LineAsks (moment_of evening desk.old))
         (EveningIsRefused (ended_at (moment_of evening desk.old)))) }
-    ensures sink_fails { IfErr result (SinkFails
-        (W.in_vain sink.old) (W.in_vain sink.new)
-        (W.failed sink.old) (W.failed sink.new)) }
+    ensures sink_fails { IfErr result (SinkFails (W.failed sink.old) (W.failed sink.new)) }
 {
     let _written = desk.page.written();
     if desk.line.is_empty() {
@@ -180,12 +171,9 @@ fn end<W: Sink>(
     ensures out { OnOk result (Appends (W.taken sink.old)
         (W.taken sink.new) (last_answers (moment_of evening desk.old))) }
     ensures sound { OnOk result (W.failed sink.new ≡ W.failed sink.old) }
-    ensures vain { OnOk result (W.in_vain sink.new ≡ W.in_vain sink.old) }
     ensures fails { IfErr result (FailsToEnd (moment_of evening desk.old) desk.old.page.out
         (sink_change W.Sink sink.old sink.new)) }
-    ensures sink_fails { IfErr result (SinkFails
-        (W.in_vain sink.old) (W.in_vain sink.new)
-        (W.failed sink.old) (W.failed sink.new)) }
+    ensures sink_fails { IfErr result (SinkFails (W.failed sink.old) (W.failed sink.new)) }
 {
     let after = answer_last(alloc, evening, desk, sink)?;
     match after.stage.missing(after.row) {
@@ -235,17 +223,10 @@ impl Live {
         ensures asked { wire.new.asked.times
             ≡ wire.old.asked.times ++ (wire.old.source, wire.old.sink) ∷ [] }
         ensures one_call { S.calls wire.new.source ≡ S.calls wire.old.source + 1 }
-        ensures vain { VainlyTakes (S.in_vain wire.old.source) (S.in_vain wire.new.source)
-            (S.failed wire.new.source) (S.left wire.old.source) (S.left wire.new.source) }
-        ensures moved { IfOk result
-            (IfTook (λ _. S.in_vain wire.new.source ≡ S.in_vain wire.old.source)) }
         ensures read_failed { S.failed wire.new.source ≡ is_read_failed result }
         ensures kinds { IfErr result IsOfEvening }
         ensures sink_sound { OnOk result (W.failed wire.new.sink ≡ W.failed wire.old.sink) }
-        ensures sink_vain { OnOk result (W.in_vain wire.new.sink ≡ W.in_vain wire.old.sink) }
-        ensures sink_fails { IfErr result (SinkFails
-            (W.in_vain wire.old.sink) (W.in_vain wire.new.sink)
-            (W.failed wire.old.sink) (W.failed wire.new.sink)) }
+        ensures sink_fails { IfErr result (SinkFails (W.failed wire.old.sink) (W.failed wire.new.sink)) }
         ensures prompt { (past : Past) → IsPrompt past self (W.taken wire.old.sink)
             → IfOk result (StaysPrompt past
             (device S.left S.failed W.taken W.failed wire.old)
@@ -313,16 +294,9 @@ pub fn live_run<S: Source, W: Sink>(
         (λ time. IsAnsweredSoFar (start_of options)
         (S.left wire.old.source) (S.left time.0) (W.taken wire.old.sink) (W.taken time.1)) }
 
-    // A source that has failed, or told the end, is not called again, and no other call is in vain.
-    ensures vain { VainlyTakes (S.in_vain wire.old.source) (S.in_vain wire.new.source)
-        (S.failed wire.new.source) (S.left wire.old.source) (S.left wire.new.source) }
-
-    // A failed write is answered exactly where the sink has failed, which is not called again then; and it is not called with nothing.
+    // A failed write is answered exactly where the sink has failed.
     ensures sink_sound { OnOk result (W.failed wire.new.sink ≡ W.failed wire.old.sink) }
-    ensures sink_vain { OnOk result (W.in_vain wire.new.sink ≡ W.in_vain wire.old.sink) }
-    ensures sink_fails { IfErr result (SinkFails
-        (W.in_vain wire.old.sink) (W.in_vain wire.new.sink)
-        (W.failed wire.old.sink) (W.failed wire.new.sink)) }
+    ensures sink_fails { IfErr result (SinkFails (W.failed wire.old.sink) (W.failed wire.new.sink)) }
 
     // Why it fails, and what is out then.
     ensures fails { IfErr result (RunFails (start_of options)

@@ -2,7 +2,6 @@
 
 ghost use Rattle.std.specs.Prelude.{◌≡◌, ◌-◌, ◌^◌, ◌≤◌, [], ◌++◌, length, IfErr, IfOk, OnOk};
 ghost use Rattle.std.specs.Io.KnownBytes.{Appends};
-ghost use Rattle.ucl_screen.specs.Stream.{VainlyGives};
 ghost use Rattle.ucl_runs.specs.Run.{IsStopped};
 ghost use Rattle.ucl_answers.specs.Output.{HasPut};
 
@@ -56,7 +55,6 @@ impl Page {
         ensures stopped { IfErr result (IsStopped self.old.out (W.failed sink.new)
             (W.taken sink.old) (W.taken sink.new) self.old.held) }
         ensures sound { OnOk result (W.failed sink.new ≡ W.failed sink.old) }
-        ensures vain { VainlyGives (W.in_vain sink.old) (W.in_vain sink.new) result }
     {
         self.out = put_bytes(sink, self.out, self.held.as_slice())?;
         self.held.clear();
@@ -71,7 +69,6 @@ impl Page {
         ensures stopped { IfErr result (IsStopped self.old.out (W.failed sink.new)
             (W.taken sink.old) (W.taken sink.new) (self.old.held ++ text.now)) }
         ensures sound { OnOk result (W.failed sink.new ≡ W.failed sink.old) }
-        ensures vain { VainlyGives (W.in_vain sink.old) (W.in_vain sink.new) result }
     {
         let _before = self.out;
         match self.held.try_extend_from_slice(text) {
@@ -96,7 +93,6 @@ impl Page {
         ensures stopped { IfErr result (IsStopped self.old.out (W.failed sink.new)
             (W.taken sink.old) (W.taken sink.new) (self.old.held ++ (text.now ++ more.now))) }
         ensures sound { OnOk result (W.failed sink.new ≡ W.failed sink.old) }
-        ensures vain { VainlyGives (W.in_vain sink.old) (W.in_vain sink.new) result }
     {
         self.put(sink, text)?;
         self.put(sink, more)

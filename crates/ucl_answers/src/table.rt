@@ -21,7 +21,7 @@ use ucl_runs::RunFault;
 use ucl_screen::{NightEvent, Sink};
 
 /// Puts the words of a board.
-#[tactic(auto, using(crate::proofs::Puts::put_fails, crate::proofs::Puts::vain_fails))]
+#[tactic(auto, using(crate::proofs::Puts::put_fails, crate::proofs::Puts::stopped_fails))]
 fn put_words<W: Sink>(
     alloc: Global,
     format: Format,
@@ -33,13 +33,10 @@ fn put_words<W: Sink>(
     ensures put { OnOk result (HasPut page.old page.new
         (W.taken sink.old) (W.taken sink.new) (words_answer format row board.now)) }
     ensures sound { OnOk result (W.failed sink.new ≡ W.failed sink.old) }
-    ensures vain { OnOk result (W.in_vain sink.new ≡ W.in_vain sink.old) }
     ensures fails { IfErr result (FailsToPut page.old page.new
         (sink_change W.Sink sink.old sink.new)
         (words_answer format row board.now) (format ≡ Json) NeverRefused) }
-    ensures sink_fails { IfErr result (SinkFails
-        (W.in_vain sink.old) (W.in_vain sink.new)
-        (W.failed sink.old) (W.failed sink.new)) }
+    ensures sink_fails { IfErr result (SinkFails (W.failed sink.old) (W.failed sink.new)) }
 {
     match format {
         Format::Text => page.put(sink, word_lines(board).as_slice()),
@@ -49,7 +46,7 @@ fn put_words<W: Sink>(
 
 impl Table {
     /// Enters an event, and answers it.
-    #[tactic(auto, using(crate::proofs::Puts::put_fails, crate::proofs::Puts::vain_fails))]
+    #[tactic(auto, using(crate::proofs::Puts::put_fails, crate::proofs::Puts::stopped_fails))]
     fn entered<W: Sink>(
         &mut self,
         alloc: Global,
@@ -64,14 +61,11 @@ impl Table {
         ensures put { OnOk result (HasPut page.old page.new (W.taken sink.old) (W.taken sink.new)
             (event_answer options.now row self.old.roster self.old.board event.now)) }
         ensures sound { OnOk result (W.failed sink.new ≡ W.failed sink.old) }
-        ensures vain { OnOk result (W.in_vain sink.new ≡ W.in_vain sink.old) }
         ensures fails { IfErr result (FailsToPut page.old page.new
             (sink_change W.Sink sink.old sink.new)
             (event_answer options.now row self.old.roster self.old.board event.now)
             (AsksOf options.now self.old.board (Event event.now)) NeverRefused) }
-        ensures sink_fails { IfErr result (SinkFails
-            (W.in_vain sink.old) (W.in_vain sink.new)
-            (W.failed sink.old) (W.failed sink.new)) }
+        ensures sink_fails { IfErr result (SinkFails (W.failed sink.old) (W.failed sink.new)) }
     {
         let before = self.board.version();
         let reply = self.board.report(event.reporter, &event.call);
@@ -86,7 +80,7 @@ impl Table {
     }
 
     /// Does what a row asks for, and answers it.
-    #[tactic(auto, using(crate::proofs::Puts::put_fails, crate::proofs::Puts::vain_fails))]
+    #[tactic(auto, using(crate::proofs::Puts::put_fails, crate::proofs::Puts::stopped_fails))]
     pub(crate) fn answered<W: Sink>(
         &mut self,
         alloc: Global,
@@ -101,14 +95,11 @@ impl Table {
         ensures put { OnOk result (HasPut page.old page.new (W.taken sink.old) (W.taken sink.new)
             (answer_of options.now row self.old.roster self.old.board request.now)) }
         ensures sound { OnOk result (W.failed sink.new ≡ W.failed sink.old) }
-        ensures vain { OnOk result (W.in_vain sink.new ≡ W.in_vain sink.old) }
         ensures fails { IfErr result (FailsToPut page.old page.new
             (sink_change W.Sink sink.old sink.new)
             (answer_of options.now row self.old.roster self.old.board request.now)
             (AsksOf options.now self.old.board request.now) NeverRefused) }
-        ensures sink_fails { IfErr result (SinkFails
-            (W.in_vain sink.old) (W.in_vain sink.new)
-            (W.failed sink.old) (W.failed sink.new)) }
+        ensures sink_fails { IfErr result (SinkFails (W.failed sink.old) (W.failed sink.new)) }
     {
         let answer = match request {
             Request::Event(event) => {

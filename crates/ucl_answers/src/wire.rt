@@ -2,7 +2,7 @@
 
 ghost use Rattle.std.specs.Prelude.{◌≡◌, ◌+◌, ◌<◌, ◌≤◌, ◌↔◌, true, [], ◌∷◌, ◌++◌, length, IsNone, IfSome};
 ghost use Rattle.std.specs.Io.KnownBytes.{IsAtEnd};
-ghost use Rattle.ucl_screen.specs.Stream.{Takes, vain_after};
+ghost use Rattle.ucl_screen.specs.Stream.{Takes};
 
 use crate::asked::Asked;
 use ucl_screen::{Sink, Source};
@@ -38,7 +38,6 @@ impl<S: Source, W: Sink> Wire<S, W> {
             ≡ self.old.asked.times ++ (self.old.source, self.old.sink) ∷ [] }
         ensures sink { self.new.sink ≡ self.old.sink }
         ensures counts { S.calls self.new.source ≡ S.calls self.old.source + 1 }
-        ensures vain { S.in_vain self.new.source ≡ vain_after (S.in_vain self.old.source) result }
         ensures fails { IsNone result ↔ (S.failed self.new.source ≡ true) }
         ensures fits { IfSome result (λ n. n ≤ length buf.old) }
         ensures moves { Takes (S.left self.old.source) (S.left self.new.source) result buf.new }

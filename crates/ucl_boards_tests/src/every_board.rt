@@ -377,21 +377,22 @@ fn all_passes_kept<B: LiveBoard, R: Wait>(
     Ok(kept)
 }
 
-/// How many reporters' passes are alive at once, and what is left when all are let go: whether there is another number, and the version
-/// that is read.
+/// How many reporters' passes are alive at once, and whether there is another number beside them; then, when all are let go, whether there is one,
+/// and the version that is read.
 fn all_let_go_on<B: LiveBoard, R: Wait>(
     rt: &R,
     alloc: Global,
     board: &B,
     mut reader: B::ReaderPass,
-) -> Result<(usize, bool, u16), AllocError>
+) -> Result<(usize, bool, bool, u16), AllocError>
     requires { B.is_reader board.now reader }
 {
     let kept = all_passes_kept(rt, alloc, board, &mut reader)?;
     let many = kept.len();
+    let beside = enlisted(rt, board, &mut reader).is_some();
     drop(kept);
     let another = enlisted(rt, board, &mut reader).is_some();
-    Ok((many, another, version_read(rt, board, &mut reader)))
+    Ok((many, beside, another, version_read(rt, board, &mut reader)))
 }
 
 #[test]
@@ -401,7 +402,7 @@ fn all_passes_at_once(rt: HostRuntime) -> Result<(), Fail> {
     let in_cell = all_let_go_on(&rt, alloc, &board, reader)?;
     let (board, reader) = WordBoard::open(&rt, alloc)?;
     let in_words = all_let_go_on(&rt, alloc, &board, reader)?;
-    assert_eq!(rt; [in_cell, in_words], [(255, false, 0); 2]);
+    assert_eq!(rt; [in_cell, in_words], [(255, false, false, 0); 2]);
     Ok(())
 }
 

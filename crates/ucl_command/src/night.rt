@@ -6,7 +6,7 @@ ghost use mathlib.Core.List.{IsPrefix};
 ghost use Rattle.ucl_board.specs.History.{snapshot_at};
 ghost use Rattle.ucl_screen.specs.Screen.{IsGroup, screen_text};
 ghost use Rattle.ucl_runs.specs.Faults.{IsOfNight};
-ghost use Rattle.ucl_runs.specs.Gates.{HaveCalled, Showed, rows_by};
+ghost use Rattle.ucl_runs.specs.Gates.{rows_by};
 ghost use Rattle.ucl_runs.specs.Nights.{HasShown, HaveEnteredAll, HaveMerged, HaveNightBoard, HaveRead, HaveShares, IsDutyTold, IsOnDuty, last_shown, night_history, night_output, pass_of_reader_1, pass_of_reader_2};
 ghost use Rattle.ucl_runs.specs.Run.{IsStopped};
 ghost use Rattle.ucl_runs.specs.Styles.{styled};
@@ -122,18 +122,6 @@ pub fn night_on<B: LiveBoard, G: Gate, W: Sink, R: Threads + Wait + Sync>(
         (night_history (B.reporter played.end.reporter_2) played.end.settled.version)
         (pass_of_reader_2 (B.reader pass)) (B.reader played.end.reader_2)
         readings (last_shown played.end.last 1)) }
-
-    // The gate was told of each call of each worker, and of the screen of each reading, which is of a version of the settled history.
-    ensures called { IfOk result (λ _. HaveCalled (G.came gate.entry.now)
-        night.entry.now.events.items readings) }
-    ensures showed_1 { IfOk result (λ played. Showed (G.showed gate.entry.now) 3
-        (styled profile night.entry.now.roster group)
-        (night_history (B.reporter played.end.reporter_2) played.end.settled.version)
-        (B.reader played.end.reader_1).shown) }
-    ensures showed_2 { IfOk result (λ played. Showed (G.showed gate.entry.now) 4
-        (styled profile night.entry.now.roster group)
-        (night_history (B.reporter played.end.reporter_2) played.end.settled.version)
-        (B.reader played.end.reader_2).shown) }
 {
     let end = night_run(
         rt, alloc, board, pass, night, group, readings, gate, profile,

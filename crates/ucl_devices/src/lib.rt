@@ -2,9 +2,11 @@
 //! streams. Every function is safe, and no more is said of it. Beside them stands the run that these tests have stored.
 #![tactic(auto)]
 
+mod given;
 mod stored;
 
 use std::io;
+pub use given::{Count, Given, Idle, Shelf};
 pub use stored::{CLUBS, STORED, STORED_REPLIES, STORED_SCREEN, STORED_WORDS};
 
 /// A reader of a text, which gives at most `piece` bytes at a time, fails after `room` bytes, and then reads on.

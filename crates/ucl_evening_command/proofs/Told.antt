@@ -1,7 +1,7 @@
 -- What is told of workers' faults, and the exit status.
 use Rattle.std.proofs.Common.{◌≡◌, ◌∙◌, ℕ, suc, ◌+◌, ◌<◌, ◌≤◌, Bool, refl, sym, ap, subst, List, [], ◌∷◌, ◌++◌, length, take, drop, get_or, Option}
-use Rattle.std.proofs.Common.{Some, None, inl, inr, length-append, arith}
-use Rattle.std.specs.Prelude.{unwrap_or}
+use Rattle.std.proofs.Common.{Some, None, inl, inr, length-append, arith, true}
+use Rattle.std.specs.Prelude.{⊤, Result, Ok, Err, unwrap_or}
 use Rattle.std.specs.Io.KnownBytes.{Appends}
 use Rattle.std.proofs.lemmas.List.{take-append-le}
 use Rattle.ucl_screen.proofs.MovedBytes.{appends-then}
@@ -10,7 +10,8 @@ use Rattle.ucl_runs.specs.Run.{IsCutShort}
 use Rattle.ucl_runs.specs.Telling.{Tells}
 use Rattle.ucl_runs.specs.declared.fault.RunFault.{RunFault}
 use Rattle.ucl_evening_command.specs.declared.ending.Part.{Part}
-use Rattle.ucl_evening_command.specs.Ending.{TellsAll, TellsEnd, first_status, status_at}
+use Rattle.ucl_evening_command.specs.declared.ending.Worker.{Worker}
+use Rattle.ucl_evening_command.specs.Ending.{TellsAll, TellsEnd, TellsResult, first_status, status_at}
 use Rattle.ucl_evening_command.proofs.Lists.{first_left, past_end}
 
 -- ---- a line of two parts
@@ -69,19 +70,30 @@ status_none i parts whole h so_far = rw (past_end i parts h) at so_far
 
 -- ---- what is told
 
--- what is told of the parts that are left completes what was told
-abbrev pub Completes : List Part → List Part → Option (List ℕ) → Option (List ℕ) → Type 0
-Completes left parts now old = (new : Option (List ℕ)) → TellsAll left now new → TellsAll parts old new
+-- what is told of the parts that are left completes what was told; a sink that has failed by now has failed in the end
+abbrev pub Completes : List Part → List Part → Bool → Option (List ℕ) → Option (List ℕ) → Type 0
+Completes left parts failed now old = (end : Bool) (new : Option (List ℕ)) → (failed ≡ true → end ≡ true) → TellsAll left end now new → TellsAll parts end old new
 
-pub told_start : (parts : List Part) (old : Option (List ℕ)) → Completes (drop 0 parts) parts old old
-told_start parts old new told = told
+pub told_start : (parts : List Part) (failed : Bool) (old : Option (List ℕ)) → Completes (drop 0 parts) parts failed old old
+told_start parts failed old end new stays told = told
 
-pub told_step : (i : ℕ) (parts : List Part) (d : Part) (failed : Bool) (old now next : Option (List ℕ)) → i < length parts
-    → TellsEnd (get_or parts i d) failed now next → Completes (drop i parts) parts now old → Completes (drop (i + 1) parts) parts next old
+-- a line that broke off, where the sink has failed since
+told_later : (worker : Worker) (number : ℕ) (r : Result ⊤ RunFault) (failed end : Bool) (old new : Option (List ℕ)) → (failed ≡ true → end ≡ true)
+    → TellsResult worker number r failed old new → TellsResult worker number r end old new
+told_later worker number (Ok done) failed end old new stays told = told
+told_later worker number (Err fault) failed end old new stays (inl all) = inl all
+told_later worker number (Err fault) failed end old new stays (inr broke) = inr (record { failed_is = stays broke.failed_is; count = broke.count; first = broke.first })
+
+pub told_step : (i : ℕ) (parts : List Part) (d : Part) (before failed : Bool) (old now next : Option (List ℕ)) → i < length parts
+    → TellsEnd (get_or parts i d) failed now next → (before ≡ true → failed ≡ true) → Completes (drop i parts) parts before now old
+    → Completes (drop (i + 1) parts) parts failed next old
 unfolding TellsAll
-told_step i parts d failed old now next h told so_far new rest =
-    so_far new (subst (λ (left : List Part). TellsAll left now new) (sym (first_left i parts d h)) (failed, next, told, rest))
+told_step i parts d before failed old now next h told stays so_far end new more rest =
+    let part = get_or parts i d in
+    let line = told_later part.worker part.number part.result failed end now next more told in
+    so_far end new (λ e. more (stays e)) (subst (λ (left : List Part). TellsAll left end now new) (sym (first_left i parts d h)) (next, line, rest))
 
-pub told_end : (i : ℕ) (parts : List Part) (old now : Option (List ℕ)) → length parts ≤ i → Completes (drop i parts) parts now old → TellsAll parts old now
+pub told_end : (i : ℕ) (parts : List Part) (failed : Bool) (old now : Option (List ℕ)) → length parts ≤ i → Completes (drop i parts) parts failed now old
+    → TellsAll parts failed old now
 unfolding TellsAll
-told_end i parts old now h so_far = so_far now (subst (λ (left : List Part). TellsAll left now now) (sym (past_end i parts h)) refl)
+told_end i parts failed old now h so_far = so_far failed now (λ e. e) (subst (λ (left : List Part). TellsAll left failed now now) (sym (past_end i parts h)) refl)

@@ -29,10 +29,10 @@ TellsResult worker number (Err fault) failed old new = Tells failed old new (par
 abbrev pub TellsEnd : Part → Bool → Option (List ℕ) → Option (List ℕ) → Type 0
 TellsEnd part failed old new = TellsResult part.worker part.number part.result failed old new
 
--- how all ended was told, one after the other
-unfoldable pub TellsAll : List Part → Option (List ℕ) → Option (List ℕ) → Type 0
-TellsAll [] old new = new ≡ old
-TellsAll (part ∷ parts) old new = (failed : Bool) × (between : Option (List ℕ)) × TellsEnd part failed old between × TellsAll parts between new
+-- how all ended was told, one after the other: each fault by its line, or the error sink has failed in the end
+unfoldable pub TellsAll : List Part → Bool → Option (List ℕ) → Option (List ℕ) → Type 0
+TellsAll [] failed old new = new ≡ old
+TellsAll (part ∷ parts) failed old new = (between : Option (List ℕ)) × TellsEnd part failed old between × TellsAll parts failed between new
 
 -- the status of a fault, where there is one
 abbrev pub status_at : Result ⊤ RunFault → Option ℕ

@@ -1,6 +1,6 @@
 //! How the program ends: its last words, what is told of faults, and its exit status.
 
-ghost use Rattle.std.specs.Prelude.{◌≡◌, OnOk, IfErr};
+ghost use Rattle.std.specs.Prelude.{◌≡◌, true, OnOk, IfErr};
 ghost use Rattle.std.specs.Io.KnownBytes.{Appends};
 ghost use Rattle.ucl_runs.specs.Faults.{status};
 ghost use Rattle.ucl_runs.specs.Feed.{word_lines};
@@ -65,6 +65,7 @@ pub fn tell_part<E: Sink>(errors: &mut E, worker: Worker, number: u8, fault: Run
     ensures status { result ≡ status fault }
     ensures told { Tells (E.failed errors.new) (E.taken errors.old) (E.taken errors.new)
         (part_line worker number fault) }
+    ensures stays { E.failed errors.old ≡ true → E.failed errors.new ≡ true }
 {
     match put_text(errors, heading_of(worker, number).as_str()) {
         Ok(()) => tell(errors, fault),
@@ -74,7 +75,8 @@ pub fn tell_part<E: Sink>(errors: &mut E, worker: Worker, number: u8, fault: Run
 
 /// Tells how a worker ended: nothing where it ended well.
 fn tell_end<E: Sink>(errors: &mut E, part: &Part)
-    ensures { TellsEnd part.now (E.failed errors.new) (E.taken errors.old) (E.taken errors.new) }
+    ensures told { TellsEnd part.now (E.failed errors.new) (E.taken errors.old) (E.taken errors.new) }
+    ensures stays { E.failed errors.old ≡ true → E.failed errors.new ≡ true }
 {
     if let Err(fault) = part.result {
         let _status = tell_part(errors, part.worker, part.number, fault);
@@ -107,7 +109,8 @@ fn first_status(parts: &[Part]) -> u8
 #[tactic(auto, using(crate::proofs::Told::told_start, crate::proofs::Told::told_end))]
 pub fn tell_faults<E: Sink>(errors: &mut E, parts: &[Part]) -> u8
     ensures status { result ≡ first_status parts.now }
-    ensures told { TellsAll parts.now (E.taken errors.old) (E.taken errors.new) }
+    ensures told { TellsAll parts.now (E.failed errors.new) (E.taken errors.old)
+        (E.taken errors.new) }
 {
     for part in parts {
         tell_end(errors, part);

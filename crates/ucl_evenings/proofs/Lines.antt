@@ -1,5 +1,5 @@
 -- Lines that a reporter's pass has answered, one after the other.
-use Rattle.std.proofs.Common.{◌≡◌, ℕ, ◌+◌, ◌-◌, ◌^◌, ◌≤◌, min, Bool, List, [], ◌∷◌, ◌++◌, length, Option, sym, ap, ◌∙◌, subst, arith, length-append}
+use Rattle.std.proofs.Common.{◌≡◌, ℕ, ◌+◌, ◌-◌, ◌^◌, ◌≤◌, min, Bool, List, [], ◌∷◌, ◌++◌, length, Option, refl, sym, ap, ◌∙◌, subst, append_assoc, arith, length-append}
 use Rattle.std.specs.Io.KnownBytes.{Appends}
 use mathlib.Core.List.{IsPrefix}
 use Rattle.ucl_word.specs.declared.event.EventCall.{EventCall}
@@ -8,14 +8,15 @@ use Rattle.ucl_screen.proofs.MovedBytes.{appends-none, appends-then}
 use Rattle.ucl_shared.specs.Passes.{PassView, IsSound, ReportsMore}
 use Rattle.ucl_runs.specs.declared.fault.RunFault.{RunFault}
 use Rattle.ucl_runs.specs.declared.fault.RunFault.TheVariants.{Input, OutOfMemory, WriteFailed, NotOnDuty, NoThread, TooManyReporters, Strangers}
-use Rattle.ucl_runs.specs.Run.{IsStopped, StoppedShort}
+use Rattle.ucl_screen.specs.Stream.{WroteFirst}
+use Rattle.ucl_runs.specs.Run.{IsStopped}
 use Rattle.ucl_runs.proofs.Parts.{stopped_second}
 use Rattle.ucl_evenings.specs.declared.typed.Typed.{Typed}
 use Rattle.ucl_evenings.specs.declared.went.Went.{Went}
 use Rattle.ucl_evenings.specs.Typing.{typed_on}
 use Rattle.ucl_evenings.specs.Answering.{calls_of_typed, calls_typed, typed_answer, typed_answers}
 use Rattle.ucl_evenings.specs.Reporting.{HasReportedRows}
-use Rattle.ucl_evenings.specs.Rows.{AreAnsweredSo, FailsToAnswer, HasReportedLines}
+use Rattle.ucl_evenings.specs.Rows.{AreAnsweredSo, FailsToAnswer, HasReportedLines, StopsInLast}
 use Rattle.ucl_evenings.proofs.Events.{rows_count, rows_none, rows_then}
 use Rattle.ucl_evenings.proofs.LineAnswers.{answers_none, answers_one, answers_then, calls_none, calls_one, calls_then}
 
@@ -68,7 +69,17 @@ module _ (k m : PassView) (before after : ℕ → Type 0) (row : ℕ) (line : Li
   line_stopped out failed old new (WriteFailed count) s = (
     line ∷ [],
     begins_same (line ∷ []),
-    record { went = went; reported = line_reported; stopped = subst (λ (l : List ℕ). IsStopped out failed old new l (WriteFailed count)) (sym line_text) s },
+    record {
+      went = went;
+      reported = line_reported;
+      stopped = record {
+        before = [];
+        last = line;
+        in_last = refl;
+        stopped = subst (λ (l : List ℕ). IsStopped out failed old new l (WriteFailed count)) (sym line_text) s;
+        answered = rw (answers_none row went) (omega arith);
+      };
+    },
   )
   line_stopped out failed old new OutOfMemory s = absurd s
   line_stopped out failed old new (Input e) s = absurd s
@@ -106,11 +117,25 @@ module _ (k m z : PassView) (a b c : ℕ → Type 0) (row : ℕ) (lines more : L
         told = omega arith;
       }
 
-  pub stopped_then : (failed : Bool) (count : ℕ) → StoppedShort mid failed x y (typed_answers (row + length lines) more later) count
-      → StoppedShort out failed w y (typed_answers row (lines ++ more) (went ++ later)) count
+  pub stopped_then : (failed : Bool) (count : ℕ) → StopsInLast (row + length lines) more later mid failed x y count
+      → StopsInLast row (lines ++ more) (went ++ later) out failed w y count
   stopped_then failed count s =
-      subst (λ (l : List ℕ). StoppedShort out failed w y l count) (sym text_then)
-      (stopped_second out mid failed w x y (typed_answers row lines went) (typed_answers (row + length lines) more later) (WriteFailed count) p.given p.told s)
+      let first = typed_answers row lines went in
+      let both = stopped_second out mid failed w x y first (typed_answers (row + length lines) more later) (WriteFailed count) p.given p.told s.stopped in
+      let text = answers_then row lines s.before went later (lines_count k m a b lines went p.reported) in
+      let long = ap (length {A = ℕ}) text ∙ length-append first (typed_answers (row + length lines) s.before later) in
+      let out_before = s.answered in record {
+        before = lines ++ s.before;
+        last = s.last;
+        in_last = ap (λ (l : List (List ℕ)). lines ++ l) s.in_last ∙ sym (append_assoc lines s.before (s.last ∷ []));
+        stopped = record {
+          failed_is = both.failed_is;
+          count = both.count;
+          first = subst (WroteFirst w y both.count) (sym text_then) both.first;
+          told = both.told;
+        };
+        answered = omega arith;
+      }
 
 pub begins_behind : (a b c : List (List ℕ)) → IsPrefix b c → IsPrefix (a ++ b) (a ++ c)
 begins_behind [] b c p = p

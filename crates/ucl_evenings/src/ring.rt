@@ -30,8 +30,6 @@ impl<W: Sink, V> Sink for Desk<W, V> {
 
     ghost calls = { λ desk. W.calls desk.sink };
 
-    ghost in_vain = { λ desk. W.in_vain desk.sink };
-
     ghost failed = { λ desk. W.failed desk.sink };
 
     fn give(&mut self, text: &[u8]) -> Option<usize> {

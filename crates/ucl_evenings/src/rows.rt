@@ -2,7 +2,6 @@
 
 ghost use Rattle.std.specs.Prelude.{◌≡◌, ◌+◌, ◌-◌, ◌^◌, ◌<◌, ◌≤◌, [], ◌∷◌, length, min, IfErr, IfOk, OnOk};
 ghost use Rattle.std.specs.Io.KnownBytes.{Appends};
-ghost use Rattle.ucl_screen.specs.Stream.{VainlyGives};
 ghost use Rattle.ucl_shared.specs.Passes.{IsSound};
 ghost use Rattle.ucl_runs.specs.Run.{IsStopped};
 ghost use Rattle.ucl_answers.specs.Lines.{begun_line, ended_lines, last_lines, longer};
@@ -44,7 +43,6 @@ fn answer_line<B: LiveBoard, R: Wait, W: Sink, V: Ring>(
         (B.has_reported pass.old) (B.has_reported pass.new)
         row (line.now ∷ []) before (W.failed sink.new) (W.taken sink.old) (W.taken sink.new)) }
     ensures sink_sound { OnOk result (W.failed sink.new ≡ W.failed sink.old) }
-    ensures vain { VainlyGives (W.in_vain sink.old) (W.in_vain sink.new) result }
     ensures rang { RangFor (B.reporter pass.old) (B.reporter pass.new)
         (V.rung bells.old) (V.rung bells.new) }
 {
@@ -122,7 +120,6 @@ impl Rows {
             self.old.row (self.old.begun.items ∷ [])
             self.old.written (W.failed sink.new) (W.taken sink.old) (W.taken sink.new)) }
         ensures sink_sound { OnOk result (W.failed sink.new ≡ W.failed sink.old) }
-        ensures vain { VainlyGives (W.in_vain sink.old) (W.in_vain sink.new) result }
         ensures rang { RangFor (B.reporter pass.old) (B.reporter pass.new)
             (V.rung bells.old) (V.rung bells.new) }
     {
@@ -173,7 +170,6 @@ impl Rows {
             self.old.row (ended_lines self.old.begun.items (b ∷ []))
             self.old.written (W.failed sink.new) (W.taken sink.old) (W.taken sink.new)) }
         ensures sink_sound { OnOk result (W.failed sink.new ≡ W.failed sink.old) }
-        ensures vain { VainlyGives (W.in_vain sink.old) (W.in_vain sink.new) result }
         ensures rang { RangFor (B.reporter pass.old) (B.reporter pass.new)
             (V.rung bells.old) (V.rung bells.new) }
     {
@@ -216,7 +212,6 @@ impl Rows {
             self.old.row (ended_lines self.old.begun.items bytes.now)
             self.old.written (W.failed sink.new) (W.taken sink.old) (W.taken sink.new)) }
         ensures sink_sound { OnOk result (W.failed sink.new ≡ W.failed sink.old) }
-        ensures vain { VainlyGives (W.in_vain sink.old) (W.in_vain sink.new) result }
         ensures rang { RangFor (B.reporter pass.old) (B.reporter pass.new)
             (V.rung bells.old) (V.rung bells.new) }
     {
@@ -251,7 +246,6 @@ impl Rows {
             self.old.row (last_lines self.old.begun.items)
             self.old.written (W.failed sink.new) (W.taken sink.old) (W.taken sink.new)) }
         ensures sink_sound { OnOk result (W.failed sink.new ≡ W.failed sink.old) }
-        ensures vain { VainlyGives (W.in_vain sink.old) (W.in_vain sink.new) result }
         ensures rang { RangFor (B.reporter pass.old) (B.reporter pass.new)
             (V.rung bells.old) (V.rung bells.new) }
     {

@@ -110,10 +110,7 @@ impl Screens {
             (W.failed sink.new) (W.taken sink.old) (W.taken sink.new)) }
         ensures rises { IfErr result (λ _. self.old.next ≤ reading.now.version) }
         ensures sink_sound { OnOk result (W.failed sink.new ≡ W.failed sink.old) }
-        ensures sink_vain { OnOk result (W.in_vain sink.new ≡ W.in_vain sink.old) }
-        ensures sink_fails { IfErr result (SinkFails
-            (W.in_vain sink.old) (W.in_vain sink.new)
-            (W.failed sink.old) (W.failed sink.new)) }
+        ensures sink_fails { IfErr result (SinkFails (W.failed sink.old) (W.failed sink.new)) }
     {
         let version = u32::from(reading.version);
         if version < self.next {
@@ -205,12 +202,9 @@ pub fn show_boards<B: LiveBoard, Q: Bell<B::Note, B::ReaderPass>, W: Sink, R: Wa
     ensures over { OnOk result (EndWasTold B.noted B.reader (Q.told bell.old) (Q.told bell.new)
         (Q.ends bell.old) (Q.ends bell.new) (B.reader pass.new)) }
 
-    // A failed write is answered exactly where the sink has failed, which is not called again then; and it is not called with nothing.
+    // A failed write is answered exactly where the sink has failed.
     ensures sink_sound { OnOk result (W.failed sink.new ≡ W.failed sink.old) }
-    ensures sink_vain { OnOk result (W.in_vain sink.new ≡ W.in_vain sink.old) }
-    ensures sink_fails { IfErr result (SinkFails
-        (W.in_vain sink.old) (W.in_vain sink.new)
-        (W.failed sink.old) (W.failed sink.new)) }
+    ensures sink_fails { IfErr result (SinkFails (W.failed sink.old) (W.failed sink.new)) }
 {
     let mut screens = Screens::new();
     show_on(
@@ -253,10 +247,7 @@ pub fn show_on<B: LiveBoard, Q: Bell<B::Note, B::ReaderPass>, W: Sink, R: Wait>(
     ensures over { OnOk result (EndWasTold B.noted B.reader (Q.told bell.old) (Q.told bell.new)
         (Q.ends bell.old) (Q.ends bell.new) (B.reader pass.new)) }
     ensures sink_sound { OnOk result (W.failed sink.new ≡ W.failed sink.old) }
-    ensures sink_vain { OnOk result (W.in_vain sink.new ≡ W.in_vain sink.old) }
-    ensures sink_fails { IfErr result (SinkFails
-        (W.in_vain sink.old) (W.in_vain sink.new)
-        (W.failed sink.old) (W.failed sink.new)) }
+    ensures sink_fails { IfErr result (SinkFails (W.failed sink.old) (W.failed sink.new)) }
 {
     let mut is_over = false;
     for _ in rt.forever() {
@@ -296,10 +287,7 @@ pub fn show_noted<B: LiveBoard, W: Sink, R: Wait>(
         (B.reader pass.old) (B.reader pass.new) screens.old screens.new
         [] (news ∷ []) (W.failed sink.new) (W.taken sink.old) (W.taken sink.new) result }
     ensures sink_sound { OnOk result (W.failed sink.new ≡ W.failed sink.old) }
-    ensures sink_vain { OnOk result (W.in_vain sink.new ≡ W.in_vain sink.old) }
-    ensures sink_fails { IfErr result (SinkFails
-        (W.in_vain sink.old) (W.in_vain sink.new)
-        (W.failed sink.old) (W.failed sink.new)) }
+    ensures sink_fails { IfErr result (SinkFails (W.failed sink.old) (W.failed sink.new)) }
 {
     board.hear(rt, pass, news);
     let reading = board.read(rt, pass);

@@ -3,10 +3,9 @@
 ghost use Rattle.std.specs.Prelude.{◌≡◌, IfErr, OnOk};
 ghost use Rattle.ucl_shared.specs.Passes.{IsSound};
 ghost use Rattle.ucl_runs.specs.Run.{is_read_failed};
-ghost use Rattle.ucl_screen.specs.Stream.{VainlyGives};
 ghost use Rattle.ucl_answers.specs.Output.{SinkFails};
 ghost use Rattle.ucl_answers.specs.Stepping.{device};
-ghost use Rattle.ucl_answers.specs.Wires.{AskedMore, VainlyTakes};
+ghost use Rattle.ucl_answers.specs.Wires.{AskedMore};
 ghost use Rattle.ucl_evenings.specs.Reporting.{RangFor};
 ghost use Rattle.ucl_evenings.specs.Rows.{IsAnsweredUpTo, TookRows, at_sink};
 
@@ -67,14 +66,7 @@ pub fn take_rows<B: LiveBoard, S: Source, W: Sink, V: Ring, R: Wait>(
     // A failed read is answered exactly where the source has failed, and a failed write where the sink has.
     ensures read_failed { S.failed wire.new.source ≡ is_read_failed result }
     ensures sink_sound { OnOk result (W.failed wire.new.sink.sink ≡ W.failed wire.old.sink.sink) }
-    ensures sink_fails { IfErr result (SinkFails
-        (W.in_vain wire.old.sink.sink) (W.in_vain wire.new.sink.sink)
-        (W.failed wire.old.sink.sink) (W.failed wire.new.sink.sink)) }
-
-    // A source that has failed, or told the end, is not called again, and a sink is not called with nothing.
-    ensures vain { VainlyTakes (S.in_vain wire.old.source) (S.in_vain wire.new.source)
-        (S.failed wire.new.source) (S.left wire.old.source) (S.left wire.new.source) }
-    ensures sink_vain { OnOk result (W.in_vain wire.new.sink.sink ≡ W.in_vain wire.old.sink.sink) }
+    ensures sink_fails { IfErr result (SinkFails (W.failed wire.old.sink.sink) (W.failed wire.new.sink.sink)) }
 {
     let mut rows = Rows::new();
     let mut piece = [0; PIECE];

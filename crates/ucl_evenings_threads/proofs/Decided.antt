@@ -20,6 +20,7 @@ use Rattle.ucl_answers.specs.Lines.{lines_of}
 use Rattle.ucl_answers.specs.Stepping.{Device}
 use Rattle.ucl_evenings.specs.Answering.{calls_typed}
 use Rattle.ucl_evenings.specs.Reporting.{entered_in}
+use Rattle.ucl_evenings.specs.declared.went.Went.{Went}
 use Rattle.ucl_evenings.specs.Rows.{RunEnds}
 use Rattle.ucl_evenings_threads.specs.declared.evening.EveningEnd.{EveningEnd}
 use Rattle.ucl_evenings_threads.specs.declared.workers.Reporter.{Reporter}
@@ -99,9 +100,9 @@ all_last P (x ∷ xs) ys all = all_last P xs ys (All-tail P x (xs ++ ys) all)
 -- ---- reporters
 
 -- a run that ended well has taken all lines
-all_lines : (old new : Device) (r : Result ⊤ RunFault) (bytes : List ℕ) (lines : List (List ℕ)) (text : List ℕ) → RunEnds old new r bytes lines text → IfOk r (λ (done : ⊤). lines ≡ lines_of bytes)
-all_lines old new (Ok done) bytes lines text e = e.all
-all_lines old new (Err fault) bytes lines text e = tt
+all_lines : (old new : Device) (r : Result ⊤ RunFault) (bytes : List ℕ) (lines : List (List ℕ)) (went : List Went) → RunEnds old new r bytes lines went → IfOk r (λ (done : ⊤). lines ≡ lines_of bytes)
+all_lines old new (Ok done) bytes lines went e = e.all
+all_lines old new (Err fault) bytes lines went e = tt
 
 module _ {B R P N S W : Type 0} (live : boards.Ghosts B R P N) (board : B) (source : sources.Ghosts S) (replies : sinks.Ghosts W) (before h : List Entry) where
   abbrev Answered : Reporter S W → ReporterEnd P S W → Type 0

@@ -140,17 +140,15 @@ module _ {W : Type 0} (sink : sinks.Ghosts W) where
   served_same old new r r2 same h = subst (SinkServed sink old new) same h
 
   -- what take_rows and what a screen promise of theirs
-  pub served_by : (old new : W) (r : Result ⊤ RunFault) → OnOk r (sink.failed new ≡ sink.failed old) → OnOk r (sink.in_vain new ≡ sink.in_vain old)
-      → IfErr r (SinkFails (sink.in_vain old) (sink.in_vain new) (sink.failed old) (sink.failed new)) → SinkServed sink old new r
-  served_by old new (Ok done) sound vain fails = (vain, sound)
-  served_by old new (Err fault) sound vain fails = fails
+  pub served_by : (old new : W) (r : Result ⊤ RunFault) → OnOk r (sink.failed new ≡ sink.failed old)
+      → IfErr r (SinkFails (sink.failed old) (sink.failed new)) → SinkServed sink old new r
+  served_by old new (Ok done) sound fails = sound
+  served_by old new (Err fault) sound fails = fails
 
   -- after a run that ended well
   pub served_then : (old mid new : W) (r : Result ⊤ RunFault) → SinkServed sink old mid (Ok tt) → SinkServed sink mid new r → SinkServed sink old new r
-  served_then old mid new (Ok done) a b = (b.0 ∙ a.0, b.1 ∙ a.1)
-  served_then old mid new (Err fault) a b =
-      subst (λ (n : ℕ). SinkFails n (sink.in_vain new) (sink.failed old) (sink.failed new) fault) a.0
-      (subst (λ (f : Bool). SinkFails (sink.in_vain mid) (sink.in_vain new) f (sink.failed new) fault) a.1 b)
+  served_then old mid new (Ok done) a b = b ∙ a
+  served_then old mid new (Err fault) a b = rw a at b
 
 -- ---- passes that were heard
 

@@ -13,7 +13,6 @@ use Rattle.ucl_runs.specs.declared.fault.RunFault.TheVariants.{OutOfMemory, NoTh
 use Rattle.ucl_runs.specs.Run.{is_read_failed}
 use Rattle.ucl_answers.specs.Output.{SinkFails}
 use Rattle.ucl_answers.specs.Stepping.{Device}
-use Rattle.ucl_answers.specs.Wires.{VainlyTakes}
 use Rattle.ucl_evenings.specs.Answering.{calls_typed}
 use Rattle.ucl_evenings.specs.Reporting.{GoThrough}
 use Rattle.ucl_evenings.specs.Rows.{TookRows}
@@ -41,10 +40,10 @@ IsOfThreads _ = ⊥
 abbrev pub device_of : {S W : Type 0} → sources.Ghosts S → sinks.Ghosts W → S → W → Device
 device_of source sink rows replies = record { left = source.left rows; source_failed = source.failed rows; taken = sink.taken replies; sink_failed = sink.failed replies }
 
--- a run tells a failed write just where a call of its sink failed, which it does not call again then; and it does not call it with nothing
+-- a run tells a failed write just where a call of its sink failed
 abbrev pub SinkServed : {W : Type 0} → sinks.Ghosts W → W → W → Result ⊤ RunFault → Type 0
-SinkServed sink old new (Ok done) = (sink.in_vain new ≡ sink.in_vain old) × (sink.failed new ≡ sink.failed old)
-SinkServed sink old new (Err fault) = SinkFails (sink.in_vain old) (sink.in_vain new) (sink.failed old) (sink.failed new) fault
+SinkServed sink old new (Ok done) = sink.failed new ≡ sink.failed old
+SinkServed sink old new (Err fault) = SinkFails (sink.failed old) (sink.failed new) fault
 
 -- the last of the versions is no lower than this
 pub record LastIsAtLeast (least : ℕ) (versions : List ℕ) : Type 0 where
@@ -89,15 +88,13 @@ pub record WasEnlisted {B R P N S W : Type 0} (live : boards.Ghosts B R P N) (bo
   pub ready : IsReady live board enlisted.pass
   pub since : IsPrefix before (live.reporter enlisted.pass).seen
 
--- a reporter with this pass has taken rows from its source, and answered them: a failed read is told just where the source failed, which
--- is not called again after it failed or told the end
+-- a reporter with this pass has taken rows from its source, and answered them: a failed read is told just where the source failed
 pub record HasTakenRows {B R P N S W : Type 0} (live : boards.Ghosts B R P N) (board : B) (source : sources.Ghosts S) (sink : sinks.Ghosts W) (pass : P) (reporter : Reporter S W)
     (end : ReporterEnd P S W) : Type 0 where
   pub own : live.is_reporter board end.pass
   pub took : TookRows (live.reporter pass) (live.reporter end.pass) (live.has_reported pass) (live.has_reported end.pass)
       (device_of source sink reporter.rows reporter.replies) (device_of source sink end.rows end.replies) end.result (λ went. ⊤)
   pub read_failed : source.failed end.rows ≡ is_read_failed end.result
-  pub vain : VainlyTakes (source.in_vain reporter.rows) (source.in_vain end.rows) (source.failed end.rows) (source.left reporter.rows) (source.left end.rows)
   pub served : SinkServed sink reporter.replies end.replies end.result
 
 abbrev pub HasRun : {B R P N S W : Type 0} → boards.Ghosts B R P N → B → sources.Ghosts S → sinks.Ghosts W → Enlisted P S W → ReporterEnd P S W → Type 0

@@ -1,4 +1,5 @@
-//! A board in a program of one's own: two reporters enter events from threads of their own, and a screen shows the table.
+//! A board in a program of one's own: two reporters enter events from threads of their own. Each hands the screen a note, so that the screen has
+//! both goals.
 #![tactic(auto)]
 
 ghost use Rattle.std.specs.Prelude.{◌≡◌};
@@ -83,6 +84,12 @@ fn main(rt: HostRuntime) -> anyhow::Result<()> {
     );
     north_says.ok().context("no goal of the home side")?;
     south_says.ok().context("no goal of the visitors")?;
+    let (north_notes, south_notes) = (
+        board.note_own_now(&mut north),
+        board.note_own_now(&mut south),
+    );
+    board.hear_now(&mut stadium, north_notes);
+    board.hear_now(&mut stadium, south_notes);
     let reading = board.read_now(&mut stadium);
     print!(&rt;
         "{}",

@@ -10,7 +10,7 @@ use Rattle.ucl_runs.specs.Telling.{Tells, fault_line}
 use Rattle.ucl_answers.specs.declared.wire.Wire.{Wire}
 use Rattle.ucl_answers.specs.Output.{SinkFails}
 use Rattle.ucl_answers.specs.Stepping.{IsOfEvening, device}
-use Rattle.ucl_answers.specs.Wires.{AskedMore, VainlyTakes}
+use Rattle.ucl_answers.specs.Wires.{AskedMore}
 use Rattle.ucl_program.specs.declared.fault.LineFault.{LineFault}
 use Rattle.ucl_live_command.specs.Program.{AnsweredAlone}
 use Rattle.ucl_follows.specs.declared.run.Followed.{Followed}
@@ -26,10 +26,8 @@ pub record FollowsLines {S W : Type 0} (source : reads.Ghosts S) (sink : writes.
   pub kinds : IfErr r IsOfEvening
   pub prompt : AskedMore (λ time. source.calls time.0) before.asked.times after.asked.times (source.calls before.source) (source.calls after.source)
       (λ time. IsFollowedSoFar shape (source.left before.source) (source.left time.0) (sink.taken before.sink) (sink.taken time.1))
-  pub vain : VainlyTakes (source.in_vain before.source) (source.in_vain after.source) (source.failed after.source) (source.left before.source) (source.left after.source)
   pub sink_sound : OnOk r (sink.failed after.sink ≡ sink.failed before.sink)
-  pub sink_vain : OnOk r (sink.in_vain after.sink ≡ sink.in_vain before.sink)
-  pub sink_fails : IfErr r (SinkFails (sink.in_vain before.sink) (sink.in_vain after.sink) (sink.failed before.sink) (sink.failed after.sink))
+  pub sink_fails : IfErr r (SinkFails (sink.failed before.sink) (sink.failed after.sink))
   pub fails : IfErr r (FollowFails shape (device source.left source.failed sink.taken sink.failed before) (device source.left source.failed sink.taken sink.failed after))
 
 -- how many lines came, how many were shown, and how many were passed over

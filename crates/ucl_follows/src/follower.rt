@@ -76,10 +76,7 @@ impl Follower {
         ensures fails { IfErr result (FailsToHear shape (hearing_of self.old) (b ∷ [])
             (out_of self.old) (sink_change W.Sink sink.old sink.new)) }
         ensures sound { OnOk result (W.failed sink.new ≡ W.failed sink.old) }
-        ensures vain { OnOk result (W.in_vain sink.new ≡ W.in_vain sink.old) }
-        ensures sink_fails { IfErr result (SinkFails
-            (W.in_vain sink.old) (W.in_vain sink.new)
-            (W.failed sink.old) (W.failed sink.new)) }
+        ensures sink_fails { IfErr result (SinkFails (W.failed sink.old) (W.failed sink.new)) }
     {
         let _written = self.written();
         if b == b'\n' {
@@ -108,10 +105,7 @@ impl Follower {
         ensures fails { IfErr result (FailsToHear shape (hearing_of self.old) bytes.now
             (out_of self.old) (sink_change W.Sink sink.old sink.new)) }
         ensures sound { OnOk result (W.failed sink.new ≡ W.failed sink.old) }
-        ensures vain { OnOk result (W.in_vain sink.new ≡ W.in_vain sink.old) }
-        ensures sink_fails { IfErr result (SinkFails
-            (W.in_vain sink.old) (W.in_vain sink.new)
-            (W.failed sink.old) (W.failed sink.new)) }
+        ensures sink_fails { IfErr result (SinkFails (W.failed sink.old) (W.failed sink.new)) }
     {
         let _written = self.written();
         for b in bytes {
@@ -133,10 +127,7 @@ impl Follower {
             (sink_change W.Sink sink.old sink.new)
             (resuming_text shape (hearing_of self.now).following.newest)) }
         ensures sound { OnOk result (W.failed sink.new ≡ W.failed sink.old) }
-        ensures vain { OnOk result (W.in_vain sink.new ≡ W.in_vain sink.old) }
-        ensures sink_fails { IfErr result (SinkFails
-            (W.in_vain sink.old) (W.in_vain sink.new)
-            (W.failed sink.old) (W.failed sink.new)) }
+        ensures sink_fails { IfErr result (SinkFails (W.failed sink.old) (W.failed sink.new)) }
     {
         match (shape, &self.following.newest) {
             (Shape::Rows, Some(moment)) => {

@@ -31,10 +31,7 @@ pub(crate) fn put<W: Sink>(sink: &mut W, out: usize, text: &[u8]) -> Result<usiz
     ensures count { IfOk result (λ after. after ≡ min (out + length text.now) (2 ^ 64 - 1)) }
     ensures fails { IfErr result (FailsToShow out (sink_change W.Sink sink.old sink.new) text.now) }
     ensures sound { OnOk result (W.failed sink.new ≡ W.failed sink.old) }
-    ensures vain { OnOk result (W.in_vain sink.new ≡ W.in_vain sink.old) }
-    ensures sink_fails { IfErr result (SinkFails
-        (W.in_vain sink.old) (W.in_vain sink.new)
-        (W.failed sink.old) (W.failed sink.new)) }
+    ensures sink_fails { IfErr result (SinkFails (W.failed sink.old) (W.failed sink.new)) }
 {
     match give_all(sink, text) {
         Ok(()) => Ok(out.saturating_add(text.len())),
@@ -62,10 +59,7 @@ fn show<W: Sink>(
     ensures fails { IfErr result (FailsToShow out (sink_change W.Sink sink.old sink.new)
         (sight_text shape row moment.now)) }
     ensures sound { OnOk result (W.failed sink.new ≡ W.failed sink.old) }
-    ensures vain { OnOk result (W.in_vain sink.new ≡ W.in_vain sink.old) }
-    ensures sink_fails { IfErr result (SinkFails
-        (W.in_vain sink.old) (W.in_vain sink.new)
-        (W.failed sink.old) (W.failed sink.new)) }
+    ensures sink_fails { IfErr result (SinkFails (W.failed sink.old) (W.failed sink.new)) }
 {
     match shape {
         Shape::Text => {
@@ -133,10 +127,7 @@ impl Following {
         ensures fails { IfErr result (FailsToShow out (sink_change W.Sink sink.old sink.new)
             (told_text shape self.old (moment_on line.now))) }
         ensures sound { OnOk result (W.failed sink.new ≡ W.failed sink.old) }
-        ensures vain { OnOk result (W.in_vain sink.new ≡ W.in_vain sink.old) }
-        ensures sink_fails { IfErr result (SinkFails
-            (W.in_vain sink.old) (W.in_vain sink.new)
-            (W.failed sink.old) (W.failed sink.new)) }
+        ensures sink_fails { IfErr result (SinkFails (W.failed sink.old) (W.failed sink.new)) }
     {
         let told = moment_on(alloc, line)?;
         let row = self.lines.saturating_add(1);

@@ -4,7 +4,7 @@ ghost use Rattle.std.specs.Prelude.{◌≡◌, IfErr, IfOk, IfSome, OnOk};
 ghost use Rattle.std.specs.Io.KnownBytes.{Appends};
 ghost use Rattle.ucl_answers.specs.Output.{SinkFails};
 ghost use Rattle.ucl_answers.specs.Stepping.{IsOfEvening, device};
-ghost use Rattle.ucl_answers.specs.Wires.{AskedMore, VainlyTakes};
+ghost use Rattle.ucl_answers.specs.Wires.{AskedMore};
 ghost use Rattle.ucl_runs.specs.Run.{is_read_failed};
 ghost use Rattle.ucl_follows.specs.Follow.{follow_end, follow_text};
 ghost use Rattle.ucl_follows.specs.Hearing.{FollowFails, IsFollowedSoFar, counts_of};
@@ -64,16 +64,9 @@ pub fn follow_run<S: Source, W: Sink>(
         (λ time. IsFollowedSoFar shape
         (S.left wire.old.source) (S.left time.0) (W.taken wire.old.sink) (W.taken time.1)) }
 
-    // A source that has failed, or told the end, is not called again, and no other call is in vain.
-    ensures vain { VainlyTakes (S.in_vain wire.old.source) (S.in_vain wire.new.source)
-        (S.failed wire.new.source) (S.left wire.old.source) (S.left wire.new.source) }
-
-    // A failed write is answered exactly where the sink has failed, which is not called again then; and it is not called with nothing.
+    // A failed write is answered exactly where the sink has failed.
     ensures sink_sound { OnOk result (W.failed wire.new.sink ≡ W.failed wire.old.sink) }
-    ensures sink_vain { OnOk result (W.in_vain wire.new.sink ≡ W.in_vain wire.old.sink) }
-    ensures sink_fails { IfErr result (SinkFails
-        (W.in_vain wire.old.sink) (W.in_vain wire.new.sink)
-        (W.failed wire.old.sink) (W.failed wire.new.sink)) }
+    ensures sink_fails { IfErr result (SinkFails (W.failed wire.old.sink) (W.failed wire.new.sink)) }
 
     // Why it fails, and what is out then.
     ensures fails { IfErr result (FollowFails shape

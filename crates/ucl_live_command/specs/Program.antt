@@ -11,7 +11,7 @@ use Rattle.ucl_answers.specs.Output.{SinkFails}
 use Rattle.ucl_answers.specs.Stepping.{IsOfEvening, device}
 use Rattle.ucl_answers.specs.Taking.{RunFails}
 use Rattle.ucl_answers.specs.Text.{live_text, missing_after, start_of}
-use Rattle.ucl_answers.specs.Wires.{AskedMore, IsAnsweredSoFar, VainlyTakes}
+use Rattle.ucl_answers.specs.Wires.{AskedMore, IsAnsweredSoFar}
 use Rattle.ucl_program.specs.declared.fault.LineFault.{LineFault}
 use Rattle.ucl_program.specs.Ending.{Ends, EndsUnasked}
 
@@ -25,9 +25,7 @@ pub record HoldsEvening {S W : Type 0} (source : reads.Ghosts S) (sink : writes.
   pub sink_sound : OnOk r (sink.failed after.sink ≡ sink.failed before.sink)
   pub prompt : AskedMore (λ time. source.calls time.0) before.asked.times after.asked.times (source.calls before.source) (source.calls after.source)
       (λ time. IsAnsweredSoFar (start_of options) (source.left before.source) (source.left time.0) (sink.taken before.sink) (sink.taken time.1))
-  pub vain : VainlyTakes (source.in_vain before.source) (source.in_vain after.source) (source.failed after.source) (source.left before.source) (source.left after.source)
-  pub sink_vain : OnOk r (sink.in_vain after.sink ≡ sink.in_vain before.sink)
-  pub sink_fails : IfErr r (SinkFails (sink.in_vain before.sink) (sink.in_vain after.sink) (sink.failed before.sink) (sink.failed after.sink))
+  pub sink_fails : IfErr r (SinkFails (sink.failed before.sink) (sink.failed after.sink))
   pub fails : IfErr r (RunFails (start_of options) (device source.left source.failed sink.taken sink.failed before) (device source.left source.failed sink.taken sink.failed after))
 
 -- nothing was read, and it was answered that the words name nothing to do

@@ -9,7 +9,7 @@ use devices::{fed, has_refused, has_stopped, has_written, shown};
 use std::alloc::{AllocError, Global};
 use std::process::Abort;
 use std::test::Fail;
-use ucl_devices::{CLUBS, Cut, Full, STORED, STORED_REPLIES, STORED_SCREEN, STORED_WORDS};
+use ucl_devices::{CLUBS, Cut, Full, Given, STORED, STORED_REPLIES, STORED_SCREEN, STORED_WORDS, Shelf};
 use ucl_order::Profile;
 use ucl_runs::{RunFault, status_of};
 use ucl_screen::{FromRead, InputFault, read_night, screen};
@@ -87,6 +87,21 @@ fn fault_lines_and_statuses(rt: HostRuntime) -> Result<(), Fail> {
         assert_eq!(rt; text.as_str(), line);
         assert_eq!(rt; told, status, "at {line}");
     }
+    Ok(())
+}
+
+#[test]
+fn devices_with_the_members_of_their_traits_alone(rt: HostRuntime) -> Result<(), Fail> {
+    let alloc = rt.alloc();
+    let script = joined(alloc, CLUBS, STORED)?;
+    let wanted = joined(alloc, STORED_REPLIES, STORED_WORDS)?;
+    let mut sink = Shelf::new(Vec::new(alloc), wanted.len());
+    let answer = feed_run(alloc, &mut Given::new(script.as_bytes()), &mut sink);
+    assert_eq!(rt; answer, Ok(()));
+    assert_eq!(rt; sink.taken(), wanted.as_bytes());
+    let mut sink = Shelf::new(Vec::new(alloc), 7);
+    let answer = feed_run(alloc, &mut Given::new(script.as_bytes()), &mut sink);
+    assert_eq!(rt; answer, Err(RunFault::WriteFailed { written: 7 }));
     Ok(())
 }
 

@@ -1,4 +1,4 @@
--- What a gate was told: one call more, and one screen more.
+-- What a gate is told, and how many events were reported.
 use Rattle.std.proofs.Common.{◌≡◌, ◌≢◌, inl, inr, ℕ, ◌+◌, ◌<◌, ◌≤◌, ◌%◌, ◌^◌, Bool, cond, ◌==◌, List, [], ◌∷◌, ◌++◌, length, take, get_or, filter, All, sym, ap, ◌∙◌}
 use Rattle.std.proofs.Common.{subst, arith, append-nil, eq-eqb, ne_eqb, length-append}
 use Rattle.std.proofs.lemmas.List.{take_more}
@@ -11,7 +11,7 @@ use Rattle.ucl_board.specs.History.{board_of, snapshot_at}
 use Rattle.ucl_board.proofs.Beginnings.{take_beginning}
 use Rattle.ucl_screen.specs.declared.night.NightEvent.{NightEvent}
 use Rattle.ucl_shared.specs.Passes.{PassView, Continues, SharedReading, ReportsMore}
-use Rattle.ucl_runs.specs.Gates.{CameTo, IsScreenOf, Showed, rows_by}
+use Rattle.ucl_runs.specs.Gates.{IsScreenOf, rows_by}
 use Rattle.ucl_runs.specs.Styles.{Style, styled_screen}
 
 -- a row of the reporter is one row more
@@ -41,21 +41,6 @@ pub rows_other_next : (reporter i : ℕ) (rows : List NightEvent) (row : NightEv
     → rows_by reporter (take (i + 1) rows) ≡ rows_by reporter (take i rows)
 rows_other_next reporter i rows row below is other = ap (rows_by reporter) (next_rows i rows row below is) ∙ rows_other reporter (take i rows) row other
 
--- no call
-pub came_none : (came : ℕ → ℕ → Type 0) (worker : ℕ) → CameTo came worker 0
-came_none came worker call below = absurd (omega arith)
-
--- one call more
-pub came_more : (came : ℕ → ℕ → Type 0) (worker calls : ℕ) → CameTo came worker calls → came worker (calls % 2 ^ 32) → CameTo came worker (calls + 1)
-came_more came worker calls before now call below = elim (eq-or-lt_of_le within) [ inl last ↦ subst (λ (n : ℕ). came worker (n % 2 ^ 32)) (sym last) now | inr less ↦ before call less ]
-  where
-    within : call ≤ calls
-    within = omega arith
-
--- the same where the calls are fewer than numbers of 32 bits
-pub came_next : (came : ℕ → ℕ → Type 0) (worker call calls : ℕ) → call < calls → calls < 2 ^ 32 → CameTo came worker call → came worker call → CameTo came worker (call + 1)
-came_next came worker call calls below fit before now = came_more came worker call before (subst (came worker) (sym (mod-eq_of_lt (lt_trans below fit))) now)
-
 -- nothing was reported yet, and one event more
 pub none_more : (A : ℕ → Type 0) → ReportsMore A 0 A
 none_more A n before = subst A (nothing n) before
@@ -81,22 +66,6 @@ none_twice A B C first second n before = subst C (nothing n) (second (n + 0) (fi
   where
     nothing : (n : ℕ) → n + 0 + 0 ≡ n + 0
     nothing n = omega arith
-
--- a screen is of each longer history, as a version within the first
-pub showed_on : (showed : ℕ → Reading → List ℕ → Type 0) (worker : ℕ) (style : Style) (seen history : List Entry) (versions : List ℕ)
-    → IsPrefix seen history → All (λ v. v ≤ length seen) versions → Showed showed worker style seen versions → Showed showed worker style history versions
-showed_on showed worker style seen history versions on high before i d below =
-    subst (λ (h : List Entry). showed worker (record { board = board_of h; version = get_or versions i d }) (styled_screen style (board_of h)))
-    (sym (take_beginning seen history (get_or versions i d) on (high i d below))) (before i d below)
-
--- one screen more
-pub showed_more : (showed : ℕ → Reading → List ℕ → Type 0) (worker : ℕ) (style : Style) (m z : PassView) (reading : Reading) (text : List ℕ)
-    → All (λ v. v ≤ length m.seen) m.shown → Showed showed worker style m.seen m.shown → Continues m z → SharedReading m reading z
-    → text ≡ styled_screen style reading.board → showed worker reading text → Showed showed worker style z.seen z.shown
-showed_more showed worker style m z reading text high before on read is now =
-    let P : ℕ → Type 0 = λ v. showed worker (snapshot_at z.seen v) (styled_screen style (board_of (take v z.seen))) in
-    let last : P reading.version = subst (λ (r : Reading). showed worker r (styled_screen style r.board)) read.snapshot (subst (showed worker reading) is now) in
-    subst (All P) (sym read.shown) (All-push P m.shown reading.version (showed_on showed worker style m.seen z.seen m.shown on.on.seen high before) last)
 
 -- what is told of a reading is the screen of a board after a legal history
 pub screen_told : (style : Style) (m z : PassView) (reading : Reading) (text : List ℕ) → Continues m z → SharedReading m reading z

@@ -15,11 +15,6 @@ pub record BrokeOff (failed : Bool) (old new : Option (List ℕ)) (text : List �
 abbrev pub Tells : Bool → Option (List ℕ) → Option (List ℕ) → List ℕ → Type 0
 Tells failed old new text = Appends old new text ⊎ BrokeOff failed old new text
 
--- of the calls that were made to tell a text none was in vain, but the last one where the error sink has failed
-abbrev pub VainlyTells : Bool → ℕ → ℕ → Type 0
-VainlyTells false old new = new ≡ old
-VainlyTells true old new = new ≤ old + 1
-
 -- the line of a fault
 abbrev pub fault_line : RunFault → List ℕ
 fault_line fault = fault_text fault ++ codes "\n"

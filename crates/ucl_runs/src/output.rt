@@ -2,7 +2,6 @@
 
 ghost use Rattle.std.specs.Prelude.{◌≡◌, ◌+◌, ◌-◌, ◌^◌, ◌++◌, codes, min, length, OnOk, IfOk, IfErr, option_map, string_bytes};
 ghost use Rattle.std.specs.Io.KnownBytes.{Appends};
-ghost use Rattle.ucl_screen.specs.Stream.{VainlyGives};
 ghost use Rattle.ucl_runs.specs.Nights.{last_shown, last_text, lasts_text};
 ghost use Rattle.ucl_runs.specs.Run.{IsCutShort, IsStopped};
 
@@ -15,7 +14,6 @@ pub fn put_text<W: Sink>(sink: &mut W, text: &str) -> Result<(), RunFault>
     ensures part { IfErr result (IsCutShort (W.failed sink.new) (W.taken sink.old)
         (W.taken sink.new) text.now) }
     ensures sound { OnOk result (W.failed sink.new ≡ W.failed sink.old) }
-    ensures vain { VainlyGives (W.in_vain sink.old) (W.in_vain sink.new) result }
 {
     match give_all(sink, text.as_bytes()) {
         Ok(()) => Ok(()),
@@ -35,7 +33,6 @@ pub fn put_bytes<W: Sink>(sink: &mut W, before: usize, bytes: &[u8]) -> Result<u
     ensures part { IfErr result (IsStopped before (W.failed sink.new) (W.taken sink.old)
         (W.taken sink.new) bytes.now) }
     ensures sound { OnOk result (W.failed sink.new ≡ W.failed sink.old) }
-    ensures vain { VainlyGives (W.in_vain sink.old) (W.in_vain sink.new) result }
 {
     match give_all(sink, bytes) {
         Ok(()) => Ok(before.saturating_add(bytes.len())),
@@ -61,7 +58,6 @@ pub fn put_under<W: Sink>(
         (W.taken sink.old) (W.taken sink.new)
         (heading.now ++ text.now)) }
     ensures sound { OnOk result (W.failed sink.new ≡ W.failed sink.old) }
-    ensures vain { VainlyGives (W.in_vain sink.old) (W.in_vain sink.new) result }
 {
     let before = put_bytes(sink, before, heading.as_bytes())?;
     put_bytes(sink, before, text.as_bytes())
@@ -81,7 +77,6 @@ pub fn put_line<W: Sink>(
         (W.taken sink.old) (W.taken sink.new)
         ((before.now ++ number.now) ++ (after.now ++ codes "\n"))) }
     ensures sound { OnOk result (W.failed sink.new ≡ W.failed sink.old) }
-    ensures vain { VainlyGives (W.in_vain sink.old) (W.in_vain sink.new) result }
 {
     let written = put_under(sink, 0, before, number)?;
     put_under(sink, written, after, "\n")
@@ -102,7 +97,6 @@ pub fn put_last<W: Sink>(
         (W.taken sink.old) (W.taken sink.new)
         (last_text heading.now (option_map string_bytes last.now))) }
     ensures sound { OnOk result (W.failed sink.new ≡ W.failed sink.old) }
-    ensures vain { VainlyGives (W.in_vain sink.old) (W.in_vain sink.new) result }
 {
     match last {
         Some(text) => put_under(sink, before, heading, text.as_str()),
@@ -121,7 +115,6 @@ pub fn put_lasts<W: Sink>(sink: &mut W, last: &[Option<String>; 2]) -> Result<us
         (W.taken sink.old) (W.taken sink.new)
         (lasts_text (last_shown last.now 0) (last_shown last.now 1))) }
     ensures sound { OnOk result (W.failed sink.new ≡ W.failed sink.old) }
-    ensures vain { VainlyGives (W.in_vain sink.old) (W.in_vain sink.new) result }
 {
     let written = put_last(sink, 0, "READER 1\n", &last[0])?;
     put_last(sink, written, "READER 2\n", &last[1])

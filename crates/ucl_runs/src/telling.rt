@@ -1,21 +1,20 @@
 //! What is told on the error sink.
 
-ghost use Rattle.std.specs.Prelude.{◌≡◌};
+ghost use Rattle.std.specs.Prelude.{◌≡◌, true};
 ghost use Rattle.ucl_runs.specs.Faults.{status};
-ghost use Rattle.ucl_runs.specs.Telling.{Tells, VainlyTells, fault_line};
+ghost use Rattle.ucl_runs.specs.Telling.{Tells, fault_line};
 
 use crate::output::put_line;
 use crate::{RunFault, status_of};
 use itoa::Buffer;
 use ucl_screen::Sink;
 
-/// Tells of a fault by its line, as far as the error sink takes it, and gives the exit status. No memory is taken. A sink
-/// that has failed is not called again, and none is called with nothing.
+/// Tells of a fault by its line, as far as the error sink takes it, and gives the exit status. No memory is taken.
 pub fn tell<E: Sink>(errors: &mut E, fault: RunFault) -> u8
     ensures status { result ≡ status fault }
     ensures told { Tells (E.failed errors.new) (E.taken errors.old) (E.taken errors.new)
         (fault_line fault) }
-    ensures vain { VainlyTells (E.failed errors.new) (E.in_vain errors.old) (E.in_vain errors.new) }
+    ensures stays { E.failed errors.old ≡ true → E.failed errors.new ≡ true }
 {
     let line = fault.line();
     let mut buffer = Buffer::new();

@@ -2,7 +2,7 @@
 
 ghost use Rattle.std.specs.Prelude.{◌≡◌, IfOk};
 ghost use Rattle.ucl_screen.specs.Screen.{IsGroup};
-ghost use Rattle.ucl_runs.specs.Workers.{IsFreshOn, IsNewOn, HasEnteredOn, HasShownOn, HasToldCalls, HasToldScreens};
+ghost use Rattle.ucl_runs.specs.Workers.{IsFreshOn, IsNewOn, HasEnteredOn, HasShownOn};
 
 use crate::gate::Gate;
 use crate::workers::{Plan, Shown, enter_rows, show_screens};
@@ -47,8 +47,7 @@ impl<'n, B: LiveBoard, G: Gate> Entering<'n, B, G> {
 
 impl<'n, B: LiveBoard, G: Gate> Promise<B::ReporterPass> for Entering<'n, B, G> {
     ghost kept_by = { λ p pass.
-        HasEnteredOn B.LiveBoard p.board.value p.plan.value p.before.value p.reporter pass
-        × HasToldCalls B.LiveBoard G.Gate p.plan.value p.reporter };
+        HasEnteredOn B.LiveBoard p.board.value p.plan.value p.before.value p.reporter pass };
 }
 
 /// What a reader's thread promises of what it hands back.
@@ -80,8 +79,7 @@ impl<'n, B: LiveBoard, G: Gate> Showing<'n, B, G> {
 impl<'n, B: LiveBoard, G: Gate> Promise<Result<Shown<B::ReaderPass>, OutOfMemory>>
     for Showing<'n, B, G> {
     ghost kept_by = { λ p end.
-        IfOk end (HasShownOn B.LiveBoard p.board.value p.plan.value p.before.value)
-        × IfOk end (λ shown. HasToldScreens B.LiveBoard G.Gate p.plan.value p.worker shown.pass) };
+        IfOk end (HasShownOn B.LiveBoard p.board.value p.plan.value p.before.value) };
 }
 
 /// No thread could be had for a worker.
@@ -110,8 +108,7 @@ where
         promise,
         move || -> B::ReporterPass
             requires { IsFreshOn B.LiveBoard board.now pass }
-            ensures { HasEnteredOn B.LiveBoard board.entry.now plan.entry.now pass reporter result
-                × HasToldCalls B.LiveBoard G.Gate plan.entry.now reporter }
+            ensures { HasEnteredOn B.LiveBoard board.entry.now plan.entry.now pass reporter result }
         { enter_rows(rt, board, pass, reporter, &plan.night.events, plan.gate) },
     );
     started.map_err(|_| NoThread)
@@ -141,9 +138,7 @@ where
         promise,
         move || -> Result<Shown<B::ReaderPass>, OutOfMemory>
             requires { IsNewOn B.LiveBoard board.now pass × IsGroup plan.now.group }
-            ensures { IfOk result (HasShownOn B.LiveBoard board.entry.now plan.entry.now pass)
-                × IfOk result (λ shown.
-                HasToldScreens B.LiveBoard G.Gate plan.entry.now worker shown.pass) }
+            ensures { IfOk result (HasShownOn B.LiveBoard board.entry.now plan.entry.now pass) }
         { show_screens(rt, alloc, board, pass, worker, plan) },
     );
     started.map_err(|_| NoThread)
@@ -180,12 +175,6 @@ pub fn work<B: LiveBoard, G: Gate, R: Threads + Wait + Sync>(
         (HasShownOn B.LiveBoard board.entry.now plan.entry.now lent.reader_1)) }
     ensures reader_2 { IfOk result (λ w. IfOk w.reader_2
         (HasShownOn B.LiveBoard board.entry.now plan.entry.now lent.reader_2)) }
-    ensures calls { IfOk result (λ _. HasToldCalls B.LiveBoard G.Gate plan.entry.now 1
-        × HasToldCalls B.LiveBoard G.Gate plan.entry.now 2) }
-    ensures told_1 { IfOk result (λ w. IfOk w.reader_1 (λ shown.
-        HasToldScreens B.LiveBoard G.Gate plan.entry.now 3 shown.pass)) }
-    ensures told_2 { IfOk result (λ w. IfOk w.reader_2 (λ shown.
-        HasToldScreens B.LiveBoard G.Gate plan.entry.now 4 shown.pass)) }
 {
     thread::scope(
         thread::scope_env(),
@@ -207,12 +196,6 @@ pub fn work<B: LiveBoard, G: Gate, R: Threads + Wait + Sync>(
                 (HasShownOn B.LiveBoard board.entry.now plan.entry.now lent.reader_1)) }
             ensures reader_2 { IfOk result (λ w. IfOk w.reader_2
                 (HasShownOn B.LiveBoard board.entry.now plan.entry.now lent.reader_2)) }
-            ensures calls { IfOk result (λ _. HasToldCalls B.LiveBoard G.Gate plan.entry.now 1
-                × HasToldCalls B.LiveBoard G.Gate plan.entry.now 2) }
-            ensures told_1 { IfOk result (λ w. IfOk w.reader_1 (λ shown.
-                HasToldScreens B.LiveBoard G.Gate plan.entry.now 3 shown.pass)) }
-            ensures told_2 { IfOk result (λ w. IfOk w.reader_2 (λ shown.
-                HasToldScreens B.LiveBoard G.Gate plan.entry.now 4 shown.pass)) }
         {
             let reporter_1 = start_reporter(scope, rt, board, lent.reporter_1, 1, plan);
             let reporter_2 = start_reporter(scope, rt, board, lent.reporter_2, 2, plan);

@@ -3,7 +3,7 @@
 ghost use Rattle.std.specs.Prelude.{IfOk, option_map, string_bytes};
 ghost use Rattle.ucl_screen.specs.Screen.{IsGroup};
 ghost use Rattle.ucl_shared.specs.Passes.{ReportsMore};
-ghost use Rattle.ucl_runs.specs.Gates.{CameTo, Showed, rows_by};
+ghost use Rattle.ucl_runs.specs.Gates.{rows_by};
 ghost use Rattle.ucl_runs.specs.Nights.{IsFresh, IsNew, HasEntered, HasShown};
 ghost use Rattle.ucl_runs.specs.Workers.{style_of};
 
@@ -47,7 +47,6 @@ pub fn enter_rows<B: LiveBoard, G: Gate, R: Wait>(
     ensures entered { HasEntered (B.reporter pass) (B.reporter result) reporter rows.entry.now }
     ensures reported { ReportsMore (B.has_reported pass) (rows_by reporter rows.entry.now)
         (B.has_reported result) }
-    ensures came { CameTo (G.came gate.entry.now) reporter (rows_by reporter rows.entry.now) }
 {
     let mut call: u32 = 0;
     for row in rows {
@@ -84,10 +83,6 @@ pub fn show_screens<B: LiveBoard, G: Gate, R: Wait>(
     ensures shown { IfOk result (λ end. HasShown (style_of plan.entry.now)
         (B.reader end.pass).seen (B.reader pass) (B.reader end.pass)
         plan.entry.now.readings (option_map string_bytes end.last)) }
-    ensures came { IfOk result (λ _. CameTo (G.came plan.entry.now.gate.now) worker
-        plan.entry.now.readings) }
-    ensures showed { IfOk result (λ end. Showed (G.showed plan.entry.now.gate.now) worker
-        (style_of plan.entry.now) (B.reader end.pass).seen (B.reader end.pass).shown) }
 {
     let Plan {
         night,

@@ -21,18 +21,7 @@ pub record WroteFirst (old new : Option (List ℕ)) (n : ℕ) (text : List ℕ) 
 abbrev pub MovesCount : Option (List ℕ) → Option (List ℕ) → ℕ → Type 0
 MovesCount old new n = (bytes : List ℕ) × (length bytes ≡ n) × Consumes old new bytes
 
--- how many calls were in vain, one call later: one more where it moved no byte
-abbrev pub vain_after : ℕ → Option ℕ → ℕ
-vain_after before None = before + 1
-vain_after before (Some zero) = before + 1
-vain_after before (Some (suc n)) = before
-
 -- at most one call was made for each byte of a text that went out, and one more where it failed
 abbrev pub CallsGive : {V : Type 0} → ℕ → ℕ → ℕ → Result V ℕ → Type 0
 CallsGive old new all (Ok v) = new ≤ old + all
 CallsGive old new all (Err out) = new ≤ old + out + 1
-
--- of the calls that were made to give a text none was in vain, but the last one where it failed
-abbrev pub VainlyGives : {V E : Type 0} → ℕ → ℕ → Result V E → Type 0
-VainlyGives old new (Ok v) = new ≡ old
-VainlyGives old new (Err e) = new ≡ old + 1

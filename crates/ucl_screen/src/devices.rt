@@ -36,7 +36,6 @@ pub struct FromRead<R> {
     reader: R,
     has_failed: bool,
     calls: Tally,
-    in_vain: Tally,
 }
 
 impl<R: Read> FromRead<R> {
@@ -49,7 +48,6 @@ impl<R: Read> FromRead<R> {
             reader,
             has_failed: false,
             calls: Tally::start(),
-            in_vain: Tally::start(),
         }
     }
 }
@@ -59,25 +57,18 @@ impl<R: Read> Source for FromRead<R> {
 
     ghost calls = { λ s. s.calls.value };
 
-    ghost in_vain = { λ s. s.in_vain.value };
-
     ghost failed = { λ s. s.has_failed };
 
     fn take(&mut self, buf: &mut [u8]) -> Option<usize> {
         self.calls = self.calls.next();
         if self.has_failed {
-            self.in_vain = self.in_vain.next();
             return None;
         }
         if buf.is_empty() {
-            self.in_vain = self.in_vain.next();
             return Some(0);
         }
         let taken = taken_by(&self.reader.read(buf));
         self.has_failed = taken.is_none();
-        if taken.unwrap_or(0) == 0 {
-            self.in_vain = self.in_vain.next();
-        }
         taken
     }
 }
@@ -90,7 +81,6 @@ pub struct ToWrite<W> {
     writer: W,
     has_failed: bool,
     calls: Tally,
-    in_vain: Tally,
 }
 
 impl<W: Write> ToWrite<W> {
@@ -103,7 +93,6 @@ impl<W: Write> ToWrite<W> {
             writer,
             has_failed: false,
             calls: Tally::start(),
-            in_vain: Tally::start(),
         }
     }
 }
@@ -113,25 +102,18 @@ impl<W: Write> Sink for ToWrite<W> {
 
     ghost calls = { λ s. s.calls.value };
 
-    ghost in_vain = { λ s. s.in_vain.value };
-
     ghost failed = { λ s. s.has_failed };
 
     fn give(&mut self, text: &[u8]) -> Option<usize> {
         self.calls = self.calls.next();
         if self.has_failed {
-            self.in_vain = self.in_vain.next();
             return None;
         }
         if text.is_empty() {
-            self.in_vain = self.in_vain.next();
             return Some(0);
         }
         let given = given_by(&self.writer.write(text));
         self.has_failed = given.is_none();
-        if given.is_none() {
-            self.in_vain = self.in_vain.next();
-        }
         given
     }
 }

@@ -164,7 +164,7 @@ pub fn night_of_bytes(alloc: Global, bytes: &[u8]) -> Result<Night, InputFault>
 ///
 /// The input is read whole before it is looked at: a source that fails is `ReadFailed`, with the number of bytes that
 /// it had given, and more than 4,194,304 bytes are `TooLong`. The source is called at most 4,194,306 times, at most once
-/// for each byte and once more, and not again after a call that failed or told the end.
+/// for each byte and once more.
 ///
 /// Rows are the records that the crate `csv` reads in its default dialect, with no heading and with records of any
 /// length; each has to have four fields. Rows 1 to 4 are `club`, the row's number as one digit, the name, and the
@@ -178,7 +178,6 @@ pub fn read_night<S: Source>(alloc: Global, source: &mut S) -> Result<Night, Inp
         (S.failed source.new) result }
     ensures calls { S.calls source.new ≤ S.calls source.old + most_bytes + 2 }
     ensures each { CallsRead (S.left source.old) (S.calls source.old) (S.calls source.new) result }
-    ensures vain { S.in_vain source.new ≤ S.in_vain source.old + 1 }
     ensures few { IfOk result (λ night. length night.events.items ≤ most_bytes) }
 {
     let bytes = read_all(alloc, source)?;
@@ -255,7 +254,6 @@ pub fn read_words<S: Source>(alloc: Global, source: &mut S) -> Result<Sheet, Inp
         (S.failed source.new) result }
     ensures calls { S.calls source.new ≤ S.calls source.old + most_bytes + 2 }
     ensures each { CallsRead (S.left source.old) (S.calls source.old) (S.calls source.new) result }
-    ensures vain { S.in_vain source.new ≤ S.in_vain source.old + 1 }
 {
     let bytes = read_all(alloc, source)?;
     let (roster, words) = roster_and_words(alloc, &bytes)?;

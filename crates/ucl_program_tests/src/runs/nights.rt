@@ -9,7 +9,7 @@ use std::sync::atomic::{AtomicBool, AtomicU32, Ordering};
 use std::test::Fail;
 use std::thread::Threads;
 use ucl_board::{Board, Reading};
-use ucl_devices::{Full, Out};
+use ucl_devices::{Full, Idle, Out};
 use ucl_order::{Profile, Roster};
 use ucl_pass::{CellBoard, CellReaderPass, LiveBoard};
 use ucl_runs::{Gate, NightEnd, OpenGate, RunFault, night_run, put_night};
@@ -42,11 +42,6 @@ struct FourAtOnce {
 }
 
 impl Gate for FourAtOnce {
-    ghost use Rattle.std.specs.Prelude.{⊤};
-
-    ghost came = { λ _ _ _. ⊤ };
-
-    ghost showed = { λ _ _ _ _. ⊤ };
 
     fn come(&self, _worker: u8, call: u32) {
         if call > 0 {
@@ -105,11 +100,6 @@ struct ReportersFirst {
 }
 
 impl Gate for ReportersFirst {
-    ghost use Rattle.std.specs.Prelude.{⊤};
-
-    ghost came = { λ _ _ _. ⊤ };
-
-    ghost showed = { λ _ _ _ _. ⊤ };
 
     fn come(&self, worker: u8, call: u32) {
         let is_in_time = match (worker, call) {
@@ -251,11 +241,6 @@ impl InStep {
 }
 
 impl Gate for InStep {
-    ghost use Rattle.std.specs.Prelude.{⊤};
-
-    ghost came = { λ _ _ _. ⊤ };
-
-    ghost showed = { λ _ _ _ _. ⊤ };
 
     fn come(&self, worker: u8, call: u32) {
         let [first, second, third, fourth] = &self.calls;
@@ -497,7 +482,7 @@ fn numbers_of<B: LiveBoard, R: Threads + Wait + Sync>(
     requires { B.is_reader board.now pass }
 {
     let profile = Profile::Uefa;
-    let end = night_run(rt, alloc, board, pass, night, b'A', 0, &OpenGate, profile)?;
+    let end = night_run(rt, alloc, board, pass, night, b'A', 0, &Idle, profile)?;
     let first = B::number_of(&end.reporter_1).get();
     Ok((first, B::number_of(&end.reporter_2).get()))
 }
@@ -527,24 +512,43 @@ fn last_two_numbers(rt: HostRuntime) -> Result<(), Fail> {
     Ok(())
 }
 
-#[test]
-fn board_without_two_numbers_left(rt: HostRuntime) -> Result<(), Fail> {
-    let alloc = rt.alloc();
+/// How a night without events ends on a board with so many other reporters.
+fn settled_beside<B: LiveBoard, R: Threads + Wait + Sync>(
+    rt: &R,
+    alloc: Global,
+    board: &B,
+    mut pass: B::ReaderPass,
+    others: u8,
+) -> Result<Result<u16, RunFault>, Fail>
+    requires { B.is_reader board.now pass }
+{
     let night = night_of(alloc, CLUBS)?;
-    let (board, mut pass) = CellBoard::open(&rt, alloc)?;
-    enlist_others(&rt, &board, &mut pass, 254);
-    let answer = settled_version(&rt, alloc, &board, pass, &night, 0);
-    assert_eq!(rt; answer, Err(RunFault::TooManyReporters));
-    Ok(())
+    enlist_others(rt, board, &mut pass, others);
+    Ok(settled_version(rt, alloc, board, pass, &night, 0))
 }
 
 #[test]
-fn board_with_an_event_of_a_third_reporter(rt: HostRuntime) -> Result<(), Fail> {
+fn board_without_two_numbers_left(rt: HostRuntime) -> Result<(), Fail> {
     let alloc = rt.alloc();
-    let night = night_of(alloc, CLUBS)?;
-    let (board, mut pass) = CellBoard::open(&rt, alloc)?;
-    let reader = board.split(&rt, &mut pass);
-    let Ok(mut third) = board.enlist(&rt, reader) else {
+    let (board, pass) = CellBoard::open(&rt, alloc)?;
+    let in_cell = settled_beside(&rt, alloc, &board, pass, 254)?;
+    let (board, pass) = WordBoard::open(&rt, alloc)?;
+    let in_words = settled_beside(&rt, alloc, &board, pass, 254)?;
+    assert_eq!(rt; [in_cell, in_words], [Err(RunFault::TooManyReporters); 2]);
+    Ok(())
+}
+
+/// How a night without events ends on a board with a kick-off by a third reporter.
+fn settled_after_a_third<B: LiveBoard, R: Threads + Wait + Sync>(
+    rt: &R,
+    alloc: Global,
+    board: &B,
+    mut pass: B::ReaderPass,
+) -> Result<Result<u16, RunFault>, Fail>
+    requires { B.is_reader board.now pass }
+{
+    let reader = board.split(rt, &mut pass);
+    let Ok(mut third) = board.enlist(rt, reader) else {
         return Err("no number is left".into());
     };
     let kick_off = EventCall {
@@ -552,9 +556,20 @@ fn board_with_an_event_of_a_third_reporter(rt: HostRuntime) -> Result<(), Fail> 
         expected: 0,
         kind: Kind::KickOff,
     };
-    assert!(rt; board.report(&rt, &mut third, &kick_off).is_ok());
-    let answer = settled_version(&rt, alloc, &board, pass, &night, 0);
-    assert_eq!(rt; answer, Err(RunFault::Strangers { version: 1 }));
+    if board.report(rt, &mut third, &kick_off).is_err() {
+        return Err("no kick-off".into());
+    }
+    settled_beside(rt, alloc, board, pass, 0)
+}
+
+#[test]
+fn board_with_an_event_of_a_third_reporter(rt: HostRuntime) -> Result<(), Fail> {
+    let alloc = rt.alloc();
+    let (board, pass) = CellBoard::open(&rt, alloc)?;
+    let in_cell = settled_after_a_third(&rt, alloc, &board, pass)?;
+    let (board, pass) = WordBoard::open(&rt, alloc)?;
+    let in_words = settled_after_a_third(&rt, alloc, &board, pass)?;
+    assert_eq!(rt; [in_cell, in_words], [Err(RunFault::Strangers { version: 1 }); 2]);
     Ok(())
 }
 

@@ -18,7 +18,6 @@ lines-init g c =
       row = omega arith;
       put = rw (answers-to-none m) (put_nothing c.args.desk.now.page _ c.written-written.ensures.bound);
       sound = refl;
-      vain = refl;
     }
 
 pub returns-in_err-end_line-in-Some-clause-fails : goal.returns-in_err-end_line-in-Some-clause-fails
@@ -53,7 +52,6 @@ lines-preserved g c =
       row = omega arith;
       put = rw (answers-to-append m (take i bytes) end) put;
       sound = c.in_ok-end_line-in-Some.ensures.sound ∙ so_far.sound;
-      vain = c.in_ok-end_line-in-Some.ensures.vain ∙ so_far.vain;
     })
 
 pub returns-in-None-clause-moment : goal.returns-in-None-clause-moment

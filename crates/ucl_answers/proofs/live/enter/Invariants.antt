@@ -12,7 +12,6 @@ invariant-lines g l = record {
   row : l.evening.row ≤ l.initial.evening.row + l.start;
   put : HasPut l.initial.desk.page l.desk.page (g.W.Sink.taken l.initial.sink) (g.W.Sink.taken l.sink) (answers_to (moment_of l.initial.evening l.initial.desk) (take l.start l.bytes));
   sound : g.W.Sink.failed l.sink ≡ g.W.Sink.failed l.initial.sink;
-  vain : g.W.Sink.in_vain l.sink ≡ g.W.Sink.in_vain l.initial.sink;
 }
 
 abbrev pub decreases-lines : goal.decreases-lines

@@ -5,19 +5,17 @@ use Rattle.ucl_answers.specs.declared.live.Progress.{Progress}
 use Rattle.ucl_answers.specs.Stepping.{Past}
 use Rattle.ucl_answers.specs.Text.{start_of}
 use Rattle.ucl_answers.proofs.FaultKinds.{same-read}
-use Rattle.ucl_answers.proofs.Wires.{asked-none, asked-then, vain-since}
-use Rattle.ucl_answers.proofs.Steps.{prompt-none, read-more, run-complete, run-fails, run-few, run-moved, run-short, run-text, stays-ended, stays-took}
+use Rattle.ucl_answers.proofs.Wires.{asked-none, asked-then}
+use Rattle.ucl_answers.proofs.Steps.{prompt-none, read-more, run-complete, run-fails, run-few, run-short, run-text, stays-ended, stays-took}
 use Rattle.ucl_answers.proofs.live.live_run.Goals as goal
 
 pub steps-init : goal.steps-init
 steps-init g c = record {
   bytes = [];
   consumed = consumes-none (g.S.Source.left c.args.wire.now.source);
-  vain = refl;
   prompt = prompt-none _ _ c.new-live.result c.new-live.ensures.figures;
   source_sound = inl c.new-live.ensures.figures.read_is;
   sink_sound = refl;
-  sink_vain = refl;
   asked = asked-none _ _ _ _;
 }
 
@@ -55,15 +53,10 @@ returns-in_err-step-clause-prompt g c =
     asked-then _ _ _ _ _ _ _ _ (c.steps.wire.source, c.steps.wire.sink) so_far.asked c.in_err-step.ensures.asked c.in_err-step.ensures.one_call refl
     (so_far.bytes, so_far.consumed, so_far.prompt.answered)
 
-pub returns-in_err-step-clause-vain : goal.returns-in_err-step-clause-vain
-returns-in_err-step-clause-vain g c =
-    let so_far = c.steps.invariant in
-    vain-since _ _ _ _ _ _ _ so_far.bytes so_far.vain so_far.consumed c.in_err-step.ensures.vain
-
 pub returns-in_err-step-clause-sink_fails : goal.returns-in_err-step-clause-sink_fails
 returns-in_err-step-clause-sink_fails g c =
     let e = err_from_is_err_and c.from_residual.result c.from_residual.ensures.1 in
-    let s = rw (c.steps.invariant.sink_vain, c.steps.invariant.sink_sound) at c.in_err-step.ensures.sink_fails in
+    let s = rw c.steps.invariant.sink_sound at c.in_err-step.ensures.sink_fails in
     rw (e.1, e.2) s
 
 pub returns-in-Ended-clause-prompt : goal.returns-in-Ended-clause-prompt
@@ -71,11 +64,6 @@ returns-in-Ended-clause-prompt g c =
     let so_far = c.steps.invariant in
     asked-then _ _ _ _ _ _ _ _ (c.steps.wire.source, c.steps.wire.sink) so_far.asked c.in_ok-step.ensures.asked c.in_ok-step.ensures.one_call refl
     (so_far.bytes, so_far.consumed, so_far.prompt.answered)
-
-pub returns-in-Ended-clause-vain : goal.returns-in-Ended-clause-vain
-returns-in-Ended-clause-vain g c =
-    let so_far = c.steps.invariant in
-    vain-since _ _ _ _ _ _ _ so_far.bytes so_far.vain so_far.consumed c.in_ok-step.ensures.vain
 
 pub returns-in-Ended-clause-text : goal.returns-in-Ended-clause-text
 returns-in-Ended-clause-text g c =
@@ -99,11 +87,9 @@ steps-preserved g c =
     record {
       bytes = so_far.bytes ++ s.bytes;
       consumed = consumes-then _ _ _ so_far.bytes s.bytes so_far.consumed s.consumed;
-      vain = run-moved _ _ c.in-Took.next c.in_ok-step.field-0 c.in-Took.is c.in_ok-step.ensures.moved ∙ so_far.vain;
       prompt = s.prompt;
       source_sound = inr c.in_ok-step.ensures.read_failed;
       sink_sound = c.in_ok-step.ensures.sink_sound ∙ so_far.sink_sound;
-      sink_vain = c.in_ok-step.ensures.sink_vain ∙ so_far.sink_vain;
       asked =
           asked-then _ _ _ _ _ _ _ _ (c.steps.wire.source, c.steps.wire.sink) so_far.asked c.in_ok-step.ensures.asked c.in_ok-step.ensures.one_call refl
           (so_far.bytes, so_far.consumed, so_far.prompt.answered);

@@ -9,11 +9,9 @@ abbrev pub invariant-steps : goal.invariant-steps
 invariant-steps g l = record {
   bytes : List ℕ;
   consumed : Consumes (g.S.Source.left l.initial.wire.source) (g.S.Source.left l.wire.source) bytes;
-  vain : g.S.Source.in_vain l.wire.source ≡ g.S.Source.in_vain l.initial.wire.source;
   prompt : IsPrompt (record { start = start_of l.fn.options; first = g.W.Sink.taken l.initial.wire.sink; bytes = bytes }) l.live (g.W.Sink.taken l.wire.sink);
   source_sound : (l.live.read ≡ 0) ⊎ (g.S.Source.failed l.wire.source ≡ false);
   sink_sound : g.W.Sink.failed l.wire.sink ≡ g.W.Sink.failed l.initial.wire.sink;
-  sink_vain : g.W.Sink.in_vain l.wire.sink ≡ g.W.Sink.in_vain l.initial.wire.sink;
   asked : AskedMore (λ time. g.S.Source.calls time.0) l.initial.wire.asked.times l.wire.asked.times (g.S.Source.calls l.initial.wire.source) (g.S.Source.calls l.wire.source)
       (λ time. IsAnsweredSoFar (start_of l.fn.options) (g.S.Source.left l.initial.wire.source) (g.S.Source.left time.0) (g.W.Sink.taken l.initial.wire.sink) (g.W.Sink.taken time.1));
 }

@@ -10,14 +10,5 @@ returns-clause-shown_1 g c = c.in_ok-end.ensures.shown_1
 pub returns-clause-shown_2 : goal.returns-clause-shown_2
 returns-clause-shown_2 g c = c.in_ok-end.ensures.shown_2
 
-pub returns-clause-called : goal.returns-clause-called
-returns-clause-called g c = c.in_ok-end.ensures.called
-
-pub returns-clause-showed_1 : goal.returns-clause-showed_1
-returns-clause-showed_1 g c = c.in_ok-end.ensures.showed_1
-
-pub returns-clause-showed_2 : goal.returns-clause-showed_2
-returns-clause-showed_2 g c = c.in_ok-end.ensures.showed_2
-
 pub returns-clause-reports : goal.returns-clause-reports
 returns-clause-reports g c = c.in_ok-end.ensures.reports

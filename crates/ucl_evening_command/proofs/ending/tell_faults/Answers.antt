@@ -3,5 +3,5 @@ use Rattle.ucl_evening_command.proofs.ending.tell_faults.Goals as goal
 
 pub loop-part-preserved : goal.loop-part-preserved
 loop-part-preserved g c = record {
-  told = told_step c.loop-part.part-index c.args.parts.now _ _ _ _ _ c.loop-part-test.true c.tell_end.ensures c.loop-part.invariant.told;
+  told = told_step c.loop-part.part-index c.args.parts.now _ _ _ _ _ _ c.loop-part-test.true c.tell_end.ensures.told c.tell_end.ensures.stays c.loop-part.invariant.told;
 }

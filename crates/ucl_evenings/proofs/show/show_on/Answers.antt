@@ -14,7 +14,6 @@ loop-init g c = record {
   notes = λ note h. h;
   ended = refl;
   sink_sound = refl;
-  sink_vain = refl;
 }
 
 pub show-requires : goal.show-requires
@@ -92,5 +91,4 @@ loop-preserved g c =
       notes = λ note h. inv.notes note (c.wait_for-is_over.ensures.notes note h);
       ended = ended_by _ _ _ _ c.wait_for-is_over.result _ (rw c.if-is_over.false at inv.ended) c.wait_for-is_over.ensures.ends refl;
       sink_sound = c.in_ok-show.ensures.sink_sound ∙ inv.sink_sound;
-      sink_vain = c.in_ok-show.ensures.sink_vain ∙ inv.sink_vain;
     }

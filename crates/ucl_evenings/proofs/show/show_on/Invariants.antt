@@ -18,5 +18,4 @@ invariant-loop g l =
       notes : OnlyGives (g.Q.Bell.gives l.bell) (g.Q.Bell.gives l.initial.bell);
       ended : g.Q.Bell.ends l.bell ≡ cond l.is_over (g.Q.Bell.ends l.initial.bell ++ l.pass ∷ []) (g.Q.Bell.ends l.initial.bell);
       sink_sound : g.W.Sink.failed l.sink ≡ g.W.Sink.failed l.initial.sink;
-      sink_vain : g.W.Sink.in_vain l.sink ≡ g.W.Sink.in_vain l.initial.sink;
     }

@@ -5,8 +5,8 @@ use Rattle.ucl_screen.proofs.MovedBytes.{consumes-none, consumes-then}
 use Rattle.ucl_answers.specs.Lines.{begun_line, ended_lines}
 use Rattle.ucl_answers.specs.Stepping.{device}
 use Rattle.ucl_answers.proofs.Moments.{begun-append, begun-none, begun-short, ended-append, ended-none}
-use Rattle.ucl_answers.proofs.Steps.{not-vain, sound}
-use Rattle.ucl_answers.proofs.Wires.{asked-none, asked-then, ended, vain-since}
+use Rattle.ucl_answers.proofs.Steps.{sound}
+use Rattle.ucl_answers.proofs.Wires.{asked-none, asked-then, ended}
 use Rattle.ucl_evenings.specs.Rows.{at_bells, at_sink}
 use Rattle.ucl_evenings.proofs.ByteLines.{few_lines}
 use Rattle.ucl_evenings.proofs.Events.{rang_none, rang_then}
@@ -32,9 +32,7 @@ pieces-init g c =
       asked = asked-none _ _ _ _;
       rang = rang_none (g.B.LiveBoard.reporter c.args.pass.now) (g.V.Ring.rung c.args.wire.now.sink.bells);
       source_sound = inl refl;
-      vain = refl;
       sink_sound = refl;
-      sink_vain = refl;
     }
 
 pub returns-in-None-clause-took : goal.returns-in-None-clause-took
@@ -151,9 +149,7 @@ pieces-preserved g c =
           so_far.went there.0 (c.pieces.wire.source, c.pieces.wire.sink) so_far.asked c.take.ensures.asked c.take.ensures.counts refl now;
       rang = rang_then (known c.args.pass.now) (known c.pieces.pass) (known c.enter.new.pass) _ _ _ so_far.rang (rw c.take.ensures.sink at c.enter.ensures.rang);
       source_sound = inr (sound _ (λ h. true≢false (c.in-Some.ensures.fails.1 h)));
-      vain = c.in-Some.ensures.vain ∙ not-vain (g.S.Source.in_vain c.pieces.wire.source) n c.in-Some.n-test.1 ∙ so_far.vain;
       sink_sound = new.sink_sound ∙ ap (at_sink g.W.Sink.failed) c.take.ensures.sink ∙ so_far.sink_sound;
-      sink_vain = new.vain ∙ ap (at_sink g.W.Sink.in_vain) c.take.ensures.sink ∙ so_far.sink_vain;
     }
 
 pub returns-in-None-clause-rang : goal.returns-in-None-clause-rang
@@ -168,20 +164,3 @@ pub returns-in_err-enter-in-Some-clause-rang : goal.returns-in_err-enter-in-Some
 returns-in_err-enter-in-Some-clause-rang g c =
     let known = g.B.LiveBoard.reporter in
     rang_then (known c.args.pass.now) (known c.pieces.pass) (known c.enter.new.pass) _ _ _ c.pieces.invariant.rang (rw c.take.ensures.sink at c.enter.ensures.rang)
-
-pub returns-in-None-clause-vain : goal.returns-in-None-clause-vain
-returns-in-None-clause-vain g c =
-    let so_far = c.pieces.invariant in
-    vain-since _ _ _ _ _ (g.S.Source.left c.pieces.wire.source) _ so_far.bytes so_far.vain so_far.consumed (inr (c.in-None.ensures.vain, inl (c.in-None.ensures.fails.0 refl)))
-
-pub returns-in-Some-eq0-clause-vain : goal.returns-in-Some-eq0-clause-vain
-returns-in-Some-eq0-clause-vain g c =
-    let so_far = c.pieces.invariant in
-    let room = so_far.room in
-    let moved = rw c.in-Some-eq0.field-0-test at c.in-Some-eq0.ensures.moves in
-    let at_end = ended (g.S.Source.left c.pieces.wire.source) _ (c.in-Some-eq0.ensures.end c.in-Some-eq0.field-0-test (omega arith)) moved in
-    vain-since _ _ _ _ _ _ _ so_far.bytes so_far.vain so_far.consumed (inr (rw c.in-Some-eq0.field-0-test at c.in-Some-eq0.ensures.vain, inr at_end))
-
-pub returns-in_err-enter-in-Some-clause-vain : goal.returns-in_err-enter-in-Some-clause-vain
-returns-in_err-enter-in-Some-clause-vain g c =
-    inl (c.in-Some.ensures.vain ∙ not-vain (g.S.Source.in_vain c.pieces.wire.source) c.in-Some.n c.in-Some.n-test.1 ∙ c.pieces.invariant.vain)

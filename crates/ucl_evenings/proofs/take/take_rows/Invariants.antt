@@ -29,9 +29,7 @@ invariant-pieces g l =
           (g.V.Ring.rung l.initial.wire.sink.bells) (g.V.Ring.rung time.1.bells));
       rang : RangFor (known l.initial.pass) (known l.pass) (g.V.Ring.rung l.initial.wire.sink.bells) (g.V.Ring.rung l.wire.sink.bells);
       source_sound : (l.read ≡ 0) ⊎ (g.S.Source.failed l.wire.source ≡ false);
-      vain : g.S.Source.in_vain l.wire.source ≡ g.S.Source.in_vain l.initial.wire.source;
       sink_sound : g.W.Sink.failed l.wire.sink.sink ≡ g.W.Sink.failed l.initial.wire.sink.sink;
-      sink_vain : g.W.Sink.in_vain l.wire.sink.sink ≡ g.W.Sink.in_vain l.initial.wire.sink.sink;
     }
 
 abbrev pub decreases-pieces : goal.decreases-pieces

@@ -34,7 +34,6 @@ returns-clause-run g t c =
       own = one.own.1;
       took = took_later _ _ _ _ _ _ _ _ _ _ _ (λ went h. h) run.took one.unchanged one.reported;
       read_failed = run.read_failed;
-      vain = run.vain;
       served = run.served;
     }))
 

@@ -8,8 +8,7 @@ returns g c =
       own = c.take_rows-result.ensures.own;
       took = took_plain _ _ _ _ _ _ _ _ t;
       read_failed = c.take_rows-result.ensures.read_failed;
-      vain = rw c.new-wire.ensures.source at c.take_rows-result.ensures.vain;
       served = served_by g.W.Sink c.args.enlisted.replies c.take_rows-result.new.wire.sink.sink c.take_rows-result.result
-          (rw c.new-wire.ensures.sink at c.take_rows-result.ensures.sink_sound) (rw c.new-wire.ensures.sink at c.take_rows-result.ensures.sink_vain)
+          (rw c.new-wire.ensures.sink at c.take_rows-result.ensures.sink_sound)
           (rw c.new-wire.ensures.sink at c.take_rows-result.ensures.sink_fails);
     }

@@ -18,5 +18,5 @@ returns g c =
       options = refl;
       shows = (rw c.new-screens.ensures at c.show_on-result.ensures.shows) k old [] (so_far_none c.args.looking.screen.options c.args.roster.now k old);
       served = served_by g.V.Sink c.args.looking.screen.sink c.show_on-result.new.sink c.show_on-result.result c.show_on-result.ensures.sink_sound
-          c.show_on-result.ensures.sink_vain c.show_on-result.ensures.sink_fails;
+          c.show_on-result.ensures.sink_fails;
     }

@@ -4,8 +4,8 @@ use Rattle.std.proofs.lemmas.List.{length-take}
 use Rattle.std.proofs.lemmas.Result.{err_from_is_err_and}
 use Rattle.ucl_screen.proofs.MovedBytes.{appends-none, appends-then, consumes-none, consumes-then}
 use Rattle.ucl_answers.specs.Stepping.{device}
-use Rattle.ucl_answers.proofs.Steps.{not-vain, sound}
-use Rattle.ucl_answers.proofs.Wires.{asked-none, asked-then, ended, ended-since, vain-since}
+use Rattle.ucl_answers.proofs.Steps.{sound}
+use Rattle.ucl_answers.proofs.Wires.{asked-none, asked-then, ended, ended-since}
 use Rattle.ucl_follows.specs.Hearing.{Listener, heard, heard_text, hearing_of, out_of, unheard}
 use Rattle.ucl_follows.proofs.Bytes.{heard-none, heard-then, text-none, text-then}
 use Rattle.ucl_follows.proofs.Runs.{count-on, run-ends, run-hears, run-text, took-none}
@@ -15,14 +15,12 @@ pub steps-init : goal.steps-init
 steps-init g c = record {
   bytes = [];
   consumed = consumes-none (g.S.Source.left c.args.wire.now.source);
-  vain = refl;
   hears = c.new-follower.ensures.hearing ∙ sym (heard-none unheard);
   all = rw (text-none c.args.shape unheard) (appends-none _);
   count = rw (text-none c.args.shape unheard) c.new-follower.ensures.out;
   read_is = refl;
   source_sound = inl refl;
   sink_sound = refl;
-  sink_vain = refl;
   asked = asked-none _ _ _ _;
 }
 
@@ -93,36 +91,11 @@ steps-preserved g c =
     record {
       bytes = so_far.bytes ++ more;
       consumed = consumes-then _ _ _ so_far.bytes more so_far.consumed c.in-Some.ensures.moves;
-      vain = c.in-Some.ensures.vain ∙ not-vain (g.S.Source.in_vain c.steps.wire.source) n c.in-Some.n-test.1 ∙ so_far.vain;
       hears = new.hears ∙ ap (λ (k : Listener). heard k more) so_far.hears ∙ sym (heard-then unheard so_far.bytes more);
       all = rw (text-then shape unheard so_far.bytes more) (appends-then _ _ _ _ _ so_far.all all);
       count = count-on (out_of c.steps.follower) _ _ _ _ text so_far.count count;
       read_is = omega arith;
       source_sound = inr (sound _ (λ h. true≢false (c.in-Some.ensures.fails.1 h)));
       sink_sound = rw c.take.ensures.sink at new.sound ∙ so_far.sink_sound;
-      sink_vain = rw c.take.ensures.sink at new.vain ∙ so_far.sink_vain;
       asked = asked-then _ _ _ _ _ _ _ _ (c.steps.wire.source, c.steps.wire.sink) so_far.asked c.take.ensures.asked c.take.ensures.counts refl (so_far.bytes, so_far.consumed, so_far.all);
     }
-
-pub returns-in-None-clause-vain : goal.returns-in-None-clause-vain
-returns-in-None-clause-vain g c =
-    let so_far = c.steps.invariant in
-    vain-since _ _ _ _ _ (g.S.Source.left c.steps.wire.source) _ so_far.bytes so_far.vain so_far.consumed (inr (c.in-None.ensures.vain, inl (c.in-None.ensures.fails.0 refl)))
-
-pub returns-in_err-end-in-Some-eq0-clause-vain : goal.returns-in_err-end-in-Some-eq0-clause-vain
-returns-in_err-end-in-Some-eq0-clause-vain g c =
-    let so_far = c.steps.invariant in
-    let moved = rw c.in-Some-eq0.field-0-test at c.in-Some-eq0.ensures.moves in
-    let at-end = ended (g.S.Source.left c.steps.wire.source) _ (c.in-Some-eq0.ensures.end c.in-Some-eq0.field-0-test (search rules)) moved in
-    vain-since _ _ _ _ _ _ _ so_far.bytes so_far.vain so_far.consumed (inr (rw c.in-Some-eq0.field-0-test at c.in-Some-eq0.ensures.vain, inr at-end))
-
-pub returns-in-Some-eq0-clause-vain : goal.returns-in-Some-eq0-clause-vain
-returns-in-Some-eq0-clause-vain g c =
-    let so_far = c.steps.invariant in
-    let moved = rw c.in-Some-eq0.field-0-test at c.in-Some-eq0.ensures.moves in
-    let at-end = ended (g.S.Source.left c.steps.wire.source) _ (c.in-Some-eq0.ensures.end c.in-Some-eq0.field-0-test (search rules)) moved in
-    vain-since _ _ _ _ _ _ _ so_far.bytes so_far.vain so_far.consumed (inr (rw c.in-Some-eq0.field-0-test at c.in-Some-eq0.ensures.vain, inr at-end))
-
-pub returns-in_err-hear-in-Some-clause-vain : goal.returns-in_err-hear-in-Some-clause-vain
-returns-in_err-hear-in-Some-clause-vain g c =
-    inl (c.in-Some.ensures.vain ∙ not-vain (g.S.Source.in_vain c.steps.wire.source) c.in-Some.n c.in-Some.n-test.1 ∙ c.steps.invariant.vain)

@@ -3,11 +3,10 @@ use Rattle.std.specs.Prelude.{option_map, string_bytes}
 use mathlib.Core.List.{IsPrefix}
 use Rattle.ucl_board.proofs.Beginnings.{begins_take, begins_through}
 use Rattle.ucl_shared.specs.Passes.{PassView, kept_pass, split_pass}
-use Rattle.ucl_runs.specs.Gates.{Showed}
 use Rattle.ucl_runs.specs.Nights.{IsOnDuty, night_history, number_of_two, pass_of_reader_1, pass_of_reader_2}
 use Rattle.ucl_runs.specs.Styles.{styled}
 use Rattle.ucl_runs.proofs.EnteredRows.{goes_on}
-use Rattle.ucl_runs.proofs.GateFacts.{none_twice, reported_in_all, showed_on}
+use Rattle.ucl_runs.proofs.GateFacts.{none_twice, reported_in_all}
 use Rattle.ucl_runs.proofs.MergedRows.{each_on_duty, merged_after_meetings}
 use Rattle.ucl_runs.proofs.Merges.{night_board_read}
 use Rattle.ucl_runs.proofs.ShownVersions.{met_before, shown_on}
@@ -102,34 +101,6 @@ returns-clause-reports g c =
       reported_in_all (reports one.field-0) (reports back.reporter_1) first _ one.ensures.reported worked.reporter_1.2 settled.0,
       reported_in_all (reports two.field-0) (reports back.reporter_2) second _ two.ensures.reported worked.reporter_2.2 after,
     )
-
-pub returns-clause-called : goal.returns-clause-called
-returns-clause-called g c = record {
-  reporter_1 = c.in_ok-reporter_1.ensures.calls.0;
-  reporter_2 = c.in_ok-reporter_1.ensures.calls.1;
-  reader_1 = (rw c.in_ok-reader_1.was at c.in_ok-reporter_1.ensures.told_1).0;
-  reader_2 = (rw c.in_ok-reader_2.was at c.in_ok-reporter_1.ensures.told_2).0;
-}
-
-pub returns-clause-showed_1 : goal.returns-clause-showed_1
-returns-clause-showed_1 g c =
-    let showed = g.G.Gate.showed c.args.gate.now in
-    let style = styled c.args.profile c.args.night.now.roster c.args.group in
-    let z = g.B.LiveBoard.reader c.meet_reader.new.first in
-    let h = returns-clause-shown_1 g c in
-    showed_on showed 3 style z.seen _ z.shown h.seen h.high
-    (subst (λ (k : PassView). Showed showed 3 style k.seen k.shown) (sym c.meet_reader.ensures.unchanged)
-    (rw c.in_ok-reader_1.was at c.in_ok-reporter_1.ensures.told_1).1)
-
-pub returns-clause-showed_2 : goal.returns-clause-showed_2
-returns-clause-showed_2 g c =
-    let showed = g.G.Gate.showed c.args.gate.now in
-    let style = styled c.args.profile c.args.night.now.roster c.args.group in
-    let z = g.B.LiveBoard.reader c.meet_reader-2.new.first in
-    let h = returns-clause-shown_2 g c in
-    showed_on showed 4 style z.seen _ z.shown h.seen h.high
-    (subst (λ (k : PassView). Showed showed 4 style k.seen k.shown) (sym c.meet_reader-2.ensures.unchanged)
-    (rw c.in_ok-reader_2.was at c.in_ok-reporter_1.ensures.told_2).1)
 
 pub returns-clause-shares : goal.returns-clause-shares
 returns-clause-shares g c =

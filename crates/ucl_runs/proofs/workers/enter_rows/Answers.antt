@@ -1,10 +1,9 @@
-use Rattle.std.proofs.Common.{◌≢◌, ℕ, ◌+◌, ◌%◌, ◌^◌, refl, sym, ap, ◌∙◌, subst, take}
-use Rattle.std.proofs.Math.Nat.{mod-add-mod}
+use Rattle.std.proofs.Common.{◌≢◌, ℕ, ◌+◌, sym, ◌∙◌, subst, take}
 use Rattle.ucl_shared.specs.Passes.{ReportsMore}
-use Rattle.ucl_runs.specs.Gates.{CameTo, rows_by}
+use Rattle.ucl_runs.specs.Gates.{rows_by}
 use Rattle.ucl_runs.specs.Nights.{HasEntered}
 use Rattle.ucl_runs.proofs.EnteredRows.{entered_none, next_skipped, next_entered}
-use Rattle.ucl_runs.proofs.GateFacts.{came_more, came_none, none_more, one_more, rows_other_next, rows_own_next}
+use Rattle.ucl_runs.proofs.GateFacts.{none_more, one_more, rows_other_next, rows_own_next}
 use Rattle.ucl_runs.proofs.WorkSteps.{rows_next}
 use Rattle.ucl_runs.proofs.workers.enter_rows.Goals.{then-get-reporter, else-get-reporter}
 use Rattle.ucl_runs.proofs.workers.enter_rows.Goals as goal
@@ -14,15 +13,12 @@ loop-row-init g c = record {
   own = c.requires.own;
   entered = entered_none (g.B.LiveBoard.reporter c.args.pass) c.args.reporter c.requires.fresh.0 c.requires.fresh.1;
   reported = none_more (g.B.LiveBoard.has_reported c.args.pass);
-  call = refl;
-  came = came_none (g.G.Gate.came c.args.gate.now) c.args.reporter;
 }
 
 pub loop-row-preserved : goal.loop-row-preserved
 loop-row-preserved g c =
     let known = g.B.LiveBoard.reporter in
     let reports = g.B.LiveBoard.has_reported in
-    let came = g.G.Gate.came c.args.gate.now in
     let k = known c.args.pass in
     let m = known c.loop-row.pass in
     let rows = c.args.rows.now in
@@ -41,9 +37,6 @@ loop-row-preserved g c =
             reported = subst (λ p. ReportsMore (reports c.args.pass) (rows_by c.args.reporter (take (i + 1) rows)) (reports p)) (sym w.pass-is)
                 (subst (λ (n : ℕ). ReportsMore (reports c.args.pass) n (reports w.report.new.pass)) (sym more)
                 (one_more (reports c.args.pass) (reports c.loop-row.pass) (reports w.report.new.pass) _ so_far.reported w.report.ensures.reported));
-            call = w.call-is ∙ (ap (λ (n : ℕ). (n + 1) % 2 ^ 32) so_far.call ∙ (mod-add-mod (rows_by c.args.reporter (take i rows)) (2 ^ 32) 1 ∙ ap (λ (n : ℕ). n % 2 ^ 32) (sym more)));
-            came = subst (CameTo came c.args.reporter) (sym more)
-                (came_more came c.args.reporter (rows_by c.args.reporter (take i rows)) so_far.came (subst (came c.args.reporter) so_far.call w.come.ensures));
           }
       | else-get-reporter w ↦
           let other : row.reporter ≢ c.args.reporter = λ same. w.if-get-reporter.false (c.get.ensures.value ∙ same) in
@@ -54,7 +47,5 @@ loop-row-preserved g c =
             entered = subst (λ p. HasEntered k (known p) c.args.reporter (take (i + 1) rows)) (sym w.pass-is) (rows_next k m c.args.reporter i rows row c.loop-row-test.true c.row-item.is e);
             reported = subst (λ p. ReportsMore (reports c.args.pass) (rows_by c.args.reporter (take (i + 1) rows)) (reports p)) (sym w.pass-is)
                 (subst (λ (n : ℕ). ReportsMore (reports c.args.pass) n (reports c.loop-row.pass)) (sym same) so_far.reported);
-            call = w.call-is ∙ (so_far.call ∙ ap (λ (n : ℕ). n % 2 ^ 32) (sym same));
-            came = subst (CameTo came c.args.reporter) (sym same) so_far.came;
           }
     ]

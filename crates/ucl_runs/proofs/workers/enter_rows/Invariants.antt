@@ -1,6 +1,6 @@
-use Rattle.std.proofs.Common.{◌≡◌, ◌%◌, ◌^◌, take}
+use Rattle.std.proofs.Common.{take}
 use Rattle.ucl_shared.specs.Passes.{ReportsMore}
-use Rattle.ucl_runs.specs.Gates.{CameTo, rows_by}
+use Rattle.ucl_runs.specs.Gates.{rows_by}
 use Rattle.ucl_runs.specs.Nights.{HasEntered}
 use Rattle.ucl_runs.proofs.workers.enter_rows.Given as goal
 
@@ -9,6 +9,4 @@ invariant-loop-row g l = record {
   own : g.B.LiveBoard.is_reporter l.board l.pass;
   entered : HasEntered (g.B.LiveBoard.reporter l.initial.pass) (g.B.LiveBoard.reporter l.pass) l.reporter (take l.row-index l.rows);
   reported : ReportsMore (g.B.LiveBoard.has_reported l.initial.pass) (rows_by l.reporter (take l.row-index l.rows)) (g.B.LiveBoard.has_reported l.pass);
-  call : l.call ≡ rows_by l.reporter (take l.row-index l.rows) % 2 ^ 32;
-  came : CameTo (g.G.Gate.came l.gate) l.reporter (rows_by l.reporter (take l.row-index l.rows));
 }

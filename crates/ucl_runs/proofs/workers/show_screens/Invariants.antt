@@ -1,5 +1,4 @@
 use Rattle.std.specs.Prelude.{option_map, string_bytes}
-use Rattle.ucl_runs.specs.Gates.{CameTo, Showed}
 use Rattle.ucl_runs.specs.Nights.{HasShown}
 use Rattle.ucl_runs.specs.Styles.{styled}
 use Rattle.ucl_runs.proofs.workers.show_screens.Given as goal
@@ -11,6 +10,4 @@ invariant-loop-call g l =
     record {
       own : g.B.LiveBoard.is_reader l.board l.pass;
       shown : HasShown style known.seen (g.B.LiveBoard.reader l.initial.pass) known l.call (option_map string_bytes l.last);
-      came : CameTo (g.G.Gate.came l.gate) l.worker l.call;
-      showed : Showed (g.G.Gate.showed l.gate) l.worker style known.seen known.shown;
     }

@@ -1,6 +1,6 @@
 use Rattle.std.proofs.Common.{◌+◌, ◌<◌, ◌≤◌, ◌∙◌, ℕ, length, arith, length-drop}
 use Rattle.std.proofs.lemmas.List.{length-take}
-use Rattle.ucl_screen.proofs.MovedBytes.{gives-more, not_vain, same_failed}
+use Rattle.ucl_screen.proofs.MovedBytes.{gives-more, same_failed}
 use Rattle.ucl_screen.proofs.transfer.give_all.Goals as goal
 
 pub loop-at-preserved : goal.loop-at-preserved
@@ -15,5 +15,4 @@ loop-at-preserved g c =
       moved = gives-more _ _ _ c.loop-at.at c.in-Some.n c.args.text.now within c.loop-at.invariant.moved c.in-Some.ensures.moves;
       sound = same_failed _ _ c.in-Some.ensures.fails.1 (λ e. c.in-Some.ensures.fails.1 (c.in-Some.ensures.stays e)) ∙ c.loop-at.invariant.sound;
       each_call = omega (arith, more, counts, before);
-      none_vain = c.in-Some.ensures.vain ∙ not_vain _ c.in-Some.n more ∙ c.loop-at.invariant.none_vain;
     }

@@ -8,7 +8,6 @@ invariant-loop-at g l = record {
   moved : Appends (g.W.Sink.taken l.initial.sink) (g.W.Sink.taken l.sink) (take l.at l.text);
   sound : g.W.Sink.failed l.sink ≡ g.W.Sink.failed l.initial.sink;
   each_call : g.W.Sink.calls l.sink ≤ g.W.Sink.calls l.initial.sink + l.at;
-  none_vain : g.W.Sink.in_vain l.sink ≡ g.W.Sink.in_vain l.initial.sink;
 }
 
 abbrev pub decreases-loop-at : goal.decreases-loop-at

@@ -6,7 +6,6 @@ abbrev pub invariant-pieces : goal.invariant-pieces
 invariant-pieces g l = record {
   within : length l.bytes.items ≤ 4194304;
   moved : Consumes (g.S.Source.left l.initial.source) (g.S.Source.left l.source) l.bytes.items;
-  none_vain : g.S.Source.in_vain l.source ≡ g.S.Source.in_vain l.initial.source;
   each_call : g.S.Source.calls l.source ≤ g.S.Source.calls l.initial.source + length l.bytes.items;
 }
 

@@ -5,7 +5,7 @@ use Rattle.ucl_answers.specs.declared.live.Live.{Live}
 use Rattle.ucl_answers.specs.declared.live.Progress.{Progress}
 use Rattle.ucl_answers.specs.Taking.{moment_of}
 use Rattle.ucl_answers.proofs.FaultKinds.{end-kind, fair-seen, give-kind}
-use Rattle.ucl_answers.proofs.Steps.{end-fails, give-fails, not-vain, prompt-complete, prompt-end, prompt-then, read-fails, sound}
+use Rattle.ucl_answers.proofs.Steps.{end-fails, give-fails, prompt-complete, prompt-end, prompt-then, read-fails, sound}
 use Rattle.ucl_answers.proofs.Wires.{ended}
 use Rattle.ucl_answers.proofs.live.Live.step.Goals as goal
 
@@ -87,25 +87,3 @@ returns-in_err-evening-in-Some-clause-kinds g c =
     let m = moment_of c.args.self.evening c.args.self.desk in
     let k = give-kind (Unit {0}) m _ _ _ _ _ _ (fair-seen c.args.self.evening.stage) c.in_err-evening-in-Some.ensures.fails in
     rw (e.1, e.2) k.kind
-
-pub returns-in_ok-evening-in-Some-clause-moved : goal.returns-in_ok-evening-in-Some-clause-moved
-returns-in_ok-evening-in-Some-clause-moved g c = c.in-Some.ensures.vain ∙ not-vain (g.S.Source.in_vain c.args.wire.now.source) c.in-Some.n c.in-Some.n-test.1
-
-pub returns-in-None-clause-vain : goal.returns-in-None-clause-vain
-returns-in-None-clause-vain g c = inr (c.in-None.ensures.vain, inl (c.in-None.ensures.fails.0 refl))
-
-pub returns-in_ok-end-in-Some-eq0-clause-vain : goal.returns-in_ok-end-in-Some-eq0-clause-vain
-returns-in_ok-end-in-Some-eq0-clause-vain g c =
-    let moved = rw c.in-Some-eq0.field-0-test at c.in-Some-eq0.ensures.moves in
-    inr (rw c.in-Some-eq0.field-0-test at c.in-Some-eq0.ensures.vain, inr (ended _ _ (c.in-Some-eq0.ensures.end c.in-Some-eq0.field-0-test c.requires.room) moved))
-
-pub returns-in_err-end-in-Some-eq0-clause-vain : goal.returns-in_err-end-in-Some-eq0-clause-vain
-returns-in_err-end-in-Some-eq0-clause-vain g c =
-    let moved = rw c.in-Some-eq0.field-0-test at c.in-Some-eq0.ensures.moves in
-    inr (rw c.in-Some-eq0.field-0-test at c.in-Some-eq0.ensures.vain, inr (ended _ _ (c.in-Some-eq0.ensures.end c.in-Some-eq0.field-0-test c.requires.room) moved))
-
-pub returns-in_ok-evening-in-Some-clause-vain : goal.returns-in_ok-evening-in-Some-clause-vain
-returns-in_ok-evening-in-Some-clause-vain g c = inl (c.in-Some.ensures.vain ∙ not-vain (g.S.Source.in_vain c.args.wire.now.source) c.in-Some.n c.in-Some.n-test.1)
-
-pub returns-in_err-evening-in-Some-clause-vain : goal.returns-in_err-evening-in-Some-clause-vain
-returns-in_err-evening-in-Some-clause-vain g c = inl (c.in-Some.ensures.vain ∙ not-vain (g.S.Source.in_vain c.args.wire.now.source) c.in-Some.n c.in-Some.n-test.1)

@@ -25,7 +25,6 @@ loop-b-init g c =
       );
       sound = refl;
       rang = rang_none (g.B.LiveBoard.reporter c.args.pass.now) (g.V.Ring.rung c.args.bells.now);
-      vain = refl;
     }
 
 pub enter_byte-requires-clause-sound : goal.enter_byte-requires-clause-sound
@@ -55,12 +54,6 @@ returns-in_err-enter_byte-clause-fails g c =
     c.args.self.now.row c.loop-b.b-index c.args.self.now.begun.items c.args.bytes.now c.args.self.now.written c.loop-b.self.written
     (taken c.args.sink.now) (taken c.loop-b.sink) (taken c.enter_byte.new.sink)
     c.loop-b-test.true so_far.answered c.loop-b.self.begun.items c.loop-b.self.row so_far.begun so_far.row (g.W.Sink.failed c.enter_byte.new.sink) _ c.in_err-enter_byte.ensures.fails)
-
-pub returns-in_err-enter_byte-clause-vain : goal.returns-in_err-enter_byte-clause-vain
-returns-in_err-enter_byte-clause-vain g c =
-    let p = err_from_is_err_and c.from_residual.result c.from_residual.ensures.1 in
-    let s = rw c.loop-b.invariant.vain at c.in_err-enter_byte.ensures.vain in
-    rw p.1 s
 
 pub returns-in_err-enter_byte-clause-rang : goal.returns-in_err-enter_byte-clause-rang
 returns-in_err-enter_byte-clause-rang g c =
@@ -94,5 +87,4 @@ loop-b-preserved g c =
       sound = new.sink_sound ∙ so_far.sound;
       rang = rang_then (known c.args.pass.now) (known c.loop-b.pass) (known c.enter_byte.new.pass) (g.V.Ring.rung c.args.bells.now) (g.V.Ring.rung c.loop-b.bells)
           (g.V.Ring.rung c.enter_byte.new.bells) so_far.rang c.enter_byte.ensures.rang;
-      vain = new.vain ∙ so_far.vain;
     }

@@ -20,5 +20,4 @@ invariant-loop-b g l =
           l.initial.self.written l.self.written (taken l.initial.sink) (taken l.sink);
       sound : g.W.Sink.failed l.sink ≡ g.W.Sink.failed l.initial.sink;
       rang : RangFor (known l.initial.pass) (known l.pass) (g.V.Ring.rung l.initial.bells) (g.V.Ring.rung l.bells);
-      vain : g.W.Sink.in_vain l.sink ≡ g.W.Sink.in_vain l.initial.sink;
     }

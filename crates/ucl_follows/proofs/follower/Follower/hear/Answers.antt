@@ -15,7 +15,6 @@ loop-b-init g c =
       all = rw (text-none c.args.shape h) (appends-none _);
       count = rw (text-none c.args.shape h) (omega arith);
       sound = refl;
-      vain = refl;
     }
 
 pub returns-in_err-hear_byte-clause-fails : goal.returns-in_err-hear_byte-clause-fails
@@ -41,5 +40,4 @@ loop-b-preserved g c =
       all = rw (text-then c.args.shape h (take i bytes) (b ∷ [])) (appends-then _ _ _ _ _ so_far.all all);
       count = count-more (out_of c.args.self.now) (out_of c.loop-b.self) _ _ _ _ long so_far.count count;
       sound = c.in_ok-hear_byte.ensures.sound ∙ so_far.sound;
-      vain = c.in_ok-hear_byte.ensures.vain ∙ so_far.vain;
     })

@@ -9,5 +9,4 @@ invariant-loop-b g l = record {
   all : Appends (g.W.Sink.taken l.initial.sink) (g.W.Sink.taken l.sink) (heard_text l.shape (hearing_of l.initial.self) (take l.b-index l.bytes));
   count : out_of l.self ≡ min (out_of l.initial.self + length (heard_text l.shape (hearing_of l.initial.self) (take l.b-index l.bytes))) (2 ^ 64 - 1);
   sound : g.W.Sink.failed l.sink ≡ g.W.Sink.failed l.initial.sink;
-  vain : g.W.Sink.in_vain l.sink ≡ g.W.Sink.in_vain l.initial.sink;
 }
