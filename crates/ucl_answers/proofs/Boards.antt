@@ -21,9 +21,9 @@ use Rattle.ucl_screen.specs.declared.night.NightEvent.{NightEvent}
 use Rattle.ucl_screen.specs.Numbers.{in_range, number}
 use Rattle.ucl_screen.specs.Events.{◌>>=◌, event_of, kind_of}
 use Rattle.ucl_screen.specs.Rows.{FourFields}
-use Rattle.ucl_answers.specs.declared.options.Format.{Format}
-use Rattle.ucl_answers.specs.declared.options.Format.TheVariants.{Text, Json}
-use Rattle.ucl_answers.specs.declared.options.Options.{Options}
+use Rattle.ucl_command.specs.declared.options.Format.{Format}
+use Rattle.ucl_command.specs.declared.options.Format.TheVariants.{Text, Json}
+use Rattle.ucl_command.specs.declared.live.LiveArgs.{LiveArgs}
 use Rattle.ucl_answers.specs.declared.request.Request.{Request}
 use Rattle.ucl_answers.specs.declared.request.Request.TheVariants.{Bad, Event, Screen, Words}
 use Rattle.ucl_answers.specs.Requests.{asked_by, event_or_bad, request_of}
@@ -160,7 +160,7 @@ unfolding reply_line
 replies options clubs board history row event legal game =
     ap₂ (λ (before : ℕ) (reply : Result Accepted Refusal). line_of_reply row event.call.game before reply) (versions history legal).0 (reply_is history (board_of history) event.call legal refl game)
 
-reply-answer : (format : Format) (options : Options) (row : ℕ) (clubs : List NamedClub) (history : List Entry) (event : NightEvent)
+reply-answer : (format : Format) (options : LiveArgs) (row : ℕ) (clubs : List NamedClub) (history : List Entry) (event : NightEvent)
     → reply_in format options row clubs event.call.game (length history) (sequential_reply history event.call) (board_of (after_attempt history (attempt_of event)))
     ≡ reply_by_history format options row clubs history event
 unfolding reply_line
@@ -172,7 +172,7 @@ reply-answer Json options row clubs history event = refl
 first : (a : Attempt) (attempts : List Attempt) → All IsAttempt (a ∷ attempts) → IsAttempt a
 first a attempts all = All-head IsAttempt a attempts all
 
-event-answer : (options : Options) (row : ℕ) (clubs : List NamedClub) (history : List Entry) (event : NightEvent) → IsLegal history → IsAttempt (attempt_of event)
+event-answer : (options : LiveArgs) (row : ℕ) (clubs : List NamedClub) (history : List Entry) (event : NightEvent) → IsLegal history → IsAttempt (attempt_of event)
     → answer_of options row clubs (board_of history) (Event event) ≡ answer_by_history options row clubs history (Event event)
 event-answer options row clubs history event legal is =
     let call = event.call in
@@ -184,7 +184,7 @@ event-answer options row clubs history event legal is =
     let screen = ap₂ (λ (r : Result Accepted Refusal) (board : List ℕ). screen_after options row clubs r board) reply after in
     ap₂ (λ (a b : List ℕ). a ++ b) line screen
 
-request-answer : (options : Options) (row : ℕ) (clubs : List NamedClub) (history : List Entry) (request : Request) → IsLegal history → All IsAttempt (attempts_of request)
+request-answer : (options : LiveArgs) (row : ℕ) (clubs : List NamedClub) (history : List Entry) (request : Request) → IsLegal history → All IsAttempt (attempts_of request)
     → answer_of options row clubs (board_of history) request ≡ answer_by_history options row clubs history request
 request-answer options row clubs history (Event event) legal all = event-answer options row clubs history event legal (first (attempt_of event) [] all)
 request-answer options row clubs history Bad legal all = refl

@@ -9,8 +9,8 @@ use Rattle.ucl_order.specs.Roster.{NamedClub}
 use Rattle.ucl_json.specs.Lines.{AreLinesOfValues}
 use Rattle.ucl_json.specs.Values.{bad_row_value, reply_value, screen_value, words_value}
 use Rattle.ucl_json.proofs.OneLine.{line_of_value, lines_then, no_lines}
-use Rattle.ucl_answers.specs.declared.options.Format.TheVariants.{Json}
-use Rattle.ucl_answers.specs.declared.options.Options.{Options}
+use Rattle.ucl_command.specs.declared.options.Format.TheVariants.{Json}
+use Rattle.ucl_command.specs.declared.live.LiveArgs.{LiveArgs}
 use Rattle.ucl_answers.specs.declared.request.Request.{Request}
 use Rattle.ucl_answers.specs.declared.request.Request.TheVariants.{Bad, Event, Screen, Words}
 use Rattle.ucl_answers.specs.Rows.{Said, Nothing, Garbled, Row, said_on}
@@ -19,23 +19,23 @@ use Rattle.ucl_answers.specs.Stages.{Stage, Naming, Restoring, Open, Refused, ne
 use Rattle.ucl_answers.specs.Text.{Evening, answer_said, answer_at, answer_of, answers, next, reply_answer, screen_after, screen_answer}
 use Rattle.ucl_answers.specs.Laws.{JsonAnswersAreLines}
 
-screen-line : (options : Options) (row : ℕ) (clubs : List NamedClub) (board : List ℕ) → options.format ≡ Json → AreLinesOfValues (screen_answer options row clubs board)
+screen-line : (options : LiveArgs) (row : ℕ) (clubs : List NamedClub) (board : List ℕ) → options.format ≡ Json → AreLinesOfValues (screen_answer options row clubs board)
 screen-line options row clubs board h = rw h (line_of_value (screen_value row options.profile board clubs options.group))
 
 wanted : (b : Bool) (text : List ℕ) → AreLinesOfValues text → AreLinesOfValues (if b then text else [])
 wanted true text p = p
 wanted false text p = no_lines
 
-after-line : (options : Options) (row : ℕ) (clubs : List NamedClub) (reply : Result Accepted Refusal) (board : List ℕ)
+after-line : (options : LiveArgs) (row : ℕ) (clubs : List NamedClub) (reply : Result Accepted Refusal) (board : List ℕ)
     → options.format ≡ Json → AreLinesOfValues (screen_after options row clubs reply board)
 after-line options row clubs (Ok accepted) board h = wanted options.screens (screen_answer options row clubs board) (screen-line options row clubs board h)
 after-line options row clubs (Err refusal) board h = no_lines
 
-reply-lines : (options : Options) (row : ℕ) (clubs : List NamedClub) (game before : ℕ) (reply : Result Accepted Refusal) (board : List ℕ) → options.format ≡ Json
+reply-lines : (options : LiveArgs) (row : ℕ) (clubs : List NamedClub) (game before : ℕ) (reply : Result Accepted Refusal) (board : List ℕ) → options.format ≡ Json
     → AreLinesOfValues (reply_answer options row clubs game before reply board)
 reply-lines options row clubs game before reply board h = rw h (line_of_value (reply_value row game reply options.profile board clubs options.group))
 
-request-lines : (options : Options) (row : ℕ) (clubs : List NamedClub) (board : List ℕ) (request : Request) → options.format ≡ Json → AreLinesOfValues (answer_of options row clubs board request)
+request-lines : (options : LiveArgs) (row : ℕ) (clubs : List NamedClub) (board : List ℕ) (request : Request) → options.format ≡ Json → AreLinesOfValues (answer_of options row clubs board request)
 request-lines options row clubs board (Event event) h =
     let reply = reply_of (game_at board event.call.game) event.call in
     let after = next_board board (Event event) in
@@ -45,7 +45,7 @@ request-lines options row clubs board Bad h = rw h (line_of_value (bad_row_value
 request-lines options row clubs board Screen h = screen-line options row clubs board h
 request-lines options row clubs board Words h = rw h (line_of_value (words_value row board))
 
-stage-lines : (options : Options) (row : ℕ) (stage : Stage) (request : Request) → options.format ≡ Json → AreLinesOfValues (answer_at options row stage request)
+stage-lines : (options : LiveArgs) (row : ℕ) (stage : Stage) (request : Request) → options.format ≡ Json → AreLinesOfValues (answer_at options row stage request)
 stage-lines options row (Naming clubs) request h = no_lines
 stage-lines options row (Restoring clubs words) request h = no_lines
 stage-lines options row (Open clubs board) request h = request-lines options row clubs board request h

@@ -22,8 +22,8 @@ use Rattle.ucl_screen.specs.declared.night.NightEvent.{NightEvent}
 use Rattle.ucl_json.specs.Lines.{IsOneLine, json_line}
 use Rattle.ucl_json.specs.Values.{bad_row_value, reply_value, screen_value, words_value}
 use Rattle.ucl_json.proofs.OneLine.{one_line}
-use Rattle.ucl_answers.specs.declared.options.Format.TheVariants.{Json}
-use Rattle.ucl_answers.specs.declared.options.Options.{Options}
+use Rattle.ucl_command.specs.declared.options.Format.TheVariants.{Json}
+use Rattle.ucl_command.specs.declared.live.LiveArgs.{LiveArgs}
 use Rattle.ucl_answers.specs.declared.request.Request.{Request}
 use Rattle.ucl_answers.specs.declared.request.Request.TheVariants.{Bad, Event, Screen, Words}
 use Rattle.ucl_answers.specs.Lines.{lines_of}
@@ -89,7 +89,7 @@ both-lines t u j k p q = record {
 
 -- ---- single answers
 
-screen-line : (options : Options) (row : ℕ) (clubs : List NamedClub) (board : List ℕ) → options.format ≡ Json
+screen-line : (options : LiveArgs) (row : ℕ) (clubs : List NamedClub) (board : List ℕ) → options.format ≡ Json
     → AreLinesSaying (screen_answer (as_text options) row clubs board) (screen_answer options row clubs board)
 screen-line options row clubs board h =
     rw h (value-line (screen_value row options.profile board clubs options.group) (screen_text options.profile board clubs options.group) (same row options.profile board clubs options.group).screen)
@@ -98,13 +98,13 @@ wanted : (b : Bool) (t j : List ℕ) → AreLinesSaying t j → AreLinesSaying (
 wanted true t j p = p
 wanted false t j p = no-lines
 
-after-line : (options : Options) (row : ℕ) (clubs : List NamedClub) (reply : Result Accepted Refusal) (board : List ℕ) → options.format ≡ Json
+after-line : (options : LiveArgs) (row : ℕ) (clubs : List NamedClub) (reply : Result Accepted Refusal) (board : List ℕ) → options.format ≡ Json
     → AreLinesSaying (screen_after (as_text options) row clubs reply board) (screen_after options row clubs reply board)
 after-line options row clubs (Ok accepted) board h =
     wanted options.screens (screen_answer (as_text options) row clubs board) (screen_answer options row clubs board) (screen-line options row clubs board h)
 after-line options row clubs (Err refusal) board h = no-lines
 
-reply-line : (options : Options) (row : ℕ) (clubs : List NamedClub) (game before : ℕ) (reply : Result Accepted Refusal) (board : List ℕ) → options.format ≡ Json
+reply-line : (options : LiveArgs) (row : ℕ) (clubs : List NamedClub) (game before : ℕ) (reply : Result Accepted Refusal) (board : List ℕ) → options.format ≡ Json
     → RaisesVersion reply before board
     → AreLinesSaying (reply_answer (as_text options) row clubs game before reply board) (reply_answer options row clubs game before reply board)
 reply-line options row clubs game before reply board h k =
@@ -115,7 +115,7 @@ raised : (reply : Result Accepted Refusal) (before : ℕ) (board : List ℕ) →
 raised (Ok accepted) before board h = h refl
 raised (Err refusal) before board h = tt
 
-event-lines : (options : Options) (row : ℕ) (clubs : List NamedClub) (board : List ℕ) (event : NightEvent) → options.format ≡ Json → AreWords board → IsAttempt (attempt_of event)
+event-lines : (options : LiveArgs) (row : ℕ) (clubs : List NamedClub) (board : List ℕ) (event : NightEvent) → options.format ≡ Json → AreWords board → IsAttempt (attempt_of event)
     → AreLinesSaying (answer_of (as_text options) row clubs board (Event event)) (answer_of options row clubs board (Event event))
 event-lines options row clubs board event h w is =
     let call = event.call in
@@ -127,7 +127,7 @@ event-lines options row clubs board event h w is =
     (reply_answer options row clubs call.game (version_of board) reply after) (screen_after options row clubs reply after)
     (reply-line options row clubs call.game (version_of board) reply after h raises) (after-line options row clubs reply after h)
 
-request-lines : (options : Options) (row : ℕ) (clubs : List NamedClub) (board : List ℕ) (request : Request) → options.format ≡ Json → AreWords board → AreAttempts request
+request-lines : (options : LiveArgs) (row : ℕ) (clubs : List NamedClub) (board : List ℕ) (request : Request) → options.format ≡ Json → AreWords board → AreAttempts request
     → AreLinesSaying (answer_of (as_text options) row clubs board request) (answer_of options row clubs board request)
 request-lines options row clubs board (Event event) h w all = event-lines options row clubs board event h w (All-head IsAttempt (attempt_of event) [] all)
 request-lines options row clubs board Bad h w all = rw h (value-line (bad_row_value row) (bad_line row) (same row options.profile board clubs options.group).bad)
@@ -199,7 +199,7 @@ good-next row s Nothing g = g
 good-next row s Garbled g = good-row row (opened s Garbled) Garbled (good-opened s Garbled g)
 good-next row s (Row f) g = good-row row (opened s (Row f)) (Row f) (good-opened s (Row f) g)
 
-stage-lines : (options : Options) (row : ℕ) (s : Stage) (r : Said) → options.format ≡ Json → Good s
+stage-lines : (options : LiveArgs) (row : ℕ) (s : Stage) (r : Said) → options.format ≡ Json → Good s
     → AreLinesSaying (answer_at (as_text options) row s (request_of r)) (answer_at options row s (request_of r))
 stage-lines options row (Naming clubs) r h g = no-lines
 stage-lines options row (Restoring clubs words) r h g = no-lines

@@ -6,7 +6,7 @@ use Rattle.std.proofs.lemmas.List.{drop-set}
 use Rattle.std.proofs.lemmas.Bool.{cases_Bool}
 use Rattle.std.proofs.lemmas.Bool.Decides.{nat_tests}
 use Rattle.std.specs.Fmt.{char_count, digit_glyph, digits, digits_onto, padded_integral}
-use Rattle.ucl_runs.specs.Lines.{hex_digits}
+use Rattle.ucl_screen.specs.Numbers.{hex_digits}
 
 -- the last k digits of a number, before others
 abbrev pub low : ℕ → ℕ → List ℕ → List ℕ

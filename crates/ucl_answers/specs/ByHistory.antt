@@ -8,9 +8,9 @@ use Rattle.ucl_screen.specs.declared.night.NightEvent.{NightEvent}
 use Rattle.ucl_runs.specs.Feed.{attempt_of, reply_line}
 use Rattle.ucl_json.specs.Lines.{json_line}
 use Rattle.ucl_json.specs.Values.{reply_value}
-use Rattle.ucl_answers.specs.declared.options.Format.{Format}
-use Rattle.ucl_answers.specs.declared.options.Format.TheVariants.{Text, Json}
-use Rattle.ucl_answers.specs.declared.options.Options.{Options}
+use Rattle.ucl_command.specs.declared.options.Format.{Format}
+use Rattle.ucl_command.specs.declared.options.Format.TheVariants.{Text, Json}
+use Rattle.ucl_command.specs.declared.live.LiveArgs.{LiveArgs}
 use Rattle.ucl_answers.specs.declared.request.Request.{Request}
 use Rattle.ucl_answers.specs.declared.request.Request.TheVariants.{Bad, Event, Screen, Words}
 use Rattle.ucl_answers.specs.Rows.{Said, Nothing, Garbled, Row, said_on}
@@ -37,13 +37,13 @@ attempts_in row (line ∷ lines) = attempts_on (said_on row line) ++ attempts_in
 -- ---- answers after a history
 
 -- the reply to an event: as text the line that `feed` writes; in JSON with the board after it
-abbrev pub reply_by_history : Format → Options → ℕ → List NamedClub → List Entry → NightEvent → List ℕ
+abbrev pub reply_by_history : Format → LiveArgs → ℕ → List NamedClub → List Entry → NightEvent → List ℕ
 reply_by_history Text options row clubs history event = reply_line row history event.call
 reply_by_history Json options row clubs history event =
     json_line (reply_value row event.call.game (sequential_reply history event.call) options.profile (board_of (after_attempt history (attempt_of event))) clubs options.group)
 
 -- the answer to a request: of an event its reply, and the screen of the board with it; the screen, or the words, of the board before
-abbrev pub answer_by_history : Options → ℕ → List NamedClub → List Entry → Request → List ℕ
+abbrev pub answer_by_history : LiveArgs → ℕ → List NamedClub → List Entry → Request → List ℕ
 answer_by_history options row clubs history (Event event) =
     reply_by_history options.format options row clubs history event
     ++ screen_after options row clubs (sequential_reply history event.call) (board_of (after_attempt history (attempt_of event)))
@@ -52,13 +52,13 @@ answer_by_history options row clubs history Screen = screen_answer options row c
 answer_by_history options row clubs history Words = words_answer options.format row (board_of history)
 
 -- the answer to what a line says
-abbrev pub line_by_history : Options → ℕ → List NamedClub → List Entry → Said → List ℕ
+abbrev pub line_by_history : LiveArgs → ℕ → List NamedClub → List Entry → Said → List ℕ
 line_by_history options row clubs history Nothing = []
 line_by_history options row clubs history Garbled = answer_by_history options row clubs history Bad
 line_by_history options row clubs history (Row f) = answer_by_history options row clubs history (request_of (Row f))
 
 -- the answers to lines, each after the history of the events that were accepted before it
-unfoldable pub answers_by_history : Options → ℕ → List NamedClub → List Entry → List (List ℕ) → List ℕ
+unfoldable pub answers_by_history : LiveArgs → ℕ → List NamedClub → List Entry → List (List ℕ) → List ℕ
 answers_by_history options row clubs history [] = []
 answers_by_history options row clubs history (line ∷ lines) =
     line_by_history options row clubs history (said_on row line)

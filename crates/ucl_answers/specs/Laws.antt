@@ -17,8 +17,8 @@ use Rattle.ucl_board.specs.Fixtures.{IsMatch}
 use Rattle.ucl_board.specs.Words.{game_at, version_of}
 use Rattle.ucl_json.specs.Lines.{AreLinesOfValues, IsOneLine, json_line}
 use Rattle.ucl_json.specs.Values.{bad_row_value, reply_value, screen_value, words_value}
-use Rattle.ucl_answers.specs.declared.options.Format.TheVariants.{Text, Json}
-use Rattle.ucl_answers.specs.declared.options.Options.{Options}
+use Rattle.ucl_command.specs.declared.options.Format.TheVariants.{Text, Json}
+use Rattle.ucl_command.specs.declared.live.LiveArgs.{LiveArgs}
 use Rattle.ucl_answers.specs.ByHistory.{answers_by_history, attempts_in}
 use Rattle.ucl_answers.specs.Lines.{lines_of}
 use Rattle.ucl_answers.specs.Members.{text_told, texts_told}
@@ -70,7 +70,7 @@ FirstRowsOpenTheBoard = (e : Evening) (clubs : List NamedClub) (line : List ℕ)
 
 -- on the board of a legal history the reply to an event is the line that `feed` writes of it
 abbrev pub RepliesAreThoseOfFeed : Type 0
-RepliesAreThoseOfFeed = (options : Options) (clubs : List NamedClub) (board : List ℕ) (history : List Entry) (row : ℕ) (event : NightEvent)
+RepliesAreThoseOfFeed = (options : LiveArgs) (clubs : List NamedClub) (board : List ℕ) (history : List Entry) (row : ℕ) (event : NightEvent)
     → IsLegal history → IsMatch event.call.game
     → reply_in Text options row clubs event.call.game (version_of (board_of history)) (reply_of (game_at (board_of history) event.call.game) event.call) board ≡ reply_line row history event.call
 
@@ -114,9 +114,9 @@ pub record AreLinesSaying (text json : List ℕ) : Type 0 where
   pub said : texts_told values ≡ Some text
 
 -- the same options, with answers as text
-abbrev pub as_text : Options → Options
+abbrev pub as_text : LiveArgs → LiveArgs
 as_text options = record options { format = Text }
 
 -- an evening in JSON says just what it says as text
 abbrev pub EveningsSayTheSame : Type 0
-EveningsSayTheSame = (options : Options) (bytes : List ℕ) → options.format ≡ Json → AreLinesSaying (live_text (start_of (as_text options)) bytes) (live_text (start_of options) bytes)
+EveningsSayTheSame = (options : LiveArgs) (bytes : List ℕ) → options.format ≡ Json → AreLinesSaying (live_text (start_of (as_text options)) bytes) (live_text (start_of options) bytes)

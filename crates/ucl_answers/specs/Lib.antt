@@ -13,3 +13,4 @@ pub mod ByHistory
 pub mod UncutLines
 pub mod Members
 pub mod Laws
+pub mod Program

@@ -13,8 +13,8 @@ use Rattle.ucl_runs.specs.Run.{StoppedShort}
 use Rattle.ucl_answers.specs.declared.live.Live.{Live}
 use Rattle.ucl_answers.specs.declared.live.Progress.{Progress}
 use Rattle.ucl_answers.specs.declared.live.Progress.TheVariants.{Took, Ended}
-use Rattle.ucl_answers.specs.declared.options.Format.TheVariants.{Json}
-use Rattle.ucl_answers.specs.declared.options.Options.{Options}
+use Rattle.ucl_command.specs.declared.options.Format.TheVariants.{Json}
+use Rattle.ucl_command.specs.declared.live.LiveArgs.{LiveArgs}
 use Rattle.ucl_answers.specs.declared.request.Request.{Request}
 use Rattle.ucl_answers.specs.declared.request.Request.TheVariants.{Bad, Event, Screen, Words}
 use Rattle.ucl_answers.specs.declared.wire.Wire.{Wire}
@@ -55,7 +55,7 @@ missing_at m = missing (ended_at m).row (ended_at m).stage
 -- ---- want of memory
 
 -- whether the answer to a request asks for memory: in JSON each does, and as text screens alone
-abbrev pub AsksOf : Options → List ℕ → Request → Type 0
+abbrev pub AsksOf : LiveArgs → List ℕ → Request → Type 0
 AsksOf options board (Event event) =
     (options.format ≡ Json) ⊎ ((options.screens ≡ true) × (is_ok (reply_of (game_at board event.call.game) event.call) ≡ true))
 AsksOf options board Bad = options.format ≡ Json
@@ -63,7 +63,7 @@ AsksOf options board Screen = ⊤
 AsksOf options board Words = options.format ≡ Json
 
 -- a club's name asks for memory, and a word does not
-abbrev pub AsksAt : Options → Stage → Request → Type 0
+abbrev pub AsksAt : LiveArgs → Stage → Request → Type 0
 AsksAt options (Naming clubs) request = ⊤
 AsksAt options (Restoring clubs words) request = ⊥
 AsksAt options (Open clubs board) request = AsksOf options board request

@@ -11,9 +11,9 @@ use Rattle.ucl_screen.specs.declared.night.NightEvent.{NightEvent}
 use Rattle.ucl_screen.specs.Screen.{screen_text}
 use Rattle.ucl_json.specs.Lines.{json_line}
 use Rattle.ucl_json.specs.Values.{bad_row_value, reply_value, screen_value, words_value}
-use Rattle.ucl_answers.specs.declared.options.Format.{Format}
-use Rattle.ucl_answers.specs.declared.options.Format.TheVariants.{Text, Json}
-use Rattle.ucl_answers.specs.declared.options.Options.{Options}
+use Rattle.ucl_command.specs.declared.options.Format.{Format}
+use Rattle.ucl_command.specs.declared.options.Format.TheVariants.{Text, Json}
+use Rattle.ucl_command.specs.declared.live.LiveArgs.{LiveArgs}
 use Rattle.ucl_answers.specs.declared.request.Request.{Request}
 use Rattle.ucl_answers.specs.declared.request.Request.TheVariants.{Bad, Event, Screen, Words}
 use Rattle.ucl_answers.specs.Lines.{lines_of}
@@ -23,22 +23,22 @@ use Rattle.ucl_answers.specs.Stages.{Stage, Naming, Restoring, Open, Refused, mi
 
 -- between two lines: how it answers, which line comes next, counted from 1, and how far it is
 pub record Evening : Type 0 where
-  pub options : Options
+  pub options : LiveArgs
   pub row : ℕ
   pub stage : Stage
 
 -- before the first line
-abbrev pub start_of : Options → Evening
+abbrev pub start_of : LiveArgs → Evening
 start_of options = record { options = options; row = 1; stage = Naming [] }
 
 -- ---- single answers, each in its format
 
 -- the reply to an event of a match, where so many events were accepted before; in JSON an accepted event's has the board after it
-abbrev pub reply_in : Format → Options → ℕ → List NamedClub → ℕ → ℕ → Result Accepted Refusal → List ℕ → List ℕ
+abbrev pub reply_in : Format → LiveArgs → ℕ → List NamedClub → ℕ → ℕ → Result Accepted Refusal → List ℕ → List ℕ
 reply_in Text options row clubs game before reply board = line_of_reply row game before reply
 reply_in Json options row clubs game before reply board = json_line (reply_value row game reply options.profile board clubs options.group)
 
-abbrev pub reply_answer : Options → ℕ → List NamedClub → ℕ → ℕ → Result Accepted Refusal → List ℕ → List ℕ
+abbrev pub reply_answer : LiveArgs → ℕ → List NamedClub → ℕ → ℕ → Result Accepted Refusal → List ℕ → List ℕ
 reply_answer options row clubs game before reply board = reply_in options.format options row clubs game before reply board
 
 abbrev pub bad_line : ℕ → List ℕ
@@ -50,11 +50,11 @@ bad_answer Text row = bad_line row
 bad_answer Json row = json_line (bad_row_value row)
 
 -- the screen of a board
-abbrev pub screen_in : Format → Options → ℕ → List NamedClub → List ℕ → List ℕ
+abbrev pub screen_in : Format → LiveArgs → ℕ → List NamedClub → List ℕ → List ℕ
 screen_in Text options row clubs board = screen_text options.profile board clubs options.group
 screen_in Json options row clubs board = json_line (screen_value row options.profile board clubs options.group)
 
-abbrev pub screen_answer : Options → ℕ → List NamedClub → List ℕ → List ℕ
+abbrev pub screen_answer : LiveArgs → ℕ → List NamedClub → List ℕ → List ℕ
 screen_answer options row clubs board = screen_in options.format options row clubs board
 
 -- the words of a board
@@ -65,25 +65,25 @@ words_answer Json row board = json_line (words_value row board)
 -- ---- the answer to a line
 
 -- the screen after an accepted event, where screens are wanted
-abbrev pub screen_after : Options → ℕ → List NamedClub → Result Accepted Refusal → List ℕ → List ℕ
+abbrev pub screen_after : LiveArgs → ℕ → List NamedClub → Result Accepted Refusal → List ℕ → List ℕ
 screen_after options row clubs (Ok accepted) board = if options.screens then screen_answer options row clubs board else []
 screen_after options row clubs (Err refusal) board = []
 
 -- the answer to an event: its reply, and the screen
-abbrev pub event_answer : Options → ℕ → List NamedClub → List ℕ → NightEvent → List ℕ
+abbrev pub event_answer : LiveArgs → ℕ → List NamedClub → List ℕ → NightEvent → List ℕ
 event_answer options row clubs board event =
     let reply = reply_of (game_at board event.call.game) event.call in
     let after = next_board board (Event event) in
     reply_answer options row clubs event.call.game (version_of board) reply after ++ screen_after options row clubs reply after
 
-abbrev pub answer_of : Options → ℕ → List NamedClub → List ℕ → Request → List ℕ
+abbrev pub answer_of : LiveArgs → ℕ → List NamedClub → List ℕ → Request → List ℕ
 answer_of options row clubs board (Event event) = event_answer options row clubs board event
 answer_of options row clubs board Bad = bad_answer options.format row
 answer_of options row clubs board Screen = screen_answer options row clubs board
 answer_of options row clubs board Words = words_answer options.format row board
 
 -- nothing is answered before the board is open
-abbrev pub answer_at : Options → ℕ → Stage → Request → List ℕ
+abbrev pub answer_at : LiveArgs → ℕ → Stage → Request → List ℕ
 answer_at options row (Open clubs board) request = answer_of options row clubs board request
 answer_at options row (Naming clubs) request = []
 answer_at options row (Restoring clubs words) request = []

@@ -9,7 +9,7 @@ ghost use Rattle.ucl_runs.specs.Lines.{accepted_line, refused_line};
 ghost use Rattle.ucl_answers.specs.Seen.{bytes_of};
 ghost use Rattle.ucl_answers.specs.Text.{bad_answer, bad_line, reply_answer, screen_answer};
 
-use crate::options::{Format, Options};
+use ucl_command::{Format, LiveArgs};
 use crate::stage::Table;
 use arrayvec::ArrayString;
 use itoa::Buffer;
@@ -117,7 +117,7 @@ fn reply_line(row: u64, game: u8, before: u16, reply: Result<Accepted, Refusal>)
 /// The reply to an event of a match, where so many events were accepted before, and the table is that after it.
 pub(crate) fn reply_answer(
     alloc: Global,
-    options: &Options,
+    options: &LiveArgs,
     row: u64,
     game: u8,
     before: u16,
@@ -158,7 +158,7 @@ pub(crate) fn bad_answer(alloc: Global, format: Format, row: u64) -> Result<Answ
 /// The screen of a board.
 pub(crate) fn screen_answer(
     alloc: Global,
-    options: &Options,
+    options: &LiveArgs,
     row: u64,
     table: &Table,
 ) -> Result<Answer, RunFault>

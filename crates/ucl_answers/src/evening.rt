@@ -10,7 +10,7 @@ ghost use Rattle.ucl_answers.specs.Stages.{after_row};
 ghost use Rattle.ucl_answers.specs.Stepping.{AsksAt, AsksForMemory, EveningIsRefused, StageIsRefused};
 ghost use Rattle.ucl_answers.specs.Text.{answer_said, answer_at, next};
 
-use crate::options::Options;
+use ucl_command::LiveArgs;
 use crate::page::Page;
 use crate::request::request_of;
 use crate::stage::{Clubs, Stage, with_club};
@@ -22,7 +22,7 @@ use ucl_screen::{Four, Sink};
 /// An evening between two lines: how it answers, which line comes next, counted from 1, and how far it is.
 #[derive(Drop)]
 pub(crate) struct Evening {
-    pub(crate) options: Options,
+    pub(crate) options: LiveArgs,
     pub(crate) row: u64,
     pub(crate) stage: Stage,
 }
@@ -31,7 +31,7 @@ pub(crate) struct Evening {
 #[tactic(auto, using(crate::proofs::Puts::put_nothing))]
 fn after_row<W: Sink>(
     alloc: Global,
-    options: &Options,
+    options: &LiveArgs,
     row: u64,
     stage: Stage,
     said: &Option<Four<'_>>,

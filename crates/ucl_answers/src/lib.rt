@@ -9,9 +9,9 @@ mod evening;
 mod laws;
 mod lines;
 mod live;
-mod options;
 mod page;
 mod plain;
+mod program;
 mod request;
 mod row;
 mod some_words;
@@ -28,7 +28,7 @@ pub use laws::{
     refused_evenings_are_silent, replies_are_those_of_feed,
 };
 pub use live::{Live, Progress, live_run};
-pub use options::{Format, Options};
+pub use program::run_evening;
 pub use row::MOST_LINE_BYTES;
 pub use wire::Wire;
 pub use words::{Lines, word_lines};

@@ -13,7 +13,7 @@ ghost use Rattle.ucl_answers.specs.Taking.{FailsToEnd, FailsToGive, FailsToTake,
 use crate::desk::Desk;
 use crate::evening::Evening;
 use crate::lines::first_line;
-use crate::options::Options;
+use ucl_command::LiveArgs;
 use crate::stage::{Clubs, Stage};
 use crate::wire::Wire;
 use std::alloc::Global;
@@ -184,7 +184,7 @@ fn end<W: Sink>(
 
 impl Live {
     /// An evening before its first byte.
-    pub fn new(options: Options) -> Live
+    pub fn new(options: LiveArgs) -> Live
         ensures moment { live_moment result ≡ begins (start_of options) }
         ensures figures { IsAt (unread (start_of options)) result }
     {
@@ -274,7 +274,7 @@ impl Live {
 /// Those of `Live::step`; and `TooLong` after more than 2^62 bytes, which no evening has.
 pub fn live_run<S: Source, W: Sink>(
     alloc: Global,
-    options: Options,
+    options: LiveArgs,
     wire: &mut Wire<S, W>,
 ) -> Result<(), RunFault>
     ensures text { OnOk result

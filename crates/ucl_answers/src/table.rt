@@ -5,11 +5,11 @@ ghost use Rattle.ucl_answers.specs.Output.{FailsToPut, HasPut, SinkFails, sink_c
 ghost use Rattle.ucl_answers.specs.Stages.{next_board};
 ghost use Rattle.ucl_answers.specs.Stepping.{AsksOf, NeverRefused};
 ghost use Rattle.ucl_answers.specs.Text.{answer_of, event_answer, words_answer};
-ghost use Rattle.ucl_answers.specs.declared.options.Format.TheVariants.{Json};
+ghost use Rattle.ucl_command.specs.declared.options.Format.TheVariants.{Json};
 ghost use Rattle.ucl_answers.specs.declared.request.Request.TheVariants.{Event};
 
 use crate::answer::{bad_answer, reply_answer, screen_answer};
-use crate::options::{Format, Options};
+use ucl_command::{Format, LiveArgs};
 use crate::page::Page;
 use crate::request::Request;
 use crate::stage::Table;
@@ -50,7 +50,7 @@ impl Table {
     fn entered<W: Sink>(
         &mut self,
         alloc: Global,
-        options: &Options,
+        options: &LiveArgs,
         row: u64,
         event: &NightEvent,
         page: &mut Page,
@@ -84,7 +84,7 @@ impl Table {
     pub(crate) fn answered<W: Sink>(
         &mut self,
         alloc: Global,
-        options: &Options,
+        options: &LiveArgs,
         row: u64,
         request: &Request,
         page: &mut Page,

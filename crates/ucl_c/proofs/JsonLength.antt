@@ -14,7 +14,7 @@ use Rattle.serde_json.specs.Data.{Data, null, boolean, number, string, array, ob
 use Rattle.serde_json.specs.Find.{of_integer}
 use Rattle.serde_json.specs.Written.{comma_if, compact_text, items_text, members_text, number_text}
 use Rattle.ucl_order.specs.Roster.{is_printed}
-use Rattle.ucl_runs.specs.Lines.{hex_digits}
+use Rattle.ucl_screen.specs.Numbers.{hex_digits}
 use Rattle.ucl_c.proofs.ScreenLength.{both}
 
 -- ---- values

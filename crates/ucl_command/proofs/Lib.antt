@@ -1,6 +1,1 @@
-pub mod NightOutput
-pub mod NumbersRead
-pub mod Range
-pub mod NamedLines
-pub mod WrittenLines
-pub mod Unasked
+pub mod Lists

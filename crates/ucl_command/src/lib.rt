@@ -1,15 +1,22 @@
-//! What the words of the command line ask for, and what is done for them over a source, a sink and an error sink, which stand for the
-//! standard streams.
+//! The arguments of all programs: what words on the command line ask for, or why they name nothing to do.
+//!
+//! `clap` reads the words. What it makes of them, and the texts of help and refusals, is tested; proved is what the answers keep to.
 #![tactic(auto)]
 
-mod command_line;
-mod laws;
+mod evening;
+mod fault;
+mod files;
+mod follow;
+mod help;
+mod live;
+mod names;
 mod night;
-mod program;
-mod texts;
+mod options;
 
-pub use command_line::{Line, line_of};
-pub use laws::{words_that_are_refused, words_that_are_taken};
-pub use night::{PlayedNight, night_on};
-pub use program::{feed, obey, run, show};
-pub use ucl_program::{LineFault, tell_refusal};
+pub use evening::evening_args;
+pub use fault::{LineFault, words_of};
+pub use files::{EveningArgs, ReporterFiles, ScreenFile};
+pub use follow::{FollowArgs, follow_args};
+pub use live::{LiveArgs, live_args};
+pub use night::{Line, line_of};
+pub use options::Format;

@@ -7,10 +7,11 @@ use crate::ready::Ready;
 use std::alloc::{AllocError, Global};
 use std::sync::Wait;
 use std::thread::Threads;
-use ucl_answers::Format;
-use ucl_evening_command::{Asked, Part, Worker, ended, enter_earlier, put_words, tell_faults};
-use ucl_evenings_threads::{EveningEnd, hold_evening};
-use ucl_runs::{RunFault, tell};
+use ucl_command::{EveningArgs, Format};
+use ucl_evenings_threads::{
+    EveningEnd, Part, Worker, enter_earlier, hold_evening, put_words, tell_faults,
+};
+use ucl_runs::{RunFault, ended, tell};
 use ucl_screen::{Sink, Source};
 use ucl_words::WordBoard;
 
@@ -35,7 +36,7 @@ fn parts_of<Q, P, S, W, V>(
 /// Adds how each screen ended.
 fn push_screens<Q, P, S, W, V>(
     parts: &mut Vec<Part>,
-    asked: &Asked,
+    asked: &EveningArgs,
     end: &EveningEnd<Q, P, S, W, V>,
 ) -> Result<(), AllocError> {
     let mut texts: u8 = 0;
@@ -68,7 +69,7 @@ fn push_screens<Q, P, S, W, V>(
 fn held<S: Source + Send + Drop, V: Sink + Send + Drop, R: Threads + Wait + Sync, W: Sink, E: Sink>(
     rt: &R,
     alloc: Global,
-    asked: &Asked,
+    asked: &EveningArgs,
     ready: Ready<S, V>,
     output: &mut W,
     errors: &mut E,
@@ -107,7 +108,7 @@ pub fn hold<
     R: Threads + Wait + Sync,
     W: Sink,
     E: Sink,
->(rt: &R, alloc: Global, asked: &Asked, ready: Ready<S, V>, output: &mut W, errors: &mut E) -> u8
+>(rt: &R, alloc: Global, asked: &EveningArgs, ready: Ready<S, V>, output: &mut W, errors: &mut E) -> u8
     requires few { length ready.night.events.items ≤ most_bytes }
 {
     match held(rt, alloc, asked, ready, output, errors) {

@@ -11,10 +11,9 @@ use hold::hold;
 use outputs::tell_stop;
 use ready::ready_for;
 use std::process::ExitCode;
-pub use ucl_evening_command::{
-    LineFault, evening_of, evenings_that_are_asked_for, evenings_that_are_refused,
-};
-use ucl_program::{ended_unasked, words_of};
+use ucl_command::words_of;
+pub use ucl_command::{LineFault, evening_args};
+use ucl_runs::ended_unasked;
 use ucl_screen::ToWrite;
 
 /// Runs the program. Standard output has no buffer, so that nothing is left to flush.
@@ -23,7 +22,7 @@ fn main(rt: HostRuntime) -> ExitCode {
     let mut output = ToWrite::new(rt.stdout());
     let mut errors = ToWrite::new(rt.stderr());
     let asked = match words_of(&rt, alloc) {
-        Ok(words) => evening_of(alloc, &words),
+        Ok(words) => evening_args(alloc, &words),
         Err(fault) => Err(fault),
     };
     let status = match asked {

@@ -3,8 +3,8 @@
 use crate::files::{Before, found, has_bytes, is_same};
 use std::alloc::{AllocError, Global};
 use std::fs::{Files, Metadata};
-use ucl_evening_command::{Asked, tell_refusal};
-use ucl_runs::{RunFault, tell};
+use ucl_command::EveningArgs;
+use ucl_runs::{RunFault, tell, tell_refusal};
 use ucl_screen::Sink;
 
 /// What is told where an output has bytes in it.
@@ -98,7 +98,7 @@ fn push(befores: &mut Vec<Before>, before: Before) -> Result<(), AllocError> {
 }
 
 /// Looks at all names, before any but the script is opened. Refuses two that stand for one file or pipe, and an output with bytes in it.
-pub fn befores_of<R: Files>(files: &R, alloc: Global, asked: &Asked) -> Result<Befores, Stop> {
+pub fn befores_of<R: Files>(files: &R, alloc: Global, asked: &EveningArgs) -> Result<Befores, Stop> {
     let mut known = Known {
         all: Vec::new(alloc),
     };

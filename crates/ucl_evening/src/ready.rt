@@ -7,8 +7,7 @@ use crate::files::{Before, In, Out};
 use crate::outputs::{Befores, Stop, befores_of};
 use std::alloc::Global;
 use std::fs::{File, Files};
-use ucl_answers::{Format, Options};
-use ucl_evening_command::Asked;
+use ucl_command::{EveningArgs, Format, LiveArgs};
 use ucl_evenings_threads::{Reporter, Screen};
 use ucl_runs::RunFault;
 use ucl_screen::{FromRead, Night, ToWrite, read_night};
@@ -28,7 +27,7 @@ pub struct Ready<S, V> {
 fn reporters_on<'r, R: Files<File = File>>(
     rt: &'r R,
     alloc: Global,
-    asked: &'r Asked,
+    asked: &'r EveningArgs,
     befores: &[Before],
 ) -> Result<Vec<Reporter<FromRead<In<'r, R>>, ToWrite<Out<'r, R>>>>, RunFault> {
     let mut reporters = Vec::new(alloc);
@@ -45,9 +44,9 @@ fn reporters_on<'r, R: Files<File = File>>(
 }
 
 /// How a screen in this form shows.
-fn options_of(asked: &Asked, format: Format) -> Options {
+fn options_of(asked: &EveningArgs, format: Format) -> LiveArgs {
     let group = asked.group;
-    Options {
+    LiveArgs {
         group,
         profile: asked.profile,
         screens: true,
@@ -59,7 +58,7 @@ fn options_of(asked: &Asked, format: Format) -> Options {
 fn screens_on<'r, R: Files<File = File>>(
     rt: &'r R,
     alloc: Global,
-    asked: &'r Asked,
+    asked: &'r EveningArgs,
     befores: &[Before],
 ) -> Result<Vec<Screen<ToWrite<Out<'r, R>>>>, RunFault> {
     let mut screens = Vec::new(alloc);
@@ -87,7 +86,7 @@ fn script_of<R: Files<File = File>>(rt: &R, alloc: Global, name: &str) -> Result
 pub fn ready_for<'r, R: Files<File = File>>(
     rt: &'r R,
     alloc: Global,
-    asked: &'r Asked,
+    asked: &'r EveningArgs,
 ) -> Result<Ready<FromRead<In<'r, R>>, ToWrite<Out<'r, R>>>, Stop>
     ensures few { IfOk result (λ ready. length ready.night.events.items ≤ most_bytes) }
 {

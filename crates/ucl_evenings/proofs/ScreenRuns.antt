@@ -9,12 +9,12 @@ use Rattle.ucl_order.specs.Roster.{NamedClub}
 use Rattle.ucl_runs.specs.declared.fault.RunFault.{RunFault}
 use Rattle.ucl_runs.specs.declared.fault.RunFault.TheVariants.{Input, OutOfMemory, WriteFailed, NotOnDuty, NoThread, TooManyReporters, Strangers}
 use Rattle.ucl_shared.specs.Passes.{PassView, Continues, SharedReading}
-use Rattle.ucl_answers.specs.declared.options.Options.{Options}
+use Rattle.ucl_command.specs.declared.live.LiveArgs.{LiveArgs}
 use Rattle.ucl_evenings.specs.Showing.{AreFew, EndsWithLatest, GaveNotes, HasRisen, FailsToShowReading, HasShownReading, Screening, screens_shown}
 use Rattle.ucl_evenings.specs.Showing.{ShowsBoards, ShowsFurther, ShowsSince, SoFar, ends_by, no_screen}
 use Rattle.ucl_evenings.proofs.ShownScreens.{Heard, ends_same, ends_shown, few_more, risen, risen_more, same_text, so_far_more, so_far_none, so_far_on, stopped_more}
 
-module _ {N : Type 0} (noted : N → List Entry) (options : Options) (clubs : List NamedClub) (k m z : PassView) (s : Screening) (old new : Option (List ℕ)) (versions : List ℕ) (told told2 : List N)
+module _ {N : Type 0} (noted : N → List Entry) (options : LiveArgs) (clubs : List NamedClub) (k m z : PassView) (s : Screening) (old new : Option (List ℕ)) (versions : List ℕ) (told told2 : List N)
     (p : SoFar options clubs k m s old new versions) (on : Continues m z) (reading : Reading) (read : SharedReading m reading z) (gave : GaveNotes told told2 (Heard noted m.seen)) where
   -- a reading was shown, or its version was shown before
   pub record AfterReading (t : Screening) (new2 : Option (List ℕ)) : Type 0 where
@@ -72,7 +72,7 @@ module _ {N : Type 0} (noted : N → List Entry) (options : Options) (clubs : Li
   run_failed t new2 failed (Strangers version) rises q = absurd q
 
 -- a screen that has just begun
-pub shows_from_start : {N : Type 0} (noted : N → List Entry) (options : Options) (clubs : List NamedClub) (k m : PassView) (t : Screening) (told told2 : List N) (failed : Bool)
+pub shows_from_start : {N : Type 0} (noted : N → List Entry) (options : LiveArgs) (clubs : List NamedClub) (k m : PassView) (t : Screening) (told told2 : List N) (failed : Bool)
     (old new : Option (List ℕ)) (result : Result ⊤ RunFault) → ShowsFurther noted options clubs k m no_screen t told told2 failed old new result
     → ShowsBoards noted options clubs k m told told2 failed old new result
 shows_from_start noted options clubs k m t told told2 failed old new result f =
@@ -85,7 +85,7 @@ ended_by start ends ends2 pass true over same told is = told ∙ same ∙ ap (λ
 ended_by start ends ends2 pass false over same told is =
     told ∙ ap (λ (l : List _). l ++ pass ∷ []) same ∙ ap (λ (b : Bool). cond b (start ++ pass ∷ []) start) (sym is)
 
-pub few_after : (options : Options) (clubs : List NamedClub) (m z : PassView) (s : Screening) (new : Option (List ℕ)) (on : Continues m z) (reading : Reading) (read : SharedReading m reading z)
+pub few_after : (options : LiveArgs) (clubs : List NamedClub) (m z : PassView) (s : Screening) (new : Option (List ℕ)) (on : Continues m z) (reading : Reading) (read : SharedReading m reading z)
     (t : Screening) (new2 : Option (List ℕ)) → AreFew s → (s.next ≤ reading.version → HasShownReading options clubs reading s t new new2)
     → (reading.version < s.next → (t ≡ s) × (new2 ≡ new)) → AreFew t
 few_after options clubs m z s new on reading read t new2 few shown kept = elim (cases_lt reading.version s.next) [
@@ -94,7 +94,7 @@ few_after options clubs m z s new on reading read t new2 few shown kept = elim (
 ]
 
 -- a note was heard, and a reading was shown or not
-pub shown_noted : {N : Type 0} (noted : N → List Entry) (options : Options) (clubs : List NamedClub) (k l m z : PassView) (s : Screening) (old new : Option (List ℕ)) (versions : List ℕ)
+pub shown_noted : {N : Type 0} (noted : N → List Entry) (options : LiveArgs) (clubs : List NamedClub) (k l m z : PassView) (s : Screening) (old new : Option (List ℕ)) (versions : List ℕ)
     (hear : Continues l m) (on : Continues m z) (reading : Reading) (read : SharedReading m reading z) {told told2 : List N} (gave : GaveNotes told told2 (Heard noted m.seen))
     (p : SoFar options clubs k l s old new versions) (t : Screening) (new2 : Option (List ℕ)) (failed : Bool) (r : Result ⊤ RunFault)
     → (s.next ≤ reading.version → OnOk r (HasShownReading options clubs reading s t new new2)) → (reading.version < s.next → OnOk r ((t ≡ s) × (new2 ≡ new)))

@@ -17,7 +17,7 @@ use Rattle.ucl_runs.specs.Run.{StoppedShort}
 use Rattle.ucl_runs.proofs.EnteredRows.{goes_on}
 use Rattle.ucl_runs.proofs.Parts.{stopped_second}
 use Rattle.ucl_shared.specs.Passes.{PassView, Continues, SharedReading}
-use Rattle.ucl_answers.specs.declared.options.Options.{Options}
+use Rattle.ucl_command.specs.declared.live.LiveArgs.{LiveArgs}
 use Rattle.ucl_answers.specs.Text.{screen_answer}
 use Rattle.ucl_evenings.specs.Showing.{AreFew, EndsWithLatest, GaveNotes, GoesOnOrStays, HasRisen, HasShownReading, IsLastBefore, RiseWithin, Screening, SoFar, no_screen, notes_and, screens_shown}
 
@@ -41,7 +41,7 @@ unfolding RiseWithin
 rise_count low high [] r = omega arith
 rise_count low high (v ∷ versions) r = let n = rise_count (v + 1) high versions r.1 in let le = r.0 in omega arith
 
-module _ (options : Options) (clubs : List NamedClub) where
+module _ (options : LiveArgs) (clubs : List NamedClub) where
   -- the screens are those of each history that goes on
   pub screens_on : (s h : List Entry) (number low high : ℕ) (versions : List ℕ) → IsPrefix s h → RiseWithin low high versions → high ≤ length s + 1
       → screens_shown options clubs h number versions ≡ screens_shown options clubs s number versions
@@ -69,7 +69,7 @@ module _ (options : Options) (clubs : List NamedClub) where
   unfolding screens_shown
   screens_none h number = refl
 
-pub so_far_none : (options : Options) (clubs : List NamedClub) (k : PassView) (old : Option (List ℕ)) → SoFar options clubs k k no_screen old old []
+pub so_far_none : (options : LiveArgs) (clubs : List NamedClub) (k : PassView) (old : Option (List ℕ)) → SoFar options clubs k k no_screen old old []
 unfolding RiseWithin
 so_far_none options clubs k old =
     let none = screens_none options clubs k.seen 1 in record {
@@ -89,7 +89,7 @@ pub goes_next : (k m z : PassView) → GoesOnOrStays k m → Continues m z → C
 goes_next k m z (inl a) b = goes_on k m z a b
 goes_next k m z (inr e) b = subst (λ (x : PassView). Continues x z) e b
 
-module _ (options : Options) (clubs : List NamedClub) (k m z : PassView) (s : Screening) (old new : Option (List ℕ)) (versions : List ℕ)
+module _ (options : LiveArgs) (clubs : List NamedClub) (k m z : PassView) (s : Screening) (old new : Option (List ℕ)) (versions : List ℕ)
     (p : SoFar options clubs k m s old new versions) (on : Continues m z) where
   longer : length m.seen ≤ length z.seen
   longer = begins_length m.seen z.seen on.on.seen
@@ -169,7 +169,7 @@ module _ (options : Options) (clubs : List NamedClub) (k m z : PassView) (s : Sc
         (stopped_second 0 s.written failed old new new2 (screens_shown options clubs m.seen 1 versions) (screen_answer options s.number clubs reading.board)
         (WriteFailed count) p.out (let told = p.told in omega arith) stop)
 
-pub few_more : (options : Options) (clubs : List NamedClub) (m z : PassView) (s : Screening) (new : Option (List ℕ)) → Continues m z → (reading : Reading) → SharedReading m reading z
+pub few_more : (options : LiveArgs) (clubs : List NamedClub) (m z : PassView) (s : Screening) (new : Option (List ℕ)) → Continues m z → (reading : Reading) → SharedReading m reading z
     → (t : Screening) (new2 : Option (List ℕ)) → AreFew s → s.next ≤ reading.version → HasShownReading options clubs reading s t new new2 → AreFew t
 few_more options clubs m z s new on reading read t new2 few rises shown =
     let small = (versions_are z.seen on.sound.legal).1 in
@@ -179,12 +179,12 @@ few_more options clubs m z s new on reading read t new2 few rises shown =
     let before = few.0 in (omega arith, omega arith)
 
 -- a screen stands somewhere
-pub record Stands (options : Options) (clubs : List NamedClub) (k m : PassView) (s : Screening) (old new : Option (List ℕ)) : Type 0 where
+pub record Stands (options : LiveArgs) (clubs : List NamedClub) (k m : PassView) (s : Screening) (old new : Option (List ℕ)) : Type 0 where
   pub versions : List ℕ
   pub so_far : SoFar options clubs k m s old new versions
 
 -- where the pass heard nothing it is as it was
-pub so_far_stays : (options : Options) (clubs : List NamedClub) (k m z : PassView) (s : Screening) (old new : Option (List ℕ)) (versions : List ℕ) → SoFar options clubs k m s old new versions
+pub so_far_stays : (options : LiveArgs) (clubs : List NamedClub) (k m z : PassView) (s : Screening) (old new : Option (List ℕ)) (versions : List ℕ) → SoFar options clubs k m s old new versions
     → GoesOnOrStays m z → SoFar options clubs k z s old new versions
 so_far_stays options clubs k m z s old new versions p (inl on) = so_far_on options clubs k m z s old new versions p on
 so_far_stays options clubs k m z s old new versions p (inr same) = subst (λ (x : PassView). SoFar options clubs k x s old new versions) (sym same) p

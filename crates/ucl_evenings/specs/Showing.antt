@@ -10,7 +10,7 @@ use Rattle.ucl_runs.specs.declared.fault.RunFault.{RunFault}
 use Rattle.ucl_runs.specs.declared.fault.RunFault.TheVariants.{OutOfMemory, WriteFailed}
 use Rattle.ucl_runs.specs.Run.{StoppedShort}
 use Rattle.ucl_shared.specs.Passes.{PassView, Continues}
-use Rattle.ucl_answers.specs.declared.options.Options.{Options}
+use Rattle.ucl_command.specs.declared.live.LiveArgs.{LiveArgs}
 use Rattle.ucl_answers.specs.Text.{screen_answer}
 
 -- versions rise strictly, from one that is no lower than the first bound to one that is lower than the second
@@ -19,7 +19,7 @@ RiseWithin low high [] = low ≤ high
 RiseWithin low high (version ∷ versions) = (low ≤ version) × RiseWithin (version + 1) high versions
 
 -- the screens of the boards after so many first entries of a history, one after the other, counted from this number
-unfoldable pub screens_shown : Options → List NamedClub → List Entry → ℕ → List ℕ → List ℕ
+unfoldable pub screens_shown : LiveArgs → List NamedClub → List Entry → ℕ → List ℕ → List ℕ
 screens_shown options clubs history number [] = []
 screens_shown options clubs history number (version ∷ versions) =
     screen_answer options number clubs (board_of (take version history)) ++ screens_shown options clubs history (number + 1) versions
@@ -81,7 +81,7 @@ ScreensEnd failed old new text Latest (Err (WriteFailed count)) = StoppedShort 0
 ScreensEnd failed old new text Latest (Err _) = ⊥
 
 -- a screen's run, whatever it came to: which versions it showed, and how it ended
-pub record ShowsBoards {N : Type 0} (noted : N → List Entry) (options : Options) (clubs : List NamedClub) (k m : PassView) (told told2 : List N) (failed : Bool) (old new : Option (List ℕ)) (result : Result ⊤ RunFault) : Type 0 where
+pub record ShowsBoards {N : Type 0} (noted : N → List Entry) (options : LiveArgs) (clubs : List NamedClub) (k m : PassView) (told told2 : List N) (failed : Bool) (old new : Option (List ℕ)) (result : Result ⊤ RunFault) : Type 0 where
   pub versions : List ℕ
   pub risen : HasRisen k m versions
   pub ends : ScreensEnd failed old new (screens_shown options clubs m.seen 1 versions) (EndsWithLatest noted told told2 m versions) result
@@ -113,7 +113,7 @@ pub record IsLastBefore (next : ℕ) (versions : List ℕ) : Type 0 where
   pub last : versions ≡ before ++ version ∷ []
 
 -- where it stands after these versions, if it began with the pass k, which is m now
-pub record SoFar (options : Options) (clubs : List NamedClub) (k m : PassView) (s : Screening) (old new : Option (List ℕ)) (versions : List ℕ) : Type 0 where
+pub record SoFar (options : LiveArgs) (clubs : List NamedClub) (k m : PassView) (s : Screening) (old new : Option (List ℕ)) (versions : List ℕ) : Type 0 where
   pub goes : GoesOnOrStays k m
   pub high : ℕ
   pub rise : RiseWithin (length k.seen) high versions
@@ -126,27 +126,27 @@ pub record SoFar (options : Options) (clubs : List NamedClub) (k m : PassView) (
   pub last : (s.next ≡ 0) ⊎ IsLastBefore s.next versions
 
 -- what a further run of a screen comes to, that has begun with the pass k: all versions that it showed, before and in it, and how it ended
-pub record ShowsSince {N : Type 0} (noted : N → List Entry) (options : Options) (clubs : List NamedClub) (k m : PassView) (s : Screening) (told told2 : List N) (failed : Bool) (old new : Option (List ℕ)) (result : Result ⊤ RunFault) : Type 0 where
+pub record ShowsSince {N : Type 0} (noted : N → List Entry) (options : LiveArgs) (clubs : List NamedClub) (k m : PassView) (s : Screening) (told told2 : List N) (failed : Bool) (old new : Option (List ℕ)) (result : Result ⊤ RunFault) : Type 0 where
   pub versions : List ℕ
   pub risen : HasRisen k m versions
   pub ends : ScreensEnd failed old new (screens_shown options clubs m.seen 1 versions) (EndsWithLatest noted told told2 m versions) result
   pub stands : OnOk result (SoFar options clubs k m s old new versions)
 
 -- a further run, wherever the screen began
-abbrev pub ShowsFurther : {N : Type 0} (noted : N → List Entry) (options : Options) (clubs : List NamedClub) (m m2 : PassView) (s s2 : Screening) (told told2 : List N) (failed : Bool) (mid new : Option (List ℕ)) (result : Result ⊤ RunFault) → Type 0
+abbrev pub ShowsFurther : {N : Type 0} (noted : N → List Entry) (options : LiveArgs) (clubs : List NamedClub) (m m2 : PassView) (s s2 : Screening) (told told2 : List N) (failed : Bool) (mid new : Option (List ℕ)) (result : Result ⊤ RunFault) → Type 0
 ShowsFurther noted options clubs m m2 s s2 told told2 failed mid new result =
     (k : PassView) (old : Option (List ℕ)) (versions : List ℕ) → SoFar options clubs k m s old mid versions
     → ShowsSince noted options clubs k m2 s2 told told2 failed old new result
 
 -- a reading was shown
-pub record HasShownReading (options : Options) (clubs : List NamedClub) (reading : Reading) (before after : Screening) (old new : Option (List ℕ)) : Type 0 where
+pub record HasShownReading (options : LiveArgs) (clubs : List NamedClub) (reading : Reading) (before after : Screening) (old new : Option (List ℕ)) : Type 0 where
   pub given : Appends old new (screen_answer options before.number clubs reading.board)
   pub next_is : after.next ≡ reading.version + 1
   pub number_is : after.number ≡ before.number + 1
   pub told : after.written ≡ min (before.written + length (screen_answer options before.number clubs reading.board)) (2 ^ 64 - 1)
 
 -- it was not, for want of memory or since the sink failed
-abbrev pub FailsToShowReading : Options → List NamedClub → Reading → Screening → Bool → Option (List ℕ) → Option (List ℕ) → RunFault → Type 0
+abbrev pub FailsToShowReading : LiveArgs → List NamedClub → Reading → Screening → Bool → Option (List ℕ) → Option (List ℕ) → RunFault → Type 0
 FailsToShowReading options clubs reading before failed old new OutOfMemory = new ≡ old
 FailsToShowReading options clubs reading before failed old new (WriteFailed count) =
     StoppedShort before.written failed old new (screen_answer options before.number clubs reading.board) count

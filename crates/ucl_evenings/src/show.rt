@@ -10,7 +10,7 @@ ghost use Rattle.ucl_evenings.specs.Showing.{AreFew, EndWasTold, GaveNotes, Goes
 use std::alloc::Global;
 use std::marker::Model;
 use std::sync::Wait;
-use ucl_answers::{Format, Options};
+use ucl_command::{Format, LiveArgs};
 use ucl_board::{Board, Reading};
 use ucl_json::screen_json;
 use ucl_order::Roster;
@@ -44,7 +44,7 @@ pub trait Bell<N, P> {
 /// The text of a screen, which has this number.
 fn screen_of(
     alloc: Global,
-    options: &Options,
+    options: &LiveArgs,
     roster: &Roster,
     number: u64,
     board: &Board,
@@ -95,7 +95,7 @@ impl Screens {
     fn show<W: Sink>(
         &mut self,
         alloc: Global,
-        options: &Options,
+        options: &LiveArgs,
         roster: &Roster,
         reading: &Reading,
         sink: &mut W,
@@ -184,7 +184,7 @@ pub fn show_boards<B: LiveBoard, Q: Bell<B::Note, B::ReaderPass>, W: Sink, R: Wa
     board: &B,
     pass: &mut B::ReaderPass,
     bell: &mut Q,
-    options: &Options,
+    options: &LiveArgs,
     roster: &Roster,
     sink: &mut W,
 ) -> Result<(), RunFault>
@@ -231,7 +231,7 @@ pub fn show_on<B: LiveBoard, Q: Bell<B::Note, B::ReaderPass>, W: Sink, R: Wait>(
     board: &B,
     pass: &mut B::ReaderPass,
     bell: &mut Q,
-    options: &Options,
+    options: &LiveArgs,
     roster: &Roster,
     screens: &mut Screens,
     sink: &mut W,
@@ -272,7 +272,7 @@ pub fn show_noted<B: LiveBoard, W: Sink, R: Wait>(
     board: &B,
     pass: &mut B::ReaderPass,
     news: B::Note,
-    options: &Options,
+    options: &LiveArgs,
     roster: &Roster,
     screens: &mut Screens,
     sink: &mut W,

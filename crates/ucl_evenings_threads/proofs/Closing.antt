@@ -7,7 +7,7 @@ use Rattle.ucl_board.proofs.Beginnings.{begins_same}
 use Rattle.ucl_order.specs.Roster.{NamedClub}
 use Rattle.ucl_runs.specs.declared.fault.RunFault.{RunFault}
 use Rattle.ucl_shared.specs.Passes.{Continues, PassView}
-use Rattle.ucl_answers.specs.declared.options.Options.{Options}
+use Rattle.ucl_command.specs.declared.live.LiveArgs.{LiveArgs}
 use Rattle.ucl_evenings.specs.Showing.{EndsWithLatest, RiseWithin, ScreensEnd, Screening, ShowsFurther, ShowsSince, screens_shown}
 use Rattle.ucl_screen.specs.declared.stream.Sink as sinks
 use Rattle.ucl_shared.specs.declared.live_board.LiveBoard as boards
@@ -18,13 +18,13 @@ use Rattle.ucl_evenings_threads.specs.Runs.{LastIsAtLeast, HasLookedOn, HasShown
 use Rattle.ucl_evenings_threads.proofs.Ended.{above_less, above_note, failed_end, screens_end, served_same, served_then, shown_on}
 
 -- what a screen has shown, of the history that its pass has seen
-pub record Shown (options : Options) (clubs : List NamedClub) (before history : List Entry) (least : ℕ) (failed : Bool) (old new : Option (List ℕ)) (r : Result ⊤ RunFault) : Type 0 where
+pub record Shown (options : LiveArgs) (clubs : List NamedClub) (before history : List Entry) (least : ℕ) (failed : Bool) (old new : Option (List ℕ)) (r : Result ⊤ RunFault) : Type 0 where
   pub versions : List ℕ
   pub rise : RiseWithin (length before) (length history + 1) versions
   pub ends : ScreensEnd failed old new (screens_shown options clubs history 1 versions) (LastIsAtLeast least versions) r
 
 -- it failed before the end
-pub shown_failed : {N : Type 0} (noted : N → List Entry) (options : Options) (clubs : List NamedClub) (k m : PassView) (s : Screening) (told told2 : List N) (failed : Bool)
+pub shown_failed : {N : Type 0} (noted : N → List Entry) (options : LiveArgs) (clubs : List NamedClub) (k m : PassView) (s : Screening) (told told2 : List N) (failed : Bool)
     (old new : Option (List ℕ)) (least : ℕ) (r : Result ⊤ RunFault) (f : RunFault) → r ≡ Err f → ShowsSince noted options clubs k m s told told2 failed old new r
     → Shown options clubs k.seen m.seen least failed old new (Err f)
 shown_failed noted options clubs k m s told told2 failed old new least r f is p = record {
@@ -35,7 +35,7 @@ shown_failed noted options clubs k m s told told2 failed old new least r f is p 
 }
 
 -- it was shown what a note tells
-pub shown_further : {N : Type 0} (noted : N → List Entry) (options : Options) (clubs : List NamedClub) (k m z : PassView) (s t : Screening) (told told2 : List N) (news : N) (failed failed2 : Bool)
+pub shown_further : {N : Type 0} (noted : N → List Entry) (options : LiveArgs) (clubs : List NamedClub) (k m z : PassView) (s t : Screening) (told told2 : List N) (news : N) (failed failed2 : Bool)
     (old mid new : Option (List ℕ)) (least : ℕ) (r r2 : Result ⊤ RunFault) → r ≡ Ok tt → length (noted news) ≡ least → ShowsSince noted options clubs k m s told told2 failed old mid r
     → ShowsFurther noted options clubs m z s t [] (news ∷ []) failed2 mid new r2 → Shown options clubs k.seen z.seen least failed2 old new r2
 shown_further noted options clubs k m z s t told told2 news failed failed2 old mid new least (Ok done) r2 is long p f =
@@ -53,12 +53,12 @@ heard_on k m z same on = subst (λ (p : PassView). Continues p z) same on
 
 module _ {B R P N V : Type 0} (live : boards.Ghosts B R P N) (board : B) (sink : sinks.Ghosts V) (clubs : List NamedClub) where
   -- what was shown, with the options that were lent
-  lent : (history : List Entry) (least : ℕ) (looking : Looking R V) (options : Options) (pass : R) (kept : V) (r : Result ⊤ RunFault) → options ≡ looking.screen.options
+  lent : (history : List Entry) (least : ℕ) (looking : Looking R V) (options : LiveArgs) (pass : R) (kept : V) (r : Result ⊤ RunFault) → options ≡ looking.screen.options
       → live.is_reader board pass → IsPrefix (live.reader pass).seen history → SinkServed sink looking.screen.sink kept r
       → Shown options clubs (live.reader looking.pass).seen history least (sink.failed kept) (sink.taken looking.screen.sink) (sink.taken kept) r
       → HasShownAbove live board sink clubs history least looking (record { pass = pass; sink = kept; result = r })
   lent history least looking options pass kept r same own seen served p =
-      let q = subst (λ (o : Options). Shown o clubs (live.reader looking.pass).seen history least (sink.failed kept) (sink.taken looking.screen.sink) (sink.taken kept) r) same p in
+      let q = subst (λ (o : LiveArgs). Shown o clubs (live.reader looking.pass).seen history least (sink.failed kept) (sink.taken looking.screen.sink) (sink.taken kept) r) same p in
       record { own = own; seen = seen; versions = q.versions; rise = q.rise; ends = q.ends; served = served }
 
   pub closed_failed : (looking : Looking R V) (looked : Looked R V) (least : ℕ) (f : RunFault) → looked.result ≡ Err f → HasLookedOn live board sink clubs looking looked

@@ -6,3 +6,7 @@ pub mod Holding
 pub mod Running
 pub mod OneReporter
 pub mod Decided
+mod Judged
+mod Told
+mod Stopped
+mod Entering

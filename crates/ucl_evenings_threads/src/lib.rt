@@ -1,8 +1,12 @@
-//! An evening with a thread for each reporter and for each screen, over any live board.
+//! An evening with a thread for each reporter and for each screen, over any live board: what is entered before it begins, how it is held, and
+//! what is told in the end.
 #![tactic(auto)]
 
 mod bells;
+mod earlier;
+mod ending;
 mod evening;
+mod judging;
 mod laws;
 mod lend;
 mod lists;
@@ -11,6 +15,8 @@ mod screens;
 mod tally;
 mod workers;
 
+pub use earlier::{Earlier, enter_earlier};
+pub use ending::{Part, Worker, put_words, tell_faults, tell_part};
 pub use evening::{EveningEnd, hold_evening};
 pub use laws::rows_decide_the_board;
 pub use workers::{Reporter, ReporterEnd, Screen, ScreenEnd};

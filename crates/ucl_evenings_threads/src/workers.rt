@@ -1,6 +1,6 @@
 //! Who takes part in an evening, and how each ended.
 
-use ucl_answers::Options;
+use ucl_command::LiveArgs;
 use ucl_evenings::Screens;
 use ucl_runs::RunFault;
 
@@ -19,7 +19,7 @@ pub struct Screen<V> {
     /// Where the screens go.
     pub sink: V,
     /// How they are written. Whether screens are shown is not looked at: they are.
-    pub options: Options,
+    pub options: LiveArgs,
 }
 
 /// How a reporter ended.

@@ -4,10 +4,9 @@
 
 use std::process::ExitCode;
 use ucl_answers::Wire;
-pub use ucl_follow_command::{
-    LineFault, run_following, shape_of, shapes_that_are_refused, shapes_that_are_taken,
-};
-use ucl_program::words_of;
+use ucl_command::words_of;
+pub use ucl_command::{LineFault, follow_args};
+pub use ucl_follows::run_following;
 use ucl_screen::{FromRead, ToWrite};
 
 /// Runs the program over the standard streams. Standard output has no buffer, so that nothing is left to flush.
@@ -16,7 +15,7 @@ fn main(rt: HostRuntime) -> ExitCode {
     let mut wire = Wire::new(FromRead::new(rt.stdin()), ToWrite::new(rt.stdout()));
     let mut errors = ToWrite::new(rt.stderr());
     let asked = match words_of(&rt, alloc) {
-        Ok(words) => shape_of(alloc, &words),
+        Ok(words) => follow_args(alloc, &words),
         Err(fault) => Err(fault),
     };
     ExitCode::from(run_following(alloc, asked, &mut wire, &mut errors))

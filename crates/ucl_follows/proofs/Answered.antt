@@ -12,7 +12,7 @@ use Rattle.ucl_board.specs.Words.{AreWords}
 use Rattle.ucl_order.specs.declared.profile.Profile.{Profile}
 use Rattle.ucl_order.specs.declared.profile.Profile.TheVariants.{Uefa, AwayInTie}
 use Rattle.ucl_order.specs.Roster.{IsClub, IsRoster, NamedClub, bad_slot, bad_slot_from, is_club, is_name}
-use Rattle.ucl_runs.specs.Lines.{hex_digits}
+use Rattle.ucl_screen.specs.Numbers.{hex_digits}
 use Rattle.ucl_screen.specs.Numbers.{hex_after, hex_digit, hex_word}
 use Rattle.ucl_screen.specs.Screen.{IsGroup}
 use Rattle.ucl_screen.specs.WordsRead.{read_words}

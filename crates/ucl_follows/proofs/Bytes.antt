@@ -11,7 +11,7 @@ use Rattle.ucl_runs.specs.declared.fault.RunFault.{RunFault}
 use Rattle.ucl_runs.specs.declared.fault.RunFault.TheVariants.{Input, OutOfMemory, WriteFailed, NotOnDuty, NoThread, TooManyReporters, Strangers}
 use Rattle.ucl_runs.proofs.Parts.{stopped_first, stopped_second}
 use Rattle.ucl_follows.specs.declared.following.Following.{Following}
-use Rattle.ucl_follows.specs.declared.shape.Shape.{Shape}
+use Rattle.ucl_command.specs.declared.follow.FollowArgs.{FollowArgs}
 use Rattle.ucl_follows.specs.Heard.{kept_line, torn_line, whole_lines}
 use Rattle.ucl_follows.specs.Told.{moment_on}
 use Rattle.ucl_follows.specs.Follow.{after_told, followed, sights, told_text}
@@ -56,7 +56,7 @@ unfolding followed
 followed-then f [] b = refl
 followed-then f (line ∷ a) b = followed-then (after_told f (moment_on line)) a b
 
-pub sights-then : (shape : Shape) (f : Following) (a b : Lines) → sights shape f (a ++ b) ≡ sights shape f a ++ sights shape (followed f a) b
+pub sights-then : (shape : FollowArgs) (f : Following) (a b : Lines) → sights shape f (a ++ b) ≡ sights shape f a ++ sights shape (followed f a) b
 unfolding sights followed
 sights-then shape f [] b = refl
 sights-then shape f (line ∷ a) b =
@@ -73,7 +73,7 @@ pub heard-none : (h : Listener) → heard h [] ≡ h
 unfolding whole_lines torn_line followed
 heard-none h = refl
 
-pub text-none : (shape : Shape) (h : Listener) → heard_text shape h [] ≡ []
+pub text-none : (shape : FollowArgs) (h : Listener) → heard_text shape h [] ≡ []
 unfolding whole_lines sights
 text-none shape h = refl
 
@@ -82,7 +82,7 @@ heard-then h xs ys =
     let a = ap (followed h.following) (lines-then h.torn xs ys) ∙ followed-then h.following (whole_lines h.torn xs) (whole_lines (torn_line h.torn xs) ys) in
     hearings _ _ _ _ a (torn-then h.torn xs ys)
 
-pub text-then : (shape : Shape) (h : Listener) (xs ys : List ℕ) → heard_text shape h (xs ++ ys) ≡ heard_text shape h xs ++ heard_text shape (heard h xs) ys
+pub text-then : (shape : FollowArgs) (h : Listener) (xs ys : List ℕ) → heard_text shape h (xs ++ ys) ≡ heard_text shape h xs ++ heard_text shape (heard h xs) ys
 text-then shape h xs ys =
     ap (sights shape h.following) (lines-then h.torn xs ys) ∙ sights-then shape h.following (whole_lines h.torn xs) (whole_lines (torn_line h.torn xs) ys)
 
@@ -94,7 +94,7 @@ pub end-heard : (h : Listener) (b : ℕ) → b ≡ 10 → heard h (b ∷ []) ≡
 unfolding whole_lines torn_line followed
 end-heard h b e = rw e refl
 
-pub end-text : (shape : Shape) (h : Listener) (b : ℕ) → b ≡ 10 → heard_text shape h (b ∷ []) ≡ told_text shape h.following (moment_on h.torn)
+pub end-text : (shape : FollowArgs) (h : Listener) (b : ℕ) → b ≡ 10 → heard_text shape h (b ∷ []) ≡ told_text shape h.following (moment_on h.torn)
 unfolding whole_lines sights
 end-text shape h b e = rw e (append-nil (told_text shape h.following (moment_on h.torn)))
 
@@ -103,13 +103,13 @@ pub more-heard : (h : Listener) (b : ℕ) → (b ≡ 10 → ⊥) → heard h (b 
 unfolding whole_lines torn_line followed
 more-heard h b e = rw (not-ten b e) refl
 
-pub more-text : (shape : Shape) (h : Listener) (b : ℕ) → (b ≡ 10 → ⊥) → heard_text shape h (b ∷ []) ≡ []
+pub more-text : (shape : FollowArgs) (h : Listener) (b : ℕ) → (b ≡ 10 → ⊥) → heard_text shape h (b ∷ []) ≡ []
 unfolding whole_lines sights
 more-text shape h b e = rw (not-ten b e) refl
 
 -- ---- failures
 
-pub byte-fails : (shape : Shape) (h : Listener) (b out : ℕ) (failed : Bool) (x y : Option (List ℕ)) (f : RunFault) → b ≡ 10
+pub byte-fails : (shape : FollowArgs) (h : Listener) (b out : ℕ) (failed : Bool) (x y : Option (List ℕ)) (f : RunFault) → b ≡ 10
     → FailsToShow out (record { failed = failed; old = x; new = y }) (told_text shape h.following (moment_on h.torn)) f
     → FailsToHear shape h (b ∷ []) out (record { failed = failed; old = x; new = y }) f
 byte-fails shape h b out failed x y (WriteFailed written) e s = rw (end-text shape h b e) s
@@ -124,7 +124,7 @@ parts-at : (bytes : List ℕ) (i : ℕ) → i < length bytes → bytes ≡ (take
 parts-at bytes i h = sym (take-append-drop (i + 1) bytes) ∙ ap (λ (l : List ℕ). l ++ drop (i + 1) bytes) (take_more bytes i 0 h)
 
 -- bytes were heard, and those after them were not all
-pub later-fails : (shape : Shape) (h : Listener) (xs ys : List ℕ) (out now : ℕ) (failed : Bool) (x y z : Option (List ℕ)) (f : RunFault) → Appends x y (heard_text shape h xs)
+pub later-fails : (shape : FollowArgs) (h : Listener) (xs ys : List ℕ) (out now : ℕ) (failed : Bool) (x y z : Option (List ℕ)) (f : RunFault) → Appends x y (heard_text shape h xs)
     → now ≡ min (out + length (heard_text shape h xs)) (2 ^ 64 - 1) → FailsToHear shape (heard h xs) ys now (record { failed = failed; old = y; new = z }) f
     → FailsToHear shape h (xs ++ ys) out (record { failed = failed; old = x; new = z }) f
 later-fails shape h xs ys out now failed x y z (WriteFailed written) p told s =
@@ -142,7 +142,7 @@ later-fails shape h xs ys out now failed x y z TooManyReporters p told s = absur
 later-fails shape h xs ys out now failed x y z (Strangers version) p told s = absurd s
 
 -- and there were more bytes
-pub before-fails : (shape : Shape) (h : Listener) (xs ys all : List ℕ) (out : ℕ) (failed : Bool) (x y : Option (List ℕ)) (f : RunFault) → all ≡ xs ++ ys
+pub before-fails : (shape : FollowArgs) (h : Listener) (xs ys all : List ℕ) (out : ℕ) (failed : Bool) (x y : Option (List ℕ)) (f : RunFault) → all ≡ xs ++ ys
     → FailsToHear shape h xs out (record { failed = failed; old = x; new = y }) f → FailsToHear shape h all out (record { failed = failed; old = x; new = y }) f
 before-fails shape h xs ys all out failed x y (WriteFailed written) e s =
     rw (e, text-then shape h xs ys) (stopped_first out failed x y (heard_text shape h xs) (heard_text shape (heard h xs) ys) (WriteFailed written) s)
@@ -159,7 +159,7 @@ before-fails shape h xs ys all out failed x y TooManyReporters e s = absurd s
 before-fails shape h xs ys all out failed x y (Strangers version) e s = absurd s
 
 -- a byte was not heard, after those before it
-pub hear-fails : (shape : Shape) (h : Listener) (bytes : List ℕ) (i out now : ℕ) (failed : Bool) (x y z : Option (List ℕ)) (f : RunFault) → i < length bytes
+pub hear-fails : (shape : FollowArgs) (h : Listener) (bytes : List ℕ) (i out now : ℕ) (failed : Bool) (x y z : Option (List ℕ)) (f : RunFault) → i < length bytes
     → Appends x y (heard_text shape h (take i bytes))
     → now ≡ min (out + length (heard_text shape h (take i bytes))) (2 ^ 64 - 1)
     → FailsToHear shape (heard h (take i bytes)) (get_or bytes i 0 ∷ []) now (record { failed = failed; old = y; new = z }) f

@@ -9,7 +9,7 @@ use Rattle.ucl_runs.specs.Feed.{word_lines}
 use Rattle.ucl_runs.specs.Lines.{word_line}
 use Rattle.ucl_screen.specs.Rows.{FourFields}
 use Rattle.ucl_screen.specs.Script.{club_of, word_of_row}
-use Rattle.ucl_answers.specs.declared.options.Options.{Options}
+use Rattle.ucl_command.specs.declared.live.LiveArgs.{LiveArgs}
 use Rattle.ucl_answers.specs.Lines.{begun_line, ended_lines, last_lines, lines_of}
 use Rattle.ucl_answers.specs.Requests.{request_of}
 use Rattle.ucl_answers.specs.Rows.{Row}
@@ -48,22 +48,22 @@ row-passes e text f says none =
       after = same-moment (moment_after (begins e) text) (begins (next e (Row f))) (line-evening (begins e) text line ∙ ap (next e) row) (line-begun (begins e) text line);
     }
 
-abbrev at : Options → ℕ → Stage → Evening
+abbrev at : LiveArgs → ℕ → Stage → Evening
 at options row stage = record { options = options; row = row; stage = stage }
 
-at-same : (options : Options) (a b : ℕ) (s t : Stage) → a ≡ b → s ≡ t → at options a s ≡ at options b t
+at-same : (options : LiveArgs) (a b : ℕ) (s t : Stage) → a ≡ b → s ≡ t → at options a s ≡ at options b t
 at-same options a b s t p q = rw (p, q) refl
 
 -- ---- the rows of clubs
 
-club-passes : (options : Options) (row slot : ℕ) (clubs : List NamedClub) (text : List ℕ) (club : NamedClub) → length clubs + 1 ≡ slot → SaysClub slot text club
+club-passes : (options : LiveArgs) (row slot : ℕ) (clubs : List NamedClub) (text : List ℕ) (club : NamedClub) → length clubs + 1 ≡ slot → SaysClub slot text club
     → Passes (at options row (Naming clubs)) text (at options (row + 1) (with_clubs (clubs ++ club ∷ [])))
 club-passes options row slot clubs text club here says =
     let one = row-passes (at options row (Naming clubs)) text says.fields says.says refl in
     let is : club_of (length clubs + 1) says.fields ≡ Some club = ap (λ (n : ℕ). club_of n says.fields) here ∙ says.club_is in
     subst (λ (o : Option NamedClub). Passes (at options row (Naming clubs)) text (at options (row + 1) (after_club row clubs o))) is one
 
-four-pass : (options : Options) (t u v w : List ℕ) (a b c d : NamedClub) → SaysClub 1 t a → SaysClub 2 u b → SaysClub 3 v c → SaysClub 4 w d → bad_slot (a ∷ b ∷ c ∷ d ∷ []) ≡ None
+four-pass : (options : LiveArgs) (t u v w : List ℕ) (a b c d : NamedClub) → SaysClub 1 t a → SaysClub 2 u b → SaysClub 3 v c → SaysClub 4 w d → bad_slot (a ∷ b ∷ c ∷ d ∷ []) ≡ None
     → Passes (start_of options) (t ++ u ++ v ++ w) (at options 5 (Restoring (a ∷ b ∷ c ∷ d ∷ []) []))
 four-pass options t u v w a b c d first second third fourth good =
     let clubs = a ∷ b ∷ c ∷ d ∷ [] in
@@ -80,7 +80,7 @@ four-pass options t u v w a b c d first second third fourth good =
 abbrev club_rows : List NamedClub → List ℕ
 club_rows roster = club_row roster 1 ++ club_row roster 2 ++ club_row roster 3 ++ club_row roster 4
 
-clubs-pass : (options : Options) (roster : List NamedClub) → IsRoster roster → Passes (start_of options) (club_rows roster) (at options 5 (Restoring roster []))
+clubs-pass : (options : LiveArgs) (roster : List NamedClub) → IsRoster roster → Passes (start_of options) (club_rows roster) (at options 5 (Restoring roster []))
 clubs-pass options [] is = absurd (let t = is.four in omega arith)
 clubs-pass options (a ∷ []) is = absurd (let t = is.four in omega arith)
 clubs-pass options (a ∷ b ∷ []) is = absurd (let t = is.four in omega arith)
@@ -102,7 +102,7 @@ opened-same : (clubs : List NamedClub) (words : List ℕ) (f : FourFields) → f
 opened-same clubs [] f first = rw first refl
 opened-same clubs (word ∷ words) f first = refl
 
-word-passes : (options : Options) (row index : ℕ) (clubs : List NamedClub) (words text : List ℕ) (word : ℕ) → length words + 1 ≡ index → SaysWord index text word
+word-passes : (options : LiveArgs) (row index : ℕ) (clubs : List NamedClub) (words text : List ℕ) (word : ℕ) → length words + 1 ≡ index → SaysWord index text word
     → Passes (at options row (Restoring clubs words)) text (at options (row + 1) (with_words clubs (words ++ word ∷ [])))
 word-passes options row index clubs words text word here says =
     let f = says.fields in
@@ -117,7 +117,7 @@ word-passes options row index clubs words text word here says =
 too-few : (clubs : List NamedClub) (words : List ℕ) → length words < 12 → with_words clubs words ≡ Restoring clubs words
 too-few clubs words h = rw (ne_eqb (length words) 12 (λ e. omega arith)) refl
 
-words-pass : (options : Options) (clubs : List NamedClub) (word : ℕ) (more done : List ℕ) (row index : ℕ) → length done + 1 ≡ index → index + length more ≡ 12 → All (λ w. w < 2 ^ 64) (word ∷ more)
+words-pass : (options : LiveArgs) (clubs : List NamedClub) (word : ℕ) (more done : List ℕ) (row index : ℕ) → length done + 1 ≡ index → index + length more ≡ 12 → All (λ w. w < 2 ^ 64) (word ∷ more)
     → Passes (at options row (Restoring clubs done)) (word_lines index (word ∷ more)) (at options (row + 1 + length more) (with_words clubs (done ++ word ∷ more)))
 unfolding word_lines
 words-pass options clubs word [] done row index here twelve bits =
@@ -144,7 +144,7 @@ words-pass options clubs word (other ∷ more) done row index here twelve bits =
 restored-words : (clubs : List NamedClub) (board : List ℕ) → AreWords board → with_words clubs board ≡ Open clubs board
 restored-words clubs board are = let twelve = are.twelve in let back = board-back board are in rw (twelve, back) refl
 
-board-passes : (options : Options) (clubs : List NamedClub) (board : List ℕ) → AreWords board → All (λ w. w < 2 ^ 64) board
+board-passes : (options : LiveArgs) (clubs : List NamedClub) (board : List ℕ) → AreWords board → All (λ w. w < 2 ^ 64) board
     → Passes (at options 5 (Restoring clubs [])) (word_lines 1 board) (at options 17 (Open clubs board))
 board-passes options clubs [] are bits = absurd (let t = are.twelve in omega arith)
 board-passes options clubs (word ∷ more) are bits =
@@ -172,7 +172,7 @@ goes-on e f text bytes p =
     ap (answers e) lines ∙ (answers-append e (ended_lines [] text) (lines_of bytes)
     ∙ (ap (λ (l : List ℕ). l ++ answers (after_lines e (ended_lines [] text)) (lines_of bytes)) p.silent ∙ ap (λ (g : Evening). answers g (lines_of bytes)) after))
 
-moment-passes : (options : Options) (m : Moment) → IsRoster m.roster → AreWords m.board → All (λ w. w < 2 ^ 64) m.board → Passes (start_of options) (resuming_rows m) (opened_at options m)
+moment-passes : (options : LiveArgs) (m : Moment) → IsRoster m.roster → AreWords m.board → All (λ w. w < 2 ^ 64) m.board → Passes (start_of options) (resuming_rows m) (opened_at options m)
 moment-passes options m clubs words bits =
     passes-both (start_of options) (at options 5 (Restoring m.roster [])) (opened_at options m) (club_rows m.roster) (word_lines 1 m.board)
     (clubs-pass options m.roster clubs) (board-passes options m.roster m.board words bits)

@@ -16,7 +16,8 @@ use Rattle.csv.specs.Reading.{default_config, records, strip_bom}
 use Rattle.csv.specs.Writing.{default_writer, escaped}
 use Rattle.csv.specs.declared.parser.State.TheVariants as st
 use Rattle.ucl_order.specs.Roster.{IsClub, NamedClub, club_in, is_club, is_name, is_printed}
-use Rattle.ucl_runs.specs.Lines.{hex_digits, word_line}
+use Rattle.ucl_screen.specs.Numbers.{hex_digits}
+use Rattle.ucl_runs.specs.Lines.{word_line}
 use Rattle.ucl_screen.specs.Numbers.{digits_after, is_digit, number}
 use Rattle.ucl_screen.specs.Rows.{FourFields}
 use Rattle.ucl_screen.specs.Script.{club_of, word_of_row}

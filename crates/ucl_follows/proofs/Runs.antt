@@ -7,7 +7,7 @@ use Rattle.ucl_runs.specs.declared.fault.RunFault.{RunFault}
 use Rattle.ucl_runs.specs.declared.fault.RunFault.TheVariants.{Input, OutOfMemory, WriteFailed, NotOnDuty, NoThread, TooManyReporters, Strangers}
 use Rattle.ucl_runs.proofs.Parts.{stopped_second}
 use Rattle.ucl_answers.specs.Stepping.{Device, HasEnded}
-use Rattle.ucl_follows.specs.declared.shape.Shape.{Shape}
+use Rattle.ucl_command.specs.declared.follow.FollowArgs.{FollowArgs}
 use Rattle.ucl_follows.specs.Follow.{follow_text, resuming_text}
 use Rattle.ucl_follows.specs.Hearing.{FailsToHear, FailsToShow, FollowFails, Listener, heard, heard_text, unheard}
 use Rattle.ucl_follows.proofs.Bytes.{later-fails}
@@ -21,7 +21,7 @@ count-on before after a b all e p q = omega arith
 from-none : (out n : ℕ) → out ≡ min n (2 ^ 64 - 1) → out ≡ min (0 + n) (2 ^ 64 - 1)
 from-none out n e = omega arith
 
-module _ (shape : Shape) (bytes : List ℕ) (origin old new : Device) (h : Listener) (out : ℕ)
+module _ (shape : FollowArgs) (bytes : List ℕ) (origin old new : Device) (h : Listener) (out : ℕ)
     (hears : h ≡ heard unheard bytes) (all : Appends origin.taken old.taken (heard_text shape unheard bytes)) (count : out ≡ min (length (heard_text shape unheard bytes)) (2 ^ 64 - 1)) where
   heard-fails : (more : List ℕ) (f : RunFault) → Consumes origin.left new.left (bytes ++ more)
       → FailsToHear shape unheard (bytes ++ more) 0 (record { failed = new.sink_failed; old = origin.taken; new = new.taken }) f → FollowFails shape origin new f
@@ -67,7 +67,7 @@ module _ (shape : Shape) (bytes : List ℕ) (origin old new : Device) (h : Liste
       → FollowFails shape origin new f
   run-ends f took ended s = last-fails f took ended (rw hears at s)
 
-pub run-text : (shape : Shape) (bytes : List ℕ) (h : Listener) (left left2 taken mid taken2 : Option (List ℕ)) → h ≡ heard unheard bytes → Consumes left left2 bytes → IsAtEnd left2
+pub run-text : (shape : FollowArgs) (bytes : List ℕ) (h : Listener) (left left2 taken mid taken2 : Option (List ℕ)) → h ≡ heard unheard bytes → Consumes left left2 bytes → IsAtEnd left2
     → Appends taken mid (heard_text shape unheard bytes) → Appends mid taken2 (resuming_text shape h.following.newest) → IfSome left (λ input. Appends taken taken2 (follow_text shape input))
 run-text shape bytes h None left2 taken mid taken2 hears took ended all last = tt
 run-text shape bytes h (Some xs) None taken mid taken2 hears took ended all last = absurd took

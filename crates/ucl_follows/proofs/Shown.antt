@@ -7,7 +7,7 @@ use Rattle.std.proofs.lemmas.List.Elements.{All-append, All-cons, All-head, All-
 use Rattle.ucl_screen.specs.Screen.{screen_text}
 use Rattle.ucl_follows.specs.declared.moment.Moment.{Moment}
 use Rattle.ucl_follows.specs.declared.following.Following.{Following}
-use Rattle.ucl_follows.specs.declared.shape.Shape.TheVariants.{Text}
+use Rattle.ucl_command.specs.declared.follow.FollowArgs.TheVariants.{Text}
 use Rattle.ucl_follows.specs.Told.{moment_on}
 use Rattle.ucl_follows.specs.Follow.{after_told, followed, is_newer, passed_over, shown_too, sights, told_text, unseen, version_at}
 use Rattle.ucl_follows.specs.Latest.{IsLineOfThese, IsNoNewer, IsShownLast, IsToldIn, LatestIsShownLast, OthersDoNotMatter, RiseAbove}

@@ -8,8 +8,8 @@ use Rattle.ucl_json.specs.Lines.{json_line}
 use Rattle.ucl_json.specs.Values.{screen_value}
 use Rattle.ucl_follows.specs.declared.moment.Moment.{Moment}
 use Rattle.ucl_follows.specs.declared.following.Following.{Following}
-use Rattle.ucl_follows.specs.declared.shape.Shape.{Shape}
-use Rattle.ucl_follows.specs.declared.shape.Shape.TheVariants.{Text, Json, Rows}
+use Rattle.ucl_command.specs.declared.follow.FollowArgs.{FollowArgs}
+use Rattle.ucl_command.specs.declared.follow.FollowArgs.TheVariants.{Text, Json, Rows}
 use Rattle.ucl_follows.specs.Heard.{whole_lines}
 use Rattle.ucl_follows.specs.Told.{moment_on}
 
@@ -34,7 +34,7 @@ resuming_rows moment =
 -- ---- what is shown
 
 -- the screen of a moment, worked out from its words, where the line of this number told it. A follower that resumes shows none
-abbrev pub sight_text : Shape → ℕ → Moment → List ℕ
+abbrev pub sight_text : FollowArgs → ℕ → Moment → List ℕ
 sight_text Text row moment = screen_text moment.profile moment.board moment.roster moment.group
 sight_text Json row moment = json_line (screen_value row moment.profile moment.board moment.roster moment.group)
 sight_text Rows row moment = []
@@ -63,7 +63,7 @@ abbrev pub after_told : Following → Option Moment → Following
 after_told f None = passed_over f
 after_told f (Some moment) = if is_newer f.newest moment then shown_too f moment else passed_over f
 
-abbrev pub told_text : Shape → Following → Option Moment → List ℕ
+abbrev pub told_text : FollowArgs → Following → Option Moment → List ℕ
 told_text shape f None = []
 told_text shape f (Some moment) = if is_newer f.newest moment then sight_text shape (one_more f.lines) moment else []
 
@@ -72,19 +72,19 @@ unfoldable pub followed : Following → List (List ℕ) → Following
 followed f [] = f
 followed f (line ∷ lines) = followed (after_told f (moment_on line)) lines
 
-unfoldable pub sights : Shape → Following → List (List ℕ) → List ℕ
+unfoldable pub sights : FollowArgs → Following → List (List ℕ) → List ℕ
 sights shape f [] = []
 sights shape f (line ∷ lines) = told_text shape f (moment_on line) ++ sights shape (after_told f (moment_on line)) lines
 
 -- a follower that resumes writes the rows of the newest moment, once its input has ended
-abbrev pub resuming_text : Shape → Option Moment → List ℕ
+abbrev pub resuming_text : FollowArgs → Option Moment → List ℕ
 resuming_text Rows (Some moment) = resuming_rows moment
 resuming_text Rows None = []
 resuming_text Text newest = []
 resuming_text Json newest = []
 
 -- the text of a follower that has this whole input
-abbrev pub follow_text : Shape → List ℕ → List ℕ
+abbrev pub follow_text : FollowArgs → List ℕ → List ℕ
 follow_text shape bytes = sights shape unseen (whole_lines [] bytes) ++ resuming_text shape (followed unseen (whole_lines [] bytes)).newest
 
 -- what it has followed by then

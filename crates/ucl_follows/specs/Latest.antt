@@ -3,7 +3,7 @@ use Rattle.std.specs.Prelude.{◌≡◌, ◌⊎◌, ◌<◌, ⊤, true, ℕ, if�
 use Rattle.ucl_screen.specs.Screen.{screen_text}
 use Rattle.ucl_follows.specs.declared.moment.Moment.{Moment}
 use Rattle.ucl_follows.specs.declared.following.Following.{Following}
-use Rattle.ucl_follows.specs.declared.shape.Shape.TheVariants.{Text}
+use Rattle.ucl_command.specs.declared.follow.FollowArgs.TheVariants.{Text}
 use Rattle.ucl_follows.specs.Told.{moment_on}
 use Rattle.ucl_follows.specs.Follow.{after_told, followed, is_newer, sights, unseen, version_at}
 

@@ -6,3 +6,4 @@ pub mod Latest
 pub mod Answered
 pub mod Repeats
 pub mod Resuming
+pub mod Program

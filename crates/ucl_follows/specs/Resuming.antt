@@ -2,7 +2,7 @@
 use Rattle.std.specs.Prelude.{◌≡◌, ℕ, List, [], ◌++◌}
 use Rattle.ucl_board.specs.declared.entry.Entry.{Entry}
 use Rattle.ucl_board.specs.History.{IsLegal, board_of}
-use Rattle.ucl_answers.specs.declared.options.Options.{Options}
+use Rattle.ucl_command.specs.declared.live.LiveArgs.{LiveArgs}
 use Rattle.ucl_answers.specs.Laws.{IsSequential}
 use Rattle.ucl_answers.specs.Lines.{lines_of}
 use Rattle.ucl_answers.specs.Stages.{Open}
@@ -12,12 +12,12 @@ use Rattle.ucl_follows.specs.Answered.{IsMoment}
 use Rattle.ucl_follows.specs.Follow.{resuming_rows}
 
 -- sixteen rows were read, of four clubs and twelve words, and the board of the moment is open
-abbrev pub opened_at : Options → Moment → Evening
+abbrev pub opened_at : LiveArgs → Moment → Evening
 opened_at options moment = record { options = options; row = 17; stage = Open moment.roster moment.board }
 
 -- an evening that has read the rows of a moment has answered nothing, and its board is open; what comes next is answered on that board, so
 -- each reply and each screen is that of the history which the board is of
-pub record OpensTheBoard (options : Options) (moment : Moment) : Type 0 where
+pub record OpensTheBoard (options : LiveArgs) (moment : Moment) : Type 0 where
   pub silent : answers (start_of options) (lines_of (resuming_rows moment)) ≡ []
   pub opens : after_lines (start_of options) (lines_of (resuming_rows moment)) ≡ opened_at options moment
   pub goes_on : (bytes : List ℕ) → live_text (start_of options) (resuming_rows moment ++ bytes) ≡ live_text (opened_at options moment) bytes
@@ -25,4 +25,4 @@ pub record OpensTheBoard (options : Options) (moment : Moment) : Type 0 where
       → IsSequential (opened_at options moment) lines moment.roster history
 
 abbrev pub ResumedRowsOpenTheBoard : Type 0
-ResumedRowsOpenTheBoard = (options : Options) (moment : Moment) → IsMoment moment → OpensTheBoard options moment
+ResumedRowsOpenTheBoard = (options : LiveArgs) (moment : Moment) → IsMoment moment → OpensTheBoard options moment

@@ -9,7 +9,7 @@ ghost use Rattle.ucl_follows.specs.Follow.{resuming_text};
 
 use crate::following::{Following, put};
 use crate::rows::resuming_rows;
-use crate::shape::Shape;
+use ucl_command::FollowArgs;
 use arrayvec::ArrayVec;
 use std::alloc::Global;
 use ucl_runs::RunFault;
@@ -64,7 +64,7 @@ impl Follower {
     fn hear_byte<W: Sink>(
         &mut self,
         alloc: Global,
-        shape: Shape,
+        shape: FollowArgs,
         b: u8,
         sink: &mut W,
     ) -> Result<(), RunFault>
@@ -93,7 +93,7 @@ impl Follower {
     pub(crate) fn hear<W: Sink>(
         &mut self,
         alloc: Global,
-        shape: Shape,
+        shape: FollowArgs,
         bytes: &[u8],
         sink: &mut W,
     ) -> Result<(), RunFault>
@@ -118,7 +118,7 @@ impl Follower {
     pub(crate) fn end<W: Sink>(
         &self,
         alloc: Global,
-        shape: Shape,
+        shape: FollowArgs,
         sink: &mut W,
     ) -> Result<(), RunFault>
         ensures all { OnOk result (Appends (W.taken sink.old) (W.taken sink.new)
@@ -130,7 +130,7 @@ impl Follower {
         ensures sink_fails { IfErr result (SinkFails (W.failed sink.old) (W.failed sink.new)) }
     {
         match (shape, &self.following.newest) {
-            (Shape::Rows, Some(moment)) => {
+            (FollowArgs::Rows, Some(moment)) => {
                 let rows = resuming_rows(alloc, moment)?;
                 put(sink, self.out, rows.as_slice())?;
                 Ok(())

@@ -9,7 +9,7 @@ ghost use Rattle.ucl_follows.specs.Hearing.{FailsToShow};
 ghost use Rattle.ucl_follows.specs.Told.{moment_on};
 
 use crate::moment::Moment;
-use crate::shape::Shape;
+use ucl_command::FollowArgs;
 use crate::told::moment_on;
 use std::alloc::Global;
 use ucl_json::screen_json;
@@ -45,7 +45,7 @@ pub(crate) fn put<W: Sink>(sink: &mut W, out: usize, text: &[u8]) -> Result<usiz
 #[tactic(auto, using(crate::proofs::Bytes::nothing_more))]
 fn show<W: Sink>(
     alloc: Global,
-    shape: Shape,
+    shape: FollowArgs,
     row: u64,
     moment: &Moment,
     out: usize,
@@ -62,7 +62,7 @@ fn show<W: Sink>(
     ensures sink_fails { IfErr result (SinkFails (W.failed sink.old) (W.failed sink.new)) }
 {
     match shape {
-        Shape::Text => {
+        FollowArgs::Text => {
             let text = screen(
                 alloc,
                 &moment.board,
@@ -72,7 +72,7 @@ fn show<W: Sink>(
             )?;
             put(sink, out, text.as_bytes())
         }
-        Shape::Json => {
+        FollowArgs::Json => {
             let text = screen_json(
                 alloc,
                 row,
@@ -83,7 +83,7 @@ fn show<W: Sink>(
             )?;
             put(sink, out, text.as_bytes())
         }
-        Shape::Rows => Ok(out),
+        FollowArgs::Rows => Ok(out),
     }
 }
 
@@ -114,7 +114,7 @@ impl Following {
     pub(crate) fn hear<W: Sink>(
         &mut self,
         alloc: Global,
-        shape: Shape,
+        shape: FollowArgs,
         line: &[u8],
         out: usize,
         sink: &mut W,

@@ -6,14 +6,14 @@ mod follower;
 mod following;
 mod laws;
 mod moment;
+mod program;
 mod rows;
 mod run;
-mod shape;
 mod told;
 
 pub use laws::{
     answers_tell_their_moment, latest_is_shown_last, others_do_not_matter,
     repeated_rows_change_nothing, resumed_rows_open_the_board, versions_rise,
 };
+pub use program::run_following;
 pub use run::{Followed, follow_run};
-pub use shape::Shape;

@@ -10,7 +10,7 @@ ghost use Rattle.ucl_follows.specs.Follow.{follow_end, follow_text};
 ghost use Rattle.ucl_follows.specs.Hearing.{FollowFails, IsFollowedSoFar, counts_of};
 
 use crate::follower::Follower;
-use crate::shape::Shape;
+use ucl_command::FollowArgs;
 use std::alloc::Global;
 use ucl_answers::Wire;
 use ucl_runs::RunFault;
@@ -44,7 +44,7 @@ pub struct Followed {
 /// `TooLong` comes after more than 2^62 bytes, which no input has.
 pub fn follow_run<S: Source, W: Sink>(
     alloc: Global,
-    shape: Shape,
+    shape: FollowArgs,
     wire: &mut Wire<S, W>,
 ) -> Result<Followed, RunFault>
     ensures text { OnOk result (IfSome (S.left wire.old.source)

@@ -16,7 +16,7 @@ use Rattle.ucl_order.specs.declared.profile.Profile.{Profile}
 use Rattle.ucl_order.specs.declared.table.Row.{Row}
 use Rattle.ucl_order.specs.Rows.{rows_of}
 use Rattle.ucl_order.specs.Roster.{NamedClub}
-use Rattle.ucl_runs.specs.Lines.{hex_digits}
+use Rattle.ucl_screen.specs.Numbers.{hex_digits}
 use Rattle.ucl_json.specs.Values.{accepted_value, place_items, place_value, refused_value, reply_value, screen_value, with_club, with_goals, with_matches, word_items, words_value}
 
 abbrev add : Items → Data → Items

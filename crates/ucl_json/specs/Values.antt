@@ -15,7 +15,7 @@ use Rattle.ucl_order.specs.declared.table.Row.{Row}
 use Rattle.ucl_order.specs.Roster.{NamedClub, coefficient_of, name_of}
 use Rattle.ucl_order.specs.Rows.{rows_of}
 use Rattle.ucl_screen.specs.Screen.{in_play}
-use Rattle.ucl_runs.specs.Lines.{hex_digits}
+use Rattle.ucl_screen.specs.Numbers.{hex_digits}
 
 abbrev pub number_value : ℕ → Data
 number_value n = number (unsigned n)

@@ -3,7 +3,7 @@
 ghost use Rattle.std.specs.Prelude.{◌≡◌, ◌≤◌, IfOk, OnOk, length, string_bytes};
 ghost use Rattle.serde_json.specs.Data.{string};
 ghost use Rattle.serde_json.specs.View.{items_view, view};
-ghost use Rattle.ucl_runs.specs.Lines.{hex_digits};
+ghost use Rattle.ucl_screen.specs.Numbers.{hex_digits};
 ghost use Rattle.ucl_json.specs.Lines.{IsLineOf};
 ghost use Rattle.ucl_json.specs.Values.{word_items, words_value};
 

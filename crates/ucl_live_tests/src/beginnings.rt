@@ -3,7 +3,7 @@
 use crate::held::{has_refused, has_written, held};
 use crate::{CLUBS, joined};
 use std::test::Fail;
-use ucl_answers::Format;
+use ucl_command::Format;
 use ucl_screen::InputFault;
 
 /// Beginnings that are refused, and why.

@@ -1,12 +1,12 @@
-//! What words mean, and what the program does for them over memory in place of the standard streams.
+//! What arguments mean, and what the program does for them over memory in place of the standard streams.
 
 use crate::json::{KICKED_OFF, accepted};
 use crate::{CLUBS, joined};
 use std::alloc::Global;
 use std::test::Fail;
-use ucl_answers::{Format, Wire};
+use ucl_answers::{Wire, run_evening};
+use ucl_command::{Format, LineFault, live_args};
 use ucl_devices::{Cut, Full, Out};
-use ucl_live_command::{LineFault, options_of, run_evening};
 use ucl_order::Profile;
 use ucl_screen::{FromRead, ToWrite};
 
@@ -29,7 +29,7 @@ enum Answer {
 
 fn answer_to(alloc: Global, line: &str) -> Result<Answer, Fail> {
     let words = words_of(alloc, line)?;
-    Ok(match options_of(alloc, &words) {
+    Ok(match live_args(alloc, &words) {
         Ok(asked) => Answer::Asks(asked.group, asked.profile, asked.screens, asked.format),
         Err(LineFault::Help(_)) => Answer::Helps,
         Err(LineFault::Refused(_)) => Answer::Refuses,
@@ -127,7 +127,7 @@ fn ran(alloc: Global, line: &str, input: &str, fails: usize, room: usize) -> Res
             room: usize::MAX,
             full: Full::Fails,
         });
-        let asked = options_of(alloc, &words);
+        let asked = live_args(alloc, &words);
         run_evening(alloc, asked, &mut wire, &mut told)
     };
     Ok((status, out, errors))

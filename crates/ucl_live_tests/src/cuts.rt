@@ -7,7 +7,7 @@ use crate::{CLUBS, joined};
 use std::alloc::Global;
 use std::process::Abort;
 use std::test::Fail;
-use ucl_answers::Format;
+use ucl_command::Format;
 use ucl_devices::{Cut, Full};
 
 /// How many bytes answer the rows that have an end within so many bytes, of rows and their answers.

@@ -2,7 +2,8 @@
 
 use std::alloc::Global;
 use std::io;
-use ucl_answers::{Format, Options, Wire, live_run};
+use ucl_answers::{Wire, live_run};
+use ucl_command::{Format, LiveArgs};
 use ucl_devices::{Cut, Full, Out};
 use ucl_order::Profile;
 use ucl_runs::RunFault;
@@ -12,8 +13,8 @@ use ucl_screen::{FromRead, InputFault, ToWrite};
 pub type Held = (Result<(), RunFault>, Vec<u8>);
 
 /// The options of group A in the UEFA order.
-fn options_of(format: Format, screens: bool) -> Options {
-    Options {
+fn options_of(format: Format, screens: bool) -> LiveArgs {
+    LiveArgs {
         group: b'A',
         profile: Profile::Uefa,
         screens,

@@ -5,7 +5,7 @@ use crate::{CLUBS, joined};
 use std::alloc::Global;
 use std::process::Abort;
 use std::test::Fail;
-use ucl_answers::Format;
+use ucl_command::Format;
 use ucl_devices::Full;
 
 const ROWS: &str =

@@ -5,7 +5,7 @@ use crate::{CLUBS, joined};
 use std::alloc::Global;
 use std::process::Abort;
 use std::test::Fail;
-use ucl_answers::Format;
+use ucl_command::Format;
 use ucl_devices::{Cut, Full, STORED, STORED_REPLIES, STORED_SCREEN, STORED_WORDS};
 
 /// The stored run, and then the screen and the words that it leaves, however the input comes.

@@ -5,15 +5,14 @@
 #![tactic(auto)]
 
 use std::process::ExitCode;
-pub use ucl_command::{
-    Line, LineFault, line_of, obey, run, words_that_are_refused, words_that_are_taken,
-};
-use ucl_program::words_of;
+use ucl_command::words_of;
+pub use ucl_command::{Line, LineFault, line_of};
 pub use ucl_runs::{
-    Gate, NightEnd, OpenGate, RunFault, feed_run, night_run, put_night, schedule_does_not_matter,
-    show_run, status_of,
+    Gate, NightEnd, OpenGate, RunFault, feed_run, night_run, obey, put_night, run,
+    schedule_does_not_matter, show_run, status_of,
 };
 use ucl_screen::{FromRead, ToWrite};
+use ucl_words::WordBoard;
 
 /// Runs the program over the standard streams. Standard output has no buffer, so that nothing is left to flush.
 fn main(rt: HostRuntime) -> ExitCode {
@@ -25,5 +24,9 @@ fn main(rt: HostRuntime) -> ExitCode {
         Ok(words) => line_of(alloc, &words),
         Err(fault) => Err(fault),
     };
-    ExitCode::from(run(&rt, alloc, asked, &mut source, &mut sink, &mut errors))
+    let opened = WordBoard::open(&rt, alloc);
+    let status = run(
+        &rt, alloc, asked, opened, &mut source, &mut sink, &mut errors,
+    );
+    ExitCode::from(status)
 }

@@ -1,4 +1,6 @@
-//! What words mean, and what the program does for them over memory in place of the standard streams.
+//! What arguments mean, and what `ucl_night` does for them over memory in place of the standard streams.
+
+ghost use Rattle.std.specs.Prelude.{IfOk};
 
 use crate::joined;
 use std::alloc::Global;
@@ -6,12 +8,13 @@ use std::process::Abort;
 use std::sync::Wait;
 use std::test::Fail;
 use std::thread::Threads;
-use ucl_command::{Line, LineFault, feed, line_of, night_on, run, show};
+use ucl_command::{Line, LineFault, line_of};
 use ucl_devices::{CLUBS, Full, Out};
 use ucl_order::Profile;
 use ucl_pass::{CellBoard, LiveBoard};
-use ucl_runs::{OpenGate, RunFault};
-use ucl_screen::{FromRead, ToWrite, read_night};
+use ucl_runs::{RunFault, obey, run};
+use ucl_screen::{FromRead, ToWrite};
+use ucl_word::OutOfMemory;
 use ucl_words::WordBoard;
 
 /// A match that kicks off, entered twice.
@@ -268,7 +271,10 @@ fn ran<R: Threads + Wait + Sync>(
             full: Full::TakesNone,
         });
         let asked = line_of(alloc, &words);
-        run(rt, alloc, asked, &mut source, &mut sink, &mut told)
+        let opened = WordBoard::open(rt, alloc);
+        run(
+            rt, alloc, asked, opened, &mut source, &mut sink, &mut told,
+        )
     };
     Ok((status, out, errors))
 }
@@ -379,79 +385,43 @@ fn faults_are_told(rt: HostRuntime) -> Result<(), Fail> {
     Ok(())
 }
 
-/// The settled version of a night of the script on a board, whether its output went out, and how many bytes did.
-fn played_on<B: LiveBoard, R: Threads + Wait + Sync>(
+/// What a night of the script comes to on the board that was opened for it, with so much room for its output, and how much of that was taken.
+fn played_on<B: LiveBoard + Drop, R: Threads + Wait + Sync>(
     rt: &R,
     alloc: Global,
-    board: &B,
-    pass: B::ReaderPass,
+    opened: Result<(B, B::ReaderPass), OutOfMemory>,
     room: usize,
-) -> Result<(u16, Result<(), RunFault>, usize), Fail>
-    requires { B.is_reader board.now pass }
+) -> (Result<(), RunFault>, usize)
+    requires { IfOk opened (λ it. B.is_reader it.0 it.1) }
 {
-    let night = read_night(alloc, &mut FromRead::new(SCRIPT.as_bytes()))?;
     let mut out = Vec::new(alloc);
-    let played = {
+    let done = {
+        let mut source = FromRead::new(SCRIPT.as_bytes());
         let mut sink = ToWrite::new(Out {
             taken: &mut out,
             piece: 64,
             room,
             full: Full::TakesNone,
         });
-        night_on(
-            rt,
-            alloc,
-            board,
-            pass,
-            &night,
-            &mut sink,
-            b'A',
-            0,
-            &OpenGate,
-            Profile::Uefa,
-        )
+        let line = Line::Night {
+            group: b'A',
+            readings: 0,
+            profile: Profile::Uefa,
+        };
+        obey(rt, alloc, line, opened, &mut source, &mut sink)
     };
-    let played = played.ok().ok_or("no night")?;
-    Ok((played.end.settled.version, played.written, out.len()))
+    (done, out.len())
 }
 
 #[test]
 fn nights_on_boards_that_are_handed_in(rt: HostRuntime) -> Result<(), Fail> {
     let alloc = rt.alloc();
     let whole = SCREEN.len() + 6;
-    let (board, pass) = CellBoard::open(&rt, alloc)?;
-    let played = played_on(&rt, alloc, &board, pass, usize::MAX)?;
-    assert_eq!(rt; played, (1, Ok(()), whole));
-    let (board, pass) = WordBoard::open(&rt, alloc)?;
-    let played = played_on(&rt, alloc, &board, pass, usize::MAX)?;
-    assert_eq!(rt; played, (1, Ok(()), whole));
-    let (board, pass) = WordBoard::open(&rt, alloc)?;
-    let played = played_on(&rt, alloc, &board, pass, 9)?;
-    let cut = Err(RunFault::WriteFailed { written: 9 });
-    assert_eq!(rt; played, (1, cut, 9));
-    Ok(())
-}
-
-#[test]
-fn lines_that_never_wait(rt: HostRuntime) -> Result<(), Fail> {
-    let alloc = rt.alloc();
-    let mut out = Vec::new(alloc);
-    let fed = feed(
-        alloc,
-        &mut FromRead::new(SCRIPT.as_bytes()),
-        &mut ToWrite::new(&mut out),
-    );
-    let replies = joined(alloc, REPLIES, WORDS)?;
-    assert!(rt; fed.is_ok() && out.as_slice() == replies.as_bytes());
-    let mut out = Vec::new(alloc);
-    let sheet = joined(alloc, CLUBS, WORDS)?;
-    let shown = show(
-        alloc,
-        &mut FromRead::new(sheet.as_bytes()),
-        &mut ToWrite::new(&mut out),
-        b'A',
-        Profile::Uefa,
-    );
-    assert!(rt; shown.is_ok() && out.as_slice() == SCREEN.as_bytes());
+    let in_cell = played_on(&rt, alloc, CellBoard::open(&rt, alloc), usize::MAX);
+    assert_eq!(rt; in_cell, (Ok(()), whole));
+    let in_words = played_on(&rt, alloc, WordBoard::open(&rt, alloc), usize::MAX);
+    assert_eq!(rt; in_words, (Ok(()), whole));
+    let cut = played_on(&rt, alloc, WordBoard::open(&rt, alloc), 9);
+    assert_eq!(rt; cut, (Err(RunFault::WriteFailed { written: 9 }), 9));
     Ok(())
 }

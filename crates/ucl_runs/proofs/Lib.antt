@@ -11,3 +11,5 @@ pub mod EnteredRows
 pub mod MergedRows
 pub mod Merges
 pub mod Unsigned
+mod NightOutput
+mod Unasked

@@ -9,3 +9,5 @@ pub mod Show
 pub mod Run
 pub mod Telling
 pub mod TellingScreens
+pub mod Ending
+pub mod Program

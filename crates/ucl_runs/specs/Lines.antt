@@ -1,6 +1,6 @@
 -- The lines that `feed` writes.
-use Rattle.std.specs.Prelude.{ℕ, ◌-◌, ◌^◌, false, List, [], ◌++◌, codes, decimal}
-use Rattle.std.specs.Fmt.{digits, padded_integral, format_spec}
+use Rattle.std.specs.Prelude.{ℕ, List, ◌++◌, codes, decimal}
+use Rattle.ucl_screen.specs.Numbers.{hex_digits}
 use Rattle.ucl_word.specs.declared.refusal.Refusal.{Refusal}
 use Rattle.ucl_word.specs.Texts.{refusal_text}
 
@@ -11,10 +11,6 @@ accepted_line row game number version = decimal row ++ codes " ok " ++ decimal g
 -- ROW refused CODE NAME
 abbrev pub refused_line : ℕ → Refusal → List ℕ
 refused_line row refusal = decimal row ++ codes " refused " ++ refusal_text refusal ++ codes "\n"
-
--- a number in sixteen hexadecimal digits of lower case, with leading zeros: what `{:016x}` writes
-abbrev pub hex_digits : ℕ → List ℕ
-hex_digits word = padded_integral (format_spec 32 0 4 16 (2 ^ 64 - 1)) false [] (digits 16 false word)
 
 -- word,INDEX,HEX,
 abbrev pub word_line : ℕ → ℕ → List ℕ

@@ -1,5 +1,6 @@
 -- Numbers in decimal and in hexadecimal digits.
-use Rattle.std.specs.Prelude.{ℕ, ◌+◌, ◌-◌, ◌*◌, ◌==◌, ◌&&◌, nat_le, Bool, false, if◌then◌else◌, List, [], ◌∷◌, length, Option, Some, None, option_and_then}
+use Rattle.std.specs.Fmt.{digits, padded_integral, format_spec}
+use Rattle.std.specs.Prelude.{ℕ, ◌+◌, ◌-◌, ◌*◌, ◌^◌, ◌==◌, ◌&&◌, nat_le, Bool, false, if◌then◌else◌, List, [], ◌∷◌, length, Option, Some, None, option_and_then}
 
 -- '0' to '9'
 abbrev pub is_digit : ℕ → Bool
@@ -40,3 +41,7 @@ hex_after n (b ∷ bs) = option_and_then (λ d. hex_after (16 * n + d) bs) (hex_
 -- the number that a text of 16 hexadecimal digits is
 abbrev pub hex_word : List ℕ → Option ℕ
 hex_word text = if length text == 16 then hex_after 0 text else None
+
+-- a number in sixteen hexadecimal digits of lower case, with leading zeros: what `{:016x}` writes
+abbrev pub hex_digits : ℕ → List ℕ
+hex_digits word = padded_integral (format_spec 32 0 4 16 (2 ^ 64 - 1)) false [] (digits 16 false word)

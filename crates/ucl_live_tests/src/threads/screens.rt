@@ -7,7 +7,7 @@ use std::alloc::Global;
 use std::snapshot::Snapshot;
 use std::sync::Wait;
 use std::test::Fail;
-use ucl_answers::{Format, Options};
+use ucl_command::{Format, LiveArgs};
 use ucl_devices::{Full, Out};
 use ucl_evenings::{Bell, show_boards};
 use ucl_order::{Club, Profile, Roster};
@@ -89,7 +89,7 @@ fn shown<R: Wait>(rt: &R, alloc: Global, roster: &Roster, room: usize) -> Result
     let (board, mut reader) = WordBoard::open(rt, alloc)?;
     let pass = board.split_now(&mut reader);
     let reporter = board.enlist_now(pass).ok().ok_or("no number")?;
-    let options = Options {
+    let options = LiveArgs {
         group: b'A',
         profile: Profile::Uefa,
         screens: true,

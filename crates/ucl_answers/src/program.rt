@@ -1,0 +1,31 @@
+//! The evening that `ucl_live` holds for its arguments.
+
+ghost use Rattle.ucl_answers.specs.Program.{RunsEvening};
+
+use crate::live::live_run;
+use crate::wire::Wire;
+use std::alloc::Global;
+use ucl_command::{LineFault, LiveArgs};
+use ucl_runs::{ended, ended_unasked};
+use ucl_screen::{Sink, Source};
+
+/// Holds the evening that the arguments asked for, as `live_args` answered it, and gives the exit status: 0 where the input has ended and each row
+/// is answered, 2 where the arguments are refused, by the text of `clap`, and else that of the fault, which is told by its line: 3 where the clubs
+/// or the words of the board are refused, 4 where a device has failed, and 5 where there was no memory. Help goes to the output.
+pub fn run_evening<S: Source, W: Sink, E: Sink>(
+    alloc: Global,
+    asked: Result<LiveArgs, LineFault>,
+    wire: &mut Wire<S, W>,
+    errors: &mut E,
+) -> u8
+    ensures { RunsEvening S.Source W.Sink asked wire.old wire.new result
+        (E.failed errors.new) (E.taken errors.old) (E.taken errors.new) }
+{
+    match asked {
+        Ok(options) => {
+            let done = live_run(alloc, options, wire);
+            ended(errors, done)
+        }
+        Err(fault) => ended_unasked(&mut wire.sink, errors, fault),
+    }
+}

@@ -1,0 +1,88 @@
+//! The words of the command line, read by `clap`, and why they name nothing to do.
+
+ghost use Rattle.ucl_command.specs.declared.fault.LineFault.TheVariants.{OutOfMemory};
+ghost use Rattle.ucl_command.specs.Arguments.{ReadsJust};
+
+use crate::help::{NOT_UTF_8, UNREAD};
+use clap::error::ErrorKind;
+use clap::{ArgMatches, Command, Error};
+use std::alloc::{AllocError, AllocGlobal, Global};
+use std::env::Env;
+use std::{env, io};
+
+/// Why arguments name nothing to do.
+#[derive(Debug, Drop)]
+pub enum LineFault {
+    /// Help or the version was asked for, and is this text.
+    Help(String),
+    /// The arguments are refused, as this text says.
+    Refused(String),
+    /// 23: memory was asked for, and there was none.
+    OutOfMemory,
+}
+
+impl From<AllocError> for LineFault {
+    ghost use Rattle.std.specs.Prelude.{◌≡◌};
+
+    ghost from_gives = { λ _ fault. fault ≡ OutOfMemory };
+
+    fn from(_error: AllocError) -> LineFault {
+        LineFault::OutOfMemory
+    }
+}
+
+/// A refusal with this text, where there is memory for it.
+pub(crate) fn refusal(alloc: Global, text: &str) -> LineFault {
+    match String::from_str(alloc, text) {
+        Ok(text) => LineFault::Refused(text),
+        Err(_) => LineFault::OutOfMemory,
+    }
+}
+
+/// The words of the command line. The first word is the program's name.
+///
+/// # Errors
+///
+/// `Refused` where a word is not UTF-8, with a text that says so, and `OutOfMemory`.
+pub fn words_of<R: Env + AllocGlobal>(rt: &R, alloc: Global) -> Result<Vec<String>, LineFault> {
+    match env::args(rt) {
+        Ok(words) => Ok(words.collect::<Vec<String>>(alloc)?),
+        Err(error) if error.kind() == io::ErrorKind::OutOfMemory => Err(LineFault::OutOfMemory),
+        Err(_) => Err(refusal(alloc, NOT_UTF_8)),
+    }
+}
+
+/// What to tell of words that `clap` does not take: its text, or one of our own where that is empty.
+fn fault_of(alloc: Global, error: &Error) -> LineFault {
+    if error.kind() == ErrorKind::OutOfMemory {
+        return LineFault::OutOfMemory;
+    }
+    match error.to_string(alloc) {
+        Err(_) => LineFault::OutOfMemory,
+        Ok(text) if text.is_empty() => refusal(alloc, UNREAD),
+        Ok(text) if error.use_stderr() => LineFault::Refused(text),
+        Ok(text) => LineFault::Help(text),
+    }
+}
+
+/// What `clap` reads from the words by a command.
+pub(crate) fn matches_from<'a>(
+    alloc: Global,
+    command: Command<'a>,
+    words: &'a [String],
+) -> Result<ArgMatches<'a>, LineFault> {
+    match command.try_get_matches_from(words) {
+        Ok(matches) => Ok(matches),
+        Err(error) => Err(fault_of(alloc, &error)),
+    }
+}
+
+/// What was read, or a refusal where `clap` has left something out.
+pub(crate) fn read<T>(alloc: Global, found: Option<T>) -> Result<T, LineFault>
+    ensures { ReadsJust found result }
+{
+    match found {
+        Some(read) => Ok(read),
+        None => Err(refusal(alloc, UNREAD)),
+    }
+}

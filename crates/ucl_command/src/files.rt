@@ -1,0 +1,40 @@
+//! What `ucl_evening` is to do, and the files and pipes of its evening.
+
+ghost use Rattle.ucl_screen.specs.Screen.{IsGroup};
+
+use crate::options::Format;
+use ucl_order::Profile;
+
+/// Where a reporter's rows come from, and where their answers go.
+#[derive(Debug, Drop)]
+pub struct ReporterFiles {
+    /// The name of the file or pipe that its rows come from.
+    pub rows: String,
+    /// The name of the file or pipe that their answers go to.
+    pub replies: String,
+}
+
+/// Where a screen goes, and in which form.
+#[derive(Debug, Drop)]
+pub struct ScreenFile {
+    /// The name of its file or pipe.
+    pub place: String,
+    /// Its form.
+    pub format: Format,
+}
+
+/// What `ucl_evening` is to do.
+#[derive(Debug, Drop)]
+pub struct EveningArgs {
+    /// The name of the script: the clubs, and the events that were entered before.
+    pub clubs: String,
+    /// The reporters, in the order of the words.
+    pub reporters: Vec<ReporterFiles>,
+    /// The screens: those of text, and then those of JSON, each in the order of the words.
+    pub screens: Vec<ScreenFile>,
+    /// The letter of the group, `A` to `H`.
+    pub group: u8,
+    /// The order of the clubs.
+    pub profile: Profile,
+    pub ghost letter: { IsGroup group },
+}

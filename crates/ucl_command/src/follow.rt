@@ -1,0 +1,51 @@
+//! The arguments of `ucl_follow`.
+
+use crate::fault::{LineFault, matches_from, read};
+use crate::help::follow as help;
+use crate::options::{Format, flag_option, format_of, format_option, program};
+use clap::{ArgMatches, Command};
+use std::alloc::{AllocError, Global};
+
+/// What a follower writes.
+#[derive(Clone, Copy, Debug, PartialEq, Eq)]
+pub enum FollowArgs {
+    /// Each screen as its six lines of text.
+    Text,
+    /// Each screen as one JSON object on one line.
+    Json,
+    /// No screen, but at the end the rows by which an evening goes on from the newest moment.
+    Rows,
+}
+
+/// The program's command.
+fn command<'a>(alloc: Global) -> Result<Command<'a>, AllocError> {
+    program(alloc, "ucl_follow", help::PROGRAM, help::PROGRAM_MORE)
+        .arg(format_option(alloc))?
+        .arg(flag_option(alloc, "resume", help::RESUME))
+}
+
+/// The arguments that were named.
+fn args_in(matches: &ArgMatches<'_>) -> Option<FollowArgs> {
+    let format = format_of(matches)?;
+    if matches.get_flag("resume") {
+        return Some(FollowArgs::Rows);
+    }
+    match format {
+        Format::Text => Some(FollowArgs::Text),
+        Format::Json => Some(FollowArgs::Json),
+    }
+}
+
+/// What the words ask of `ucl_follow`. The first word is the program's name.
+///
+/// The options are `--format` with `text` or `json`, which is `text` where it is left out, and `--resume`, which asks for rows in place of
+/// screens.
+///
+/// # Errors
+///
+/// `Help` where help is asked for, by `--help` or `-h`, or the version, by `--version` or `-V`; `Refused` where the words have anything else;
+/// and `OutOfMemory`.
+pub fn follow_args(alloc: Global, words: &[String]) -> Result<FollowArgs, LineFault> {
+    let matches = matches_from(alloc, command(alloc)?, words)?;
+    read(alloc, args_in(&matches))
+}

@@ -1,0 +1,39 @@
+//! What `ucl_follow` tells of itself.
+
+/// What the program is.
+pub(crate) const PROGRAM: &str = "\
+Follows the lines of an evening in JSON, from any distance.
+Shows on standard output each moment that is newer than all it has shown.";
+
+/// What goes in and out, how the program ends, and examples.
+pub(crate) const PROGRAM_MORE: &str = "\
+Input: the answers of `ucl_live --format json`, in any order, doubled, cut, and
+with other lines between. A line tells a moment where it is JSON, of at most
+4,096 bytes and an end, with the members group, order, clubs and words of a
+board: each answer to an accepted event does, and each screen. All lines are
+those of one board.
+
+Output: the screen of each moment that is newer than all before, worked out
+from its words, by its order; each other line is passed over. No text of a line
+is handed on. With --resume no screen, but at the end of the input the rows from
+which ucl_live goes on at the newest moment: four clubs and twelve words.
+
+At the end of the input standard error tells how many lines came, were shown
+and were passed over.
+
+Exit status:
+  0  the input has ended, or help or the version was asked for
+  2  the words of the command line are refused
+  4  reading or writing failed
+  5  there is no memory
+
+Examples:
+  ucl_live --format json < rows >> evening.jsonl
+  tail -n +1 -F evening.jsonl | ucl_follow
+  (ucl_follow --resume < evening.jsonl; cat rows) | ucl_live --format json
+
+docs/RULES.md has the rules of what is followed.";
+
+/// What `--resume` does.
+pub(crate) const RESUME: &str = "\
+Writes the rows of the newest moment, and no screen";

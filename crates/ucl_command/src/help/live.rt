@@ -1,0 +1,52 @@
+//! What `ucl_live` tells of itself.
+
+/// What the program is.
+pub(crate) const PROGRAM: &str = "\
+The board of one group of the UEFA Champions League through an evening.
+Answers each row of standard input as it comes, on standard output.";
+
+/// What goes in and out, how the program ends, and examples.
+pub(crate) const PROGRAM_MORE: &str = "\
+Input: rows of four fields separated by commas, one a line, of at most 256
+bytes; a line with nothing on it is passed over and counted
+  club,SLOT,NAME,COEFFICIENT     the first four: the clubs of slots 1 to 4, each
+                                 with its coefficient in thousandths
+  word,MATCH,WORD,               then, where a board was written down, the word
+                                 of each match, 1 to 12; the board goes on there
+  REPORTER,MATCH,EXPECTED,EVENT  then, in any order and without an end: who
+                                 enters the event, 1 to 255; the match, 1 to 12;
+                                 the event number last seen of it; the event
+  screen,,,                      the table as it stands
+  words,,,                       the twelve words as they stand; the club rows
+                                 and these begin the next evening
+
+Events:
+  kickoff, goal-home, goal-away, disallow-home, disallow-away, yellow-home,
+  yellow-away, second-yellow-home, second-yellow-away, red-home, red-away,
+  fulltime, reopen
+
+Output: once the clubs are named, each row is answered before the next is read
+  LINE ok MATCH NUMBER VERSION   the event of this line is accepted
+  LINE refused CODE NAME         it is refused, for the reason of this name
+  LINE refused 20 bad-row        the line asks for nothing that there is
+  the screen, or the word lines  where they are asked for
+
+With --format json each answer is one object on one line, whose member reply is
+ok, refused, words or screen.
+
+Exit status, with a text on standard error where it is not 0:
+  0  the input has ended, or help or the version was asked for
+  2  the words of the command line are refused
+  3  the clubs or the words have a fault; nothing was written
+  4  reading or writing failed
+  5  there is no memory
+
+Examples:
+  ucl_live < examples/one_goal.csv
+  mkfifo rows; ucl_live --screens < rows    in one terminal, and in another
+  cat > rows                                to type rows, up to Ctrl-D
+
+docs/RULES.md has the rules of the board, of its input and of its answers.";
+
+/// What `--screens` does.
+pub(crate) const SCREENS: &str = "Writes the screen after each accepted event";

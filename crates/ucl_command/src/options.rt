@@ -1,0 +1,140 @@
+//! The options that programs share, each once, and what their values name.
+
+ghost use Rattle.std.specs.Prelude.{◌≤◌, IfSome};
+ghost use Rattle.ucl_screen.specs.Screen.{IsGroup};
+
+use crate::help;
+use clap::{Arg, ArgAction, ArgMatches, Command, value_parser};
+use std::alloc::Global;
+use ucl_order::Profile;
+use ucl_screen::is_group;
+
+/// In which form answers or screens are written.
+#[derive(Clone, Copy, Debug, PartialEq, Eq)]
+pub enum Format {
+    /// As text: reply lines, word lines and screens.
+    Text,
+    /// As JSON: each answer is one object on one line.
+    Json,
+}
+
+static GROUPS: [&str; 8] = ["A", "B", "C", "D", "E", "F", "G", "H"];
+
+static ORDERS: [&str; 2] = [UEFA, AWAY_IN_TIE];
+
+static FORMATS: [&str; 2] = [TEXT, JSON];
+
+const UEFA: &str = "uefa";
+
+const AWAY_IN_TIE: &str = "away-in-tie";
+
+const TEXT: &str = "text";
+
+const JSON: &str = "json";
+
+/// The most readings that `--readings` asks of each reader.
+const MOST_READINGS: u32 = 1000;
+
+/// A program's command, which tells the version, before it has options: its name, what it does, and what its help says after the options.
+pub(crate) fn program<'a>(
+    alloc: Global,
+    name: &'a str,
+    about: &'a str,
+    more: &'a str,
+) -> Command<'a> {
+    Command::new(alloc, name)
+        .version(help::VERSION)
+        .about(about)
+        .after_help(more)
+}
+
+/// An option of one value.
+fn option<'a>(alloc: Global, name: &'a str, value: &'a str, says: &'a str) -> Arg<'a> {
+    Arg::new(alloc, name)
+        .long(name)
+        .action(ArgAction::Set)
+        .value_name(value)
+        .help(says)
+}
+
+/// `--group` with a letter from `A` to `H`, which is `A` where it is left out.
+pub(crate) fn group_option<'a>(alloc: Global) -> Arg<'a> {
+    option(alloc, "group", "GROUP", help::GROUP)
+        .value_parser(GROUPS.as_slice())
+        .default_value("A")
+}
+
+/// `--order` with `uefa` or `away-in-tie`, which is `uefa` where it is left out.
+pub(crate) fn order_option<'a>(alloc: Global) -> Arg<'a> {
+    option(alloc, "order", "ORDER", help::ORDER)
+        .value_parser(ORDERS.as_slice())
+        .default_value(UEFA)
+}
+
+/// `--format` with `text` or `json`, which is `text` where it is left out.
+pub(crate) fn format_option<'a>(alloc: Global) -> Arg<'a> {
+    option(alloc, "format", "FORMAT", help::FORMAT)
+        .value_parser(FORMATS.as_slice())
+        .default_value(TEXT)
+}
+
+/// `--readings` with a number from 0 to 1,000, which is 0 where it is left out.
+pub(crate) fn readings_option<'a>(alloc: Global) -> Arg<'a> {
+    option(alloc, "readings", "NUMBER", help::READINGS)
+        .value_parser(value_parser!(u32).range(0..=i64::from(MOST_READINGS)))
+        .default_value("0")
+}
+
+/// An option without a value, which is there or not.
+pub(crate) fn flag_option<'a>(alloc: Global, name: &'a str, says: &'a str) -> Arg<'a> {
+    Arg::new(alloc, name)
+        .long(name)
+        .action(ArgAction::SetTrue)
+        .help(says)
+}
+
+/// An option of one value, which may be there several times.
+pub(crate) fn several_option<'a>(
+    alloc: Global,
+    name: &'a str,
+    value: &'a str,
+    says: &'a str,
+) -> Arg<'a> {
+    option(alloc, name, value, says).action(ArgAction::Append)
+}
+
+/// The group that was named.
+pub(crate) fn group_of(matches: &ArgMatches<'_>) -> Option<u8>
+    ensures { IfSome result IsGroup }
+{
+    match matches.get_str("group")?.as_bytes() {
+        [letter] if is_group(*letter) => Some(*letter),
+        _ => None,
+    }
+}
+
+/// The order that was named.
+pub(crate) fn order_of(matches: &ArgMatches<'_>) -> Option<Profile> {
+    match matches.get_str("order")? {
+        UEFA => Some(Profile::Uefa),
+        AWAY_IN_TIE => Some(Profile::AwayInTie),
+        _ => None,
+    }
+}
+
+/// The form that was named.
+pub(crate) fn format_of(matches: &ArgMatches<'_>) -> Option<Format> {
+    match matches.get_str("format")? {
+        TEXT => Some(Format::Text),
+        JSON => Some(Format::Json),
+        _ => None,
+    }
+}
+
+/// How many readings were asked for.
+pub(crate) fn readings_of(matches: &ArgMatches<'_>) -> Option<u32>
+    ensures { IfSome result (λ n. n ≤ 1000) }
+{
+    let readings = matches.get_one::<u32>("readings")?;
+    (readings <= MOST_READINGS).then_some(readings)
+}

@@ -1,5 +1,0 @@
-pub mod CommandLine
-pub mod Earlier
-pub mod Ending
-pub mod Wanting
-pub mod Written

@@ -1,0 +1,14 @@
+use Rattle.std.proofs.Common.{◌≡◌, ◌-◌, [], map, vec_len}
+use Rattle.std.specs.Prelude.{All}
+use Rattle.ucl_evenings_threads.proofs.earlier.enlist_up_to.Given as goal
+
+abbrev pub invariant-enlisted : goal.invariant-enlisted
+invariant-enlisted g l = record {
+  own : g.B.LiveBoard.is_reader l.board l.pass;
+  seen : (g.B.LiveBoard.reader l.pass).seen ≡ (g.B.LiveBoard.reader l.fn.pass).seen;
+  reporters : All (g.B.LiveBoard.is_reporter l.board) l.reporters.items;
+  nothing : All (λ k. k.mine ≡ []) (map g.B.LiveBoard.reporter l.reporters.items);
+}
+
+abbrev pub decreases-enlisted : goal.decreases-enlisted
+decreases-enlisted g l = l.count - vec_len l.reporters

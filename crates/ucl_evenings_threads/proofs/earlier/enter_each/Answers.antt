@@ -1,0 +1,132 @@
+use Rattle.std.proofs.Common.{◌≡◌, ◌∙◌, ℕ, ◌+◌, ◌-◌, ◌<◌, ◌≤◌, List, length, map, take, get_or, set, refl, sym, ap, subst, arith, rules}
+use Rattle.std.specs.Prelude.{All, vec_len}
+use Rattle.std.proofs.lemmas.List.{length-map, length-set, take_all}
+use Rattle.std.proofs.lemmas.List.Elements.{All-get_or, All-set}
+use mathlib.Core.List.{IsPrefix}
+use Rattle.ucl_board.specs.declared.entry.Entry.{Entry}
+use Rattle.ucl_shared.specs.Passes.{PassView}
+use Rattle.ucl_screen.specs.declared.night.NightEvent.{NightEvent}
+use Rattle.ucl_evenings_threads.specs.Earlier.{WereEntered, HasJustItsOwn}
+use Rattle.ucl_evenings_threads.proofs.Entering.{HaveSoFar, so_far_none, so_far_next, so_far_heard, told_next, written_back}
+use Rattle.ucl_evenings_threads.proofs.Stopped.{refused_there}
+use Rattle.ucl_evenings_threads.proofs.earlier.enter_each.Goals as goal
+
+pub loop-event-init : goal.loop-event-init
+loop-event-init g c = record {
+  row_is = search rules;
+  own = c.requires.own;
+  reporters = c.requires.reporters;
+  as_many = refl;
+  so_far = so_far_none _ _ c.requires.nothing;
+}
+
+pub loop-event-preserved : goal.loop-event-preserved
+loop-event-preserved g c =
+    let known = c.loop-event.invariant in
+    let view = g.B.LiveBoard.reporter in
+    let passes = c.loop-event.reporters.items in
+    let e = c.event-item.result in
+    let there = c.event-item.is in
+    let lt = c.loop-event-test.true in
+    let within = c.get.ensures.within in
+    let high : e.reporter ≤ vec_len c.args.reporters.now =
+    subst (λ (x : NightEvent). x.reporter ≤ vec_len c.args.reporters.now) (sym there)
+    (All-get_or (λ (x : NightEvent). x.reporter ≤ vec_len c.args.reporters.now) c.args.events.now c.loop-event.event-index e lt c.requires.enough) in
+    let at = c.from-at.result - 1 in
+    let place : e.reporter ≡ 1 + at = omega arith in
+    let long : at < length passes = omega arith in
+    record {
+      row_is = (let row = known.row_is in omega arith);
+      own = c.enter_one.ensures.own.0;
+      reporters = All-set (g.B.LiveBoard.is_reporter c.args.board.now) passes at _ c.enter_one.ensures.own.1 known.reporters;
+      as_many = known.as_many;
+      so_far = so_far_next view _ c.args.events.now c.loop-event.event-index e passes at c.index_mut.result.now _ _ _ lt there long c.index_mut.ensures.value place
+          (c.enter_one.ensures.entered c.if-not-enter_one.false) known.so_far;
+    }
+
+pub returns-then-not-enter_one-clause-stopped : goal.returns-then-not-enter_one-clause-stopped
+returns-then-not-enter_one-clause-stopped g c =
+    let live = g.B.LiveBoard in
+    let known = c.loop-event.invariant in
+    let passes = c.loop-event.reporters.items in
+    let e = c.event-item.result in
+    let lt = c.loop-event-test.true in
+    let within = c.get.ensures.within in
+    let high : e.reporter ≤ vec_len c.args.reporters.now =
+    subst (λ (x : NightEvent). x.reporter ≤ vec_len c.args.reporters.now) (sym c.event-item.is)
+    (All-get_or (λ (x : NightEvent). x.reporter ≤ vec_len c.args.reporters.now) c.args.events.now c.loop-event.event-index e lt c.requires.enough) in
+    let at = c.from-at.result - 1 in
+    let row = known.row_is in
+    refused_there live c.args.board.now (live.reader c.args.pass.now).seen c.args.events.now c.loop-event.event-index c.loop-event.row e passes at c.index_mut.result.now
+    c.enter_one.new.reporter (live.reader c.loop-event.pass) lt (omega arith) c.event-item.is (omega arith) c.index_mut.ensures.value (omega arith) c.enter_one.ensures.own.1
+    (c.enter_one.ensures.refused c.if-not-enter_one.true) known.so_far
+
+pub loop-reporter-init : goal.loop-reporter-init
+loop-reporter-init g c =
+    let known = c.loop-event.invariant in
+    let view = g.B.LiveBoard.reporter in
+    let start = (g.B.LiveBoard.reader c.args.pass.now).seen in
+    let history = (g.B.LiveBoard.reader c.loop-event.pass).seen in
+    let same = sym c.deref_mut-reporter-items.ensures.value in
+    let events = c.args.events.now in
+    record {
+      own = known.own;
+      reporters = subst (All (g.B.LiveBoard.is_reporter c.args.board.now)) same known.reporters;
+      as_many = c.deref_mut-reporter-items.ensures.len ∙ known.as_many;
+      so_far = subst (λ (passes : List _). HaveSoFar start events (map view passes) history) same
+          (subst (λ (done : List NightEvent). HaveSoFar start done (map view c.loop-event.reporters.items) history) (take_all c.loop-event.event-index events c.loop-event-test.false) known.so_far);
+      told = search rules;
+    }
+
+pub loop-reporter-preserved : goal.loop-reporter-preserved
+loop-reporter-preserved g c =
+    let known = c.loop-reporter.invariant in
+    let view = g.B.LiveBoard.reporter in
+    let start = (g.B.LiveBoard.reader c.args.pass.now).seen in
+    let history = (g.B.LiveBoard.reader c.loop-reporter.pass).seen in
+    let events = c.args.events.now in
+    let passes = c.loop-reporter.reporter-items in
+    let at = c.loop-reporter.reporter-index in
+    let old = get_or passes at c.reporter-item.result in
+    let new = c.hear_own.new.pass in
+    let there = ap (get_or passes at) c.reporter-item.is in
+    let long : at < length passes = omega arith in
+    let same = sym c.note-all.ensures.unchanged in
+    let number = c.hear_own.ensures.always.number in
+    let mine = c.hear_own.ensures.heard.mine in
+    let met = subst (λ (h : List Entry). IsPrefix h (view new).seen) c.note-all.ensures.seen c.hear_own.ensures.heard.met in
+    record {
+      own = c.note-all.ensures.own.0;
+      reporters = All-set (g.B.LiveBoard.is_reporter c.args.board.now) passes at new c.hear_own.ensures.own known.reporters;
+      as_many = length-set passes at new ∙ known.as_many;
+      so_far = subst (λ (p : PassView). HaveSoFar start events (map view (set passes at new)) p.seen) same
+          (so_far_heard view start events passes history at old new long there number mine known.so_far);
+      told = subst (λ (p : PassView). All (HasJustItsOwn p.seen) (take (at + 1) (map view (set passes at new)))) same
+          (told_next view start events passes history at old new long there c.hear_own.ensures.always.sound number mine met known.so_far known.told);
+    }
+
+pub returns-clause-reporters : goal.returns-clause-reporters
+returns-clause-reporters g c =
+    let known = c.loop-reporter.invariant in
+    let passes = c.loop-reporter.reporter-items in
+    subst (All (g.B.LiveBoard.is_reporter c.args.board.now))
+    (sym (written_back c.loop-event.reporters.len passes c.loop-event.reporters.items (known.as_many ∙ sym c.loop-event.invariant.as_many))) known.reporters
+
+pub returns-clause-entered : goal.returns-clause-entered
+returns-clause-entered g c =
+    let known = c.loop-reporter.invariant in
+    let view = g.B.LiveBoard.reporter in
+    let start = (g.B.LiveBoard.reader c.args.pass.now).seen in
+    let history = (g.B.LiveBoard.reader c.loop-reporter.pass).seen in
+    let events = c.args.events.now in
+    let passes = c.loop-reporter.reporter-items in
+    let long = c.loop-reporter.auto.reporter-items in
+    let all : length (map view passes) ≤ c.loop-reporter.reporter-index = omega (arith, length-map passes view, c.loop-reporter-test.false) in
+    subst (WereEntered g.B.LiveBoard start events c.loop-reporter.pass)
+    (sym (written_back c.loop-event.reporters.len passes c.loop-event.reporters.items (known.as_many ∙ sym c.loop-event.invariant.as_many)))
+    (record {
+      enough = subst (λ (n : ℕ). All (λ event. event.reporter ≤ n) events) (sym known.as_many) c.requires.enough;
+      each = known.so_far.each;
+      in_order = known.so_far.in_order;
+      own = subst (All (HasJustItsOwn history)) (take_all c.loop-reporter.reporter-index (map view passes) all) known.told;
+    })

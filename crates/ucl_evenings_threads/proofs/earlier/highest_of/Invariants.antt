@@ -1,0 +1,9 @@
+use Rattle.std.proofs.Common.{◌≤◌, length, take}
+use Rattle.std.specs.Prelude.{All}
+use Rattle.ucl_evenings_threads.proofs.earlier.highest_of.Given as goal
+
+abbrev pub invariant-loop-event : goal.invariant-loop-event
+invariant-loop-event l = record {
+  highest : All (λ event. event.reporter ≤ l.highest) (take l.event-index l.events);
+  some : 1 ≤ l.highest → 1 ≤ length l.events;
+}

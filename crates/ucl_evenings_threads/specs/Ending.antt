@@ -1,0 +1,45 @@
+-- How an evening ends: what is told of its faults, and the exit status.
+use Rattle.std.specs.Prelude.{◌≡◌, ℕ, ⊤, Bool, List, [], ◌∷◌, ◌++◌, Option, Some, None, unwrap_or, codes, decimal, Result, Ok, Err}
+use Rattle.ucl_runs.specs.declared.fault.RunFault.{RunFault}
+use Rattle.ucl_runs.specs.Faults.{status}
+use Rattle.ucl_runs.specs.Telling.{Tells, fault_line}
+use Rattle.ucl_evenings_threads.specs.declared.ending.Part.{Part}
+use Rattle.ucl_evenings_threads.specs.declared.ending.Worker.{Worker}
+use Rattle.ucl_evenings_threads.specs.declared.ending.Worker.TheVariants.{Reporter, Screen, Json}
+
+-- what a worker is called
+abbrev pub worker_name : Worker → List ℕ
+worker_name Reporter = codes "reporter "
+worker_name Screen = codes "screen "
+worker_name Json = codes "json "
+
+-- what stands before the line of a worker's fault: what it is, and its place among those of its kind
+abbrev pub part_heading : Worker → ℕ → List ℕ
+part_heading worker number = worker_name worker ++ decimal number ++ codes ": "
+
+-- the line of a worker's fault
+abbrev pub part_line : Worker → ℕ → RunFault → List ℕ
+part_line worker number fault = part_heading worker number ++ fault_line fault
+
+abbrev pub TellsResult : Worker → ℕ → Result ⊤ RunFault → Bool → Option (List ℕ) → Option (List ℕ) → Type 0
+TellsResult worker number (Ok done) failed old new = new ≡ old
+TellsResult worker number (Err fault) failed old new = Tells failed old new (part_line worker number fault)
+
+-- how a worker ended was told: nothing where it ended well
+abbrev pub TellsEnd : Part → Bool → Option (List ℕ) → Option (List ℕ) → Type 0
+TellsEnd part failed old new = TellsResult part.worker part.number part.result failed old new
+
+-- how all ended was told, one after the other: each fault by its line, or the error sink has failed in the end
+unfoldable pub TellsAll : List Part → Bool → Option (List ℕ) → Option (List ℕ) → Type 0
+TellsAll [] failed old new = new ≡ old
+TellsAll (part ∷ parts) failed old new = (between : Option (List ℕ)) × TellsEnd part failed old between × TellsAll parts failed between new
+
+-- the status of a fault, where there is one
+abbrev pub status_at : Result ⊤ RunFault → Option ℕ
+status_at (Ok done) = None
+status_at (Err fault) = Some (status fault)
+
+-- the status of the first fault, or 0 where there is none
+unfoldable pub first_status : List Part → ℕ
+first_status [] = 0
+first_status (part ∷ parts) = unwrap_or (status_at part.result) (first_status parts)

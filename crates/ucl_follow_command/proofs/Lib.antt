@@ -1,3 +1,0 @@
-pub mod Shapes
-pub mod NamedShapes
-pub mod WrittenLines

@@ -1,0 +1,64 @@
+//! The lines that `ucl_follow` follows for its arguments.
+
+ghost use Rattle.std.specs.Prelude.{◌≡◌};
+ghost use Rattle.ucl_runs.specs.Telling.{Tells};
+ghost use Rattle.ucl_follows.specs.Program.{EndsFollowing, RunsFollowing, counts_line};
+
+use crate::run::{Followed, follow_run};
+use arrayvec::ArrayString;
+use itoa::Buffer;
+use std::alloc::Global;
+use ucl_answers::Wire;
+use ucl_command::{FollowArgs, LineFault};
+use ucl_runs::{RunFault, ended_unasked, put_text, tell};
+use ucl_screen::{Sink, Source};
+
+/// How many lines came, how many were shown, and how many were passed over.
+fn counts_line(followed: Followed) -> ArrayString<128>
+    ensures { result.bytes ≡ counts_line followed }
+{
+    let mut line = ArrayString::new();
+    line.push_str(Buffer::new().format(followed.lines));
+    line.push_str(" lines, ");
+    line.push_str(Buffer::new().format(followed.shown));
+    line.push_str(" shown, ");
+    let others = followed.lines.saturating_sub(followed.shown);
+    line.push_str(Buffer::new().format(others));
+    line.push_str(" passed over\n");
+    line
+}
+
+/// Tells how many lines came, were shown and were passed over, or the fault, and gives the exit status.
+fn told<E: Sink>(errors: &mut E, done: Result<Followed, RunFault>) -> u8
+    ensures { EndsFollowing done result
+        (E.failed errors.new) (E.taken errors.old) (E.taken errors.new) }
+{
+    match done {
+        Ok(followed) => {
+            let _ = put_text(errors, counts_line(followed).as_str());
+            0
+        }
+        Err(fault) => tell(errors, fault),
+    }
+}
+
+/// Follows the lines as the arguments asked, as `follow_args` answered it, and gives the exit status: 0 where the input has ended, and the error
+/// sink is told how many lines came, were shown and were passed over; 2 where the arguments are refused, by the text of `clap`; and else that of
+/// the fault, which is told by its line: 4 where a device has failed, and 5 where there was no memory. Help goes to the output.
+pub fn run_following<S: Source, W: Sink, E: Sink>(
+    alloc: Global,
+    asked: Result<FollowArgs, LineFault>,
+    wire: &mut Wire<S, W>,
+    errors: &mut E,
+) -> u8
+    ensures { RunsFollowing S.Source W.Sink asked wire.old wire.new result
+        (E.failed errors.new) (E.taken errors.old) (E.taken errors.new) }
+{
+    match asked {
+        Ok(shape) => {
+            let done = follow_run(alloc, shape, wire);
+            told(errors, done)
+        }
+        Err(fault) => ended_unasked(&mut wire.sink, errors, fault),
+    }
+}

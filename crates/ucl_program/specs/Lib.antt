@@ -1,4 +1,0 @@
-pub mod Ending
-pub mod Lines
-pub mod Options
-pub mod Written

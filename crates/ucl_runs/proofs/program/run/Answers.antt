@@ -1,0 +1,11 @@
+use Rattle.std.proofs.Common.{rules}
+use Rattle.ucl_runs.proofs.Unasked.{over_streams}
+use Rattle.ucl_runs.proofs.program.run.Goals as goal
+
+-- found by search: it is written down so that a wrong body is refused at the arm that it breaks
+pub returns-in-Ok : goal.returns-in-Ok
+returns-in-Ok g c = search rules
+
+pub returns-in-Err : goal.returns-in-Err
+returns-in-Err g c =
+    rw c.in-Err.is (over_streams g.S.Source g.W.Sink c.args.source.now c.in-Err.fault c.args.sink.now _ _ _ _ _ c.ended_unasked.ensures)
