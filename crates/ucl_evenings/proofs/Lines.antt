@@ -1,5 +1,5 @@
 -- Lines that a reporter's pass has answered, one after the other.
-use Rattle.std.proofs.Common.{◌≡◌, ℕ, ◌+◌, ◌-◌, ◌^◌, ◌≤◌, min, Bool, List, [], ◌∷◌, ◌++◌, length, Option, refl, sym, ap, ◌∙◌, subst, append_assoc, arith, length-append}
+use Rattle.std.proofs.Common.{◌≡◌, ℕ, suc, ◌+◌, ◌-◌, ◌^◌, ◌≤◌, min, Bool, List, [], ◌∷◌, ◌++◌, length, take, Option, refl, sym, ap, ◌∙◌, subst, append_assoc, arith, length-append}
 use Rattle.std.specs.Io.KnownBytes.{Appends}
 use mathlib.Core.List.{IsPrefix}
 use Rattle.ucl_word.specs.declared.event.EventCall.{EventCall}
@@ -8,9 +8,7 @@ use Rattle.ucl_screen.proofs.MovedBytes.{appends-none, appends-then}
 use Rattle.ucl_shared.specs.Passes.{PassView, IsSound, ReportsMore}
 use Rattle.ucl_runs.specs.declared.fault.RunFault.{RunFault}
 use Rattle.ucl_runs.specs.declared.fault.RunFault.TheVariants.{Input, OutOfMemory, WriteFailed, NotOnDuty, NoThread, TooManyReporters, Strangers}
-use Rattle.ucl_screen.specs.Stream.{WroteFirst}
 use Rattle.ucl_runs.specs.Run.{IsStopped}
-use Rattle.ucl_runs.proofs.Parts.{stopped_second}
 use Rattle.ucl_evenings.specs.declared.typed.Typed.{Typed}
 use Rattle.ucl_evenings.specs.declared.went.Went.{Went}
 use Rattle.ucl_evenings.specs.Typing.{typed_on}
@@ -90,6 +88,10 @@ module _ (k m : PassView) (before after : ℕ → Type 0) (row : ℕ) (line : Li
 
 -- ---- lines after lines
 
+take_past : (a b : List ℕ) (n : ℕ) → take (length a + n) (a ++ b) ≡ a ++ take n b
+take_past [] b n = let none : length {A = ℕ} [] + n ≡ n = omega arith in ap (λ k. take k b) none
+take_past (x ∷ a) b n = let one : length (x ∷ a) + n ≡ suc (length a + n) = omega arith in ap (λ k. take k (x ∷ a ++ b)) one ∙ ap (λ (l : List ℕ). x ∷ l) (take_past a b n)
+
 pub reported_then : (k m z : PassView) (a b c : ℕ → Type 0) (lines more : List (List ℕ)) (went later : List Went) → HasReportedLines k m a b lines went → HasReportedLines m z b c more later
     → HasReportedLines k z a c (lines ++ more) (went ++ later)
 reported_then k m z a b c lines more went later p q =
@@ -121,18 +123,27 @@ module _ (k m z : PassView) (a b c : ℕ → Type 0) (row : ℕ) (lines more : L
       → StopsInLast row (lines ++ more) (went ++ later) out failed w y count
   stopped_then failed count s =
       let first = typed_answers row lines went in
-      let both = stopped_second out mid failed w x y first (typed_answers (row + length lines) more later) (WriteFailed count) p.given p.told s.stopped in
-      let text = answers_then row lines s.before went later (lines_count k m a b lines went p.reported) in
-      let long = ap (length {A = ℕ}) text ∙ length-append first (typed_answers (row + length lines) s.before later) in
-      let out_before = s.answered in record {
+      let rest = typed_answers (row + length lines) more later in
+      let before = answers_then row lines s.before went later (lines_count k m a b lines went p.reported) in
+      let long = ap (length {A = ℕ}) before ∙ length-append first (typed_answers (row + length lines) s.before later) in
+      let both = ap (length {A = ℕ}) text_then ∙ length-append first rest in
+      let is_out = p.told in
+      let n = s.stopped.count in
+      let cut = s.stopped.first.cut in
+      let told = s.stopped.told in
+      let answered = s.answered in
+      let given = appends-then w x y first (take n rest) p.given s.stopped.first.out in record {
         before = lines ++ s.before;
         last = s.last;
         in_last = ap (λ (l : List (List ℕ)). lines ++ l) s.in_last ∙ sym (append_assoc lines s.before (s.last ∷ []));
         stopped = record {
-          failed_is = both.failed_is;
-          count = both.count;
-          first = subst (WroteFirst w y both.count) (sym text_then) both.first;
-          told = both.told;
+          failed_is = s.stopped.failed_is;
+          count = length first + n;
+          first = record {
+            cut = omega arith;
+            out = subst (Appends w y) (sym (ap (take (length first + n)) text_then ∙ take_past first rest n)) given;
+          };
+          told = omega arith;
         };
         answered = omega arith;
       }
