@@ -12,9 +12,9 @@ pub fn boards_have_one_history()
     ensures { BoardsHaveOneHistory }
 {}
 
-/// That history over time: wherever steps of the passes lead from one state of a board to another, whichever steps of whichever passes, the
-/// run of the later state of a word board begins with that of the earlier one, and that of a cell board goes on from it. So the order of the
-/// calls of passes that never met is that of real time, and once it is there, it never changes.
+/// That history over time: wherever steps of the passes lead from one state of a board to another, whichever steps of whichever passes,
+/// the run of the later state of a word board begins with that of the earlier one, and that of a cell board goes on from it. So the order
+/// of the calls of passes that never met is that of real time, and once it is there, it never changes.
 pub fn histories_go_on()
     ensures { HistoriesGoOn }
 {}

@@ -64,10 +64,11 @@ pub record CellEnlistMissed (steps : List Taken) : Type 0 where
   pub later : ℕ
   pub steps_are : steps ≡ step_taken (Enlisted loaded) at None ∷ step_taken (Enlisted found) later None ∷ []
 
--- the try that has the answer: a load, and an exchange that found the same number and gave the next one; or a load that found as many enlisted as
--- there are numbers
+-- the try that has the answer: a load, and an exchange that found the same number and gave the next one; or a load that found as many
+-- enlisted as there are numbers
 abbrev pub CellEnlistAnswered : Bool → View → List Taken → Type 0
-CellEnlistAnswered true w steps = (found at : ℕ) × (steps ≡ step_taken (Enlisted found) at None ∷ step_taken (Enlisted found) (length w.seen) None ∷ []) × (w.number ≡ found + 1)
+CellEnlistAnswered true w steps =
+    (found at : ℕ) × (steps ≡ step_taken (Enlisted found) at None ∷ step_taken (Enlisted found) (length w.seen) None ∷ []) × (w.number ≡ found + 1)
 CellEnlistAnswered false w steps = steps ≡ step_taken (Enlisted 255) (length w.seen) None ∷ []
 
 -- an enlistment on the cell, which gave a number or found none: tries in vain, and then the one that has the answer

@@ -70,7 +70,8 @@ pub record CellLater (s t : CellState) : Type 0 where
   pub between : List CellState
   pub steps : CellLeadsTo s between t
 
--- what the clauses of the kit's calls allow leads on in this way: a step of a kind, whatever it finds, to a state that meets the rule, and by that kind
+-- what the clauses of the kit's calls allow leads on in this way: a step of a kind, whatever it finds, to a state that meets the rule, and
+-- by that kind
 pub record CellLeadsBy (kind : CellKind) (s : CellState) (next : List ℕ) : Type 0 where
   pub state : CellState
   pub rule : CellMeetsItsRule state
@@ -83,4 +84,5 @@ CellStepsLeadOn kind = (seat : ℕ) (v : CellView) (next : List ℕ → List ℕ
 
 -- what a step of this kind says that it found is as many reporters as were enlisted
 abbrev pub CellFindsEnlisted : CellKind → Type 0
-CellFindsEnlisted kind = (s t : CellState) (r : CellMeetsItsRule s) (p : CellStepped kind s t) → CountsReporters r.shared.enlisted p.was.pass p.is.pass
+CellFindsEnlisted kind =
+    (s t : CellState) (r : CellMeetsItsRule s) (p : CellStepped kind s t) → CountsReporters r.shared.enlisted p.was.pass p.is.pass

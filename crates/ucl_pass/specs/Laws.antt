@@ -33,14 +33,18 @@ pub record CellGoesOnWith (s t : CellState) (r : CellMeetsItsRule s) (q : CellMe
 abbrev pub LaterCellsGoOn : Type 0
 LaterCellsGoOn = (s t : CellState) (r : CellMeetsItsRule s) (q : CellMeetsItsRule t) → CellLater s t → CellGoesOnWith s t r q
 
--- the run of a later state goes on from the run of the earlier one: the entries come first that came first, and what it has of each pass, calls with
--- their beginnings, replies and ends, begins with what the earlier run has of it. Left open is how refused reports and readings of different
--- passes stand to one another between two entries: the log does not tell it, since a load for a report stands in it whether the load decides its call or not
+-- the run of a later state goes on from the run of the earlier one: the entries come first that came first, and what it has of each
+-- pass, calls with their beginnings, replies and ends, begins with what the earlier run has of it. Left open is how refused reports and
+-- readings of different passes stand to one another between two entries: the log does not tell it, since a load for a report stands in it
+-- whether the load decides its call or not
 abbrev pub CellRunsGrow : Type 0
-CellRunsGrow = (s t : CellState) (r : CellMeetsItsRule s) (q : CellMeetsItsRule t) → CellLater s t → (earlier : IsRunOfCell s r) (later : IsRunOfCell t q)
+CellRunsGrow =
+    (s t : CellState) (r : CellMeetsItsRule s) (q : CellMeetsItsRule t) → CellLater s t → (earlier : IsRunOfCell s r) (later : IsRunOfCell t q)
     → GoesOnFrom (actors_of s.views) earlier.one.state (actors_of t.views) later.one.state
 
 -- the number that a reader was given is above all that had been given when it had none
 abbrev pub CellNumbersRise : Type 0
-CellNumbersRise = (s t : CellState) (r : CellMeetsItsRule s) → CellMeetsItsRule t → CellLater s t
-    → (seat : ℕ) (v w : CellView) → get_elem? s.views seat ≡ some v → v.pass.number ≡ 0 → get_elem? t.views seat ≡ some w → 0 < w.pass.number → IsGivenAfter r.shared.enlisted (views_known s.views) w.pass.number
+CellNumbersRise =
+    (s t : CellState) (r : CellMeetsItsRule s) → CellMeetsItsRule t → CellLater s t
+    → (seat : ℕ) (v w : CellView) → get_elem? s.views seat ≡ some v → v.pass.number ≡ 0 → get_elem? t.views seat ≡ some w → 0 < w.pass.number
+    → IsGivenAfter r.shared.enlisted (views_known s.views) w.pass.number

@@ -52,9 +52,10 @@ pub fn later_cells_go_on()
     ensures { LaterCellsGoOn }
 {}
 
-/// The run of a later state goes on from that of the earlier one: wherever steps of the passes lead from one state to another, the entries come
-/// first that came first, and what the later run has of each pass, calls with their beginnings, replies and ends, begins with what the
-/// earlier run has of it. How refused reports and readings of different passes stand to one another between two entries is left open.
+/// The run of a later state goes on from that of the earlier one: wherever steps of the passes lead from one state to another, the
+/// entries come first that came first, and what the later run has of each pass, calls with their beginnings, replies and ends, begins
+/// with what the earlier run has of it. How refused reports and readings of different passes stand to one another between two entries is
+/// left open.
 pub fn cell_runs_grow()
     ensures { CellRunsGrow }
 {}

@@ -1,5 +1,6 @@
 -- The accesses of one pass while no pass finishes a call.
-use Rattle.std.proofs.Common.{◌≡◌, ◌≢◌, ℕ, zero, suc, ◌+◌, ◌≤◌, ◌==◌, Bool, true, false, cond, List, [], ◌∷◌, ◌++◌, length, map, Option, Some, None, inl, inr, refl, sym, ap, ◌∙◌, subst, arith, length-append}
+use Rattle.std.proofs.Common.{◌≡◌, ◌≢◌, ℕ, zero, suc, ◌+◌, ◌≤◌, ◌==◌, Bool, true, false, cond, List, [], ◌∷◌, ◌++◌, length, map, Option, Some, None, inl, inr, refl, sym, ap}
+use Rattle.std.proofs.Common.{◌∙◌, subst, arith, length-append}
 use Rattle.std.proofs.Common.{eq-eqb}
 use Rattle.std.specs.Prelude.{filter}
 use Rattle.std.proofs.lemmas.Bool.{eqb-true}
@@ -59,7 +60,9 @@ accesses_few c (s ∷ steps) (Some w) =
         ≤ length (cond b (s ∷ steps_by c steps) (steps_by c steps))
     by_list [] few true is = omega arith
     by_list [] few false is = omega arith
-    by_list (m ∷ []) few b is = subst (λ (z : Bool). length {A = Caller × Access} (cond z ((caller_of s, m) ∷ []) []) + length (steps_by c steps) ≤ length (cond b (s ∷ steps_by c steps) (steps_by c steps))) (sym is) (by_both b)
+    by_list (m ∷ []) few b is =
+        subst (λ (z : Bool). length {A = Caller × Access} (cond z ((caller_of s, m) ∷ []) []) + length (steps_by c steps) ≤ length (cond b (s ∷ steps_by c steps) (steps_by c steps)))
+        (sym is) (by_both b)
       where
         by_both : (b : Bool) → length {A = Caller × Access} (cond b ((caller_of s, m) ∷ []) []) + length (steps_by c steps) ≤ length (cond b (s ∷ steps_by c steps) (steps_by c steps))
         by_both true = omega arith
@@ -68,7 +71,8 @@ accesses_few c (s ∷ steps) (Some w) =
 
     by_test : (b : Bool) → is_caller c (caller_of s) ≡ b → (ms : List Access) → length ms ≤ 1 → accesses_by c (map (λ (m : Access). (caller_of s, m)) ms) + length (steps_by c steps)
         ≤ length (steps_by c (s ∷ steps))
-    by_test b is ms few = subst (λ (z : Bool). accesses_by c (map (λ (m : Access). (caller_of s, m)) ms) + length (steps_by c steps) ≤ length (cond z (s ∷ steps_by c steps) (steps_by c steps))) (sym is)
+    by_test b is ms few = subst
+        (λ (z : Bool). accesses_by c (map (λ (m : Access). (caller_of s, m)) ms) + length (steps_by c steps) ≤ length (cond z (s ∷ steps_by c steps) (steps_by c steps))) (sym is)
         (by_list ms few b is)
 
 -- the accesses of a seat are those of its two callers
@@ -107,7 +111,8 @@ taker_none seat log.Second c taken = let is : one_if (is_caller (Reader (seat + 
 module _ (actors : List Actor) (seat : ℕ) (b : Actor) (there : get_elem? actors seat ≡ some b) where
   -- counted by any measure of callers that each of its takers has
   by_takers : (f : Caller → ℕ) (count : List (Caller × Access) → ℕ) → ((x : Caller × Access) (xs : List (Caller × Access)) → count (x ∷ xs) ≡ f x.0 + count xs)
-      → ((kind : AccessKind) (c : Caller) → IsTakenBy seat b.number kind c → 1 ≤ f c) → (xs : List (Caller × Access)) (ys : List (ℕ × Access)) → AreStepsOf actors xs ys → accesses_at seat ys ≤ count xs
+      → ((kind : AccessKind) (c : Caller) → IsTakenBy seat b.number kind c → 1 ≤ f c) → (xs : List (Caller × Access)) (ys : List (ℕ × Access)) → AreStepsOf actors xs ys
+      → accesses_at seat ys ≤ count xs
   by_takers f count cons each [] [] are = omega arith
   by_takers f count cons each [] (y ∷ ys) are = absurd are
   by_takers f count cons each (x ∷ xs) [] are = absurd are
@@ -122,7 +127,8 @@ module _ (actors : List Actor) (seat : ℕ) (b : Actor) (there : get_elem? actor
       by_test true is long more rest =
           let seat_is = eqb-true y.0 seat is in
           let actor_is : are.1.0 ≡ b = some-injective are.1.0 b (sym are.1.1 ∙ (ap (get_elem? actors) seat_is ∙ there)) in
-          let taken : IsTakenBy seat b.number y.1.kind x.0 = subst (λ (z : Actor). IsTakenBy seat z.number y.1.kind x.0) actor_is (subst (λ (n : ℕ). IsTakenBy n are.1.0.number y.1.kind x.0) seat_is are.1.2) in
+          let taken : IsTakenBy seat b.number y.1.kind x.0 =
+          subst (λ (z : Actor). IsTakenBy seat z.number y.1.kind x.0) actor_is (subst (λ (n : ℕ). IsTakenBy n are.1.0.number y.1.kind x.0) seat_is are.1.2) in
           let one = each y.1.kind x.0 taken in
           let hit : one_if (y.0 == seat) ≡ 1 = ap one_if is in
           omega arith
@@ -130,7 +136,8 @@ module _ (actors : List Actor) (seat : ℕ) (b : Actor) (there : get_elem? actor
 
 -- of the two callers of a pass only one takes steps
 module _ (done : List Step) (w t : MachineState) (kept : Keeps done w) (steps : List Step) (e : after_steps steps w ≡ Some t) (same : decided_in t.calls ≡ decided_in w.calls)
-    (seat number : ℕ) (is_reporter : IsReporter number) (d : Doing) (f : FitsRun t seat number d) (open_calls : (c : Caller) → IsOf seat number c → (k : ℕ) → held_by w.callers c ≢ Some (Answered k)) where
+    (seat number : ℕ) (is_reporter : IsReporter number) (d : Doing) (f : FitsRun t seat number d)
+    (open_calls : (c : Caller) → IsOf seat number c → (k : ℕ) → held_by w.callers c ≢ Some (Answered k)) where
   none_by : (c : Caller) → IsOf seat number c → held_by t.callers c ≡ Some Idle → length (steps_by c steps) ≤ 0
   none_by c of idle = takes_none c done steps w t kept e (omega arith) (open_calls c of) idle
 
@@ -159,7 +166,8 @@ module _ (done : List Step) (w t : MachineState) (kept : Keeps done w) (steps : 
       by_held (Checking words checked point) u = by_reader (u.others (Reporter number) reports (λ is. cc))
 
 -- what follows the accesses of an earlier run are the accesses since
-later_ones : (actors later : List Actor) (xs more : List (Caller × Access)) (ys since : List (ℕ × Access)) → AreStepsOf actors xs ys → AreStepsOf later (xs ++ more) (ys ++ since) → AreStepsOf later more since
+later_ones : (actors later : List Actor) (xs more : List (Caller × Access)) (ys since : List (ℕ × Access)) → AreStepsOf actors xs ys → AreStepsOf later (xs ++ more) (ys ++ since)
+    → AreStepsOf later more since
 later_ones actors later [] more [] since are now = now
 later_ones actors later [] more (y ∷ ys) since are now = absurd are
 later_ones actors later (x ∷ xs) more [] since are now = absurd are
@@ -188,14 +196,17 @@ few_accesses readers enlisted enlisted' log since actors later r q on apart fini
     let low = finished_decided one.state actors one.each apart in
     let high = decided_finished other.state later other.each other.only in
     by_number b.number refl few (steps_of_moves one.moves) one.state other.state kept (steps_of_moves more) run (omega arith) (other.each seat b there)
-    (λ c of k answered. answered_ends other.state seat b.number b.doing.begun b.doing.held (other.each seat b there).high c k of (other.each seat b there).held (answered_stays more one.state other.state c k answered run))
+    (λ c of k answered. answered_ends other.state seat b.number b.doing.begun b.doing.held (other.each seat b there).high c k of (other.each seat b there).held
+    (answered_stays more one.state other.state c k answered run))
     (accesses_of_log since) are
   where
-    by_number : (n : ℕ) → b.number ≡ n → b.number ≤ 255 → (done : List Step) (w t : MachineState) (kept : Keeps done w) (steps : List Step) → after_steps steps w ≡ Some t → decided_in t.calls ≤ decided_in w.calls
+    by_number : (n : ℕ) → b.number ≡ n → b.number ≤ 255 → (done : List Step) (w t : MachineState) (kept : Keeps done w) (steps : List Step) → after_steps steps w ≡ Some t
+        → decided_in t.calls ≤ decided_in w.calls
         → FitsRun t seat b.number b.doing → ((c : Caller) → IsOf seat b.number c → (k : ℕ) → held_by w.callers c ≢ Some (Answered k)) → (ys : List (ℕ × Access))
         → AreStepsOf later (left_by steps (Some w)) ys → accesses_at seat ys ≤ most_between
     by_number zero is few done w t kept steps e less f open_calls ys are =
-        let all = by_takers later seat b there (λ c. one_if (is_caller (Reader (seat + 1)) c)) (accesses_by (Reader (seat + 1))) (longer_by (λ (x : Caller × Access). is_caller (Reader (seat + 1)) x.0))
+        let all = by_takers later seat b there (λ c. one_if (is_caller (Reader (seat + 1)) c)) (accesses_by (Reader (seat + 1)))
+        (longer_by (λ (x : Caller × Access). is_caller (Reader (seat + 1)) x.0))
         (λ kind c taken. taker_none seat kind c (subst (λ (n : ℕ). IsTakenBy seat n kind c) is taken)) (left_by steps (Some w)) ys are in
         let reads = accesses_few (Reader (seat + 1)) steps (Some w) in
         let more = decided_more done steps w t kept e in
@@ -204,7 +215,10 @@ few_accesses readers enlisted enlisted' log since actors later r q on apart fini
     by_number (suc n) is few done w t kept steps e less f open_calls ys are =
         let all = by_takers later seat b there (λ c. one_if (is_caller (Reader (seat + 1)) c) + one_if (is_caller (Reporter b.number) c))
         (λ xs. accesses_by (Reader (seat + 1)) xs + accesses_by (Reporter b.number) xs)
-        (λ x xs. let p = longer_by (λ (x : Caller × Access). is_caller (Reader (seat + 1)) x.0) x xs in let q = longer_by (λ (x : Caller × Access). is_caller (Reporter b.number) x.0) x xs in omega arith)
+        (λ x xs.
+        let p = longer_by (λ (x : Caller × Access). is_caller (Reader (seat + 1)) x.0) x xs in
+        let q = longer_by (λ (x : Caller × Access). is_caller (Reporter b.number) x.0) x xs in
+        omega arith)
         (taker seat b.number) (left_by steps (Some w)) ys are in
         let reads = accesses_few (Reader (seat + 1)) steps (Some w) in
         let reports = accesses_few (Reporter b.number) steps (Some w) in

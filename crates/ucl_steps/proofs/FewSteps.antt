@@ -1,5 +1,6 @@
 -- While no call is decided the words stay as they are, and each step of a caller leaves it fewer steps to take.
-use Rattle.std.proofs.Common.{◌≡◌, ◌≢◌, ℕ, zero, suc, ◌+◌, ◌-◌, ◌*◌, ◌<◌, ◌≤◌, ◌==◌, Bool, true, false, cond, List, [], ◌∷◌, ◌++◌, drop, length, Option, Some, None, ◌⊎◌, inl, inr, refl, sym, ap, ◌∙◌, subst, arith, append-nil}
+use Rattle.std.proofs.Common.{◌≡◌, ◌≢◌, ℕ, zero, suc, ◌+◌, ◌-◌, ◌*◌, ◌<◌, ◌≤◌, ◌==◌, Bool, true, false, cond, List, [], ◌∷◌, ◌++◌, drop, length, Option, Some, None, ◌⊎◌, inl}
+use Rattle.std.proofs.Common.{inr, refl, sym, ap, ◌∙◌, subst, arith, append-nil}
 use Rattle.std.proofs.Common.{get_or, eq-eqb, ne_eqb}
 use Rattle.std.specs.Prelude.{slice_get, slice_index, slice_set, is_some, filter}
 use Rattle.std.specs.List.{sum_by}
@@ -26,7 +27,8 @@ use Rattle.ucl_steps.specs.declared.trace.Reply.{Reply}
 use Rattle.ucl_steps.specs.declared.trace.Reply.TheVariants.{Accepted, Refused, Copied}
 use Rattle.ucl_steps.specs.declared.trace.CallRecord.{CallRecord}
 use Rattle.ucl_steps.specs.Protocol.{Nothing, Holding, Collecting, Checking, GoesOn, Answers, by_rules}
-use Rattle.ucl_steps.specs.Machine.{Holds, Idle, Wanting, Within, Answered, Callers, MachineState, initial_state, held_by, set_held, with_held, after_reply, change_at, with_reply, with_end, may_begin, held_at_begin, after_begin}
+use Rattle.ucl_steps.specs.Machine.{Holds, Idle, Wanting, Within, Answered, Callers, MachineState, initial_state, held_by, set_held, with_held, after_reply, change_at}
+use Rattle.ucl_steps.specs.Machine.{with_reply, with_end, may_begin, held_at_begin, after_begin}
 use Rattle.ucl_steps.specs.Machine.{after_outcome, stored, state_after_look, state_after_swap, state_after_first, state_after_second, after_end, after_step_holding, caller_of, after_step, after_steps}
 use Rattle.ucl_steps.specs.Progress.{most_between, decided_in, is_caller, steps_by, SomeCallIsDecided}
 use Rattle.ucl_steps.proofs.CallFacts.{Checks}
@@ -47,7 +49,8 @@ stale_push at k (x ∷ xs) words is = ap (λ (o : Option ℕ). cond (slice_index
 
 stale_within : (at : ℕ) (xs words : List ℕ) (j : ℕ) → stale_from at xs words ≡ Some j → (at ≤ j) × (j < at + length xs)
 stale_within at [] words j e = absurd (none-some j e)
-stale_within at (x ∷ xs) words j e = by_test (slice_index words at == x) (stale_from (at + 1) xs words) (λ e. let t = stale_within (at + 1) xs words j e in let low = t.0 in let high = t.1 in (omega arith, omega arith)) e
+stale_within at (x ∷ xs) words j e =
+    by_test (slice_index words at == x) (stale_from (at + 1) xs words) (λ e. let t = stale_within (at + 1) xs words j e in let low = t.0 in let high = t.1 in (omega arith, omega arith)) e
   where
     by_test : (b : Bool) (o : Option ℕ) → (o ≡ Some j → (at ≤ j) × (j < at + suc (length xs))) → cond b o (Some at) ≡ Some j → (at ≤ j) × (j < at + suc (length xs))
     by_test true o rest e = rest e
@@ -171,7 +174,12 @@ module _ (steps : List Step) (w : MachineState) (kept : Keeps steps w) where
     is = held_at_begin call (length w.calls);
     held = held;
     callers = refl;
-    comes = inr (record { words = refl; decided = decided_begun w.calls (record { caller = c; call = call; begun = length w.history; point = None; reply = None; ended = None }) refl; less = fewer call; opens = λ not. opened call });
+    comes = inr record {
+      words = refl;
+      decided = decided_begun w.calls (record { caller = c; call = call; begun = length w.history; point = None; reply = None; ended = None }) refl;
+      less = fewer call;
+      opens = λ not. opened call;
+    };
   }
     where
       fewer : (call : Call) → left_in w.words (held_at_begin call (length w.calls)) + 1 ≤ 24
@@ -204,10 +212,13 @@ module _ (steps : List Step) (w : MachineState) (kept : Keeps steps w) where
       by_test t.call t.at t.sees.asks.reply (word_at w.words e.game == old)
     where
       by_test : (a : CallRecord) → slice_get w.calls k ≡ Some a → a.reply ≡ None → (b : Bool)
-          → Stepped (Reporter r) w (after_reply (Reporter r) k (length w.history) (cond b (Accepted (record { number = (record_at new).number })) (Refused (Stale (record_at (word_at w.words e.game)).number)))
+          → Stepped (Reporter r) w
+          (after_reply (Reporter r) k (length w.history) (cond b (Accepted (record { number = (record_at new).number })) (Refused (Stale (record_at (word_at w.words e.game)).number)))
           (cond b (stored r e new w) w))
-      by_test a at none true = replied (Reporter r) (Within k (Holding e old new)) k (length w.history) (Accepted (record { number = (record_at new).number })) w.words (stored r e new w) a held refl refl at none
-      by_test a at none false = replied (Reporter r) (Within k (Holding e old new)) k (length w.history) (Refused (Stale (record_at (word_at w.words e.game)).number)) w.words w a held refl refl at none
+      by_test a at none true =
+          replied (Reporter r) (Within k (Holding e old new)) k (length w.history) (Accepted (record { number = (record_at new).number })) w.words (stored r e new w) a held refl refl at none
+      by_test a at none false =
+          replied (Reporter r) (Within k (Holding e old new)) k (length w.history) (Refused (Stale (record_at (word_at w.words e.game)).number)) w.words w a held refl refl at none
 
   firsts : (c : Caller) (k : ℕ) (xs : List ℕ) → held_by w.callers c ≡ Some (Within k (Collecting xs)) → Stepped c w (state_after_first c k xs w)
   firsts c k xs held =
@@ -254,7 +265,8 @@ module _ (steps : List Step) (w : MachineState) (kept : Keeps steps w) where
 
       by_test : (b last : Bool) → (slice_index w.words n == slice_index xs n) ≡ b → (n == 11) ≡ last
           → Stepped c w (after_outcome c k point (cond b (cond last (Answers (Copied (reading_of xs))) (GoesOn (Checking xs (n + 1) point))) (GoesOn (Collecting []))) w)
-      by_test true true is last_is = replied c (Within k (Checking xs n point)) k point (Copied (reading_of xs)) w.words w (kept.knows c (Within k (Checking xs n point)) k held refl).call held refl refl here t.reads.reply
+      by_test true true is last_is =
+          replied c (Within k (Checking xs n point)) k point (Copied (reading_of xs)) w.words w (kept.knows c (Within k (Checking xs n point)) k held refl).call held refl refl here t.reads.reply
       by_test true false is last_is =
           let not_last = eqb-false n 11 last_is in
           let few = t.few in
@@ -271,7 +283,8 @@ module _ (steps : List Step) (w : MachineState) (kept : Keeps steps w) where
       subst (Stepped c w) t.1 (begins c call holds)
   step_counted (Look (Reporter n)) (Some (Wanting k e)) w' holds done =
       subst (Stepped (Reporter n) w) (same_Some (state_after_look n k e w) w' done) (looks n k e holds (refusal_of (record_at (word_at w.words e.game)) e.expected e.kind))
-  step_counted (Swap (Reporter n)) (Some (Within k (Holding e old new))) w' holds done = subst (Stepped (Reporter n) w) (same_Some (state_after_swap n k e old new w) w' done) (swaps n k e old new holds)
+  step_counted (Swap (Reporter n)) (Some (Within k (Holding e old new))) w' holds done =
+      subst (Stepped (Reporter n) w) (same_Some (state_after_swap n k e old new w) w' done) (swaps n k e old new holds)
   step_counted (First c) (Some (Within k (Collecting xs))) w' holds done = subst (Stepped c w) (same_Some (state_after_first c k xs w) w' done) (firsts c k xs holds)
   step_counted (Second c) (Some (Within k (Checking xs n point))) w' holds done = subst (Stepped c w) (same_Some (state_after_second c k xs n point w) w' done) (seconds c k xs n point holds)
   step_counted (End c) (Some (Answered k)) w' holds done = subst (Stepped c w) (same_Some (after_end c k w) w' done) (ends c k holds)
@@ -360,7 +373,8 @@ few_of : (c : Caller) (done : List Step) (w : MachineState) → Keeps done w →
 few_of c done w kept None held = omega arith
 few_of c done w kept (Some x) held = few_left done w kept c x held
 
-pub each_few : (c : Caller) (done steps : List Step) (w t : MachineState) → Keeps done w → after_steps steps w ≡ Some t → decided_in t.calls ≡ decided_in w.calls → length (steps_by c steps) ≤ most_between
+pub each_few : (c : Caller) (done steps : List Step) (w t : MachineState) → Keeps done w → after_steps steps w ≡ Some t → decided_in t.calls ≡ decided_in w.calls
+    → length (steps_by c steps) ≤ most_between
 each_few c done steps w t kept e same =
     let few = few_by c done steps w t kept e (omega arith) in
     let most = few_of c done w kept (held_by w.callers c) refl in
@@ -489,7 +503,8 @@ all_few : (cast : Cast) (done : List Step) (w : MachineState) → Keeps done w �
 all_few cast done w kept sizes =
     let a = sizes.reporters in
     let b = sizes.readers in
-    let p = sum_by-le (left_in w.words) most_between w.callers.reporters (λ k d l. few_left done w kept (Reporter (suc k)) (get_or w.callers.reporters k d) (slice_get-get_or w.callers.reporters k d l)) in
+    let p = sum_by-le (left_in w.words) most_between w.callers.reporters
+    (λ k d l. few_left done w kept (Reporter (suc k)) (get_or w.callers.reporters k d) (slice_get-get_or w.callers.reporters k d l)) in
     let q = sum_by-le (left_in w.words) most_between w.callers.readers (λ k d l. few_left done w kept (Reader (suc k)) (get_or w.callers.readers k d) (slice_get-get_or w.callers.readers k d l)) in
     omega arith
 

@@ -1,5 +1,6 @@
 -- The decided calls of a run of actors are as many as the finished calls of its actors.
-use Rattle.std.proofs.Common.{◌≡◌, ◌≢◌, ℕ, zero, suc, ◌+◌, ◌≤◌, ◌==◌, ◌&&◌, nat_le, Bool, true, false, cond, List, [], ◌∷◌, ◌++◌, drop, length, map, Some, None, inl, inr, refl, sym, ap, ◌∙◌, subst, arith}
+use Rattle.std.proofs.Common.{◌≡◌, ◌≢◌, ℕ, zero, suc, ◌+◌, ◌≤◌, ◌==◌, ◌&&◌, nat_le, Bool, true, false, cond, List, [], ◌∷◌, ◌++◌, drop, length, map, Some, None, inl, inr, refl}
+use Rattle.std.proofs.Common.{sym, ap, ◌∙◌, subst, arith}
 use Rattle.std.proofs.Common.{length-append, eq-eqb, ne_eqb}
 use Rattle.std.specs.Prelude.{All, slice_get, is_some, filter}
 use Rattle.std.proofs.lemmas.Option.{none-some, same_Some}
@@ -94,7 +95,8 @@ at_most state seat number d f = by_held d.held refl f.held
     under : (held : Held) → d.held ≡ held → length (call_under_way held) ≡ 1 → IsUnderWay state seat number d.begun held f.high → decided_of seat number state.calls ≤ length d.calls
     under held is long u =
         let all = total held is in
-        let less = one_less (own seat number) is_decided state.calls u.place (record { caller = caller_for seat number (call_of held); call = call_of held; begun = d.begun; point = None; reply = None; ended = None })
+        let less = one_less (own seat number) is_decided state.calls u.place
+        (record { caller = caller_for seat number (call_of held); call = call_of held; begun = d.begun; point = None; reply = None; ended = None })
         u.record_is (own_caller seat number (call_of held) (may_hold number held u.can)) refl in
         omega arith
 
@@ -199,7 +201,11 @@ hits_reader i [] k = omega arith
 hits_reader i (a ∷ actors) k = by_test (k == i + 1) refl (hits_reader (i + 1) actors k)
   where
     by_test : (b : Bool) → (k == i + 1) ≡ b → hits (i + 1) actors (Reader k) ≤ 1 → one_if (k == i + 1) + hits (i + 1) actors (Reader k) ≤ 1
-    by_test true is rest = let n = eqb-true k (i + 1) is in let none = hits_reader_none (i + 1) actors k (omega arith) in let one : one_if (k == i + 1) ≡ 1 = ap (λ (b : Bool). one_if b) is in omega arith
+    by_test true is rest =
+        let n = eqb-true k (i + 1) is in
+        let none = hits_reader_none (i + 1) actors k (omega arith) in
+        let one : one_if (k == i + 1) ≡ 1 = ap (λ (b : Bool). one_if b) is in
+        omega arith
     by_test false is rest = let none : one_if (k == i + 1) ≡ 0 = ap (λ (b : Bool). one_if b) is in omega arith
 
 hits_reporter_none : (i : ℕ) (actors : List Actor) (k : ℕ) → ((j : ℕ) (b : Actor) → get_elem? actors j ≡ some b → k ≢ b.number) → hits i actors (Reporter k) ≡ 0
@@ -261,11 +267,13 @@ module _ (state : MachineState) where
       let sum = sum_by-cons (λ (a : Actor). length a.doing.calls) a actors in
       omega arith
 
-  from_none : (actors : List Actor) → ((j : ℕ) (a : Actor) → get_elem? actors j ≡ some a → FitsRun state j a.number a.doing) → (j : ℕ) (a : Actor) → get_elem? actors j ≡ some a → FitsRun state (0 + j) a.number a.doing
+  from_none : (actors : List Actor) → ((j : ℕ) (a : Actor) → get_elem? actors j ≡ some a → FitsRun state j a.number a.doing) → (j : ℕ) (a : Actor) → get_elem? actors j ≡ some a
+      → FitsRun state (0 + j) a.number a.doing
   from_none actors each j a at = let here : j ≡ 0 + j = omega arith in subst (λ (n : ℕ). FitsRun state n a.number a.doing) here (each j a at)
 
   pub finished_decided : (actors : List Actor) → ((j : ℕ) (a : Actor) → get_elem? actors j ≡ some a → FitsRun state j a.number a.doing) → Apart actors → finished_by actors ≤ decided_in state.calls
   finished_decided actors each apart = let a = finished_low 0 actors (from_none actors each) in let b = counted_decided actors state.calls apart in omega arith
 
-  pub decided_finished : (actors : List Actor) → ((j : ℕ) (a : Actor) → get_elem? actors j ≡ some a → FitsRun state j a.number a.doing) → All (IsOfActor actors) (calls_told state) → decided_in state.calls ≤ finished_by actors
+  pub decided_finished : (actors : List Actor) → ((j : ℕ) (a : Actor) → get_elem? actors j ≡ some a → FitsRun state j a.number a.doing) → All (IsOfActor actors) (calls_told state)
+      → decided_in state.calls ≤ finished_by actors
   decided_finished actors each only = let a = finished_high 0 actors (from_none actors each) in let b = decided_counted actors state.calls only in omega arith

@@ -230,7 +230,10 @@ module _ (a v w : View) (n : ℕ) (steady : IsSteady v) (loads : LoadsEnlisted (
       }
 
   pub met_continues : Continues (pass_view_of v) (pass_view_of w)
-  met_continues = let above = loads.above in let listed = loads.listed in record { sound = met_steady.sound; on = record { seen = own_first; listed = omega arith; share = loads.sees.goes.share }; number = loads.sees.number }
+  met_continues =
+      let above = loads.above in
+      let listed = loads.listed in
+      record { sound = met_steady.sound; on = record { seen = own_first; listed = omega arith; share = loads.sees.goes.share }; number = loads.sees.number }
 
   pub met_says : Hearing a.seen (pass_view_of v) (pass_view_of w)
   met_says = record {

@@ -1,5 +1,6 @@
 -- The steps of one pass while no pass finishes a call.
-use Rattle.std.proofs.Common.{◌≡◌, ℕ, zero, suc, ◌+◌, ◌<◌, ◌≤◌, ◌==◌, Bool, true, false, cond, List, [], ◌∷◌, ◌++◌, length, map, inl, inr, refl, sym, ap, ◌∙◌, subst, arith, le_refl, length-append, ne_eqb}
+use Rattle.std.proofs.Common.{◌≡◌, ℕ, zero, suc, ◌+◌, ◌<◌, ◌≤◌, ◌==◌, Bool, true, false, cond, List, [], ◌∷◌, ◌++◌, length, map, inl, inr, refl, sym, ap, ◌∙◌, subst, arith}
+use Rattle.std.proofs.Common.{le_refl, length-append, ne_eqb}
 use Rattle.std.specs.Prelude.{◌≢◌, ◌*◌, All, filter}
 use mathlib.Core.Bool.{not}
 use Rattle.std.proofs.lemmas.Bool.{cases_lt, eqb-false}
@@ -24,10 +25,12 @@ use Rattle.ucl_words.proofs.KeptRule.{known_at, apart_actors}
 abbrev at_seat : ℕ → List (ℕ × Access) → List (ℕ × Access)
 at_seat seat ys = filter (λ (y : ℕ × Access). y.0 == seat) ys
 
-of_one : (seat : ℕ) (x : Logged) (b : Bool) → (x.seat == seat) ≡ b → length (at_seat seat (map (λ (m : Access). (x.seat, m)) (access_list x.step.target x.step.at))) ≡ cond b (length (access_list x.step.target x.step.at)) 0
+of_one : (seat : ℕ) (x : Logged) (b : Bool) → (x.seat == seat) ≡ b
+    → length (at_seat seat (map (λ (m : Access). (x.seat, m)) (access_list x.step.target x.step.at))) ≡ cond b (length (access_list x.step.target x.step.at)) 0
 of_one seat x b is = by_target x.step.target b is
   where
-    by_target : (target : Target) (b : Bool) → (x.seat == seat) ≡ b → length (at_seat seat (map (λ (m : Access). (x.seat, m)) (access_list target x.step.at))) ≡ cond b (length (access_list target x.step.at)) 0
+    by_target : (target : Target) (b : Bool) → (x.seat == seat) ≡ b
+        → length (at_seat seat (map (λ (m : Access). (x.seat, m)) (access_list target x.step.at))) ≡ cond b (length (access_list target x.step.at)) 0
     by_target (Match kind game found) true is = ap (λ (z : Bool). length {A = ℕ × Access} (cond z ((x.seat, record { kind = kind; game = game; found = found; at = x.step.at }) ∷ []) [])) is
     by_target (Match kind game found) false is = ap (λ (z : Bool). length {A = ℕ × Access} (cond z ((x.seat, record { kind = kind; game = game; found = found; at = x.step.at }) ∷ []) [])) is
     by_target (Enlisted found) true is = refl

@@ -18,7 +18,8 @@ StepKind = Step Entry → Me Entry WordView → ℕ → Me Entry WordView → Ty
 
 -- whatever it finds, a step of this kind lets its pass go on
 abbrev pub LetsGoOn : StepKind → Type 0
-LetsGoOn tells = (st : Step Entry) (m : Me Entry WordView) (n : ℕ) (m' : Me Entry WordView) → tells st m n m' → HasGoneOn (word_actor m.0) (word_actor m'.0)
+LetsGoOn tells =
+    (st : Step Entry) (m : Me Entry WordView) (n : ℕ) (m' : Me Entry WordView) → tells st m n m' → HasGoneOn (word_actor m.0) (word_actor m'.0)
 
 -- the pass of one seat took a step of this kind, which found the word that was there, and no other pass took one
 pub record PassSteps (tells : StepKind) (s t : State Entry WordView) : Type 0 where
@@ -72,7 +73,8 @@ pub record Later (s t : State Entry WordView) : Type 0 where
   pub between : List (State Entry WordView)
   pub steps : LeadsTo s between t
 
--- what the clauses of the kit's calls allow leads on in this way: an atomic step of a kind, whatever it finds, to a state that meets the rule, and by that kind
+-- what the clauses of the kit's calls allow leads on in this way: an atomic step of a kind, whatever it finds, to a state that meets the
+-- rule, and by that kind
 pub record LeadsBy (kind : StepKind) (s : State Entry WordView) (word next : ℕ) : Type 0 where
   pub state : State Entry WordView
   pub rule : TableKeepsOneHistory state
@@ -80,10 +82,12 @@ pub record LeadsBy (kind : StepKind) (s : State Entry WordView) (word next : ℕ
   pub steps : PassSteps kind s state
 
 abbrev pub StepsLeadOn : StepKind → Type 0
-StepsLeadOn kind = (seat : ℕ) (next : ℕ → ℕ) (st : Step Entry) (m : Me Entry WordView) → Allows TableKeepsOneHistory st.slots seat m st.word next (kind st m)
-    → (s : State Entry WordView) → TableKeepsOneHistory s → length s.homes ≡ st.slots → get_elem? s.views seat ≡ some m.0 → slice_index s.words st.word < 18446744073709551616
-    → LeadsBy kind s st.word (next (slice_index s.words st.word))
+StepsLeadOn kind =
+    (seat : ℕ) (next : ℕ → ℕ) (st : Step Entry) (m : Me Entry WordView) → Allows TableKeepsOneHistory st.slots seat m st.word next (kind st m)
+    → (s : State Entry WordView) → TableKeepsOneHistory s → length s.homes ≡ st.slots → get_elem? s.views seat ≡ some m.0
+    → slice_index s.words st.word < 18446744073709551616 → LeadsBy kind s st.word (next (slice_index s.words st.word))
 
 -- what a step of this kind says that it found is as many reporters as were enlisted
 abbrev pub FindsEnlisted : StepKind → Type 0
-FindsEnlisted kind = (s t : State Entry WordView) (r : TableKeepsOneHistory s) (p : PassSteps kind s t) → CountsReporters r.shared.enlisted p.was.0.pass p.is.0.pass
+FindsEnlisted kind =
+    (s t : State Entry WordView) (r : TableKeepsOneHistory s) (p : PassSteps kind s t) → CountsReporters r.shared.enlisted p.was.0.pass p.is.0.pass

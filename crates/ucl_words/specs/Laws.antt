@@ -42,12 +42,14 @@ pub record GoesOnWith (s t : State Entry WordView) (r : TableKeepsOneHistory s) 
   pub passes : HaveGoneOn (word_actors s.views) (word_actors t.views)
 
 abbrev pub LaterBoardsGoOn : Type 0
-LaterBoardsGoOn = (s t : State Entry WordView) (r : TableKeepsOneHistory s) (q : TableKeepsOneHistory t) → Later s t → GoesOnWith s t r q
+LaterBoardsGoOn =
+    (s t : State Entry WordView) (r : TableKeepsOneHistory s) (q : TableKeepsOneHistory t) → Later s t → GoesOnWith s t r q
 
 -- the run of a later state begins with the run of the earlier one: so a state has one run, and no call's place in it ever moves
 abbrev pub RunsGrow : Type 0
-RunsGrow = (s t : State Entry WordView) (r : TableKeepsOneHistory s) (q : TableKeepsOneHistory t) → Later s t → (earlier : IsRunOfBoard s r) (later : IsRunOfBoard t q)
-    → IsPrefix earlier.one.of_actors.moves later.one.of_actors.moves
+RunsGrow =
+    (s t : State Entry WordView) (r : TableKeepsOneHistory s) (q : TableKeepsOneHistory t) → Later s t
+    → (earlier : IsRunOfBoard s r) (later : IsRunOfBoard t q) → IsPrefix earlier.one.of_actors.moves later.one.of_actors.moves
 
 -- each pass took few of the steps on match words, and so all passes did
 pub record PassesTookFew (views : List WordView) (since : Log) : Type 0 where
@@ -56,10 +58,13 @@ pub record PassesTookFew (views : List WordView) (since : Log) : Type 0 where
 
 -- while passes take steps, calls finish: between two moments at which as many calls were finished, passes took few steps
 abbrev pub SomeCallFinishes : Type 0
-SomeCallFinishes = (s t : State Entry WordView) (r : TableKeepsOneHistory s) (q : TableKeepsOneHistory t) → Later s t → finished_by (word_actors t.views) ≡ finished_by (word_actors s.views)
-    → (since : Log) → q.shared.log ≡ r.shared.log ++ since → PassesTookFew t.views since
+SomeCallFinishes =
+    (s t : State Entry WordView) (r : TableKeepsOneHistory s) (q : TableKeepsOneHistory t) → Later s t
+    → finished_by (word_actors t.views) ≡ finished_by (word_actors s.views) → (since : Log) → q.shared.log ≡ r.shared.log ++ since → PassesTookFew t.views since
 
 -- the number that a reader was given is above all that had been given when it had none
 abbrev pub NumbersRiseInTime : Type 0
-NumbersRiseInTime = (s t : State Entry WordView) (r : TableKeepsOneHistory s) → TableKeepsOneHistory t → Later s t
-    → (seat : ℕ) (v w : WordView) → get_elem? s.views seat ≡ some v → v.pass.number ≡ 0 → get_elem? t.views seat ≡ some w → 0 < w.pass.number → IsGivenAfter r.shared.enlisted (known s.views) w.pass.number
+NumbersRiseInTime =
+    (s t : State Entry WordView) (r : TableKeepsOneHistory s) → TableKeepsOneHistory t → Later s t
+    → (seat : ℕ) (v w : WordView) → get_elem? s.views seat ≡ some v → v.pass.number ≡ 0 → get_elem? t.views seat ≡ some w → 0 < w.pass.number
+    → IsGivenAfter r.shared.enlisted (known s.views) w.pass.number

@@ -62,20 +62,20 @@ pub fn later_boards_go_on()
     ensures { LaterBoardsGoOn }
 {}
 
-/// The run of a later state is a longer run: wherever steps of the passes lead from one state to another, each run of the later state begins
-/// with each run of the earlier one. So a state has one run, and the place of a call in it, once it is there, never moves.
+/// The run of a later state is a longer run: wherever steps of the passes lead from one state to another, each run of the later state
+/// begins with each run of the earlier one. So a state has one run, and the place of a call in it, once it is there, never moves.
 pub fn runs_grow()
     ensures { RunsGrow }
 {}
 
-/// While passes take steps, calls finish: between two states of which the later one has as many finished calls, each pass has taken 35 steps on
-/// match words at most, and all passes 35 times as many as there are. It says nothing of which pass finishes a call.
+/// While passes take steps, calls finish: between two states of which the later one has as many finished calls, each pass has taken 35
+/// steps on match words at most, and all passes 35 times as many as there are. It says nothing of which pass finishes a call.
 pub fn some_call_finishes()
     ensures { SomeCallFinishes }
 {}
 
-/// The number that a reader is given is above all that had been given at any earlier moment at which it had none: so of two enlistments that
-/// follow one another the later one has the higher number, also of passes that never met.
+/// The number that a reader is given is above all that had been given at any earlier moment at which it had none: so of two enlistments
+/// that follow one another the later one has the higher number, also of passes that never met.
 pub fn numbers_rise_in_time()
     ensures { NumbersRiseInTime }
 {}
