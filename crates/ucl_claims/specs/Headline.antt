@@ -1,6 +1,5 @@
 -- One history for all callers, and the screens of what its readers read.
 use Rattle.std.specs.Prelude.{◌≡◌, ℕ, ◌++◌, List, All, length, take, drop, flat_map, Some}
-use mathlib.Core.List.{IsPrefix}
 use Rattle.atomic_table.specs.Table.{State}
 use Rattle.ucl_board.specs.declared.entry.Entry.{Entry}
 use Rattle.ucl_board.specs.declared.reading.Reading.{Reading}
@@ -21,7 +20,6 @@ use Rattle.ucl_words.specs.declared.view.WordView.{WordView}
 use Rattle.ucl_words.specs.WordRule.{word_actors, TableKeepsOneHistory}
 use Rattle.ucl_steps.specs.PassRuns.{steps_of_moves}
 use Rattle.ucl_steps.specs.Actors.{Actor, IsRunOfActors}
-use Rattle.ucl_steps.specs.Growing.{HaveGoneOn, GoesOnFrom}
 use Rattle.ucl_pass.specs.CellViews.{actors_of}
 use Rattle.ucl_pass.specs.CellRule.{CellState, CellMeetsItsRule}
 
@@ -59,8 +57,3 @@ pub record HaveOneHistory (enlisted : ℕ) (history : List Entry) (board : List 
 pub record BoardsHaveOneHistory : Type 0 where
   pub word_boards : (s : State Entry WordView) (r : TableKeepsOneHistory s) → HaveOneHistory r.shared.enlisted (history_of r.shared.log) (drop 1 s.words) (word_actors s.views)
   pub cell_boards : (s : CellState) (r : CellMeetsItsRule s) → HaveOneHistory r.shared.enlisted (history_of r.shared.log) (take 12 s.words) (actors_of s.views)
-  -- the run of a later state of a word board begins with that of the earlier one
-  pub later_word_boards : (s t : State Entry WordView) (r : TableKeepsOneHistory s) (q : TableKeepsOneHistory t) → IsPrefix r.shared.log q.shared.log → HaveGoneOn (word_actors s.views) (word_actors t.views) → IsPrefix (word_boards s r).run.moves (word_boards t q).run.moves
-  -- that of a later state of a cell board goes on from it: what it has of each pass begins with what the earlier run has of it
-  pub later_cell_boards : (s t : CellState) (r : CellMeetsItsRule s) (q : CellMeetsItsRule t) → IsPrefix r.shared.log q.shared.log → HaveGoneOn (actors_of s.views) (actors_of t.views)
-      → GoesOnFrom (actors_of s.views) (cell_boards s r).run.state (actors_of t.views) (cell_boards t q).run.state

@@ -4,4 +4,4 @@
 
 mod laws;
 
-pub use laws::{boards_have_one_history, every_run_has_one_history};
+pub use laws::{boards_have_one_history, every_run_has_one_history, histories_go_on};

@@ -32,12 +32,12 @@ use Rattle.ucl_steps.specs.declared.trace.Reply.TheVariants as replies
 use Rattle.ucl_steps.specs.Protocol.{Answer}
 use Rattle.ucl_pass.specs.declared.view.CellView.{CellView}
 use Rattle.ucl_pass.specs.CellRule.{words_after}
-use Rattle.ucl_pass.specs.CellSteps.{IsNextBoard, with_one_more, word_looked_at, HasSeenAll, StoresEntry, StoresReporter, LooksOnly, LooksAtMatch, LooksAtEnlisted, LooksAndShows, finished_too}
+use Rattle.ucl_pass.specs.CellSteps.{IsNextBoard, word_looked_at, HasSeenAll, StoresEntry, StoresReporter, LooksOnly, LooksAtMatch, LooksAtEnlisted, LooksAndShows, finished_too}
 use Rattle.ucl_pass.specs.CellSteps.{after_load, HasAccepted, AreAccepting, LookOfCell, ReadOfCell}
 use Rattle.ucl_shared.specs.CallSteps.{steps_with, entry_made, MeetingSteps}
 use Rattle.ucl_pass.specs.CellCalls.{CellMissed, no_event_between, WereLost, CellReport, CellEnlistMissed, CellEnlistment, CellReading, FinishesReport, FinishesReading}
 use Rattle.ucl_shared.proofs.CallsBySteps.{takes_none, takes_on, takes_count, Stays, stays_none, stays_more, all_more}
-use Rattle.ucl_pass.proofs.KeptRule.{match_words, match_word, last_word, one_more_last}
+use Rattle.ucl_pass.proofs.KeptRule.{match_words, match_word, last_word}
 
 -- an exchange that was won
 pub won : (r : Result (List ℕ) (List ℕ)) (P Q : List ℕ → Type 0) → MatchResult r P Q → is_ok r ≡ true → (x : List ℕ) × P x
@@ -322,7 +322,7 @@ module _ (v w u : View) (x : List ℕ) (tried : TriedEnlist v w) (looked : Looks
             omega arith);
       }
 
-  module _ (z : View) (next : List ℕ) (stored : StoresReporter u next z) where
+  module _ (z : View) (next : List ℕ) (stored : StoresReporter u x next z) where
     pub enlisted_says : Enlistment (pass_view_of v) (pass_view_of z)
     enlisted_says =
         let e = stored.enlists in
@@ -342,7 +342,7 @@ module _ (v w u : View) (x : List ℕ) (tried : TriedEnlist v w) (looked : Looks
 
     pub enlisted_steps : CellEnlistment v true z
     enlisted_steps =
-        let swap_step = step_taken (Enlisted stored.found) (length z.seen) None in
+        let swap_step = step_taken (Enlisted (slice_index x 12)) (length z.seen) None in
         record {
           tries = tried.tries;
           last = count_step ∷ swap_step ∷ [];
@@ -350,18 +350,14 @@ module _ (v w u : View) (x : List ℕ) (tried : TriedEnlist v w) (looked : Looks
               (takes_on v u z (flat_map (λ t. t) tried.tries ++ count_step ∷ []) (swap_step ∷ []) count_takes stored.enlists.takes);
           missed = tried.missed;
           lost = (let a = tried.lost in let b = looked.seen_all.listed in let d = stored.enlists.above in omega arith);
-          answered = (slice_index x 12, stored.found, length u.seen, refl);
+          answered = (slice_index x 12, length u.seen, refl, stored.enlists.number ∙ stored.enlists.next);
         }
 
     pub enlisted_counts : count_of v < count_of z
-    enlisted_counts = let before = look_counts in omega (arith, before, takes_count u z (step_taken (Enlisted stored.found) (length z.seen) None ∷ []) stored.enlists.takes)
+    enlisted_counts = let before = look_counts in omega (arith, before, takes_count u z (step_taken (Enlisted (slice_index x 12)) (length z.seen) None ∷ []) stored.enlists.takes)
 
-    -- the new number is one more than the last word that was found
-    pub new_number : next ≡ with_one_more x → z.number ≡ slice_index x 12 + 1
-    new_number is =
-        let more : slice_index next 12 ≡ slice_index x 12 + 1 = ap (λ (ws : List ℕ). slice_index ws 12) (is ∙ ap with_one_more looked.seen_all.words_are)
-        ∙ (one_more_last u.seen u.listed ∙ ap (λ (n : ℕ). n + 1) (sym (last_seen x w u looked.seen_all looked.sees.goes))) in
-        stored.enlists.number ∙ (sym (last_seen next u z stored.seen_all stored.enlists.goes) ∙ more)
+    pub new_number : z.number ≡ slice_index x 12 + 1
+    new_number = stored.enlists.number ∙ stored.enlists.next
 
 -- a note was heard
 module _ (a v w : View) (x : List ℕ) (looked : LooksAtEnlisted (told_by v (note_of a)) x x w) where
@@ -383,7 +379,11 @@ module _ (a v w : View) (x : List ℕ) (looked : LooksAtEnlisted (told_by v (not
   }
 
   pub met_steps : MeetingSteps v w
-  met_steps = (slice_index x 12, record { own = looked.sees.takes.own; copied = looked.sees.takes.copied })
+  met_steps = record {
+    found = slice_index x 12;
+    takes = record { own = looked.sees.takes.own; copied = looked.sees.takes.copied };
+    listed = sym (last_seen x (told_by v (note_of a)) w looked.seen_all looked.sees.goes);
+  }
 
 -- the finished calls after a report, and between its tries
 

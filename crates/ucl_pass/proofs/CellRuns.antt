@@ -17,7 +17,8 @@ use Rattle.ucl_steps.proofs.Seats.{map_there}
 use Rattle.ucl_steps.proofs.KeptRecords.{kept_records}
 use Rattle.ucl_pass.specs.declared.view.CellView.{CellView}
 use Rattle.ucl_pass.specs.CellViews.{actor_of, actors_of}
-use Rattle.ucl_pass.specs.Laws.{CellBoardsAreRuns, CellRunsGrow}
+use Rattle.ucl_pass.specs.CellRule.{CellState, CellMeetsItsRule}
+use Rattle.ucl_pass.specs.Laws.{IsRunOfCell, CellBoardsAreRuns, CellGoesOnWith}
 
 pub cells_run : CellBoardsAreRuns
 cells_run s r =
@@ -48,6 +49,7 @@ module _ (views views' : List CellView) (readers readers' enlisted enlisted' : �
             (λ seat a there. (q.each seat a there, none_held views' seat a there));
       }
 
-pub cells_go_on : CellRunsGrow
-cells_go_on s t r q before on earlier later =
-    cell_goes_on s.views t.views (length s.views) (length t.views) r.shared.enlisted q.shared.enlisted r.shared.log q.shared.log earlier.one later.one before on
+pub cells_go_on : (s t : CellState) (r : CellMeetsItsRule s) (q : CellMeetsItsRule t) → CellGoesOnWith s t r q → (earlier : IsRunOfCell s r) (later : IsRunOfCell t q)
+    → GoesOnFrom (actors_of s.views) earlier.one.state (actors_of t.views) later.one.state
+cells_go_on s t r q on earlier later =
+    cell_goes_on s.views t.views (length s.views) (length t.views) r.shared.enlisted q.shared.enlisted r.shared.log q.shared.log earlier.one later.one on.log on.passes

@@ -6,7 +6,7 @@ use mathlib.Core.Option.{some}
 use lib.ListN.{get_elem?}
 use lib.Pointwise.{pointwise, bytes_decides}
 use Rattle.crossbeam_utils.specs.Register.{Turns, Forks, Merges}
-use Rattle.atomic_table.proofs.Lists.{at_longer, set_here}
+use Rattle.atomic_table.proofs.Lists.{at_longer, set_here, at_last}
 use Rattle.ucl_word.specs.declared.event.EventCall.{EventCall}
 use Rattle.ucl_word.specs.declared.refusal.Refusal.{Refusal}
 use Rattle.ucl_word.specs.Record.{IsReporter}
@@ -23,6 +23,7 @@ use Rattle.ucl_board.proofs.Beginnings.{begins_length}
 use Rattle.ucl_shared.specs.declared.view.View.{View}
 use Rattle.ucl_shared.specs.Views.{newcomer, opener}
 use Rattle.ucl_shared.specs.OneHistory.{KeepsOneHistory}
+use Rattle.ucl_shared.specs.Steps.{Enlists}
 use Rattle.ucl_steps.specs.declared.step.Caller.{Caller}
 use Rattle.ucl_steps.specs.declared.step.Caller.TheVariants.{Reporter, Reader}
 use Rattle.ucl_steps.specs.declared.step.Call.{Call}
@@ -35,7 +36,7 @@ use Rattle.ucl_steps.specs.PassRuns.{cast_for, steps_of_moves}
 use Rattle.ucl_pass.specs.declared.view.CellView.{CellView}
 use Rattle.ucl_steps.specs.Actors.{Actor, IsRunOfActors}
 use Rattle.ucl_pass.specs.CellViews.{new_cell_pass, first_cell_pass, left_cell_pass, second_cell_pass, note_cell_pass, told_cell_pass, all_finished, actor_of, actors_of, views_known}
-use Rattle.ucl_pass.specs.CellRule.{words_after, CellKeepsOneHistory, CellStands}
+use Rattle.ucl_pass.specs.CellRule.{words_after, CellKeepsOneHistory, CellStands, CellStandAfterSplit}
 use Rattle.ucl_pass.specs.CellSteps.{IsNextBoard, with_one_more, word_looked_at, Looks, StoresEntry, StoresReporter, LooksOnly, LooksAtEnlisted, AddsOrLooks, EnlistsOrLooks, finished_too, after_load}
 use Rattle.ucl_pass.specs.CellSteps.{HasAccepted, DecidesReport, AreAccepting, LookOfCell, AddOfCell, ReadOfCell, CountOfCell, EnlistOfCell, TellsAndStands}
 use Rattle.ucl_shared.proofs.KeptRule.{looked, look_keeps, look_tells, same_history, entered, add_keeps, add_tells, longer_history, enlisted_as, enlist_keeps, enlist_tells, unchanged_history}
@@ -420,11 +421,15 @@ adds seat v e current next acts pos game is accepts x views r here =
       record { adds = inl (refl, load_tells x views r seat v here acts target there v.pass.shown); missed = λ _. refl; won = λ other. absurd (other refl) },
     ))
 
+-- the number of reporters is the last word
+pub found_last : (x : List ℕ) (views : List CellView) (r : CellKeepsOneHistory x views) → r.shared.enlisted ≡ slice_index x 12
+found_last x views r = sym (ap (λ (ws : List ℕ). slice_index ws 12) r.shared.words_are ∙ last_word (history_of r.shared.log) r.shared.enlisted)
+
 -- an exchange that adds a reporter
 module _ (x : List ℕ) (views : List CellView) (r : CellKeepsOneHistory x views) (seat : ℕ) (v : CellView) (here : get_elem? views seat ≡ some v) (acts : IsSome v.pass.share)
     (reader : v.pass.number ≡ 0) (room : slice_index x 12 < 255) where
   left : r.shared.enlisted < 255
-  left = subst (λ (k : ℕ). k < 255) (ap (λ (ws : List ℕ). slice_index ws 12) r.shared.words_are ∙ last_word (history_of r.shared.log) r.shared.enlisted) room
+  left = subst (λ (k : ℕ). k < 255) (sym (found_last x views r)) room
 
   more : with_one_more x ≡ words_after (history_of r.shared.log) (r.shared.enlisted + 1)
   more = ap with_one_more r.shared.words_are ∙ more_words (history_of r.shared.log) r.shared.enlisted
@@ -453,14 +458,13 @@ module _ (x : List ℕ) (views : List CellView) (r : CellKeepsOneHistory x views
       (run_enlisted readers r.shared.enlisted (history_of r.shared.log) (actors_of views) (r.one_run readers (omega arith)) seat (actor_of v) (actor_at x views r seat v here) reader left refl
       (low_actors x views r)))
 
-  enlisting_tells : StoresReporter v.pass (with_one_more x) seen_by_enlisting
+  enlisting_tells : StoresReporter v.pass x (with_one_more x) seen_by_enlisting
   enlisting_tells =
       let f = r.shared.fits seat v.pass seat_known in
       let l = f.listed in
       record {
         seen_all = record { words_are = more ∙ ap (λ (h : List Entry). words_after h (r.shared.enlisted + 1)) (sym enlisting_same); listed = omega arith; up_to_date = refl };
-        found = r.shared.enlisted;
-        enlists = enlist_tells words_after x (views_known views) r.shared seat v.pass seat_known acts reader left;
+        enlists = subst (λ (n : ℕ). Enlists n v.pass seen_by_enlisting) (found_last x views r) (enlist_tells words_after x (views_known views) r.shared seat v.pass seat_known acts reader left);
       }
 
   enlisting_differs : x ≢ with_one_more x
@@ -476,12 +480,12 @@ enlists seat v current next acts reader room is x views r here =
     subst (λ (y : List ℕ). (w : CellView) × CellKeepsOneHistory y (set views seat w) × EnlistOfCell v x y w) (sym next') (
       after_enlisting x views r seat v here acts reader room',
       enlisting_keeps x views r seat v here acts reader room',
-      record { enlists = inr (enlisting_differs x views r seat v here acts reader room', enlisting_tells x views r seat v here acts reader room'); calls = refl },
+      record { reader = reader; enlists = inr (enlisting_differs x views r seat v here acts reader room', enlisting_tells x views r seat v here acts reader room'); calls = refl },
     ))
     (λ _. (
       record { pass = seen_by_load x views r seat v here acts (Enlisted (slice_index x 12)) tt v.pass.shown; calls = v.calls },
       idle_load x views r seat v here acts (Enlisted (slice_index x 12)) tt v.pass.shown,
-      record { enlists = inl (refl, load_tells x views r seat v here acts (Enlisted (slice_index x 12)) tt v.pass.shown); calls = refl },
+      record { reader = reader; enlists = inl (refl, load_tells x views r seat v here acts (Enlisted (slice_index x 12)) tt v.pass.shown); calls = refl },
     ))
 
 -- one pass more, that has finished no call, beside one that has finished what it had finished
@@ -507,14 +511,19 @@ seconds seat v x views r here =
     let same = second_same words_after x (views_known views) r.shared seat v.pass at in
     split_keeps x views r seat v here (left_cell_pass v) (second_cell_pass v) refl refl (second_added words_after x (views_known views) r.shared seat v.pass at) same.0 same.1
 
--- a pass that another was split off still stands
-pub split_stands : (seat : ℕ) (v : CellView) → CellStands seat v → CellStands seat (left_cell_pass v)
-split_stands seat v was =
+-- a pass that another was split off still stands, beside that one
+pub split_stands : (v : CellView) → CellStandAfterSplit v (left_cell_pass v) (second_cell_pass v)
+split_stands v seat was =
     let left : List CellView = set was.state.views seat (left_cell_pass v) in
+    let here = set_here was.state.views seat (left_cell_pass v) (place_below was.state.views seat v was.here) in
+    let below = place_below left seat (left_cell_pass v) here in
     record {
       state = record { words = was.state.words; views = left ++ second_cell_pass v ∷ [] };
       rule = seconds seat v was.state.words was.state.views was.rule was.here;
-      here = at_longer left (second_cell_pass v ∷ []) seat (left_cell_pass v) (set_here was.state.views seat (left_cell_pass v) (place_below was.state.views seat v was.here));
+      here = at_longer left (second_cell_pass v ∷ []) seat (left_cell_pass v) here;
+      other = length left;
+      apart = λ is. omega arith;
+      there = at_last left (second_cell_pass v) (length left) refl;
     }
 
 pub notes : (seat : ℕ) (v : CellView) → Forks CellKeepsOneHistory seat v v (note_cell_pass v)
@@ -567,7 +576,7 @@ add_says e v w current next (Err x) is said =
 -- what an exchange for an enlistment says by its answer
 pub enlist_says : (v w : View) (current next : List ℕ) (r : Result (List ℕ) (List ℕ)) → next ≡ with_one_more current
     → MatchResult r (λ x. (pointwise nat_eq x current ≡ true) × EnlistsOrLooks v x next w) (λ x. (pointwise nat_eq x current ≡ false) × EnlistsOrLooks v x x w)
-    → MatchResult r (λ x. (x ≡ current) × StoresReporter v next w) (λ x. (x ≢ current) × LooksAtEnlisted v x x w)
+    → MatchResult r (λ x. (x ≡ current) × StoresReporter v current next w) (λ x. (x ≢ current) × LooksAtEnlisted v x x w)
 enlist_says v w current next (Ok x) is said =
     let same : x ≡ current = (bytes_decides x current).0 said.0 in
     ⊎_elim
@@ -576,10 +585,10 @@ enlist_says v w current next (Ok x) is said =
     let was : current ≡ words_after w.seen w.listed = sym same ∙ (t.0 ∙ l.seen_all.words_are) in
     let more : next ≡ words_after w.seen (w.listed + 1) = is ∙ (ap with_one_more was ∙ more_words w.seen w.listed) in
     absurd (reporter_differs w.seen w.listed (sym l.seen_all.words_are ∙ more)))
-    (λ (t : (x ≢ next) × StoresReporter v next w). (same, t.1))
+    (λ (t : (x ≢ next) × StoresReporter v x next w). (same, subst (λ (c : List ℕ). StoresReporter v c next w) same t.1))
     said.1
 enlist_says v w current next (Err x) is said =
-    (other_words x current said.0, ⊎_elim (λ (t : (x ≡ x) × LooksAtEnlisted v x x w). t.1) (λ (t : (x ≢ x) × StoresReporter v x w). absurd (t.0 refl)) said.1)
+    (other_words x current said.0, ⊎_elim (λ (t : (x ≡ x) × LooksAtEnlisted v x x w). t.1) (λ (t : (x ≢ x) × StoresReporter v x x w). absurd (t.0 refl)) said.1)
 
 -- what an exchange tells by its answer
 abbrev pub AnswersBy : (CellView → List ℕ → List ℕ → CellView → Type 0) → CellView → List ℕ → List ℕ → Result (List ℕ) (List ℕ) → CellView → Type 0

@@ -5,3 +5,4 @@ pub mod CallsBySteps
 pub mod Reports
 pub mod WholeReports
 pub mod CellRuns
+pub mod LaterCells

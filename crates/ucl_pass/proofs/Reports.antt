@@ -54,11 +54,11 @@ enlist_tries_report : (tries : List (List Taken)) → AllByRecursion CellEnlistM
 enlist_tries_report [] all = refl
 enlist_tries_report (t ∷ ts) all = reports_both t (flat_map (λ x. x) ts) 0 0 (enlist_try_reports t all.0) (enlist_tries_report ts all.1)
 
-enlist_answer_reports : (given : Bool) (now : ℕ) (steps : List Taken) → CellEnlistAnswered given now steps → CellHasReported steps 0
-enlist_answer_reports true now steps a = subst (λ (l : List Taken). CellHasReported l 0) (sym a.3) refl
-enlist_answer_reports false now steps a = subst (λ (l : List Taken). CellHasReported l 0) (sym a.1) refl
+enlist_answer_reports : (given : Bool) (w : View) (steps : List Taken) → CellEnlistAnswered given w steps → CellHasReported steps 0
+enlist_answer_reports true w steps a = subst (λ (l : List Taken). CellHasReported l 0) (sym a.2) refl
+enlist_answer_reports false w steps a = subst (λ (l : List Taken). CellHasReported l 0) (sym a) refl
 
 pub enlistment_counts : (v w : View) (given : Bool) → CellEnlistment v given w → ReportsMore (CellHasReported v.own) 0 (CellHasReported w.own)
 enlistment_counts v w given e =
     more_by v (flat_map (λ t. t) e.tries ++ e.last) w 0 e.takes
-    (reports_both (flat_map (λ t. t) e.tries) e.last 0 0 (enlist_tries_report e.tries e.missed) (enlist_answer_reports given (length w.seen) e.last e.answered))
+    (reports_both (flat_map (λ t. t) e.tries) e.last 0 0 (enlist_tries_report e.tries e.missed) (enlist_answer_reports given w e.last e.answered))

@@ -64,20 +64,21 @@ pub record CellEnlistMissed (steps : List Taken) : Type 0 where
   pub later : ℕ
   pub steps_are : steps ≡ step_taken (Enlisted loaded) at None ∷ step_taken (Enlisted found) later None ∷ []
 
--- the try that has the answer: a load and an exchange that gave the number, or a load that found as many enlisted as there are numbers
-abbrev pub CellEnlistAnswered : Bool → ℕ → List Taken → Type 0
-CellEnlistAnswered true now steps = (loaded found at : ℕ) × (steps ≡ step_taken (Enlisted loaded) at None ∷ step_taken (Enlisted found) now None ∷ [])
-CellEnlistAnswered false now steps = (loaded : ℕ) × (steps ≡ step_taken (Enlisted loaded) now None ∷ [])
+-- the try that has the answer: a load, and an exchange that found the same number and gave the next one; or a load that found as many
+-- enlisted as there are numbers
+abbrev pub CellEnlistAnswered : Bool → View → List Taken → Type 0
+CellEnlistAnswered true w steps =
+    (found at : ℕ) × (steps ≡ step_taken (Enlisted found) at None ∷ step_taken (Enlisted found) (length w.seen) None ∷ []) × (w.number ≡ found + 1)
+CellEnlistAnswered false w steps = steps ≡ step_taken (Enlisted 255) (length w.seen) None ∷ []
 
--- an enlistment on the cell, which gave a number or found none: tries in vain, and then the one that has the answer. The number that it
--- gave is one more than were enlisted
+-- an enlistment on the cell, which gave a number or found none: tries in vain, and then the one that has the answer
 pub record CellEnlistment (v : View) (given : Bool) (w : View) : Type 0 where
   pub tries : List (List Taken)
   pub last : List Taken
   pub takes : Takes v (flat_map (λ x. x) tries ++ last) w
   pub missed : AllByRecursion CellEnlistMissed tries
   pub lost : WereLost (v.listed + (if given then 1 else 0)) tries w.listed
-  pub answered : CellEnlistAnswered given (length w.seen) last
+  pub answered : CellEnlistAnswered given w last
 
 -- a load for a report
 abbrev pub looks_for_report : Target → Bool

@@ -5,7 +5,7 @@ use Rattle.ucl_board.specs.History.{board_of}
 use Rattle.ucl_board.specs.Log.{history_of}
 use Rattle.ucl_shared.specs.declared.view.View.{View}
 use Rattle.ucl_shared.specs.OneHistory.{KeepsOneHistory}
-use Rattle.ucl_shared.specs.Standing.{StandsIn}
+use Rattle.ucl_shared.specs.Standing.{StandsIn, StandTogether}
 use Rattle.ucl_pass.specs.declared.view.CellView.{CellView}
 use Rattle.atomic_table.specs.declared.shared.Seat.{Seat}
 use Rattle.crossbeam_utils.specs.declared.atomic.seq_cell.Doing as cell
@@ -48,3 +48,7 @@ PassStands p = CellStands p.seat (known_of p)
 
 abbrev pub SeatStands : {T : Type 0} → Seat T (cell.Doing T CellView) → Type 0
 SeatStands p = CellStands p.id (cell_view p)
+
+-- wherever the pass v stood, u and w then stand together, u at the seat of v
+abbrev pub CellStandAfterSplit : CellView → CellView → CellView → Type 0
+CellStandAfterSplit v u w = (seat : ℕ) → CellStands seat v → StandTogether CellMeetsItsRule (λ (s : CellState). s.views) seat u w

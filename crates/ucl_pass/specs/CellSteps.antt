@@ -55,11 +55,10 @@ pub record StoresEntry (e : Entry) (v : View) (x y : List ℕ) (w : View) : Type
   pub found : x ≡ words_after before w.listed
   pub adds : Adds e before (word_at x e.game) v w
 
--- a step that stored one enlistment
-pub record StoresReporter (v : View) (y : List ℕ) (w : View) : Type 0 where
+-- a step that stored one enlistment, after the number that it found
+pub record StoresReporter (v : View) (x y : List ℕ) (w : View) : Type 0 where
   pub seen_all : HasSeenAll y v w
-  pub found : ℕ
-  pub enlists : Enlists found v w
+  pub enlists : Enlists (slice_index x 12) v w
 
 -- a load that shows nothing
 abbrev pub LooksOnly : Target → View → List ℕ → List ℕ → View → Type 0
@@ -84,12 +83,12 @@ AddsOrLooks e v x y w = ((x ≡ y) × LooksOnly (word_looked_at Swap e.game x) v
 -- what an exchange for an enlistment answers: the words that were given, and it stored the next ones; or other words, and it stored nothing
 abbrev pub ExchangesReporter : View → List ℕ → List ℕ → Result (List ℕ) (List ℕ) → View → Type 0
 ExchangesReporter v current next answer w = MatchResult answer
-    (λ found. (found ≡ current) × StoresReporter v next w)
+    (λ found. (found ≡ current) × StoresReporter v current next w)
     (λ found. (found ≢ current) × LooksAtEnlisted v found found w)
 
 -- an exchange for an enlistment: the words stay, or they gain a reporter
 abbrev pub EnlistsOrLooks : View → List ℕ → List ℕ → View → Type 0
-EnlistsOrLooks v x y w = ((x ≡ y) × LooksAtEnlisted v x y w) ⊎ ((x ≢ y) × StoresReporter v y w)
+EnlistsOrLooks v x y w = ((x ≡ y) × LooksAtEnlisted v x y w) ⊎ ((x ≢ y) × StoresReporter v x y w)
 
 -- a call more is finished: it began when there were so many entries, and ended when there were so many
 abbrev pub finished_too : Call → Reply → ℕ → ℕ → List Answer → List Answer
@@ -137,8 +136,9 @@ pub record CountOfCell (v : CellView) (x y : List ℕ) (w : CellView) : Type 0 w
   pub counts : LooksAtEnlisted v.pass x y w.pass
   pub calls : w.calls ≡ v.calls
 
--- the exchange of an enlistment
+-- the exchange of an enlistment, by a reader's pass
 pub record EnlistOfCell (v : CellView) (x y : List ℕ) (w : CellView) : Type 0 where
+  pub reader : v.pass.number ≡ 0
   pub enlists : EnlistsOrLooks v.pass x y w.pass
   pub calls : w.calls ≡ v.calls
 

@@ -3,3 +3,4 @@ pub mod CellRule
 pub mod CellSteps
 pub mod CellCalls
 pub mod Laws
+pub mod CellLater

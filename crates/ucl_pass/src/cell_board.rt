@@ -8,7 +8,7 @@ ghost use Rattle.ucl_board.specs.Words.{AreWords};
 ghost use Rattle.ucl_shared.specs.Passes.{Continues, AcceptedReport, RefusedReport, SharedReading, Enlistment, FullBoard, Hearing, Meeting, opening_pass};
 ghost use Rattle.ucl_shared.specs.Views.{pass_view_of, count_of};
 ghost use Rattle.ucl_shared.specs.OneHistory.{BoardsOpenFresh};
-ghost use Rattle.ucl_pass.specs.CellRule.{words_after, IsTheRule, IsUpToDate, CellStands, SeatStands};
+ghost use Rattle.ucl_pass.specs.CellRule.{words_after, IsTheRule, IsUpToDate, CellStands, CellStandAfterSplit, SeatStands};
 ghost use Rattle.ucl_pass.specs.CellViews.{HasDoneNothing, knows, known_of, calls_at, left_cell_pass, second_cell_pass, note_cell_pass, IsCellNote};
 ghost use Rattle.ucl_pass.specs.CellSteps.{ExchangesReporter, IsNextBoard, AreAccepting, entry_at, exchange, StoresOrLooks, DecidesReport, with_one_more, LooksAtMatch, LooksAtEnlisted, LooksAndShows, LookOfCell, ReadOfCell};
 ghost use Rattle.ucl_shared.specs.CallSteps.{MeetingSteps};
@@ -303,7 +303,8 @@ impl CellBoard {
         ensures kept { cell_view seat.new ≡ left_cell_pass (cell_view seat.old) }
         ensures given { (result.table_id ≡ seat.old.table_id)
             × (cell_view result ≡ second_cell_pass (cell_view seat.old)) × (result.me.1 ≡ []) }
-        ensures stands { SeatStands seat.old → SeatStands seat.new }
+        ensures stands { CellStandAfterSplit (cell_view seat.old) (cell_view seat.new)
+            (cell_view result) }
     {
         self.cell.split_pass::<SecondPass>(seat)
     }

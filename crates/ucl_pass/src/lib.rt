@@ -9,7 +9,10 @@ pub mod rule;
 mod view;
 
 pub use cell_board::CellBoard;
-pub use laws::{cell_boards_are_runs, cell_runs_grow, each_cell_step_is_logged};
+pub use laws::{
+    cell_boards_are_runs, cell_numbers_are_there, cell_numbers_rise_in_time, cell_runs_grow,
+    each_cell_step_goes_on, each_cell_step_is_logged, each_cell_step_leads_on, later_cells_go_on,
+};
 pub use passes::{CellNote, CellReaderPass, CellReporterPass};
 pub use ucl_shared::{
     LiveBoard, MOST_REPORTERS, Strangers, TooManyReporters, View, holders_did_all,

@@ -3,7 +3,7 @@
 ghost use Rattle.std.specs.Prelude.{◌≡◌, ◌+◌, ◌<◌, [], length, IfOk, IfErr, MatchResult, true, false};
 ghost use Rattle.ucl_shared.specs.Passes.{IsSound, Continues, ReportsMore, AcceptedReport, RefusedReport, SharedReading, split_pass, Enlistment, FullBoard, Hearing, Meeting, reporter_figures};
 ghost use Rattle.ucl_shared.specs.Views.{pass_view_of, count_of, kept_of};
-ghost use Rattle.ucl_pass.specs.CellRule.{IsUpToDate, PassStands};
+ghost use Rattle.ucl_pass.specs.CellRule.{IsUpToDate, PassStands, CellStandAfterSplit};
 ghost use Rattle.ucl_pass.specs.CellViews.{known_of, KeepsCalls};
 ghost use Rattle.ucl_shared.specs.CallSteps.{MeetingSteps, HasCopyOf};
 ghost use Rattle.ucl_pass.specs.CellCalls.{CellHasReported, CellReport, CellEnlistment, CellReading, FinishesReport, FinishesReading};
@@ -120,7 +120,8 @@ impl LiveBoard for CellBoard {
         ensures steps { HasCopyOf result.view pass.old.view }
         ensures does { pass.new.calls ≡ pass.old.calls }
         ensures nothing { result.calls ≡ [] }
-        ensures stands { PassStands pass.old → PassStands pass.new }
+        ensures stands { CellStandAfterSplit (known_of pass.old) (known_of pass.new)
+            (known_of result) }
     {
         let seat = self.split_seat(&mut pass.seat);
         CellReaderPass { seat }

@@ -28,15 +28,23 @@ FoundEnlisted found x = (x.target ≡ Enlisted found) × (x.entry ≡ None)
 abbrev pub IsOnEnlisted : Taken → Type 0
 IsOnEnlisted x = (found : ℕ) × FoundEnlisted found x
 
+-- one such step
+pub record CountsReporters (found : ℕ) (v w : View) : Type 0 where
+  pub step : Taken
+  pub takes : Takes v (step ∷ []) w
+  pub found_is : FoundEnlisted found step
+
 -- an enlistment or a meeting takes steps on the number of enlisted reporters alone
 pub record EnlistSteps (v w : View) : Type 0 where
   pub steps : List Taken
   pub takes : Takes v steps w
   pub on_enlisted : AllByRecursion IsOnEnlisted steps
 
--- a meeting takes one
-abbrev pub MeetingSteps : View → View → Type 0
-MeetingSteps v w = (found : ℕ) × Takes v (step_taken (Enlisted found) (length w.seen) None ∷ []) w
+-- a meeting takes one, and the pass then knows how many it found
+pub record MeetingSteps (v w : View) : Type 0 where
+  pub found : ℕ
+  pub takes : Takes v (step_taken (Enlisted found) (length w.seen) None ∷ []) w
+  pub listed : w.listed ≡ found
 
 -- a second pass has a copy of the steps, and has taken none
 abbrev pub HasCopyOf : View → View → Type 0

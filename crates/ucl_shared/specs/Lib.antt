@@ -6,3 +6,4 @@ pub mod OneHistory
 pub mod Steps
 pub mod CallSteps
 pub mod Standing
+pub mod Numbers

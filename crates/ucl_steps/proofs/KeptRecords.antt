@@ -32,7 +32,7 @@ none_long [] e = refl
 none_long (x ∷ xs) e = absurd (omega (arith, e))
 
 module _ (seat number : ℕ) where
-  abbrev own : CallRecord → Bool
+  abbrev pub own : CallRecord → Bool
   own c = is_of seat number c.caller
 
   abbrev plain : CallRecord → CallRecord
@@ -43,7 +43,7 @@ module _ (seat number : ℕ) where
   recorded f = record { caller = caller_for seat number f.call; call = f.call; begun = f.begun; point = None; reply = Some f.reply; ended = Some f.ended }
 
   -- the calls from a place on, where a finished call is the next
-  next_own : (calls : List CallRecord) (low high : ℕ) (f : Answer) (fs : List Answer) (r : AreRecordsOf calls seat number low (f ∷ fs) high)
+  pub next_own : (calls : List CallRecord) (low high : ℕ) (f : Answer) (fs : List Answer) (r : AreRecordsOf calls seat number low (f ∷ fs) high)
       → (front : List CallRecord) × (filter own (drop low calls) ≡ filter own front ++ r.1 ∷ filter own (drop (r.0 + 1) calls))
   next_own calls low high f fs r =
       let t = drop_split calls low r.0 r.1 r.2 r.3 in
@@ -82,7 +82,7 @@ module _ (seat number : ℕ) where
   told x = is_of seat number x.0
 
   -- the calls that a pass has asked are as many
-  as_many : (calls : List CallRecord) → length (calls_by seat number (map caller_and_call calls)) ≡ length (filter own calls)
+  pub as_many : (calls : List CallRecord) → length (calls_by seat number (map caller_and_call calls)) ≡ length (filter own calls)
   as_many [] = refl
   as_many (c ∷ calls) = by_test (is_of seat number c.caller) (as_many calls)
     where

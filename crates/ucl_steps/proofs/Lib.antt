@@ -19,3 +19,6 @@ pub mod Seats
 pub mod ActorRuns
 pub mod LongerRuns
 pub mod KeptRecords
+pub mod FewSteps
+pub mod FinishedCalls
+pub mod FewAccesses

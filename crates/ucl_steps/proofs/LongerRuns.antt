@@ -324,7 +324,7 @@ none_answered : (c : Caller) (o : Option Call) (kind : AccessKind) (a w v : Mach
 none_answered c None kind a w v k is makes held = takes_none c kind (Answered k) w v (ap (λ (z : MachineState). held_by z.callers c) (sym is) ∙ held) (answered_takes c kind k w) makes
 none_answered c (Some call) kind a w v k is makes held = let e : Answered k ≡ Idle = same_Some (Answered k) Idle (sym held ∙ (begin_made c call a w is).0) in absurd cc
 
-answered_stays : (ms : List Move) (a last : MachineState) (c : Caller) (k : ℕ) → held_by a.callers c ≡ Some (Answered k) → after_steps (steps_of_moves ms) a ≡ Some last
+pub answered_stays : (ms : List Move) (a last : MachineState) (c : Caller) (k : ℕ) → held_by a.callers c ≡ Some (Answered k) → after_steps (steps_of_moves ms) a ≡ Some last
     → held_by last.callers c ≡ Some (Answered k)
 answered_stays [] a last c k held e = ap (λ (z : MachineState). held_by z.callers c) (sym (same_Some a last e)) ∙ held
 answered_stays (m ∷ ms) a last c k held e =
@@ -335,7 +335,7 @@ answered_stays (m ∷ ms) a last c k held e =
     ]
 
 -- and no actor's call stays so
-answered_ends : (state : MachineState) (seat number begun : ℕ) (held : Held) (high : ℕ) (c : Caller) (k : ℕ) → IsOf seat number c → FitsHeld state seat number begun held high
+pub answered_ends : (state : MachineState) (seat number begun : ℕ) (held : Held) (high : ℕ) (c : Caller) (k : ℕ) → IsOf seat number c → FitsHeld state seat number begun held high
     → held_by state.callers c ≡ Some (Answered k) → ⊥
 answered_ends state seat number begun held high c k of f is = under held f
   where
@@ -569,7 +569,7 @@ module _ (actors later : List Actor) (on : HaveGoneOn actors later) (last last' 
       (rest.0, λ i. move i ∷ rest.1 i)
 
 -- the accesses of a longer log
-accesses_more : (log more : Log) → accesses_of_log (log ++ more) ≡ accesses_of_log log ++ accesses_of_log more
+pub accesses_more : (log more : Log) → accesses_of_log (log ++ more) ≡ accesses_of_log log ++ accesses_of_log more
 accesses_more log more = flat_map-append (λ (x : Logged). map (λ (m : Access). (x.seat, m)) (access_list x.step.target x.step.at)) log more
 
 pub longer_runs : (readers readers' enlisted enlisted' : ℕ) (log log' : Log) (actors later : List Actor) (r : IsRunOfLog readers enlisted log actors) (q : IsRunOfLog readers' enlisted' log' later)

@@ -9,3 +9,4 @@ pub mod Protocol
 pub mod PassRuns
 pub mod Actors
 pub mod Growing
+pub mod Progress

@@ -1,6 +1,7 @@
 //! What holds of every list of steps. The functions do nothing: each is there for its contract.
 
 ghost use Rattle.ucl_steps.specs.Laws.{RunsAreLinearizable, WordsAreOfTheHistory, UncleanTriesSeeMore, UncleanTriesAreFew, ReadingsAreSnapshots, ReportsAreSequential};
+ghost use Rattle.ucl_steps.specs.Progress.{SomeCallIsDecided};
 
 /// Whatever steps the callers take, in whatever order, and wherever the list is cut: one legal history of the board of
 /// one thread holds each finished call once, with the reply that it got, between its invocation and its response; each
@@ -37,4 +38,10 @@ pub fn readings_are_snapshots()
 /// at its last step.
 pub fn reports_are_sequential()
     ensures { ReportsAreSequential }
+{}
+
+/// While callers take steps, calls are decided: wherever a run stands, of further steps by which no call is decided each
+/// caller takes 35 at most, and all callers take 35 times as many as there are. It says nothing of which call it is.
+pub fn some_call_is_decided()
+    ensures { SomeCallIsDecided }
 {}

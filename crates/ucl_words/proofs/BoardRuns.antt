@@ -1,13 +1,16 @@
 -- A running board is one run of the machine, and goes on with it.
 use Rattle.std.proofs.Common.{ℕ, List, ◌∷◌, length, sym, ap, ◌∙◌, subst, le_refl}
+use mathlib.Core.List.{IsPrefix}
+use Rattle.atomic_table.specs.Table.{State}
 use Rattle.ucl_board.specs.declared.entry.Entry.{Entry}
 use Rattle.ucl_board.specs.History.{board_of}
 use Rattle.ucl_steps.specs.Linearizable.{IsLinearizable}
 use Rattle.ucl_steps.specs.PassRuns.{cast_for, steps_of_moves}
 use Rattle.ucl_steps.proofs.Runs.{linearizable_run, words_of_run}
 use Rattle.ucl_steps.proofs.LongerRuns.{longer_runs}
-use Rattle.ucl_words.specs.WordRule.{word_actors}
-use Rattle.ucl_words.specs.Laws.{BoardsAreRuns, RunsGrow}
+use Rattle.ucl_words.specs.declared.view.WordView.{WordView}
+use Rattle.ucl_words.specs.WordRule.{word_actors, TableKeepsOneHistory}
+use Rattle.ucl_words.specs.Laws.{IsRunOfBoard, BoardsAreRuns, GoesOnWith}
 
 pub boards_run : BoardsAreRuns
 boards_run s r =
@@ -21,6 +24,7 @@ boards_run s r =
       linearizable = subst (λ (h : List Entry). IsLinearizable steps h run.state.calls) run.history_is (linearizable_run cast steps run.state run.run);
     }
 
-pub runs_go_on : RunsGrow
-runs_go_on s t r q before on earlier later =
-    longer_runs (length s.views) (length t.views) r.shared.enlisted q.shared.enlisted r.shared.log q.shared.log (word_actors s.views) (word_actors t.views) earlier.one later.one before on
+pub runs_go_on : (s t : State Entry WordView) (r : TableKeepsOneHistory s) (q : TableKeepsOneHistory t) → GoesOnWith s t r q → (earlier : IsRunOfBoard s r) (later : IsRunOfBoard t q)
+    → IsPrefix earlier.one.of_actors.moves later.one.of_actors.moves
+runs_go_on s t r q on earlier later =
+    longer_runs (length s.views) (length t.views) r.shared.enlisted q.shared.enlisted r.shared.log q.shared.log (word_actors s.views) (word_actors t.views) earlier.one later.one on.log on.passes

@@ -1,18 +1,19 @@
 -- The clean double collect: loads of all words, twice, and anew where a word was another.
-use Rattle.std.proofs.Common.{◌≡◌, ◌≢◌, inl, inr, ℕ, ◌+◌, ◌-◌, ◌<◌, ◌≤◌, List, [], ◌∷◌, ◌++◌, length, take, set, Some, refl, sym, ap, ◌∙◌, subst, arith, le_refl}
+use Rattle.std.proofs.Common.{◌≡◌, ◌≢◌, inl, inr, ℕ, ◌+◌, ◌<◌, ◌≤◌, List, [], ◌∷◌, ◌++◌, length, take, set, Option, Some, None, refl, sym, ap, ◌∙◌, subst, arith, le_refl}
 use Rattle.std.proofs.Common.{append_assoc, append-nil, length-append, get_or-set_same}
 use Rattle.std.specs.Prelude.{slice_get, slice_index}
 use Rattle.std.specs.List.{AllByRecursion}
 use Rattle.std.proofs.lemmas.Option.{none-some}
 use Rattle.std.proofs.Math.Seq.{take-append_seam}
 use Rattle.ucl_word.proofs.Sequences.{at_either}
+use Rattle.ucl_board.specs.declared.entry.Entry.{Entry}
 use Rattle.ucl_board.specs.declared.reading.Reading.{Reading}
 use Rattle.ucl_board.specs.Words.{AreWords, greatest_version, version_of}
 use Rattle.ucl_board.specs.History.{board_of, reading_of}
 use Rattle.ucl_board.proofs.Histories.{board_words}
 use Rattle.ucl_board.proofs.HistoryLaws.{versions}
 use Rattle.ucl_board.specs.Log.{AccessKind, Second, Access, access}
-use Rattle.ucl_steps.specs.Trails.{most_loads, IsCollect, IsUnclean, IsClean, accesses_of, ReadingAccesses}
+use Rattle.ucl_steps.specs.Trails.{Follows, most_loads, IsCollect, IsUnclean, IsClean, accesses_of, ReadingAccesses}
 use Rattle.ucl_steps.specs.Laws.{IsReadFrom}
 use Rattle.ucl_steps.proofs.Accesses.{collect_none, collect_more, collect_set, unclean_try, clean_shows, reading_whole}
 use Rattle.ucl_shared.specs.Passes.{Continues, SharedReading}
@@ -161,6 +162,15 @@ pub record Reads (v : View) (reading : Reading) (w : View) : Type 0 where
   pub least : count_of v + 24 ≤ count_of w
   pub most : count_of w ≤ count_of v + most_loads
 
+-- what follows from a place on, follows from that of the first access on
+abbrev first_or : Access → Option Access → Access
+first_or m (Some a) = a
+first_or m None = m
+
+from_first : (h : List Entry) (low high : ℕ) (ms : List Access) (first : Access) → Follows h low ms high → slice_get ms 0 ≡ Some first → Follows h first.at ms high
+from_first h low high [] first f at = absurd (none-some first at)
+from_first h low high (m ∷ ms) first f at = subst (λ (a : Access). Follows h a.at (m ∷ ms) high) (ap (first_or m) at) (le_refl m.at, f.1, f.2)
+
 -- the clean try
 module _ (x u w : View) (words : List ℕ) (long : length words ≡ 12) (collects : Collects x words u) (again : FindsAgain u words w) where
   abbrev clean_reading : Reading
@@ -223,7 +233,16 @@ module _ (x u w : View) (words : List ℕ) (long : length words ≡ 12) (collect
             mine = all_walks.mine;
             shown = again.shown ∙ ap (λ (l : List ℕ). l ++ length u.seen ∷ []) (collects.shown ∙ tried.shown);
           };
-          steps = record { accesses = all_accesses; leaves = all_walks.leaves; collects = reading_accesses; few = omega arith };
+          steps = record {
+            accesses = all_accesses;
+            leaves = all_walks.leaves;
+            collects = reading_accesses;
+            few = omega arith;
+            meanwhile = λ first at.
+                let later = from_first w.seen (length v.seen) (length w.seen) all_accesses first all_walks.leaves.follows at in
+                let tries = (reading_whole w.seen first.at (length w.seen) clean_reading all_accesses all_walks.steady.sound.legal (le_refl (length w.seen)) later reading_accesses).tries in
+                omega arith;
+          };
           least = omega arith;
           most = omega arith;
         }

@@ -14,7 +14,7 @@ use Rattle.ucl_shared.specs.CallSteps.{FoundEnlisted, IsOnEnlisted, EnlistSteps,
 use Rattle.ucl_shared.proofs.Lists.{none_by_zero}
 use Rattle.ucl_shared.proofs.Halves.{half_acts, half_not_whole}
 use Rattle.ucl_shared.proofs.CallsBySteps.{all_more, takes_none, takes_on, takes_count, one_more, sound_kept}
-use Rattle.ucl_words.specs.WordSteps.{LoadsEnlisted, EnlistMissed, EnlistWon}
+use Rattle.ucl_words.specs.WordSteps.{LoadsEnlisted, EnlistWon}
 use Rattle.ucl_words.specs.WordCalls.{HasTrail, IsSteady, Enlisting, EnlistTries, KeepsTrail}
 use Rattle.ucl_words.proofs.StepRuns.{trail_longer, takes_trail}
 use Rattle.ucl_words.specs.declared.view.WordView.{WordView}
@@ -77,7 +77,7 @@ trail_kept x w was seen same = subst (λ (t : List Access). Follows w.seen 0 t (
 
 module _ (v x w : View) (n found : ℕ) (was : Missed v x n) where
   -- one that was missed again has found a higher number
-  module _ (other : found ≢ n) (missed : EnlistMissed x found w) where
+  module _ (other : found ≢ n) (missed : LoadsEnlisted x found w) where
     pub missed_higher : (n < found) × (found ≤ 255)
     missed_higher = (let a = was.known in let b = missed.above in omega arith, let a = missed.sees.goes.few in let b = missed.listed in omega arith)
 
@@ -193,13 +193,13 @@ pub second_steps : (v : View) → (count_of (second_of v) ≡ count_of v) × (tr
 second_steps v = (ap length (append-nil (steps_of v)), second_trail v)
 
 -- a load of the enlist word
-pub counted_steady : (v w : View) → LoadsEnlisted v w → IsSteady v → IsSteady w
-counted_steady v w loads steady =
+pub counted_steady : (v w : View) (n : ℕ) → LoadsEnlisted v n w → IsSteady v → IsSteady w
+counted_steady v w n loads steady =
     let goes = loads.sees.goes in
     record {
       sound = record { legal = goes.legal; own = goes.own; few = goes.few; acts = goes.acts; alone = goes.alone };
       told = goes.told;
-      trail = trail_kept v w steady.trail goes.seen (no_access v w loads.found loads.sees.takes);
+      trail = trail_kept v w steady.trail goes.seen (no_access v w n loads.sees.takes);
     }
 
 -- what was split off as a note is one
@@ -210,15 +210,15 @@ pub note_seen : (a n : WordView) → n ≡ note_pass a → n.pass.seen ≡ a.pas
 note_seen a n is = ap (λ (v : WordView). v.pass.seen) is
 
 -- a note was joined to a pass, which then loaded the enlist word
-module _ (a v w : View) (steady : IsSteady v) (loads : LoadsEnlisted (told_by v (note_of a)) w) where
+module _ (a v w : View) (n : ℕ) (steady : IsSteady v) (loads : LoadsEnlisted (told_by v (note_of a)) n w) where
   own_first : IsPrefix v.seen w.seen
   own_first = All-head (λ l. IsPrefix l w.seen) v.seen (a.seen ∷ v.told) loads.sees.goes.heard
 
-  met_takes : Takes v (step_taken (Enlisted loads.found) (length w.seen) None ∷ []) w
+  met_takes : Takes v (step_taken (Enlisted n) (length w.seen) None ∷ []) w
   met_takes = record { own = loads.sees.takes.own; copied = loads.sees.takes.copied }
 
   pub met_steps : MeetingSteps v w
-  met_steps = (loads.found, met_takes)
+  met_steps = record { found = n; takes = met_takes; listed = loads.listed }
 
   pub met_steady : IsSteady w
   met_steady =
@@ -226,11 +226,14 @@ module _ (a v w : View) (steady : IsSteady v) (loads : LoadsEnlisted (told_by v 
       record {
         sound = record { legal = goes.legal; own = goes.own; few = goes.few; acts = goes.acts; alone = goes.alone };
         told = goes.told;
-        trail = trail_kept v w steady.trail own_first (no_access v w loads.found met_takes);
+        trail = trail_kept v w steady.trail own_first (no_access v w n met_takes);
       }
 
   pub met_continues : Continues (pass_view_of v) (pass_view_of w)
-  met_continues = let listed = loads.listed in record { sound = met_steady.sound; on = record { seen = own_first; listed = omega arith; share = loads.sees.goes.share }; number = loads.sees.number }
+  met_continues =
+      let above = loads.above in
+      let listed = loads.listed in
+      record { sound = met_steady.sound; on = record { seen = own_first; listed = omega arith; share = loads.sees.goes.share }; number = loads.sees.number }
 
   pub met_says : Hearing a.seen (pass_view_of v) (pass_view_of w)
   met_says = record {
@@ -241,10 +244,10 @@ module _ (a v w : View) (steady : IsSteady v) (loads : LoadsEnlisted (told_by v 
 
   pub met_trail : KeepsTrail v w
   met_trail = record {
-    steps = record { steps = step_taken (Enlisted loads.found) (length w.seen) None ∷ []; takes = met_takes; on_enlisted = ((loads.found, (refl, refl)), tt) };
-    trail = no_access v w loads.found met_takes;
+    steps = record { steps = step_taken (Enlisted n) (length w.seen) None ∷ []; takes = met_takes; on_enlisted = ((n, (refl, refl)), tt) };
+    trail = no_access v w n met_takes;
     whole_trail = met_steady.trail;
   }
 
-pub after_told : (a v x w : View) → x ≡ told_by v a → LoadsEnlisted x w → LoadsEnlisted (told_by v (note_of a)) w
-after_told a v x w told loads = subst (λ (u : View). LoadsEnlisted u w) told loads
+pub after_told : (a v x w : View) (n : ℕ) → x ≡ told_by v a → LoadsEnlisted x n w → LoadsEnlisted (told_by v (note_of a)) n w
+after_told a v x w n told loads = subst (λ (u : View). LoadsEnlisted u n w) told loads

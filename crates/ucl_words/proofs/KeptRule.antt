@@ -5,7 +5,7 @@ use Rattle.std.proofs.lemmas.List.{set-get_or}
 use mathlib.Core.Option.{none, some}
 use lib.ListN.{get_elem?}
 use prog.Atomic.{either}
-use Rattle.atomic_table.proofs.Lists.{at_longer, set_here}
+use Rattle.atomic_table.proofs.Lists.{at_longer, at_last, set_here}
 use Rattle.atomic_table.specs.Table.{State, Me, Step, step, keeps, stepped, carried_after, Valid, opening, Allows, Splits, Joins}
 use Rattle.atomic_table.proofs.Lists.{exchanged}
 use Rattle.ucl_word.specs.declared.event.EventCall.{EventCall}
@@ -39,10 +39,10 @@ use Rattle.ucl_steps.proofs.ActorRuns.{Apart, logged_accesses, log_kept, log_ste
 use Rattle.ucl_words.specs.declared.view.WordView.{WordView}
 use Rattle.ucl_words.specs.WordViews.{new_pass, first_pass, left_pass, second_pass, note_pass, told_pass}
 use Rattle.ucl_words.specs.Code.{IsHoldingFor}
-use Rattle.ucl_words.specs.WordRule.{words_after, known, word_actor, word_actors, TableKeepsOneHistory, Stands}
+use Rattle.ucl_words.specs.WordRule.{words_after, known, word_actor, word_actors, TableKeepsOneHistory, Stands, StandAfterSplit}
 use Rattle.ucl_words.specs.WordSteps.{LoadsMatch, point_shown, ExchangeWon, IsNextWord, LookStep, FirstStep, SecondStep, EnlistedStep, ExchangeStep, EnlistStep}
 
-abbrev Position : Type 0
+abbrev pub Position : Type 0
 Position = State Entry WordView
 
 -- the thirteen words
@@ -58,7 +58,7 @@ get_match n b (suc game) low = let e : game ≡ suc game - 1 = omega arith in ap
 match_word : (s : Position) (r : TableKeepsOneHistory s) (game : ℕ) → 1 ≤ game → get_or s.words game 0 ≡ word_at (board_of (history_of r.shared.log)) game
 match_word s r game low = ap (λ (ws : List ℕ). get_or ws game 0) r.shared.words_are ∙ get_match r.shared.enlisted (board_of (history_of r.shared.log)) game low
 
-enlist_word : (s : Position) (r : TableKeepsOneHistory s) → get_or s.words 0 0 ≡ r.shared.enlisted
+pub enlist_word : (s : Position) (r : TableKeepsOneHistory s) → get_or s.words 0 0 ≡ r.shared.enlisted
 enlist_word s r = ap (λ (ws : List ℕ). get_or ws 0 0) r.shared.words_are
 
 -- what a step on a match word finds
@@ -106,7 +106,7 @@ acted_still readers enlisted log log' views seat v w here number doing is trace 
     (subst (λ (l : List Actor). IsRunOfLog readers enlisted log' l) (sym (set_same (word_actors views) seat (word_actor w) (map_at word_actor views seat v here ∙ ap (λ (z : Actor). some z) same)))
     (log_kept readers enlisted log log' (word_actors views) run is trace))
 
-apart_actors : (s : Position) (r : TableKeepsOneHistory s) → Apart (word_actors s.views)
+pub apart_actors : (s : Position) (r : TableKeepsOneHistory s) → Apart (word_actors s.views)
 apart_actors s r i j a b at bt pos same =
     let v = map_there word_actor s.views i a at in
     let w = map_there word_actor s.views j b bt in
@@ -250,7 +250,7 @@ looks slots seat game place m e is_seat acts is of reporter nothing =
       turn_look cast seat number steps w run m.0.doing fits a now e (reporter, subst IsMatch (sym of) is) nothing (kind, at ∙ sym of),
     ))
     (LookStep place e (step slots game 0 0 none) m)
-    (λ n w loads shown stands. record { loads = record { loads = loads; shown = shown }; doing = refl; stands = stands place is_seat })
+    (λ n w loads shown stands. record { nothing = nothing; loads = record { loads = loads; shown = shown }; doing = refl; stands = stands place is_seat })
 
 pub firsts : (slots seat game : ℕ) (m : Me Entry WordView) → IsSome m.0.pass.share → IsMatch game → IsNext First game m.0.doing.held
     → Allows TableKeepsOneHistory slots seat m game (λ n. n) (FirstStep (step slots game 0 0 none) m)
@@ -277,24 +277,21 @@ pub counts : (slots seat place : ℕ) (m : Me Entry WordView) → place ≡ seat
 counts slots seat place m is_seat acts s r _ here _ =
     let v = m.0 in
     let at = known_at s.views seat v here in
-    let f = r.shared.fits seat v.pass at in (
-      record { pass = looked_at s r seat v here acts (Enlisted (get_or s.words 0 0)) tt v.pass.listed v.pass.shown f.listed; doing = v.doing },
+    let n : ℕ = get_or s.words 0 0 in
+    let is : n ≡ r.shared.enlisted = enlist_word s r in
+    let low = (r.shared.fits seat v.pass at).listed in
+    let le : n ≤ r.shared.enlisted = omega arith in
+    let w : WordView = record { pass = looked_at s r seat v here acts (Enlisted n) tt n v.pass.shown le; doing = v.doing } in
+    let rule = count_runs s r seat v here acts n n v.pass.shown le m.1 in (
+      w,
       keeps,
       tt,
-      count_runs s r seat v here acts (get_or s.words 0 0) v.pass.listed v.pass.shown f.listed m.1,
+      rule,
       record {
         word = refl;
-        loads = record {
-          found = get_or s.words 0 0;
-          sees = look_tells words_after s.words (known s.views) r.shared seat v.pass at acts (Enlisted (get_or s.words 0 0)) tt v.pass.listed v.pass.shown f.listed;
-          listed = refl;
-          shown = refl;
-        };
-        found = refl;
+        loads = record { sees = look_tells words_after s.words (known s.views) r.shared seat v.pass at acts (Enlisted n) tt n v.pass.shown le; above = omega arith; listed = refl; shown = refl };
         doing = refl;
-        stands = stands_after s 0 (get_or s.words 0 0) seat m.1 v
-            (record { pass = looked_at s r seat v here acts (Enlisted (get_or s.words 0 0)) tt v.pass.listed v.pass.shown f.listed; doing = v.doing }) here
-            (count_runs s r seat v here acts (get_or s.words 0 0) v.pass.listed v.pass.shown f.listed m.1) place is_seat;
+        stands = stands_after s 0 n seat m.1 v w here rule place is_seat;
       },
     )
 
@@ -452,6 +449,7 @@ enlists slots seat place m old is_seat acts reader nothing room s r _ here _ =
       tt,
       rule,
       record {
+        reader = reader;
         word = refl;
         won = λ _. record {
           enlists = subst (λ (k : ℕ). Enlists k v.pass w.pass) (sym is) (enlist_tells words_after s.words (known s.views) r.shared seat v.pass at acts reader left);
@@ -469,6 +467,7 @@ enlists slots seat place m old is_seat acts reader nothing room s r _ here _ =
       tt,
       count_runs s r seat v here acts n n v.pass.shown le m.1,
       record {
+        reader = reader;
         word = refl;
         won = λ hit. absurd (miss hit);
         missed = λ _. record { sees = look_tells words_after s.words (known s.views) r.shared seat v.pass at acts (Enlisted n) tt n v.pass.shown le; above = omega arith; listed = refl; shown = refl };
@@ -502,13 +501,19 @@ seconds seat v s r here =
     let same = second_same words_after s.words (known s.views) r.shared seat v.pass at in
     split_keeps seat v s r here (left_pass v) (second_pass v) refl refl refl refl (second_added words_after s.words (known s.views) r.shared seat v.pass at) same.0 same.1
 
--- a pass that another was split off still stands
-pub split_stands : (seat : ℕ) (v : WordView) → Stands seat v → Stands seat (left_pass v)
-split_stands seat v was = record {
-  state = record { words = was.state.words; homes = was.state.homes; views = set was.state.views seat (left_pass v) ++ second_pass v ∷ [] };
-  rule = seconds seat v was.state was.rule was.here;
-  here = at_longer (set was.state.views seat (left_pass v)) (second_pass v ∷ []) seat (left_pass v) (set_here was.state.views seat (left_pass v) (place_below was.state.views seat v was.here));
-}
+-- a pass that another was split off still stands, beside that one
+pub split_stands : (v : WordView) → StandAfterSplit v (left_pass v) (second_pass v)
+split_stands v seat was =
+    let left = set was.state.views seat (left_pass v) in
+    let below = place_below left seat (left_pass v) (set_here was.state.views seat (left_pass v) (place_below was.state.views seat v was.here)) in
+    record {
+      state = record { words = was.state.words; homes = was.state.homes; views = left ++ second_pass v ∷ [] };
+      rule = seconds seat v was.state was.rule was.here;
+      here = at_longer left (second_pass v ∷ []) seat (left_pass v) (set_here was.state.views seat (left_pass v) (place_below was.state.views seat v was.here));
+      other = length left;
+      apart = λ is. omega arith;
+      there = at_last left (second_pass v) (length left) refl;
+    }
 
 pub notes : (seat : ℕ) (v : WordView) → Splits TableKeepsOneHistory seat v v (note_pass v)
 notes seat v s r here =

@@ -1,18 +1,23 @@
 -- What holds of all exchanges of match words, and of every running board.
-use Rattle.std.specs.Prelude.{◌≡◌, ℕ, List, ◌∷◌, length}
+use Rattle.std.specs.Prelude.{◌≡◌, ℕ, ◌<◌, ◌≤◌, ◌*◌, List, ◌∷◌, ◌++◌, length, map}
 use mathlib.Core.List.{IsPrefix}
+use mathlib.Core.Option.{some}
+use lib.ListN.{get_elem?}
 use Rattle.atomic_table.specs.Table.{State}
 use Rattle.ucl_board.specs.declared.entry.Entry.{Entry}
 use Rattle.ucl_board.specs.Words.{word_at}
 use Rattle.ucl_board.specs.History.{board_of, IsLegal}
-use Rattle.ucl_board.specs.Log.{history_of}
+use Rattle.ucl_board.specs.Log.{Logged, Log, taken_by, history_of, accesses_in}
 use Rattle.ucl_steps.specs.Linearizable.{IsLinearizable}
 use Rattle.ucl_steps.specs.PassRuns.{steps_of_moves}
 use Rattle.ucl_steps.specs.Actors.{IsRunOfLog}
 use Rattle.ucl_steps.specs.Growing.{HaveGoneOn}
+use Rattle.ucl_steps.specs.Progress.{most_between, finished_by}
 use Rattle.ucl_words.specs.declared.view.WordView.{WordView}
-use Rattle.ucl_words.specs.WordRule.{word_actors, TableKeepsOneHistory}
+use Rattle.ucl_shared.specs.Numbers.{IsGivenAfter}
+use Rattle.ucl_words.specs.WordRule.{known, word_actors, TableKeepsOneHistory}
 use Rattle.ucl_words.specs.WordSteps.{IsNextWord}
+use Rattle.ucl_words.specs.Later.{Later}
 
 -- two entries of one match with one word before and one word after are one entry
 abbrev pub WordsTellTheEntry : Type 0
@@ -31,9 +36,35 @@ pub record IsRunOfBoard (s : State Entry WordView) (r : TableKeepsOneHistory s) 
 abbrev pub BoardsAreRuns : Type 0
 BoardsAreRuns = (s : State Entry WordView) (r : TableKeepsOneHistory s) → IsRunOfBoard s r
 
--- the run of a later state, whose log goes on from that of the earlier one, and in which each pass has gone on, begins
--- with the run of the earlier one: so a state has one run, and no call's place in it ever moves
+-- the log of a later state goes on from that of the earlier one, and each pass is still at its seat and has gone on
+pub record GoesOnWith (s t : State Entry WordView) (r : TableKeepsOneHistory s) (q : TableKeepsOneHistory t) : Type 0 where
+  pub log : IsPrefix r.shared.log q.shared.log
+  pub passes : HaveGoneOn (word_actors s.views) (word_actors t.views)
+
+abbrev pub LaterBoardsGoOn : Type 0
+LaterBoardsGoOn =
+    (s t : State Entry WordView) (r : TableKeepsOneHistory s) (q : TableKeepsOneHistory t) → Later s t → GoesOnWith s t r q
+
+-- the run of a later state begins with the run of the earlier one: so a state has one run, and no call's place in it ever moves
 abbrev pub RunsGrow : Type 0
 RunsGrow =
-    (s t : State Entry WordView) (r : TableKeepsOneHistory s) (q : TableKeepsOneHistory t) → IsPrefix r.shared.log q.shared.log
-    → HaveGoneOn (word_actors s.views) (word_actors t.views) → (earlier : IsRunOfBoard s r) (later : IsRunOfBoard t q) → IsPrefix earlier.one.of_actors.moves later.one.of_actors.moves
+    (s t : State Entry WordView) (r : TableKeepsOneHistory s) (q : TableKeepsOneHistory t) → Later s t
+    → (earlier : IsRunOfBoard s r) (later : IsRunOfBoard t q) → IsPrefix earlier.one.of_actors.moves later.one.of_actors.moves
+
+-- each pass took few of the steps on match words, and so all passes did
+pub record PassesTookFew (views : List WordView) (since : Log) : Type 0 where
+  pub each : (seat : ℕ) → length (accesses_in (taken_by seat since)) ≤ most_between
+  pub all : length (accesses_in (map (λ (x : Logged). x.step) since)) ≤ length views * most_between
+
+-- while passes take steps, calls finish: between two moments at which as many calls were finished, passes took few steps
+abbrev pub SomeCallFinishes : Type 0
+SomeCallFinishes =
+    (s t : State Entry WordView) (r : TableKeepsOneHistory s) (q : TableKeepsOneHistory t) → Later s t
+    → finished_by (word_actors t.views) ≡ finished_by (word_actors s.views) → (since : Log) → q.shared.log ≡ r.shared.log ++ since → PassesTookFew t.views since
+
+-- the number that a reader was given is above all that had been given when it had none
+abbrev pub NumbersRiseInTime : Type 0
+NumbersRiseInTime =
+    (s t : State Entry WordView) (r : TableKeepsOneHistory s) → TableKeepsOneHistory t → Later s t
+    → (seat : ℕ) (v w : WordView) → get_elem? s.views seat ≡ some v → v.pass.number ≡ 0 → get_elem? t.views seat ≡ some w → 0 < w.pass.number
+    → IsGivenAfter r.shared.enlisted (known s.views) w.pass.number

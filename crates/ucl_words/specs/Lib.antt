@@ -5,3 +5,4 @@ pub mod WordCalls
 pub mod Code
 pub mod WordViews
 pub mod WordDoings
+pub mod Later

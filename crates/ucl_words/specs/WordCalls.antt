@@ -1,5 +1,5 @@
 -- What a call of the word board says of the steps that it takes, one by one: the pass was v and is w.
-use Rattle.std.specs.Prelude.{◌≡◌, ◌≢◌, ◌⊎◌, ℕ, ◌+◌, ◌<◌, ◌≤◌, List, [], ◌∷◌, ◌++◌, length, Option, Some, None, Result}
+use Rattle.std.specs.Prelude.{◌≡◌, ◌≢◌, ◌⊎◌, ℕ, ◌+◌, ◌<◌, ◌≤◌, List, [], ◌∷◌, ◌++◌, length, Option, Some, None, Result, slice_get}
 use Rattle.ucl_word.specs.declared.event.EventCall.{EventCall}
 use Rattle.ucl_word.specs.declared.event.Accepted.{Accepted}
 use Rattle.ucl_word.specs.declared.refusal.Refusal.{Refusal}
@@ -41,12 +41,14 @@ pub record ReportSteps (v : View) (call : EventCall) (reply : Result Accepted Re
   pub leaves : LeavesAccesses v accesses (entry_made v.number call reply) w
   pub report : ReportAccesses call reply accesses (length w.seen)
 
--- the steps of a reading, in no more than the most tries
+-- the steps of a reading, in no more than the most tries, and in at most one try more than there were events meanwhile: since
+-- its first access
 pub record ReadingSteps (v : View) (reading : Reading) (w : View) : Type 0 where
   pub accesses : List Access
   pub leaves : LeavesAccesses v accesses None w
   pub collects : ReadingAccesses reading accesses
   pub few : length collects.tries + 1 ≤ most_tries
+  pub meanwhile : (first : Access) → slice_get accesses 0 ≡ Some first → length collects.tries + first.at ≤ length w.seen
 
 -- exchanges of the number of enlisted reporters, the first of them tried from this number: one that finds another
 -- is followed by one that is tried from what it found; one that finds it

@@ -6,7 +6,7 @@ use Rattle.ucl_board.specs.History.{board_of}
 use Rattle.ucl_steps.specs.Actors.{Actor, IsRunOfLog}
 use Rattle.ucl_shared.specs.declared.view.View.{View}
 use Rattle.ucl_shared.specs.OneHistory.{KeepsOneHistory}
-use Rattle.ucl_shared.specs.Standing.{StandsIn}
+use Rattle.ucl_shared.specs.Standing.{StandsIn, StandTogether}
 use Rattle.ucl_words.specs.declared.view.WordView.{WordView}
 
 -- the number of enlisted reporters as word 0, and the words of matches 1 to 12
@@ -36,3 +36,7 @@ IsTheRule holds = (s : State Entry WordView) → holds s → TableKeepsOneHistor
 -- a pass of the table stands at its seat
 abbrev pub Stands : ℕ → WordView → Type 0
 Stands seat v = StandsIn TableKeepsOneHistory (λ (s : State Entry WordView). s.views) seat v
+
+-- wherever the pass v stood, u and w then stand together, u at the seat of v
+abbrev pub StandAfterSplit : WordView → WordView → WordView → Type 0
+StandAfterSplit v u w = (seat : ℕ) → Stands seat v → StandTogether TableKeepsOneHistory (λ (s : State Entry WordView). s.views) seat u w

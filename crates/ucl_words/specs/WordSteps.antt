@@ -10,7 +10,7 @@ use Rattle.ucl_board.specs.Log.{AccessKind, Look, First, Second, Swap, Match, En
 use Rattle.ucl_shared.specs.declared.view.View.{View}
 use Rattle.ucl_shared.specs.Views.{Takes}
 use Rattle.ucl_shared.specs.Steps.{Sees, Adds, Enlists}
-use Rattle.ucl_steps.specs.Protocol.{Held, Checking, after_look, after_swap, after_first, after_second}
+use Rattle.ucl_steps.specs.Protocol.{Held, Nothing, Checking, after_look, after_swap, after_first, after_second}
 use Rattle.ucl_words.specs.declared.view.WordView.{WordView}
 use Rattle.ucl_words.specs.WordRule.{Stands}
 use Rattle.ucl_word.specs.declared.event.EventCall.{EventCall}
@@ -45,15 +45,8 @@ pub record ExchangeWon (e : Entry) (v : View) (n : ℕ) (w : View) : Type 0 wher
 abbrev pub IsNextWord : Entry → ℕ → ℕ → Type 0
 IsNextWord e old new = GainsOne IsLegal (λ history. word_at (board_of history) e.game) e old new
 
--- a load of the enlist word
-pub record LoadsEnlisted (v w : View) : Type 0 where
-  pub found : ℕ
-  pub sees : Sees (Enlisted found) v w
-  pub listed : w.listed ≡ v.listed
-  pub shown : w.shown ≡ v.shown
-
--- an exchange of the enlist word that was missed
-pub record EnlistMissed (v : View) (n : ℕ) (w : View) : Type 0 where
+-- a load of the enlist word, or an exchange of it that was missed: the pass then knows how many it found
+pub record LoadsEnlisted (v : View) (n : ℕ) (w : View) : Type 0 where
   pub sees : Sees (Enlisted n) v w
   pub above : v.listed ≤ n
   pub listed : w.listed ≡ n
@@ -68,8 +61,9 @@ pub record EnlistWon (v : View) (n : ℕ) (w : View) : Type 0 where
 -- the steps of the table, by what they found: each says what the pass knows after it, and what it then holds of
 -- its call; those that can end a call say that the pass then stands at its seat
 
--- a report's load, which begins the call for this event
+-- a report's load, which begins the call for this event, where no call is under way
 pub record LookStep (seat : ℕ) (e : EventCall) (st : Step Entry) (m : Me Entry WordView) (n : ℕ) (m' : Me Entry WordView) : Type 0 where
+  pub nothing : m.0.doing.held ≡ Nothing
   pub loads : Loads Look st.word m.0.pass n m'.0.pass
   pub doing : m'.0.doing ≡ after_look m.0.pass.number e n (length m'.0.pass.seen) m.0.doing
   pub stands : Stands seat m'.0
@@ -89,8 +83,7 @@ pub record SecondStep (seat : ℕ) (st : Step Entry) (m : Me Entry WordView) (n 
 -- one of the enlist word, and of no other
 pub record EnlistedStep (seat : ℕ) (st : Step Entry) (m : Me Entry WordView) (n : ℕ) (m' : Me Entry WordView) : Type 0 where
   pub word : st.word ≡ 0
-  pub loads : LoadsEnlisted m.0.pass m'.0.pass
-  pub found : loads.found ≡ n
+  pub loads : LoadsEnlisted m.0.pass n m'.0.pass
   pub doing : m'.0.doing ≡ m.0.doing
   pub stands : Stands seat m'.0
 
@@ -105,11 +98,12 @@ pub record ExchangeStep (seat : ℕ) (st : Step Entry) (m : Me Entry WordView) (
   pub doing : m'.0.doing ≡ after_swap n (length m'.0.pass.seen) m.0.doing
   pub stands : Stands seat m'.0
 
--- an exchange of the enlist word, and of no other
+-- an exchange of the enlist word, and of no other, by a reader's pass
 pub record EnlistStep (seat : ℕ) (st : Step Entry) (m : Me Entry WordView) (n : ℕ) (m' : Me Entry WordView) : Type 0 where
+  pub reader : m.0.pass.number ≡ 0
   pub word : st.word ≡ 0
   pub won : n ≡ st.first → EnlistWon m.0.pass n m'.0.pass
-  pub missed : n ≢ st.first → EnlistMissed m.0.pass n m'.0.pass
+  pub missed : n ≢ st.first → LoadsEnlisted m.0.pass n m'.0.pass
   pub doing : m'.0.doing ≡ m.0.doing
   pub stands : Stands seat m'.0
 

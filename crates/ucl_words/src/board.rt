@@ -9,8 +9,8 @@ ghost use Rattle.ucl_shared.specs.Passes.{IsSound, Continues, AcceptedReport, Re
 ghost use Rattle.ucl_shared.specs.Views.{pass_view_of, count_of, trail_of, kept_of};
 ghost use Rattle.ucl_shared.specs.CallSteps.{MeetingSteps, HasCopyOf};
 ghost use Rattle.ucl_shared.specs.OneHistory.{BoardsOpenFresh};
-ghost use Rattle.ucl_words.specs.WordRule.{words_after, IsTheRule, Stands};
-ghost use Rattle.ucl_words.specs.WordSteps.{Loads, LoadsMatch, LoadsEnlisted, point_shown, ExchangeWon, ExchangeMissed, IsNextWord, EnlistWon, EnlistMissed};
+ghost use Rattle.ucl_words.specs.WordRule.{words_after, IsTheRule, Stands, StandAfterSplit};
+ghost use Rattle.ucl_words.specs.WordSteps.{Loads, LoadsMatch, LoadsEnlisted, point_shown, ExchangeWon, ExchangeMissed, IsNextWord, EnlistWon};
 ghost use Rattle.ucl_words.specs.Code.{Collects, FindsAgain, FindsAnother, IsHoldingFor, MayCollect, HasFirsts, has_copied, begins_anew};
 ghost use Rattle.ucl_words.specs.WordCalls.{IsSteady, ReportSteps, ReadingSteps, EnlistTries, KeepsTrail};
 ghost use Rattle.ucl_words.specs.WordViews.{left_pass, second_pass, note_pass, IsNotePass, view_of};
@@ -293,7 +293,7 @@ impl WordBoard {
         ensures seat { seat.new.id ≡ seat.old.id }
         ensures won { result ≡ known → EnlistWon seat.old.me.0.pass result seat.new.me.0.pass }
         ensures missed { result ≢ known
-            → EnlistMissed seat.old.me.0.pass result seat.new.me.0.pass }
+            → LoadsEnlisted seat.old.me.0.pass result seat.new.me.0.pass }
         ensures does { seat.new.me.0.doing ≡ seat.old.me.0.doing }
         ensures stands { Stands seat.new.id seat.new.me.0 }
     {
@@ -344,7 +344,7 @@ impl WordBoard {
         ensures seat { seat.new.id ≡ seat.old.id }
         ensures kept { seat.new.me.0 ≡ left_pass seat.old.me.0 }
         ensures given { result.me.0 ≡ second_pass seat.old.me.0 }
-        ensures stands { Stands seat.old.id seat.old.me.0 → Stands seat.new.id seat.new.me.0 }
+        ensures stands { StandAfterSplit seat.old.me.0 seat.new.me.0 result.me.0 }
     {
         self.table.shared.split_seat::<SecondPass>(seat)
     }
@@ -356,7 +356,7 @@ impl WordBoard {
         requires place { K.seat ≡ seat.old.id }
         ensures own { seat.new.table_id ≡ seat.old.table_id }
         ensures seat { seat.new.id ≡ seat.old.id }
-        ensures loads { LoadsEnlisted seat.old.me.0.pass seat.new.me.0.pass }
+        ensures loads { LoadsEnlisted seat.old.me.0.pass result seat.new.me.0.pass }
         ensures steady { IsSteady seat.old.me.0.pass → IsSteady seat.new.me.0.pass }
         ensures does { seat.new.me.0.doing ≡ seat.old.me.0.doing }
         ensures stands { Stands seat.new.id seat.new.me.0 }
@@ -546,8 +546,7 @@ impl WordBoard {
             × (trail_of result.view ≡ trail_of pass.old.view) }
         ensures copy { HasCopyOf result.view pass.old.view }
         ensures nothing { result.doing ≡ nothing_done }
-        ensures stands { Stands pass.old.seat (view_of pass.old)
-            → Stands pass.new.seat (view_of pass.new) }
+        ensures stands { StandAfterSplit (view_of pass.old) (view_of pass.new) (view_of result) }
     {
         let seat = self.split_by(&mut pass.seat);
         WordReaderPass { seat }

@@ -1,6 +1,7 @@
 //! What holds of all exchanges of match words, and of every running board. The functions do nothing: each is there for its contract.
 
-ghost use Rattle.ucl_words.specs.Laws.{WordsTellTheEntry, BoardsAreRuns, RunsGrow};
+ghost use Rattle.ucl_words.specs.Laws.{WordsTellTheEntry, BoardsAreRuns, LaterBoardsGoOn, RunsGrow, SomeCallFinishes, NumbersRiseInTime};
+ghost use Rattle.ucl_words.specs.Later.{LetsGoOn, StepsLeadOn, FindsEnlisted};
 ghost use Rattle.ucl_words.specs.WordSteps.{LogsOneStep};
 
 use crate::rule::{Asking, CountEnlisted, Enlist, First, Look, Second, Swap};
@@ -22,13 +23,6 @@ pub fn boards_are_runs()
     ensures { BoardsAreRuns }
 {}
 
-/// The run of a later state is a longer run: where the log of a state goes on from that of another, and each pass still stands at its seat and
-/// has gone on from what it had done, each run of the later state begins with each run of the earlier one. So a state has one run, and the
-/// place of a call in it, once it is there, never moves.
-pub fn runs_grow()
-    ensures { RunsGrow }
-{}
-
 /// Each kind of step on the words of a board, whatever it finds, is one step in the log, of the pass that took it: so what a call's
 /// clause says of the steps of its pass counts all its loads and exchanges of these kinds, and there are no others.
 pub fn each_step_is_logged<K: Asking>()
@@ -38,4 +32,56 @@ pub fn each_step_is_logged<K: Asking>()
     ensures swaps { LogsOneStep ⟦<Swap<K> as Play<Entry, WordView>>⟧.then }
     ensures counts { LogsOneStep ⟦<CountEnlisted<K> as Play<Entry, WordView>>⟧.then }
     ensures enlists { LogsOneStep ⟦<Enlist<K> as Play<Entry, WordView>>⟧.then }
+{}
+
+/// Each kind of step on the words of a board, whatever it finds, lets its pass go on: it keeps its number, once it has one; what it had
+/// finished stays finished; and the call that was under way is finished, or still under way, and no other begins before it is finished.
+pub fn each_step_goes_on<K: Asking>()
+    ensures looks { LetsGoOn ⟦<Look<K> as Play<Entry, WordView>>⟧.then }
+    ensures first { LetsGoOn ⟦<First as Play<Entry, WordView>>⟧.then }
+    ensures second { LetsGoOn ⟦<Second<K> as Play<Entry, WordView>>⟧.then }
+    ensures swaps { LetsGoOn ⟦<Swap<K> as Play<Entry, WordView>>⟧.then }
+    ensures counts { LetsGoOn ⟦<CountEnlisted<K> as Play<Entry, WordView>>⟧.then }
+    ensures enlists { LetsGoOn ⟦<Enlist<K> as Play<Entry, WordView>>⟧.then }
+{}
+
+/// What the clause of a step on the table allows leads from each state that meets the rule to one that meets it, by a step of this kind:
+/// so there are such later states, and those of the table are among them.
+pub fn each_step_leads_on<K: Asking>()
+    ensures looks { StepsLeadOn ⟦<Look<K> as Play<Entry, WordView>>⟧.then }
+    ensures first { StepsLeadOn ⟦<First as Play<Entry, WordView>>⟧.then }
+    ensures second { StepsLeadOn ⟦<Second<K> as Play<Entry, WordView>>⟧.then }
+    ensures swaps { StepsLeadOn ⟦<Swap<K> as Play<Entry, WordView>>⟧.then }
+    ensures counts { StepsLeadOn ⟦<CountEnlisted<K> as Play<Entry, WordView>>⟧.then }
+    ensures enlists { StepsLeadOn ⟦<Enlist<K> as Play<Entry, WordView>>⟧.then }
+{}
+
+/// A later state of a board goes on from an earlier one: where steps of the passes lead from one to the other, whichever steps of whichever
+/// passes, the log of the later one begins with that of the earlier one, and each pass is still at its seat and has gone on.
+pub fn later_boards_go_on()
+    ensures { LaterBoardsGoOn }
+{}
+
+/// The run of a later state is a longer run: wherever steps of the passes lead from one state to another, each run of the later state
+/// begins with each run of the earlier one. So a state has one run, and the place of a call in it, once it is there, never moves.
+pub fn runs_grow()
+    ensures { RunsGrow }
+{}
+
+/// While passes take steps, calls finish: between two states of which the later one has as many finished calls, each pass has taken 35
+/// steps on match words at most, and all passes 35 times as many as there are. It says nothing of which pass finishes a call.
+pub fn some_call_finishes()
+    ensures { SomeCallFinishes }
+{}
+
+/// The number that a reader is given is above all that had been given at any earlier moment at which it had none: so of two enlistments
+/// that follow one another the later one has the higher number, also of passes that never met.
+pub fn numbers_rise_in_time()
+    ensures { NumbersRiseInTime }
+{}
+
+/// What a step on the number of reporters says that it found is what was there: as many as were enlisted in the state that it was taken in.
+pub fn numbers_are_there<K: Asking>()
+    ensures counts { FindsEnlisted ⟦<CountEnlisted<K> as Play<Entry, WordView>>⟧.then }
+    ensures enlists { FindsEnlisted ⟦<Enlist<K> as Play<Entry, WordView>>⟧.then }
 {}

@@ -7,7 +7,7 @@ ghost use Rattle.ucl_shared.specs.Views.{pass_view_of, count_of, trail_of, kept_
 ghost use Rattle.ucl_shared.specs.CallSteps.{MeetingSteps, HasCopyOf};
 ghost use Rattle.ucl_words.specs.WordCalls.{ReportSteps, ReadingSteps, EnlistTries, KeepsTrail};
 ghost use Rattle.ucl_words.specs.WordDoings.{AnswersCall, GoesAlong, WordHasReported};
-ghost use Rattle.ucl_words.specs.WordRule.{Stands};
+ghost use Rattle.ucl_words.specs.WordRule.{Stands, StandAfterSplit};
 ghost use Rattle.ucl_words.specs.WordViews.{view_of};
 ghost use Rattle.ucl_steps.specs.Protocol.{nothing_done, report_reply};
 ghost use Rattle.ucl_steps.specs.declared.step.Call.TheVariants as calls;
@@ -120,8 +120,7 @@ impl LiveBoard for WordBoard {
             × (trail_of result.view ≡ trail_of pass.old.view) }
         ensures copy { HasCopyOf result.view pass.old.view }
         ensures nothing { result.doing ≡ nothing_done }
-        ensures stands { Stands pass.old.seat (view_of pass.old)
-            → Stands pass.new.seat (view_of pass.new) }
+        ensures stands { StandAfterSplit (view_of pass.old) (view_of pass.new) (view_of result) }
     {
         self.split_now(pass)
     }

@@ -14,10 +14,10 @@ returns-then-is_ok-clause-enlisted g c =
     let x = c.count-words.result in
     let next = c.one_more_reporter-next.result in
     let looked = c.count-words.ensures.looks in
-    let stored = won c.store_reporter-added.result (λ found. (found ≡ x) × StoresReporter u next z) (λ found. (found ≢ x) × LooksAtEnlisted u found found z) c.store_reporter-added.ensures.stored
+    let stored = won c.store_reporter-added.result (λ found. (found ≡ x) × StoresReporter u x next z) (λ found. (found ≢ x) × LooksAtEnlisted u found found z) c.store_reporter-added.ensures.stored
     (sym c.is_ok.ensures.value ∙ c.if-is_ok.true) in
     number_told v z c.new.result _ (enlisted_says v w u x c.retry.invariant.tried looked z next stored.1.1)
-    (new_number v w u x c.retry.invariant.tried looked z next stored.1.1 c.one_more_reporter-next.ensures) c.new.ensures.value
+    (new_number v w u x c.retry.invariant.tried looked z next stored.1.1) c.new.ensures.value
 
 pub retry-preserved : goal.retry-preserved
 retry-preserved g c =
@@ -27,7 +27,7 @@ retry-preserved g c =
     let z = knows c.store_reporter-added.new.seat in
     let x = c.count-words.result in
     let next = c.one_more_reporter-next.result in
-    let missed = lost c.store_reporter-added.result (λ found. (found ≡ x) × StoresReporter u next z) (λ found. (found ≢ x) × LooksAtEnlisted u found found z) c.store_reporter-added.ensures.stored
+    let missed = lost c.store_reporter-added.result (λ found. (found ≡ x) × StoresReporter u x next z) (λ found. (found ≢ x) × LooksAtEnlisted u found found z) c.store_reporter-added.ensures.stored
     (sym c.is_ok.ensures.value ∙ c.if-is_ok.false) in
     record {
       can = tt;

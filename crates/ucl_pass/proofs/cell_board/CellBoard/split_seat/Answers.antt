@@ -1,7 +1,8 @@
-use Rattle.std.proofs.Common.{rules, ℕ, sym, subst}
+use Rattle.std.proofs.Common.{rules, sym, subst}
 use Rattle.crossbeam_utils.specs.Seq.{cell_view}
 use Rattle.ucl_pass.specs.declared.view.CellView.{CellView}
-use Rattle.ucl_pass.specs.CellRule.{CellStands}
+use Rattle.ucl_pass.specs.CellViews.{left_cell_pass}
+use Rattle.ucl_pass.specs.CellRule.{CellStandAfterSplit}
 use Rattle.ucl_pass.proofs.KeptRule.{seconds, split_stands}
 use Rattle.ucl_pass.proofs.cell_board.CellBoard.split_seat.Goals as goal
 
@@ -9,6 +10,7 @@ pub split_pass-requires : goal.split_pass-requires
 split_pass-requires c = (search rules, (search rules, (search rules, seconds _ _)))
 
 pub returns-clause-stands : goal.returns-clause-stands
-returns-clause-stands c was =
-    subst (λ (k : ℕ). CellStands k (cell_view c.split_pass.new.pass)) (sym c.split_pass.ensures.kept.0.1)
-    (subst (λ (v : CellView). CellStands c.args.seat.now.id v) (sym c.split_pass.ensures.kept.1) (split_stands c.args.seat.now.id (cell_view c.args.seat.now) was))
+returns-clause-stands c =
+    let v = cell_view c.args.seat.now in
+    subst (λ (u : CellView). CellStandAfterSplit v u (cell_view c.split_pass.result)) (sym c.split_pass.ensures.kept.1)
+    (subst (λ (w : CellView). CellStandAfterSplit v (left_cell_pass v) w) (sym c.split_pass.ensures.given.1) (split_stands v))

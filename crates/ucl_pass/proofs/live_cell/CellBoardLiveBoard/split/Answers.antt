@@ -1,7 +1,8 @@
 use Rattle.std.proofs.Common.{◌≡◌, refl, sym, ap, subst}
+use Rattle.crossbeam_utils.specs.Seq.{cell_view}
 use Rattle.ucl_pass.specs.declared.view.CellView.{CellView}
-use Rattle.ucl_pass.specs.CellRule.{PassStands}
-use Rattle.ucl_pass.specs.CellViews.{knows}
+use Rattle.ucl_pass.specs.CellRule.{CellStandAfterSplit}
+use Rattle.ucl_pass.specs.CellViews.{CellPass, known_of, knows}
 use Rattle.ucl_shared.specs.declared.view.View.{View}
 use Rattle.ucl_shared.specs.Passes.{IsSound}
 use Rattle.ucl_shared.specs.Views.{pass_view_of}
@@ -20,4 +21,5 @@ invariant_of-pass g c = subst IsReader (sym (ap (λ (z : CellView). z.pass) c.sp
     (sound_kept (knows c.pass.inside.seat) c.pass.invariant.0, c.pass.invariant.1, c.pass.invariant.2)
 
 pub returns-clause-stands : goal.returns-clause-stands
-returns-clause-stands g c was = c.split_seat-seat.ensures.stands (subst PassStands (sym c.pass.view_is) was)
+returns-clause-stands g c =
+    subst (λ (p : CellPass). CellStandAfterSplit (known_of p) (cell_view c.split_seat-seat.new.seat) (cell_view c.split_seat-seat.result)) c.pass.view_is c.split_seat-seat.ensures.stands

@@ -1,4 +1,4 @@
-use Rattle.std.proofs.Common.{rules, ap, sym, ◌∙◌, subst, arith}
+use Rattle.std.proofs.Common.{rules, ℕ, ap, sym, ◌∙◌, subst, arith}
 use Rattle.std.specs.Prelude.{IsSome}
 use Rattle.atomic_table.specs.Table.{Joins}
 use Rattle.ucl_words.specs.declared.view.WordView.{WordView}
@@ -23,35 +23,40 @@ returns-clause-steady c =
     let a = c.args.note.me.0.pass in
     let v = c.args.seat.now.me.0.pass in
     let w = c.count.new.seat.me.0.pass in
-    met_steady a v w c.requires.steady (after_told a v c.join_seat.new.seat.me.0.pass w (ap (λ m. m.0.pass) c.join_seat.ensures.2) c.count.ensures.loads)
+    let n : ℕ = c.count.result in
+    met_steady a v w n c.requires.steady (after_told a v c.join_seat.new.seat.me.0.pass w n (ap (λ m. m.0.pass) c.join_seat.ensures.2) c.count.ensures.loads)
 
 pub returns-clause-always : goal.returns-clause-always
 returns-clause-always c =
     let a = c.args.note.me.0.pass in
     let v = c.args.seat.now.me.0.pass in
     let w = c.count.new.seat.me.0.pass in
-    met_continues a v w c.requires.steady (after_told a v c.join_seat.new.seat.me.0.pass w (ap (λ m. m.0.pass) c.join_seat.ensures.2) c.count.ensures.loads)
+    let n : ℕ = c.count.result in
+    met_continues a v w n c.requires.steady (after_told a v c.join_seat.new.seat.me.0.pass w n (ap (λ m. m.0.pass) c.join_seat.ensures.2) c.count.ensures.loads)
 
 pub returns-clause-heard : goal.returns-clause-heard
 returns-clause-heard c =
     let a = c.args.note.me.0.pass in
     let v = c.args.seat.now.me.0.pass in
     let w = c.count.new.seat.me.0.pass in
-    met_says a v w c.requires.steady (after_told a v c.join_seat.new.seat.me.0.pass w (ap (λ m. m.0.pass) c.join_seat.ensures.2) c.count.ensures.loads)
+    let n : ℕ = c.count.result in
+    met_says a v w n c.requires.steady (after_told a v c.join_seat.new.seat.me.0.pass w n (ap (λ m. m.0.pass) c.join_seat.ensures.2) c.count.ensures.loads)
 
 pub returns-clause-trail : goal.returns-clause-trail
 returns-clause-trail c =
     let a = c.args.note.me.0.pass in
     let v = c.args.seat.now.me.0.pass in
     let w = c.count.new.seat.me.0.pass in
-    met_trail a v w c.requires.steady (after_told a v c.join_seat.new.seat.me.0.pass w (ap (λ m. m.0.pass) c.join_seat.ensures.2) c.count.ensures.loads)
+    let n : ℕ = c.count.result in
+    met_trail a v w n c.requires.steady (after_told a v c.join_seat.new.seat.me.0.pass w n (ap (λ m. m.0.pass) c.join_seat.ensures.2) c.count.ensures.loads)
 
 pub returns-clause-steps : goal.returns-clause-steps
 returns-clause-steps c =
     let a = c.args.note.me.0.pass in
     let v = c.args.seat.now.me.0.pass in
     let w = c.count.new.seat.me.0.pass in
-    met_steps a v w c.requires.steady (after_told a v c.join_seat.new.seat.me.0.pass w (ap (λ m. m.0.pass) c.join_seat.ensures.2) c.count.ensures.loads)
+    let n : ℕ = c.count.result in
+    met_steps a v w n c.requires.steady (after_told a v c.join_seat.new.seat.me.0.pass w n (ap (λ m. m.0.pass) c.join_seat.ensures.2) c.count.ensures.loads)
 
 pub returns-clause-does : goal.returns-clause-does
 returns-clause-does c = c.count.ensures.does ∙ ap (λ m. m.0.doing) c.join_seat.ensures.2

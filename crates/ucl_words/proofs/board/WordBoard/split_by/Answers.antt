@@ -1,6 +1,7 @@
-use Rattle.std.proofs.Common.{ℕ, ap, sym, ◌∙◌, subst, arith}
+use Rattle.std.proofs.Common.{ap, sym, ◌∙◌, subst, arith}
 use Rattle.ucl_words.specs.declared.view.WordView.{WordView}
-use Rattle.ucl_words.specs.WordRule.{Stands}
+use Rattle.ucl_words.specs.WordRule.{StandAfterSplit}
+use Rattle.ucl_words.specs.WordViews.{left_pass}
 use Rattle.ucl_words.proofs.KeptRule.{seconds, split_stands}
 use Rattle.ucl_words.proofs.board.WordBoard.split_by.Goals as goal
 
@@ -14,6 +15,7 @@ pub returns-clause-given : goal.returns-clause-given
 returns-clause-given c = ap (λ m. m.0) c.split_seat.ensures.4
 
 pub returns-clause-stands : goal.returns-clause-stands
-returns-clause-stands c was =
-    subst (λ (k : ℕ). Stands k c.split_seat.new.seat.me.0) (sym c.split_seat.ensures.1)
-    (subst (λ (v : WordView). Stands c.args.seat.now.id v) (sym (ap (λ m. m.0) c.split_seat.ensures.2)) (split_stands c.args.seat.now.id c.args.seat.now.me.0 was))
+returns-clause-stands c =
+    let v = c.args.seat.now.me.0 in
+    subst (λ (u : WordView). StandAfterSplit v u c.split_seat.result.me.0) (sym (ap (λ m. m.0) c.split_seat.ensures.2))
+    (subst (λ (w : WordView). StandAfterSplit v (left_pass v) w) (sym (ap (λ m. m.0) c.split_seat.ensures.4)) (split_stands v))

@@ -5,7 +5,7 @@ use Rattle.ucl_words.specs.declared.view.WordView.{WordView}
 use Rattle.ucl_shared.specs.Views.{count_of, trail_of}
 use Rattle.ucl_words.specs.WordCalls.{IsSteady}
 use Rattle.ucl_words.specs.WordDoings.{WordHasReported}
-use Rattle.ucl_words.specs.WordRule.{Stands}
+use Rattle.ucl_words.specs.WordRule.{StandAfterSplit}
 use Rattle.ucl_words.specs.WordViews.{WordPass, view_of}
 use Rattle.ucl_words.proofs.EnlistmentFacts.{kept_steady, second_steady, second_steps}
 use Rattle.ucl_words.proofs.board.WordBoard.split_now.Goals as goal
@@ -27,4 +27,5 @@ pub invariant_of-pass : goal.invariant_of-pass
 invariant_of-pass c = subst IsReader (sym c.split_by-seat.ensures.kept) (kept_steady c.pass.inside.seat.me.0.pass c.pass.invariant.0, c.pass.invariant.1, c.pass.invariant.2, c.pass.invariant.3)
 
 pub returns-clause-stands : goal.returns-clause-stands
-returns-clause-stands c was = c.split_by-seat.ensures.stands (subst (λ (p : WordPass). Stands p.seat (view_of p)) (sym c.pass.view_is) was)
+returns-clause-stands c =
+    subst (λ (p : WordPass). StandAfterSplit (view_of p) c.split_by-seat.new.seat.me.0 c.split_by-seat.result.me.0) c.pass.view_is c.split_by-seat.ensures.stands

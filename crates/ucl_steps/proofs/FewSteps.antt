@@ -1,0 +1,518 @@
+-- While no call is decided the words stay as they are, and each step of a caller leaves it fewer steps to take.
+use Rattle.std.proofs.Common.{◌≡◌, ◌≢◌, ℕ, zero, suc, ◌+◌, ◌-◌, ◌*◌, ◌<◌, ◌≤◌, ◌==◌, Bool, true, false, cond, List, [], ◌∷◌, ◌++◌, drop, length, Option, Some, None, ◌⊎◌, inl}
+use Rattle.std.proofs.Common.{inr, refl, sym, ap, ◌∙◌, subst, arith, append-nil}
+use Rattle.std.proofs.Common.{get_or, eq-eqb, ne_eqb}
+use Rattle.std.specs.Prelude.{slice_get, slice_index, slice_set, is_some, filter}
+use Rattle.std.specs.List.{sum_by}
+use Rattle.std.proofs.lemmas.Option.{none-some, same_Some, slice_get-get_or, option_and_then_some, cond_some}
+use Rattle.std.proofs.lemmas.Bool.{eqb-true, eqb-false}
+use Rattle.std.proofs.lemmas.List.{length_push, length-drop, length-set, length-replicate, drop_more}
+use Rattle.std.proofs.lemmas.List.Elements.{filter-append}
+use Rattle.std.proofs.lemmas.List.Sums.{sum_by-cons, sum_by-le}
+use Rattle.ucl_word.specs.declared.event.EventCall.{EventCall}
+use Rattle.ucl_word.specs.declared.refusal.Refusal.{Refusal}
+use Rattle.ucl_word.specs.declared.refusal.Refusal.TheVariants.{Stale}
+use Rattle.ucl_word.specs.Rules.{refusal_of, after}
+use Rattle.ucl_word.specs.Layout.{word_of, record_at}
+use Rattle.ucl_board.specs.Words.{word_at}
+use Rattle.ucl_board.specs.History.{reading_of}
+use Rattle.ucl_steps.specs.declared.step.Cast.{Cast}
+use Rattle.ucl_steps.specs.declared.step.Caller.{Caller}
+use Rattle.ucl_steps.specs.declared.step.Caller.TheVariants.{Reporter, Reader}
+use Rattle.ucl_steps.specs.declared.step.Call.{Call}
+use Rattle.ucl_steps.specs.declared.step.Call.TheVariants.{Event, Reading}
+use Rattle.ucl_steps.specs.declared.step.Step.{Step}
+use Rattle.ucl_steps.specs.declared.step.Step.TheVariants.{Begin, Look, Swap, First, Second, End}
+use Rattle.ucl_steps.specs.declared.trace.Reply.{Reply}
+use Rattle.ucl_steps.specs.declared.trace.Reply.TheVariants.{Accepted, Refused, Copied}
+use Rattle.ucl_steps.specs.declared.trace.CallRecord.{CallRecord}
+use Rattle.ucl_steps.specs.Protocol.{Nothing, Holding, Collecting, Checking, GoesOn, Answers, by_rules}
+use Rattle.ucl_steps.specs.Machine.{Holds, Idle, Wanting, Within, Answered, Callers, MachineState, initial_state, held_by, set_held, with_held, after_reply, change_at}
+use Rattle.ucl_steps.specs.Machine.{with_reply, with_end, may_begin, held_at_begin, after_begin}
+use Rattle.ucl_steps.specs.Machine.{after_outcome, stored, state_after_look, state_after_swap, state_after_first, state_after_second, after_end, after_step_holding, caller_of, after_step, after_steps}
+use Rattle.ucl_steps.specs.Progress.{most_between, decided_in, is_caller, steps_by, SomeCallIsDecided}
+use Rattle.ucl_steps.proofs.CallFacts.{Checks}
+use Rattle.ucl_steps.proofs.Callers.{same_caller, held_here, held_else}
+use Rattle.ucl_steps.proofs.Invariant.{Keeps}
+use Rattle.ucl_steps.proofs.KeptBySteps.{step_kept}
+use Rattle.ucl_steps.proofs.Runs.{kept_at_start, run_kept}
+
+-- the collected words, from this place on, and those that are there now: the first place at which they differ, None
+-- where they are the same
+abbrev stale_from : ℕ → List ℕ → List ℕ → Option ℕ
+stale_from at [] words = None
+stale_from at (x ∷ xs) words = cond (slice_index words at == x) (stale_from (at + 1) xs words) (Some at)
+
+stale_push : (at k : ℕ) (xs words : List ℕ) → at + length xs ≡ k → stale_from at (xs ++ slice_index words k ∷ []) words ≡ stale_from at xs words
+stale_push at k [] words is = let same : at ≡ k = omega arith in ap (λ (b : Bool). cond b None (Some at)) (eq-eqb (slice_index words at) (slice_index words k) (ap (slice_index words) same))
+stale_push at k (x ∷ xs) words is = ap (λ (o : Option ℕ). cond (slice_index words at == x) o (Some at)) (stale_push (at + 1) k xs words (omega arith))
+
+stale_within : (at : ℕ) (xs words : List ℕ) (j : ℕ) → stale_from at xs words ≡ Some j → (at ≤ j) × (j < at + length xs)
+stale_within at [] words j e = absurd (none-some j e)
+stale_within at (x ∷ xs) words j e =
+    by_test (slice_index words at == x) (stale_from (at + 1) xs words) (λ e. let t = stale_within (at + 1) xs words j e in let low = t.0 in let high = t.1 in (omega arith, omega arith)) e
+  where
+    by_test : (b : Bool) (o : Option ℕ) → (o ≡ Some j → (at ≤ j) × (j < at + suc (length xs))) → cond b o (Some at) ≡ Some j → (at ≤ j) × (j < at + suc (length xs))
+    by_test true o rest e = rest e
+    by_test false o rest e = let is = same_Some at j e in (omega arith, omega arith)
+
+-- the most steps that a reading may still take, with so many words collected or found again
+abbrev collecting_left : ℕ → Option ℕ → ℕ
+collecting_left n None = 23 - n
+collecting_left n (Some stale) = 36 + stale - n
+
+abbrev checking_left : ℕ → Option ℕ → ℕ
+checking_left n None = 11 - n
+checking_left n (Some stale) = 24 + stale - n
+
+-- the most steps that a caller may still take while these are the words, by what it holds
+abbrev left_in : List ℕ → Holds → ℕ
+left_in words Idle = 24
+left_in words (Wanting k e) = 1
+left_in words (Within k Nothing) = 0
+left_in words (Within k (Holding e old new)) = 0
+left_in words (Within k (Collecting collected)) = collecting_left (length collected) (stale_from 0 collected words)
+left_in words (Within k (Checking collected checked point)) = checking_left checked (stale_from checked (drop checked collected) words)
+left_in words (Answered k) = 25
+
+collects_more : (n m : ℕ) (o : Option ℕ) → n < 12 → m ≡ n + 1 → collecting_left m o + 1 ≤ collecting_left n o
+collects_more n m None few is = omega arith
+collects_more n m (Some j) few is = omega arith
+
+collects_last : (n : ℕ) (o : Option ℕ) → n + 1 ≡ 12 → checking_left 0 o + 1 ≤ collecting_left n o
+collects_last n None is = omega arith
+collects_last n (Some j) is = omega arith
+
+checks_more : (n : ℕ) (o : Option ℕ) → n < 11 → checking_left (n + 1) o + 1 ≤ checking_left n o
+checks_more n None few = omega arith
+checks_more n (Some j) few = omega arith
+
+-- how many calls have their reply
+
+longer : {X : Type 0} (b : Bool) (x y : X) (xs ys : List X) → length xs ≡ length ys → length (cond b (x ∷ xs) xs) ≡ length (cond b (y ∷ ys) ys)
+longer true x y xs ys is = ap suc is
+longer false x y xs ys is = is
+
+decided_begun : (calls : List CallRecord) (a : CallRecord) → a.reply ≡ None → decided_in (calls ++ a ∷ []) ≡ decided_in calls
+decided_begun calls a none =
+    ap length (filter-append (λ (c : CallRecord). is_some c.reply) calls (a ∷ []) ∙ (ap (λ (b : Bool). filter (λ (c : CallRecord). is_some c.reply) calls ++ cond b (a ∷ []) []) (ap is_some none)
+    ∙ append-nil (filter (λ (c : CallRecord). is_some c.reply) calls)))
+
+decided_ended : (k n : ℕ) (calls : List CallRecord) → decided_in (change_at k (with_end n) calls) ≡ decided_in calls
+decided_ended k n [] = refl
+decided_ended zero n (a ∷ calls) = longer (is_some a.reply) (with_end n a) a (filter (λ (c : CallRecord). is_some c.reply) calls) (filter (λ (c : CallRecord). is_some c.reply) calls) refl
+decided_ended (suc k) n (a ∷ calls) =
+    longer (is_some a.reply) a a (filter (λ (c : CallRecord). is_some c.reply) (change_at k (with_end n) calls)) (filter (λ (c : CallRecord). is_some c.reply) calls) (decided_ended k n calls)
+
+one_longer : {X : Type 0} (b : Bool) (x : X) (xs ys : List X) → length xs ≡ suc (length ys) → length (cond b (x ∷ xs) xs) ≡ suc (length (cond b (x ∷ ys) ys))
+one_longer true x xs ys is = ap suc is
+one_longer false x xs ys is = is
+
+decided_replied : (k point : ℕ) (r : Reply) (calls : List CallRecord) (a : CallRecord) → slice_get calls k ≡ Some a → a.reply ≡ None
+    → decided_in (change_at k (with_reply point r) calls) ≡ suc (decided_in calls)
+decided_replied k point r [] a at none = absurd (none-some a at)
+decided_replied zero point r (b ∷ calls) a at none =
+    let p = λ (c : CallRecord). is_some c.reply in
+    sym (ap (λ (t : Bool). suc (length (cond t (b ∷ filter p calls) (filter p calls)))) (ap is_some (ap (λ (c : CallRecord). c.reply) (same_Some b a at) ∙ none)))
+decided_replied (suc k) point r (b ∷ calls) a at none =
+    one_longer (is_some b.reply) b (filter (λ (c : CallRecord). is_some c.reply) (change_at k (with_reply point r) calls)) (filter (λ (c : CallRecord). is_some c.reply) calls)
+    (decided_replied k point r calls a at none)
+
+-- a call is under way
+abbrev pub IsOpen : Holds → Type 0
+IsOpen Idle = ⊥
+IsOpen (Wanting k e) = Unit {0}
+IsOpen (Within k held) = Unit {0}
+IsOpen (Answered k) = ⊥
+
+abbrev NotAnswered : Holds → Type 0
+NotAnswered (Answered k) = ⊥
+NotAnswered _ = Unit {0}
+
+not_answered : (x : Holds) → ((k : ℕ) → x ≢ Answered k) → NotAnswered x
+not_answered Idle not = tt
+not_answered (Wanting k e) not = tt
+not_answered (Within k held) not = tt
+not_answered (Answered k) not = absurd (not k refl)
+
+-- what a step that decides no call leaves
+record Stays (w : MachineState) (x : Holds) (w' : MachineState) (y : Holds) : Type 0 where
+  words : w'.words ≡ w.words
+  decided : decided_in w'.calls ≡ decided_in w.calls
+  less : left_in w.words y + 1 ≤ left_in w.words x
+  opens : NotAnswered x → IsOpen y
+
+-- a step of a caller: it held this, and holds that, and the step decides its call or leaves it fewer steps
+record Stepped (c : Caller) (w w' : MachineState) : Type 0 where
+  was : Holds
+  is : Holds
+  held : held_by w.callers c ≡ Some was
+  callers : w'.callers ≡ set_held is c w.callers
+  comes : (decided_in w'.calls ≡ suc (decided_in w.calls)) ⊎ Stays w was w' is
+
+below : (n : ℕ) → n ≢ 11 → n < 12 → n < 11
+below n not few = omega arith
+
+module _ (steps : List Step) (w : MachineState) (kept : Keeps steps w) where
+  -- the call gets its reply
+  replied : (c : Caller) (x : Holds) (k point : ℕ) (r : Reply) (words : List ℕ) (v : MachineState) (a : CallRecord) → held_by w.callers c ≡ Some x → v.callers ≡ w.callers → v.calls ≡ w.calls
+      → slice_get w.calls k ≡ Some a → a.reply ≡ None → Stepped c w (after_reply c k point r v)
+  replied c x k point r words v a held callers calls at none = record {
+    was = x;
+    is = Answered k;
+    held = held;
+    callers = ap (set_held (Answered k) c) callers;
+    comes = inl (ap (λ (z : List CallRecord). decided_in (change_at k (with_reply point r) z)) calls ∙ decided_replied k point r w.calls a at none);
+  }
+
+  stays : (c : Caller) (x y : Holds) → held_by w.callers c ≡ Some x → IsOpen y → left_in w.words y + 1 ≤ left_in w.words x → Stepped c w (with_held y c w)
+  stays c x y held opened less = record { was = x; is = y; held = held; callers = refl; comes = inr (record { words = refl; decided = refl; less = less; opens = λ not. opened }) }
+
+  begins : (c : Caller) (call : Call) → held_by w.callers c ≡ Some Idle → Stepped c w (after_begin c call w)
+  begins c call held = record {
+    was = Idle;
+    is = held_at_begin call (length w.calls);
+    held = held;
+    callers = refl;
+    comes = inr record {
+      words = refl;
+      decided = decided_begun w.calls (record { caller = c; call = call; begun = length w.history; point = None; reply = None; ended = None }) refl;
+      less = fewer call;
+      opens = λ not. opened call;
+    };
+  }
+    where
+      fewer : (call : Call) → left_in w.words (held_at_begin call (length w.calls)) + 1 ≤ 24
+      fewer (Event e) = omega arith
+      fewer Reading = omega arith
+
+      opened : (call : Call) → IsOpen (held_at_begin call (length w.calls))
+      opened (Event e) = tt
+      opened Reading = tt
+
+  ends : (c : Caller) (k : ℕ) → held_by w.callers c ≡ Some (Answered k) → Stepped c w (after_end c k w)
+  ends c k held = record {
+    was = Answered k;
+    is = Idle;
+    held = held;
+    callers = refl;
+    comes = inr (record { words = refl; decided = decided_ended k (length w.history) w.calls; less = omega arith; opens = λ not. absurd not });
+  }
+
+  looks : (r k : ℕ) (e : EventCall) → held_by w.callers (Reporter r) ≡ Some (Wanting k e) → (o : Option Refusal)
+      → Stepped (Reporter r) w (after_outcome (Reporter r) k (length w.history) (by_rules r e (word_at w.words e.game) o) w)
+  looks r k e held (Some refusal) =
+      let t = kept.knows (Reporter r) (Wanting k e) k held refl in
+      replied (Reporter r) (Wanting k e) k (length w.history) (Refused refusal) w.words w t.call held refl refl t.at t.sees.reply
+  looks r k e held None = stays (Reporter r) (Wanting k e) (Within k (Holding e (word_at w.words e.game) (word_of (after (record_at (word_at w.words e.game)) r e.kind)))) held tt (omega arith)
+
+  swaps : (r k : ℕ) (e : EventCall) (old new : ℕ) → held_by w.callers (Reporter r) ≡ Some (Within k (Holding e old new)) → Stepped (Reporter r) w (state_after_swap r k e old new w)
+  swaps r k e old new held =
+      let t = kept.knows (Reporter r) (Within k (Holding e old new)) k held refl in
+      by_test t.call t.at t.sees.asks.reply (word_at w.words e.game == old)
+    where
+      by_test : (a : CallRecord) → slice_get w.calls k ≡ Some a → a.reply ≡ None → (b : Bool)
+          → Stepped (Reporter r) w
+          (after_reply (Reporter r) k (length w.history) (cond b (Accepted (record { number = (record_at new).number })) (Refused (Stale (record_at (word_at w.words e.game)).number)))
+          (cond b (stored r e new w) w))
+      by_test a at none true =
+          replied (Reporter r) (Within k (Holding e old new)) k (length w.history) (Accepted (record { number = (record_at new).number })) w.words (stored r e new w) a held refl refl at none
+      by_test a at none false =
+          replied (Reporter r) (Within k (Holding e old new)) k (length w.history) (Refused (Stale (record_at (word_at w.words e.game)).number)) w.words w a held refl refl at none
+
+  firsts : (c : Caller) (k : ℕ) (xs : List ℕ) → held_by w.callers c ≡ Some (Within k (Collecting xs)) → Stepped c w (state_after_first c k xs w)
+  firsts c k xs held =
+      by_test (length longer_by_one == 12) refl
+    where
+      longer_by_one : List ℕ
+      longer_by_one = xs ++ slice_index w.words (length xs) ∷ []
+
+      same : stale_from 0 longer_by_one w.words ≡ stale_from 0 xs w.words
+      same = stale_push 0 (length xs) xs w.words (omega arith)
+
+      few : length xs < 12
+      few = (kept.knows c (Within k (Collecting xs)) k held refl).sees.few
+
+      by_test : (b : Bool) → (length longer_by_one == 12) ≡ b
+          → Stepped c w (with_held (Within k (cond b (Checking longer_by_one 0 (length w.history)) (Collecting longer_by_one))) c w)
+      by_test true is =
+          let twelve = eqb-true (length longer_by_one) 12 is in
+          let long = length_push xs (slice_index w.words (length xs)) in
+          stays c (Within k (Collecting xs)) (Within k (Checking longer_by_one 0 (length w.history))) held tt
+          (subst (λ (o : Option ℕ). checking_left 0 o + 1 ≤ collecting_left (length xs) (stale_from 0 xs w.words)) (sym same) (collects_last (length xs) (stale_from 0 xs w.words) (omega arith)))
+      by_test false is =
+          let long = length_push xs (slice_index w.words (length xs)) in
+          stays c (Within k (Collecting xs)) (Within k (Collecting longer_by_one)) held tt
+          (subst (λ (o : Option ℕ). collecting_left (length longer_by_one) o + 1 ≤ collecting_left (length xs) (stale_from 0 xs w.words)) (sym same)
+          (collects_more (length xs) (length longer_by_one) (stale_from 0 xs w.words) few long))
+
+  seconds : (c : Caller) (k : ℕ) (xs : List ℕ) (n point : ℕ) → held_by w.callers c ≡ Some (Within k (Checking xs n point)) → Stepped c w (state_after_second c k xs n point w)
+  seconds c k xs n point held =
+      by_test (slice_index w.words n == slice_index xs n) (n == 11) refl refl
+    where
+      t : Checks w.history (kept.knows c (Within k (Checking xs n point)) k held refl).call xs n point
+      t = (kept.knows c (Within k (Checking xs n point)) k held refl).sees
+
+      here : slice_get w.calls k ≡ Some (kept.knows c (Within k (Checking xs n point)) k held refl).call
+      here = (kept.knows c (Within k (Checking xs n point)) k held refl).at
+
+      rest : drop n xs ≡ get_or xs n 0 ∷ drop (n + 1) xs
+      rest = let twelve = t.twelve in let few = t.few in drop_more xs n 0 (omega arith)
+
+      -- the word that is compared is the first of those from here on
+      now : (b : Bool) → (slice_index w.words n == slice_index xs n) ≡ b → stale_from n (drop n xs) w.words ≡ cond b (stale_from (n + 1) (drop (n + 1) xs) w.words) (Some n)
+      now b is = ap (λ (z : List ℕ). stale_from n z w.words) rest ∙ ap (λ (z : Bool). cond z (stale_from (n + 1) (drop (n + 1) xs) w.words) (Some n)) is
+
+      by_test : (b last : Bool) → (slice_index w.words n == slice_index xs n) ≡ b → (n == 11) ≡ last
+          → Stepped c w (after_outcome c k point (cond b (cond last (Answers (Copied (reading_of xs))) (GoesOn (Checking xs (n + 1) point))) (GoesOn (Collecting []))) w)
+      by_test true true is last_is =
+          replied c (Within k (Checking xs n point)) k point (Copied (reading_of xs)) w.words w (kept.knows c (Within k (Checking xs n point)) k held refl).call held refl refl here t.reads.reply
+      by_test true false is last_is =
+          let not_last = eqb-false n 11 last_is in
+          let few = t.few in
+          stays c (Within k (Checking xs n point)) (Within k (Checking xs (n + 1) point)) held tt
+          (subst (λ (o : Option ℕ). checking_left (n + 1) (stale_from (n + 1) (drop (n + 1) xs) w.words) + 1 ≤ checking_left n o) (sym (now true is))
+          (checks_more n (stale_from (n + 1) (drop (n + 1) xs) w.words) (below n not_last few)))
+      by_test false last is last_is =
+          stays c (Within k (Checking xs n point)) (Within k (Collecting [])) held tt
+          (subst (λ (o : Option ℕ). 24 ≤ checking_left n o) (sym (now false is)) (omega arith))
+
+  step_counted : (s : Step) (o : Option Holds) (w' : MachineState) → held_by w.callers (caller_of s) ≡ o → after_step_holding s o w ≡ Some w' → Stepped (caller_of s) w w'
+  step_counted (Begin c call) (Some Idle) w' holds done =
+      let t = cond_some (may_begin c call) (after_begin c call w) w' done in
+      subst (Stepped c w) t.1 (begins c call holds)
+  step_counted (Look (Reporter n)) (Some (Wanting k e)) w' holds done =
+      subst (Stepped (Reporter n) w) (same_Some (state_after_look n k e w) w' done) (looks n k e holds (refusal_of (record_at (word_at w.words e.game)) e.expected e.kind))
+  step_counted (Swap (Reporter n)) (Some (Within k (Holding e old new))) w' holds done =
+      subst (Stepped (Reporter n) w) (same_Some (state_after_swap n k e old new w) w' done) (swaps n k e old new holds)
+  step_counted (First c) (Some (Within k (Collecting xs))) w' holds done = subst (Stepped c w) (same_Some (state_after_first c k xs w) w' done) (firsts c k xs holds)
+  step_counted (Second c) (Some (Within k (Checking xs n point))) w' holds done = subst (Stepped c w) (same_Some (state_after_second c k xs n point w) w' done) (seconds c k xs n point holds)
+  step_counted (End c) (Some (Answered k)) w' holds done = subst (Stepped c w) (same_Some (after_end c k w) w' done) (ends c k holds)
+  step_counted s o w' holds done = absurd (none-some w' done)
+
+  -- what a caller holds leaves it few steps
+  few_left : (c : Caller) (x : Holds) → held_by w.callers c ≡ Some x → left_in w.words x ≤ most_between
+  few_left c Idle held = omega arith
+  few_left c (Wanting k e) held = omega arith
+  few_left c (Within k Nothing) held = omega arith
+  few_left c (Within k (Holding e old new)) held = omega arith
+  few_left c (Within k (Collecting xs)) held =
+      let few = (kept.knows c (Within k (Collecting xs)) k held refl).sees.few in by_place (stale_from 0 xs w.words) (λ j at. (stale_within 0 xs w.words j at).1)
+    where
+      by_place : (o : Option ℕ) → ((j : ℕ) → o ≡ Some j → j < 0 + length xs) → collecting_left (length xs) o ≤ most_between
+      by_place None within = omega arith
+      by_place (Some j) within = let l = within j refl in omega arith
+  few_left c (Within k (Checking xs n point)) held =
+      let t = (kept.knows c (Within k (Checking xs n point)) k held refl).sees in
+      let twelve = t.twelve in
+      let few = t.few in
+      let long = length-drop n xs in
+      by_place (stale_from n (drop n xs) w.words) (λ j at. let l = (stale_within n (drop n xs) w.words j at).1 in omega arith)
+    where
+      by_place : (o : Option ℕ) → ((j : ℕ) → o ≡ Some j → j < 12) → checking_left n o ≤ most_between
+      by_place None within = omega arith
+      by_place (Some j) within = let l = within j refl in omega arith
+  few_left c (Answered k) held = omega arith
+
+-- one caller
+
+abbrev left_of : List ℕ → Option Holds → ℕ
+left_of words None = 0
+left_of words (Some x) = left_in words x
+
+not_caller : (c d : Caller) → c ≢ d → is_caller c d ≡ false
+not_caller (Reporter n) (Reporter k) not = ne_eqb n k (λ e. not (ap Reporter e))
+not_caller (Reporter n) (Reader k) not = refl
+not_caller (Reader n) (Reporter k) not = refl
+not_caller (Reader n) (Reader k) not = ne_eqb n k (λ e. not (ap Reader e))
+
+one_more : {X : Type 0} (b : Bool) (x : X) (xs : List X) → length (cond b (x ∷ xs) xs) ≤ suc (length xs)
+one_more true x xs = omega arith
+one_more false x xs = omega arith
+
+-- the number of decided calls never falls
+pub decided_more : (done steps : List Step) (w t : MachineState) → Keeps done w → after_steps steps w ≡ Some t → decided_in w.calls ≤ decided_in t.calls
+decided_more done [] w t kept e = let same = ap (λ (z : MachineState). decided_in z.calls) (same_Some w t e) in omega arith
+decided_more done (s ∷ steps) w t kept e = option_and_then_some (after_steps steps) (after_step w s) t e (λ v is then.
+    let rest = decided_more (done ++ s ∷ []) steps v t (step_kept done w kept s (held_by w.callers (caller_of s)) v refl is) then in
+    elim (step_counted done w kept s (held_by w.callers (caller_of s)) v refl is).comes [ inl one ↦ omega arith | inr g ↦ let same = g.decided in omega arith ])
+
+few_by : (c : Caller) (done steps : List Step) (w t : MachineState) → Keeps done w → after_steps steps w ≡ Some t → decided_in t.calls ≤ decided_in w.calls
+    → length (steps_by c steps) ≤ left_of w.words (held_by w.callers c)
+few_by c done [] w t kept e few = omega arith
+few_by c done (s ∷ steps) w t kept e few = option_and_then_some (after_steps steps) (after_step w s) t e (λ v is then.
+    let later = step_kept done w kept s (held_by w.callers (caller_of s)) v refl is in
+    let more = decided_more (done ++ s ∷ []) steps v t later then in
+    let one = step_counted done w kept s (held_by w.callers (caller_of s)) v refl is in
+    elim one.comes [
+      | inl decided ↦ absurd (omega arith)
+      | inr g ↦
+          let decided = g.decided in
+          let rest = few_by c (done ++ s ∷ []) steps v t later then (omega arith) in
+          elim (same_caller c (caller_of s)) [
+            | inl own ↦
+                let now : left_of v.words (held_by v.callers c) ≡ left_in w.words one.is =
+                ap (λ (z : Caller). left_of v.words (held_by v.callers z)) own
+                ∙ (ap (λ (z : Callers). left_of v.words (held_by z (caller_of s))) one.callers
+                ∙ (ap (left_of v.words) (held_here w.callers (caller_of s) one.was one.is one.held) ∙ ap (λ (z : List ℕ). left_in z one.is) g.words)) in
+                let was : left_of w.words (held_by w.callers c) ≡ left_in w.words one.was = ap (λ (z : Caller). left_of w.words (held_by w.callers z)) own ∙ ap (left_of w.words) one.held in
+                let less = g.less in
+                let count = one_more (is_caller c (caller_of s)) s (steps_by c steps) in
+                omega arith
+            | inr other ↦
+                let now : left_of v.words (held_by v.callers c) ≡ left_of w.words (held_by w.callers c) =
+                ap (λ (z : Callers). left_of v.words (held_by z c)) one.callers
+                ∙ (ap (left_of v.words) (held_else w.callers (caller_of s) c one.is one.was one.held other) ∙ ap (λ (z : List ℕ). left_of z (held_by w.callers c)) g.words) in
+                let count : length (steps_by c (s ∷ steps)) ≡ length (steps_by c steps) =
+                ap (λ (b : Bool). length (cond b (s ∷ steps_by c steps) (steps_by c steps))) (not_caller c (caller_of s) other) in
+                omega arith
+          ]
+    ])
+
+few_of : (c : Caller) (done : List Step) (w : MachineState) → Keeps done w → (o : Option Holds) → held_by w.callers c ≡ o → left_of w.words o ≤ most_between
+few_of c done w kept None held = omega arith
+few_of c done w kept (Some x) held = few_left done w kept c x held
+
+pub each_few : (c : Caller) (done steps : List Step) (w t : MachineState) → Keeps done w → after_steps steps w ≡ Some t → decided_in t.calls ≡ decided_in w.calls
+    → length (steps_by c steps) ≤ most_between
+each_few c done steps w t kept e same =
+    let few = few_by c done steps w t kept e (omega arith) in
+    let most = few_of c done w kept (held_by w.callers c) refl in
+    omega arith
+
+-- a call under way stays so
+stays_open : (c : Caller) (done steps : List Step) (w t : MachineState) (x : Holds) → Keeps done w → after_steps steps w ≡ Some t → decided_in t.calls ≤ decided_in w.calls
+    → held_by w.callers c ≡ Some x → IsOpen x → held_by t.callers c ≡ Some Idle → ⊥
+stays_open c done [] w t x kept e few held opened idle =
+    subst IsOpen (same_Some x Idle (sym held ∙ (ap (λ (z : MachineState). held_by z.callers c) (same_Some w t e) ∙ idle))) opened
+stays_open c done (s ∷ steps) w t x kept e few held opened idle = option_and_then_some (after_steps steps) (after_step w s) t e (λ v is then.
+    let later = step_kept done w kept s (held_by w.callers (caller_of s)) v refl is in
+    let more = decided_more (done ++ s ∷ []) steps v t later then in
+    let one = step_counted done w kept s (held_by w.callers (caller_of s)) v refl is in
+    elim one.comes [
+      | inl decided ↦ absurd (omega arith)
+      | inr g ↦
+          let decided = g.decided in
+          elim (same_caller c (caller_of s)) [
+            | inl own ↦
+                let was : x ≡ one.was = same_Some x one.was (sym held ∙ (ap (held_by w.callers) own ∙ one.held)) in
+                stays_open c (done ++ s ∷ []) steps v t one.is later then (omega arith)
+                (ap (held_by v.callers) own ∙ (ap (λ (z : Callers). held_by z (caller_of s)) one.callers ∙ held_here w.callers (caller_of s) one.was one.is one.held))
+                (g.opens (subst NotAnswered was (open_not x opened))) idle
+            | inr other ↦
+                stays_open c (done ++ s ∷ []) steps v t x later then (omega arith)
+                (ap (λ (z : Callers). held_by z c) one.callers ∙ (held_else w.callers (caller_of s) c one.is one.was one.held other ∙ held)) opened idle
+          ]
+    ])
+  where
+    open_not : (x : Holds) → IsOpen x → NotAnswered x
+    open_not Idle opened = tt
+    open_not (Wanting k e) opened = tt
+    open_not (Within k held) opened = tt
+    open_not (Answered k) opened = opened
+
+-- so a caller that is idle in the end has taken no step
+pub takes_none : (c : Caller) (done steps : List Step) (w t : MachineState) → Keeps done w → after_steps steps w ≡ Some t → decided_in t.calls ≤ decided_in w.calls
+    → ((k : ℕ) → held_by w.callers c ≢ Some (Answered k)) → held_by t.callers c ≡ Some Idle → length (steps_by c steps) ≤ 0
+takes_none c done [] w t kept e few not idle = omega arith
+takes_none c done (s ∷ steps) w t kept e few not idle = option_and_then_some (after_steps steps) (after_step w s) t e (λ v is then.
+    let later = step_kept done w kept s (held_by w.callers (caller_of s)) v refl is in
+    let more = decided_more (done ++ s ∷ []) steps v t later then in
+    let one = step_counted done w kept s (held_by w.callers (caller_of s)) v refl is in
+    elim one.comes [
+      | inl decided ↦ absurd (omega arith)
+      | inr g ↦
+          let decided = g.decided in
+          elim (same_caller c (caller_of s)) [
+            | inl own ↦ absurd (stays_open c (done ++ s ∷ []) steps v t one.is later then (omega arith)
+                (ap (held_by v.callers) own ∙ (ap (λ (z : Callers). held_by z (caller_of s)) one.callers ∙ held_here w.callers (caller_of s) one.was one.is one.held))
+                (g.opens (not_answered one.was (λ k answered. not k (ap (held_by w.callers) own ∙ (one.held ∙ ap Some answered))))) idle)
+            | inr other ↦
+                let rest = takes_none c (done ++ s ∷ []) steps v t later then (omega arith)
+                (λ k answered. not k (sym (held_else w.callers (caller_of s) c one.is one.was one.held other) ∙ (ap (λ (z : Callers). held_by z c) (sym one.callers) ∙ answered))) idle in
+                let count : length (steps_by c (s ∷ steps)) ≡ length (steps_by c steps) =
+                ap (λ (b : Bool). length (cond b (s ∷ steps_by c steps) (steps_by c steps))) (not_caller c (caller_of s) other) in
+                omega arith
+          ]
+    ])
+
+-- all callers
+
+abbrev sum_left : List ℕ → List Holds → ℕ
+sum_left words xs = sum_by (left_in words) xs
+
+abbrev all_left : List ℕ → Callers → ℕ
+all_left words callers = sum_left words callers.reporters + sum_left words callers.readers
+
+sum_less : (words : List ℕ) (xs : List Holds) (k : ℕ) (x y : Holds) → slice_get xs k ≡ Some x → left_in words y + 1 ≤ left_in words x → sum_left words (slice_set xs k y) + 1 ≤ sum_left words xs
+sum_less words [] k x y at less = absurd (none-some x at)
+sum_less words (z ∷ xs) zero x y at less =
+    let is = ap (left_in words) (same_Some z x at) in
+    let a = sum_by-cons (left_in words) z xs in
+    let b = sum_by-cons (left_in words) y xs in
+    omega arith
+sum_less words (z ∷ xs) (suc k) x y at less =
+    let rest = sum_less words xs k x y at less in
+    let a = sum_by-cons (left_in words) z xs in
+    let b = sum_by-cons (left_in words) z (slice_set xs k y) in
+    omega arith
+
+before_it : (k : ℕ) → k ≡ suc k - 1
+before_it k = omega arith
+
+all_less : (words : List ℕ) (cs : Callers) (c : Caller) (x y : Holds) → held_by cs c ≡ Some x → left_in words y + 1 ≤ left_in words x → all_left words (set_held y c cs) + 1 ≤ all_left words cs
+all_less words cs (Reporter zero) x y held less = absurd (none-some x held)
+all_less words cs (Reporter (suc k)) x y held less = let one = sum_less words cs.reporters (suc k - 1) x y (ap (slice_get cs.reporters) (sym (before_it k)) ∙ held) less in omega arith
+all_less words cs (Reader zero) x y held less = absurd (none-some x held)
+all_less words cs (Reader (suc k)) x y held less = let one = sum_less words cs.readers (suc k - 1) x y (ap (slice_get cs.readers) (sym (before_it k)) ∙ held) less in omega arith
+
+few_in_all : (done steps : List Step) (w t : MachineState) → Keeps done w → after_steps steps w ≡ Some t → decided_in t.calls ≤ decided_in w.calls → length steps ≤ all_left w.words w.callers
+few_in_all done [] w t kept e few = omega arith
+few_in_all done (s ∷ steps) w t kept e few = option_and_then_some (after_steps steps) (after_step w s) t e (λ v is then.
+    let later = step_kept done w kept s (held_by w.callers (caller_of s)) v refl is in
+    let more = decided_more (done ++ s ∷ []) steps v t later then in
+    let one = step_counted done w kept s (held_by w.callers (caller_of s)) v refl is in
+    elim one.comes [
+      | inl decided ↦ absurd (omega arith)
+      | inr g ↦
+          let decided = g.decided in
+          let rest = few_in_all (done ++ s ∷ []) steps v t later then (omega arith) in
+          let now : all_left v.words v.callers ≡ all_left w.words (set_held one.is (caller_of s) w.callers) =
+          ap (λ (z : List ℕ). all_left z v.callers) g.words ∙ ap (all_left w.words) one.callers in
+          let less = all_less w.words w.callers (caller_of s) one.was one.is one.held g.less in
+          omega arith
+    ])
+
+-- so many reporters and readers as the cast has
+record AsCast (cast : Cast) (cs : Callers) : Type 0 where
+  reporters : length cs.reporters ≡ cast.reporters
+  readers : length cs.readers ≡ cast.readers
+
+as_cast_set : (cast : Cast) (cs : Callers) (c : Caller) (y : Holds) → AsCast cast cs → AsCast cast (set_held y c cs)
+as_cast_set cast cs (Reporter n) y sizes = record { reporters = length-set cs.reporters (n - 1) y ∙ sizes.reporters; readers = sizes.readers }
+as_cast_set cast cs (Reader n) y sizes = record { reporters = sizes.reporters; readers = length-set cs.readers (n - 1) y ∙ sizes.readers }
+
+as_cast_run : (cast : Cast) (done steps : List Step) (w t : MachineState) → Keeps done w → AsCast cast w.callers → after_steps steps w ≡ Some t → AsCast cast t.callers
+as_cast_run cast done [] w t kept sizes e = subst (λ (z : MachineState). AsCast cast z.callers) (same_Some w t e) sizes
+as_cast_run cast done (s ∷ steps) w t kept sizes e = option_and_then_some (after_steps steps) (after_step w s) t e (λ v is then.
+    let one = step_counted done w kept s (held_by w.callers (caller_of s)) v refl is in
+    as_cast_run cast (done ++ s ∷ []) steps v t (step_kept done w kept s (held_by w.callers (caller_of s)) v refl is)
+    (subst (AsCast cast) (sym one.callers) (as_cast_set cast w.callers (caller_of s) one.is sizes)) then)
+
+all_few : (cast : Cast) (done : List Step) (w : MachineState) → Keeps done w → AsCast cast w.callers → all_left w.words w.callers ≤ (cast.reporters + cast.readers) * most_between
+all_few cast done w kept sizes =
+    let a = sizes.reporters in
+    let b = sizes.readers in
+    let p = sum_by-le (left_in w.words) most_between w.callers.reporters
+    (λ k d l. few_left done w kept (Reporter (suc k)) (get_or w.callers.reporters k d) (slice_get-get_or w.callers.reporters k d l)) in
+    let q = sum_by-le (left_in w.words) most_between w.callers.readers (λ k d l. few_left done w kept (Reader (suc k)) (get_or w.callers.readers k d) (slice_get-get_or w.callers.readers k d l)) in
+    omega arith
+
+pub some_decided : SomeCallIsDecided
+some_decided cast before steps s t e f same =
+    let kept = run_kept before [] (initial_state cast) s (kept_at_start cast) e in
+    let sizes = as_cast_run cast [] before (initial_state cast) s (kept_at_start cast) (record { reporters = length-replicate cast.reporters Idle; readers = length-replicate cast.readers Idle }) e in
+    record {
+      each = λ c. each_few c before steps s t kept f same;
+      all = let few = few_in_all before steps s t kept f (omega arith) in let most = all_few cast before s kept sizes in omega arith;
+    }

@@ -1,0 +1,279 @@
+-- The decided calls of a run of actors are as many as the finished calls of its actors.
+use Rattle.std.proofs.Common.{◌≡◌, ◌≢◌, ℕ, zero, suc, ◌+◌, ◌≤◌, ◌==◌, ◌&&◌, nat_le, Bool, true, false, cond, List, [], ◌∷◌, ◌++◌, drop, length, map, Some, None, inl, inr, refl}
+use Rattle.std.proofs.Common.{sym, ap, ◌∙◌, subst, arith}
+use Rattle.std.proofs.Common.{length-append, eq-eqb, ne_eqb}
+use Rattle.std.specs.Prelude.{All, slice_get, is_some, filter}
+use Rattle.std.proofs.lemmas.Option.{none-some, same_Some}
+use Rattle.std.proofs.lemmas.Bool.{le-leb, eqb-true, and_parts, leb-true}
+use Rattle.std.proofs.lemmas.List.{length-map}
+use Rattle.std.proofs.lemmas.List.Elements.{filter-append, All-head, All-tail}
+use Rattle.std.proofs.lemmas.List.Sums.{sum_by-cons}
+use mathlib.Core.Option.{some, some-ne-none, some-injective}
+use lib.ListN.{get_elem?}
+use Rattle.ucl_steps.specs.declared.step.Caller.{Caller}
+use Rattle.ucl_steps.specs.declared.step.Caller.TheVariants.{Reporter, Reader}
+use Rattle.ucl_steps.specs.declared.trace.CallRecord.{CallRecord}
+use Rattle.ucl_steps.specs.Linearizable.{caller_and_call}
+use Rattle.ucl_steps.specs.Protocol.{Held, Nothing, Holding, Collecting, Checking, Answer, Doing, MayAsk}
+use Rattle.ucl_steps.specs.Machine.{MachineState}
+use Rattle.ucl_steps.specs.PassRuns.{caller_for, IsOf, is_of, call_of, call_under_way, CanHold, AreRecordsOf, IsUnderWay, FitsHeld, FitsRun, calls_told}
+use Rattle.ucl_steps.specs.Actors.{Actor, IsOfActor}
+use Rattle.ucl_steps.specs.Progress.{decided_in, finished_by}
+use Rattle.ucl_steps.proofs.OneStep.{and_true, own_caller}
+use Rattle.ucl_steps.proofs.KeptRecords.{own, next_own, as_many}
+use Rattle.ucl_steps.proofs.ActorRuns.{Apart}
+
+abbrev is_decided : CallRecord → Bool
+is_decided c = is_some c.reply
+
+-- of one pass
+
+abbrev decided_of : ℕ → ℕ → List CallRecord → ℕ
+decided_of seat number calls = length (filter is_decided (filter (own seat number) calls))
+
+at_least : (seat number : ℕ) (calls : List CallRecord) (low high : ℕ) (fs : List Answer) → AreRecordsOf calls seat number low fs high → length fs ≤ decided_of seat number (drop low calls)
+at_least seat number calls low high [] r = omega arith
+at_least seat number calls low high (f ∷ fs) r =
+    let t = next_own seat number calls low high f fs r in
+    let front = filter is_decided (filter (own seat number) t.0) in
+    let rest = filter (own seat number) (drop (r.0 + 1) calls) in
+    let more = at_least seat number calls (r.0 + 1) high fs r.5 in
+    let is_own : is_some r.1.reply ≡ true = ap is_some r.4.reply in
+    let long : decided_of seat number (drop low calls) ≡ length front + suc (length (filter is_decided rest)) =
+    ap (λ (l : List CallRecord). length (filter is_decided l)) t.1
+    ∙ (ap length (filter-append is_decided (filter (own seat number) t.0) (r.1 ∷ rest))
+    ∙ (length-append front (filter is_decided (r.1 ∷ rest)) ∙ ap (λ (b : Bool). length front + length (cond b (r.1 ∷ filter is_decided rest) (filter is_decided rest))) is_own)) in
+    omega arith
+
+filter_few : {X : Type 0} (p : X → Bool) (xs : List X) → length (filter p xs) ≤ length xs
+filter_few p [] = omega arith
+filter_few {X} p (x ∷ xs) = let rest = filter_few p xs in by_test (p x) rest
+  where
+    by_test : (b : Bool) → length (filter p xs) ≤ length xs → length (cond b (x ∷ filter p xs) (filter p xs)) ≤ suc (length xs)
+    by_test true rest = omega arith
+    by_test false rest = omega arith
+
+module _ (p q : CallRecord → Bool) where
+  one_less : (xs : List CallRecord) (k : ℕ) (a : CallRecord) → slice_get xs k ≡ Some a → p a ≡ true → q a ≡ false → length (filter q (filter p xs)) + 1 ≤ length (filter p xs)
+  one_less [] k a at is_own undone = absurd (none-some a at)
+  one_less (x ∷ xs) zero a at is_own undone =
+      let is = same_Some x a at in
+      let mine : p x ≡ true = ap p is ∙ is_own in
+      let not : q x ≡ false = ap q is ∙ undone in
+      let few = filter_few q (filter p xs) in
+      let left : length (filter q (filter p (x ∷ xs))) ≡ length (filter q (filter p xs)) =
+      ap (λ (b : Bool). length (filter q (cond b (x ∷ filter p xs) (filter p xs)))) mine ∙ ap (λ (b : Bool). length (cond b (x ∷ filter q (filter p xs)) (filter q (filter p xs)))) not in
+      let right : length (filter p (x ∷ xs)) ≡ suc (length (filter p xs)) = ap (λ (b : Bool). length (cond b (x ∷ filter p xs) (filter p xs))) mine in
+      omega arith
+  one_less (x ∷ xs) (suc k) a at is_own undone = by_test (p x) (q x) refl refl (one_less xs k a at is_own undone)
+    where
+      by_test : (b c : Bool) → p x ≡ b → q x ≡ c → length (filter q (filter p xs)) + 1 ≤ length (filter p xs)
+          → length (filter q (filter p (x ∷ xs))) + 1 ≤ length (filter p (x ∷ xs))
+      by_test false c pb qc rest = subst (λ (b : Bool). length (filter q (cond b (x ∷ filter p xs) (filter p xs))) + 1 ≤ length (cond b (x ∷ filter p xs) (filter p xs))) (sym pb) rest
+      by_test true c pb qc rest = subst (λ (b : Bool). length (filter q (cond b (x ∷ filter p xs) (filter p xs))) + 1 ≤ length (cond b (x ∷ filter p xs) (filter p xs))) (sym pb)
+          (subst (λ (b : Bool). length (cond b (x ∷ filter q (filter p xs)) (filter q (filter p xs))) + 1 ≤ suc (length (filter p xs))) (sym qc) (by_second c))
+        where
+          by_second : (c : Bool) → length (cond c (x ∷ filter q (filter p xs)) (filter q (filter p xs))) + 1 ≤ suc (length (filter p xs))
+          by_second true = omega arith
+          by_second false = omega arith
+
+may_hold : (number : ℕ) (held : Held) → CanHold number held → MayAsk number (call_of held)
+may_hold number Nothing can = tt
+may_hold number (Holding e old new) can = (can.0, can.1)
+may_hold number (Collecting words) can = tt
+may_hold number (Checking words checked point) can = tt
+
+at_most : (state : MachineState) (seat number : ℕ) (d : Doing) → FitsRun state seat number d → decided_of seat number state.calls ≤ length d.calls
+at_most state seat number d f = by_held d.held refl f.held
+  where
+    total : (held : Held) → d.held ≡ held → length (filter (own seat number) state.calls) ≡ length d.calls + length (call_under_way held)
+    total held is =
+        sym (as_many seat number state.calls)
+        ∙ (ap length (f.whole ∙ ap (λ (h : Held). map (λ (x : Answer). x.call) d.calls ++ call_under_way h) is)
+        ∙ (length-append (map (λ (x : Answer). x.call) d.calls) (call_under_way held) ∙ ap (λ (n : ℕ). n + length (call_under_way held)) (length-map d.calls (λ (x : Answer). x.call))))
+
+    under : (held : Held) → d.held ≡ held → length (call_under_way held) ≡ 1 → IsUnderWay state seat number d.begun held f.high → decided_of seat number state.calls ≤ length d.calls
+    under held is long u =
+        let all = total held is in
+        let less = one_less (own seat number) is_decided state.calls u.place
+        (record { caller = caller_for seat number (call_of held); call = call_of held; begun = d.begun; point = None; reply = None; ended = None })
+        u.record_is (own_caller seat number (call_of held) (may_hold number held u.can)) refl in
+        omega arith
+
+    by_held : (held : Held) → d.held ≡ held → FitsHeld state seat number d.begun d.held f.high → decided_of seat number state.calls ≤ length d.calls
+    by_held Nothing is fits = let all = total Nothing is in let few = filter_few is_decided (filter (own seat number) state.calls) in omega arith
+    by_held (Holding e old new) is fits = under (Holding e old new) is refl (subst (λ (h : Held). FitsHeld state seat number d.begun h f.high) is fits)
+    by_held (Collecting words) is fits = under (Collecting words) is refl (subst (λ (h : Held). FitsHeld state seat number d.begun h f.high) is fits)
+    by_held (Checking words checked point) is fits = under (Checking words checked point) is refl (subst (λ (h : Held). FitsHeld state seat number d.begun h f.high) is fits)
+
+-- of all passes, from this seat on
+
+abbrev one_if : Bool → ℕ
+one_if b = cond b 1 0
+
+abbrev count_own : ℕ → List Actor → List CallRecord → ℕ
+count_own i [] calls = 0
+count_own i (a ∷ actors) calls = decided_of i a.number calls + count_own (i + 1) actors calls
+
+abbrev hits : ℕ → List Actor → Caller → ℕ
+hits i [] c = 0
+hits i (a ∷ actors) c = one_if (is_of i a.number c) + hits (i + 1) actors c
+
+decided_cons : (seat number : ℕ) (c : CallRecord) (calls : List CallRecord)
+    → decided_of seat number (c ∷ calls) ≡ cond (is_decided c) (one_if (is_of seat number c.caller)) 0 + decided_of seat number calls
+decided_cons seat number c calls = by_test (own seat number c) (is_decided c) refl refl
+  where
+    by_test : (b d : Bool) → own seat number c ≡ b → is_decided c ≡ d → decided_of seat number (c ∷ calls) ≡ cond d (one_if b) 0 + decided_of seat number calls
+    by_test true true p q = ap (λ (b : Bool). length (filter is_decided (cond b (c ∷ filter (own seat number) calls) (filter (own seat number) calls)))) p
+        ∙ (ap (λ (b : Bool). length (cond b (c ∷ filter is_decided (filter (own seat number) calls)) (filter is_decided (filter (own seat number) calls)))) q ∙ omega arith)
+    by_test true false p q = ap (λ (b : Bool). length (filter is_decided (cond b (c ∷ filter (own seat number) calls) (filter (own seat number) calls)))) p
+        ∙ (ap (λ (b : Bool). length (cond b (c ∷ filter is_decided (filter (own seat number) calls)) (filter is_decided (filter (own seat number) calls)))) q ∙ omega arith)
+    by_test false true p q = ap (λ (b : Bool). length (filter is_decided (cond b (c ∷ filter (own seat number) calls) (filter (own seat number) calls)))) p ∙ omega arith
+    by_test false false p q = ap (λ (b : Bool). length (filter is_decided (cond b (c ∷ filter (own seat number) calls) (filter (own seat number) calls)))) p ∙ omega arith
+
+count_cons : (i : ℕ) (actors : List Actor) (c : CallRecord) (calls : List CallRecord) → count_own i actors (c ∷ calls) ≡ cond (is_decided c) (hits i actors c.caller) 0 + count_own i actors calls
+count_cons i [] c calls = by_test (is_decided c)
+  where
+    by_test : (d : Bool) → 0 ≡ cond d 0 0 + 0
+    by_test true = refl
+    by_test false = refl
+count_cons i (a ∷ actors) c calls =
+    let first = decided_cons i a.number c calls in
+    let rest = count_cons (i + 1) actors c calls in
+    by_test (is_decided c) first rest
+  where
+    by_test : (d : Bool) → decided_of i a.number (c ∷ calls) ≡ cond d (one_if (is_of i a.number c.caller)) 0 + decided_of i a.number calls
+        → count_own (i + 1) actors (c ∷ calls) ≡ cond d (hits (i + 1) actors c.caller) 0 + count_own (i + 1) actors calls
+        → decided_of i a.number (c ∷ calls) + count_own (i + 1) actors (c ∷ calls)
+        ≡ cond d (one_if (is_of i a.number c.caller) + hits (i + 1) actors c.caller) 0 + (decided_of i a.number calls + count_own (i + 1) actors calls)
+    by_test true first rest = omega arith
+    by_test false first rest = omega arith
+
+count_none : (i : ℕ) (actors : List Actor) → count_own i actors [] ≡ 0
+count_none i [] = refl
+count_none i (a ∷ actors) = let rest = count_none (i + 1) actors in omega arith
+
+-- each call is of an actor
+
+own_of : (seat number : ℕ) (c : Caller) → IsOf seat number c → is_of seat number c ≡ true
+own_of seat number c (inl is) = ap (is_of seat number) is ∙ eq-eqb (seat + 1) (seat + 1) refl
+own_of seat number c (inr t) = ap (is_of seat number) t.0 ∙ and_true (number == number) (nat_le 1 number && nat_le number 255) (eq-eqb number number refl)
+    (and_true (nat_le 1 number) (nat_le number 255) (le-leb 1 number t.1.0) (le-leb number 255 t.1.1))
+
+hits_one : (i j : ℕ) (actors : List Actor) (a : Actor) (c : Caller) → get_elem? actors j ≡ some a → is_of (i + j) a.number c ≡ true → 1 ≤ hits i actors c
+hits_one i j [] a c at is_own = absurd (some-ne-none a (sym at))
+hits_one i zero (b ∷ actors) a c at is_own =
+    let is = some-injective b a at in
+    let here : i ≡ i + 0 = omega arith in
+    let hit : one_if (is_of i b.number c) ≡ 1 = ap (λ (t : Bool). one_if t) (ap (λ (n : ℕ). is_of n b.number c) here ∙ (ap (λ (z : Actor). is_of (i + 0) z.number c) is ∙ is_own)) in
+    omega arith
+hits_one i (suc j) (b ∷ actors) a c at is_own =
+    let next : i + 1 + j ≡ i + suc j = omega arith in
+    let rest = hits_one (i + 1) j actors a c at (ap (λ (n : ℕ). is_of n a.number c) next ∙ is_own) in
+    omega arith
+
+decided_counted : (actors : List Actor) (calls : List CallRecord) → All (IsOfActor actors) (map caller_and_call calls) → decided_in calls ≤ count_own 0 actors calls
+decided_counted actors [] only = omega arith
+decided_counted actors (c ∷ calls) only =
+    let t = All-head (IsOfActor actors) (caller_and_call c) (map caller_and_call calls) only in
+    let rest = decided_counted actors calls (All-tail (IsOfActor actors) (caller_and_call c) (map caller_and_call calls) only) in
+    let here : 0 + t.0 ≡ t.0 = omega arith in
+    let hit = hits_one 0 t.0 actors t.1 c.caller t.2 (ap (λ (n : ℕ). is_of n t.1.number c.caller) here ∙ own_of t.0 t.1.number c.caller t.3) in
+    let count = count_cons 0 actors c calls in
+    by_test (is_decided c) hit count rest
+  where
+    by_test : (d : Bool) → 1 ≤ hits 0 actors c.caller → count_own 0 actors (c ∷ calls) ≡ cond d (hits 0 actors c.caller) 0 + count_own 0 actors calls → decided_in calls ≤ count_own 0 actors calls
+        → length (cond d (c ∷ filter is_decided calls) (filter is_decided calls)) ≤ count_own 0 actors (c ∷ calls)
+    by_test true hit count rest = omega arith
+    by_test false hit count rest = omega arith
+
+-- and of just one
+
+hits_reader_none : (i : ℕ) (actors : List Actor) (k : ℕ) → k ≤ i → hits i actors (Reader k) ≡ 0
+hits_reader_none i [] k l = refl
+hits_reader_none i (a ∷ actors) k l =
+    let rest = hits_reader_none (i + 1) actors k (omega arith) in
+    let not : one_if (k == i + 1) ≡ 0 = ap (λ (b : Bool). one_if b) (ne_eqb k (i + 1) (λ is. omega arith)) in
+    omega arith
+
+hits_reader : (i : ℕ) (actors : List Actor) (k : ℕ) → hits i actors (Reader k) ≤ 1
+hits_reader i [] k = omega arith
+hits_reader i (a ∷ actors) k = by_test (k == i + 1) refl (hits_reader (i + 1) actors k)
+  where
+    by_test : (b : Bool) → (k == i + 1) ≡ b → hits (i + 1) actors (Reader k) ≤ 1 → one_if (k == i + 1) + hits (i + 1) actors (Reader k) ≤ 1
+    by_test true is rest =
+        let n = eqb-true k (i + 1) is in
+        let none = hits_reader_none (i + 1) actors k (omega arith) in
+        let one : one_if (k == i + 1) ≡ 1 = ap (λ (b : Bool). one_if b) is in
+        omega arith
+    by_test false is rest = let none : one_if (k == i + 1) ≡ 0 = ap (λ (b : Bool). one_if b) is in omega arith
+
+hits_reporter_none : (i : ℕ) (actors : List Actor) (k : ℕ) → ((j : ℕ) (b : Actor) → get_elem? actors j ≡ some b → k ≢ b.number) → hits i actors (Reporter k) ≡ 0
+hits_reporter_none i [] k none = refl
+hits_reporter_none i (a ∷ actors) k none =
+    let rest = hits_reporter_none (i + 1) actors k (λ j b at. none (suc j) b at) in
+    let not : one_if ((k == a.number) && (nat_le 1 a.number && nat_le a.number 255)) ≡ 0 =
+    ap (λ (b : Bool). one_if (b && (nat_le 1 a.number && nat_le a.number 255))) (ne_eqb k a.number (none 0 a refl)) in
+    omega arith
+
+hits_reporter : (i : ℕ) (actors : List Actor) (k : ℕ) → Apart actors → hits i actors (Reporter k) ≤ 1
+hits_reporter i [] k apart = omega arith
+hits_reporter i (a ∷ actors) k apart =
+    by_test (is_of i a.number (Reporter k)) refl (hits_reporter (i + 1) actors k (λ m n b c at bt pos same. let e = apart (suc m) (suc n) b c at bt pos same in omega arith))
+  where
+    by_test : (b : Bool) → is_of i a.number (Reporter k) ≡ b → hits (i + 1) actors (Reporter k) ≤ 1 → one_if (is_of i a.number (Reporter k)) + hits (i + 1) actors (Reporter k) ≤ 1
+    by_test true is rest =
+        let t = and_parts (k == a.number) (nat_le 1 a.number && nat_le a.number 255) is in
+        let same = eqb-true k a.number t.0 in
+        let low = leb-true 1 a.number (and_parts (nat_le 1 a.number) (nat_le a.number 255) t.1).0 in
+        let none = hits_reporter_none (i + 1) actors k (λ j b at equal. let e = apart 0 (suc j) a b refl at (omega arith) (sym same ∙ equal) in omega arith) in
+        let one : one_if (is_of i a.number (Reporter k)) ≡ 1 = ap (λ (b : Bool). one_if b) is in
+        omega arith
+    by_test false is rest = let none : one_if (is_of i a.number (Reporter k)) ≡ 0 = ap (λ (b : Bool). one_if b) is in omega arith
+
+hits_few : (actors : List Actor) (c : Caller) → Apart actors → hits 0 actors c ≤ 1
+hits_few actors (Reader k) apart = hits_reader 0 actors k
+hits_few actors (Reporter k) apart = hits_reporter 0 actors k apart
+
+counted_decided : (actors : List Actor) (calls : List CallRecord) → Apart actors → count_own 0 actors calls ≤ decided_in calls
+counted_decided actors [] apart = let none = count_none 0 actors in omega arith
+counted_decided actors (c ∷ calls) apart = by_test (is_decided c) (hits_few actors c.caller apart) (count_cons 0 actors c calls) (counted_decided actors calls apart)
+  where
+    by_test : (d : Bool) → hits 0 actors c.caller ≤ 1 → count_own 0 actors (c ∷ calls) ≡ cond d (hits 0 actors c.caller) 0 + count_own 0 actors calls → count_own 0 actors calls ≤ decided_in calls
+        → count_own 0 actors (c ∷ calls) ≤ length (cond d (c ∷ filter is_decided calls) (filter is_decided calls))
+    by_test true hit count rest = omega arith
+    by_test false hit count rest = omega arith
+
+-- the finished calls of actors
+
+module _ (state : MachineState) where
+  finished_low : (i : ℕ) (actors : List Actor) → ((j : ℕ) (a : Actor) → get_elem? actors j ≡ some a → FitsRun state (i + j) a.number a.doing) → finished_by actors ≤ count_own i actors state.calls
+  finished_low i [] each = omega arith
+  finished_low i (a ∷ actors) each =
+      let here : i + 0 ≡ i = omega arith in
+      let f = subst (λ (n : ℕ). FitsRun state n a.number a.doing) here (each 0 a refl) in
+      let one = at_least i a.number state.calls 0 f.high a.doing.calls f.recorded in
+      let rest = finished_low (i + 1) actors (λ j b at. let next : i + suc j ≡ i + 1 + j = omega arith in subst (λ (n : ℕ). FitsRun state n b.number b.doing) next (each (suc j) b at)) in
+      let sum = sum_by-cons (λ (a : Actor). length a.doing.calls) a actors in
+      omega arith
+
+  finished_high : (i : ℕ) (actors : List Actor) → ((j : ℕ) (a : Actor) → get_elem? actors j ≡ some a → FitsRun state (i + j) a.number a.doing) → count_own i actors state.calls ≤ finished_by actors
+  finished_high i [] each = omega arith
+  finished_high i (a ∷ actors) each =
+      let here : i + 0 ≡ i = omega arith in
+      let f = subst (λ (n : ℕ). FitsRun state n a.number a.doing) here (each 0 a refl) in
+      let one = at_most state i a.number a.doing f in
+      let rest = finished_high (i + 1) actors (λ j b at. let next : i + suc j ≡ i + 1 + j = omega arith in subst (λ (n : ℕ). FitsRun state n b.number b.doing) next (each (suc j) b at)) in
+      let sum = sum_by-cons (λ (a : Actor). length a.doing.calls) a actors in
+      omega arith
+
+  from_none : (actors : List Actor) → ((j : ℕ) (a : Actor) → get_elem? actors j ≡ some a → FitsRun state j a.number a.doing) → (j : ℕ) (a : Actor) → get_elem? actors j ≡ some a
+      → FitsRun state (0 + j) a.number a.doing
+  from_none actors each j a at = let here : j ≡ 0 + j = omega arith in subst (λ (n : ℕ). FitsRun state n a.number a.doing) here (each j a at)
+
+  pub finished_decided : (actors : List Actor) → ((j : ℕ) (a : Actor) → get_elem? actors j ≡ some a → FitsRun state j a.number a.doing) → Apart actors → finished_by actors ≤ decided_in state.calls
+  finished_decided actors each apart = let a = finished_low 0 actors (from_none actors each) in let b = counted_decided actors state.calls apart in omega arith
+
+  pub decided_finished : (actors : List Actor) → ((j : ℕ) (a : Actor) → get_elem? actors j ≡ some a → FitsRun state j a.number a.doing) → All (IsOfActor actors) (calls_told state)
+      → decided_in state.calls ≤ finished_by actors
+  decided_finished actors each only = let a = finished_high 0 actors (from_none actors each) in let b = decided_counted actors state.calls only in omega arith
