@@ -152,15 +152,13 @@ def logic_sum_is_told(top):
 
 def texts_are_for_readers(top):
     """No text has a path of a machine, a label of a paper that is not here, or a word on how the work is organised."""
-    files = subprocess.run(["git", "-C", str(top), "ls-files"], stdout=subprocess.PIPE, universal_newlines=True).stdout.split("\n")
     found = []
-    for name in files:
-        path = top / name
-        if not path.is_file() or path.suffix in (".csv", ".expected", ".png", ".mtx") or path.name.startswith("looks"):
+    for path in sources.files_of(top):
+        if path.suffix in (".csv", ".expected", ".png") or path.name.startswith("looks"):
             continue
         for number, line in enumerate(path.read_text(errors="replace").split("\n"), 1):
             stray = STRAY.search(line) or (LABEL.search(line) if path.suffix in (".md", ".antt", ".rt", ".edit") else None)
-            found += [f"{name}:{number}: {stray[0]}"] if stray else []
+            found += [f"{path.relative_to(top)}:{number}: {stray[0]}"] if stray else []
     return found
 
 

@@ -4,6 +4,8 @@ an evening hold; and for what has gone out of step: wrong bodies, names of defin
 import collections
 import hashlib
 import re
+import shutil
+import subprocess
 
 import sources
 
@@ -188,6 +190,16 @@ def proofs_are_short(top):
     return found
 
 
+def scripts_are_clean(top):
+    """ShellCheck finds nothing in a shell script; where it is not installed, that is told."""
+    scripts = [path for path in sources.files_of(top) if re.match(rb"#!.*sh\n", path.read_bytes()[:40])]
+    if not shutil.which("shellcheck"):
+        print("not looked at: shellcheck is not installed")
+        return []
+    ran = subprocess.run(["shellcheck", "-f", "gcc", *map(str, scripts)], stdout=subprocess.PIPE, universal_newlines=True)
+    return [line.replace(f"{top}/", "") for line in ran.stdout.split("\n") if line]
+
+
 LOOKS = [
     ("the boards go through their passes", boards_go_through_passes),
     ("the kinds of step of the boards", kinds_of_step),
@@ -202,4 +214,5 @@ LOOKS = [
     ("each crate uses what it stands on", crates_use_what_they_stand_on),
     ("each status has a name", statuses_are_named),
     ("lines of proofs and lemmas are short", proofs_are_short),
+    ("shell scripts are clean", scripts_are_clean),
 ]

@@ -8,6 +8,7 @@ Each text is one line, and each old one stands in that file exactly once.
 """
 
 import re
+import subprocess
 import typing
 
 FUNCTION = re.compile(r'^( *)(?:(pub) |pub\(\w+\) )?(const )?(?:unsafe )?(extern "C" )?fn (\w+)')
@@ -113,6 +114,12 @@ def crates_of(top):
 def below(uses, crate):
     """The crates of the repository that a crate stands on."""
     return sorted({it for used in uses[crate] if used in uses for it in [used, *below(uses, used)]})
+
+
+def files_of(top):
+    """The files that the repository holds, those of a change under way among them."""
+    ran = subprocess.run(["git", "-C", str(top), "ls-files", "-co", "--exclude-standard"], stdout=subprocess.PIPE, universal_newlines=True)
+    return [path for path in (top / name for name in sorted({*ran.stdout.split("\n")} - {""})) if path.is_file() and not path.is_symlink()]
 
 
 def broken_by(edit):
