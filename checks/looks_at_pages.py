@@ -1,55 +1,32 @@
-"""Looks at the pages: what they name is there, their tables are those of the sources, and the kit's line is the kit's."""
+"""Looks at the pages and texts: what they name and quote is there, the kit's logic sum is the kit's, and there is nothing that is of no use to a reader.
 
-import functools
+docs/PROMISES.md: a cell under 'Carried by' is names in backticks, which commas part; after a colon the labels of their clauses; and semicolons
+between such groups. A name is a function, a method with its type before it, or a record of the definitions, whose labels are its fields;
+`the Display of` a type is what that writes, and `the type of` a function may carry a promise alone. A label stands at an `ensures` of the
+contract, or is a field of a record that the contract names. A function whose clauses have labels is named with one of them at least.
+"""
+
 import re
-import shutil
 import subprocess
-import sys
 
-import closures
-import edits
-import looks_tried
-import other_cases
-import plain_cases
-from looks_at_crates import crates_of
+import sources
 
 BLOCK = re.compile(r"^```.*?^```$", re.M | re.S)
 WORD = r"[A-Za-z_][A-Za-z0-9_]*"
-NAME = re.compile(rf"{WORD}(::{WORD})*")
-KIT = r"rattle-kit-\w+ logic [0-9a-f]+"
-SOURCES = [
-    "crates.txt",
-    "crates/*/src/**/*.rt",
-    "crates/*/specs/*.antt",
-    "crates/*/proofs/**/*.antt",
-    "bench/*",
-    "bench/plain/**/*.rs",
-    "examples/*.expected",
-    "crates/*/*.h",
-    "examples/python/*.py",
-    "examples/rust/*.rs",
-]
-COUNTING = "docs/ARCHITECTURE.md"
+SOURCES = "crates.txt crates/*/src/**/*.rt crates/*/specs/*.antt crates/*/proofs/**/*.antt bench/* bench/plain/**/*.rs tests/* checks/*"
+SOURCES += " examples/*.expected crates/*/*.h examples/python/*.py examples/rust/*.rs"
+NAME = r"(?:the (?:Display|type) of )?`[^`]+`"
+GROUP = re.compile(rf"({NAME}(?:, {NAME})*)(?:: ({NAME}(?:, {NAME})*))?")
+UNPROVED = re.compile(r"_tests$|_bench|_hostile|_example$")
+SUM = re.compile(r"\blogic(?: sum)?(?: is)? `?([0-9a-f]{16})\b")
+# A path of the machine that a text was written on, and how the work is organised; data and marks of matches are no such texts.
+STRAY = re.compile(r"(?<![\w.])/(?:work|root)/|\.\./shared/|\bissue #?\d|\b(?:sessions? of the project|handover)\b", re.I)
+LABEL = re.compile(r"(?<![\w.'\"`-])(?:T[1-5]\.[1-7]|[DRW][1-9]\d?|K[1-8]|G2|S6)(?![\w'\"`])")
 
 
 def pages(top):
     """The pages whose names are looked up. CHANGELOG.md tells of what was, so it names what is gone too."""
     return [path for path in [top / "README.md", top / "CONTRIBUTING.md", *sorted((top / "docs").glob("*.md"))] if path.exists()]
-
-
-def named(page):
-    """What stands in backticks on a page, outside blocks of code, with its line."""
-    text = BLOCK.sub(lambda block: "\n" * block[0].count("\n"), page.read_text())
-    for number, line in enumerate(text.split("\n"), 1):
-        for name in re.findall(r"`([^`]+)`", line):
-            yield number, name
-
-
-def words_of(top):
-    """All words of the sources, and the names of their files."""
-    files = {path for pattern in SOURCES for path in top.glob(pattern) if path.is_file()}
-    words = {word for path in files for word in re.findall(WORD, path.read_text(errors="replace"))}
-    return words | {path.stem for path in files}
 
 
 def file_is_there(top, path):
@@ -59,147 +36,138 @@ def file_is_there(top, path):
     return any(True for place in places for _ in top.glob(place))
 
 
-def is_there(top, words, name):
-    """What the name names is there: its file where it begins with a path, else each of its words. Other texts in backticks are no names."""
-    first = name.split(" ")[0]
-    if "/" in first:
-        return file_is_there(top, first)
-    if re.fullmatch(r"\w+\.(md|txt|rt|antt)", name):
-        return any(True for _ in top.glob(f"**/{name}"))
-    return not NAME.fullmatch(name) or all(word in words for word in name.split("::"))
-
-
-def names_exist(top):
-    """Each name in backticks in the README and in docs is there."""
-    words = words_of(top)
-    return [
-        f"{page.relative_to(top)}:{number}: `{name}` is not there"
-        for page in pages(top)
-        for number, name in named(page)
-        if not is_there(top, words, name)
-    ]
-
-
-def rows_under(page, heading):
-    """The cells of each row of the table under a heading."""
-    text = page.read_text().split(f"\n## {heading}\n", 1)[-1].split("\n## ", 1)[0]
-    rows = [line.strip("|").split("|") for line in text.split("\n") if line.startswith("| ") and not line.startswith("|---")]
-    return [[cell.strip() for cell in row] for row in rows][1:]
-
-
-def definitions_are_listed(top):
-    """The table of definitions has each file of specs/; Lib has no definition, and Laws has a row for all crates."""
-    cells = [row[1] for row in rows_under(top / "docs/ARCHITECTURE.md", "Where each definition lives, and who cites it")]
-    groups = [group for cell in cells for group in re.findall(r"`(\w+)`: ((?:`\w+`(?:, )?)+)", cell)]
-    told = {f"{crate}/{name}" for crate, names in groups for name in re.findall(r"`(\w+)`", names)}
-    files = {f"{path.parts[-3]}/{path.stem}" for path in top.glob("crates/*/specs/*.antt") if path.stem not in ("Lib", "Laws")}
-    return [f"{name}: not in the table of definitions" for name in sorted(files - told)] + [
-        f"{name}: in the table of definitions, and there is no such file" for name in sorted(told - files)
-    ]
+def names_are_there(top):
+    """What stands in backticks on a page, outside blocks of code, and what it links to is there: its file where it begins with a path, else each of
+    its words somewhere in the sources. Other texts in backticks are no names."""
+    files = [path for pattern in SOURCES.split() for path in top.glob(pattern) if path.is_file()]
+    words, found = {path.stem for path in files}, []
+    words |= {word for path in files for word in re.findall(WORD, path.read_text(errors="replace"))}
+    for page in pages(top):
+        text = BLOCK.sub(lambda block: "\n" * block[0].count("\n"), page.read_text())
+        for number, line in enumerate(text.split("\n"), 1):
+            lost = [link for link in re.findall(r"\]\(([^)#:]+)(?:#[^)]*)?\)", line) if not (page.parent / link).exists()]
+            for name in re.findall(r"`([^`]+)`", line):
+                first = name.split(" ")[0]
+                is_name = re.fullmatch(rf"{WORD}(::{WORD})*", name)
+                if "/" in first and not file_is_there(top, first) or is_name and not {*name.split("::")} <= words:
+                    lost.append(name)
+                elif re.fullmatch(r"\w+\.(md|txt|rt|antt)", name) and not any(top.glob(f"**/{name}")):
+                    lost.append(name)
+            found += [f"{page.relative_to(top)}:{number}: `{name}` is not there" for name in lost]
+    return found
 
 
 def crates_are_listed(top):
     """The table of crates has each crate of crates.txt, once."""
-    told = [name for row in rows_under(top / "docs/ARCHITECTURE.md", "The crates") for name in re.findall(r"`(\w+)`", row[0])]
-    crates = list(crates_of(top))
-    return [f"{name}: not in the table of crates" for name in crates if name not in told] + [
-        f"{name}: in the table of crates {told.count(name)} times, and {crates.count(name)} times in crates.txt"
-        for name in sorted(set(told))
-        if told.count(name) != crates.count(name)
-    ]
-
-
-def longest_chain(top):
-    """The longest list of crates of which each stands on the one before."""
-    uses, chains = crates_of(top), {}
-
-    def chain_to(crate):
-        if crate not in chains:
-            chains[crate] = [*max((chain_to(used) for used in uses[crate] if used in uses), key=len, default=[]), crate]
-        return chains[crate]
-
-    return max(map(chain_to, uses), key=len)
-
-
-def counts_of(top):
-    """What the page of the architecture counts: how a count reads there, and how it reads by what there is."""
-    definitions = closures.Definitions(top)
-    headline = definitions.below(["BoardsHaveOneHistory"])
-    gate, further = (len(edits.edits_of(top, pattern)) for pattern in (edits.OF_THE_GATE, edits.FURTHER))
-    plain = plain_cases.cases(top)
-    faults = sum(map(len, looks_tried.FAULTS.values()))
-    chain = longest_chain(top)
-    return [
-        (r"\d+ crates and \d+ wrong bodies", f"{len(crates_of(top))} crates and {gate} wrong bodies"),
-        (r"\d+ looks, \d+ faults", f"{len(looks_tried.FAULTS)} looks, {faults} faults"),
-        (r"on what is built \| \d+ cases", f"on what is built | {len(plain) + len(other_cases.CASES)} cases"),
-        (r"on busy cores \| \d+ cases", f"on busy cores | {sum(case.is_small for case in plain)} cases"),
-        (r"\d+ wrong bodies, as many controls", f"{gate + further} wrong bodies, as many controls"),
-        (r"It is of \d+ crates, from\s`\w+` to `\w+`", f"It is of {len(chain)} crates, from\n`{chain[0]}` to `{chain[-1]}`"),
-        (r"\d+ definitions of \d+ lines", f"{len(headline)} definitions of {definitions.lines_of(headline)} lines"),
-    ]
-
-
-def counts_are_right(top):
-    """The page of the architecture counts what there is."""
-    text = (top / COUNTING).read_text()
-    told = [(re.findall(pattern, text), right) for pattern, right in counts_of(top)]
-    return [
-        f"{COUNTING}: tells {', '.join(found) or 'no count'}, and there are: {right} (checks/looks --shrink)"
-        for found, right in told
-        if found != [right]
-    ]
-
-
-def write_counts(top):
-    """Writes into the page of the architecture what there is."""
-    path = top / COUNTING
-    text = path.read_text()
-    for pattern, right in counts_of(top):
-        text = re.sub(pattern, right, text)
-    path.write_text(text)
-
-
-@functools.lru_cache(maxsize=None)
-def kit():
-    """The line of the kit that is installed."""
-    if shutil.which("rt") is None:
-        return "not on the path"
-    ran = subprocess.run(["rt", "version"], stdin=subprocess.DEVNULL, stdout=subprocess.PIPE, universal_newlines=True)
-    return ran.stdout.strip()
-
-
-def kit_is_told(top):
-    """The README and the version of the program tell the kit that is installed."""
-    files = {"README.md": rf"`({KIT})`", "crates/ucl_program/src/texts.rt": rf"proved with ({KIT})"}
-    told = {name: re.findall(pattern, (top / name).read_text()) for name, pattern in files.items()}
-    return [f"{name}: tells {', '.join(lines) or 'no kit'}, and the kit is {kit()}" for name, lines in told.items() if lines != [kit()]]
-
-
-def examples_are_tests(top):
-    """The examples at the calls, and the program of the README, are what is tested."""
-    ran = subprocess.run([sys.executable, str(top / "checks/examples")], stdin=subprocess.DEVNULL, stdout=subprocess.PIPE, universal_newlines=True)
-    return ran.stdout.strip().split("\n") if ran.returncode else []
+    section = (top / "docs/ARCHITECTURE.md").read_text().split("\n## The crates\n", 1)[-1].split("\n## ", 1)[0]
+    told = [name for line in section.split("\n") if line.startswith("| `") for name in re.findall(r"`(\w+)`", line.split("|")[1])]
+    crates = list(sources.crates_of(top))
+    return [f"{name}: in the table of crates {told.count(name)} times" for name in sorted({*told, *crates}) if told.count(name) != crates.count(name)]
 
 
 def reading_quotes(top):
     """Each block of docs/READING.md stands, line for line, in the file that is named above it."""
-    text = (top / "docs/READING.md").read_text()
-    found = []
+    text, found = (top / "docs/READING.md").read_text(), []
     for name, block in re.findall(r"^`(crates/[^`]+)`:\n\n```\w+\n(.*?)\n```$", text, re.M | re.S):
-        lines = [line.strip() for line in (top / name).read_text().split("\n")] if (top / name).exists() else []
-        wanted = [line.strip() for line in block.split("\n")]
+        lines, wanted = ([line.strip() for line in it.split("\n")] for it in ((top / name).read_text() if (top / name).exists() else "", block))
         if not any(lines[at : at + len(wanted)] == wanted for at in range(len(lines))):
             found.append(f"docs/READING.md: these lines do not stand in {name}: {wanted[0]}")
     return found + ([] if text.count("```") == 2 * text.count("`:\n\n```") else ["docs/READING.md: a block without a file above it"])
 
 
+def callable_functions(top):
+    """The functions that a caller can name, with their crates: those that say `pub`, exports, those of public traits and types, and laws, which
+    have an empty body."""
+    for crate in sorted(path.parent.parent for path in top.glob("crates/*/src/lib.rt")):
+        text = (crate / "src/lib.rt").read_text()
+        names = {name.strip() for many, one in re.findall(r"^pub use (?:\w+::)*(?:\{([^}]*)\}|(\w+));", text, re.M) for name in (many or one).split(",")}
+        modules = {*re.findall(r"^pub mod (\w+);", text, re.M)}
+        for it in sources.functions_of(crate):
+            is_named = it.name in names or it.path.split("/")[-1][:-3] in modules or 'extern "C"' in it.head or it.head.endswith("{}")
+            if not UNPROVED.search(crate.name) and (it.owner in names and (it.is_public or it.trait) if it.owner else it.is_public and is_named):
+                yield crate.name, it
+
+
+def faults_of_name(told, labels, contracts, fields):
+    """What is wrong with a name and its labels in a row of promises."""
+    name = re.search(r"`(.+)`", told)[1] + ("::fmt" if told.startswith("the Display of ") else "")
+    if name in fields:
+        return [f"`{name}` has no field `{label}`" for label in labels if label not in fields[name]]
+    if name not in contracts:
+        return [f"there is no function `{name}`"]
+    stand = {label for text in contracts[name] for label in sources.LABEL.findall(text)}
+    known = stand | {field for text in contracts[name] for record in set(re.findall(r"\b[A-Z]\w+", text)) for field in fields.get(record, ())}
+    if told.startswith("the type of "):
+        return []
+    unnamed = [f"`{name}` is named without a clause: {', '.join(sorted(stand))}"] if stand and "" not in stand and not labels else []
+    return unnamed + [f"`{name}` has no clause `{label}`" for label in labels if label not in known]
+
+
+def promises_are_carried(top):
+    """Each promise names functions and clauses that are there. A method without clauses of its own has those of its trait."""
+    fields, contracts, heads, found, within = sources.records_of(top), {}, {}, [], False
+    every = [it for _, it in callable_functions(top)]
+    for it in every:
+        heads.setdefault((it.owner, it.name), it.head)
+    for it in every:
+        contracts.setdefault(it.named, []).append(it.head if "ensures" in it.head else heads.get((it.trait, it.name), it.head))
+    for number, line in enumerate((top / "docs/PROMISES.md").read_text().split("\n"), 1):
+        cells = [cell.strip() for cell in line.strip("|").split("|")]
+        within = line.startswith("|") and (within or cells[-1] == "Carried by")
+        for part in cells[1].split("; ") if within and len(cells) == 2 and cells[1] != "Carried by" and not cells[0].startswith("---") else []:
+            group = GROUP.fullmatch(part)
+            names, labels = (re.findall(NAME, group[1]), re.findall(r"`([^`]+)`", group[2] or "")) if group else ([], [])
+            faults = [fault for name in names for fault in faults_of_name(name, labels, contracts, fields)]
+            found += [f"docs/PROMISES.md:{number}: {fault}" for fault in faults + ([] if group else ["is not names in backticks, a colon and their labels"])]
+    return found
+
+
+def tables_are_of_signatures(top):
+    """The calls that can ask for memory are those that are given an allocator, and those that may wait are those that are given leave to."""
+    tables = {
+        "Calls that are given an allocator": lambda head: re.search(r"\balloc: ", head),
+        "Calls that may wait": lambda head: re.search(r"<[^(]*\b\w+: [^,>]*\bWait\b", head.split(" requires ")[0]),
+    }
+    found, page = [], (top / "docs/PROMISES.md").read_text()
+    functions = [(crate, it) for crate, it in callable_functions(top) if it.trait in (None, it.owner) and (top / "crates" / crate / "specs").is_dir()]
+    for heading, holds in tables.items():
+        rows = page.split(f"\n### {heading}\n", 1)[-1].split("\n#", 1)[0].split("\n")
+        cells = [[re.findall(r"`([^`]+)`", cell) for cell in line.strip("|").split("|")] for line in rows if line.startswith("| `")]
+        told = {(crates[0], name) for crates, names in cells for name in names}
+        calls = {(crate, it.named) for crate, it in functions if holds(it.head)}
+        found += [f"{crate}: `{name}` is not as the table '{heading}' says" for crate, name in sorted(calls ^ told)]
+    return found
+
+
+def logic_sum_is_told(top):
+    """The README and the version of the programs tell the logic sum of the kit that is installed. Its letter may be another, so no program tells that."""
+    kit = SUM.findall(subprocess.run(["rt", "version"], stdin=subprocess.DEVNULL, stdout=subprocess.PIPE, universal_newlines=True).stdout)
+    files = "README.md", "crates/ucl_program/src/texts.rt"
+    told = {name: sorted({*SUM.findall((top / name).read_text())}) for name in files}
+    letters = [path.relative_to(top) for path in sorted(top.glob("crates/*/src/**/*.rt")) if re.search(r"rattle-kit-\w", path.read_text())]
+    return [f"{name}: tells the logic sum {', '.join(sums) or 'of no kit'}, and the kit's is {', '.join(kit) or 'not to be had'}" for name, sums in told.items() if sums != kit] + [
+        f"{name}: tells the letter of a kit" for name in letters
+    ]
+
+
+def texts_are_for_readers(top):
+    """No text has a path of a machine, a label of a paper that is not here, or a word on how the work is organised."""
+    found = []
+    for path in sources.files_of(top):
+        if path.suffix in (".csv", ".expected", ".png") or path.name.startswith("looks"):
+            continue
+        for number, line in enumerate(path.read_text(errors="replace").split("\n"), 1):
+            stray = STRAY.search(line) or (LABEL.search(line) if path.suffix in (".md", ".antt", ".rt", ".edit") else None)
+            found += [f"{path.relative_to(top)}:{number}: {stray[0]}"] if stray else []
+    return found
+
+
 LOOKS = [
-    ("each name in backticks is there", names_exist),
-    ("the table of definitions is that of the files", definitions_are_listed),
+    ("what pages name and link to is there", names_are_there),
     ("the table of crates is that of crates.txt", crates_are_listed),
-    ("docs/ARCHITECTURE.md counts what there is", counts_are_right),
-    ("the README and --version tell the kit", kit_is_told),
-    ("the examples at the calls and the program of the README are tested", examples_are_tests),
     ("each block of docs/READING.md stands in its file", reading_quotes),
+    ("each promise names its function and its clause", promises_are_carried),
+    ("the tables of memory and of waiting are those of the signatures", tables_are_of_signatures),
+    ("the README and --version tell the logic sum of the kit", logic_sum_is_told),
+    ("texts have no label, no path of a machine and no word on the work", texts_are_for_readers),
 ]

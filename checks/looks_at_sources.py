@@ -1,0 +1,218 @@
+"""Looks at the sources for what no contract can see: what a pass or a handle does when it is let go, steps that go beside the log, what a board and
+an evening hold; and for what has gone out of step: wrong bodies, names of definitions, crates that are not used, numbers of statuses."""
+
+import collections
+import hashlib
+import re
+import shutil
+import subprocess
+
+import sources
+
+# What goes beside the log: a load, a wait or a wake of a cell or a table that is no step of a pass.
+UNCOUNTED = re.compile(r"\b(peek|park|wake_one|load_new_seat|swap_new_seat|into_badge|close|close_with)\b|\.pass\(")
+STEP = re.compile(r"^impl\b.*\b(Play|Outcome|Split|Join)\b.* for (?:\w+::)*([A-Za-z]+)")
+ACTS = re.compile(r"^\s*impl\b(?:<.*>)? (?:\w+::)*Drop\b.* for |^\s*(?:pub )?use .*\bDrop\b")
+# The kinds of step of each board, in the order of the file of its rule, and the parts of the board.
+KINDS = {
+    "ucl_words": "Play Look, Play First, Play Second, Play CountEnlisted, Play Swap, Play Enlist, Split SecondPass, Split Note, Join Note",
+    "ucl_pass": "Outcome LooksAt, Outcome Adds, Outcome Reads, Outcome Counts, Outcome Enlists, Split SecondPass, Split Note, Join Note",
+}
+BOARDS = {"ucl_words": "pub struct WordBoard {\n    table: Table,\n}\n", "ucl_pass": "pub struct CellBoard {\n    cell: Cell,\n}\n"}
+LET_GO = "    {\n        if !self.is_null() {\n            drop(self.take(alloc).into_box());\n        }\n    }\n"
+# What makes, lengthens or replaces the list of the times at which a source was asked; `wire.rt` does so twice.
+LISTS = re.compile(r"\basked\.and\(|\.asked\s*=(?!=)|&mut [\w.]+\.asked\b|\bAsked::(?:new|and)\b")
+LISTED = ["asked: Asked::new(),", "self.asked = self.asked.and(&self.source, &self.sink);"]
+HANDLES = "e3846fb4d06c"
+DEFINED = re.compile(r"^ *(?:abbrev pub|unfoldable pub|pub record|pub data) (\S+)", re.M)
+# Names that definitions of two files have, and that stand for one thing of two kinds, as the words of either board.
+TWICE = {"taken_by", "club_at", "rows_of", "words_after", "IsTheRule", "LogsOneStep", "Takes", "◌>>=◌", "state_of"}
+# A struct or an enum with its parts; what a part is of; and the types of other crates and of the language that have a fixed size, as an
+# option of one has. A roster and a club hold names, each of which came on one line.
+TYPE = re.compile(r"^(?:pub(?:\(crate\))? )?(?:struct|enum) (\w+)(?:<[^>]*>)? \{\n(.*?)^\}", re.M | re.S)
+PART = re.compile(r"^ *(?:pub(?:\(crate\))? )?\w+: (.*),$|^ *\w+\((.*)\),$", re.M)
+FIXED = {"u8", "u16", "u32", "u64", "usize", "bool", "ArrayVec", "Board", "Club", "Option", "Profile", "Roster"}
+# What is kept from one step to the next: the crate, the type, and types that have to be found among its parts.
+KEPT = [("ucl_answers", "Live", {"Desk", "Page", "Stage", "Table"}), ("ucl_follows", "Follower", {"Following", "Moment"})]
+# Where a lemma begins, or a module with parameters, in which lemmas stand two columns further in.
+LEMMA = re.compile(r"( *)(?:(module _)\b|(?:pub )?([^\s:(){}]+) :(?: |$))")
+
+
+def lines_of(top, *crates):
+    """Each line of the code of these crates that is no comment, with where it stands."""
+    for crate in crates:
+        for path in sorted((top / "crates" / crate / "src").glob("**/*.rt")):
+            for number, line in enumerate(path.read_text().split("\n"), 1):
+                if not line.lstrip().startswith("//"):
+                    yield path, f"{path.relative_to(top)}:{number}", line
+
+
+def text_of(top, crate, part):
+    """All texts of a part of a crate, as one."""
+    return "\n".join(path.read_text() for path in sorted((top / "crates" / crate / part).glob("**/*.*t")))
+
+
+def boards_go_through_passes(top):
+    """The sources of a board load and exchange through passes alone, and make none from nothing."""
+    return [f"{at}: {line.strip()}" for _, at, line in lines_of(top, *KINDS) if UNCOUNTED.search(line)]
+
+
+def kinds_of_step(top):
+    """The kinds of step of a board are these, and stand in the file of its rule: each leaves a mark in the log."""
+    found = []
+    for crate, kinds in KINDS.items():
+        steps = [(path.name, at, STEP.match(line)) for path, at, line in lines_of(top, crate) if STEP.match(line)]
+        found += [f"{at}: a kind of step outside rule.rt" for name, at, _ in steps if name != "rule.rt"]
+        told = ", ".join(f"{step[1]} {step[2]}" for _, _, step in steps)
+        found += [] if told == kinds else [f"{crate}: the kinds of step are {told}"]
+    return found
+
+
+def nothing_acts_when_let_go(top):
+    """No type of the boards, of nights, of evenings and of handles does anything when it is let go, but let go of its parts."""
+    crates = *KINDS, "ucl_runs", "ucl_evenings", "ucl_evenings_threads", "ucl_c_boards"
+    found = [f"{at}: {line.strip()}" for _, at, line in lines_of(top, *crates) if ACTS.search(line)]
+    handles = text_of(top, "ucl_c_boards", "src").split("fn let_go(")
+    return found + ([] if len(handles) == 2 and LET_GO in handles[1] else ["ucl_c_boards: a handle does something else when it is let go"])
+
+
+def boards_hold_words_alone(top):
+    """A board has its words, and nothing else: no lock, and no copy."""
+    return [f"{crate}: the board has other parts than {text}" for crate, text in BOARDS.items() if text not in text_of(top, crate, "src")]
+
+
+def night_is_on_words(top):
+    """A night of the program is played on a word board that is opened for it."""
+    lines = list(lines_of(top, "ucl_command"))
+    other = [f"{at}: {line.strip()}" for _, at, line in lines if re.search(r"\bCellBoard\b", line)]
+    return other + ([] if any("WordBoard::open" in line for _, _, line in lines) else ["ucl_command opens no WordBoard"])
+
+
+def calls_are_listed_once(top):
+    """The list of the times at which a source was asked begins empty, and `take` alone adds to it, once."""
+    found = [(at, line.strip()) for _, at, line in lines_of(top, *sources.crates_of(top)) if LISTS.search(line)]
+    other = [f"{at}: lists when a source was asked" for at, line in found if line not in LISTED or "/ucl_answers/src/wire.rt:" not in at]
+    return other + ([] if [line for _, line in found] == LISTED else ["wire.rt does not list each call of `take` once"])
+
+
+def parts_are_of_fixed_size(top):
+    """What an evening and a follower keep from one step to the next has a fixed size, by their parts, theirs and so on."""
+    found = []
+    for crate, start, known in KEPT:
+        parts = {name: {word for part in PART.findall(body) for word in re.findall(r"[A-Za-z]\w*", "".join(part)) if not word.isupper()}
+                 for name, body in TYPE.findall(text_of(top, crate, "src"))}
+        waiting, seen = [start], set()
+        while waiting:
+            name = waiting.pop()
+            seen.add(name)
+            others = parts.get(name, set()) - FIXED - seen
+            waiting += others & set(parts)
+            found += [f"{crate}: `{name}` has a part of type `{word}`" for word in sorted(others - set(parts))]
+        found += [] if known <= seen else [f"{crate}: only these were found of `{start}`: {', '.join(sorted(seen))}"]
+    return found
+
+
+def handles_are_unchanged(top):
+    """The file HANDLES is as it was from the start."""
+    return [] if hashlib.sha256((top / "HANDLES").read_bytes()).hexdigest()[:12] == HANDLES else ["HANDLES was changed"]
+
+
+def wrong_bodies_fit(top):
+    """Each wrong body fits the text, and names clauses that exist."""
+    found, records = [], sources.records_of(top)
+    for crate in sorted(path.parent for path in top.glob("crates/*/must-fail")):
+        known = {f"{name} {field}" for name, fields in records.items() for field in fields}
+        every = [it for folder in [crate, *(top / "crates" / it for it in sources.below(sources.crates_of(top), crate.name))] for it in sources.functions_of(folder)]
+        of_traits = {(it.trait, it.name): it.labels for it in every if it.trait and it.trait == it.owner}
+        for it in every:
+            known |= {it.named} | {f"{it.named} {label}" for label in it.labels or of_traits.get((it.trait, it.name), ())}
+        for edit in sorted((crate / "must-fail").glob("*.edit")):
+            name, broken = edit.relative_to(top), sources.broken_by(edit)
+            found += [f"{name}: breaks {clause}, and there is no such clause" for clause in broken if clause not in known]
+            found += [] if broken else [f"{name}: it does not tell what it breaks"]
+            try:
+                sources.edited(crate, edit)
+            except (OSError, ValueError) as error:
+                found.append(f"{name}: {error}")
+    return found
+
+
+def names_are_defined_once(top):
+    """A name is defined once over all specs/, so that it means one thing wherever it is read, but for a few."""
+    files = collections.defaultdict(list)
+    for path in sorted(top.glob("crates/*/specs/**/*.antt")):
+        for name in DEFINED.findall(path.read_text()):
+            files[name].append(str(path.relative_to(top / "crates")))
+    return [f"{name}: defined in {', '.join(where)}" for name, where in files.items() if len(where) > 1 and name not in TWICE]
+
+
+def crates_use_what_they_stand_on(top):
+    """A crate names each crate that crates.txt has it stand on."""
+    found = []
+    for crate, uses in sources.crates_of(top).items():
+        code, logic = text_of(top, crate, "src"), text_of(top, crate, "specs") + text_of(top, crate, "proofs")
+        named = lambda used: re.search(rf"(?<![\w.]){used}::|\bRattle\.{used}\b", code) or re.search(rf"\bRattle\.{used}\b", logic)
+        found += [f"{crate} stands on {used}, and does not name it" for used in uses if not named(used)]
+    return found
+
+
+def statuses_are_named(top):
+    """The numbers beside the names of statuses are 0 and those of refusals and of faults, each once."""
+    codes, faults = ((top / "crates/ucl_c/specs" / file).read_text() for file in ("Codes.antt", "Faults.antt"))
+    names = "".join(re.findall(r"^names_of_statuses =(.*?)∷ \[\]$", codes, re.M | re.S))
+    named = sorted(int(number) for number in re.findall(r"\((\d+), codes ", names))
+    given = re.findall(r"^refusal_code .* = (\d+)$", codes, re.M) + re.findall(r"^fault_code .* = (\d+)$", faults, re.M)
+    return [] if named == sorted([0, *map(int, given)]) else [f"ucl_c: {named} have names, and the codes are 0 and {', '.join(given)}"]
+
+
+def lemmas_of(lines):
+    """The lemmas of a file, each by its first line and its number of lines: to the last that is no comment before what comes next."""
+    starts, base = [], 0
+    texts = [(at, line) for at, line in enumerate(lines) if line.strip() and not line.strip().startswith("--")]
+    for at, line in texts:
+        base = min(base, len(line) - len(line.lstrip()))
+        begins = LEMMA.match(line)
+        if begins and len(begins[1]) == base:
+            starts.append((at, begins[3]))
+            base += 2 if begins[2] else 0
+    for (at, name), (end, _) in zip(starts, starts[1:] + [(len(lines), None)]):
+        if name:
+            yield at, max(number for number, _ in texts if at <= number < end) - at + 1
+
+
+def proofs_are_short(top):
+    """A line of a proof has at most 200 columns, and a lemma at most 60 lines."""
+    found = []
+    for path in sorted(top.glob("crates/*/proofs/**/*.antt")):
+        name, lines = path.relative_to(top), path.read_text().split("\n")
+        found += [f"{name}:{at + 1}: {len(line)} columns" for at, line in enumerate(lines) if len(line) > 200]
+        found += [f"{name}:{at + 1}: a lemma of {count} lines" for at, count in lemmas_of(lines) if count > 60]
+    return found
+
+
+def scripts_are_clean(top):
+    """ShellCheck finds nothing in a shell script; where it is not installed, that is told."""
+    scripts = [path for path in sources.files_of(top) if re.match(rb"#!.*sh\n", path.read_bytes()[:40])]
+    if not shutil.which("shellcheck"):
+        print("not looked at: shellcheck is not installed")
+        return []
+    ran = subprocess.run(["shellcheck", "-f", "gcc", *map(str, scripts)], stdout=subprocess.PIPE, universal_newlines=True)
+    return [line.replace(f"{top}/", "") for line in ran.stdout.split("\n") if line]
+
+
+LOOKS = [
+    ("the boards go through their passes", boards_go_through_passes),
+    ("the kinds of step of the boards", kinds_of_step),
+    ("passes and handles do nothing when they are let go", nothing_acts_when_let_go),
+    ("the boards hold their words alone", boards_hold_words_alone),
+    ("a night of the program is on the word board", night_is_on_words),
+    ("a source's calls are listed where they are made", calls_are_listed_once),
+    ("what an evening and a follower keep is of fixed size", parts_are_of_fixed_size),
+    ("HANDLES is as it was", handles_are_unchanged),
+    ("wrong bodies fit the text, and name clauses that exist", wrong_bodies_fit),
+    ("each definition's name is defined once", names_are_defined_once),
+    ("each crate uses what it stands on", crates_use_what_they_stand_on),
+    ("each status has a name", statuses_are_named),
+    ("lines of proofs and lemmas are short", proofs_are_short),
+    ("shell scripts are clean", scripts_are_clean),
+]
