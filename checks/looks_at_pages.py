@@ -142,7 +142,7 @@ def tables_are_of_signatures(top):
 def logic_sum_is_told(top):
     """The README and the version of the programs tell the logic sum of the kit that is installed. Its letter may be another, so no program tells that."""
     kit = SUM.findall(subprocess.run(["rt", "version"], stdin=subprocess.DEVNULL, stdout=subprocess.PIPE, universal_newlines=True).stdout)
-    files = "README.md", "crates/ucl_program/src/texts.rt"
+    files = "README.md", "crates/ucl_command/src/help.rt"
     told = {name: sorted({*SUM.findall((top / name).read_text())}) for name in files}
     letters = [path.relative_to(top) for path in sorted(top.glob("crates/*/src/**/*.rt")) if re.search(r"rattle-kit-\w", path.read_text())]
     return [f"{name}: tells the logic sum {', '.join(sums) or 'of no kit'}, and the kit's is {', '.join(kit) or 'not to be had'}" for name, sums in told.items() if sums != kit] + [

@@ -31,7 +31,7 @@ TWICE = {"taken_by", "club_at", "rows_of", "words_after", "IsTheRule", "LogsOneS
 # option of one has. A roster and a club hold names, each of which came on one line.
 TYPE = re.compile(r"^(?:pub(?:\(crate\))? )?(?:struct|enum) (\w+)(?:<[^>]*>)? \{\n(.*?)^\}", re.M | re.S)
 PART = re.compile(r"^ *(?:pub(?:\(crate\))? )?\w+: (.*),$|^ *\w+\((.*)\),$", re.M)
-FIXED = {"u8", "u16", "u32", "u64", "usize", "bool", "ArrayVec", "Board", "Club", "Option", "Profile", "Roster"}
+FIXED = {"u8", "u16", "u32", "u64", "usize", "bool", "ArrayVec", "Board", "Club", "FollowArgs", "LiveArgs", "Option", "Profile", "Roster"}
 # What is kept from one step to the next: the crate, the type, and types that have to be found among its parts.
 KEPT = [("ucl_answers", "Live", {"Desk", "Page", "Stage", "Table"}), ("ucl_follows", "Follower", {"Following", "Moment"})]
 # Where a lemma begins, or a module with parameters, in which lemmas stand two columns further in.
@@ -83,9 +83,9 @@ def boards_hold_words_alone(top):
 
 def night_is_on_words(top):
     """A night of the program is played on a word board that is opened for it."""
-    lines = list(lines_of(top, "ucl_command"))
+    lines = list(lines_of(top, "ucl_night"))
     other = [f"{at}: {line.strip()}" for _, at, line in lines if re.search(r"\bCellBoard\b", line)]
-    return other + ([] if any("WordBoard::open" in line for _, _, line in lines) else ["ucl_command opens no WordBoard"])
+    return other + ([] if any("WordBoard::open" in line for _, _, line in lines) else ["ucl_night opens no WordBoard"])
 
 
 def calls_are_listed_once(top):
