@@ -4,8 +4,10 @@
 is no UTF-8 stands as Python's surrogate escape.
 """
 
+import concurrent.futures
 import errno
 import functools
+import itertools
 import os
 import pathlib
 import re
@@ -43,6 +45,47 @@ class Case(NamedTuple):
     program: str
     words: tuple
     input: str
+
+
+class Has:
+    """Any text that has these parts, the first of them at its start."""
+
+    def __init__(self, first, *parts):
+        self.first, self.parts = first, parts
+
+    def __eq__(self, text):
+        return text.startswith(self.first) and all(part in text for part in self.parts)
+
+    def __repr__(self):
+        return f"a text that begins with {self.first!r} and has all of {self.parts!r}"
+
+
+def pytest_assertrepr_compare(op, left, right):
+    """Of a run that is not as wanted the first line that differs of each part."""
+    if op != "==" or not isinstance(left, Run):
+        return None
+    told = ["the run is not as wanted"]
+    for part, got, wanted in zip(Run._fields, left, right):
+        if got != wanted and isinstance(wanted, str):
+            pairs = itertools.zip_longest(got.splitlines(True), wanted.splitlines(True))
+            number, (got, wanted) = next((number, pair) for number, pair in enumerate(pairs, 1) if pair[0] != pair[1])
+            part = f"line {number} of the {part}"
+        if got != wanted:
+            told.append(f"{part}: {got!r:.2000}, and wanted is {wanted!r:.2000}")
+    return told
+
+
+def tabled(rows):
+    """A test of a table: by the name of each case the command line, the input, and what is wanted: the output, the status, the errors."""
+    cases = [(Case(line.split()[0], tuple(line.split()[1:]), text), wanted) for line, text, *wanted in rows.values()]
+    filled = [(case, (wanted[1:2] or [0])[0], (wanted or [""])[0], (wanted[2:] or [""])[0]) for case, wanted in cases]
+
+    @pytest.mark.quick
+    @pytest.mark.parametrize("case, wanted", [(case, Run(*wanted)) for case, *wanted in filled], ids=list(rows))
+    def test(run, case, wanted):
+        assert run(case.program, *case.words, input=case.input) == wanted
+
+    return test
 
 
 def text_of(path):
@@ -96,7 +139,13 @@ def built(name, folder):
     return path.resolve() if is_there else None
 
 
-@pytest.fixture
+@pytest.fixture(scope="session")
+def place(pytestconfig):
+    """The folder where the programs are: the repository, or another checkout."""
+    return pytestconfig.getoption("programs") or TOP
+
+
+@pytest.fixture(scope="session")
 def program(pytestconfig):
     """A function from the name of a program to its path; it skips the test where the program is not built."""
 
@@ -109,7 +158,7 @@ def program(pytestconfig):
     return path_of
 
 
-@pytest.fixture
+@pytest.fixture(scope="session")
 def run(pytestconfig, program, unproved):
     """A function that runs a program to its end, by its name, words and input."""
 
@@ -124,8 +173,8 @@ def run(pytestconfig, program, unproved):
 @pytest.fixture(scope="session")
 def unproved(request):
     """Runs by `rt try` of what is in the tables of tests."""
-    params = [item.callspec.params for item in request.session.items if hasattr(item, "callspec")]
-    return Unproved([value for values in params for value in values.values() if isinstance(value, Case)])
+    items = [item for item in request.session.items if hasattr(item, "callspec")]
+    return Unproved([item.callspec.params["case"] for item in items if isinstance(item.callspec.params.get("case"), Case)])
 
 
 class Unproved:
@@ -143,30 +192,34 @@ class Unproved:
 
     def run(self, case):
         """The run of a case."""
-        mine = [other for other in self.cases if other.program == case.program]
-        if case not in mine:
+        if case not in self.cases:
             pytest.skip(f"needs the built program: './build {case.program}'")
-        if case not in self.runs:
-            self.runs.update(zip(mine, self.tried(case.program, mine)))
-        assert isinstance(self.runs[case], Run), f"no answer without the proofs: {self.runs[case]}"
-        return self.runs[case]
+        if not self.runs:
+            programs = sorted({case.program for case in self.cases})
+            with concurrent.futures.ThreadPoolExecutor() as all_at_once:
+                self.runs = dict(zip(programs, all_at_once.map(self.tried, programs)))
+        ran = self.runs[case.program][case]
+        assert isinstance(ran, Run), f"no answer without the proofs: {ran}"
+        return ran
 
-    def tried(self, program, cases):
-        """Tries these cases of a program. `rt try` calls each program `program`."""
+    def tried(self, program):
+        """The runs of the cases of a program. `rt try` calls each program `program`."""
+        cases = [case for case in self.cases if case.program == program]
         with tempfile.TemporaryDirectory(prefix="cases-") as folder:
             for number, case in enumerate(cases):
                 path = pathlib.Path(folder) / f"c{number:04}"
                 path.write_bytes(encoded(case.input))
                 path.with_suffix(".args").write_text("".join(word + "\n" for word in case.words))
             tried = command(["rt", "try", "--cases", folder], cwd=TOP / "crates" / program)
-        outputs = self.START.split(tried.output)
+        outputs, told = self.START.split(tried.output), self.END.split(tried.errors)
         outputs = dict(zip(outputs[1::2], outputs[2::2]))
-        told = self.END.split(tried.errors)
         ends = {name: end for name, *end in zip(told[1::4], told[0::4], told[2::4], told[3::4])}
         named = lambda text: text.replace("Usage: program ", f"Usage: {program} ").replace("'program'", f"'{program}'")
-        for number in range(len(cases)):
+        runs = {}
+        for number, case in enumerate(cases):
             errors, how, status = ends.get(f"c{number:04}", ("", tried.errors[-2000:], None))
-            yield Run(int(status), named(outputs.get(f"c{number:04}", "")), named(errors)) if how == "ended" else how
+            runs[case] = Run(int(status), named(outputs.get(f"c{number:04}", "")), named(errors)) if how == "ended" else how
+        return runs
 
 
 # ---- pipes that are held open
