@@ -3,8 +3,11 @@
 Text is str. What programs, the library and pages give is compared with what stands here; a new kind of event or refusal has to come here too.
 """
 
+import csv
+import io
 import json
 
+csv.field_size_limit(1 << 30)
 FIXTURES = [(2, 3), (4, 1), (1, 2), (3, 4), (3, 1), (2, 4), (1, 3), (4, 2), (3, 2), (1, 4), (2, 1), (4, 3)]
 SIDED = ["goal", "disallow", "yellow", "second-yellow", "red"]
 WORDS = ["kickoff", "fulltime", "reopen"] + [f"{kind}-{side}" for kind in SIDED for side in ("home", "away")]
@@ -198,27 +201,8 @@ def sheet(matches):
 
 
 def records(text):
-    """The records of comma separated values: fields in quotes or not, a quote inside them doubled; an empty line is none. Last, whether a quote is open."""
-    found, fields, field, is_quoted, has_begun = [], [], "", False, False
-    closed = False
-    for c in text + "\n":
-        if closed and c == '"':
-            field, is_quoted = field + c, True
-        elif is_quoted:
-            is_quoted, field = c != '"', field + c * (c != '"')
-            closed = not is_quoted
-            continue
-        elif c == '"' and not has_begun:
-            is_quoted = has_begun = True
-        elif c == ",":
-            fields, field, has_begun = fields + [field], "", False
-        elif c in "\r\n":
-            found += [fields + [field]] if fields or has_begun else []
-            fields, field, has_begun = [], "", False
-        else:
-            field, has_begun = field + c, True
-        closed = False
-    return (found + [fields + [field[:-1]]], True) if is_quoted else (found, False)
+    """The records of comma separated values, as Python's own reader has them; an empty line is none."""
+    return [record for record in csv.reader(io.StringIO(text.replace("\r", "\n"), newline="")) if record]
 
 
 def number(text, most, low, high):
@@ -274,7 +258,7 @@ def matches_of(words):
 
 def parsed(text, reads=event, most=None):
     """The roster of an input, and what the rows after it say: the events of a script, or the words of a sheet."""
-    rows, _ = records(text)
+    rows = records(text)
     roster, found = [], []
     for row in range(1, max(len(rows), 4 + (most or 0)) + 1):
         fields = rows[row - 1] if row <= len(rows) else []
@@ -395,9 +379,9 @@ class Evening:
         """The answers to a line."""
         line = line[:-1] if line.endswith("\r") else line
         fits = len(line.encode(errors="surrogateescape")) <= LONGEST_LINE
-        found, is_open = records(line.removeprefix("\ufeff") if row == 1 else line) if fits else ([], True)
-        fields = [] if is_open or len(found) != 1 else found[0]
-        if (fits and not found) or self.beginning(row, fields):
+        found = records((line.removeprefix("\ufeff") if row == 1 else line) + "\nend") if fits else []
+        fields = found[0] if len(found) == 2 and found[1] == ["end"] else []
+        if found == [["end"]] or self.beginning(row, fields):
             return []
         self.matches = self.matches or fresh()
         if fields == ["screen", "", "", ""]:

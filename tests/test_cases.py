@@ -6,7 +6,7 @@ import resource
 import subprocess
 
 import pytest
-from conftest import EXAMPLES, TOP, Has, command, needs, tabled, text_of
+from conftest import EXAMPLES, Has, command, needs, tabled, text_of
 from model import CLUBS
 
 example = lambda name: text_of(EXAMPLES / name)
@@ -236,13 +236,13 @@ def test_input_without_end(run):
         source.kill()
 
 
-def test_reader_that_goes_away(room):
+def test_reader_that_goes_away(start, tmp_path):
     """In the middle of an output that is larger than a pipe."""
-    room.write("script", LARGEST)
-    with open(room.path / "script", "rb") as script:
-        night = room.start("ucl_night", "feed", stdin=script)
-    night.output.lines()
-    night.output.close()
+    (tmp_path / "script").write_text(LARGEST)
+    with open(tmp_path / "script", "rb") as script:
+        night = start("ucl_night", "feed", stdin=script)
+    night.lines()
+    night.stdout.close()
     ran = night.end()
     assert ran.status == 4 and re.fullmatch(r"writing failed 26: after \d+ bytes\n", ran.errors)
 
@@ -284,22 +284,16 @@ def test_thread_that_is_refused(program):
 
 # ---- what measures the boards
 
-
-@pytest.mark.parametrize("workload, told", [
-    ("read", ""), ("report", ""), ("mix-3-1", '"readers":3,"reporters":1,'), ("mix-16-12", '"readers":16,"reporters":12,'),
-    ("paced-2-0", '"readers":2,"reporters":0,'), ("paced-0-12", '"readers":0,"reporters":12,'), ("night", '"readers":2,"reporters":2,'),
-])  # fmt: skip
-def test_workload(program, place, workload, told):
-    program("ucl_bench")
-    ran = command([place / "bench/boards", "run", "plain_words", workload, "1"], cwd=place)
-    assert ran == (0, Has(f'{{"board":"plain_words","workload":"{workload}",{told}'), "")
-
-
+WORKLOADS = {"read": "", "report": "", "mix-3-1": '"readers":3,"reporters":1,', "mix-16-12": '"readers":16,"reporters":12,', "night": '"readers":2,"reporters":2,'}
+WORKLOADS |= {"paced-2-0": '"readers":2,"reporters":0,', "paced-0-12": '"readers":0,"reporters":12,'}
 NO_WORKLOADS = ["", "write", "Read", "read-1", "report-1-1", "mix", "mix-3", "mix-17-1", "mix-1-13", "mix-a-1", "mix--1", "mix-1-", "mix-1-1-1"]
 
 
-@pytest.mark.parametrize("name", [*NO_WORKLOADS, "paced-256-0", "night-2-2", "3-1"])
-def test_no_workload(program, place, name):
+def test_workloads(program, place):
     program("ucl_bench")
-    ran = command([place / "bench/boards", "run", "plain_words", name, "1"], cwd=place)
-    assert ran.status and ran.output == "" and "no such workload" in ran.errors
+    measured = lambda name: command([place / "bench/boards", "run", "plain_words", name, "1"], cwd=place)
+    for name, told in WORKLOADS.items():
+        assert measured(name) == (0, Has(f'{{"board":"plain_words","workload":"{name}",{told}'), "")
+    for name in [*NO_WORKLOADS, "paced-256-0", "night-2-2", "3-1"]:
+        ran = measured(name)
+        assert ran.status and ran.output == "" and "no such workload" in ran.errors, name

@@ -63,25 +63,25 @@ def test_evening_that_goes_on(run):
 
 
 @pytest.mark.parametrize("words", [[], ["--screens"], ["--format", "json", "--screens"]], ids=" ".join)
-def test_row_by_row(room, words):
+def test_row_by_row(start, words):
     """Each answer is there before the next row is written; at the end of the night the screen is the closing one."""
-    evening, rules = room.start("ucl_live", *words), Evening(words)
+    evening, rules = start("ucl_live", *words), Evening(words)
     for number, row in enumerate(example("group_a_2021_night.csv").splitlines(True) + ["bad\n", "screen,,,\n", "words,,,\n"], 1):
-        evening.input.write(row)
+        evening.write(row)
         for answer in rules.answers(number, row.rstrip("\n")):
-            assert evening.output.lines(answer.count("\n")) == answer
+            assert evening.lines(answer.count("\n")) == answer
     assert evening.end() == (0, "", "")
     assert rules.style.screen(rules.matches, rules.roster) == example("group_a_2021_night.expected").removeprefix("FINAL\n")
 
 
-def test_half_a_row(room):
+def test_half_a_row(start):
     """A row is complete at its line feed, and the last one at the end."""
-    evening = room.start("ucl_live")
-    evening.input.write(CLUBS + "1,1,0,kickoff\n1,1,1,goal")
-    assert evening.output.lines() == "5 ok 1 1 1\n"
-    evening.input.write("-home\n")
-    assert evening.output.lines() == "6 ok 1 2 2\n"
-    evening.input.write("screen,,")
+    evening = start("ucl_live")
+    evening.write(CLUBS + "1,1,0,kickoff\n1,1,1,goal")
+    assert evening.lines() == "5 ok 1 1 1\n"
+    evening.write("-home\n")
+    assert evening.lines() == "6 ok 1 2 2\n"
+    evening.write("screen,,")
     assert evening.end() == (0, "7 refused 20 bad-row\n", "")
 
 

@@ -3,8 +3,7 @@
 import re
 
 import pytest
-from conftest import EXAMPLES, TOP, command, needs, tabled, text_of
-from model import CLUBS
+from conftest import EXAMPLES, TOP, command, tabled, text_of
 
 README = text_of(TOP / "README.md")
 SEASON = EXAMPLES / "season_2021_22"

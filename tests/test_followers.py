@@ -67,9 +67,9 @@ def test_evening_that_goes_on_from_its_journal(run, cut):
     assert last(start + "".join(ROWS[cut:])) == last(clubs + "".join(ROWS))
 
 
-def test_moment_is_shown_at_once(room):
-    follower = room.start("ucl_follow")
+def test_moment_is_shown_at_once(start):
+    follower = start("ucl_follow")
     for line, screen in ((FIRST, SCREEN), (SECOND, BOTH.removeprefix(SCREEN))):
-        follower.input.write(line)
-        assert follower.output.lines(6) == screen
+        follower.write(line)
+        assert follower.lines(6) == screen
     assert follower.end() == (0, "", told(2, 2))

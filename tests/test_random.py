@@ -7,11 +7,10 @@ import os
 import random
 import tempfile
 
-import pytest
-from conftest import EXAMPLES, LIMIT, Run, Started, command, decoded, text_of
+from conftest import EXAMPLES, Started, command, decoded, encoded, text_of
 from hypothesis import given, settings
 from hypothesis import strategies as st
-from model import CLUBS, FINISHED, IN_PLAY, ROSTER, SCHEDULED, WORDS, Evening, Match, entered, followed, fresh, night, sheet
+from model import CLUBS, FINISHED, IN_PLAY, ROSTER, SCHEDULED, WORDS, Evening, entered, followed, fresh, night, sheet
 from threads import History, replies_of
 
 NAMES = st.text(st.sampled_from('AZaz09 ,"\\~'), min_size=1, max_size=20)
@@ -94,17 +93,15 @@ def cut(draw, text):
 def fed(path, words, text, piece):
     """Runs a program that gets its input in pieces; what it writes goes to a file."""
     with tempfile.TemporaryFile() as output:
-        started = Started([path, *words], path.name, LIMIT, stdout=output)
-        data = text.encode(errors="surrogateescape")
+        started, data = Started([path, *words], stdout=output), encoded(text)
         try:
             for at in range(0, len(data), piece):
-                started.input.write(decoded(data[at : at + piece]))
+                started.write(decoded(data[at : at + piece]))
         except BrokenPipeError:
             pass
         ran = started.end()
-        started.stop()
         output.seek(0)
-        return Run(ran.status, decoded(output.read()), ran.errors)
+        return ran._replace(output=decoded(output.read()))
 
 
 @given(st.data())
@@ -162,12 +159,12 @@ def held(program, folder, script, texts, screens, group, order):
         with open(place(f"{who}.rows"), "w", newline="") as file:
             file.write(text)
     words = [word for way in ways for word in ("--reporter", way)] + [word for at, kind in enumerate(screens) for word in (kind, f"{at}.screen")]
-    status, output, errors = command([program("ucl_evening"), script, *words, "--group", group, "--order", order], cwd=folder, timeout=LIMIT)
+    status, output, errors = command([program("ucl_evening"), script, *words, "--group", group, "--order", order], cwd=folder)
     assert (status, errors) == (0, "")
     answers = [text_of(place(f"{who}.replies")) if os.path.exists(place(f"{who}.replies")) else "" for who in range(len(texts))]
     events = [(int(who), int(game), int(number), word) for who, game, number, word in (row.split(",") for row in text_of(place(script)).splitlines()[4:])]
     history = History([replies_of(*pair) for pair in zip(texts, answers)], entered(events)[0], max([who for who, *_ in events], default=0))
-    assert output == history.sheet()
+    assert output == sheet(history.matches)
     for at, kind in enumerate(screens):
         seen = text_of(place(f"{at}.screen"))
         history.check_json(seen, group, order) if kind == "--json" else history.check_text(seen, ROSTER, group, order != "uefa")

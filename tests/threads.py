@@ -2,7 +2,7 @@
 
 import json
 
-from model import IN_PLAY, fresh, event, screen, sheet, version
+from model import IN_PLAY, event, fresh, screen, version
 
 
 class Reply:
@@ -92,7 +92,3 @@ class History:
     def check_versions(self, versions):
         """Versions rise, up to that of the end."""
         assert versions[-1] == version(self.matches) and all(early < late for early, late in zip(versions, versions[1:]))
-
-    def sheet(self):
-        """The words at the end."""
-        return sheet(self.matches)
