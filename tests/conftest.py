@@ -5,6 +5,7 @@ is no UTF-8 stands as Python's surrogate escape.
 """
 
 import concurrent.futures
+import contextlib
 import functools
 import itertools
 import os
@@ -258,6 +259,10 @@ class Started(subprocess.Popen):
         output, errors = ("" if pipe is None or pipe.closed else decoded(pipe.read()) for pipe in (self.stdout, self.stderr))
         return Run(self.wait(), output, errors)
 
+    def __exit__(self, *error):
+        self.kill()
+        return super().__exit__(*error)
+
 
 def lines_of(file, count=1):
     """Awaits so many lines of a file or pipe."""
@@ -266,14 +271,10 @@ def lines_of(file, count=1):
 
 @pytest.fixture
 def start(program, tmp_path):
-    """A function that starts a program of the repository, or a command that has a slash, in the test's folder; what still runs at its end is killed."""
-    started = []
+    """A function that starts a program of the repository, or a command that has a slash, in the test's folder; at the test's end all are killed."""
+    with contextlib.ExitStack() as started:
 
-    def begun(name, *words, **how):
-        started.append(Started([name if "/" in name else program(name), *words], **{"cwd": tmp_path, **how}))
-        return started[-1]
+        def begun(name, *words, **how):
+            return started.enter_context(Started([name if "/" in name else program(name), *words], **{"cwd": tmp_path, **how}))
 
-    yield begun
-    for each in started:
-        each.kill()
-        each.wait()
+        yield begun

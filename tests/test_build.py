@@ -34,7 +34,7 @@ class Repository:
 @pytest.mark.parametrize("told, status, wanted", [
     ("checked: ended status=3\nraces: not looked for\nrun=ended status=3 runners=1 races=unchecked proved=no\n", 3, (3, "input\n")),
     ("run=hang runners=1 races=unchecked proved=no\n", 6, (1, "")), ("the crate is refused\n", 3, (1, "")),
-])  # fmt: skip
+])
 def test_start_of_what_is_not_built(tmp_path, told, status, wanted):
     """It runs without its proofs: all is its own, but a line before and a line after. Where `rt try` gives no answer, nothing is passed off as one."""
     ran = Repository(tmp_path, f"cat\nprintf '%s' 'input refused\n{told}' >&2\nexit {status}\n").build("--start", "one", "word")

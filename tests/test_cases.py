@@ -53,7 +53,7 @@ test_scripts_that_are_refused = tabled(
         "a third reporter in a whole group": (WHOLE + "3,1,0,kickoff\n", "25: row 45"),
         "a bad row": (CLUBS + "1,1,0,kick\n3,1,0,kickoff\n", "20: row 5"),
     })
-)  # fmt: skip
+)
 
 FRESH = [f"word,{number},2000000000000000,\n" for number in range(1, 13)]
 sheet = lambda rows: CLUBS + "".join(rows)
@@ -70,7 +70,7 @@ test_sheets_that_are_refused = tabled(refused("ucl_night show", {
     "words of no record": (sheet(BAD_WORDS), "10: word 3"),
     "words of no record and a row too many": (sheet(BAD_WORDS + FRESH[11:]), "20: row 17"),
     "a name in UTF-8 and words of no record": (sheet(BAD_WORDS).replace("Alpha", "Málaga"), "21: slot 1"),
-}))  # fmt: skip
+}))
 
 # ---- inputs that are taken
 
@@ -87,8 +87,6 @@ FINAL = "FINAL\n" + WHOLE_SCREEN
 WITH_QUOTES = CLUBS.replace("Alpha", '"Al,p""ha"') + "001,01,00000,kickoff\r\n\n\"1\",1,1,\"goal-home\"\r1,1,2,fulltime"
 
 test_inputs_that_are_taken = tabled({
-    **{f"feed and then show, {stem}": ("ucl_night show", rows_of(example(stem + ".csv"), "club") + rows_of(example(stem + ".expected"), "word"),
-                                       example(stem + "_sheet.expected")) for stem in ("two_matches", "head_to_head", "plus_lost")},
     "the screen of group H": ("ucl_night show --group H", SHEET, SECOND_SCREEN.replace("GROUP A", "GROUP H")),
     "the largest words of the first layout": ("ucl_night show", LARGEST_WORDS, LARGEST_SCREEN),
     "a name with a comma and a quote": ("ucl_night show", SHEET.replace("Alpha", '"Al,p""ha"'), SECOND_SCREEN.replace("Alpha  ", 'Al,p"ha')),
@@ -98,7 +96,7 @@ test_inputs_that_are_taken = tabled({
     "a night of a whole group": ("ucl_night night", WHOLE, FINAL),
     "a night by away goals in a tie": ("ucl_night night --order away-in-tie", AWAY, AWAY_IN_TIE),
     "a night by the order of the Regulations": ("ucl_night night --order uefa", AWAY, AWAY_END),
-})  # fmt: skip
+})
 
 
 @pytest.mark.parametrize("words, ending", [(["--order", "away-in-tie"], AWAY_IN_TIE), (["--order", "uefa"], AWAY_END), ([], AWAY_END)])
@@ -109,7 +107,7 @@ def test_screen_of_a_night_by_an_order(run, words, ending):
 
 @pytest.mark.parametrize("words, script, closing", [
     (["--readings", "3"], STORED, STORED_END), (["--readings", "1000"], STORED, STORED_END), (["--group", "A", "--readings", "3"], WHOLE, FINAL),
-])  # fmt: skip
+])
 def test_night_with_readings(run, words, script, closing):
     """Each reader has its last screen, and the closing screen comes after both."""
     ran = run("ucl_night", "night", *words, input=script)
@@ -152,7 +150,7 @@ test_helps = tabled({line: (line, "", Has("", *parts)) for line, parts in {
     "ucl_live --help": ["Usage: ucl_live [OPTIONS]", *GROUP, *ORDER, "--screens", "--format <FORMAT>"],
     "ucl_follow --help": ["Usage: ucl_follow [OPTIONS]", "--resume", "--format <FORMAT>"],
     "ucl_evening --help": ["Usage: ucl_evening ", *WAYS, *GROUP, *ORDER, STATUSES[1]],
-}.items()})  # fmt: skip
+}.items()})
 
 SEVENTEEN = " ".join(f"--reporter {number}.rows={number}.replies" for number in range(17))
 
@@ -166,7 +164,7 @@ test_words_that_are_refused = tabled({line or "no words": (line, "", "", 2, Has(
     "ucl_follow --group A": "", "ucl_follow --format xml": "", "ucl_follow evening.jsonl": "", "ucl_follow --resume=1": "", "ucl_follow --format": "",
     "ucl_evening": "required", "ucl_evening clubs.csv": "--reporter", f"ucl_evening clubs.csv {SEVENTEEN}": "1 to 16 reporters",
     "ucl_evening clubs.csv --reporter rows": "IN=OUT", "ucl_evening clubs.csv --reporter clubs.csv=replies": "twice",
-}.items()})  # fmt: skip
+}.items()})
 
 
 VERSIONS = ["ucl_night --version", "ucl_night -V", "ucl_night -V feed", "ucl_live --version", "ucl_live -V", "ucl_follow -V", "ucl_evening -V"]
@@ -216,7 +214,7 @@ FED, SHOWN, FOLLOWED = "one_goal.csv", "two_matches_sheet.csv", "followed.jsonl"
 @pytest.mark.parametrize("line, name", [
     ("ucl_night feed", FED), ("ucl_night show", SHOWN), ("ucl_night night", "group_a_2021_night.csv"), ("ucl_night --help", FED),
     ("ucl_night --version", FED), ("ucl_live", FED), ("ucl_follow", FOLLOWED),
-])  # fmt: skip
+])
 def test_full_disk(run, line, name):
     with open("/dev/full", "wb") as full:
         assert run(*line.split(), input=example(name), stdout=full) == (4, "", FULL)

@@ -14,14 +14,14 @@ test_what_feed_and_show_write_is_answered = tabled({
     **{f"show {name}": ("ucl_live", example(f"{name}.csv") + "screen,,,\n", example(f"{name}.expected")) for name in SHOWN},
     "an order": ("ucl_live --order away-in-tie", AWAY + "screen,,,\n", "".join(Evening([]).of(AWAY)[1]) + AWAY_IN_TIE),
     "a group": ("ucl_live --group H", example(f"{SHOWN[3]}.csv") + "screen,,,\n", example(f"{SHOWN[3]}.expected").replace("GROUP A", "GROUP H")),
-})  # fmt: skip
+})
 
 BAD = [
     "0,1,0,kickoff", "256,1,0,kickoff", "1,0,0,kickoff", "1,13,0,kickoff", "1,1,65536,kickoff", "1,1,-1,kickoff", "1, 1,0,kickoff",
     "1,1,0,kick-off", "1,1,0,kick", "1,1,0", "1,1,0,kickoff,", "kickoff", "word,1,2000000000000000", "club,1,Alpha,60000", "screen", "screen,,,,",
     "screen,1,,", "words,,,1", "Screen,,,", '1,1,0,"kickoff', '1,1,0,kickoff"', "1,1,0,kickoff\r2,2,0,kickoff", "\ufeff1,1,0,kickoff",
     "\0" + "1,1,0,kickoff", "x" * 257, "x" * 100_000, *('1,1,0,"' + "x" * (length - 8) + '"' for length in (255, 256, 257)), "\r" * 244 + "1,1,0,kickoff",
-]  # fmt: skip
+]
 GOOD = ["001,01,00000,kickoff", '"1","1","0","kickoff"', "1,1,0,kickoff\r", '"1",1,0,"kickoff"\r', "\r" * 242 + "1,1,0,kickoff", "\r" * 243 + "1,1,0,kickoff\r"]
 LONGEST_CLUBS = "club,1," + "x" * 20 + "," + "0" * 9 + CLUBS[len("club,1,Alpha,60000") :]
 
@@ -32,7 +32,7 @@ test_rows = tabled({
     "a mark at the start": ("ucl_live", "\ufeff" + CLUBS + "1,1,0,kickoff\n", "5 ok 1 1 1\n"),
     "the longest club": ("ucl_live", LONGEST_CLUBS + "1,1,0,kickoff\n", "5 ok 1 1 1\n"),
     "no row": ("ucl_live", CLUBS, ""),
-})  # fmt: skip
+})
 
 CLUB = CLUBS.splitlines(True)
 WORD = "word,1,2000000000000000,\n"
@@ -51,7 +51,7 @@ test_beginnings_that_are_refused = tabled({name: ("ucl_live", text, "", 3, f"inp
     "a word twice": (CLUBS + WORD * 2, "20: row 6"),
     "the second word first": (CLUBS + WORD.replace("1", "2", 1), "20: row 5"),
     "words that are none": (CLUBS + WORDS, "10: word 3"),
-}.items()})  # fmt: skip
+}.items()})
 
 
 def test_evening_that_goes_on(run):

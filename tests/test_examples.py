@@ -19,7 +19,7 @@ test_examples = tabled({
     "what is shown of an evening that is followed": ("ucl_follow", journal, screens, 0, TOLD),
     "rows by which it goes on": ("ucl_follow --resume", journal, rows, 0, TOLD),
     "its next row": ("ucl_live", rows + "1,1,2,fulltime\n", "17 ok 1 3 4\n"),
-})  # fmt: skip
+})
 
 
 @pytest.mark.quick

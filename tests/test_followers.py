@@ -29,7 +29,7 @@ test_journals = tabled({
     "nothing": ("ucl_follow", "", "", 0, told(0, 0)),
     "rows of the newest, not of the last": ("ucl_follow --resume", LINES[-1] + "".join(LINES[:-1]), followed(["--resume"], LINES[-1])[1], 0, told(len(LINES), 1)),
     "rows of no moment": ("ucl_follow --resume", "{}\n", "", 0, told(1, 0)),
-})  # fmt: skip
+})
 
 VALUE = json.loads(SECOND)
 changed = lambda **members: json.dumps({**VALUE, **members}, ensure_ascii=False) + "\n"
@@ -53,7 +53,7 @@ test_lines = tabled({
     **{f"{number} {line[:40]!r} is passed over": ("ucl_follow", FIRST + line, SCREEN, 0, told(2, 1)) for number, line in enumerate(BAD)},
     "all of them are passed over": ("ucl_follow", FIRST + "".join(BAD) + SECOND, BOTH, 0, told(2 + len(BAD), 2)),
     **{f"{name}, shown": ("ucl_follow", FIRST + line, BOTH, 0, told(2, 2)) for name, line in GOOD.items()},
-})  # fmt: skip
+})
 
 
 @pytest.mark.parametrize("cut", [0, 1, 30, len(ROWS)])

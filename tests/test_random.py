@@ -3,6 +3,7 @@
 `--hypothesis-profile night` tries many more, and `--hypothesis-seed N` the same again.
 """
 
+import contextlib
 import os
 import random
 import tempfile
@@ -92,13 +93,11 @@ def cut(draw, text):
 
 def fed(path, words, text, piece):
     """Runs a program that gets its input in pieces; what it writes goes to a file."""
-    with tempfile.TemporaryFile() as output:
-        started, data = Started([path, *words], stdout=output), encoded(text)
-        try:
+    with tempfile.TemporaryFile() as output, Started([path, *words], stdout=output) as started:
+        data = encoded(text)
+        with contextlib.suppress(BrokenPipeError):
             for at in range(0, len(data), piece):
                 started.write(decoded(data[at : at + piece]))
-        except BrokenPipeError:
-            pass
         ran = started.end()
         output.seek(0)
         return ran._replace(output=decoded(output.read()))

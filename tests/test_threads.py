@@ -176,7 +176,7 @@ def test_readers_that_go_away(hall):
 
 @pytest.mark.parametrize("words, errors", [
     (["--screen", "/dev/full"], "screen 1: " + WRITE_FAILED), (["--screen", "stadium", "--json", "/dev/full"], "json 1: " + WRITE_FAILED),
-])  # fmt: skip
+])
 def test_screen_alone_fails(hall, words, errors):
     hall.write("north.rows", "1,0,kickoff\n")
     status, output, told = hall.held("--reporter", NORTH, *words)
@@ -258,7 +258,7 @@ def test_evening_that_goes_on(hall, run):
     (CLUBS + "1,1,0,kick\n", 3, "input refused 20: row 5"), (CLUBS + "1,1,0,kickoff\n9,1,0,goal-home\n", 3, "input refused 20: row 6"),
     (CLUBS.replace("Bravo", ""), 3, "input refused 21: slot 2"), ("", 3, "input refused 20: row 1"),
     (None, 4, READ_FAILED.strip()), (CLUBS + "255,1,0,kickoff\n", 6, "board refused 30"),
-])  # fmt: skip
+])
 def test_fault_of_the_start(hall, script, status, line):
     """Nothing is written then."""
     hall.write("rows", "1,0,kickoff\n")
@@ -275,7 +275,7 @@ def test_fault_of_the_start(hall, script, status, line):
     "--reporter rows=replies --reporter linked=other", "--reporter clubs.csv=replies", "--reporter rows=replies --group I",
     "--reporter rows=replies --order goals", "--reporter rows=replies more.csv", "--reporter pipe=replies --reporter twin=other",
     "--reporter rows=pipe --screen twin", "--screen pipe --json twin --reporter rows=replies",
-])  # fmt: skip
+])
 def test_words_that_are_refused(hall, words):
     """One file, or one pipe, by two names among them. Nothing is opened then."""
     hall.write("rows", "1,0,kickoff\n")
