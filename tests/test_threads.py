@@ -125,7 +125,7 @@ def test_reporter_and_screen_that_nobody_opens(hall):
     south = Reporter(hall, "south")
     assert south.asks("3,20,disallow-home\n") == "1 ok 3 21 21\n"
     south.rows.close()
-    assert lines_of(hall.open("stadium"), 100).splitlines()[-6].split()[2] == "v00021"
+    assert decoded(hall.open("stadium").read()).splitlines()[-6].split()[2] == "v00021"
     assert evening.end().status == 0
 
 
