@@ -8,12 +8,14 @@ import os
 import random
 import tempfile
 
+import pytest
 from conftest import EXAMPLES, Started, command, decoded, encoded, text_of
 from hypothesis import given, settings
 from hypothesis import strategies as st
 from model import CLUBS, FINISHED, IN_PLAY, ROSTER, SCHEDULED, WORDS, Evening, entered, followed, fresh, night, sheet
 from threads import History, replies_of
 
+pytestmark = pytest.mark.limit(600)
 NAMES = st.text(st.sampled_from('AZaz09 ,"\\~'), min_size=1, max_size=20)
 ODD_NAMES = st.sampled_from(["", "x" * 21, "\u00e1", "\udcff", "\x7f", "\n"])
 LIKELY = {SCHEDULED: ["kickoff"], IN_PLAY: WORDS[3:] + ["fulltime"], FINISHED: ["reopen"]}
