@@ -23,7 +23,7 @@ import pytest
 TOP = pathlib.Path(__file__).resolve().parent.parent
 EXAMPLES = TOP / "examples"
 # How long a test may take, in seconds, where it does not say `limit`; all take a few with nothing beside, and most of them milliseconds.
-LIMIT = 60
+LIMIT = 120
 
 hypothesis.settings.register_profile("gate", deadline=None, database=None, print_blob=True, max_examples=100)
 hypothesis.settings.register_profile("night", hypothesis.settings.get_profile("gate"), max_examples=5_000)
@@ -207,7 +207,7 @@ class Unproved:
         if case not in self.cases:
             pytest.skip(f"needs the built program: './build {case.program}'")
         if not self.runs:
-            signal.setitimer(signal.ITIMER_REAL, 15 * LIMIT)
+            signal.setitimer(signal.ITIMER_REAL, 9 * LIMIT)
             programs = sorted({case.program for case in self.cases})
             with concurrent.futures.ThreadPoolExecutor() as all_at_once:
                 self.runs = dict(zip(programs, all_at_once.map(self.tried, programs)))

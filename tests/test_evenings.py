@@ -62,6 +62,7 @@ def test_evening_that_goes_on(run):
     assert run("ucl_live", input=CLUBS + words + "1,1,2,fulltime\n1,1,2,fulltime\n") == (0, "17 ok 1 3 4\n18 refused 1 stale 3\n", "")
 
 
+@pytest.mark.limit(30)
 @pytest.mark.parametrize("words", [[], ["--screens"], ["--format", "json", "--screens"]], ids=" ".join)
 def test_row_by_row(start, words):
     """Each answer is there before the next row is written; at the end of the night the screen is the closing one."""
@@ -74,6 +75,7 @@ def test_row_by_row(start, words):
     assert rules.style.screen(rules.matches, rules.roster) == example("group_a_2021_night.expected").removeprefix("FINAL\n")
 
 
+@pytest.mark.limit(30)
 def test_half_a_row(start):
     """A row is complete at its line feed, and the last one at the end."""
     evening = start("ucl_live")

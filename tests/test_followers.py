@@ -67,6 +67,7 @@ def test_evening_that_goes_on_from_its_journal(run, cut):
     assert last(start + "".join(ROWS[cut:])) == last(clubs + "".join(ROWS))
 
 
+@pytest.mark.limit(30)
 def test_moment_is_shown_at_once(start):
     follower = start("ucl_follow")
     for line, screen in ((FIRST, SCREEN), (SECOND, BOTH.removeprefix(SCREEN))):

@@ -12,6 +12,7 @@ from conftest import EXAMPLES, command, decoded, lines_of, text_of
 from model import CLUBS, ROSTER, Style, fresh, line_of, sheet, version
 from threads import History, replies_of
 
+pytestmark = pytest.mark.limit(60)
 NORTH, SOUTH = "north.rows=north.replies", "south.rows=south.replies"
 BOTH = ["--reporter", NORTH, "--reporter", SOUTH]
 PIPES = ["north.rows", "north.replies", "south.rows", "south.replies"]
