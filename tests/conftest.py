@@ -1,7 +1,7 @@
 """What all tests have: programs of the repository, tools that may be missing, pipes that are held open, a limit on each wait.
 
-`pytest-3 tests` tries all that is built; `pytest-3 tests --help` has the options, `-k WORD` and `-m quick` choose. Text is str, where a byte that
-is no UTF-8 stands as Python's surrogate escape.
+`pytest-3 tests` tries all that is built; `pytest-3 tests --help` has the options of "programs of this repository", which come after `tests`;
+`-k WORD` and `-m quick` choose. Text is str, where a byte that is no UTF-8 stands as Python's surrogate escape.
 """
 
 import concurrent.futures
@@ -32,7 +32,7 @@ hypothesis.settings.load_profile("gate")
 
 def pytest_addoption(parser):
     group = parser.getgroup("programs of this repository")
-    group.addoption("--programs", metavar="FOLDER", type=pathlib.Path, default=TOP, help="try the programs that are built in another checkout")
+    group.addoption("--programs", metavar="FOLDER", type=lambda it: pathlib.Path(it).resolve(), default=TOP, help="try what is built in another checkout")
     group.addoption("--unproved", action="store_true", help="where a program is not built, try cases of words and input on the code as it is")
     group.addoption("--must-run", action="store_true", help="a test whose program is not built fails, and is not skipped")
 
@@ -46,7 +46,7 @@ def pytest_configure(config):
 def limited(request):
     """No test waits for ever."""
     marker = request.node.get_closest_marker("limit")
-    seconds = (marker.args[0] if marker else LIMIT) * (hypothesis.settings.default.max_examples // 100)
+    seconds = (marker.args[0] if marker else LIMIT) * max(1, hypothesis.settings.default.max_examples // 100)
     signal.signal(signal.SIGALRM, lambda *_: pytest.fail(f"waited for {seconds} seconds"))
     signal.setitimer(signal.ITIMER_REAL, seconds, seconds)
     yield
@@ -149,7 +149,7 @@ def command(words, input="", **how):
 @functools.lru_cache(maxsize=None)
 def built(name, folder):
     """The program that is built from the sources as they are, or stands in this other folder; None where it is not."""
-    path = folder.resolve() / "crates" / name / "out" / name
+    path = folder / "crates" / name / "out" / name
     return path if os.access(path, os.X_OK) and (folder != TOP or command([TOP / "build", "--built", name]).status == 0) else None
 
 
