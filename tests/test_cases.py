@@ -99,15 +99,16 @@ test_inputs_that_are_taken = tabled({
 })
 
 
-@pytest.mark.parametrize("words, ending", [(["--order", "away-in-tie"], AWAY_IN_TIE), (["--order", "uefa"], AWAY_END), ([], AWAY_END)])
-def test_screen_of_a_night_by_an_order(run, words, ending):
+@pytest.mark.parametrize("words", [["--order", "away-in-tie"], ["--order", "uefa"], []], ids=" ".join)
+def test_screen_of_a_night_by_an_order(run, words):
+    ending = AWAY_IN_TIE if "away-in-tie" in words else AWAY_END
     words_of_board = rows_of(run("ucl_night", "feed", input=AWAY).output, "word")
     assert run("ucl_night", "show", *words, input=rows_of(AWAY, "club") + words_of_board) == (0, ending.removeprefix("FINAL\n"), "")
 
 
 @pytest.mark.parametrize("words, script, closing", [
     (["--readings", "3"], STORED, STORED_END), (["--readings", "1000"], STORED, STORED_END), (["--group", "A", "--readings", "3"], WHOLE, FINAL),
-])
+], ids=["3", "1000", "of a whole group"])
 def test_night_with_readings(run, words, script, closing):
     """Each reader has its last screen, and the closing screen comes after both."""
     ran = run("ucl_night", "night", *words, input=script)

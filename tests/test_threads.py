@@ -259,7 +259,7 @@ def test_evening_that_goes_on(hall, run):
     (CLUBS + "1,1,0,kick\n", 3, "input refused 20: row 5"), (CLUBS + "1,1,0,kickoff\n9,1,0,goal-home\n", 3, "input refused 20: row 6"),
     (CLUBS.replace("Bravo", ""), 3, "input refused 21: slot 2"), ("", 3, "input refused 20: row 1"),
     (None, 4, READ_FAILED.strip()), (CLUBS + "255,1,0,kickoff\n", 6, "board refused 30"),
-])
+], ids=["a bad row", "a refused row", "a bad club", "no row", "no script", "no number left"])
 def test_fault_of_the_start(hall, script, status, line):
     """Nothing is written then."""
     hall.write("rows", "1,0,kickoff\n")
