@@ -1,0 +1,437 @@
+"""The rules a second time, in plain Python and apart from the programs: words, refusals, the order, marks, screens, scripts, evenings.
+
+Text is str. What programs, the library and pages give is compared with what stands here; a new kind of event or refusal has to come here too.
+"""
+
+import csv
+import io
+import json
+
+csv.field_size_limit(1 << 30)
+FIXTURES = [(2, 3), (4, 1), (1, 2), (3, 4), (3, 1), (2, 4), (1, 3), (4, 2), (3, 2), (1, 4), (2, 1), (4, 3)]
+SIDED = ["goal", "disallow", "yellow", "second-yellow", "red"]
+WORDS = ["kickoff", "fulltime", "reopen"] + [f"{kind}-{side}" for kind in SIDED for side in ("home", "away")]
+SCHEDULED, IN_PLAY, FINISHED = range(3)
+# The clubs of the examples.
+ROSTER = [("Alpha", 60_000), ("Bravo", 95_000), ("Charlie", 60_000), ("Delta", 81_500)]
+CLUBS = "".join(f"club,{slot},{name},{coefficient}\n" for slot, (name, coefficient) in enumerate(ROSTER, 1))
+# The most bytes of an input, of a line of an evening, and of a line that a follower reads.
+LONGEST_INPUT, LONGEST_LINE, LONGEST_FOLLOWED = 4_194_304, 256, 4_096
+
+
+class Match:
+    """A match: its state, and goals, standing yellows and expulsions of the home and the away side."""
+
+    def __init__(self):
+        self.number = self.reporter = 0
+        self.state = SCHEDULED
+        self.goals, self.yellows, self.expulsions = [0, 0], [0, 0], [0, 0]
+
+    def refusal(self, expected, word):
+        """The first rule that refuses the event, as its number and name; None where none does."""
+        kind, i = kind_of(word)
+        full = {"goal": self.goals[i] >= 63, "yellow": self.yellows[i] >= 63}
+        full["second-yellow"] = full["red"] = self.expulsions[i] >= 31
+        rules = [
+            (expected != self.number, f"1 stale {self.number}"),
+            (self.state == FINISHED and kind != "reopen", "2 finished"),
+            (self.state != FINISHED and kind == "reopen", "9 not-finished"),
+            (self.state == SCHEDULED and kind != "kickoff", "3 not-started"),
+            (self.state == IN_PLAY and kind == "kickoff", "4 already-started"),
+            (self.number >= 4094 and kind != "fulltime", "5 number-full"),
+            (kind == "disallow" and self.goals[i] == 0, "6 no-goal"),
+            (kind == "second-yellow" and self.yellows[i] == 0, "7 no-caution"),
+            (full.get(kind, False), "8 limit-reached"),
+        ]
+        return next((name for holds, name in rules if holds), None)
+
+    def enter(self, reporter, word):
+        """Changes what an accepted event changes."""
+        kind, i = kind_of(word)
+        self.number, self.reporter = self.number + 1, reporter
+        if kind in ("kickoff", "reopen"):
+            self.state = IN_PLAY
+        elif kind == "fulltime":
+            self.state = FINISHED
+        elif kind in ("goal", "disallow"):
+            self.goals[i] += 1 if kind == "goal" else -1
+        else:
+            self.yellows[i] += {"yellow": 1, "second-yellow": -1, "red": 0}[kind]
+            self.expulsions[i] += kind != "yellow"
+
+    def word(self):
+        """The match word."""
+        fields = [(self.number, 0), (self.state, 12), (self.goals[0], 14), (self.goals[1], 20), (self.yellows[0], 26)]
+        fields += [(self.yellows[1], 32), (self.expulsions[0], 38), (self.expulsions[1], 43), (self.reporter, 48), (2, 60)]
+        return f"{sum(value << low for value, low in fields):016x}"
+
+
+def match_of(word):
+    """The match of a word of sixteen digits, of either layout; None where it is of no valid record."""
+    for width, above in ((12, 0x20), (10, 0)):
+        rest, fields = int(word, 16), []
+        for bits in (width, 2, 6, 6, 6, 6, 5, 5, 8):
+            fields.append(rest % (1 << bits))
+            rest >>= bits
+        m, most = Match(), (1 << width) - 1
+        m.number, m.state, m.reporter = fields[0], fields[1], fields[8]
+        m.goals, m.yellows, m.expulsions = fields[2:4], fields[4:6], fields[6:8]
+        is_begun = m.reporter > 0 and m.state in (IN_PLAY, FINISHED) and m.state <= m.number <= most - (m.state == IN_PLAY)
+        if rest == above and (is_begun or not any(fields)):
+            return m
+    return None
+
+
+def kind_of(word):
+    """The kind of an event, and its side: 0 home, 1 away."""
+    kind, _, side = word.rpartition("-")
+    return (kind, int(side == "away")) if kind else (word, 0)
+
+
+def fresh():
+    """The twelve matches before any event."""
+    return [Match() for _ in range(12)]
+
+
+def version(matches):
+    """How many events were accepted."""
+    return sum(m.number for m in matches)
+
+
+def in_play(matches):
+    """How many matches are in play."""
+    return sum(m.state == IN_PLAY for m in matches)
+
+
+# ---- the order, and the screen
+
+
+def results(matches, club):
+    """Each match of the club among these: whether away, its goals, the other's, its cards."""
+    for (home, away), m in matches:
+        if club in (home, away):
+            i = 0 if club == home else 1
+            yield i == 1, m.goals[i], m.goals[1 - i], m.yellows[i] + 3 * m.expulsions[i]
+
+
+def points(matches, club):
+    """3 points for a win, 1 for a draw."""
+    return sum(3 * (ours > theirs) + (ours == theirs) for _, ours, theirs, _ in results(matches, club))
+
+
+def triple(matches, club):
+    """Points, goal difference and goals."""
+    seen = list(results(matches, club))
+    return points(matches, club), sum(a - b for _, a, b, _ in seen), sum(a for _, a, _, _ in seen)
+
+
+def classes(clubs, key):
+    """The clubs by a key, highest first, those with the same key together."""
+    keys = sorted({key(club) for club in clubs}, reverse=True)
+    return [[club for club in clubs if key(club) == k] for k in keys]
+
+
+def settled(matches, clubs, coefficients, away_counts):
+    """Clubs that are level on points, in order."""
+    if len(clubs) < 2:
+        return clubs
+    among = [it for it in matches if it[0][0] in clubs and it[0][1] in clubs]
+
+    def head_to_head(club):
+        away = sum(ours for is_away, ours, _, _ in results(among, club) if is_away)
+        return triple(among, club) + ((away,) if away_counts else ())
+
+    def overall(club):
+        seen = list(results(matches, club))
+        away = [it for it in seen if it[0]]
+        wins = [it for it in seen if it[1] > it[2]]
+        return (
+            triple(matches, club)[1:] + (sum(it[1] for it in away), len(wins), sum(it[1] > it[2] for it in away))
+            + (-sum(it[3] for it in seen), coefficients[club - 1], -club)
+        )
+
+    parts = classes(clubs, head_to_head)
+    if len(parts) == 1:
+        return sorted(clubs, key=overall, reverse=True)
+    return [club for part in parts for club in settled(matches, part, coefficients, away_counts)]
+
+
+def places(matches, roster, away_counts):
+    """The rows of the table of the twelve matches, by their names in JSON."""
+    games = list(zip(FIXTURES, matches))
+    begun = [it for it in games if it[1].state != SCHEDULED]
+    ended = [it for it in games if it[1].state == FINISHED]
+    coefficients = [coefficient for _, coefficient in roster]
+    order = [c for part in classes([1, 2, 3, 4], lambda c: points(begun, c)) for c in settled(begun, part, coefficients, away_counts)]
+    sure = {c: points(ended, c) for c in order}
+    reach = {c: sure[c] + 3 * (6 - len(list(results(ended, c)))) for c in order}
+    for place, club in enumerate(order, 1):
+        if len(ended) == 12:
+            mark = "+" if place <= 2 else "-"
+        elif sum(reach[other] >= sure[club] for other in order if other != club) <= 1:
+            mark = "+"
+        else:
+            mark = "-" if sum(sure[other] > reach[club] for other in order if other != club) >= 2 else ""
+        seen = list(results(begun, club))
+        won, lost = sum(it[1] > it[2] for it in seen), sum(it[1] < it[2] for it in seen)
+        ours, theirs = sum(it[1] for it in seen), sum(it[2] for it in seen)
+        drawn = len(seen) - won - lost
+        yield {
+            "place": place, "mark": mark, "slot": club, "club": roster[club - 1][0], "played": len(seen), "won": won, "drawn": drawn,
+            "lost": lost, "goals_for": ours, "goals_against": theirs, "goal_difference": ours - theirs, "points": 3 * won + drawn,
+        }
+
+
+def screen(matches, roster=ROSTER, group="A", away_counts=False):
+    """The screen of the twelve matches."""
+    lines = [f"GROUP {group} v{version(matches):05d} IN PLAY {in_play(matches)}"]
+    lines.append("    Club                  P  W  D  L  GF  GA   GD Pts")
+    for it in places(matches, roster, away_counts):
+        numbers = f"{it['played']:3}{it['won']:3}{it['drawn']:3}{it['lost']:3}{it['goals_for']:4}{it['goals_against']:4}"
+        lines.append(f"{it['place']} {it['mark'] or ' '} {it['club']:20}{numbers}{it['goal_difference']:+5}{it['points']:4}")
+    return "".join(line + "\n" for line in lines)
+
+
+def sheet(matches):
+    """The word rows of the twelve matches."""
+    return "".join(f"word,{i},{m.word()},\n" for i, m in enumerate(matches, 1))
+
+
+# ---- rows
+
+
+def records(text):
+    """The records of comma separated values, as Python's own reader has them; an empty line is none."""
+    return [record for record in csv.reader(io.StringIO(text.replace("\r", "\n"), newline="")) if record]
+
+
+def number(text, most, low, high):
+    """The number that a field says, within its digits and its range; None where it says none."""
+    if not 1 <= len(text) <= most or not all(c in "0123456789" for c in text):
+        return None
+    return int(text) if low <= int(text) <= high else None
+
+
+def club(fields, slot):
+    """The name and the coefficient of the club that a row names for a slot; None where it names none."""
+    coefficient = number(fields[3], 9, 0, 999_999_999) if len(fields) == 4 else None
+    return None if coefficient is None or fields[:2] != ["club", str(slot)] else (fields[2], coefficient)
+
+
+def bad_slots(roster):
+    """The slots whose club can not be, lowest first."""
+    is_name = lambda name: 1 <= len(name) <= 20 and all(" " <= c <= "~" for c in name)
+    return [i for i, (name, c) in enumerate(roster, 1) if not is_name(name) or c > 999_999]
+
+
+def event(fields):
+    """The reporter, the match, the number that is expected and the word of the event that a row enters; None where it enters none."""
+    if len(fields) != 4:
+        return None
+    found = number(fields[0], 3, 1, 255), number(fields[1], 2, 1, 12), number(fields[2], 5, 0, 65_535), fields[3]
+    return None if None in found or found[3] not in WORDS else found
+
+
+def word(fields, game):
+    """The word that a row gives for a match; None where it gives none."""
+    is_word = len(fields) == 4 and fields[0] == "word" and number(fields[1], 2, game, game) and fields[3] == ""
+    return fields[2] if is_word and len(fields[2]) == 16 and all(c in "0123456789abcdefABCDEF" for c in fields[2]) else None
+
+
+class Fault(Exception):
+    """Why an input is refused."""
+
+
+def check_roster(roster):
+    """A roster that can not be is a fault."""
+    if bad_slots(roster):
+        raise Fault(f"input refused 21: slot {bad_slots(roster)[0]}")
+
+
+def matches_of(words):
+    """The matches of twelve words."""
+    found = [match_of(it) for it in words]
+    if None in found:
+        raise Fault(f"input refused 10: word {found.index(None) + 1}")
+    return found
+
+
+def parsed(text, reads=event, most=None):
+    """The roster of an input, and what the rows after it say: the events of a script, or the words of a sheet."""
+    rows = records(text)
+    roster, found = [], []
+    for row in range(1, max(len(rows), 4 + (most or 0)) + 1):
+        fields = rows[row - 1] if row <= len(rows) else []
+        said = club(fields, row) if row <= 4 else reads(fields) if not most else reads(fields, row - 4) if row <= 4 + most else None
+        if said is None:
+            raise Fault(f"input refused 20: row {row}")
+        (roster if row <= 4 else found).append(said)
+        if row == 4:
+            check_roster(roster)
+    return roster, found
+
+
+def entered(events, matches=None):
+    """The matches after these events, and the reply lines of a script."""
+    matches, lines = matches or fresh(), []
+    for row, (reporter, game, expected, word) in enumerate(events, 5):
+        m = matches[game - 1]
+        refusal = m.refusal(expected, word)
+        if not refusal:
+            m.enter(reporter, word)
+        lines.append(f"{row} refused {refusal}\n" if refusal else f"{row} ok {game} {m.number} {version(matches)}\n")
+    return matches, "".join(lines)
+
+
+def line_of(members):
+    """A line of JSON, whose members stand in the order of their names."""
+    return json.dumps(members, sort_keys=True, separators=(",", ":")) + "\n"
+
+
+class Style:
+    """How the words of a command line have a screen shown."""
+
+    def __init__(self, words=()):
+        self.group = words[words.index("--group") + 1] if "--group" in words else "A"
+        self.order = words[words.index("--order") + 1] if "--order" in words else "uefa"
+
+    def screen(self, matches, roster):
+        """The screen."""
+        return screen(matches, roster, self.group, self.order != "uefa")
+
+    def moment(self, matches, roster):
+        """The members by which a line of JSON stands for itself."""
+        clubs = [{"club": name, "coefficient": coefficient} for name, coefficient in roster]
+        members = {"group": self.group, "order": self.order, "version": version(matches)}
+        return {**members, "clubs": clubs, "words": [m.word() for m in matches]}
+
+    def json(self, matches, roster, row):
+        """The screen as a line of JSON."""
+        table = list(places(matches, roster, self.order != "uefa"))
+        return {"reply": "screen", "row": row, "in_play": in_play(matches), "table": table, **self.moment(matches, roster)}
+
+
+def night(subcommand, words, text):
+    """The status, the output and the errors of `ucl_night`, of a night without readings."""
+    try:
+        if subcommand == "show":
+            roster, given = parsed(text, word, 12)
+            return 0, Style(words).screen(matches_of(given), roster), ""
+        roster, events = parsed(text)
+        stranger = next((row for row, (reporter, *_) in enumerate(events, 5) if reporter > 2), None)
+        if subcommand == "night" and stranger:
+            raise Fault(f"input refused 25: row {stranger}")
+    except Fault as fault:
+        return 3, "", f"{fault}\n"
+    matches, replies = entered(events)
+    return 0, replies + sheet(matches) if subcommand == "feed" else "FINAL\n" + Style(words).screen(matches, roster), ""
+
+
+class Evening:
+    """An evening of `ucl_live` by the rules: how it answers, its clubs, the words that were given, and its matches once the board is open."""
+
+    def __init__(self, words):
+        self.is_json, self.with_screens, self.style = "json" in words, "--screens" in words, Style(words)
+        self.roster, self.given, self.matches = [], [], None
+
+    def told(self, row, members, text):
+        """An answer in its form."""
+        return [line_of({"row": row, **members})] if self.is_json else [text]
+
+    def shown(self, row):
+        """The screen."""
+        return self.told(row, self.style.json(self.matches, self.roster, row), self.style.screen(self.matches, self.roster))
+
+    def entered(self, row, said):
+        """The reply to an event, and the screen where it follows."""
+        reporter, game, expected, word = said
+        m = self.matches[game - 1]
+        refusal = m.refusal(expected, word)
+        if refusal:
+            return self.refused(row, refusal)
+        m.enter(reporter, word)
+        members = {"reply": "ok", "match": game, "number": m.number, **self.style.moment(self.matches, self.roster)}
+        return self.told(row, members, f"{row} ok {game} {m.number} {version(self.matches)}\n") + (self.shown(row) if self.with_screens else [])
+
+    def refused(self, row, refusal):
+        """The reply to what is refused."""
+        code, name, *found = refusal.split()
+        members = {"reply": "refused", "code": int(code), "name": name, **({"number": int(found[0])} if found else {})}
+        return self.told(row, members, f"{row} refused {refusal}\n")
+
+    def beginning(self, row, fields):
+        """Takes a row of the clubs or the words; False where the row is none of these."""
+        place = len(self.roster)
+        is_word = self.matches is None and (self.given or len(fields) == 4 and fields[0] == "word")
+        if place == 4 and not is_word:
+            return False
+        said = club(fields, place + 1) if place < 4 else word(fields, len(self.given) + 1)
+        if said is None:
+            raise Fault(f"input refused 20: row {row}")
+        (self.roster if place < 4 else self.given).append(said)
+        if len(self.roster) == 4:
+            check_roster(self.roster)
+        if len(self.given) == 12:
+            self.matches = matches_of(self.given)
+        return True
+
+    def answers(self, row, line):
+        """The answers to a line."""
+        line = line[:-1] if line.endswith("\r") else line
+        fits = len(line.encode(errors="surrogateescape")) <= LONGEST_LINE
+        found = records((line.removeprefix("\ufeff") if row == 1 else line) + "\nend") if fits else []
+        fields = found[0] if len(found) == 2 and found[1] == ["end"] else []
+        if found == [["end"]] or self.beginning(row, fields):
+            return []
+        self.matches = self.matches or fresh()
+        if fields == ["screen", "", "", ""]:
+            return self.shown(row)
+        if fields == ["words", "", "", ""]:
+            return self.told(row, {"reply": "words", "words": [m.word() for m in self.matches]}, sheet(self.matches))
+        said = event(fields)
+        return self.refused(row, "20 bad-row") if said is None else self.entered(row, said)
+
+    def of(self, text):
+        """The status, the output and the errors for a whole input."""
+        lines = text.split("\n")
+        lines = lines[:-1] if not lines[-1] else lines
+        try:
+            answers = [answer for row, line in enumerate(lines, 1) for answer in self.answers(row, line)]
+            if len(self.roster) < 4 or (self.given and self.matches is None):
+                raise Fault(f"input refused 20: row {len(lines) + 1}")
+        except Fault as fault:
+            return 3, "", f"{fault}\n"
+        return 0, "".join(answers), ""
+
+
+# ---- followers
+
+
+def moment_of(line):
+    """The group, the order, the roster and the matches of the moment that a line tells; None where it tells none."""
+    try:
+        said = json.loads(line)
+        group, order, words = said["group"], said["order"], said["words"]
+        roster = [(it["club"], it["coefficient"]) for it in said["clubs"]]
+        is_one = group in list("ABCDEFGH") and order in ("uefa", "away-in-tie") and len(roster) == 4 and len(words) == 12
+        is_one = is_one and all(type(it) is str and word(["word", "1", it, ""], 1) for it in words) and all(type(c) is int and c >= 0 for _, c in roster)
+        return (group, order, roster, matches_of(words)) if is_one and not bad_slots(roster) else None
+    except (ValueError, KeyError, TypeError, RecursionError, Fault):
+        return None
+
+
+def followed(words, text):
+    """The status, the output and the errors of `ucl_follow`."""
+    lines = text.split("\n")[:-1]
+    told = [moment_of(line) if len(line.removesuffix("\r").encode(errors="surrogateescape")) <= LONGEST_FOLLOWED else None for line in lines]
+    output, newest, shown = "", None, 0
+    for row, moment in enumerate(told, 1):
+        if moment and (newest is None or version(moment[3]) > version(newest[3])):
+            newest, shown = moment, shown + 1
+            group, order, roster, matches = moment
+            style = Style(["--group", group, "--order", order])
+            output += line_of(style.json(matches, roster, row)) if "json" in words else style.screen(matches, roster)
+    if "--resume" in words:
+        quoted = lambda name: '"' + name.replace('"', '""') + '"'
+        output = "".join(f"club,{slot},{quoted(name)},{c}\n" for slot, (name, c) in enumerate(newest[2], 1)) + sheet(newest[3]) if newest else ""
+    return 0, output, f"{len(lines)} lines, {shown} shown, {len(lines) - shown} passed over\n"

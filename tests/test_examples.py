@@ -1,0 +1,89 @@
+"""What stands in `examples/`, in the README and in doc comments is what programs do, and what tests try."""
+
+import re
+
+import pytest
+from conftest import EXAMPLES, TOP, command, tabled, text_of
+
+README = text_of(TOP / "README.md")
+SEASON = EXAMPLES / "season_2021_22"
+WORD_OF = {"sheet": "show", "night": "night"}
+TOLD = "8 lines, 2 shown, 6 passed over\n"
+journal, screens, rows = (text_of(EXAMPLES / f"followed.{ending}") for ending in ("jsonl", "expected", "rows"))
+
+test_examples = tabled({
+    **{f"{path.stem}": (f"ucl_night {WORD_OF.get(path.stem.split('_')[-1], 'feed')}", text_of(path), text_of(path.with_suffix(".expected")))
+       for path in sorted(EXAMPLES.glob("*.csv"))},
+    **{f"group {group} of 2021/22": (f"ucl_night night --group {group}", *(text_of(SEASON / f"group_{group.lower()}.{ending}") for ending in ("csv", "expected")))
+       for group in "ABCDEFGH"},
+    "what is shown of an evening that is followed": ("ucl_follow", journal, screens, 0, TOLD),
+    "rows by which it goes on": ("ucl_follow --resume", journal, rows, 0, TOLD),
+    "its next row": ("ucl_live", rows + "1,1,2,fulltime\n", "17 ok 1 3 4\n"),
+})
+
+
+@pytest.mark.quick
+@pytest.mark.parametrize("group", "ABCDEFGH")
+def test_final_table(group):
+    """The closing screen of a group of the season has the clubs, points and goals of its final table, which is not ours."""
+    shown = [(row[4:24].rstrip(), *map(int, (row[49:53], row[36:40], row[40:44]))) for row in text_of(SEASON / f"group_{group.lower()}.expected").splitlines()[-4:]]
+    table = [row.split(",")[1:] for row in text_of(SEASON / "tables.csv").splitlines() if row.startswith(f"{group},")]
+    assert shown == [(row[1], *map(int, row[2:])) for row in table] and [row[0] for row in table] == list("1234")
+
+
+def test_matchdays(program, place):
+    program("ucl_night")
+    assert command([place / "examples/season_2021_22/matchdays", "A"]) == (0, text_of(SEASON / "matchdays_a.expected"), "")
+
+
+def test_writers_that_share_a_pipe(program, place):
+    program("ucl_live")
+    assert command([place / "examples/evening"]) == (0, text_of(EXAMPLES / "evening.expected"), "")
+
+
+def test_first_look(program, place):
+    """The first commands of the README, typed as they stand there, give what it shows."""
+    program("ucl_live")
+    block = re.search(r"^```console\n(.*?)^```$", README, re.M | re.S)[1]
+    typed = [line for line in block.splitlines(True) if line.startswith("$ ")]
+    assert "".join(line + command(["bash", "-c", line[2:]], cwd=place).output for line in typed) == block
+
+
+# ---- sources
+
+
+@pytest.mark.quick
+def test_program_of_the_readme():
+    """The README shows a function of the crate ucl_example, which the gate proves and runs, and its line of crates.txt."""
+    shown = re.search(r"^```rust\n(.*?)^```$", README, re.M | re.S)[1]
+    assert f"\n{shown}\n" in text_of(TOP / "crates/ucl_example/src/main.rt")
+    assert next(line for line in text_of(TOP / "crates.txt").splitlines() if line.startswith("ucl_example:")) in README
+
+
+# Calls that lend out a board's cell or table and a pass's seat are there for their contracts, and have no example; nor have laws, whose body is empty.
+FOR_THEIR_CONTRACTS = {"cell", "table", "seat"}
+CALL = re.compile(r"((?:^ *///(?: .*)?\n)*)(?:^ *#\[.*\n)*^(    )?(pub )?fn (\w+)((?s:.*?)(?:\{\}?|;)$)", re.M)
+BLOCK = re.compile(r"^ *//[/!] ```\w*\n(.*?)^ *//[/!] ```$", re.M | re.S)
+
+
+def calls_in(text):
+    """Each public call of a file that is no law, with the blocks of its doc comment."""
+    for comment, is_inside, is_public, name, rest in CALL.findall(text):
+        is_law = rest.endswith("\n{}") or name in FOR_THEIR_CONTRACTS
+        if (is_public or is_inside and "pub trait " in text) and not is_law:
+            yield name, [re.sub(r"^ */// ?", "", block, flags=re.M) for block in BLOCK.findall(comment)]
+
+
+@pytest.mark.quick
+@pytest.mark.parametrize("crates, tests", [(["ucl_pass", "ucl_shared"], "cell_board"), (["ucl_words"], "word_board")], ids=str)
+def test_doc_comments(crates, tests):
+    """Each public call has one example of 3 to 10 lines, which calls it, and is the body of one test; and each such test, and block, is an example."""
+    text = text_of(TOP / f"crates/ucl_boards_tests/src/{tests}/examples.rt")
+    bodies = re.findall(r"^#\[test\]\nfn \w+\(rt: HostRuntime\) -> Result<\(\), Fail> \{\n(.*?)\n    Ok\(\(\)\)\n\}$", text, re.M | re.S)
+    bodies = [re.sub(r"^    ", "", body, flags=re.M) + "\n" for body in bodies]
+    files = [text_of(path) for crate in crates for path in (TOP / "crates" / crate).glob("src/*.rt")]
+    found = [it for file in files for it in calls_in(file)]
+    assert [call for call, blocks in found if len(blocks) != 1 or not re.search(rf"\b{call}\(", blocks[0])] == []
+    assert [call for call, (block,) in found if not 3 <= block.count("\n") <= 10] == []
+    assert sorted(block for _, (block,) in found) == sorted(bodies) and text.count("#[test]") == len(bodies) > 0
+    assert sum(len(BLOCK.findall(file)) for file in files) == len(found)

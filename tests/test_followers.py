@@ -1,0 +1,76 @@
+"""`ucl_follow`: a journal of an evening is followed, whatever becomes of its lines."""
+
+import json
+
+import pytest
+from conftest import EXAMPLES, tabled, text_of
+from model import CLUBS, Evening, followed
+
+NIGHT = text_of(EXAMPLES / "group_a_2021_night.csv")
+ROWS = NIGHT.splitlines(True)[4:]
+journal_of = lambda text, *words: Evening(["--format", "json", *words]).of(text)[1]
+screens_of = lambda text, *words: [line for line in Evening(["--screens", *words]).of(text)[1].splitlines(True) if " ok " not in line and " refused " not in line]
+JOURNAL, SCREENS = journal_of(NIGHT), "".join(screens_of(NIGHT))
+LINES = JOURNAL.splitlines(True)
+FIRST, SECOND = journal_of(CLUBS + "1,1,0,kickoff\n1,1,1,goal-home\n").splitlines(True)
+SCREEN, BOTH = ("".join(screens_of(CLUBS + f"1,1,0,kickoff\n{more}")) for more in ("", "1,1,1,goal-home\n"))
+told = lambda lines, shown: f"{lines} lines, {shown} shown, {lines - shown} passed over\n"
+count = SCREENS.count("GROUP")
+
+test_journals = tabled({
+    "as it stands": ("ucl_follow", JOURNAL, SCREENS, 0, told(len(LINES), count)),
+    "of group C": ("ucl_follow", journal_of(NIGHT, "--group", "C"), SCREENS.replace("GROUP A", "GROUP C"), 0, told(len(LINES), count)),
+    "by away goals in a tie": ("ucl_follow", journal_of(NIGHT, "--order", "away-in-tie"), "".join(screens_of(NIGHT, "--order", "away-in-tie")), 0, told(len(LINES), count)),
+    "doubled": ("ucl_follow", "".join(line * 2 for line in LINES), SCREENS, 0, told(2 * len(LINES), count)),
+    "backwards": ("ucl_follow", "".join(LINES[::-1]), "".join(SCREENS.splitlines(True)[-6:]), 0, told(len(LINES), 1)),
+    "in JSON, of which each line is that of the evening": ("ucl_follow --format json", JOURNAL, followed(["json"], JOURNAL)[1], 0, told(len(LINES), count)),
+    "a follower followed": ("ucl_follow", followed(["json"], JOURNAL)[1], SCREENS, 0, told(count, count)),
+    "a line without an end": ("ucl_follow", FIRST + SECOND[:-1], SCREEN, 0, told(1, 1)),
+    "nothing": ("ucl_follow", "", "", 0, told(0, 0)),
+    "rows of the newest, not of the last": ("ucl_follow --resume", LINES[-1] + "".join(LINES[:-1]), followed(["--resume"], LINES[-1])[1], 0, told(len(LINES), 1)),
+    "rows of no moment": ("ucl_follow --resume", "{}\n", "", 0, told(1, 0)),
+})
+
+VALUE = json.loads(SECOND)
+changed = lambda **members: json.dumps({**VALUE, **members}, ensure_ascii=False) + "\n"
+first_club = lambda **members: changed(clubs=[{**VALUE["clubs"][0], **members}, *VALUE["clubs"][1:]])
+of_length = lambda length: changed(more="x" * (length + 1 - len(changed(more=""))))
+WORDS = VALUE["words"]
+BAD = ["\n", "{}\n", "[]\n", "null\n", "x\n", "\udcff\udcfe\n", "\0\n", "[" * 4000 + "\n", SECOND[:-1] + "}\n", of_length(4097), of_length(9000), "x" * 100_000 + "\n"]
+BAD += [SECOND[:at] + "\n" for at in range(0, len(SECOND) - 1, 7)]
+BAD += [json.dumps({name: it for name, it in VALUE.items() if name != member}) + "\n" for member in ("group", "order", "clubs", "words")]
+BAD += [changed(group="I"), changed(group="AB"), changed(group=""), changed(group=1), changed(order="goals"), changed(words="2" * 16), changed(words=WORDS[:11])]
+BAD += [changed(words=WORDS + WORDS[-1:]), changed(words=["f" * 16, *WORDS[1:]]), changed(words=["2" * 15, *WORDS[1:]]), changed(clubs=VALUE["clubs"][:3])]
+BAD += [first_club(club=""), first_club(club="Málaga"), first_club(club="x" * 21), *(first_club(coefficient=it) for it in (1_000_000, 2**32, 1.5, -1, "7"))]
+GOOD = {
+    "spaces": json.dumps(VALUE, separators=(" , ", " : ")) + "\r\n",
+    "4,096 bytes": of_length(4096),
+    "other members": json.dumps({"\u00e9": [{}], **VALUE, "version": 77}, ensure_ascii=False) + "\n",
+    "doubled members": '{"words":1,' + SECOND[1:],
+}
+
+test_lines = tabled({
+    **{f"{number} {line[:40]!r} is passed over": ("ucl_follow", FIRST + line, SCREEN, 0, told(2, 1)) for number, line in enumerate(BAD)},
+    "all of them are passed over": ("ucl_follow", FIRST + "".join(BAD) + SECOND, BOTH, 0, told(2 + len(BAD), 2)),
+    **{f"{name}, shown": ("ucl_follow", FIRST + line, BOTH, 0, told(2, 2)) for name, line in GOOD.items()},
+})
+
+
+@pytest.mark.parametrize("cut", [0, 1, 30, len(ROWS)])
+def test_evening_that_goes_on_from_its_journal(run, cut):
+    """It is the evening that was not cut, a torn last line or not, and names with quotes in them."""
+    clubs = 'club,1,"""A,b""",7\n' + "".join(NIGHT.splitlines(True)[1:4])
+    journal = run("ucl_live", "--format", "json", input=clubs + "screen,,,\n" + "".join(ROWS[:cut])).output
+    start = run("ucl_follow", "--resume", "--format", "json", input=journal + LINES[0][: 7 * cut]).output
+    assert start.startswith('club,1,"""A,b""",7\n') and start.count("\n") == 16
+    last = lambda text: run("ucl_live", input=text + "screen,,,\nwords,,,\n").output.splitlines()[-18:]
+    assert last(start + "".join(ROWS[cut:])) == last(clubs + "".join(ROWS))
+
+
+@pytest.mark.limit(30)
+def test_moment_is_shown_at_once(start):
+    follower = start("ucl_follow")
+    for line, screen in ((FIRST, SCREEN), (SECOND, BOTH.removeprefix(SCREEN))):
+        follower.write(line)
+        assert follower.lines(6) == screen
+    assert follower.end() == (0, "", told(2, 2))

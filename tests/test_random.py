@@ -1,0 +1,205 @@
+"""Random sheets, scripts, evenings, journals and nights, against the rules in plain Python. What differs is made as small as it gets.
+
+`--hypothesis-profile night` tries many more, and `--hypothesis-seed N` the same again.
+"""
+
+import contextlib
+import os
+import random
+import tempfile
+
+import pytest
+from conftest import EXAMPLES, Started, command, decoded, encoded, text_of
+from hypothesis import given, settings
+from hypothesis import strategies as st
+from model import CLUBS, FINISHED, IN_PLAY, ROSTER, SCHEDULED, WORDS, Evening, entered, followed, fresh, night, sheet
+from threads import History, replies_of
+
+pytestmark = pytest.mark.limit(600)
+NAMES = st.text(st.sampled_from('AZaz09 ,"\\~'), min_size=1, max_size=20)
+ODD_NAMES = st.sampled_from(["", "x" * 21, "\u00e1", "\udcff", "\x7f", "\n"])
+LIKELY = {SCHEDULED: ["kickoff"], IN_PLAY: WORDS[3:] + ["fulltime"], FINISHED: ["reopen"]}
+
+
+def mostly(strategy, other, parts=20):
+    """Mostly from one strategy, and one of so many times from the other."""
+    return st.integers(1, parts).flatmap(lambda at: other if at == parts else strategy)
+
+
+@st.composite
+def club_rows(draw):
+    """Four club rows, whose names stand in quotes, and of which few are bad."""
+    names = draw(st.lists(mostly(NAMES, ODD_NAMES, 100), min_size=4, max_size=4))
+    coefficients = draw(st.lists(mostly(st.sampled_from([0, 60_000, 60_000, 999_999]), st.just(1_000_000), 100), min_size=4, max_size=4))
+    quoted = ['"' + name.replace('"', '""') + '"' for name in names]
+    return [f"club,{slot},{name},{coefficient}\n" for slot, name, coefficient in zip(range(1, 5), quoted, coefficients)]
+
+
+# The states, numbers, goals and yellows, and expulsions of matches: level at the end of a group, in the midst of it, and near all limits.
+BOARDS = {"ended": ([FINISHED], [2, 9], [0, 1, 2], [0, 1]), "mixed": ([SCHEDULED, IN_PLAY, FINISHED], [2, 9], [0, 1, 2], [0, 1])}
+BOARDS["limits"] = ([IN_PLAY, IN_PLAY, FINISHED], [9, 4093, 4094], [0, 62, 63], [0, 30, 31])
+
+
+@st.composite
+def matches(draw):
+    """Twelve matches that could be."""
+    states, numbers, goals, expulsions = map(st.sampled_from, BOARDS[draw(st.sampled_from(sorted(BOARDS)))])
+    found = fresh()
+    for m in found:
+        m.state = draw(states)
+        if m.state != SCHEDULED:
+            m.number, m.reporter = draw(numbers), draw(st.sampled_from([1, 255]))
+            m.goals, m.yellows, m.expulsions = ([draw(each), draw(each)] for each in (goals, goals, expulsions))
+    return found
+
+
+@st.composite
+def word_rows(draw):
+    """The word rows of twelve matches, few of which are bad."""
+    rows = sheet(draw(matches())).splitlines(True)
+    if draw(st.integers(1, 6)) == 6:
+        at, bit = draw(st.integers(0, 11)), draw(st.integers(0, 63))
+        word = rows[at].split(",")[2]
+        other = st.sampled_from([f"{int(word, 16) ^ 1 << bit:016X}", "f" * 16, "x" * 16, word[1:], word + ",", "," + word])
+        rows[at] = rows[at].replace(word, draw(other))
+    return rows
+
+
+PICK = st.tuples(st.integers(1, 12), st.integers(0, 120), st.integers(0, 12), st.integers(1, 3))
+PICKS = st.one_of(st.lists(PICK, max_size=5), st.lists(PICK, min_size=30, max_size=50), st.lists(PICK, min_size=100, max_size=120))
+
+
+def event_rows(picks, before=None):
+    """Event rows from numbers: most are of the event that their match is likely to take, with the number that it has then."""
+    found, rows = before or fresh(), []
+    for game, pick, odd, reporter in picks:
+        m = found[game - 1]
+        words = WORDS if odd == 12 else LIKELY[m.state]
+        word, expected = words[pick % len(words)], pick * 500 if odd == 11 and pick % 2 else pick if odd == 11 else m.number
+        rows.append(f"{reporter},{game},{expected},{word}\n")
+        if m.refusal(expected, word) is None:
+            m.enter(reporter, word)
+    return rows
+
+
+GROUPS = st.sampled_from([[], ["--group", "B"], ["--group", "H"]])
+ORDERS = st.sampled_from([[], ["--order", "away-in-tie"], ["--order", "uefa"]])
+PIECES = st.sampled_from([1 << 20, 1, 7, 64, 4096])
+ENDS = st.sampled_from(["\n", "\n", "\n", "\r\n", "\r"])
+
+
+def cut(draw, text):
+    """The text, or sometimes its beginning."""
+    return text[: draw(st.integers(0, len(text)))] if draw(st.integers(1, 8)) == 8 else text
+
+
+def fed(path, words, text, piece):
+    """Runs a program that gets its input in pieces; what it writes goes to a file."""
+    with tempfile.TemporaryFile() as output, Started([path, *words], stdout=output) as started:
+        data = encoded(text)
+        with contextlib.suppress(BrokenPipeError):
+            for at in range(0, len(data), piece):
+                started.write(decoded(data[at : at + piece]))
+        ran = started.end()
+        output.seek(0)
+        return ran._replace(output=decoded(output.read()))
+
+
+@given(st.data())
+def test_scripts_and_sheets(program, data):
+    """`feed`, `show`, and `night`, the last with its reporters by matches, so that its end does not depend on who is faster."""
+    draw, word = data.draw, data.draw(st.sampled_from(["feed", "show", "night"]))
+    picks = [(game, pick, odd, 2 - game % 2 if word == "night" and reporter < 3 else reporter) for game, pick, odd, reporter in draw(PICKS)]
+    rows = draw(club_rows()) + (draw(word_rows()) if word == "show" else event_rows(picks))
+    if draw(st.integers(1, 6)) == 6:
+        rows.insert(draw(st.integers(0, len(rows))), draw(st.sampled_from(["bad\n", "\n", "1,1,0,kickoff\n", '"', "1,1,00000,reopen\n", "word,1,,\n"])))
+    text, words = cut(draw, "".join(row[:-1] + draw(ENDS) for row in rows)), [] if word == "feed" else draw(GROUPS) + draw(ORDERS)
+    assert fed(program("ucl_night"), [word, *words], text, draw(PIECES)) == night(word, words, text)
+
+
+ODD_ROWS = ["screen,,,", "words,,,", "", "\r", "x", "1,1,0", "screen,1,,", "y" * 257, "z" * 700, "word,1,,", '1,1,0,"kickoff', "\ufeff1,1,0,kickoff"]
+
+
+@given(st.data())
+def test_evenings(program, data):
+    """`ucl_live`, from fresh boards and from words, in all its forms."""
+    draw = data.draw
+    words = draw(st.sampled_from([[], ["--screens"]])) + draw(st.sampled_from([[], ["--format", "json"], ["--format", "text"]])) + draw(GROUPS) + draw(ORDERS)
+    before = draw(st.one_of(st.none(), matches()))
+    rows = draw(club_rows()) + (sheet(before).splitlines(True) if before else []) + event_rows(draw(PICKS), before)
+    for odd, at in draw(st.lists(st.tuples(st.sampled_from(ODD_ROWS), st.integers(0, 70)), max_size=6)):
+        rows.insert(min(max(at, 4) if at else 0, len(rows)), odd + "\n")
+    for at, length in draw(st.lists(st.tuples(st.integers(0, 70), st.sampled_from([1, 255, 256, 257])), max_size=3)):
+        if at < len(rows) and len(rows[at]) > 1:
+            rows[at] = "\r" * (length - len(rows[at].encode()) + 1) + rows[at]
+    text = cut(draw, "\ufeff" * draw(st.booleans()) + "".join(row[:-1] + draw(st.sampled_from(["\n", "\n", "\r\n"])) for row in rows))
+    assert fed(program("ucl_live"), words, text, draw(PIECES)) == Evening(words).of(text)
+
+
+@given(st.data())
+def test_journals(program, data):
+    """`ucl_follow`, on lines of an evening of which some are lost, doubled, turned round and torn."""
+    draw = data.draw
+    words = ["--format", "json"] + draw(st.sampled_from([[], ["--screens"]])) + draw(GROUPS) + draw(ORDERS)
+    lines = Evening(words).of(CLUBS + "screen,,,\n" + "".join(event_rows(draw(PICKS))))[1].splitlines(True)
+    some = [lines[at % len(lines)] for at in draw(st.lists(st.integers(0, 120), max_size=40))]
+    for at, end, more in draw(st.lists(st.tuples(st.integers(0, 40), st.integers(0, 1200), st.sampled_from(["", "\n", "}\n", " \r\n"])), max_size=5)):
+        if at < len(some):
+            some[at] = some[at].rstrip("\n")[:end] + more
+    words, text = draw(st.sampled_from([[], ["--format", "json"], ["--resume"]])), "".join(some)
+    assert fed(program("ucl_follow"), words, text, draw(PIECES)) == followed(words, text)
+
+
+def held(program, folder, script, texts, screens, group, order):
+    """Holds an evening of threads, each at a file, and compares it with one history. Gives the reporters' words."""
+    place = lambda name: os.path.join(folder, name)
+    for name in set(os.listdir(folder)) - {"clubs.csv", "next.csv"}:
+        os.remove(place(name))
+    ways = [f"{who}.rows={who}.replies" for who in range(len(texts))]
+    for who, text in enumerate(texts):
+        with open(place(f"{who}.rows"), "w", newline="") as file:
+            file.write(text)
+    words = [word for way in ways for word in ("--reporter", way)] + [word for at, kind in enumerate(screens) for word in (kind, f"{at}.screen")]
+    status, output, errors = command([program("ucl_evening"), script, *words, "--group", group, "--order", order], cwd=folder)
+    assert (status, errors) == (0, "")
+    answers = [text_of(place(f"{who}.replies")) if os.path.exists(place(f"{who}.replies")) else "" for who in range(len(texts))]
+    events = [(int(who), int(game), int(number), word) for who, game, number, word in (row.split(",") for row in text_of(place(script)).splitlines()[4:])]
+    history = History([replies_of(*pair) for pair in zip(texts, answers)], entered(events)[0], max([who for who, *_ in events], default=0))
+    assert output == sheet(history.matches)
+    for at, kind in enumerate(screens):
+        seen = text_of(place(f"{at}.screen"))
+        history.check_json(seen, group, order) if kind == "--json" else history.check_text(seen, ROSTER, group, order != "uefa")
+    return ways
+
+
+REPORTERS = st.lists(PICKS, min_size=1, max_size=5)
+SCREENS = st.lists(st.sampled_from(["--screen", "--json"]), max_size=5)
+BAD_LINES = ["\n", "bad\n", "1,0\n", "13,0,kickoff\n", "1,0,kickoff\r\n"]
+
+
+@settings(max_examples=settings.default.max_examples // 5)
+@given(st.data())
+def test_evenings_of_threads(program, data):
+    """`ucl_evening`: two evenings, of which the second goes on from the first."""
+    draw, script = data.draw, "clubs.csv"
+    with tempfile.TemporaryDirectory() as folder:
+        with open(os.path.join(folder, script), "w") as file:
+            file.write(CLUBS)
+        for _ in range(2):
+            texts = []
+            for picks in draw(REPORTERS):
+                rows = [row.split(",", 1)[1] for row in event_rows(picks)]
+                odd = draw(st.lists(st.tuples(st.integers(0, len(rows)), st.sampled_from(BAD_LINES)), max_size=4))
+                texts.append("".join(row for _, row in sorted([*enumerate(rows), *odd], key=lambda it: it[0])))
+            ways = held(program, folder, script, texts, draw(SCREENS), draw(st.sampled_from("ABH")), draw(st.sampled_from(["uefa", "away-in-tie"])))
+            script_of_next = command([EXAMPLES / "next_evening", script, *ways], cwd=folder).output
+            script = "next.csv"
+            with open(os.path.join(folder, script), "w") as file:
+                file.write(script_of_next)
+
+
+def test_nights_on_both_boards(program):
+    """`ucl_hostile` compares each answer with the board of one thread."""
+    seed, count = random.randrange(2**32), settings.default.max_examples
+    ran = command([program("ucl_hostile"), "soak", str(seed), str(count)])
+    assert ran.status == 0 and ran.output.endswith(": 0 differ\n"), ran.output

@@ -1,0 +1,298 @@
+"""`ucl_evening`: evenings of threads with real pipes and processes, whose parts break."""
+
+import fcntl
+import itertools
+import json
+import os
+import random
+import signal
+
+import pytest
+from conftest import EXAMPLES, command, decoded, lines_of, text_of
+from model import CLUBS, ROSTER, Style, fresh, line_of, sheet, version
+from threads import History, replies_of
+
+pytestmark = pytest.mark.limit(60)
+NORTH, SOUTH = "north.rows=north.replies", "south.rows=south.replies"
+BOTH = ["--reporter", NORTH, "--reporter", SOUTH]
+PIPES = ["north.rows", "north.replies", "south.rows", "south.replies"]
+READ_FAILED, WRITE_FAILED = "reading failed 22: after 0 bytes\n", "writing failed 26: after 0 bytes\n"
+
+
+def up_and_down(game, count):
+    """So many rows of a match: a kick-off, and goals each of which is disallowed at once."""
+    return [f"{game},{at},{'goal-home' if at % 2 else 'disallow-home' if at else 'kickoff'}\n" for at in range(count)]
+
+
+class Hall:
+    """A folder in which evenings are held, of these clubs."""
+
+    def __init__(self, path, start):
+        self.path, self.start = path, start
+        self.write("clubs.csv", CLUBS)
+
+    def begin(self, *words, clubs="clubs.csv", **how):
+        """Begins an evening."""
+        return self.start("ucl_evening", clubs, *words, **how)
+
+    def held(self, *words, **how):
+        """Holds an evening to its end."""
+        return self.begin(*words, **how).end()
+
+    def write(self, name, text):
+        """Writes a file."""
+        (self.path / name).write_text(text)
+
+    def read(self, name):
+        """What a file has."""
+        return text_of(self.path / name)
+
+    def pipes(self, *names):
+        """Makes named pipes."""
+        for name in names:
+            os.mkfifo(self.path / name)
+
+    def open(self, name, mode="rb"):
+        """Opens a pipe, once the other end is opened."""
+        return open(self.path / name, mode, buffering=0)
+
+
+class Reporter:
+    """Both ends of a reporter at pipes. Its answers are opened after the first row, for the evening opens them then."""
+
+    def __init__(self, hall, name):
+        self.hall, self.name, self.rows, self.replies = hall, name, hall.open(f"{name}.rows", "wb"), None
+
+    def asks(self, row):
+        """Writes a row, and awaits its answer."""
+        self.rows.write(row.encode())
+        self.replies = self.replies or self.hall.open(f"{self.name}.replies")
+        return lines_of(self.replies)
+
+
+@pytest.fixture
+def hall(tmp_path, start, program):
+    """A folder for evenings."""
+    program("ucl_evening")
+    return Hall(tmp_path, start)
+
+
+def numbers_of(words):
+    """The numbers of the matches of word rows."""
+    return [int(line.split(",")[2], 16) & 4095 for line in words.splitlines()]
+
+
+def test_row_by_row(hall):
+    """Each reply is awaited before any row more is written, and both screens follow each event, in the group and order of the words."""
+    hall.pipes(*PIPES, "stadium", "desk")
+    evening = hall.begin(*BOTH, "--screen", "stadium", "--json", "desk", "--group", "H", "--order", "away-in-tie")
+    stadium, desk, reporters = hall.open("stadium"), hall.open("desk"), [Reporter(hall, "north"), Reporter(hall, "south")]
+    matches, lines, style = fresh(), [0, 0], Style(["--group", "H", "--order", "away-in-tie"])
+
+    def seen():
+        assert lines_of(stadium, 6) == style.screen(matches, ROSTER)
+        assert lines_of(desk) == line_of(style.json(matches, ROSTER, version(matches) + 1))
+
+    def entered(who, row, refusal=None, more=1):
+        game, expected, word = row.strip().split(",")
+        match, lines[who] = matches[int(game) - 1], lines[who] + more
+        refusal = refusal or match.refusal(int(expected), word)
+        if refusal is None:
+            match.enter(who + 1, word)
+        answer = f"refused {refusal}" if refusal else f"ok {game} {match.number} {version(matches)}"
+        assert reporters[who].asks(row) == f"{lines[who]} {answer}\n"
+        if refusal is None:
+            seen()
+
+    seen()
+    for row in ["1,0,kickoff", "1,1,goal-home", "1,1,goal-home", "2,0,kickoff", "2,1,red-away", "1,2,fulltime", "1,3,reopen"]:
+        entered(0, row + "\n")
+        entered(1, row + "\n")
+    entered(0, "1,4,goal-hoem\n", "20 bad-row")
+    entered(0, "\n1,4,yellow-away\r\n", more=2)
+    for reporter in reporters:
+        reporter.rows.close()
+    assert evening.end() == (0, sheet(matches), "")
+    assert stadium.read() + desk.read() == b""
+
+
+def test_reporter_and_screen_that_nobody_opens(hall):
+    """They hold up nobody."""
+    hall.pipes(*PIPES, "stadium")
+    evening = hall.begin(*BOTH, "--screen", "stadium")
+    north = Reporter(hall, "north")
+    assert [north.asks(row) for row in up_and_down(3, 20)] == [f"{at} ok 3 {at} {at}\n" for at in range(1, 21)]
+    north.rows.close()
+    south = Reporter(hall, "south")
+    assert south.asks("3,20,disallow-home\n") == "1 ok 3 21 21\n"
+    south.rows.close()
+    assert decoded(hall.open("stadium").read()).splitlines()[-6].split()[2] == "v00021"
+    assert evening.end().status == 0
+
+
+def test_reporter_that_is_killed_in_a_row(hall):
+    """The row is answered as what it is by then, and the other goes on."""
+    hall.pipes(*PIPES)
+    evening = hall.begin(*BOTH)
+    killed = ["bash", "-c", "exec 3>north.rows; printf '1,0,kickoff\n1,1,goal-ho' >&3; kill -9 $$"]
+    assert command(killed, cwd=hall.path).status == -signal.SIGKILL
+    north, south = hall.open("north.replies"), Reporter(hall, "south")
+    assert lines_of(north, 2) == "1 ok 1 1 1\n2 refused 20 bad-row\n"
+    assert south.asks("1,1,goal-away\n") == "1 ok 1 2 2\n"
+    south.rows.close()
+    assert evening.end()._replace(output="") == (0, "", "") and north.read() + south.replies.read() == b""
+
+
+def test_devices_that_fail(hall):
+    """Reporters and screens whose input or output fails end alone, each with its line; an output that fails takes exactly one event."""
+    hall.write("north.rows", "".join(up_and_down(1, 5)))
+    hall.write("south.rows", "".join(up_and_down(2, 7)))
+    words = ["--reporter", "missing=a", "--reporter", "north.rows=/dev/full", "--reporter", SOUTH, "--reporter", ".=b"]
+    status, output, errors = hall.held(*words, "--screen", "stadium", "--json", "nowhere/desk")
+    assert (status, errors) == (4, f"reporter 1: {READ_FAILED}reporter 2: {WRITE_FAILED}reporter 4: {READ_FAILED}json 1: {WRITE_FAILED}")
+    assert [reply.is_ok for reply in replies_of(hall.read("south.rows"), hall.read("south.replies"))] == [True] * 7
+    assert numbers_of(output) == [1, 7] + [0] * 10
+    assert hall.read("stadium").splitlines()[-6].split()[2] == "v00008"
+
+
+def test_readers_that_go_away(hall):
+    """A screen and a reporter whose readers go away have their fault, and nobody else has one. The row whose answer failed is in, those after it not."""
+    hall.pipes(*PIPES, "stadium")
+    evening = hall.begin(*BOTH, "--screen", "stadium", "--json", "desk")
+    stadium, north, south = hall.open("stadium"), Reporter(hall, "north"), Reporter(hall, "south")
+    first = lines_of(stadium, 6)
+    stadium.close()
+    assert (north.asks("5,0,kickoff\n"), south.asks("5,1,goal-home\n")) == ("1 ok 5 1 1\n", "1 ok 5 2 2\n")
+    south.replies.close()
+    south.rows.write(b"5,2,goal-away\n5,3,goal-away\n")
+    south.rows.close()
+    answers = (north.asks("5,3,yellow-home\n").split(" ", 1)[1] for _ in itertools.count())
+    assert next(answer for answer in answers if answer != "refused 1 stale 2\n") == "ok 5 4 4\n"
+    north.rows.close()
+    status, output, errors = evening.end()
+    lines = f"reporter 2: writing failed 26: after 11 bytes\nscreen 1: writing failed 26: after {len(first)} bytes\n"
+    assert (status, errors, numbers_of(output)[4]) == (4, lines, 4)
+    assert json.loads(hall.read("desk").splitlines()[-1])["words"] == [line.split(",")[2] for line in output.splitlines()]
+
+
+@pytest.mark.parametrize("words, errors", [
+    (["--screen", "/dev/full"], "screen 1: " + WRITE_FAILED), (["--screen", "stadium", "--json", "/dev/full"], "json 1: " + WRITE_FAILED),
+])
+def test_screen_alone_fails(hall, words, errors):
+    hall.write("north.rows", "1,0,kickoff\n")
+    status, output, told = hall.held("--reporter", NORTH, *words)
+    assert (status, numbers_of(output)[0], told, hall.read("north.replies")) == (4, 1, errors, "1 ok 1 1 1\n")
+
+
+def test_standard_output_alone_fails(hall):
+    hall.write("north.rows", "1,0,kickoff\n")
+    with open("/dev/full", "wb") as full:
+        assert hall.held("--reporter", NORTH, stdout=full) == (4, "", WRITE_FAILED)
+    assert hall.read("north.replies") == "1 ok 1 1 1\n"
+
+
+def test_output_that_appears_before_its_first_answer(hall):
+    """It was missing at the start and must be missing still, so the reporter's writes fail and the file is as it was."""
+    hall.pipes("north.rows")
+    evening, north = hall.begin("--reporter", NORTH), hall.open("north.rows", "wb")
+    hall.write("north.replies", "")
+    north.write(b"1,0,kickoff\n1,1,goal-home\n")
+    north.close()
+    status, output, errors = evening.end()
+    assert (status, errors, hall.read("north.replies"), numbers_of(output)[0]) == (4, f"reporter 1: {WRITE_FAILED}", "", 1)
+
+
+def test_screen_that_is_never_read(hall):
+    """Its pipe is full, and reporters get each reply at once; once it is read it ends with the last board."""
+    hall.pipes(*PIPES, "stadium")
+    evening = hall.begin(*BOTH, "--screen", "stadium")
+    stadium, north, south = hall.open("stadium"), Reporter(hall, "north"), Reporter(hall, "south")
+    fcntl.fcntl(stadium, fcntl.F_SETPIPE_SZ, 4096)
+    for at, (first, second) in enumerate(zip(up_and_down(1, 300), up_and_down(2, 300)), 1):
+        assert north.asks(first) == f"{at} ok 1 {at} {2 * at - 1}\n"
+        assert south.asks(second) == f"{at} ok 2 {at} {2 * at}\n"
+    north.rows.close()
+    south.rows.close()
+    lines = decoded(stadium.read()).splitlines()
+    assert evening.end().status == 0 and lines[-6].split()[2] == "v00600" and len(lines) < 6 * 300
+
+
+def test_sixteen_reporters_and_sixteen_screens(hall, start):
+    """Each is at a pipe or two of its own, which another process fills or empties."""
+    chance, words, texts, carried = random.Random(41), [], [], []
+    for number in range(1, 17):
+        games = chance.sample(range(1, 13), 12)
+        texts.append("".join(row for rows in zip(*(up_and_down(game, 170) for game in games)) for row in rows))
+        hall.write(f"{number}.typed", texts[-1])
+        hall.pipes(f"{number}.rows", f"{number}.replies", f"{number}.screen")
+        for source, sink in (("typed", "rows"), ("replies", "told"), ("screen", "seen")):
+            carried.append(start("/bin/sh", "-c", 'exec cat <"$0" >"$1"', f"{number}.{source}", f"{number}.{sink}"))
+        words += ["--reporter", f"{number}.rows={number}.replies", ("--screen", "--json")[number % 2], f"{number}.screen"]
+    status, output, errors = hall.held(*words)
+    assert (status, errors, [carrier.end().status for carrier in carried]) == (0, "", [0] * 48)
+    history = History([replies_of(text, hall.read(f"{number}.told")) for number, text in enumerate(texts, 1)])
+    assert output == sheet(history.matches)
+    for number in range(1, 17):
+        seen = hall.read(f"{number}.seen")
+        history.check_json(seen) if number % 2 else history.check_text(seen, ROSTER)
+
+
+def test_evening_that_goes_on(hall, run):
+    """By its rows and replies: the board is the same, and so are the words of `feed` on that script."""
+    hall.write("north.rows", "".join(up_and_down(1, 400) + up_and_down(3, 10)) + "1,400,fulltime\nbad\n")
+    hall.write("south.rows", "".join(up_and_down(2, 300) + up_and_down(3, 400)))
+    status, words, errors = hall.held(*BOTH)
+    assert (status, errors) == (0, "")
+    script = command([EXAMPLES / "next_evening", "clubs.csv", NORTH, SOUTH], cwd=hall.path).output
+    hall.write("next.csv", script)
+    fed = run("ucl_night", "feed", input=script).output
+    assert fed.endswith("".join(words)) and " refused " not in fed
+    assert hall.held("--reporter", "/dev/null=none", "--json", "desk", clubs="next.csv") == (0, words, "")
+    before = sum(numbers_of(words))
+    assert [json.loads(line)["version"] for line in hall.read("desk").splitlines()] == [before]
+    hall.write("more.rows", "1,401,reopen\n1,401,reopen\n4,0,kickoff\n")
+    assert hall.held("--reporter", "more.rows=more.replies", clubs="next.csv").status == 0
+    assert hall.read("more.replies") == f"1 ok 1 402 {before + 1}\n2 refused 1 stale 402\n3 ok 4 1 {before + 2}\n"
+
+
+@pytest.mark.parametrize("script, status, line", [
+    (CLUBS + "1,1,0,kick\n", 3, "input refused 20: row 5"), (CLUBS + "1,1,0,kickoff\n9,1,0,goal-home\n", 3, "input refused 20: row 6"),
+    (CLUBS.replace("Bravo", ""), 3, "input refused 21: slot 2"), ("", 3, "input refused 20: row 1"),
+    (None, 4, READ_FAILED.strip()), (CLUBS + "255,1,0,kickoff\n", 6, "board refused 30"),
+], ids=["a bad row", "a refused row", "a bad club", "no row", "no script", "no number left"])
+def test_fault_of_the_start(hall, script, status, line):
+    """Nothing is written then."""
+    hall.write("rows", "1,0,kickoff\n")
+    if script is not None:
+        hall.write("script.csv", script)
+    assert hall.held("--reporter", "rows=replies", "--screen", "stadium", clubs="script.csv") == (status, "", line + "\n")
+    assert {"replies", "stadium"} & set(os.listdir(hall.path)) == set()
+
+
+@pytest.mark.parametrize("words", [
+    "", " ".join(f"--reporter {number}={number}.out" for number in range(17)), "--reporter rows=replies --json s" + "".join(f" --screen {number}" for number in range(16)),
+    "--reporter rows", "--reporter rows=", "--reporter rows=full", "--reporter rows=replies --screen full", "--reporter rows=rows",
+    "--reporter rows=replies --reporter rows=other", "--reporter rows=replies --json replies", "--reporter rows=replies --reporter same=other",
+    "--reporter rows=replies --reporter linked=other", "--reporter clubs.csv=replies", "--reporter rows=replies --group I",
+    "--reporter rows=replies --order goals", "--reporter rows=replies more.csv", "--reporter pipe=replies --reporter twin=other",
+    "--reporter rows=pipe --screen twin", "--screen pipe --json twin --reporter rows=replies",
+])
+def test_words_that_are_refused(hall, words):
+    """One file, or one pipe, by two names among them. Nothing is opened then."""
+    hall.write("rows", "1,0,kickoff\n")
+    hall.write("full", "something\n")
+    hall.pipes("pipe")
+    for name, link in (("same", "rows"), ("twin", "pipe")):
+        os.symlink(link, hall.path / name)
+    os.link(hall.path / "rows", hall.path / "linked")
+    before = sorted(os.listdir(hall.path))
+    status, output, errors = hall.held(*words.split())
+    assert (status, output, errors[:7], errors[-1:]) == (2, "", "error: ", "\n")
+    assert (sorted(os.listdir(hall.path)), hall.read("rows"), hall.read("full")) == (before, "1,0,kickoff\n", "something\n")
+
+
+def test_reporter_at_standard_input(hall):
+    evening = hall.begin("--reporter", "/dev/stdin=replies")
+    evening.write("1,0,kickoff\n1,1,goal-home")
+    assert numbers_of(evening.end().output)[0] == 2
+    assert hall.read("replies") == "1 ok 1 1 1\n2 ok 1 2 2\n"
