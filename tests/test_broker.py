@@ -1,0 +1,428 @@
+"""Evenings beyond one machine, over mosquitto: the lines of examples/broker, and parts that are killed, doubled, lost or never read.
+
+The lines that are typed are those of examples/broker/README.md. Two reporters enter rows and send again what has no answer. In each evening every
+event is on the last board once, each answer in the journal has the words after it, the versions that a follower shows rise, each of its screens is
+that of the rules, and the last ones are the same.
+"""
+
+import collections
+import contextlib
+import fcntl
+import json
+import os
+import random
+import re
+import signal
+import socket
+import subprocess
+import sys
+import threading
+import time
+
+import conftest
+import model
+import pytest
+from conftest import EXAMPLES, LIMIT, TOP
+
+BROKER = EXAMPLES / "broker"
+ROWS = 3_000
+# The number of the first row after four clubs, twelve words, and the screen that the board's line asks for.
+FIRST_ROW = 18
+SCREEN_LINES = 6
+# Passes lines on in another order, within windows of a hundred, and loses a tenth of them.
+TURNED = """import itertools, random, sys
+chance = random.Random(5)
+while window := [*itertools.islice(sys.stdin, 100)]:
+    print(*chance.sample(window, (9 * len(window) + 9) // 10), sep="", end="", flush=True)
+"""
+
+
+# ---- real processes
+
+
+def lines_of_the_page():
+    """The lines that examples/broker/README.md has one type, by what stands in bold above each."""
+    return dict(re.findall(r"^\*\*(.+?)\*\*(?:.+\n)+\n((?:    .+\n)+)", (BROKER / "README.md").read_text(), re.M))
+
+
+def until(what, holds, progress=lambda: None):
+    """Waits until something holds, and gives what it is; an error after the limit without progress."""
+    end, last = time.monotonic() + LIMIT, None
+    while True:
+        got, now = holds(), progress()
+        if got:
+            return got
+        end, last = (end if now == last else time.monotonic() + LIMIT), now
+        assert time.monotonic() < end, f"waited {LIMIT} seconds for {what}"
+        time.sleep(0.02)
+
+
+def is_reached(port):
+    """Whether somebody listens at a port."""
+    with socket.socket() as one:
+        return one.connect_ex(("127.0.0.1", port)) == 0
+
+
+def free_port():
+    """A free port below those that the system hands out: a client that looks for a broker which is down could else be handed its port."""
+    return next(port for port in iter(lambda: random.randint(20_000, 32_000), None) if not is_reached(port))
+
+
+class Line:
+    """A line that is typed: a shell and all that it starts, in a session of their own."""
+
+    def __init__(self, text, how):
+        self.text, self.how = text, how
+        self.start()
+
+    def start(self):
+        """Starts it, or starts it again."""
+        self.shell = subprocess.Popen(["bash", "-c", self.text], start_new_session=True, **self.how)
+
+    def kill_one(self, name):
+        """Kills the process of this name that the line has started."""
+        told = lambda: conftest.command(["ps", "-o", "pid=,comm=", "--sid", str(self.shell.pid)]).output
+        os.kill(int(until(f"{name} to run", lambda: re.search(rf"(\d+) {name}$", told(), re.M))[1]), signal.SIGKILL)
+
+    def kill(self):
+        """Kills all that it has started."""
+        with contextlib.suppress(ProcessLookupError):
+            os.killpg(self.shell.pid, signal.SIGKILL)
+        self.shell.wait()
+
+
+class Site:
+    """A folder of its own with a broker, where lines are typed."""
+
+    def __init__(self, path):
+        self.path, self.started, self.errors = path, [], open(path / "errors", "ab")
+        (path / "examples").symlink_to(EXAMPLES)
+        (path / "kept").mkdir()
+        self.place = {"cwd": path, "env": {**os.environ, "XDG_CONFIG_HOME": str(path)}, "stderr": self.errors}
+
+    def open_broker(self, more=""):
+        """Starts a broker on a free port, which the clients find in their files, with these lines more in its own."""
+        self.port, user = free_port(), self.done("id -un").strip()
+        conf = f"listener {self.port} 127.0.0.1\nuser {user}\npersistence_location {self.path}/kept/\n{more}"
+        (self.path / "broker.conf").write_text((BROKER / "broker.conf").read_text() + conf)
+        for name in "mosquitto_sub", "mosquitto_pub":
+            (self.path / name).write_text(f"-h 127.0.0.1\n-p {self.port}\n")
+        self.broker = self.line("exec mosquitto -c broker.conf")
+        self.await_broker()
+
+    def await_broker(self):
+        """Waits until the broker listens."""
+        until("the broker", lambda: is_reached(self.port) or self.broker.shell.poll() is not None)
+        assert self.broker.shell.poll() is None, self.told()
+
+    def line(self, text, **how):
+        """Types a line, which goes on in the background."""
+        self.started.append(Line(text, {"stdin": subprocess.DEVNULL, "stdout": subprocess.DEVNULL, **self.place, **how}))
+        return self.started[-1]
+
+    def done(self, text, input=""):
+        """Types a line and waits for its end. Gives what it wrote."""
+        return conftest.command(["bash", "-c", text], input, **self.place).output
+
+    def told(self):
+        """The end of what standard error was told."""
+        return (self.path / "errors").read_text(errors="replace")[-300:]
+
+
+@pytest.fixture
+def site(tmp_path, program, monkeypatch):
+    """A folder with the programs, where lines are typed; at the end all of it is killed."""
+    monkeypatch.setenv("PATH", os.environ["PATH"] + ":/usr/sbin:/usr/local/sbin")
+    conftest.needs("mosquitto", "mosquitto_sub", "mosquitto_pub")
+    for name in "ucl_live", "ucl_follow":
+        (tmp_path / name).symlink_to(program(name))
+    opened = Site(tmp_path)
+    yield opened
+    for line in opened.started:
+        line.kill()
+    opened.errors.close()
+
+
+# ---- what examples/broker says
+
+
+def in_one_line(text):
+    """A text with each row of spaces and each end of a line as one space."""
+    return " ".join(text.replace("\\\n", " ").split())
+
+
+@pytest.mark.quick
+def test_lines_of_the_page_are_those_of_the_evening_and_of_the_readme():
+    lines = {name: in_one_line(line) for name, line in lines_of_the_page().items()}
+    evening = in_one_line((BROKER / "evening").read_text()).replace('"$1"', "8080").replace("two_matches.csv; echo", "one_goal.csv; echo")
+    readme = in_one_line((TOP / "README.md").read_text().split("\n## Beyond one machine\n")[1].split("\n## ")[0])
+    assert len(lines) == 7
+    assert [name for name, line in lines.items() if line not in evening] == ["A reporter"]
+    assert [name for name in ("The beginning of an evening", "The board", "The desk", "A screen") if lines[name] not in readme] == []
+
+
+def test_an_evening_that_is_started_leaves_nothing_behind(site):
+    if conftest.command([TOP / "build", "--built", "ucl_live", "ucl_follow"]).status != 0:
+        pytest.skip("not built here: ucl_live ucl_follow, which the evening starts")
+    (site.path / "room").mkdir()
+    run = conftest.command([BROKER / "evening"], env={**site.place["env"], "TMPDIR": f"{site.path}/room"})
+    assert run.status == 0 and run.output.startswith(conftest.text_of(BROKER / "evening.expected")), run
+    assert [*(site.path / "room").iterdir()] == [] and not site.done(f"grep -la {site.path}/room/tmp. /proc/[0-9]*/environ")
+
+
+def test_a_reporter_is_told_of_rows_that_are_refused_anothers_or_none(site):
+    lines = lines_of_the_page()
+    site.open_broker()
+    site.done(lines["The beginning of an evening"])
+    for name in "The board", "The desk":
+        site.line(lines[name])
+    report = lambda *rows: site.done("examples/broker/reporter 0.3 2 2>&1; echo $?", "".join(row + "\n" for row in rows)).splitlines()
+    assert report("1,1,0,kickoff", "1,2,0,goal-home") == ["1,1,0,kickoff", "reporter: 1,2,0,goal-home: no answer in 2 seconds", "1"]
+    assert report("2,1,0,kickoff") == ["reporter: 2,1,0,kickoff: another reporter has entered an event of this match", "1"]
+    assert report("1,1,0,kickoff") == ["1,1,0,kickoff", "0"]
+    assert report("1,1,1,goal-home", "1,1,0,kickoff") == ["1,1,1,goal-home", "1,1,0,kickoff", "0"]
+    assert report("1,13,0,kickoff") == ["reporter: 1,13,0,kickoff: no row of an event", "1"]
+    assert site.done("./ucl_follow <evening.jsonl | tail -n 6").startswith("GROUP A v00002 ")
+
+
+def test_access_lists(site):
+    (site.path / "access.list").write_bytes((BROKER / "access.list").read_bytes())
+    conftest.needs("mosquitto_passwd")
+    site.done("mosquitto_passwd -b -c passwords board first; mosquitto_passwd -b passwords reporter1 second; chmod 644 passwords")
+    site.open_broker((BROKER / "access.conf").read_text())
+    files = [site.path / "rows", site.path / "all"]
+    site.line("mosquitto_sub -u board -P first -q 1 -t ucl/a/rows >rows")
+    site.line("mosquitto_sub -q 1 -t '#' >all")
+    sent = ["-t ucl/a/rows -m nobody", "-u reporter1 -P second -t ucl/a/desk -m reporter"]
+    sent += ["-u reporter1 -P second -t ucl/a/rows -m row", "-u board -P first -t ucl/a/desk -m answer"]
+
+    def heard():
+        site.done("".join(f"mosquitto_pub -q 1 {words}\n" for words in sent))
+        return all(path.exists() and path.read_bytes() for path in files)
+
+    until("a row and an answer", heard)
+    assert [set(path.read_text().split()) for path in files] == [{"row"}, {"answer"}]
+    assert site.done("mosquitto_pub -u reporter1 -P first -t ucl/a/rows -m row || echo refused") == "refused\n"
+
+
+def test_an_encrypted_port_takes_who_knows_its_certificate(site):
+    conftest.needs("openssl")
+    certificate = "openssl req -x509 -newkey ec -pkeyopt ec_paramgen_curve:prime256v1 -nodes -days 1 -subj /CN=localhost -addext subjectAltName=DNS:localhost"
+    for key, out in ("broker.key", "ca.crt"), ("other.key", "other.crt"):
+        site.done(f"{certificate} -keyout {key} -out {out} && cp ca.crt broker.crt && chmod 644 broker.key")
+    port = free_port()
+    site.open_broker(re.sub(r"listener \d+", f"listener {port} 127.0.0.1", (BROKER / "tls.conf").read_text()))
+    until("the encrypted port", lambda: is_reached(port))
+    sent = lambda more: site.done(f"mosquitto_pub -h localhost -p {port} -t ucl/a/rows -m row {more} && echo taken || echo refused")
+    assert [sent(more) for more in ("--cafile ca.crt", "--cafile other.crt", "")] == ["taken\n", "refused\n", "refused\n"]
+
+
+# ---- evenings in which something breaks
+
+
+def random_rows(chance):
+    """Rows that the rules accept one after the other; matches with odd numbers are reporter 1's, the others reporter 2's."""
+    matches, rows = model.fresh(), []
+    in_play = [word for word in model.WORDS if word not in ("kickoff", "reopen", "fulltime")]
+    while len(rows) < ROWS:
+        number = chance.randint(1, 12)
+        m = matches[number - 1]
+        word = {model.SCHEDULED: "kickoff", model.FINISHED: "reopen"}.get(m.state) or (chance.choice(in_play) if chance.random() < 0.99 else "fulltime")
+        if m.refusal(m.number, word) is None:
+            rows.append(f"{2 - number % 2},{number},{m.number},{word}\n")
+            m.enter(2 - number % 2, word)
+    return rows
+
+
+def moments(journal):
+    """The lines of a journal that stand for themselves, as values."""
+    for line in journal.split("\n")[:-1]:
+        try:
+            said = json.loads(line)
+        except ValueError:
+            continue
+        if isinstance(said, dict) and "clubs" in said and len(said["words"]) == 12:
+            yield said
+
+
+def screens_by_the_rules(rows, journal):
+    """The screen of each version, in the order in which the journal answers these rows: each once, with the words after it."""
+    rows = {tuple(map(int, row.split(",")[1:3])): row.strip().split(",") for row in rows}
+    matches = model.fresh()
+    words, screens = [m.word() for m in matches], [model.screen(matches)]
+    for said in moments(journal):
+        if said["reply"] == "ok":
+            reporter, match, expected, word = rows.pop((said["match"], said["number"] - 1))
+            m = matches[int(match) - 1]
+            assert (m.number, said["version"]) == (int(expected), len(screens))
+            m.enter(int(reporter), word)
+            words[int(match) - 1] = m.word()
+            screens.append(model.screen(matches))
+        assert (said["version"], said["words"]) == (len(screens) - 1, words)
+    assert not rows, f"{len(rows)} rows are not on the board"
+    return screens
+
+
+def need_screens(text, screens):
+    """What a follower has shown in a life: rising versions, each with its screen; one that is not finished is none. Gives the last."""
+    lines = text.split("\n")[:-1]
+    shown = ["\n".join(lines[at : at + SCREEN_LINES]) + "\n" for at in range(0, len(lines) - SCREEN_LINES + 1, SCREEN_LINES)]
+    versions = [int(screen[9:14]) for screen in shown]
+    assert versions == sorted(set(versions))
+    assert [version for version, screen in zip(versions, shown) if screens[version] != screen] == []
+    return versions[-1] if versions else None
+
+
+class Follower:
+    """A follower, and what it has shown in each of its lives."""
+
+    def __init__(self, site, name, text):
+        self.site, self.name, self.text, self.files = site, name, text, []
+        self.start()
+
+    def start(self):
+        """Starts it, or starts it again."""
+        self.files.append(self.site.path / f"{self.name}-{len(self.files)}")
+        with open(self.files[-1], "wb") as file:
+            self.line = self.site.line(self.text, stdout=file)
+
+    def size(self):
+        """How much it has shown in this life."""
+        return self.files[-1].stat().st_size
+
+    def shows(self, text):
+        """Whether this stands in what it has shown last."""
+        return text in self.files[-1].read_text()[-1000:]
+
+
+class Evening:
+    """An evening: its rows, its lines, its followers."""
+
+    def __init__(self, site, seed):
+        self.site, self.chance, self.lines = site, random.Random(seed), lines_of_the_page()
+        self.rows, self.journal = random_rows(self.chance), site.path / "evening.jsonl"
+        site.open_broker()
+        site.done(self.lines["The beginning of an evening"])
+        self.board, self.desk = site.line(self.lines["The board"]), site.line(self.lines["The desk"])
+        self.screen, self.followers = self.lines["A screen"].strip(), []
+        for name in "first", "second":
+            self.follow(name)
+        until("the desk to tell the board", lambda: self.followers[0].shows(model.screen(model.fresh())))
+
+    def follow(self, name, text=None):
+        """Starts a follower."""
+        self.followers.append(Follower(self.site, name, text or self.screen))
+
+    def report(self, trouble, steps):
+        """Lets both reporters enter their rows, and makes trouble so many times, each time after a random number of rows more."""
+        for number in "12":
+            (self.site.path / f"rows{number}").write_text("".join(row for row in self.rows if row.startswith(number)))
+        reporters = [self.site.line(f"examples/broker/reporter 1 {LIMIT} <rows{number} >entered{number}") for number in "12"]
+        entered = lambda: sum(path.read_bytes().count(b"\n") for path in self.site.path.glob("entered?"))
+        ended = lambda: all(line.shell.poll() is not None for line in reporters)
+        for number, place in enumerate(sorted(self.chance.sample(range(ROWS // 20, ROWS * 19 // 20), steps))):
+            until(f"{place} rows", lambda: entered() >= place or ended(), progress=entered)
+            trouble(number)
+        until("the reporters to end", ended, progress=entered)
+        assert [line.shell.returncode for line in reporters] == [0, 0], self.site.told()
+
+    def settle(self, asked=1):
+        """Asks for the screen so many times, and waits until each follower shows it. Gives the screens of all versions."""
+        self.site.done(f"for i in $(seq {asked}); do echo screen,,,; done | mosquitto_pub -l -q 1 -t ucl/a/rows")
+        for follower in self.followers:
+            until(f"the {follower.name} follower to show the last screen", lambda: follower.shows(f" v{ROWS:05d} "), progress=follower.size)
+        screens = screens_by_the_rules(self.rows, self.journal.read_text())
+        for follower in self.followers:
+            assert [need_screens(path.read_text(), screens) for path in follower.files][-1] == ROWS
+        return screens
+
+
+def test_the_broker_is_killed_and_started_again(site):
+    evening = Evening(site, 1)
+
+    def trouble(_):
+        site.broker.kill()
+        site.broker.start()
+        site.await_broker()
+        for line in evening.board, evening.desk:
+            if line.shell.poll() is not None:
+                line.kill()
+                line.start()
+
+    evening.report(trouble, 3)
+    evening.settle()
+
+
+def test_the_board_is_killed_and_goes_on_from_its_journal(site):
+    """It is killed alone, and its line after it; with its line, and the journal's last line is cut, or lacks its end alone."""
+    evening = Evening(site, 2)
+
+    def trouble(number):
+        if number % 3 == 0:
+            evening.board.kill_one("ucl_live")
+            time.sleep(0.1)
+        evening.board.kill()
+        with open(evening.journal, "a") as journal:
+            if number % 3 == 1:
+                journal.write(evening.journal.read_text().split("\n")[-2][: evening.chance.randint(1, 200)])
+            if number % 3 == 2:
+                journal.write(unended(evening))
+        evening.board.start()
+
+    evening.report(trouble, 6)
+    evening.settle()
+
+
+def unended(evening):
+    """What a board writes that is killed just before the end of a line: the answer to the next row, without its line feed."""
+    text = evening.site.done("echo >>evening.jsonl; ./ucl_follow --resume <evening.jsonl")
+    numbers = [int(word, 16) & 4095 for word in re.findall(r"^word,\d+,(\w+),$", text, re.M)]
+    row = next((row for row in evening.rows if int(row.split(",")[2]) == numbers[int(row.split(",")[1]) - 1]), None)
+    return evening.site.done("./ucl_live --format json | tail -n 1 | tr -d '\\n'", text + row) if row else ""
+
+
+def test_every_row_comes_twice_and_some_ten_rows_later(site):
+    """Some are no rows; the answers are those of the rules, one by one."""
+    evening = Evening(site, 3)
+    again, sent = collections.deque([], 10), []
+    for row in evening.rows:
+        sent += [row, row]
+        if len(again) == 10 and evening.chance.random() < 0.2:
+            sent.append(again[0])
+        if evening.chance.random() < 0.01:
+            sent.append(evening.chance.choice(["x\n", "1,1,0,goal-hoem\n", "1,13,0,kickoff\n"]))
+        again.append(row)
+    site.done("mosquitto_pub -l -q 1 -t ucl/a/rows", "".join(sent))
+    last = f'"row":{FIRST_ROW + len(sent) - 1}}}\n'
+    until("all answers", lambda: evening.journal.read_text().endswith(last), progress=lambda: evening.journal.stat().st_size)
+    text = model.CLUBS + model.sheet(model.fresh()) + "screen,,,\n" + "".join(sent)
+    wanted = model.Evening(["--format", "json", "--screens"]).of(text)[1].split("\n")
+    found = evening.journal.read_text().split("\n")[2:]
+    assert next((pair for pair in zip(found, wanted) if pair[0] != pair[1]), None) is None and len(found) == len(wanted)
+    evening.settle()
+
+
+def test_followers_are_killed_come_late_miss_lines_or_are_not_read(site):
+    evening = Evening(site, 4)
+    (site.path / "turned.py").write_text(TURNED)
+    evening.follow("turned", evening.screen.replace(" | ", f" | {sys.executable} turned.py | "))
+    reading, writing = os.pipe()
+    fcntl.fcntl(writing, fcntl.F_SETPIPE_SZ, 4096)
+    site.line(evening.screen, stdout=writing)
+    os.close(writing)
+
+    def trouble(number):
+        if number == 1:
+            evening.follow("late")
+        else:
+            evening.followers[0].line.kill()
+            evening.followers[0].start()
+
+    evening.report(trouble, 3)
+    evening.follow("after")
+    screens = evening.settle(250)
+    pieces = []
+    reads = threading.Thread(target=lambda: pieces.extend(iter(lambda: os.read(reading, 1 << 16), b"")), daemon=True)
+    reads.start()
+    until("the follower that is read at last", lambda: b"".join(pieces).endswith(screens[-1].encode()), progress=lambda: len(pieces))
+    assert need_screens(b"".join(pieces).decode(), screens) == ROWS

@@ -1,0 +1,371 @@
+"""Random calls of the library by Python's ctypes, good and bad, against the rules in plain Python."""
+
+import ctypes as c
+import json
+import pathlib
+
+import conftest
+import model
+import pytest
+from hypothesis import given, settings
+from hypothesis import strategies as st
+from test_library import STRICT, board, library, module_over  # noqa: F401, fixtures
+from test_random import PICKS, club_rows, cut, event_rows, matches, mostly
+
+KINDS = ["kickoff", "goal-home", "goal-away", "disallow-home", "disallow-away", "yellow-home", "yellow-away", "second-yellow-home"]
+KINDS += ["second-yellow-away", "red-home", "red-away", "fulltime", "reopen"]
+MANY, SOME = (settings(max_examples=times * settings.default.max_examples) for times in (10, 3))
+# Numbers of 32 bits, among them those that are good ones where their lowest 8 or 16 bits alone are read.
+ODD = st.sampled_from([0, 13, 255, 256, 257, 65_535, 65_536, 2**31, 2**32 - 1]) | st.integers(0, 2**32 - 1)
+# What stands where a call has written nothing.
+LEFT, LEFT64 = 0x55555555, 0x5555555555555555
+
+
+class Memory:
+    """The library's memory, behind a `malloc` that counts and refuses."""
+
+    def __init__(self, path):
+        self.board = module_over(path)
+        self.until_refusal, self.requests, self.held = (c.c_long.in_dll(self.board.LIBRARY, name) for name in ("until_refusal", "requests", "held"))
+
+    def refused(self, nth, call, *given):
+        """Makes a call whose request of this number is refused, counted from 0. Its status, and whether it asked for so many."""
+        self.requests.value, self.until_refusal.value = 0, nth
+        status = call(*given)
+        self.until_refusal.value = -1
+        return status, self.requests.value > nth >= 0
+
+    def asks(self, nth, name, outputs, *given):
+        """Makes a call with a request refused, where it makes so many, which changes nothing and leaves nothing; and then once more. Its status."""
+        before, call = [bytes(it) for it in outputs], getattr(self.board, name)
+        status, was_refused = self.refused(nth, call, *given)
+        assert self.held.value == 0
+        if was_refused:
+            assert status == 23 and [bytes(it) for it in outputs] == before
+            status, _ = self.refused(-1, call, *given)
+        return status
+
+    def needs_none(self, name, *given):
+        """Makes a call that asks for no memory. Its status."""
+        status, asks = self.refused(0, getattr(self.board, name), *given)
+        assert not asks
+        return status
+
+
+@pytest.fixture(scope="session")
+def memory(library, tmp_path_factory):
+    """The module in Python over a library whose `malloc` counts and refuses."""
+    path = tmp_path_factory.mktemp("counted") / "counted.so"
+    wraps = [f"-Wl,--wrap={name}" for name in ("malloc", "realloc", "free")]
+    whole = ["-Wl,--whole-archive", library / "libuclboard.a", "-Wl,--no-whole-archive"]
+    words = ["cc", "-shared", "-fPIC", *STRICT.split(), *wraps, pathlib.Path(__file__).with_name("counted.c"), *whole, "-o", path]
+    assert conftest.command(words) == (0, "", "")
+    return Memory(path)
+
+
+def filled(of, count=1):
+    """So many elements of a type, which a call may write to."""
+    made = (of * count)()
+    c.memset(made, 0x55, c.sizeof(made))
+    return made
+
+
+def joined(width, fields, above):
+    """A word of these fields, of which the first has this width."""
+    word, low = above << width + 44, 0
+    for field, bits in zip(fields, [width, 2, 6, 6, 6, 6, 5, 5, 8]):
+        word, low = word | field << low, low + bits
+    return word & 2**64 - 1
+
+
+def packed(m):
+    """The word of a match."""
+    return int(m.word(), 16)
+
+
+def read(word, is_of_today=False):
+    """The match of a word, where it is one."""
+    m = model.match_of(f"{word:016x}")
+    return None if m is None or is_of_today and packed(m) != word else m
+
+
+# Words of both layouts, good and bad, near all limits; where they are good most are of matches in play.
+NUMBERS, STATES, CARDS = st.sampled_from([1, 2, 7, 1022, 1023, 4093, 4094, 4095]), st.sampled_from([1, 1, 1, 2, 2, 3]), st.sampled_from([0, 1, 62, 63])
+FIELDS = st.tuples(NUMBERS, STATES, *[CARDS] * 4, *[st.sampled_from([0, 1, 30, 31])] * 2, st.sampled_from([1, 1, 7, 255, 255, 0]))
+BUILT = st.one_of(st.builds(joined, st.just(12), FIELDS, st.just(0x20)), st.builds(joined, st.just(10), FIELDS, st.just(0)), st.just(2 << 60), st.just(0))
+WORDS = mostly(BUILT, st.tuples(BUILT, st.integers(0, 63)).map(lambda it: it[0] ^ 1 << it[1]), 5)
+
+
+@MANY
+@given(word=WORDS, reporter=mostly(st.integers(1, 255), ODD), kind=mostly(st.integers(0, 12), ODD), offset=mostly(st.just(0), ODD))
+def test_an_event(memory, word, reporter, kind, offset):
+    m = read(word, True)
+    expected = ((m.number if m else 0) + offset) % 2**32
+    refusal = m.refusal(expected, KINDS[kind]) if m and kind < 13 else None
+    told = 50 if not 1 <= reporter <= 255 else 51 if kind > 12 else 10 if m is None else int(refusal.split()[0]) if refusal else 0
+    number = m.number if told == 1 else LEFT
+    if told == 0:
+        m.enter(reporter, KINDS[kind])
+    after, found = filled(c.c_uint64), filled(c.c_uint32)
+    status = memory.needs_none("next_word", word, reporter, expected, kind, after, found)
+    assert (status, after[0], found[0]) == (told, packed(m) if told == 0 else LEFT64, number)
+
+
+@MANY
+@given(word=WORDS)
+def test_a_word(memory, word):
+    today, either, new, match = read(word, True), read(word), filled(c.c_uint64), filled(memory.board.Match)
+    assert (memory.needs_none("read_word", word, new), new[0]) == ((0, packed(either)) if either else (10, LEFT64))
+    status = memory.needs_none("match_of", word, match[0])
+    wanted = [today.number, today.state, *today.goals, *today.yellows, *today.expulsions, today.reporter] if today else [LEFT] * 9
+    assert (status, [getattr(match[0], name) for name, _ in match[0]._fields_]) == (0 if today else 10, wanted)
+
+
+NAMES = mostly(st.lists(st.sampled_from(b'ABCDEFGH ~"\\'), min_size=20, max_size=20).map(bytes), st.binary(min_size=20, max_size=20), 29)
+CLUBS = st.tuples(NAMES, mostly(st.integers(1, 20), ODD, 29), mostly(st.sampled_from([0, 60_000, 60_000, 999_999]), st.just(1_000_000) | ODD, 29))
+
+
+class Sheet:
+    """What is shown of a board: words, clubs, a group, an order; what the rules read of them, and the faults, each a status and where it is."""
+
+    def __init__(self, draw, board):
+        self.words = [*map(packed, draw(matches()))]
+        if draw(st.integers(0, 3)) == 3:
+            self.words[draw(st.integers(0, 11))] = draw(WORDS)
+        if draw(st.integers(0, 19)) == 19:
+            self.words = (self.words * 2)[: draw(st.sampled_from([0, 11, 13]))]
+        clubs = draw(st.lists(CLUBS, min_size=4, max_size=4) if draw(st.integers(0, 19)) else st.lists(CLUBS, max_size=5))
+        self.order, self.group = draw(mostly(st.integers(0, 1), ODD, 19)), draw(mostly(st.integers(65, 72), st.sampled_from([64, 73, 97, 321]) | ODD, 19))
+        self.roster = [(name[:length].decode("latin-1") if length <= 20 else "", coefficient) for name, length, coefficient in clubs]
+        self.coefficients = [("-", coefficient) for *_, coefficient in clubs]
+        self.matches = [read(word) for word in self.words]
+        self.taken = (c.c_uint64 * max(len(self.words), 1))(*self.words), len(self.words)
+        self.clubs = (board.Club * max(len(clubs), 1))(*clubs), len(clubs)
+        for slot, (name, *_) in enumerate(clubs):
+            c.memmove(c.byref(self.clubs[0], slot * c.sizeof(board.Club)), name, 20)
+
+    def of_words(self):
+        """The fault of the words."""
+        bad = [place for place, match in enumerate(self.matches, 1) if match is None]
+        return (54, LEFT) if len(self.words) != 12 else (10, bad[0]) if bad else None
+
+    def of_clubs(self, roster):
+        """The fault of clubs, or of coefficients."""
+        return (55, LEFT) if len(roster) != 4 else (21, model.bad_slots(roster)[0]) if model.bad_slots(roster) else None
+
+    def of_order(self):
+        """The fault of the order."""
+        return (52, LEFT) if self.order > 1 else None
+
+
+def written(memory, nth, name, *given, room=()):
+    """What a call that writes a text answers: its status, the place and the length that it tells, and the text."""
+    out, length, at = c.create_string_buffer(b"\x55" * 2600, 2600), filled(c.c_size_t), filled(c.c_uint32)
+    status = memory.asks(nth, name, (out, length, at), *given, *[out] * len(room), *room, length, at)
+    return status, at[0], length[0], out.raw.rstrip(b"\x55")
+
+
+@SOME
+@given(data=st.data(), nth=st.integers(0, 12), row=st.sampled_from([0, 9, 2**64 - 1]), room=st.sampled_from([320, 320, 0, 1, 295, 296, 297, 1424, 1424, 1300]))
+def test_a_screen(memory, data, nth, row, room):
+    sheet = Sheet(data.draw, memory.board)
+    fault = sheet.of_order() or (None if 65 <= sheet.group <= 72 else (53, LEFT)) or sheet.of_words() or sheet.of_clubs(sheet.roster)
+    given = *sheet.taken, *sheet.clubs, sheet.group, sheet.order
+    calls = [("screen", given, (room,)), ("screen_length", given, ()), ("screen_json", (row, *given), (room,))]
+    screen, length, line = (written(memory, nth, name, *given, room=room) for name, given, room in calls)
+    if fault:
+        assert [screen, length, line] == [(*fault, LEFT64, b"")] * 3
+        return
+    text = model.screen(sheet.matches, sheet.roster, chr(sheet.group), sheet.order == 1).encode()
+    assert screen == ((0, LEFT, len(text), text + b"\0") if len(text) < room else (56, LEFT, len(text), b""))
+    assert length == (0, LEFT, len(text), b"")
+    assert line[:2] == (0 if line[2] < room else 56, LEFT) and line[2] < 1424 and len(line[3]) == (line[2] + 1 if line[2] < room else 0)
+    if line[3]:
+        style = model.Style(["--group", chr(sheet.group), "--order", ["uefa", "away-in-tie"][sheet.order]])
+        assert line[3].decode() == model.line_of(style.json(sheet.matches, sheet.roster, row)) + "\0"
+
+
+@SOME
+@given(data=st.data(), room=mostly(st.just(4), st.sampled_from([0, 3, 5])))
+def test_a_table_and_a_version(memory, data, room):
+    sheet = Sheet(data.draw, memory.board)
+    fault = sheet.of_order() or sheet.of_words() or sheet.of_clubs(sheet.coefficients) or (None if room == 4 else (57, LEFT))
+    coefficients = (c.c_uint32 * max(len(sheet.coefficients), 1))(*[coefficient for _, coefficient in sheet.coefficients])
+    rows, at, version = filled(memory.board.Row, 5), filled(c.c_uint32), filled(c.c_uint32)
+    status = memory.needs_none("standings", *sheet.taken, coefficients, len(sheet.coefficients), sheet.order, rows, room, at)
+    names = ["slot", "place", "mark", "played", "won", "drawn", "lost", "goals_for", "goals_against", "points"]
+    table = [] if fault else model.places(sheet.matches, sheet.coefficients, sheet.order == 1)
+    wanted = [[{"": 0, "+": 1, "-": 2}.get(place[name], place[name]) for name in names] for place in table]
+    assert (status, at[0]) == (fault or (0, LEFT))
+    assert [[getattr(row, name) for name, _ in row._fields_] for row in rows] == wanted + [[LEFT] * 10] * (5 - len(wanted))
+    at = filled(c.c_uint32)
+    status = memory.needs_none("board_version", *sheet.taken, version, at)
+    assert (status, at[0], version[0]) == ((*sheet.of_words(), LEFT) if sheet.of_words() else (0, LEFT, model.version(sheet.matches)))
+
+
+def said(reply, board):
+    """A reply as the command line writes it."""
+    if reply.status == 0:
+        return f"{reply.row} ok {reply.match_number} {reply.event_number} {reply.version}"
+    return f"{reply.row} refused {reply.status} {board.name_of(reply.status)}" + (f" {reply.event_number}" if reply.event_number or reply.status == 1 else "")
+
+
+@SOME
+@given(data=st.data(), nth=st.integers(0, 30), room=st.integers(-1, 3), lengths=mostly(st.just((12, 4)), st.sampled_from([(13, 4), (11, 5), (12, 3), (12, 5)]), 19))
+def test_a_script(memory, data, nth, room, lengths):
+    board = memory.board
+    text = cut(data.draw, "".join(data.draw(club_rows()) + event_rows(data.draw(PICKS))))
+    fault = (54, LEFT) if lengths[0] != 12 else (55, LEFT) if lengths[1] != 4 else None
+    roster, events = [], []
+    try:
+        roster, events = model.parsed(text)
+    except model.Fault as error:
+        fault = fault or tuple(int(word.strip(":")) for word in str(error).split() if word.strip(":").isdigit())
+    room = max(len(events) + room, 0)
+    clubs, words, replies, count, at = filled(board.Club, 5), filled(c.c_uint64, 13), filled(board.Reply, len(events) + 4), filled(c.c_size_t), filled(c.c_uint32)
+    given, outputs = conftest.encoded(text), (clubs, words, replies, count, at)
+    before = [bytes(it) for it in outputs[:3]]
+    status = memory.asks(nth, "script", outputs, given, len(given), clubs, lengths[1], words, lengths[0], replies, room, count, at)
+    told, where = fault or (56 if room < len(events) else 0, LEFT)
+    assert (status, at[0], count[0]) == (told, where, LEFT64 if fault else len(events))
+    if told:
+        assert [bytes(it) for it in outputs[:3]] == before
+        return
+    matches, lines = model.entered(events)
+    lines, replies, beyond = lines.splitlines(), replies[: len(events)], bytes(replies)[len(events) * c.sizeof(board.Reply) :]
+    assert words[:] == [*map(packed, matches), LEFT64] and set(bytes(clubs[4]) + beyond) == {0x55}
+    assert [(bytes(club)[:20], club.length, club.coefficient) for club in clubs[:4]] == [(n.encode().ljust(20, b"\0"), len(n), number) for n, number in roster]
+    assert [said(reply, board) for reply in replies] == lines
+    versions = [sum(" ok " in line for line in lines[: n + 1]) for n in range(len(lines))]
+    assert [(reply.match_number, reply.version) for reply in replies] == list(zip([game for _, game, *_ in events], versions))
+
+
+# ---- handles
+
+PLACES = 6
+STEPS = st.tuples(
+    st.sampled_from(["open", "split", "enlist", "drop", "read", "report", "report", "report"]), st.integers(0, PLACES - 1), st.integers(0, PLACES - 1),
+    st.tuples(mostly(st.integers(1, 12) | st.just(1), ODD), mostly(st.integers(0, 12), ODD), mostly(st.just(0), ODD)), mostly(st.just(-1), st.integers(0, 3), 2),
+)
+
+
+class Handles:
+    """Handles by the rules, each a board's matches, how many reporters it has, and who it is; and those of the library, with bytes between them."""
+
+    def __init__(self, memory):
+        self.memory, self.library = memory, memory.board
+        self.held, self.room = [None] * PLACES, filled(c.c_uint64, 2 * PLACES)
+        self.handles = [c.c_void_p.from_buffer(self.room, 16 * place) for place in range(PLACES)]
+        for handle in self.handles:
+            handle.value = None
+
+    def step(self, name, i, j, event, nth):
+        """Makes a call whose request of this number is refused, where it asks for so many."""
+        if name == "drop":
+            self.library.pass_drop(self.handles[i])
+            self.held[i] = None
+            for place in range(PLACES):
+                self.read(place)
+        elif name == "open":
+            self.gives(i, 59 if self.held[i] else None, nth, self.library.new_board, [self.handles[i]], lambda: (model.fresh(), [0], 0))
+        elif name in ("split", "enlist") and i != j:
+            mine, call = self.held[i], getattr(self.library, f"pass_{name}")
+            fault = 59 if self.held[j] else 60 if mine is None else 61 if mine[2] else None
+            self.gives(j, fault, nth, call, [self.handles[i], self.handles[j]], lambda: mine if name == "split" else self.enlisted(*mine))
+        elif name in ("read", "report"):
+            getattr(self, name)(i, *event)
+        assert self.room[1::2] == [LEFT64] * PLACES
+
+    def enlisted(self, matches, count, _):
+        """A reporter's pass of a board."""
+        count[0] += 1
+        return matches, count, count[0]
+
+    def gives(self, place, fault, nth, call, handles, made):
+        """A call that gives a handle."""
+        was = self.handles[place].value
+        status, was_refused = self.memory.refused(nth, call, *handles)
+        assert status == (fault or (23 if was_refused else 0))
+        if status == 0:
+            self.held[place] = made()
+        assert bool(self.handles[place].value) if status == 0 else self.handles[place].value == was
+
+    def report(self, i, game, kind, offset):
+        """Reports an event by a pass."""
+        mine = self.held[i]
+        m = mine[0][game - 1] if mine and 1 <= game <= 12 else model.Match()
+        kind = 0 if m.state == model.SCHEDULED and kind in range(6) else kind
+        expected, number = (m.number + offset) % 2**32, filled(c.c_uint32)
+        fault = 51 if kind > 12 else 62 if not 1 <= game <= 12 else 60 if mine is None else 63 if mine[2] == 0 else None
+        refusal = None if fault else m.refusal(expected, KINDS[kind])
+        told = fault or (int(refusal.split()[0]) if refusal else 0)
+        if told == 0:
+            m.enter(mine[2], KINDS[kind])
+        status = self.memory.needs_none("pass_report", self.handles[i], game, expected, kind, number)
+        assert (status, number[0]) == (told, m.number if told in (0, 1) else LEFT)
+
+    def read(self, i, room=12, *_):
+        """Reads the board by a pass, with room for twelve words or for eleven."""
+        words, version, mine, room = filled(c.c_uint64, 12), filled(c.c_uint32), self.held[i], 12 if room < 13 else 11
+        told = 54 if room != 12 else 60 if mine is None else 0
+        status = self.memory.needs_none("pass_read", self.handles[i], words, room, version)
+        wanted = ([LEFT64] * 12, LEFT) if told else ([*map(packed, mine[0])], model.version(mine[0]))
+        assert (status, words[:], version[0]) == (told, *wanted)
+
+
+@SOME
+@given(steps=st.lists(STEPS, max_size=60))
+def test_handles(memory, steps):
+    handles = Handles(memory)
+    try:
+        for step in [("open", 0, 0, (), -1), ("enlist", 0, 1, (), -1), *steps]:
+            handles.step(*step)
+    finally:
+        for handle in handles.handles:
+            memory.board.pass_drop(handle)
+    assert memory.held.value == 0
+
+
+def test_enlistments_without_memory_spend_no_number(memory):
+    board, first, none = memory.board, c.c_void_p(), c.c_void_p()
+    assert board.new_board(first) == 0
+    assert {memory.refused(0, board.pass_enlist, first, none) for _ in range(300)} == {(23, True)}
+    reporters = [c.c_void_p() for _ in range(255)]
+    assert [board.pass_enlist(first, reporter) for reporter in reporters] == [0] * 255
+    assert board.pass_enlist(first, none) == 30 and not none.value
+    number, words, match = c.c_uint32(), (c.c_uint64 * 12)(), board.Match()
+    for game, reporter in (1, 1), (2, 255):
+        assert board.pass_report(reporters[reporter - 1], game, 0, 0, number) == board.pass_read(first, words, 12, number) == 0
+        assert board.match_of(words[game - 1], match) == 0 and match.reporter == reporter
+    for handle in [first, *reporters]:
+        board.pass_drop(handle)
+    assert memory.held.value == 0
+
+
+# ---- numbers that have no room are refused, and not cut
+
+ROSTER, SCHEDULED = model.ROSTER, 2 << 60
+NO_ROOM = {
+    "a word of 65 bits": (lambda b: b.Board([SCHEDULED] * 11 + [2**64 + SCHEDULED]), "BadWord", 12),
+    "a word below 0": (lambda b: b.Board([SCHEDULED - 2**64] + [SCHEDULED] * 11), "BadWord", 1),
+    "a row of 65 bits": (lambda b: b.Board().json(ROSTER, row=2**64 + 5), "BadRow", 2**64 + 5),
+    "a row below 0": (lambda b: b.Board().json(ROSTER, row=-1), "BadRow", -1),
+    "a reporter of 33 bits": (lambda b: b.Board().report(1, 2**32 + 1, 0, "kickoff"), "NoReporter", None),
+    "an expected number of 33 bits": (lambda b: b.Board().report(1, 1, 2**32, "kickoff"), "Stale", 0),
+    "a match of 33 bits": (lambda b: b.Pass.open().enlist().report(2**32 + 1, 0, "kickoff"), "NoMatch", None),
+    "an expected number of 33 bits behind a handle": (lambda b: b.Pass.open().enlist().report(1, 2**32, "kickoff"), "Stale", 0),
+    "a coefficient of 33 bits": (lambda b: b.Board().standings([0, 2**32, 0, 0]), "BadRoster", 2),
+    "a coefficient below 0": (lambda b: b.Board().screen(ROSTER[:3] + [("Delta", 81500 - 2**32)]), "BadRoster", 4),
+}
+
+
+@pytest.mark.parametrize("what", NO_ROOM)
+def test_a_number_without_room_in_python(board, what):
+    call, name, told = NO_ROOM[what]
+    with pytest.raises(getattr(board, name)) as raised:
+        call(board)
+    assert raised.value.told == told
+
+
+def test_the_greatest_row_has_room_in_python(board):
+    assert json.loads(board.Board().json(ROSTER, row=2**64 - 1))["row"] == 2**64 - 1
