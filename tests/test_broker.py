@@ -129,18 +129,27 @@ class Site:
         return (self.path / "errors").read_text(errors="replace")[-300:]
 
 
+@contextlib.contextmanager
+def opened(path, program):
+    """A folder with the programs, where lines are typed; at the end all of it is killed."""
+    for name in "ucl_live", "ucl_follow":
+        (path / name).symlink_to(program(name))
+    site = Site(path)
+    try:
+        yield site
+    finally:
+        for line in site.started:
+            line.kill()
+        site.errors.close()
+
+
 @pytest.fixture
 def site(tmp_path, program, monkeypatch):
-    """A folder with the programs, where lines are typed; at the end all of it is killed."""
+    """Such a folder, where the broker is installed."""
     monkeypatch.setenv("PATH", os.environ["PATH"] + ":/usr/sbin:/usr/local/sbin")
     conftest.needs("mosquitto", "mosquitto_sub", "mosquitto_pub")
-    for name in "ucl_live", "ucl_follow":
-        (tmp_path / name).symlink_to(program(name))
-    opened = Site(tmp_path)
-    yield opened
-    for line in opened.started:
-        line.kill()
-    opened.errors.close()
+    with opened(tmp_path, program) as site:
+        yield site
 
 
 # ---- what examples/broker says
@@ -234,31 +243,18 @@ def random_rows(chance):
     return rows
 
 
-def moments(journal):
-    """The lines of a journal that stand for themselves, as values."""
-    for line in journal.split("\n")[:-1]:
-        try:
-            said = json.loads(line)
-        except ValueError:
-            continue
-        if isinstance(said, dict) and "clubs" in said and len(said["words"]) == 12:
-            yield said
-
-
 def screens_by_the_rules(rows, journal):
     """The screen of each version, in the order in which the journal answers these rows: each once, with the words after it."""
     rows = {tuple(map(int, row.split(",")[1:3])): row.strip().split(",") for row in rows}
-    matches = model.fresh()
-    words, screens = [m.word() for m in matches], [model.screen(matches)]
-    for said in moments(journal):
+    matches, screens = model.fresh(), [model.screen(model.fresh())]
+    for line in filter(model.moment_of, journal.split("\n")[:-1]):
+        said = json.loads(line)
         if said["reply"] == "ok":
             reporter, match, expected, word = rows.pop((said["match"], said["number"] - 1))
-            m = matches[int(match) - 1]
-            assert (m.number, said["version"]) == (int(expected), len(screens))
-            m.enter(int(reporter), word)
-            words[int(match) - 1] = m.word()
+            assert (matches[int(match) - 1].number, said["version"]) == (int(expected), len(screens))
+            matches[int(match) - 1].enter(int(reporter), word)
             screens.append(model.screen(matches))
-        assert (said["version"], said["words"]) == (len(screens) - 1, words)
+        assert (said["version"], said["words"]) == (len(screens) - 1, [m.word() for m in matches])
     assert not rows, f"{len(rows)} rows are not on the board"
     return screens
 
@@ -273,28 +269,6 @@ def need_screens(text, screens):
     return versions[-1] if versions else None
 
 
-class Follower:
-    """A follower, and what it has shown in each of its lives."""
-
-    def __init__(self, site, name, text):
-        self.site, self.name, self.text, self.files = site, name, text, []
-        self.start()
-
-    def start(self):
-        """Starts it, or starts it again."""
-        self.files.append(self.site.path / f"{self.name}-{len(self.files)}")
-        with open(self.files[-1], "wb") as file:
-            self.line = self.site.line(self.text, stdout=file)
-
-    def size(self):
-        """How much it has shown in this life."""
-        return self.files[-1].stat().st_size
-
-    def shows(self, text):
-        """Whether this stands in what it has shown last."""
-        return text in self.files[-1].read_text()[-1000:]
-
-
 class Evening:
     """An evening: its rows, its lines, its followers."""
 
@@ -304,14 +278,22 @@ class Evening:
         site.open_broker()
         site.done(self.lines["The beginning of an evening"])
         self.board, self.desk = site.line(self.lines["The board"]), site.line(self.lines["The desk"])
-        self.screen, self.followers = self.lines["A screen"].strip(), []
+        self.screen, self.lives = self.lines["A screen"].strip(), collections.defaultdict(list)
         for name in "first", "second":
-            self.follow(name)
-        until("the desk to tell the board", lambda: self.followers[0].shows(model.screen(model.fresh())))
+            self.follow(name, self.screen)
+        until("the desk to tell the board", lambda: self.shown("first").endswith(model.screen(model.fresh())))
 
-    def follow(self, name, text=None):
-        """Starts a follower."""
-        self.followers.append(Follower(self.site, name, text or self.screen))
+    def follow(self, name, text):
+        """Starts a follower, or kills it and starts it again: each of its lives has a file."""
+        for line, _ in self.lives[name][-1:]:
+            line.kill()
+        path = self.site.path / f"{name}-{len(self.lives[name])}"
+        with open(path, "wb") as file:
+            self.lives[name].append((self.site.line(text, stdout=file), path))
+
+    def shown(self, name):
+        """What a follower has shown in its last life."""
+        return self.lives[name][-1][1].read_text()
 
     def report(self, trouble, steps):
         """Lets both reporters enter their rows, and makes trouble so many times, each time after a random number of rows more."""
@@ -329,11 +311,11 @@ class Evening:
     def settle(self, asked=1):
         """Asks for the screen so many times, and waits until each follower shows it. Gives the screens of all versions."""
         self.site.done(f"for i in $(seq {asked}); do echo screen,,,; done | mosquitto_pub -l -q 1 -t ucl/a/rows")
-        for follower in self.followers:
-            until(f"the {follower.name} follower to show the last screen", lambda: follower.shows(f" v{ROWS:05d} "), progress=follower.size)
+        for name in self.lives:
+            until(f"the {name} follower to show the last screen", lambda: f" v{ROWS:05d} " in self.shown(name), progress=lambda: len(self.shown(name)))
         screens = screens_by_the_rules(self.rows, self.journal.read_text())
-        for follower in self.followers:
-            assert [need_screens(path.read_text(), screens) for path in follower.files][-1] == ROWS
+        for lives in self.lives.values():
+            assert [need_screens(path.read_text(), screens) for _, path in lives][-1] == ROWS
         return screens
 
 
@@ -412,14 +394,10 @@ def test_followers_are_killed_come_late_miss_lines_or_are_not_read(site):
     os.close(writing)
 
     def trouble(number):
-        if number == 1:
-            evening.follow("late")
-        else:
-            evening.followers[0].line.kill()
-            evening.followers[0].start()
+        evening.follow("late" if number == 1 else "first", evening.screen)
 
     evening.report(trouble, 3)
-    evening.follow("after")
+    evening.follow("after", evening.screen)
     screens = evening.settle(250)
     pieces = []
     reads = threading.Thread(target=lambda: pieces.extend(iter(lambda: os.read(reading, 1 << 16), b"")), daemon=True)

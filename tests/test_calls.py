@@ -1,6 +1,10 @@
-"""Random calls of the library by Python's ctypes, good and bad, against the rules in plain Python."""
+"""Random calls of the library by Python's ctypes, good and bad, against the rules in plain Python.
+
+Each call is made in a thread that has no more stack than the header says, over a `malloc` that refuses a request, and that counts what is left.
+"""
 
 import ctypes as c
+import itertools
 import json
 import pathlib
 
@@ -21,8 +25,21 @@ ODD = st.sampled_from([0, 13, 255, 256, 257, 65_535, 65_536, 2**31, 2**32 - 1]) 
 LEFT, LEFT64 = 0x55555555, 0x5555555555555555
 
 
+# A number, or where something is; the fields of a struct; the rule that refuses an event, or 0; the word of a match.
+place_of = lambda given: given if isinstance(given, int) else c.cast(given, c.c_void_p).value if isinstance(given, bytes) else c.addressof(given)
+fields_of = lambda made: tuple(getattr(made, name) for name, _ in made._fields_)
+code_of = lambda m, expected, word: int((m.refusal(expected, word) or "0").split()[0])
+packed = lambda m: int(m.word(), 16)
+
+
+class Work(c.Structure):
+    """A call, what it is given, and what it answers."""
+
+    _fields_ = [("call", c.c_void_p), ("given", c.c_uint64 * 12), ("answer", c.c_uint64)]
+
+
 class Memory:
-    """The library's memory, behind a `malloc` that counts and refuses."""
+    """The library over a `malloc` that counts and refuses."""
 
     def __init__(self, path):
         self.board = module_over(path)
@@ -30,25 +47,22 @@ class Memory:
 
     def refused(self, nth, call, *given):
         """Makes a call whose request of this number is refused, counted from 0. Its status, and whether it asked for so many."""
+        work = Work(c.cast(call, c.c_void_p).value, (c.c_uint64 * 12)(*map(place_of, given)))
+        stack = 16_384 + 65_536 * (call == self.board.script)
         self.requests.value, self.until_refusal.value = 0, nth
-        status = call(*given)
+        is_made = self.board.LIBRARY.make_on_stack(c.byref(work), c.c_size_t(stack)) == 0
         self.until_refusal.value = -1
-        return status, self.requests.value > nth >= 0
+        assert is_made
+        return work.answer & 2**32 - 1, self.requests.value > nth >= 0
 
-    def asks(self, nth, name, outputs, *given):
-        """Makes a call with a request refused, where it makes so many, which changes nothing and leaves nothing; and then once more. Its status."""
-        before, call = [bytes(it) for it in outputs], getattr(self.board, name)
+    def made(self, name, *given, nth=0, outputs=None):
+        """Makes a call. Where it writes to outputs it may ask for memory: a request that is refused changes nothing, and none is left. Its status."""
+        before, call = [bytes(it) for it in outputs or []], getattr(self.board, name)
         status, was_refused = self.refused(nth, call, *given)
-        assert self.held.value == 0
+        assert self.held.value == 0 if outputs else not was_refused
         if was_refused:
             assert status == 23 and [bytes(it) for it in outputs] == before
             status, _ = self.refused(-1, call, *given)
-        return status
-
-    def needs_none(self, name, *given):
-        """Makes a call that asks for no memory. Its status."""
-        status, asks = self.refused(0, getattr(self.board, name), *given)
-        assert not asks
         return status
 
 
@@ -78,11 +92,6 @@ def joined(width, fields, above):
     return word & 2**64 - 1
 
 
-def packed(m):
-    """The word of a match."""
-    return int(m.word(), 16)
-
-
 def read(word, is_of_today=False):
     """The match of a word, where it is one."""
     m = model.match_of(f"{word:016x}")
@@ -101,13 +110,12 @@ WORDS = mostly(BUILT, st.tuples(BUILT, st.integers(0, 63)).map(lambda it: it[0] 
 def test_an_event(memory, word, reporter, kind, offset):
     m = read(word, True)
     expected = ((m.number if m else 0) + offset) % 2**32
-    refusal = m.refusal(expected, KINDS[kind]) if m and kind < 13 else None
-    told = 50 if not 1 <= reporter <= 255 else 51 if kind > 12 else 10 if m is None else int(refusal.split()[0]) if refusal else 0
+    told = 50 if not 1 <= reporter <= 255 else 51 if kind > 12 else 10 if m is None else code_of(m, expected, KINDS[kind])
     number = m.number if told == 1 else LEFT
     if told == 0:
         m.enter(reporter, KINDS[kind])
     after, found = filled(c.c_uint64), filled(c.c_uint32)
-    status = memory.needs_none("next_word", word, reporter, expected, kind, after, found)
+    status = memory.made("next_word", word, reporter, expected, kind, after, found)
     assert (status, after[0], found[0]) == (told, packed(m) if told == 0 else LEFT64, number)
 
 
@@ -115,10 +123,11 @@ def test_an_event(memory, word, reporter, kind, offset):
 @given(word=WORDS)
 def test_a_word(memory, word):
     today, either, new, match = read(word, True), read(word), filled(c.c_uint64), filled(memory.board.Match)
-    assert (memory.needs_none("read_word", word, new), new[0]) == ((0, packed(either)) if either else (10, LEFT64))
-    status = memory.needs_none("match_of", word, match[0])
-    wanted = [today.number, today.state, *today.goals, *today.yellows, *today.expulsions, today.reporter] if today else [LEFT] * 9
-    assert (status, [getattr(match[0], name) for name, _ in match[0]._fields_]) == (0 if today else 10, wanted)
+    assert (memory.made("read_word", word, new), new[0]) == ((0, packed(either)) if either else (10, LEFT64))
+    status, wanted = memory.made("match_of", word, match[0]), (LEFT,) * 9
+    if today:
+        wanted = (today.number, today.state, *today.goals, *today.yellows, *today.expulsions, today.reporter)
+    assert (status, fields_of(match[0])) == (0 if today else 10, wanted)
 
 
 NAMES = mostly(st.lists(st.sampled_from(b'ABCDEFGH ~"\\'), min_size=20, max_size=20).map(bytes), st.binary(min_size=20, max_size=20), 29)
@@ -143,25 +152,20 @@ class Sheet:
         self.clubs = (board.Club * max(len(clubs), 1))(*clubs), len(clubs)
         for slot, (name, *_) in enumerate(clubs):
             c.memmove(c.byref(self.clubs[0], slot * c.sizeof(board.Club)), name, 20)
-
-    def of_words(self):
-        """The fault of the words."""
         bad = [place for place, match in enumerate(self.matches, 1) if match is None]
-        return (54, LEFT) if len(self.words) != 12 else (10, bad[0]) if bad else None
+        self.of_words = (54, LEFT) if len(self.words) != 12 else (10, bad[0]) if bad else None
+        self.of_order = (52, LEFT) if self.order > 1 else None
+        self.of_group = None if 65 <= self.group <= 72 else (53, LEFT)
 
     def of_clubs(self, roster):
         """The fault of clubs, or of coefficients."""
         return (55, LEFT) if len(roster) != 4 else (21, model.bad_slots(roster)[0]) if model.bad_slots(roster) else None
 
-    def of_order(self):
-        """The fault of the order."""
-        return (52, LEFT) if self.order > 1 else None
-
 
 def written(memory, nth, name, *given, room=()):
     """What a call that writes a text answers: its status, the place and the length that it tells, and the text."""
     out, length, at = c.create_string_buffer(b"\x55" * 2600, 2600), filled(c.c_size_t), filled(c.c_uint32)
-    status = memory.asks(nth, name, (out, length, at), *given, *[out] * len(room), *room, length, at)
+    status = memory.made(name, *given, *[out] * len(room), *room, length, at, nth=nth, outputs=(out, length, at))
     return status, at[0], length[0], out.raw.rstrip(b"\x55")
 
 
@@ -169,7 +173,7 @@ def written(memory, nth, name, *given, room=()):
 @given(data=st.data(), nth=st.integers(0, 12), row=st.sampled_from([0, 9, 2**64 - 1]), room=st.sampled_from([320, 320, 0, 1, 295, 296, 297, 1424, 1424, 1300]))
 def test_a_screen(memory, data, nth, row, room):
     sheet = Sheet(data.draw, memory.board)
-    fault = sheet.of_order() or (None if 65 <= sheet.group <= 72 else (53, LEFT)) or sheet.of_words() or sheet.of_clubs(sheet.roster)
+    fault = sheet.of_order or sheet.of_group or sheet.of_words or sheet.of_clubs(sheet.roster)
     given = *sheet.taken, *sheet.clubs, sheet.group, sheet.order
     calls = [("screen", given, (room,)), ("screen_length", given, ()), ("screen_json", (row, *given), (room,))]
     screen, length, line = (written(memory, nth, name, *given, room=room) for name, given, room in calls)
@@ -189,25 +193,17 @@ def test_a_screen(memory, data, nth, row, room):
 @given(data=st.data(), room=mostly(st.just(4), st.sampled_from([0, 3, 5])))
 def test_a_table_and_a_version(memory, data, room):
     sheet = Sheet(data.draw, memory.board)
-    fault = sheet.of_order() or sheet.of_words() or sheet.of_clubs(sheet.coefficients) or (None if room == 4 else (57, LEFT))
+    fault = sheet.of_order or sheet.of_words or sheet.of_clubs(sheet.coefficients) or (None if room == 4 else (57, LEFT))
     coefficients = (c.c_uint32 * max(len(sheet.coefficients), 1))(*[coefficient for _, coefficient in sheet.coefficients])
     rows, at, version = filled(memory.board.Row, 5), filled(c.c_uint32), filled(c.c_uint32)
-    status = memory.needs_none("standings", *sheet.taken, coefficients, len(sheet.coefficients), sheet.order, rows, room, at)
+    status = memory.made("standings", *sheet.taken, coefficients, len(sheet.coefficients), sheet.order, rows, room, at)
     names = ["slot", "place", "mark", "played", "won", "drawn", "lost", "goals_for", "goals_against", "points"]
     table = [] if fault else model.places(sheet.matches, sheet.coefficients, sheet.order == 1)
-    wanted = [[{"": 0, "+": 1, "-": 2}.get(place[name], place[name]) for name in names] for place in table]
-    assert (status, at[0]) == (fault or (0, LEFT))
-    assert [[getattr(row, name) for name, _ in row._fields_] for row in rows] == wanted + [[LEFT] * 10] * (5 - len(wanted))
+    wanted = [tuple({"": 0, "+": 1, "-": 2}.get(place[name], place[name]) for name in names) for place in table]
+    assert (status, at[0]) == (fault or (0, LEFT)) and [*map(fields_of, rows)] == wanted + [(LEFT,) * 10] * (5 - len(wanted))
     at = filled(c.c_uint32)
-    status = memory.needs_none("board_version", *sheet.taken, version, at)
-    assert (status, at[0], version[0]) == ((*sheet.of_words(), LEFT) if sheet.of_words() else (0, LEFT, model.version(sheet.matches)))
-
-
-def said(reply, board):
-    """A reply as the command line writes it."""
-    if reply.status == 0:
-        return f"{reply.row} ok {reply.match_number} {reply.event_number} {reply.version}"
-    return f"{reply.row} refused {reply.status} {board.name_of(reply.status)}" + (f" {reply.event_number}" if reply.event_number or reply.status == 1 else "")
+    status = memory.made("board_version", *sheet.taken, version, at)
+    assert (status, at[0], version[0]) == ((*sheet.of_words, LEFT) if sheet.of_words else (0, LEFT, model.version(sheet.matches)))
 
 
 @SOME
@@ -225,19 +221,23 @@ def test_a_script(memory, data, nth, room, lengths):
     clubs, words, replies, count, at = filled(board.Club, 5), filled(c.c_uint64, 13), filled(board.Reply, len(events) + 4), filled(c.c_size_t), filled(c.c_uint32)
     given, outputs = conftest.encoded(text), (clubs, words, replies, count, at)
     before = [bytes(it) for it in outputs[:3]]
-    status = memory.asks(nth, "script", outputs, given, len(given), clubs, lengths[1], words, lengths[0], replies, room, count, at)
+    status = memory.made("script", given, len(given), clubs, lengths[1], words, lengths[0], replies, room, count, at, nth=nth, outputs=outputs)
     told, where = fault or (56 if room < len(events) else 0, LEFT)
     assert (status, at[0], count[0]) == (told, where, LEFT64 if fault else len(events))
     if told:
         assert [bytes(it) for it in outputs[:3]] == before
         return
-    matches, lines = model.entered(events)
-    lines, replies, beyond = lines.splitlines(), replies[: len(events)], bytes(replies)[len(events) * c.sizeof(board.Reply) :]
-    assert words[:] == [*map(packed, matches), LEFT64] and set(bytes(clubs[4]) + beyond) == {0x55}
+    matches, lines, version = model.fresh(), [], 0
+    for row, (reporter, game, expected, word) in enumerate(events, 5):
+        m = matches[game - 1]
+        code = code_of(m, expected, word)
+        if code == 0:
+            m.enter(reporter, word)
+        version += code == 0
+        lines.append((row, game, code, m.number if code < 2 else 0, version))
+    assert [*map(fields_of, replies[: len(events)])] == lines and words[:] == [*map(packed, matches), LEFT64]
     assert [(bytes(club)[:20], club.length, club.coefficient) for club in clubs[:4]] == [(n.encode().ljust(20, b"\0"), len(n), number) for n, number in roster]
-    assert [said(reply, board) for reply in replies] == lines
-    versions = [sum(" ok " in line for line in lines[: n + 1]) for n in range(len(lines))]
-    assert [(reply.match_number, reply.version) for reply in replies] == list(zip([game for _, game, *_ in events], versions))
+    assert set(bytes(clubs[4]) + bytes(replies)[len(events) * c.sizeof(board.Reply) :]) == {0x55}
 
 
 # ---- handles
@@ -250,7 +250,7 @@ STEPS = st.tuples(
 
 
 class Handles:
-    """Handles by the rules, each a board's matches, how many reporters it has, and who it is; and those of the library, with bytes between them."""
+    """Handles by the rules, each a board's matches, the numbers of its next reporters, and its own; and the library's, with bytes between them."""
 
     def __init__(self, memory):
         self.memory, self.library = memory, memory.board
@@ -267,19 +267,14 @@ class Handles:
             for place in range(PLACES):
                 self.read(place)
         elif name == "open":
-            self.gives(i, 59 if self.held[i] else None, nth, self.library.new_board, [self.handles[i]], lambda: (model.fresh(), [0], 0))
+            self.gives(i, 59 if self.held[i] else None, nth, self.library.new_board, [self.handles[i]], lambda: (model.fresh(), itertools.count(1), 0))
         elif name in ("split", "enlist") and i != j:
             mine, call = self.held[i], getattr(self.library, f"pass_{name}")
             fault = 59 if self.held[j] else 60 if mine is None else 61 if mine[2] else None
-            self.gives(j, fault, nth, call, [self.handles[i], self.handles[j]], lambda: mine if name == "split" else self.enlisted(*mine))
+            self.gives(j, fault, nth, call, [self.handles[i], self.handles[j]], lambda: mine if name == "split" else (*mine[:2], next(mine[1])))
         elif name in ("read", "report"):
             getattr(self, name)(i, *event)
         assert self.room[1::2] == [LEFT64] * PLACES
-
-    def enlisted(self, matches, count, _):
-        """A reporter's pass of a board."""
-        count[0] += 1
-        return matches, count, count[0]
 
     def gives(self, place, fault, nth, call, handles, made):
         """A call that gives a handle."""
@@ -297,18 +292,17 @@ class Handles:
         kind = 0 if m.state == model.SCHEDULED and kind in range(6) else kind
         expected, number = (m.number + offset) % 2**32, filled(c.c_uint32)
         fault = 51 if kind > 12 else 62 if not 1 <= game <= 12 else 60 if mine is None else 63 if mine[2] == 0 else None
-        refusal = None if fault else m.refusal(expected, KINDS[kind])
-        told = fault or (int(refusal.split()[0]) if refusal else 0)
+        told = fault or code_of(m, expected, KINDS[kind])
         if told == 0:
             m.enter(mine[2], KINDS[kind])
-        status = self.memory.needs_none("pass_report", self.handles[i], game, expected, kind, number)
+        status = self.memory.made("pass_report", self.handles[i], game, expected, kind, number)
         assert (status, number[0]) == (told, m.number if told in (0, 1) else LEFT)
 
     def read(self, i, room=12, *_):
         """Reads the board by a pass, with room for twelve words or for eleven."""
         words, version, mine, room = filled(c.c_uint64, 12), filled(c.c_uint32), self.held[i], 12 if room < 13 else 11
         told = 54 if room != 12 else 60 if mine is None else 0
-        status = self.memory.needs_none("pass_read", self.handles[i], words, room, version)
+        status = self.memory.made("pass_read", self.handles[i], words, room, version)
         wanted = ([LEFT64] * 12, LEFT) if told else ([*map(packed, mine[0])], model.version(mine[0]))
         assert (status, words[:], version[0]) == (told, *wanted)
 
@@ -345,27 +339,23 @@ def test_enlistments_without_memory_spend_no_number(memory):
 # ---- numbers that have no room are refused, and not cut
 
 ROSTER, SCHEDULED = model.ROSTER, 2 << 60
-NO_ROOM = {
-    "a word of 65 bits": (lambda b: b.Board([SCHEDULED] * 11 + [2**64 + SCHEDULED]), "BadWord", 12),
-    "a word below 0": (lambda b: b.Board([SCHEDULED - 2**64] + [SCHEDULED] * 11), "BadWord", 1),
-    "a row of 65 bits": (lambda b: b.Board().json(ROSTER, row=2**64 + 5), "BadRow", 2**64 + 5),
-    "a row below 0": (lambda b: b.Board().json(ROSTER, row=-1), "BadRow", -1),
-    "a reporter of 33 bits": (lambda b: b.Board().report(1, 2**32 + 1, 0, "kickoff"), "NoReporter", None),
-    "an expected number of 33 bits": (lambda b: b.Board().report(1, 1, 2**32, "kickoff"), "Stale", 0),
-    "a match of 33 bits": (lambda b: b.Pass.open().enlist().report(2**32 + 1, 0, "kickoff"), "NoMatch", None),
-    "an expected number of 33 bits behind a handle": (lambda b: b.Pass.open().enlist().report(1, 2**32, "kickoff"), "Stale", 0),
-    "a coefficient of 33 bits": (lambda b: b.Board().standings([0, 2**32, 0, 0]), "BadRoster", 2),
-    "a coefficient below 0": (lambda b: b.Board().screen(ROSTER[:3] + [("Delta", 81500 - 2**32)]), "BadRoster", 4),
-}
+NO_ROOM = [
+    (lambda b: b.Board([SCHEDULED] * 11 + [2**64 + SCHEDULED]), "BadWord", 12),
+    (lambda b: b.Board([SCHEDULED - 2**64] + [SCHEDULED] * 11), "BadWord", 1),
+    (lambda b: b.Board().json(ROSTER, row=2**64 + 5), "BadRow", 2**64 + 5),
+    (lambda b: b.Board().json(ROSTER, row=-1), "BadRow", -1),
+    (lambda b: b.Board().report(1, 2**32 + 1, 0, "kickoff"), "NoReporter", None),
+    (lambda b: b.Board().report(1, 1, 2**32, "kickoff"), "Stale", 0),
+    (lambda b: b.Pass.open().enlist().report(2**32 + 1, 0, "kickoff"), "NoMatch", None),
+    (lambda b: b.Pass.open().enlist().report(1, 2**32, "kickoff"), "Stale", 0),
+    (lambda b: b.Board().standings([0, 2**32, 0, 0]), "BadRoster", 2),
+    (lambda b: b.Board().screen(ROSTER[:3] + [("Delta", 81500 - 2**32)]), "BadRoster", 4),
+]
 
 
-@pytest.mark.parametrize("what", NO_ROOM)
-def test_a_number_without_room_in_python(board, what):
-    call, name, told = NO_ROOM[what]
-    with pytest.raises(getattr(board, name)) as raised:
-        call(board)
-    assert raised.value.told == told
-
-
-def test_the_greatest_row_has_room_in_python(board):
+def test_numbers_without_room_in_python(board):
+    for call, name, told in NO_ROOM:
+        with pytest.raises(getattr(board, name)) as raised:
+            call(board)
+        assert raised.value.told == told
     assert json.loads(board.Board().json(ROSTER, row=2**64 - 1))["row"] == 2**64 - 1

@@ -1,4 +1,4 @@
-"""The library for other languages: its header, its examples, its numbers in Python, small stacks, and races."""
+"""The library for other languages: its header, its examples, its numbers in Python, and races."""
 
 import ctypes as c
 import importlib.util
@@ -31,6 +31,7 @@ def module_over(path):
     module = importlib.util.module_from_spec(spec)
     os.environ["UCLBOARD_LIBRARY"] = str(path)
     spec.loader.exec_module(module)
+    del os.environ["UCLBOARD_LIBRARY"]
     return module
 
 
@@ -72,14 +73,6 @@ def defined():
     return numbers
 
 
-def layouts():
-    """The structs of the header by the code, in which each field is a number of 32 bits or bytes: their fields with offsets, and their sizes."""
-    for name, file, struct in ("match", "event", "MatchOfC"), ("row", "table", "RowOfC"), ("club", "group", "ClubOfC"), ("reply", "script", "ReplyOfC"):
-        body = re.search(rf"#\[repr\(C\)\]\n.*\npub struct {struct} \{{\n(.*?)^\}}", (SOURCES / f"{file}.rt").read_text(), re.M | re.S)[1]
-        sizes = [(field, {"u32": 4, "[u8; 20]": 20}[of]) for field, of in re.findall(r"^    pub (\w+): (.*),$", body, re.M)]
-        yield name, [(field, sum(size for _, size in sizes[:i])) for i, (field, _) in enumerate(sizes)], sum(size for _, size in sizes)
-
-
 def calls():
     """The calls of the header, with how many arguments each takes."""
     found = re.findall(r"^[^/\n]*?\b(uclboard_[a-z_]+)\(([^)]*)\);", HEADER.read_text(), re.M)
@@ -94,28 +87,18 @@ def test_header_compiles_without_a_warning(words):
 
 @pytest.mark.quick
 def test_numbers_of_the_header_are_those_of_the_definitions():
-    others = ["WORDS", "CLUBS", "NAME", "SCREEN_ROOM", "JSON_ROOM", "NAME_ROOM", "SCHEDULED_WORD", "VERSION_NUMBER"]
-    assert {name: number for name, number in in_header().items() if name.removeprefix("UCLBOARD_") not in others} == defined()
+    others = {"WORDS": 12, "CLUBS": 4, "NAME": 20, "SCREEN_ROOM": 320, "JSON_ROOM": 1536, "NAME_ROOM": 32, "SCHEDULED_WORD": 2 << 60}
+    found = in_header()
+    del found["UCLBOARD_VERSION_NUMBER"]
+    assert found == {**defined(), **{"UCLBOARD_" + name: number for name, number in others.items()}}
 
 
-@pytest.mark.quick
-def test_rooms_of_the_header_have_what_the_clauses_say():
-    room = lambda file: int(re.search(r"ensures room \{ (\d+) ≤ length out\.old → result ≢ 56 \}", (SOURCES / file).read_text())[1])
-    names = re.findall(r"\(\d+, codes \"(.*?)\"\)", (SPECS / "Codes.antt").read_text())
-    least = {"SCREEN_ROOM": room("screen.rt"), "JSON_ROOM": room("line.rt"), "NAME_ROOM": 1 + max(map(len, names))}
-    header = {name.removeprefix("UCLBOARD_"): number for name, number in in_header().items()}
-    assert all(least[name] <= header[name] <= least[name] + 128 for name in least), (least, header)
-    name = re.search(r"pub name: \[u8; (\d+)\],", (SOURCES / "group.rt").read_text())[1]
-    assert (header["WORDS"], header["CLUBS"], header["NAME"]) == (12, 4, int(name))
-    assert header["SCHEDULED_WORD"] == int(model.Match().word(), 16)
-
-
-@pytest.mark.quick
-def test_structs_of_the_header_are_those_of_the_code():
+def test_structs_of_the_header_are_those_of_python(board):
+    """Those of Python are compared with the library's by the calls."""
     lines = ['#include "uclboard.h"\n']
-    for name, fields, size in layouts():
-        lines += [f'_Static_assert(offsetof(uclboard_{name}, {field}) == {offset}, "{name}.{field}");\n' for field, offset in fields]
-        lines += [f'_Static_assert(sizeof(uclboard_{name}) == {size}, "the size of {name}");\n']
+    for name, of in ("match", board.Match), ("row", board.Row), ("club", board.Club), ("reply", board.Reply):
+        lines += [f'_Static_assert(offsetof(uclboard_{name}, {it}) == {getattr(of, it).offset}, "{name}.{it}");\n' for it, _ in of._fields_]
+        lines += [f'_Static_assert(sizeof(uclboard_{name}) == {c.sizeof(of)}, "the size of {name}");\n']
     assert compiled(["cc", "-std=c11", "-fsyntax-only", "-x", "c", "-"], "".join(lines)) == (0, "", "")
 
 
@@ -280,12 +263,11 @@ def test_programs_of_the_pages_print_the_screen_after_a_kick_off(shell, tmp_path
 # ---- threads
 
 
-@pytest.mark.parametrize("how", ["stacks", "sound", "racy"])
-def test_threads(library, tmp_path, how):
-    words = ["cc", "-std=gnu11", "-O2", "-Wall", "-Wextra", "-Werror", "-pthread", TOP / "tests/library_threads.c", library / "libuclboard.a"]
-    assert compiled([*words, "-o", tmp_path / "threads"]) == (0, "", "")
-    if how != "stacks":
-        conftest.needs("valgrind")
-    run = conftest.command(["valgrind", "-q", "--tool=helgrind"] * (how != "stacks") + [tmp_path / "threads", how])
+@pytest.mark.parametrize("how", ["sound", "racy"])
+def test_threads_under_helgrind(library, tmp_path, how):
+    conftest.needs("valgrind")
+    words = ["cc", "-std=c11", *STRICT.split(), "-pthread", TOP / "tests/races.c", library / "libuclboard.a", "-o", tmp_path / "races"]
+    assert compiled(words) == (0, "", "")
+    run = conftest.command(["valgrind", "-q", "--tool=helgrind", tmp_path / "races", how])
     races = re.findall(r"Possible data race .*\n.*Locks held.*\n.* at 0x\w+: (\S+)", run.errors)
-    assert run == (0, "", "") if how != "racy" else any(name.startswith("ucl") for name in races)
+    assert run == (0, "", "") if how == "sound" else any(name.startswith("ucl") for name in races)

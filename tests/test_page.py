@@ -5,6 +5,7 @@ After each row the table that the browser shows, its matches in play, its versio
 """
 
 import base64
+import contextlib
 import pathlib
 import time
 
@@ -87,12 +88,11 @@ class Page:
 
         def is_shown():
             got.update(self.browser.execute_script(SHOWN))
-            return all(got.get(name) == value for name, value in wanted.items())
+            return {**got, **wanted} == got
 
-        try:
+        with contextlib.suppress(AssertionError):
             until("the page", is_shown)
-        except AssertionError:
-            assert {name: got.get(name) for name in wanted} == wanted
+        assert {name: got.get(name) for name in wanted} == wanted
 
 
 @pytest.fixture
@@ -139,7 +139,7 @@ def test_lines_that_are_old_doubled_cut_or_foreign_and_a_page_that_is_opened_lat
     page.shows()
 
 
-def test_what_a_screen_reader_is_told(page):
+def test_what_a_screen_reader_is_told_and_letters_for_twenty_metres(page):
     page.play()
     page.shows()
     nodes = page.browser.execute_cdp_cmd("Accessibility.getFullAXTree", {})["nodes"]
@@ -149,11 +149,6 @@ def test_what_a_screen_reader_is_told(page):
     assert [name for role, name in told if role == "rowheader"] == [row[2] for row in page.wanted()["rows"]]
     assert ("alert", "") in told
     assert page.browser.execute_script("return document.getElementById('news').getAttribute('aria-live')") == "polite"
-
-
-def test_letters_for_twenty_metres_and_long_names(page):
-    page.play()
-    page.shows()
     large, small, width, height = page.browser.execute_script(LETTERS)
     assert large >= 1080 * 0.07 and small >= 1080 * 0.045 and width <= 1920 and height <= 1080
     page.browser.execute_script(LONG_NAMES)
@@ -169,7 +164,7 @@ def test_no_signal_where_a_part_is_gone_and_a_page_that_goes_on_by_itself(page, 
     for line in lines:
         line.kill()
     page.shows(signal="No signal")
-    end = time.monotonic() + (3 * SILENCE if part == "the board" else 0)
+    end = time.monotonic() + (2 * SILENCE if part == "the board" else 0)
     while time.monotonic() < end:
         assert page.browser.execute_script(SHOWN)["signal"] == "No signal"
         time.sleep(0.1)
