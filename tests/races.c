@@ -35,8 +35,8 @@ int main(int argc, char **argv) {
     is_racy = argc > 1 && strcmp(argv[1], "racy") == 0;
     uint32_t wrong = uclboard_open(&first);
     for (int i = 0; i < 2; i++) wrong |= uclboard_pass_enlist(&first, &reporters[i]) | uclboard_pass_split(&first, &screens[i]);
-    for (int i = 0; i < 4; i++) failed[i] |= pthread_create(&threads[i], NULL, i < 2 ? reports : reads, &places[i % 2]);
-    for (int i = 0; i < 4; i++) failed[i] |= pthread_join(threads[i], NULL);
+    for (int i = 0; i < 4; i++) wrong |= (uint32_t)pthread_create(&threads[i], NULL, i < 2 ? reports : reads, &places[i % 2]);
+    for (int i = 0; i < 4; i++) wrong |= (uint32_t)pthread_join(threads[i], NULL);
     for (int i = 0; i < 2; i++) uclboard_pass_drop(&reporters[i]), uclboard_pass_drop(&screens[i]);
     uclboard_pass_drop(&first);
     return wrong || failed[0] || failed[1] || failed[2] || failed[3];

@@ -237,7 +237,7 @@ FAULTY = [
 ]
 
 
-@pytest.mark.parametrize("text, code, where", FAULTY)
+@pytest.mark.parametrize("text, code, where", FAULTY, ids=[where for *_, where in FAULTY])
 def test_examples_tell_a_script_that_is_none(shell, text, code, where):
     feed, night = (next(line for line, _ in LINES if name in line) for name in ("c/feed.c", "cpp/night.cpp"))
     assert shell(built(shell, feed, "gcc"), text) == (3, "", f"input refused {code}: {where}\n")
