@@ -26,9 +26,8 @@ from conftest import EXAMPLES, LIMIT, TOP
 
 BROKER = EXAMPLES / "broker"
 ROWS = 3_000
-# The number of the first row after four clubs, twelve words, and the screen that the board's line asks for.
-FIRST_ROW = 18
-SCREEN_LINES = 6
+# The lines that examples/broker/README.md has one type, by what stands in bold above each.
+LINES = dict(re.findall(r"^\*\*(.+?)\*\*(?:.+\n)+\n((?:    .+\n)+)", (BROKER / "README.md").read_text(), re.M))
 # Passes lines on in another order, within windows of a hundred, and loses a tenth of them.
 TURNED = """import itertools, random, sys
 chance = random.Random(5)
@@ -38,11 +37,6 @@ while window := [*itertools.islice(sys.stdin, 100)]:
 
 
 # ---- real processes
-
-
-def lines_of_the_page():
-    """The lines that examples/broker/README.md has one type, by what stands in bold above each."""
-    return dict(re.findall(r"^\*\*(.+?)\*\*(?:.+\n)+\n((?:    .+\n)+)", (BROKER / "README.md").read_text(), re.M))
 
 
 def until(what, holds, progress=lambda: None):
@@ -113,7 +107,7 @@ class Site:
     def await_broker(self):
         """Waits until the broker listens."""
         until("the broker", lambda: is_reached(self.port) or self.broker.shell.poll() is not None)
-        assert self.broker.shell.poll() is None, self.told()
+        assert self.broker.shell.poll() is None, (self.path / "errors").read_text()
 
     def line(self, text, **how):
         """Types a line, which goes on in the background."""
@@ -122,11 +116,13 @@ class Site:
 
     def done(self, text, input=""):
         """Types a line and waits for its end. Gives what it wrote."""
-        return conftest.command(["bash", "-c", text], input, **self.place).output
+        return conftest.command(["bash", "-c", text], input, timeout=4 * LIMIT, **self.place).output
 
-    def told(self):
-        """The end of what standard error was told."""
-        return (self.path / "errors").read_text(errors="replace")[-300:]
+    def begin(self):
+        """Begins an evening: a broker, the board and the desk. Gives the lines of these two."""
+        self.open_broker()
+        self.done(LINES["The beginning of an evening"])
+        return self.line(LINES["The board"]), self.line(LINES["The desk"])
 
 
 @contextlib.contextmanager
@@ -155,14 +151,10 @@ def site(tmp_path, program, monkeypatch):
 # ---- what examples/broker says
 
 
-def in_one_line(text):
-    """A text with each row of spaces and each end of a line as one space."""
-    return " ".join(text.replace("\\\n", " ").split())
-
-
 @pytest.mark.quick
 def test_lines_of_the_page_are_those_of_the_evening_and_of_the_readme():
-    lines = {name: in_one_line(line) for name, line in lines_of_the_page().items()}
+    in_one_line = lambda text: " ".join(text.replace("\\\n", " ").split())
+    lines = {name: in_one_line(line) for name, line in LINES.items()}
     evening = in_one_line((BROKER / "evening").read_text()).replace('"$1"', "8080").replace("two_matches.csv; echo", "one_goal.csv; echo")
     readme = in_one_line((TOP / "README.md").read_text().split("\n## Beyond one machine\n")[1].split("\n## ")[0])
     assert len(lines) == 7
@@ -180,11 +172,7 @@ def test_an_evening_that_is_started_leaves_nothing_behind(site):
 
 
 def test_a_reporter_is_told_of_rows_that_are_refused_anothers_or_none(site):
-    lines = lines_of_the_page()
-    site.open_broker()
-    site.done(lines["The beginning of an evening"])
-    for name in "The board", "The desk":
-        site.line(lines[name])
+    site.begin()
     report = lambda *rows: site.done("examples/broker/reporter 0.3 2 2>&1; echo $?", "".join(row + "\n" for row in rows)).splitlines()
     assert report("1,1,0,kickoff", "1,2,0,goal-home") == ["1,1,0,kickoff", "reporter: 1,2,0,goal-home: no answer in 2 seconds", "1"]
     assert report("2,1,0,kickoff") == ["reporter: 2,1,0,kickoff: another reporter has entered an event of this match", "1"]
@@ -261,8 +249,7 @@ def screens_by_the_rules(rows, journal):
 
 def need_screens(text, screens):
     """What a follower has shown in a life: rising versions, each with its screen; one that is not finished is none. Gives the last."""
-    lines = text.split("\n")[:-1]
-    shown = ["\n".join(lines[at : at + SCREEN_LINES]) + "\n" for at in range(0, len(lines) - SCREEN_LINES + 1, SCREEN_LINES)]
+    shown = re.findall(r"(?:.*\n){6}", text)
     versions = [int(screen[9:14]) for screen in shown]
     assert versions == sorted(set(versions))
     assert [version for version, screen in zip(versions, shown) if screens[version] != screen] == []
@@ -273,12 +260,9 @@ class Evening:
     """An evening: its rows, its lines, its followers."""
 
     def __init__(self, site, seed):
-        self.site, self.chance, self.lines = site, random.Random(seed), lines_of_the_page()
-        self.rows, self.journal = random_rows(self.chance), site.path / "evening.jsonl"
-        site.open_broker()
-        site.done(self.lines["The beginning of an evening"])
-        self.board, self.desk = site.line(self.lines["The board"]), site.line(self.lines["The desk"])
-        self.screen, self.lives = self.lines["A screen"].strip(), collections.defaultdict(list)
+        self.site, self.chance, self.lives = site, random.Random(seed), collections.defaultdict(list)
+        self.rows, self.journal, self.screen = random_rows(self.chance), site.path / "evening.jsonl", LINES["A screen"].strip()
+        self.board, self.desk = site.begin()
         for name in "first", "second":
             self.follow(name, self.screen)
         until("the desk to tell the board", lambda: self.shown("first").endswith(model.screen(model.fresh())))
@@ -306,7 +290,7 @@ class Evening:
             until(f"{place} rows", lambda: entered() >= place or ended(), progress=entered)
             trouble(number)
         until("the reporters to end", ended, progress=entered)
-        assert [line.shell.returncode for line in reporters] == [0, 0], self.site.told()
+        assert [line.shell.returncode for line in reporters] == [0, 0], (self.site.path / "errors").read_text()[-300:]
 
     def settle(self, asked=1):
         """Asks for the screen so many times, and waits until each follower shows it. Gives the screens of all versions."""
@@ -375,9 +359,9 @@ def test_every_row_comes_twice_and_some_ten_rows_later(site):
             sent.append(evening.chance.choice(["x\n", "1,1,0,goal-hoem\n", "1,13,0,kickoff\n"]))
         again.append(row)
     site.done("mosquitto_pub -l -q 1 -t ucl/a/rows", "".join(sent))
-    last = f'"row":{FIRST_ROW + len(sent) - 1}}}\n'
-    until("all answers", lambda: evening.journal.read_text().endswith(last), progress=lambda: evening.journal.stat().st_size)
     text = model.CLUBS + model.sheet(model.fresh()) + "screen,,,\n" + "".join(sent)
+    last = '"row":%d}\n' % text.count("\n")
+    until("all answers", lambda: evening.journal.read_text().endswith(last), progress=lambda: evening.journal.stat().st_size)
     wanted = model.Evening(["--format", "json", "--screens"]).of(text)[1].split("\n")
     found = evening.journal.read_text().split("\n")[2:]
     assert next((pair for pair in zip(found, wanted) if pair[0] != pair[1]), None) is None and len(found) == len(wanted)

@@ -6,7 +6,6 @@ Each call is made in a thread that has no more stack than the header says, over 
 import ctypes as c
 import itertools
 import json
-import pathlib
 
 import conftest
 import model
@@ -72,7 +71,7 @@ def memory(library, tmp_path_factory):
     path = tmp_path_factory.mktemp("counted") / "counted.so"
     wraps = [f"-Wl,--wrap={name}" for name in ("malloc", "realloc", "free")]
     whole = ["-Wl,--whole-archive", library / "libuclboard.a", "-Wl,--no-whole-archive"]
-    words = ["cc", "-shared", "-fPIC", *STRICT.split(), *wraps, pathlib.Path(__file__).with_name("counted.c"), *whole, "-o", path]
+    words = ["cc", "-shared", "-fPIC", *STRICT.split(), *wraps, conftest.TOP / "tests/counted.c", *whole, "-o", path]
     assert conftest.command(words) == (0, "", "")
     return Memory(path)
 

@@ -12,7 +12,7 @@ import time
 import conftest
 import model
 import pytest
-from test_broker import free_port, is_reached, lines_of_the_page, site, until  # noqa: F401, a fixture
+from test_broker import LINES, free_port, is_reached, site, until  # noqa: F401, a fixture
 
 SILENCE = 4
 COLUMNS = ["place", "mark", "club", "played", "won", "drawn", "lost", "goals_for", "goals_against", "goal_difference", "points"]
@@ -45,12 +45,9 @@ class Page:
     """A page in a browser, over a board behind a broker, and the board by the rules."""
 
     def __init__(self, site, browser):
-        self.site, self.browser, self.matches, lines = site, browser, model.fresh(), lines_of_the_page()
-        site.open_broker()
-        site.done(lines["The beginning of an evening"])
-        self.parts = [site.line(lines[name]) for name in ("The board", "The desk", "A pulse")]
-        port = free_port()
-        self.socket = site.line(lines["A page"].replace("8080", str(port)))
+        self.site, self.browser, self.matches, port = site, browser, model.fresh(), free_port()
+        self.parts = [*site.begin(), site.line(LINES["A pulse"])]
+        self.socket = site.line(LINES["A page"].replace("8080", str(port)))
         until("websocketd", lambda: is_reached(port))
         browser.get(f"http://127.0.0.1:{port}/?silence={SILENCE}")
 
