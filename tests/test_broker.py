@@ -22,10 +22,11 @@ import time
 import conftest
 import model
 import pytest
-from conftest import EXAMPLES, LIMIT, TOP
+from conftest import EXAMPLES, TOP
 
 BROKER = EXAMPLES / "broker"
 ROWS = 3_000
+pytestmark = pytest.mark.limit(200)
 # The lines that examples/broker/README.md has one type, by what stands in bold above each.
 LINES = dict(re.findall(r"^\*\*(.+?)\*\*(?:.+\n)+\n((?:    .+\n)+)", (BROKER / "README.md").read_text(), re.M))
 # Passes lines on in another order, within windows of a hundred, and loses a tenth of them.
@@ -39,16 +40,12 @@ while window := [*itertools.islice(sys.stdin, 100)]:
 # ---- real processes
 
 
-def until(what, holds, progress=lambda: None):
-    """Waits until something holds, and gives what it is; an error after the limit without progress."""
-    end, last = time.monotonic() + LIMIT, None
-    while True:
-        got, now = holds(), progress()
-        if got:
-            return got
-        end, last = (end if now == last else time.monotonic() + LIMIT), now
-        assert time.monotonic() < end, f"waited {LIMIT} seconds for {what}"
+def until(holds, seconds=float("inf")):
+    """Waits until something holds, so long at most, and gives what it is."""
+    end = time.monotonic() + seconds
+    while not (got := holds()) and time.monotonic() < end:
         time.sleep(0.02)
+    return got
 
 
 def is_reached(port):
@@ -76,7 +73,7 @@ class Line:
     def kill_one(self, name):
         """Kills the process of this name that the line has started."""
         told = lambda: conftest.command(["ps", "-o", "pid=,comm=", "--sid", str(self.shell.pid)]).output
-        os.kill(int(until(f"{name} to run", lambda: re.search(rf"(\d+) {name}$", told(), re.M))[1]), signal.SIGKILL)
+        os.kill(int(until(lambda: re.search(rf"(\d+) {name}$", told(), re.M))[1]), signal.SIGKILL)
 
     def kill(self):
         """Kills all that it has started."""
@@ -106,7 +103,7 @@ class Site:
 
     def await_broker(self):
         """Waits until the broker listens."""
-        until("the broker", lambda: is_reached(self.port) or self.broker.shell.poll() is not None)
+        until(lambda: is_reached(self.port) or self.broker.shell.poll() is not None)
         assert self.broker.shell.poll() is None, (self.path / "errors").read_text()
 
     def line(self, text, **how):
@@ -116,7 +113,7 @@ class Site:
 
     def done(self, text, input=""):
         """Types a line and waits for its end. Gives what it wrote."""
-        return conftest.command(["bash", "-c", text], input, timeout=4 * LIMIT, **self.place).output
+        return conftest.command(["bash", "-c", text], input, **self.place).output
 
     def begin(self):
         """Begins an evening: a broker, the board and the desk. Gives the lines of these two."""
@@ -197,7 +194,7 @@ def test_access_lists(site):
         site.done("".join(f"mosquitto_pub -q 1 {words}\n" for words in sent))
         return all(path.exists() and path.read_bytes() for path in files)
 
-    until("a row and an answer", heard)
+    until(heard)
     assert [set(path.read_text().split()) for path in files] == [{"row"}, {"answer"}]
     assert site.done("mosquitto_pub -u reporter1 -P first -t ucl/a/rows -m row || echo refused") == "refused\n"
 
@@ -209,7 +206,7 @@ def test_an_encrypted_port_takes_who_knows_its_certificate(site):
         site.done(f"{certificate} -keyout {key} -out {out} && cp ca.crt broker.crt && chmod 644 broker.key")
     port = free_port()
     site.open_broker(re.sub(r"listener \d+", f"listener {port} 127.0.0.1", (BROKER / "tls.conf").read_text()))
-    until("the encrypted port", lambda: is_reached(port))
+    until(lambda: is_reached(port))
     sent = lambda more: site.done(f"mosquitto_pub -h localhost -p {port} -t ucl/a/rows -m row {more} && echo taken || echo refused")
     assert [sent(more) for more in ("--cafile ca.crt", "--cafile other.crt", "")] == ["taken\n", "refused\n", "refused\n"]
 
@@ -265,7 +262,7 @@ class Evening:
         self.board, self.desk = site.begin()
         for name in "first", "second":
             self.follow(name, self.screen)
-        until("the desk to tell the board", lambda: self.shown("first").endswith(model.screen(model.fresh())))
+        until(lambda: self.shown("first").endswith(model.screen(model.fresh())))
 
     def follow(self, name, text):
         """Starts a follower, or kills it and starts it again: each of its lives has a file."""
@@ -283,20 +280,20 @@ class Evening:
         """Lets both reporters enter their rows, and makes trouble so many times, each time after a random number of rows more."""
         for number in "12":
             (self.site.path / f"rows{number}").write_text("".join(row for row in self.rows if row.startswith(number)))
-        reporters = [self.site.line(f"examples/broker/reporter 1 {LIMIT} <rows{number} >entered{number}") for number in "12"]
+        reporters = [self.site.line(f"examples/broker/reporter 1 30 <rows{number} >entered{number}") for number in "12"]
         entered = lambda: sum(path.read_bytes().count(b"\n") for path in self.site.path.glob("entered?"))
         ended = lambda: all(line.shell.poll() is not None for line in reporters)
         for number, place in enumerate(sorted(self.chance.sample(range(ROWS // 20, ROWS * 19 // 20), steps))):
-            until(f"{place} rows", lambda: entered() >= place or ended(), progress=entered)
+            until(lambda: entered() >= place or ended())
             trouble(number)
-        until("the reporters to end", ended, progress=entered)
+        until(ended)
         assert [line.shell.returncode for line in reporters] == [0, 0], (self.site.path / "errors").read_text()[-300:]
 
     def settle(self, asked=1):
         """Asks for the screen so many times, and waits until each follower shows it. Gives the screens of all versions."""
         self.site.done(f"for i in $(seq {asked}); do echo screen,,,; done | mosquitto_pub -l -q 1 -t ucl/a/rows")
         for name in self.lives:
-            until(f"the {name} follower to show the last screen", lambda: f" v{ROWS:05d} " in self.shown(name), progress=lambda: len(self.shown(name)))
+            until(lambda: f" v{ROWS:05d} " in self.shown(name))
         screens = screens_by_the_rules(self.rows, self.journal.read_text())
         for lives in self.lives.values():
             assert [need_screens(path.read_text(), screens) for _, path in lives][-1] == ROWS
@@ -361,7 +358,7 @@ def test_every_row_comes_twice_and_some_ten_rows_later(site):
     site.done("mosquitto_pub -l -q 1 -t ucl/a/rows", "".join(sent))
     text = model.CLUBS + model.sheet(model.fresh()) + "screen,,,\n" + "".join(sent)
     last = '"row":%d}\n' % text.count("\n")
-    until("all answers", lambda: evening.journal.read_text().endswith(last), progress=lambda: evening.journal.stat().st_size)
+    until(lambda: evening.journal.read_text().endswith(last))
     wanted = model.Evening(["--format", "json", "--screens"]).of(text)[1].split("\n")
     found = evening.journal.read_text().split("\n")[2:]
     assert next((pair for pair in zip(found, wanted) if pair[0] != pair[1]), None) is None and len(found) == len(wanted)
@@ -386,5 +383,5 @@ def test_followers_are_killed_come_late_miss_lines_or_are_not_read(site):
     pieces = []
     reads = threading.Thread(target=lambda: pieces.extend(iter(lambda: os.read(reading, 1 << 16), b"")), daemon=True)
     reads.start()
-    until("the follower that is read at last", lambda: b"".join(pieces).endswith(screens[-1].encode()), progress=lambda: len(pieces))
+    until(lambda: b"".join(pieces).endswith(screens[-1].encode()))
     assert need_screens(b"".join(pieces).decode(), screens) == ROWS

@@ -17,7 +17,8 @@ from test_random import PICKS, club_rows, cut, event_rows, matches, mostly
 
 KINDS = ["kickoff", "goal-home", "goal-away", "disallow-home", "disallow-away", "yellow-home", "yellow-away", "second-yellow-home"]
 KINDS += ["second-yellow-away", "red-home", "red-away", "fulltime", "reopen"]
-MANY, SOME = (settings(max_examples=times * settings.default.max_examples) for times in (10, 3))
+pytestmark = pytest.mark.limit(120)
+MANY, SOME = (settings(max_examples=times * settings.default.max_examples) for times in (6, 2))
 # Numbers of 32 bits, among them those that are good ones where their lowest 8 or 16 bits alone are read.
 ODD = st.sampled_from([0, 13, 255, 256, 257, 65_535, 65_536, 2**31, 2**32 - 1]) | st.integers(0, 2**32 - 1)
 # What stands where a call has written nothing.

@@ -232,7 +232,7 @@ CLUB = "club,1,Alpha,60000\n"
 FAULTY = [
     ("", 20, "row 1"),
     (CLUB, 20, "row 2"),
-    ("x" * (model.LONGEST_INPUT + 1), 24, "too long"),
+    ("x" * 4_194_305, 24, "too long"),
     (CLUB + "club,2,Bravo,1\nclub,3,Charlie,1\nclub,4,,1\n", 21, "slot 4"),
 ]
 

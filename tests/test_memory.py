@@ -12,6 +12,7 @@ import conftest
 import pytest
 from conftest import EXAMPLES, TOP
 
+pytestmark = pytest.mark.limit(200)
 H2H, SHEET, SCREEN = "head_to_head", "head_to_head_sheet.csv", "head_to_head_sheet.expected"
 NO_MEMORY, NO_THREAD = "Some(OutOfMemory)", "Some(NoThread)"
 

@@ -5,7 +5,6 @@ After each row the table that the browser shows, its matches in play, its versio
 """
 
 import base64
-import contextlib
 import pathlib
 import time
 
@@ -14,6 +13,7 @@ import model
 import pytest
 from test_broker import LINES, free_port, is_reached, site, until  # noqa: F401, a fixture
 
+pytestmark = pytest.mark.limit(200)
 SILENCE = 4
 COLUMNS = ["place", "mark", "club", "played", "won", "drawn", "lost", "goals_for", "goals_against", "goal_difference", "points"]
 HEADS = ["Place", "Certain", "Club", "Played", "Won", "Drawn", "Lost", "Goals for", "Goals against", "Goal difference", "Points"]
@@ -48,7 +48,7 @@ class Page:
         self.site, self.browser, self.matches, port = site, browser, model.fresh(), free_port()
         self.parts = [*site.begin(), site.line(LINES["A pulse"])]
         self.socket = site.line(LINES["A page"].replace("8080", str(port)))
-        until("websocketd", lambda: is_reached(port))
+        until(lambda: is_reached(port))
         browser.get(f"http://127.0.0.1:{port}/?silence={SILENCE}")
 
     def enter(self, *events):
@@ -87,8 +87,7 @@ class Page:
             got.update(self.browser.execute_script(SHOWN))
             return {**got, **wanted} == got
 
-        with contextlib.suppress(AssertionError):
-            until("the page", is_shown)
+        until(is_shown, 30)
         assert {name: got.get(name) for name in wanted} == wanted
 
 
