@@ -44,7 +44,7 @@ def until(holds, seconds=float("inf")):
     """Waits until something holds, so long at most, and gives what it is."""
     end = time.monotonic() + seconds
     while not (got := holds()) and time.monotonic() < end:
-        time.sleep(0.02)
+        time.sleep(0.05)
     return got
 
 

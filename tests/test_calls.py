@@ -138,13 +138,13 @@ class Sheet:
     """What is shown of a board: words, clubs, a group, an order; what the rules read of them, and the faults, each a status and where it is."""
 
     def __init__(self, draw, board):
-        self.words = [*map(packed, draw(matches()))]
-        if draw(st.integers(0, 3)) == 3:
+        self.words, odds = [*map(packed, draw(matches()))], draw(st.sampled_from([2, 30, 30]))
+        if draw(st.integers(1, 4)) == 1:
             self.words[draw(st.integers(0, 11))] = draw(WORDS)
-        if draw(st.integers(0, 19)) == 19:
-            self.words = (self.words * 2)[: draw(st.sampled_from([0, 11, 13]))]
-        clubs = draw(st.lists(CLUBS, min_size=4, max_size=4) if draw(st.integers(0, 19)) else st.lists(CLUBS, max_size=5))
-        self.order, self.group = draw(mostly(st.integers(0, 1), ODD, 19)), draw(mostly(st.integers(65, 72), st.sampled_from([64, 73, 97, 321]) | ODD, 19))
+        self.words = (self.words * 2)[: draw(mostly(st.just(12), st.sampled_from([0, 11, 13]), odds))]
+        clubs = draw(mostly(st.lists(CLUBS, min_size=4, max_size=4), st.lists(CLUBS, max_size=5), odds))
+        self.order = draw(mostly(st.integers(0, 1), ODD, odds))
+        self.group = draw(mostly(st.integers(65, 72), st.sampled_from([64, 73, 97, 321]) | ODD, odds))
         self.roster = [(name[:length].decode("latin-1") if length <= 20 else "", coefficient) for name, length, coefficient in clubs]
         self.coefficients = [("-", coefficient) for *_, coefficient in clubs]
         self.matches = [read(word) for word in self.words]
