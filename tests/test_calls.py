@@ -138,7 +138,7 @@ class Sheet:
     """What is shown of a board: words, clubs, a group, an order; what the rules read of them, and the faults, each a status and where it is."""
 
     def __init__(self, draw, board):
-        self.words, odds = [*map(packed, draw(matches()))], draw(st.sampled_from([2, 30, 30]))
+        self.words, odds = [*map(packed, draw(mostly(matches(), st.just(model.fresh()), 6)))], draw(st.sampled_from([2, 30, 30]))
         if draw(st.integers(1, 4)) == 1:
             self.words[draw(st.integers(0, 11))] = draw(WORDS)
         self.words = (self.words * 2)[: draw(mostly(st.just(12), st.sampled_from([0, 11, 13]), odds))]
