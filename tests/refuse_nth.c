@@ -45,4 +45,3 @@ void *calloc(size_t count, size_t size) { return is_refused(count * size) ? NULL
 void *realloc(void *block, size_t size) { return is_refused(size) ? NULL : __libc_realloc(block, size); }
 void *memalign(size_t alignment, size_t size) { return is_refused(size) ? NULL : __libc_memalign(alignment, size); }
 void *aligned_alloc(size_t alignment, size_t size) { return memalign(alignment, size); }
-int posix_memalign(void **block, size_t alignment, size_t size) { return (*block = memalign(alignment, size)) ? 0 : ENOMEM; }

@@ -70,11 +70,6 @@ class Line:
         """Starts it, or starts it again."""
         self.shell = subprocess.Popen(["bash", "-c", self.text], start_new_session=True, **self.how)
 
-    def kill_one(self, name):
-        """Kills the process of this name that the line has started."""
-        told = lambda: conftest.command(["ps", "-o", "pid=,comm=", "--sid", str(self.shell.pid)]).output
-        os.kill(int(until(lambda: re.search(rf"(\d+) {name}$", told(), re.M))[1]), signal.SIGKILL)
-
     def kill(self):
         """Kills all that it has started."""
         with contextlib.suppress(ProcessLookupError):
@@ -322,7 +317,8 @@ def test_the_board_is_killed_and_goes_on_from_its_journal(site):
 
     def trouble(number):
         if number % 3 == 0:
-            evening.board.kill_one("ucl_live")
+            told = conftest.command(["ps", "-o", "pid=,comm=", "--sid", str(evening.board.shell.pid)]).output
+            os.kill(int(re.search(r"(\d+) ucl_live$", told, re.M)[1]), signal.SIGKILL)
             time.sleep(0.1)
         evening.board.kill()
         with open(evening.journal, "a") as journal:

@@ -107,8 +107,11 @@ WORDS = mostly(BUILT, st.tuples(BUILT, st.integers(0, 63)).map(lambda it: it[0] 
 
 @MANY
 @given(word=WORDS, reporter=mostly(st.integers(1, 255), ODD), kind=mostly(st.integers(0, 12), ODD), offset=mostly(st.just(0), ODD))
-def test_an_event(memory, word, reporter, kind, offset):
-    m = read(word, True)
+def test_a_word_and_an_event(memory, word, reporter, kind, offset):
+    m, either, new, match = read(word, True), read(word), filled(c.c_uint64), filled(memory.board.Match)
+    assert (memory.made("read_word", word, new), new[0]) == ((0, packed(either)) if either else (10, LEFT64))
+    wanted = (m.number, m.state, *m.goals, *m.yellows, *m.expulsions, m.reporter) if m else (LEFT,) * 9
+    assert (memory.made("match_of", word, match[0]), fields_of(match[0])) == (0 if m else 10, wanted)
     expected = ((m.number if m else 0) + offset) % 2**32
     told = 50 if not 1 <= reporter <= 255 else 51 if kind > 12 else 10 if m is None else code_of(m, expected, KINDS[kind])
     number = m.number if told == 1 else LEFT
@@ -117,17 +120,6 @@ def test_an_event(memory, word, reporter, kind, offset):
     after, found = filled(c.c_uint64), filled(c.c_uint32)
     status = memory.made("next_word", word, reporter, expected, kind, after, found)
     assert (status, after[0], found[0]) == (told, packed(m) if told == 0 else LEFT64, number)
-
-
-@MANY
-@given(word=WORDS)
-def test_a_word(memory, word):
-    today, either, new, match = read(word, True), read(word), filled(c.c_uint64), filled(memory.board.Match)
-    assert (memory.made("read_word", word, new), new[0]) == ((0, packed(either)) if either else (10, LEFT64))
-    status, wanted = memory.made("match_of", word, match[0]), (LEFT,) * 9
-    if today:
-        wanted = (today.number, today.state, *today.goals, *today.yellows, *today.expulsions, today.reporter)
-    assert (status, fields_of(match[0])) == (0 if today else 10, wanted)
 
 
 NAMES = mostly(st.lists(st.sampled_from(b'ABCDEFGH ~"\\'), min_size=20, max_size=20).map(bytes), st.binary(min_size=20, max_size=20), 29)
