@@ -37,9 +37,6 @@ while window := [*itertools.islice(sys.stdin, 100)]:
 """
 
 
-# ---- real processes
-
-
 def until(holds, seconds=float("inf")):
     """Waits until something holds, so long at most, and gives what it is."""
     end = time.monotonic() + seconds
@@ -176,7 +173,6 @@ def test_a_reporter_is_told_of_rows_that_are_refused_anothers_or_none(site):
 
 def test_access_lists(site):
     (site.path / "access.list").write_bytes((BROKER / "access.list").read_bytes())
-    conftest.needs("mosquitto_passwd")
     site.done("mosquitto_passwd -b -c passwords board first; mosquitto_passwd -b passwords reporter1 second; chmod 644 passwords")
     site.open_broker((BROKER / "access.conf").read_text())
     files = [site.path / "rows", site.path / "all"]

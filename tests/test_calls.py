@@ -32,12 +32,6 @@ code_of = lambda m, expected, word: int((m.refusal(expected, word) or "0").split
 packed = lambda m: int(m.word(), 16)
 
 
-class Work(c.Structure):
-    """A call, what it is given, and what it answers."""
-
-    _fields_ = [("call", c.c_void_p), ("given", c.c_uint64 * 12), ("answer", c.c_uint64)]
-
-
 class Memory:
     """The library over a `malloc` that counts and refuses."""
 
@@ -47,13 +41,13 @@ class Memory:
 
     def refused(self, nth, call, *given):
         """Makes a call whose request of this number is refused, counted from 0. Its status, and whether it asked for so many."""
-        work = Work(c.cast(call, c.c_void_p).value, (c.c_uint64 * 12)(*map(place_of, given)))
+        work = (c.c_uint64 * 14)(c.cast(call, c.c_void_p).value, *map(place_of, given))
         stack = 16_384 + 65_536 * (call == self.board.script)
         self.requests.value, self.until_refusal.value = 0, nth
-        is_made = self.board.LIBRARY.make_on_stack(c.byref(work), c.c_size_t(stack)) == 0
+        is_made = self.board.LIBRARY.make_on_stack(work, c.c_size_t(stack)) == 0
         self.until_refusal.value = -1
         assert is_made
-        return work.answer & 2**32 - 1, self.requests.value > nth >= 0
+        return work[13] & 2**32 - 1, self.requests.value > nth >= 0
 
     def made(self, name, *given, nth=0, outputs=None):
         """Makes a call. Where it writes to outputs it may ask for memory: a request that is refused changes nothing, and none is left. Its status."""
@@ -232,8 +226,6 @@ def test_a_script(memory, data, nth, room, lengths):
     assert set(bytes(clubs[4]) + bytes(replies)[len(events) * c.sizeof(board.Reply) :]) == {0x55}
 
 
-# ---- handles
-
 PLACES = 6
 STEPS = st.tuples(
     st.sampled_from(["open", "split", "enlist", "drop", "read", "report", "report", "report"]), st.integers(0, PLACES - 1), st.integers(0, PLACES - 1),
@@ -328,8 +320,7 @@ def test_enlistments_without_memory_spend_no_number(memory):
     assert memory.held.value == 0
 
 
-# ---- numbers that have no room are refused, and not cut
-
+# Numbers that have no room are refused, and not cut.
 ROSTER, SCHEDULED = model.ROSTER, 2 << 60
 NO_ROOM = [
     (lambda b: b.Board([SCHEDULED] * 11 + [2**64 + SCHEDULED]), "BadWord", 12),

@@ -228,13 +228,7 @@ def test_an_example_writes_what_stands_beside_each_script(shell, line, variant):
         assert (run.status, run.output) == (0, wanted), (path.name, run.errors)
 
 
-CLUB = "club,1,Alpha,60000\n"
-FAULTY = [
-    ("", 20, "row 1"),
-    (CLUB, 20, "row 2"),
-    ("x" * 4_194_305, 24, "too long"),
-    (CLUB + "club,2,Bravo,1\nclub,3,Charlie,1\nclub,4,,1\n", 21, "slot 4"),
-]
+FAULTY = [("", 20, "row 1"), ("club,1,Alpha,1\n", 20, "row 2"), ("x" * 4_194_305, 24, "too long"), (model.CLUBS.replace("Delta", ""), 21, "slot 4")]
 
 
 @pytest.mark.parametrize("text, code, where", FAULTY, ids=[where for *_, where in FAULTY])
@@ -258,9 +252,6 @@ def test_programs_of_the_pages_print_the_screen_after_a_kick_off(shell, tmp_path
     wanted = (0, model.screen(matches), "")
     assert shell(f"{line} -Wall -Wextra -Werror && ./board") == wanted and len(in_python) == 2
     assert [shell("python3 -", text) for text in in_python] == [wanted, wanted]
-
-
-# ---- threads
 
 
 @pytest.mark.parametrize("how", ["sound", "racy"])

@@ -101,8 +101,7 @@ def page(site, tmp_path, monkeypatch):
     for word in [*WORDS, f"--user-data-dir={tmp_path}/browser"]:
         options.add_argument(word)
     browser = webdriver.Chrome(service=webdriver.chrome.service.Service(conftest.shutil.which("chromedriver")), options=options)
-    size = {"width": 1920, "height": 1080, "deviceScaleFactor": 1, "mobile": False}
-    browser.execute_cdp_cmd("Emulation.setDeviceMetricsOverride", size)
+    browser.execute_cdp_cmd("Emulation.setDeviceMetricsOverride", {"width": 1920, "height": 1080, "deviceScaleFactor": 1, "mobile": False})
     yield Page(site, browser)
     browser.quit()
 
@@ -115,8 +114,8 @@ def test_goals(page, pytestconfig):
         page.enter((match, word))
         page.shows(news=page.score(match, "{0} {1}, {3} {2}."))
     if pytestconfig.getoption("--picture", None):
-        half = {"x": 0, "y": 0, "width": 1920, "height": 1080, "scale": 0.5}
-        picture = page.browser.execute_cdp_cmd("Page.captureScreenshot", {"format": "png", "clip": half})["data"]
+        half = {"format": "png", "clip": {"x": 0, "y": 0, "width": 1920, "height": 1080, "scale": 0.5}}
+        picture = page.browser.execute_cdp_cmd("Page.captureScreenshot", half)["data"]
         pathlib.Path(pytestconfig.getoption("--picture")).write_bytes(base64.b64decode(picture))
 
 
