@@ -155,8 +155,9 @@ def test_an_evening_that_is_started_leaves_nothing_behind(site):
     if conftest.command([TOP / "build", "--built", "ucl_live", "ucl_follow"]).status != 0:
         pytest.skip("not built here: ucl_live ucl_follow, which the evening starts")
     (site.path / "room").mkdir()
-    run = conftest.command([BROKER / "evening"], env={**site.place["env"], "TMPDIR": f"{site.path}/room"})
-    assert run.status == 0 and run.output.startswith(conftest.text_of(BROKER / "evening.expected")), run
+    with open(site.path / "told", "wb") as file:
+        evening = site.line(f"TMPDIR={site.path}/room {BROKER}/evening", stdout=file)
+    assert evening.shell.wait() == 0 and (site.path / "told").read_text().startswith(conftest.text_of(BROKER / "evening.expected"))
     assert [*(site.path / "room").iterdir()] == [] and not site.done(f"grep -la {site.path}/room/tmp. /proc/[0-9]*/environ")
 
 
