@@ -46,7 +46,8 @@ public:
 
     uint32_t version() const {
         uint32_t version = 0, at = 0;
-        need(uclboard_board_version(words.data(), words.size(), &version, &at), at);
+        const uclboard_status status = uclboard_board_version(words.data(), words.size(), &version, &at);
+        need(status, at);
         return version;
     }
 
@@ -70,10 +71,20 @@ private:
     std::vector<uclboard_reply> replies;
 };
 
-int main(int argc, char **argv) {
-    const Night night(std::string(std::istreambuf_iterator<char>(std::cin), std::istreambuf_iterator<char>()));
+static void play(const std::string &script, char group, uint32_t profile) {
+    const Night night(script);
     if (night.entered() != night.version()) throw std::logic_error("the version is not the number of events that were entered");
+    std::cout << "FINAL\n" << night.screen(group, profile);
+}
+
+int main(int argc, char **argv) {
+    const std::istreambuf_iterator<char> begin(std::cin), end;
     const bool away = argc > 2 && std::string(argv[2]) == "away-in-tie";
-    std::cout << "FINAL\n" << night.screen(argc > 1 ? argv[1][0] : 'A', away ? UCLBOARD_AWAY_IN_TIE : UCLBOARD_UEFA);
+    try {
+        play(std::string(begin, end), argc > 1 ? argv[1][0] : 'A', away ? UCLBOARD_AWAY_IN_TIE : UCLBOARD_UEFA);
+    } catch (const Refused &refused) {
+        std::cerr << "night: " << refused.what() << " " << refused.told << "\n";
+        return EXIT_FAILURE;
+    }
     return EXIT_SUCCESS;
 }

@@ -1,5 +1,7 @@
 //! Calls that may find no memory, each made twice.
 
+ghost use Rattle.std.specs.Prelude.{IfOk};
+
 use crate::marks::{begins, ends};
 use crate::room::{Filling, Room};
 use anyhow::Context;
@@ -12,15 +14,16 @@ use ucl_order::Profile;
 use ucl_pass::{CellBoard, LiveBoard};
 use ucl_runs::{OpenGate, RunFault, feed_run, night_run, show_run};
 use ucl_screen::{
-    FromRead, InputFault, Night, NightEvent, Sheet, ToWrite, night_of_bytes, read_night,
-    read_words, screen,
+    FromRead, InputFault, Night, NightEvent, ToWrite, night_of_bytes, read_night, read_words,
+    screen,
 };
 use ucl_steps::{Call, Caller, Cast, Step, StepFault, run_steps};
 use ucl_word::{EventCall, Kind, MatchNo, OutOfMemory, ReporterNo};
 use ucl_words::WordBoard;
 
-/// What came of two calls: the fault of the first, of which a request for memory may have been refused; whether what was lent to it, and
-/// what went out, is as it has to be; the fault of the second, and a text of what that gave.
+/// What came of two calls: the fault of the first, of which a request for memory may have been refused; whether what it has left is as it
+/// has to be; the fault of the second, and a text of what that gave. What is lent by `&` is not compared, since nothing can change it. A
+/// first call that was done leaves what it gives, which has to be what the second gives.
 #[derive(Drop)]
 pub struct Outcome<E> {
     first: Option<E>,
@@ -56,62 +59,54 @@ fn board_after(events: &[NightEvent]) -> Board {
     board
 }
 
-/// How many events a script has that was read.
-fn events_of(read: &Result<Night, InputFault>) -> Option<usize> {
-    match read {
-        Ok(night) => Some(night.events.len()),
-        Err(_) => None,
-    }
-}
-
-/// The board of a sheet that was read.
-fn board_of(read: &Result<Sheet, InputFault>) -> Option<Board> {
-    match read {
-        Ok(sheet) => Some(sheet.board),
-        Err(_) => None,
-    }
-}
-
 fn screens(alloc: Global, input: &[u8]) -> anyhow::Result<Outcome<OutOfMemory>> {
     let night = night_of(alloc, input)?;
     let board = board_after(&night.events);
-    let words = board.words();
     begins(alloc)?;
     let first = screen(alloc, &board, &night.roster, b'A', Profile::Uefa);
     ends(alloc)?;
+    let text = screen(alloc, &board, &night.roster, b'A', Profile::Uefa)?;
+    let is_kept = match &first {
+        Ok(done) => done.as_bytes() == text.as_bytes(),
+        Err(_) => true,
+    };
     Ok(Outcome {
         first: first.err(),
-        is_kept: board.words() == words,
+        is_kept,
         second: None,
-        text: screen(alloc, &board, &night.roster, b'A', Profile::Uefa)?,
+        text,
     })
 }
 
 fn scripts(alloc: Global, input: &[u8]) -> anyhow::Result<Outcome<InputFault>> {
-    let lent = Vec::from_slice(alloc, input)?;
     begins(alloc)?;
     let first = read_night(alloc, &mut FromRead::new(input));
     ends(alloc)?;
-    let events = night_of(alloc, input)?.events.len();
-    let found = events_of(&first).unwrap_or(events);
+    let night = night_of(alloc, input)?;
+    let is_kept = match &first {
+        Ok(done) => done.events.as_slice() == night.events.as_slice(),
+        Err(_) => true,
+    };
     Ok(Outcome {
-        is_kept: lent.as_slice() == input && found == events,
         first: first.err(),
+        is_kept,
         second: None,
-        text: format!(in alloc; "{events} events\n")?,
+        text: format!(in alloc; "{} events\n", night.events.len())?,
     })
 }
 
 fn sheets(alloc: Global, input: &[u8]) -> anyhow::Result<Outcome<InputFault>> {
-    let lent = Vec::from_slice(alloc, input)?;
     begins(alloc)?;
     let first = read_words(alloc, &mut FromRead::new(input));
     ends(alloc)?;
     let sheet = read_words(alloc, &mut FromRead::new(input))?;
-    let found = board_of(&first).unwrap_or(sheet.board);
+    let is_kept = match &first {
+        Ok(done) => done.board == sheet.board,
+        Err(_) => true,
+    };
     Ok(Outcome {
-        is_kept: lent.as_slice() == input && found == sheet.board,
         first: first.err(),
+        is_kept,
         second: None,
         text: screen(alloc, &sheet.board, &sheet.roster, b'A', Profile::Uefa)?,
     })
@@ -148,58 +143,69 @@ fn steps(alloc: Global) -> anyhow::Result<Outcome<StepFault>> {
         readers: 1,
     };
     let steps = short_run(alloc)?;
-    let lent = short_run(alloc)?;
     begins(alloc)?;
     let first = run_steps(alloc, &cast, &steps);
     ends(alloc)?;
-    let second = run_steps(alloc, &cast, &steps);
-    let trace = second?;
+    let trace = run_steps(alloc, &cast, &steps)?;
     let (entries, calls) = (trace.history.len(), trace.calls.len());
+    let is_kept = match &first {
+        Ok(done) => {
+            done.history.len() == entries && done.calls.len() == calls && done.words == trace.words
+        }
+        Err(_) => true,
+    };
     Ok(Outcome {
         first: first.err(),
-        is_kept: steps.as_slice() == lent.as_slice() && cast.reporters == 2 && cast.readers == 1,
+        is_kept,
         second: None,
         text: format!(in alloc; "{entries} entries, {calls} calls\n")?,
     })
 }
 
-/// Three boards that were opened, of which the second may have found no memory: the board before it is as it was, and the one after it is
-/// read.
+/// Two boards that were opened, of which the first may have found no memory: one that was opened is fresh, as the second is.
 fn opened<B: LiveBoard + Drop, R: Wait>(
     rt: &R,
     alloc: Global,
-    before: (B, B::ReaderPass),
     first: Result<(B, B::ReaderPass), OutOfMemory>,
     second: (B, B::ReaderPass),
 ) -> anyhow::Result<Outcome<OutOfMemory>>
-    requires { B.is_reader before.0 before.1 × B.is_reader second.0 second.1 }
+    requires { IfOk first (λ opened. B.is_reader opened.0 opened.1) × B.is_reader second.0 second.1 }
 {
-    let (board, mut pass) = before;
-    let kept = board.read(rt, &mut pass);
     let (board, mut pass) = second;
     let version = board.read(rt, &mut pass).version;
-    Ok(Outcome {
-        first: first.err(),
-        is_kept: kept.version == 0 && kept.board == Board::fresh(),
-        second: None,
-        text: format!(in alloc; "version {version}\n")?,
-    })
+    let text = format!(in alloc; "version {version}\n")?;
+    match first {
+        Ok(done) => {
+            let (board, mut pass) = done;
+            let is_kept = board.read(rt, &mut pass).board == Board::fresh();
+            Ok(Outcome {
+                first: None,
+                is_kept,
+                second: None,
+                text,
+            })
+        }
+        Err(fault) => Ok(Outcome {
+            first: Some(fault),
+            is_kept: true,
+            second: None,
+            text,
+        }),
+    }
 }
 
 fn cells<R: Wait>(rt: &R, alloc: Global) -> anyhow::Result<Outcome<OutOfMemory>> {
-    let before = CellBoard::open(rt, alloc)?;
     begins(alloc)?;
     let first = CellBoard::open(rt, alloc);
     ends(alloc)?;
-    opened(rt, alloc, before, first, CellBoard::open(rt, alloc)?)
+    opened(rt, alloc, first, CellBoard::open(rt, alloc)?)
 }
 
 fn tables<R: Wait>(rt: &R, alloc: Global) -> anyhow::Result<Outcome<OutOfMemory>> {
-    let before = WordBoard::open(rt, alloc)?;
     begins(alloc)?;
     let first = WordBoard::open(rt, alloc);
     ends(alloc)?;
-    opened(rt, alloc, before, first, WordBoard::open(rt, alloc)?)
+    opened(rt, alloc, first, WordBoard::open(rt, alloc)?)
 }
 
 /// A run over a source and a sink.

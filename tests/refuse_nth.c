@@ -1,0 +1,47 @@
+/* Stands before the C library's malloc (LD_PRELOAD) and refuses the request for memory with the number of the environment's REFUSE_NTH,
+   counted from 1; where REFUSE_MODE is `all`, each one after it too. Counting begins with the process where REFUSE_FROM is `start`, and else
+   after a request of 7919 bytes; it ends at a request of 7907 bytes. A refusal is told by a line on the file descriptor of REFUSE_TELLS. */
+
+#include <errno.h>
+#include <stdatomic.h>
+#include <stdlib.h>
+#include <string.h>
+#include <unistd.h>
+
+enum { BEGINS = 7919, ENDS = 7907 };
+
+extern void *__libc_malloc(size_t size), *__libc_calloc(size_t count, size_t size), *__libc_realloc(void *block, size_t size);
+extern void *__libc_memalign(size_t alignment, size_t size);
+
+static atomic_long left;
+static atomic_int counts;
+static int refuses_all, tells;
+
+__attribute__((constructor)) static void begin(void)
+{
+    atomic_store(&left, atol(getenv("REFUSE_NTH")));
+    refuses_all = !strcmp(getenv("REFUSE_MODE"), "all");
+    tells = atoi(getenv("REFUSE_TELLS"));
+    atomic_store(&counts, !strcmp(getenv("REFUSE_FROM"), "start"));
+}
+
+static int is_refused(size_t size)
+{
+    if (size == BEGINS || size == ENDS)
+        atomic_store(&counts, size == BEGINS);
+    if (size == BEGINS || !atomic_load(&counts))
+        return 0;
+    long place = atomic_fetch_sub(&left, 1);
+    if (place > 1 || (place < 1 && !refuses_all))
+        return 0;
+    if (write(tells, "refused\n", 8) < 0)
+        abort();
+    errno = ENOMEM;
+    return 1;
+}
+
+void *malloc(size_t size) { return is_refused(size) ? NULL : __libc_malloc(size); }
+void *calloc(size_t count, size_t size) { return is_refused(count * size) ? NULL : __libc_calloc(count, size); }
+void *realloc(void *block, size_t size) { return is_refused(size) ? NULL : __libc_realloc(block, size); }
+void *memalign(size_t alignment, size_t size) { return is_refused(size) ? NULL : __libc_memalign(alignment, size); }
+void *aligned_alloc(size_t alignment, size_t size) { return memalign(alignment, size); }

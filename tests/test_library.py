@@ -1,0 +1,264 @@
+"""The library for other languages: its header, its examples, its numbers in Python, and races."""
+
+import ctypes as c
+import importlib.util
+import os
+import re
+import shutil
+
+import conftest
+import model
+import pytest
+from conftest import EXAMPLES, TOP
+
+HEADER, MODULE = TOP / "crates/ucl_c/uclboard.h", TOP / "examples/python/uclboard.py"
+SOURCES, SPECS = TOP / "crates/ucl_c/src", TOP / "crates/ucl_c/specs"
+STRICT = "-O2 -Wall -Wextra -pedantic -Werror"
+
+
+@pytest.fixture(scope="session")
+def library(place, pytestconfig):
+    """The folder of the library that is built from the sources as they are, or stands in another checkout."""
+    is_built = place != TOP or conftest.command([TOP / "build", "--built", "ucl_c"]).status == 0
+    if not is_built or not (place / "library/libuclboard.a").exists():
+        (pytest.fail if pytestconfig.getoption("must_run") else pytest.skip)("not built: the library; './build library' proves and builds it")
+    return (place / "library").resolve()
+
+
+def module_over(path):
+    """The module in Python over this shared library."""
+    spec = importlib.util.spec_from_file_location("uclboard", MODULE)
+    module = importlib.util.module_from_spec(spec)
+    os.environ["UCLBOARD_LIBRARY"] = str(path)
+    spec.loader.exec_module(module)
+    del os.environ["UCLBOARD_LIBRARY"]
+    return module
+
+
+@pytest.fixture(scope="session")
+def board(library):
+    """The module in Python."""
+    return module_over(library / "libuclboard.so")
+
+
+def compiled(words, program=""):
+    """What a compiler says of a program, or of nothing."""
+    conftest.needs(words[0])
+    return conftest.command([*words, "-I", HEADER.parent], program)
+
+
+# ---- the header
+
+
+def shouted(name):
+    """A name as the header writes it: `NotTwelve` as `UCLBOARD_NOT_TWELVE`."""
+    return "UCLBOARD_" + re.sub(r"(?<!^)(?=[A-Z])", "_", name.replace(" ", "")).upper()
+
+
+def in_header():
+    """The numbers of the header by their names."""
+    return {name: int(number, 0) for name, number in re.findall(r"\b(UCLBOARD_[A-Z_]+)(?: = | )(?:UINT64_C\()?(0x[0-9a-f]+|\d+)\b", HEADER.read_text())}
+
+
+def defined():
+    """The numbers of statuses, kinds, orders, states and marks by the definitions."""
+    codes, faults = (SPECS / "Codes.antt").read_text(), (SPECS / "Faults.antt").read_text()
+    numbers = {"UCLBOARD_DONE": 0}
+    for function, text in ("refusal_code", codes), ("mark_code", codes), ("state_code_in_c", codes), ("fault_code", faults):
+        for name, number in re.findall(rf"^{function} \(?((?:state\.)?\w+)[\w ]*\)? = (\d+)$", text, re.M):
+            numbers["UCLBOARD_ENDED" if name == "state.Finished" else shouted(name)] = int(number)
+    for function in "kinds", "profiles":
+        body = re.search(rf"^{function} =(.*?)∷ \[\]$", codes, re.M | re.S)[1]
+        numbers.update({shouted(name.strip()): number for number, name in enumerate(body.replace("\n", " ").strip(" ∷").split("∷"))})
+    return numbers
+
+
+def calls():
+    """The calls of the header, with how many arguments each takes."""
+    found = re.findall(r"^[^/\n]*?\b(uclboard_[a-z_]+)\(([^)]*)\);", HEADER.read_text(), re.M)
+    return {name: 0 if given == "void" else given.count(",") + 1 for name, given in found}
+
+
+@pytest.mark.quick
+@pytest.mark.parametrize("words", ["gcc -std=c99 -x c", "clang -std=c99 -x c", "g++ -std=c++11 -x c++", "clang++ -std=c++11 -x c++"])
+def test_header_compiles_without_a_warning(words):
+    assert compiled([*words.split(), *STRICT.split(), "-Wconversion", "-Wshadow", "-fsyntax-only", HEADER]) == (0, "", "")
+
+
+@pytest.mark.quick
+def test_numbers_of_the_header_are_those_of_the_definitions():
+    others = {"WORDS": 12, "CLUBS": 4, "NAME": 20, "SCREEN_ROOM": 320, "JSON_ROOM": 1536, "NAME_ROOM": 32, "SCHEDULED_WORD": 2 << 60}
+    found = in_header()
+    del found["UCLBOARD_VERSION_NUMBER"]
+    assert found == {**defined(), **{"UCLBOARD_" + name: number for name, number in others.items()}}
+
+
+def test_structs_of_the_header_are_those_of_python(board):
+    """Those of Python are compared with the library's by the calls."""
+    lines = ['#include "uclboard.h"\n']
+    for name, of in ("match", board.Match), ("row", board.Row), ("club", board.Club), ("reply", board.Reply):
+        lines += [f'_Static_assert(offsetof(uclboard_{name}, {it}) == {getattr(of, it).offset}, "{name}.{it}");\n' for it, _ in of._fields_]
+        lines += [f'_Static_assert(sizeof(uclboard_{name}) == {c.sizeof(of)}, "the size of {name}");\n']
+    assert compiled(["cc", "-std=c11", "-fsyntax-only", "-x", "c", "-"], "".join(lines)) == (0, "", "")
+
+
+def test_python_and_rust_have_the_numbers_of_the_header(board):
+    header = in_header()
+    names = "WORDS CLUBS NAME SCREEN_ROOM NAME_ROOM JSON_ROOM SCHEDULED_WORD VERSION_NUMBER".split()
+    assert {name: getattr(board, name) for name in names} == {name: header["UCLBOARD_" + name] for name in names}
+    rust = (EXAMPLES / "rust/uclboard.rs").read_text()
+    found = {"UCLBOARD_" + name: int(number, 0) for name, number in re.findall(r"^(?:pub )?const ([A-Z_]+): \w+ = ([0-9x_]+);$", rust, re.M)}
+    kinds = re.search(r"pub enum Kind \{\n(.*?)\}", rust, re.S)[1].split(",")
+    found.update({shouted(name.strip()): number for number, name in enumerate(kinds) if name.strip()})
+    assert len(found) == 21 and found == {name: header[name] for name in found}
+
+
+@pytest.mark.quick
+def test_each_name_of_the_header_has_its_prefix():
+    text = re.sub(r"/\*.*?\*/", "", HEADER.read_text(), flags=re.S)
+    names = [name for found in re.findall(r"#define (\w+)|\b([A-Z_0-9]+) = |^typedef [^;{]*?(\w+);|\bstruct (\w+)|^\} (\w+);|\b(\w+)\(", text, re.M) for name in found]
+    assert {name for name in names if not name.lower().startswith("uclboard_")} == {"", "UINT64_C", "__attribute__", "defined"}
+
+
+@pytest.mark.quick
+@pytest.mark.parametrize("compiler", ["gcc", "clang"])
+def test_a_compiler_warns_where_a_status_is_thrown_away(compiler):
+    answering = {name: count for name, count in calls().items() if name not in ("uclboard_version", "uclboard_pass_drop")}
+    lines = "".join(f"    {name}({', '.join('0' * count)});\n" for name, count in answering.items())
+    told = compiled([compiler, "-std=c99", "-S", "-o", "/dev/null", "-x", "c", "-"], f'#include "uclboard.h"\nvoid f(void) {{\n{lines}}}\n').errors
+    assert answering and told.count("ignoring return value") == len(answering), told
+
+
+def shown_by(path, option):
+    """The names that a library shows, but for those that linkers add."""
+    told = conftest.command(["nm", option, "--defined-only", "--format=posix", path])
+    names = {line.split()[0] for line in told.output.splitlines() if len(line.split()) > 1}
+    return sorted(names - {"_init", "_fini", "_edata", "_end", "__bss_start"})
+
+
+def test_header_code_archive_and_shared_library_have_the_same_calls(library):
+    code = [name for path in SOURCES.glob("*.rt") for name in re.findall(r'^pub extern "C" fn (\w+)', path.read_text(), re.M)]
+    assert sorted(code) == sorted(calls())
+    assert shown_by(library / "libuclboard.a", "--extern-only") == sorted(calls())
+    assert shown_by(library / "libuclboard.so", "--dynamic") == sorted(calls())
+
+
+def test_header_code_soname_and_pkg_config_have_one_version(library):
+    code = re.search(r"fn uclboard_version\(\) -> u32\n    ensures \{ result ≡ (\d+) \}", (SOURCES / "text.rt").read_text())[1]
+    parts = re.search(r"^Version: (\d+)\.(\d+)\.(\d+)$", (library / "uclboard.pc").read_text(), re.M).groups()
+    assert in_header()["UCLBOARD_VERSION_NUMBER"] == int(code) == sum(int(part) * weight for part, weight in zip(parts, (1_000_000, 1000, 1)))
+    dynamic = conftest.command(["readelf", "-d", library / "libuclboard.so"]).output
+    assert re.search(r"\(SONAME\).*\[libuclboard\.so\.(\d+)\]", dynamic)[1] == parts[0]
+
+
+def test_names_of_statuses(board):
+    names = {int(code): name for code, name in re.findall(r"\((\d+), codes \"(.*?)\"\)", (SPECS / "Codes.antt").read_text())}
+    assert set(names) == {0, *board.EXCEPTIONS}
+    for code in [*range(70), 256, 2**32 - 1]:
+        name = names.get(code, "")
+        for room in (len(name), len(name) + 1):
+            out, length = c.create_string_buffer(b"\x55" * 40, 40), c.c_size_t(78)
+            status = board.text_of_status(code, out, room, length)
+            wanted = (58, 78, b"") if code not in names else (0 if room > len(name) else 56, len(name), name.encode() + b"\0" if room > len(name) else b"")
+            assert (status, length.value, out.raw) == (*wanted[:2], wanted[2] + b"\x55" * (40 - len(wanted[2])))
+
+
+# ---- the examples, as docs/C.md has them typed
+
+LINES = re.findall(r"^    (\S.*) < (examples/\w+\.csv)$", (TOP / "docs/C.md").read_text().split("\n## Examples\n")[-1], re.M)
+LINKED = "-I library library/libuclboard.a"
+SANITIZED = f"{STRICT} -fsanitize=address,undefined -fno-sanitize-recover"
+# How a line of C or C++ is compiled: by which compiler, with which options, and by what in place of the archive.
+VARIANTS = {
+    "gcc": (0, STRICT, LINKED),
+    "clang": (1, STRICT, LINKED),
+    "the sanitizers": (0, SANITIZED, LINKED),
+    "the shared library": (0, STRICT, "-I library -L library -luclboard"),
+    "pkg-config": (0, "", "$(pkg-config --cflags --libs uclboard)"),
+}
+
+
+def typed():
+    """Each line with each way to compile it."""
+    assert len(LINES) >= 6, "docs/C.md has other examples"
+    for line, _ in LINES:
+        name = re.search(r"examples/([\w/]+\.\w+)", line)[1]
+        for variant in VARIANTS if line.startswith(("cc ", "c++ ")) else [None]:
+            yield pytest.param(line, variant, id=f"{name}, {variant}" if variant else name)
+
+
+def scripts(is_night):
+    """Scripts with the words for an example and what stands beside them: the closing screen of a night, or the replies."""
+    beside = lambda path: conftest.text_of(path.with_suffix(".expected"))
+    if not is_night:
+        return [(path, "", beside(path)) for path in sorted(EXAMPLES.glob("*.csv")) if beside(path).startswith("5 ok ")]
+    found = [(path, "A uefa", beside(path)) for path in sorted(EXAMPLES.glob("*_night.csv"))]
+    found += [(path, f"{path.stem[-1].upper()} uefa", beside(path)) for path in sorted(EXAMPLES.glob("season_2021_22/group_?.csv"))]
+    return [*found, (EXAMPLES / "away_goals_night.csv", "A away-in-tie", conftest.text_of(EXAMPLES / "away_goals_night.away_in_tie"))]
+
+
+@pytest.fixture
+def shell(tmp_path, library):
+    """A folder with the library and the examples, in which a line is typed: it gives what the line ends with."""
+    (tmp_path / "library").symlink_to(library)
+    shutil.copytree(EXAMPLES, tmp_path / "examples", ignore=shutil.ignore_patterns("target", "Cargo.lock"))
+    own = {"LD_LIBRARY_PATH": "library", "PKG_CONFIG_PATH": "library", "CARGO_NET_OFFLINE": "true", "RUSTFLAGS": "-D warnings", "PYTHONDONTWRITEBYTECODE": "1"}
+    return lambda line, text="": conftest.command(["bash", "-c", line], text, cwd=tmp_path, env={**os.environ, **own})
+
+
+def built(shell, line, variant):
+    """Compiles the example of a line so. Gives what runs it."""
+    building, _, running = line.rpartition(" && ")
+    conftest.needs(*[tool for tool in ("cargo", "python3") if f"{tool} " in running])
+    if building:
+        number, options, linked = VARIANTS[variant]
+        compiler, rest = building.split(" ", 1)
+        compiler = {"cc": ["gcc", "clang"], "c++": ["g++", "clang++"]}[compiler][number]
+        conftest.needs(compiler, *["pkg-config"] * ("pkg-config" in linked))
+        assert LINKED in rest and shell(f"{compiler} {options} {rest.replace(LINKED, linked)}") == (0, "", "")
+    return running
+
+
+@pytest.mark.parametrize("line, variant", typed())
+def test_an_example_writes_what_stands_beside_each_script(shell, line, variant):
+    running = built(shell, line, variant)
+    is_night = running.endswith(" A")
+    for path, words, wanted in scripts(is_night):
+        run = shell(f"{running.removesuffix(' A')} {words}", conftest.text_of(path))
+        assert (run.status, run.output) == (0, wanted), (path.name, run.errors)
+
+
+FAULTY = [("", 20, "row 1"), ("club,1,Alpha,1\n", 20, "row 2"), ("x" * 4_194_305, 24, "too long"), (model.CLUBS.replace("Delta", ""), 21, "slot 4")]
+
+
+@pytest.mark.parametrize("text, code, where", FAULTY, ids=[where for *_, where in FAULTY])
+def test_examples_tell_a_script_that_is_none(shell, text, code, where):
+    feed, night = (next(line for line, _ in LINES if name in line) for name in ("c/feed.c", "cpp/night.cpp"))
+    assert shell(built(shell, feed, "gcc"), text) == (3, "", f"input refused {code}: {where}\n")
+    run = shell(built(shell, night, "gcc"), text)
+    assert (run.status, run.output) == (1, "") and run.errors.startswith("night: ")
+
+
+def test_programs_of_the_pages_print_the_screen_after_a_kick_off(shell, tmp_path):
+    readme, page = ((TOP / path).read_text() for path in ("README.md", "docs/C.md"))
+    line = re.search(r"`(cc board\.c [^`]*) && \./board`", readme)[1]
+    (in_c,) = re.findall(r"^```c\n(.*?)^```$", readme, re.M | re.S)
+    in_python = [*re.findall(r"^```python\n(.*?)^```$", readme, re.M | re.S), *re.findall(r"^```python\n(.*?)^```$", page, re.M | re.S)]
+    (tmp_path / "board.c").write_text(in_c)
+    for path in MODULE, tmp_path / "library/libuclboard.so":
+        shutil.copy(path, tmp_path)
+    matches = model.fresh()
+    matches[0].enter(1, "kickoff")
+    wanted = (0, model.screen(matches), "")
+    assert shell(f"{line} -Wall -Wextra -Werror && ./board") == wanted and len(in_python) == 2
+    assert [shell("python3 -", text) for text in in_python] == [wanted, wanted]
+
+
+@pytest.mark.parametrize("how", ["sound", "racy"])
+def test_threads_under_helgrind(library, tmp_path, how):
+    conftest.needs("valgrind")
+    words = ["cc", "-std=c11", *STRICT.split(), "-pthread", TOP / "tests/races.c", library / "libuclboard.a", "-o", tmp_path / "races"]
+    assert compiled(words) == (0, "", "")
+    run = conftest.command(["valgrind", "-q", "--tool=helgrind", tmp_path / "races", how])
+    races = re.findall(r"Possible data race .*\n.*Locks held.*\n.* at 0x\w+: (\S+)", run.errors)
+    assert run == (0, "", "") if how == "sound" else any(name.startswith("ucl") for name in races)

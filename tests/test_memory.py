@@ -1,0 +1,107 @@
+"""Each request for memory is refused in turn, first that one alone, and then that one and all after it, until a run meets no refusal.
+
+A call of the library then answers want of memory, and does its work when it is made again; the program `ucl_hostile` makes it twice. A program
+tells want of memory and has written nothing, or, in an evening, whole answers up to a row whose answer asks for memory. Where one request alone is
+refused the work may also be done at once, for a list that finds no room to grow to twice its size asks again for what it needs.
+"""
+
+import itertools
+import os
+
+import conftest
+import pytest
+from conftest import EXAMPLES, TOP
+
+pytestmark = pytest.mark.limit(200)
+H2H, SHEET, SCREEN = "head_to_head", "head_to_head_sheet.csv", "head_to_head_sheet.expected"
+NO_MEMORY, NO_THREAD = "Some(OutOfMemory)", "Some(NoThread)"
+
+
+@pytest.fixture(scope="session")
+def refuses(tmp_path_factory):
+    """The library that refuses requests."""
+    conftest.needs("cc")
+    path = tmp_path_factory.mktemp("refuses") / "refuse_nth.so"
+    ended = conftest.command(["cc", "-shared", "-fPIC", "-O1", "-Wall", "-Werror", "-o", path, TOP / "tests/refuse_nth.c"])
+    assert ended.status == 0, ended.errors
+    return path
+
+
+def swept(refuses, mode, start, words, text):
+    """The runs whose first request is refused, whose second is, and so on, and last the one that meets no refusal."""
+    met = []
+    for nth in itertools.count(1):
+        reading, writing = os.pipe()
+        environment = {**os.environ, "LD_PRELOAD": refuses, "REFUSE_NTH": str(nth), "REFUSE_MODE": mode, "REFUSE_FROM": start, "REFUSE_TELLS": str(writing)}
+        run = conftest.command(words, text, env=environment, pass_fds=[writing])
+        os.close(writing)
+        with open(reading, "rb") as told:
+            if not told.read():
+                return met, run
+        met.append(run)
+
+
+def text_of(name, more=""):
+    """What stands in a file of examples, and more."""
+    return (conftest.text_of(EXAMPLES / name) if name else "") + more
+
+
+# Each call with its input, what it gives, and what it may answer.
+CALLS = {
+    "screen": (f"{H2H}.csv", (SCREEN,), [NO_MEMORY]),
+    "read_night": (f"{H2H}.csv", ("", "40 events\n"), [NO_MEMORY]),
+    "read_words": (SHEET, (SCREEN,), [NO_MEMORY]),
+    "run_steps": ("", ("", "2 entries, 3 calls\n"), [NO_MEMORY]),
+    "CellBoard::open": ("", ("", "version 0\n"), [NO_MEMORY]),
+    "WordBoard::open": ("", ("", "version 0\n"), [NO_MEMORY]),
+    "feed_run": ("two_matches.csv", ("two_matches.expected",), [NO_MEMORY]),
+    "show_run": (SHEET, (SCREEN,), [NO_MEMORY]),
+    "night_run": (f"{H2H}.csv", (SCREEN,), [NO_MEMORY, NO_THREAD]),
+    "night_run_in_a_cell": (f"{H2H}.csv", (SCREEN,), [NO_MEMORY, NO_THREAD]),
+}
+
+
+@pytest.mark.parametrize("mode", ["one", "all"])
+@pytest.mark.parametrize("call", CALLS)
+def test_a_call_of_the_library(program, refuses, call, mode):
+    name, gives, answers = CALLS[call]
+    met, whole = swept(refuses, mode, "call", [program("ucl_hostile"), "refused", call], text_of(name))
+    right = "kept true\nsecond None\n" + text_of(*gives)
+    assert whole.output == "first None\n" + right
+    allowed = [f"first {answer}\n{right}" for answer in answers]
+    assert [run for run in met if run.output not in allowed + [whole.output] * (mode == "one")] == []
+    assert any(run.output in allowed for run in met)
+
+
+ROWS = "two_matches.csv", "screen,,,\nwords,,,\n"
+MORE_ROWS = "two_matches_sheet.csv", "words,,,\n1,1,6,fulltime\nscreen,,,\n1,1,6,reopen\n"
+# Each run of a program with its input and its status, and how many lines of its output may be out where want of memory is told: in an evening the
+# clubs ask for memory, the screen, a screen after an accepted event, and all in JSON.
+RUNS = {
+    "ucl_night --help": ([], 0, [0]),
+    "ucl_night feed": (["two_matches.csv"], 0, [0]),
+    "ucl_night show --group A": ([SHEET], 0, [0]),
+    "ucl_night show": (["two_matches_sheet.csv"], 0, [0]),
+    "ucl_night show --order away-in-tie": ([SHEET], 0, [0]),
+    "ucl_night show --order none": ([], 2, [0]),
+    "ucl_night night --group A --readings 0": ([f"{H2H}.csv"], 0, [0]),
+    "ucl_live --help": ([], 0, [0]),
+    "ucl_live --order none": ([], 2, [0]),
+    "ucl_live": (ROWS, 0, [0, 10]),
+    "ucl_live --screens": (ROWS, 0, [0, 7, 16, 23, 30, 37, 45, 52]),
+    "ucl_live --format json": (ROWS, 0, range(12)),
+    "ucl_live --format text": (MORE_ROWS, 0, [0, 13]),
+    "ucl_live --format json --screens": (MORE_ROWS, 0, range(4)),
+}
+
+
+@pytest.mark.parametrize("mode", ["one", "all"])
+@pytest.mark.parametrize("line", RUNS)
+def test_a_run_of_a_program(program, refuses, line, mode):
+    (name, *words), (given, status, places) = line.split(), RUNS[line]
+    met, whole = swept(refuses, mode, "start", [program(name), *words], text_of(*given) if given else "")
+    assert whole.status == status and (not whole.errors if status == 0 else not whole.output)
+    told = ["out of memory 23\n"] + ["no thread 27\n"] * ("night" in words)
+    allowed = [(5, "".join(whole.output.splitlines(True)[:place]), fault) for place in places for fault in told]
+    assert [run for run in met if run not in allowed + [whole] * (mode == "one")] == []
+    assert any(run in allowed for run in met)
