@@ -34,6 +34,7 @@ def pytest_addoption(parser):
     group = parser.getgroup("programs of this repository")
     group.addoption("--programs", metavar="FOLDER", type=lambda it: pathlib.Path(it).resolve(), default=TOP, help="try what is built in another checkout")
     group.addoption("--unproved", action="store_true", help="where a program is not built, try cases of words and input on the code as it is")
+    group.addoption("--picture", metavar="FILE", help="write a picture of the page of an evening, as PNG")
     group.addoption("--must-run", action="store_true", help="a test whose program is not built fails, and is not skipped")
 
 
