@@ -161,7 +161,7 @@ test_words_that_are_refused = tabled({line or "no words": (line, "", "", 2, Has(
     "ucl_night show --order": "", "ucl_night feed --order uefa": "", "ucl_night night --readings 1001": "1001", "ucl_night night --readings=-1": "",
     "ucl_night show --readings 3": "", "ucl_night feed more": "", "ucl_night feed --group A": "",
     "ucl_live --group I": "", "ucl_live --format xml": "", "ucl_live --readings 1": "", "ucl_live feed": "", "ucl_live --screens=1": "",
-    "ucl_live --group": "",
+    "ucl_live --group": "", "ucl_live --scren": "'--screens'", "ucl_live --format jsn": "'json'", "ucl_night fed": "'feed'",
     "ucl_follow --group A": "", "ucl_follow --format xml": "", "ucl_follow evening.jsonl": "", "ucl_follow --resume=1": "", "ucl_follow --format": "",
     "ucl_evening": "required", "ucl_evening clubs.csv": "--reporter", f"ucl_evening clubs.csv {SEVENTEEN}": "1 to 16 reporters",
     "ucl_evening clubs.csv --reporter rows": "IN=OUT", "ucl_evening clubs.csv --reporter clubs.csv=replies": "twice",
