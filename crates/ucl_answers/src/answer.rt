@@ -9,11 +9,11 @@ ghost use Rattle.ucl_runs.specs.Lines.{accepted_line, refused_line};
 ghost use Rattle.ucl_answers.specs.Seen.{bytes_of};
 ghost use Rattle.ucl_answers.specs.Text.{bad_answer, bad_line, reply_answer, screen_answer};
 
-use ucl_command::{Format, LiveArgs};
 use crate::stage::Table;
 use arrayvec::ArrayString;
 use itoa::Buffer;
 use std::alloc::{AllocError, Global};
+use ucl_command::{Format, LiveArgs};
 use ucl_json::{bad_row_json, reply_json, screen_json};
 use ucl_runs::RunFault;
 use ucl_screen::screen;

@@ -10,12 +10,12 @@ ghost use Rattle.ucl_answers.specs.Stages.{after_row};
 ghost use Rattle.ucl_answers.specs.Stepping.{AsksAt, AsksForMemory, EveningIsRefused, StageIsRefused};
 ghost use Rattle.ucl_answers.specs.Text.{answer_said, answer_at, next};
 
-use ucl_command::LiveArgs;
 use crate::page::Page;
 use crate::request::request_of;
 use crate::stage::{Clubs, Stage, with_club};
 use std::alloc::Global;
 use std::mem;
+use ucl_command::LiveArgs;
 use ucl_runs::RunFault;
 use ucl_screen::{Four, Sink};
 

@@ -13,10 +13,10 @@ ghost use Rattle.ucl_answers.specs.Taking.{FailsToEnd, FailsToGive, FailsToTake,
 use crate::desk::Desk;
 use crate::evening::Evening;
 use crate::lines::first_line;
-use ucl_command::LiveArgs;
 use crate::stage::{Clubs, Stage};
 use crate::wire::Wire;
 use std::alloc::Global;
+use ucl_command::LiveArgs;
 use ucl_runs::RunFault;
 use ucl_screen::{InputFault, Sink, Source};
 

@@ -9,13 +9,13 @@ ghost use Rattle.ucl_command.specs.declared.options.Format.TheVariants.{Json};
 ghost use Rattle.ucl_answers.specs.declared.request.Request.TheVariants.{Event};
 
 use crate::answer::{bad_answer, reply_answer, screen_answer};
-use ucl_command::{Format, LiveArgs};
 use crate::page::Page;
 use crate::request::Request;
 use crate::stage::Table;
 use crate::words::word_lines;
 use std::alloc::Global;
 use ucl_board::Board;
+use ucl_command::{Format, LiveArgs};
 use ucl_json::words_json;
 use ucl_runs::RunFault;
 use ucl_screen::{NightEvent, Sink};

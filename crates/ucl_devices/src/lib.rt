@@ -5,8 +5,8 @@
 mod given;
 mod stored;
 
-use std::io;
 pub use given::{Count, Given, Idle, Shelf};
+use std::io;
 pub use stored::{CLUBS, STORED, STORED_REPLIES, STORED_SCREEN, STORED_WORDS};
 
 /// A reader of a text, which gives at most `piece` bytes at a time, fails after `room` bytes, and then reads on.

@@ -108,7 +108,14 @@ pub fn hold<
     R: Threads + Wait + Sync,
     W: Sink,
     E: Sink,
->(rt: &R, alloc: Global, asked: &EveningArgs, ready: Ready<S, V>, output: &mut W, errors: &mut E) -> u8
+>(
+    rt: &R,
+    alloc: Global,
+    asked: &EveningArgs,
+    ready: Ready<S, V>,
+    output: &mut W,
+    errors: &mut E,
+) -> u8
     requires few { length ready.night.events.items ≤ most_bytes }
 {
     match held(rt, alloc, asked, ready, output, errors) {

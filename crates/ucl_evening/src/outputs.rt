@@ -98,7 +98,11 @@ fn push(befores: &mut Vec<Before>, before: Before) -> Result<(), AllocError> {
 }
 
 /// Looks at all names, before any but the script is opened. Refuses two that stand for one file or pipe, and an output with bytes in it.
-pub fn befores_of<R: Files>(files: &R, alloc: Global, asked: &EveningArgs) -> Result<Befores, Stop> {
+pub fn befores_of<R: Files>(
+    files: &R,
+    alloc: Global,
+    asked: &EveningArgs,
+) -> Result<Befores, Stop> {
     let mut known = Known {
         all: Vec::new(alloc),
     };

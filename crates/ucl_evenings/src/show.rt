@@ -10,8 +10,8 @@ ghost use Rattle.ucl_evenings.specs.Showing.{AreFew, EndWasTold, GaveNotes, Goes
 use std::alloc::Global;
 use std::marker::Model;
 use std::sync::Wait;
-use ucl_command::{Format, LiveArgs};
 use ucl_board::{Board, Reading};
+use ucl_command::{Format, LiveArgs};
 use ucl_json::screen_json;
 use ucl_order::Roster;
 use ucl_runs::{RunFault, put_bytes};

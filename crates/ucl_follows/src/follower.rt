@@ -9,9 +9,9 @@ ghost use Rattle.ucl_follows.specs.Follow.{resuming_text};
 
 use crate::following::{Following, put};
 use crate::rows::resuming_rows;
-use ucl_command::FollowArgs;
 use arrayvec::ArrayVec;
 use std::alloc::Global;
+use ucl_command::FollowArgs;
 use ucl_runs::RunFault;
 use ucl_screen::Sink;
 

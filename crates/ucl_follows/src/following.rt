@@ -9,9 +9,9 @@ ghost use Rattle.ucl_follows.specs.Hearing.{FailsToShow};
 ghost use Rattle.ucl_follows.specs.Told.{moment_on};
 
 use crate::moment::Moment;
-use ucl_command::FollowArgs;
 use crate::told::moment_on;
 use std::alloc::Global;
+use ucl_command::FollowArgs;
 use ucl_json::screen_json;
 use ucl_runs::RunFault;
 use ucl_screen::{Sink, give_all, screen};

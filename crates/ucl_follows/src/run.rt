@@ -10,9 +10,9 @@ ghost use Rattle.ucl_follows.specs.Follow.{follow_end, follow_text};
 ghost use Rattle.ucl_follows.specs.Hearing.{FollowFails, IsFollowedSoFar, counts_of};
 
 use crate::follower::Follower;
-use ucl_command::FollowArgs;
 use std::alloc::Global;
 use ucl_answers::Wire;
+use ucl_command::FollowArgs;
 use ucl_runs::RunFault;
 use ucl_screen::{InputFault, Sink, Source};
 

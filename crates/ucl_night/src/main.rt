@@ -26,7 +26,13 @@ fn main(rt: HostRuntime) -> ExitCode {
     };
     let opened = WordBoard::open(&rt, alloc);
     let status = run(
-        &rt, alloc, asked, opened, &mut source, &mut sink, &mut errors,
+        &rt,
+        alloc,
+        asked,
+        opened,
+        &mut source,
+        &mut sink,
+        &mut errors,
     );
     ExitCode::from(status)
 }

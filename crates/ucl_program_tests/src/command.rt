@@ -272,9 +272,7 @@ fn ran<R: Threads + Wait + Sync>(
         });
         let asked = line_of(alloc, &words);
         let opened = WordBoard::open(rt, alloc);
-        run(
-            rt, alloc, asked, opened, &mut source, &mut sink, &mut told,
-        )
+        run(rt, alloc, asked, opened, &mut source, &mut sink, &mut told)
     };
     Ok((status, out, errors))
 }

@@ -9,7 +9,9 @@ use devices::{fed, has_refused, has_stopped, has_written, shown};
 use std::alloc::{AllocError, Global};
 use std::process::Abort;
 use std::test::Fail;
-use ucl_devices::{CLUBS, Cut, Full, Given, STORED, STORED_REPLIES, STORED_SCREEN, STORED_WORDS, Shelf};
+use ucl_devices::{
+    CLUBS, Cut, Full, Given, STORED, STORED_REPLIES, STORED_SCREEN, STORED_WORDS, Shelf,
+};
 use ucl_order::Profile;
 use ucl_runs::{RunFault, status_of};
 use ucl_screen::{FromRead, InputFault, read_night, screen};

@@ -73,9 +73,7 @@ pub fn obey<B: LiveBoard + Drop, S: Source, W: Sink, R: Threads + Wait + Sync>(
             group,
             readings,
             profile,
-        } => play(
-            rt, alloc, opened, source, sink, group, readings, profile,
-        ),
+        } => play(rt, alloc, opened, source, sink, group, readings, profile),
     }
 }
 

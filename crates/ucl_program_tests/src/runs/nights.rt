@@ -42,7 +42,6 @@ struct FourAtOnce {
 }
 
 impl Gate for FourAtOnce {
-
     fn come(&self, _worker: u8, call: u32) {
         if call > 0 {
             return;
@@ -100,7 +99,6 @@ struct ReportersFirst {
 }
 
 impl Gate for ReportersFirst {
-
     fn come(&self, worker: u8, call: u32) {
         let is_in_time = match (worker, call) {
             (1 | 2, 0) => has_come_to(&self.readers, 2),
@@ -241,7 +239,6 @@ impl InStep {
 }
 
 impl Gate for InStep {
-
     fn come(&self, worker: u8, call: u32) {
         let [first, second, third, fourth] = &self.calls;
         let own = match worker {
@@ -569,7 +566,10 @@ fn board_with_an_event_of_a_third_reporter(rt: HostRuntime) -> Result<(), Fail> 
     let in_cell = settled_after_a_third(&rt, alloc, &board, pass)?;
     let (board, pass) = WordBoard::open(&rt, alloc)?;
     let in_words = settled_after_a_third(&rt, alloc, &board, pass)?;
-    assert_eq!(rt; [in_cell, in_words], [Err(RunFault::Strangers { version: 1 }); 2]);
+    assert_eq!(rt;
+        [in_cell, in_words],
+        [Err(RunFault::Strangers { version: 1 }); 2]
+    );
     Ok(())
 }
 
