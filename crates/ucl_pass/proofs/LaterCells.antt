@@ -1,31 +1,28 @@
 -- Each step on the cell lets its pass go on, so a later state of a cell board goes on from an earlier one.
-use Rattle.std.proofs.Common.{◌≡◌, ⊎_elim, ℕ, suc, ◌<◌, Option, Some, None, List, [], ◌∷◌, ◌++◌, length, map, set, refl, sym, ap, ◌∙◌, subst, arith, append-nil}
+use Rattle.std.proofs.Common.{◌≡◌, ⊎_elim, ℕ, ◌<◌, Option, Some, None, List, [], ◌∷◌, ◌++◌, length, map, set, refl, sym, ap, ◌∙◌, subst, arith, append-nil}
 use Rattle.std.proofs.lemmas.List.{map-append}
 use mathlib.Core.List.{IsPrefix}
-use mathlib.Core.Logic.{dite}
-use mathlib.Core.Option.{some, some-injective}
+use mathlib.Core.Option.{some}
 use lib.ListN.{get_elem?}
-use native.Mathlib.Decide.{ℕ_discrete}
-use Rattle.atomic_table.proofs.Lists.{set_here, set_else, set_again, at_longer}
+use Rattle.atomic_table.proofs.Lists.{set_here, set_else, at_longer}
 use Rattle.ucl_word.specs.declared.event.EventCall.{EventCall}
 use Rattle.ucl_word.specs.declared.refusal.Refusal.{Refusal}
 use Rattle.ucl_word.specs.Rules.{refusal_of}
 use Rattle.ucl_word.specs.Layout.{record_at}
 use Rattle.ucl_board.specs.Words.{word_at}
-use Rattle.ucl_board.specs.Log.{Enlisted, Taken, step_taken, logged_by, Log}
+use Rattle.ucl_board.specs.Log.{Log}
 use Rattle.ucl_board.proofs.Beginnings.{begins_same, begins_through}
 use Rattle.ucl_steps.specs.declared.step.Call.{Call}
 use Rattle.ucl_steps.specs.Actors.{Actor}
-use Rattle.ucl_steps.specs.Growing.{HasGoneOn, HaveGoneOn}
-use Rattle.ucl_steps.specs.PassRuns.{calls_asked}
+use Rattle.ucl_steps.specs.Growing.{HasGoneOn}
 use Rattle.ucl_steps.specs.Protocol.{Answer}
+use Rattle.ucl_steps.proofs.GoneOn.{actors_through, PassesGoOn, passes_through, one_goes_on, one_comes, actors_go}
 use Rattle.ucl_steps.proofs.Seats.{map_at, map_there, map_set, map_more, place_below}
 use Rattle.ucl_shared.specs.declared.view.View.{View}
 use Rattle.ucl_shared.specs.OneHistory.{KeepsOneHistory}
-use Rattle.ucl_shared.specs.Views.{Takes, newcomer}
-use Rattle.ucl_shared.specs.CallSteps.{CountsReporters}
+use Rattle.ucl_shared.specs.Views.{newcomer}
 use Rattle.std.specs.Prelude.{slice_index}
-use Rattle.ucl_shared.proofs.LogFacts.{steps_last}
+use Rattle.ucl_shared.proofs.LaterLogs.{says_found, log_after, one_log, given_after}
 use Rattle.ucl_shared.proofs.KeptRule.{second_added, second_same, note_added, note_same, note_joined, joined_same}
 use Rattle.ucl_pass.specs.declared.view.CellView.{CellView}
 use Rattle.ucl_pass.specs.CellViews.{actor_of, actors_of, views_known, left_cell_pass, second_cell_pass, note_cell_pass, told_cell_pass, new_cell_pass}
@@ -60,13 +57,6 @@ one_more v w f is = (f ∷ [], sym is)
 
 gone_still : (v w : CellView) → w.pass.number ≡ v.pass.number → w.calls ≡ v.calls → HasGoneOn (actor_of v) (actor_of w)
 gone_still v w number calls = gone v w (λ _. number) (same_calls v w calls)
-
-gone_through : (a b c : Actor) → HasGoneOn a b → HasGoneOn b c → HasGoneOn a c
-gone_through a b c p q = record {
-  number = λ pos. let is = p.number pos in q.number (omega arith) ∙ is;
-  finished = begins_through a.doing.calls b.doing.calls c.doing.calls p.finished q.finished;
-  asked = begins_through (calls_asked a.doing) (calls_asked b.doing) (calls_asked c.doing) p.asked q.asked;
-}
 
 -- each kind of step
 
@@ -111,58 +101,6 @@ logged_enlist place v x y w l = ⊎_elim (λ missed. (_, missed.1.sees.takes)) (
 known_at : (views : List CellView) (seat : ℕ) (v : CellView) → get_elem? views seat ≡ some v → get_elem? (views_known views) seat ≡ some v.pass
 known_at views seat v here = map_at (λ (z : CellView). z.pass) views seat v here
 
--- views that go on
-
-abbrev Goes : List CellView → List CellView → Type 0
-Goes views later = (seat : ℕ) (v : CellView) → get_elem? views seat ≡ some v → (w : CellView) × (get_elem? later seat ≡ some w) × HasGoneOn (actor_of v) (actor_of w)
-
-goes_through : (a b c : List CellView) → Goes a b → Goes b c → Goes a c
-goes_through a b c p q seat v here =
-    let x = p seat v here in
-    let y = q seat x.0 x.1 in
-    (y.0, y.1, gone_through (actor_of v) (actor_of x.0) (actor_of y.0) x.2 y.2)
-
-goes_set : (views : List CellView) (seat : ℕ) (v w : CellView) → get_elem? views seat ≡ some v → HasGoneOn (actor_of v) (actor_of w) → Goes views (set views seat w)
-goes_set views seat v w here on j u at = dite (ℕ_discrete j seat)
-    (λ is.
-    let same : v ≡ u = some-injective v u (sym here ∙ (ap (get_elem? views) (sym is) ∙ at)) in
-    (w, ap (get_elem? (set views seat w)) is ∙ set_here views seat w (place_below views seat v here), subst (λ (z : CellView). HasGoneOn (actor_of z) (actor_of w)) same on))
-    (λ not. (u, set_else views seat j w not ∙ at, gone_still u u refl refl))
-
-goes_more : (views : List CellView) (w : CellView) → Goes views (views ++ w ∷ [])
-goes_more views w j u at = (u, at_longer views (w ∷ []) j u at, gone_still u u refl refl)
-
-actors_go : (views later : List CellView) → Goes views later → HaveGoneOn (actors_of views) (actors_of later)
-actors_go views later goes seat a at =
-    let v = map_there actor_of views seat a at in
-    let g = goes seat v.0 v.1 in
-    (actor_of g.0, map_at actor_of later seat g.0 g.1, subst (λ (x : Actor). HasGoneOn x (actor_of g.0)) v.2 g.2)
-
-actors_through : (a b c : List Actor) → HaveGoneOn a b → HaveGoneOn b c → HaveGoneOn a c
-actors_through a b c p q seat x at =
-    let y = p seat x at in
-    let z = q seat y.0 y.1 in
-    (z.0, z.1, gone_through x y.0 z.0 y.2 z.2)
-
--- logs
-
-abbrev Rule : List ℕ → List View → Type 0
-Rule words views = KeepsOneHistory words_after words views
-
--- a step of one pass
-log_after : (before after : List ℕ) (views later : List View) (r : Rule before views) (q : Rule after later) (seat : ℕ) (v w : View) (steps : List Taken)
-    → get_elem? views seat ≡ some v → later ≡ set views seat w → w.own ≡ v.own ++ steps → IsPrefix r.log q.log
-log_after before after views later r q seat v w steps here is more =
-    let all : (vs : List View) → vs ≡ set views seat w → (p : Rule after vs) → p.log ≡ r.log ++ map (logged_by seat) steps =
-    (λ vs same. subst (λ (l : List View). (p : Rule after l) → p.log ≡ r.log ++ map (logged_by seat) steps) (sym same)
-    (λ p. steps_last words_after before after views r seat v w steps here p more)) in
-    (map (logged_by seat) steps, sym (all later is q))
-
--- two rules of the same views
-one_log : (before after : List ℕ) (views later : List View) (r : Rule before views) (q : Rule after later) (seat : ℕ) (v : View)
-    → get_elem? views seat ≡ some v → later ≡ views → IsPrefix r.log q.log
-one_log before after views later r q seat v here is = log_after before after views later r q seat v v [] here (is ∙ sym (set_again views seat v here)) (sym (append-nil v.own))
-
 -- one step of the table
 
 module _ (s t : CellState) (r : CellMeetsItsRule s) (q : CellMeetsItsRule t) where
@@ -170,24 +108,24 @@ module _ (s t : CellState) (r : CellMeetsItsRule s) (q : CellMeetsItsRule t) whe
   by_kind kind on logs p =
       let x = logs p.was p.found p.left p.is p.told in
       record {
-        log = log_after s.words t.words (views_known s.views) (views_known t.views) r.shared q.shared p.seat p.was.pass p.is.pass (x.0 ∷ []) (known_at s.views p.seat p.was p.here)
+        log = log_after words_after s.words t.words (views_known s.views) (views_known t.views) r.shared q.shared p.seat p.was.pass p.is.pass (x.0 ∷ []) (known_at s.views p.seat p.was p.here)
             (ap views_known p.views ∙ map_set (λ (z : CellView). z.pass) s.views p.seat p.is) x.1.own;
-        passes = actors_go s.views t.views (subst (Goes s.views) (sym p.views) (goes_set s.views p.seat p.was p.is p.here (on p.was p.found p.left p.is p.told)));
+        passes = actors_go actor_of s.views t.views (subst (PassesGoOn actor_of s.views) (sym p.views) (one_goes_on actor_of s.views p.seat p.was p.is p.here (on p.was p.found p.left p.is p.told)));
       }
 
   by_split : (left right : CellView → CellView) (p : CellSplit left right s t) → HasGoneOn (actor_of p.was) (actor_of (left p.was))
-      → (r2 : Rule s.words (set (views_known s.views) p.seat (left p.was).pass ++ (right p.was).pass ∷ [])) → r2.log ≡ r.shared.log → CellGoesOnWith s t r q
+      → (r2 : KeepsOneHistory words_after s.words (set (views_known s.views) p.seat (left p.was).pass ++ (right p.was).pass ∷ [])) → r2.log ≡ r.shared.log → CellGoesOnWith s t r q
   by_split left right p on r2 same =
       let at = known_at s.views p.seat p.was p.here in
       let first = set (views_known s.views) p.seat (left p.was).pass in
       record {
-        log = subst (λ (l : Log). IsPrefix l q.shared.log) same (one_log s.words t.words (first ++ (right p.was).pass ∷ []) (views_known t.views) r2 q.shared p.seat (left p.was).pass
+        log = subst (λ (l : Log). IsPrefix l q.shared.log) same (one_log words_after s.words t.words (first ++ (right p.was).pass ∷ []) (views_known t.views) r2 q.shared p.seat (left p.was).pass
             (at_longer first ((right p.was).pass ∷ []) p.seat (left p.was).pass (set_here (views_known s.views) p.seat (left p.was).pass (place_below (views_known s.views) p.seat p.was.pass at)))
             (ap views_known p.views ∙ (map_more (λ (z : CellView). z.pass) (set s.views p.seat (left p.was)) (right p.was)
             ∙ ap (λ (l : List View). l ++ (right p.was).pass ∷ []) (map_set (λ (z : CellView). z.pass) s.views p.seat (left p.was)))));
-        passes = actors_go s.views t.views (subst (Goes s.views) (sym p.views)
-            (goes_through s.views (set s.views p.seat (left p.was)) (set s.views p.seat (left p.was) ++ right p.was ∷ []) (goes_set s.views p.seat p.was (left p.was) p.here on)
-            (goes_more (set s.views p.seat (left p.was)) (right p.was))));
+        passes = actors_go actor_of s.views t.views (subst (PassesGoOn actor_of s.views) (sym p.views)
+            (passes_through actor_of s.views (set s.views p.seat (left p.was)) (set s.views p.seat (left p.was) ++ right p.was ∷ []) (one_goes_on actor_of s.views p.seat p.was (left p.was) p.here on)
+            (one_comes actor_of (set s.views p.seat (left p.was)) (right p.was))));
       }
 
   by_hearing : CellHeard s t → CellGoesOnWith s t r q
@@ -203,14 +141,14 @@ module _ (s t : CellState) (r : CellMeetsItsRule s) (q : CellMeetsItsRule t) whe
       let same = joined_same words_after s.words (views_known s.views) r.shared p.seat p.was.pass at p.other p.note.pass p.apart theirs number own in
       let views = set s.views p.seat told in
       record {
-        log = subst (λ (l : Log). IsPrefix l q.shared.log) same.1 (one_log s.words t.words (set (set (views_known s.views) p.seat told.pass) p.other newcomer)
+        log = subst (λ (l : Log). IsPrefix l q.shared.log) same.1 (one_log words_after s.words t.words (set (set (views_known s.views) p.seat told.pass) p.other newcomer)
             (views_known t.views) r2 q.shared p.other newcomer
             (set_here (set (views_known s.views) p.seat told.pass) p.other newcomer (place_below (set (views_known s.views) p.seat told.pass) p.other p.note.pass theirs))
             (ap views_known p.views ∙ (map_set (λ (z : CellView). z.pass) views p.other new_cell_pass
             ∙ ap (λ (l : List View). set l p.other newcomer) (map_set (λ (z : CellView). z.pass) s.views p.seat told))));
-        passes = actors_go s.views t.views (subst (Goes s.views) (sym p.views)
-            (goes_through s.views views (set views p.other new_cell_pass) (goes_set s.views p.seat p.was told p.here (gone_still p.was told refl refl))
-            (goes_set views p.other p.note new_cell_pass (set_else s.views p.seat p.other told p.apart ∙ p.there) (gone_still p.note new_cell_pass (sym number) (sym calls)))));
+        passes = actors_go actor_of s.views t.views (subst (PassesGoOn actor_of s.views) (sym p.views)
+            (passes_through actor_of s.views views (set views p.other new_cell_pass) (one_goes_on actor_of s.views p.seat p.was told p.here (gone_still p.was told refl refl))
+            (one_goes_on actor_of views p.other p.note new_cell_pass (set_else s.views p.seat p.other told p.apart ∙ p.there) (gone_still p.note new_cell_pass (sym number) (sym calls)))));
       }
 
   one_step : CellStepsTo s t → CellGoesOnWith s t r q
@@ -250,27 +188,19 @@ later_runs s t r q later = cells_go_on s t r q (later_go_on s t r q later)
 -- a number that a reader was given
 
 pub numbers_rise : CellNumbersRise
-numbers_rise s t r q later seat v w here reader there pos =
+numbers_rise s t r q later seat v w here reader there =
     let on = (later_go_on s t r q later).passes in
-    let above : r.shared.enlisted < w.pass.number = dite (native.Mathlib.Decide.dec_le (suc r.shared.enlisted) w.pass.number)
-    (λ above. above)
-    (λ not.
-    let g = r.shared.given w.pass.number (omega arith) (omega (arith, not)) in
-    let u = map_there (λ (z : CellView). z.pass) s.views g.0 g.1 g.2 in
-    let n : u.0.pass.number ≡ w.pass.number = ap (λ (z : View). z.number) u.2 ∙ g.3 in
-    let b = on g.0 (actor_of u.0) (map_at actor_of s.views g.0 u.0 u.1) in
-    let x = map_there actor_of t.views g.0 b.0 b.1 in
-    let m : x.0.pass.number ≡ w.pass.number = ap (λ (z : Actor). z.number) x.2 ∙ (b.2.number (omega arith) ∙ n) in
-    let one : g.0 ≡ seat = q.shared.apart g.0 seat x.0.pass w.pass (known_at t.views g.0 x.0 x.1) (known_at t.views seat w there) (omega arith) m in
-    let same : v ≡ u.0 = some-injective v u.0 (sym here ∙ (ap (get_elem? s.views) (sym one) ∙ u.1)) in
-    let zero_is : u.0.pass.number ≡ 0 = ap (λ (z : CellView). z.pass.number) (sym same) ∙ reader in
-    absurd (omega arith)) in
-    record { above = above; others = λ k u at. let low = (r.shared.fits k u at).number in omega arith }
+    given_after words_after s.words t.words (views_known s.views) (views_known t.views) r.shared q.shared
+    (λ k u at.
+    let x = map_there (λ (z : CellView). z.pass) s.views k u at in
+    let b = on k (actor_of x.0) (map_at actor_of s.views k x.0 x.1) in
+    let y = map_there actor_of t.views k b.0 b.1 in
+    let was : x.0.pass.number ≡ u.number = ap (λ (z : View). z.number) x.2 in
+    let is : y.0.pass.number ≡ b.0.number = ap (λ (z : Actor). z.number) y.2 in
+    (y.0.pass, known_at t.views k y.0 y.1, λ pos. is ∙ (b.2.number (omega arith) ∙ was)))
+    seat v.pass w.pass (known_at s.views seat v here) reader (known_at t.views seat w there)
 
 -- a step on the number of reporters
-
-says_found : (v w : View) (found enlisted at : ℕ) → found ≡ enlisted → Takes v (step_taken (Enlisted found) at None ∷ []) w → CountsReporters enlisted v w
-says_found v w found enlisted at is takes = record { step = step_taken (Enlisted found) at None; takes = takes; found_is = (ap Enlisted is, refl) }
 
 found_there : (s : CellState) (r : CellMeetsItsRule s) (found : List ℕ) → found ≡ s.words → slice_index found 12 ≡ r.shared.enlisted
 found_there s r found there = ap (λ (ws : List ℕ). slice_index ws 12) there ∙ sym (found_last s.words s.views r)

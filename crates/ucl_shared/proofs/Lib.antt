@@ -5,3 +5,4 @@ pub mod SettledPasses
 pub mod KeptRule
 pub mod CallsBySteps
 pub mod LogFacts
+pub mod LaterLogs

@@ -22,3 +22,4 @@ pub mod KeptRecords
 pub mod FewSteps
 pub mod FinishedCalls
 pub mod FewAccesses
+pub mod GoneOn

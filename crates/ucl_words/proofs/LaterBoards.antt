@@ -1,5 +1,5 @@
 -- Each step on the table lets its pass go on, so a later state of a board goes on from an earlier one.
-use Rattle.std.proofs.Common.{◌≡◌, ℕ, suc, ◌+◌, ◌==◌, ◌<◌, Bool, true, false, if◌then◌else◌, Option, Some, None, List, [], ◌∷◌, ◌++◌, length, map, set}
+use Rattle.std.proofs.Common.{◌≡◌, ℕ, ◌+◌, ◌==◌, ◌<◌, Bool, true, false, if◌then◌else◌, Option, Some, None, List, [], ◌∷◌, ◌++◌, length, map, set}
 use Rattle.std.proofs.Common.{slice_index, refl, sym, ap, ◌∙◌, subst, arith, append-nil, append_assoc}
 use Rattle.std.proofs.lemmas.List.{map-append}
 use mathlib.Core.List.{IsPrefix}
@@ -9,30 +9,30 @@ use mathlib.Core.Option as library
 use lib.ListN.{get_elem?}
 use native.Mathlib.Decide.{ℕ_discrete}
 use Rattle.atomic_table.specs.Table.{State, stepped, carried_after}
-use Rattle.atomic_table.proofs.Lists.{set_here, set_else, set_again, at_longer}
+use Rattle.atomic_table.proofs.Lists.{set_here, set_else, at_longer}
 use Rattle.ucl_word.specs.declared.event.EventCall.{EventCall}
 use Rattle.ucl_word.specs.declared.refusal.Refusal.{Refusal}
 use Rattle.ucl_word.specs.Rules.{refusal_of}
 use Rattle.ucl_word.specs.Layout.{record_at}
 use Rattle.ucl_board.specs.declared.entry.Entry.{Entry}
 use Rattle.ucl_board.specs.History.{reading_of}
-use Rattle.ucl_board.specs.Log.{Enlisted, Taken, step_taken, logged_by, Log}
+use Rattle.ucl_board.specs.Log.{Taken, Log}
 use Rattle.ucl_board.proofs.Beginnings.{begins_same, begins_none, begins_through}
 use Rattle.ucl_steps.specs.declared.step.Call.{Call}
 use Rattle.ucl_steps.specs.declared.step.Call.TheVariants.{Event, Reading}
 use Rattle.ucl_steps.specs.declared.trace.Reply.{Reply}
 use Rattle.ucl_steps.specs.declared.trace.Reply.TheVariants.{Copied}
 use Rattle.ucl_steps.specs.Actors.{Actor}
-use Rattle.ucl_steps.specs.Growing.{HasGoneOn, HaveGoneOn}
+use Rattle.ucl_steps.specs.Growing.{HasGoneOn}
 use Rattle.ucl_steps.specs.PassRuns.{calls_asked, call_under_way}
 use Rattle.ucl_steps.specs.Protocol.{Held, Nothing, Holding, Collecting, Checking, Answer, Doing, nothing_done, Outcome, GoesOn, Answers, looked, by_rules, loaded, compared, swapped}
 use Rattle.ucl_steps.specs.Protocol.{done_by, after_look, swaps_holding, firsts_holding, seconds_holding}
+use Rattle.ucl_steps.proofs.GoneOn.{actors_through, PassesGoOn, passes_through, one_goes_on, one_comes, actors_go}
 use Rattle.ucl_steps.proofs.Seats.{map_at, map_there, map_set, map_more, place_below}
 use Rattle.ucl_shared.specs.declared.view.View.{View}
 use Rattle.ucl_shared.specs.OneHistory.{KeepsOneHistory}
 use Rattle.ucl_shared.specs.Views.{Takes, newcomer}
-use Rattle.ucl_shared.specs.CallSteps.{CountsReporters}
-use Rattle.ucl_shared.proofs.LogFacts.{steps_last}
+use Rattle.ucl_shared.proofs.LaterLogs.{says_found, log_after, one_log, given_after}
 use Rattle.ucl_shared.proofs.KeptRule.{second_added, second_same, note_added, note_same, note_joined, joined_same}
 use Rattle.ucl_words.specs.declared.view.WordView.{WordView}
 use Rattle.ucl_words.specs.WordViews.{left_pass, second_pass, note_pass, told_pass, new_pass}
@@ -133,13 +133,6 @@ gone v w number does = record { number = number; finished = does.finished; asked
 gone_still : (v w : WordView) → w.pass.number ≡ v.pass.number → w.doing ≡ v.doing → HasGoneOn (word_actor v) (word_actor w)
 gone_still v w number doing = gone v w (λ _. number) (does_same v.doing w.doing doing)
 
-gone_through : (a b c : Actor) → HasGoneOn a b → HasGoneOn b c → HasGoneOn a c
-gone_through a b c p q = record {
-  number = λ pos. let is = p.number pos in q.number (omega arith) ∙ is;
-  finished = begins_through a.doing.calls b.doing.calls c.doing.calls p.finished q.finished;
-  asked = begins_through (calls_asked a.doing) (calls_asked b.doing) (calls_asked c.doing) p.asked q.asked;
-}
-
 -- each kind of step
 
 pub looks_on : (place : ℕ) (e : EventCall) → LetsGoOn (LookStep place e)
@@ -165,58 +158,6 @@ swaps_on place st m n m' l =
 
 pub enlists_on : (place : ℕ) → LetsGoOn (EnlistStep place)
 enlists_on place st m n m' l = gone m.0 m'.0 (λ pos. let reader = l.reader in absurd (omega arith)) (does_same m.0.doing m'.0.doing l.doing)
-
--- views that go on
-
-abbrev Goes : List WordView → List WordView → Type 0
-Goes views later = (seat : ℕ) (v : WordView) → get_elem? views seat ≡ some v → (w : WordView) × (get_elem? later seat ≡ some w) × HasGoneOn (word_actor v) (word_actor w)
-
-goes_through : (a b c : List WordView) → Goes a b → Goes b c → Goes a c
-goes_through a b c p q seat v here =
-    let x = p seat v here in
-    let y = q seat x.0 x.1 in
-    (y.0, y.1, gone_through (word_actor v) (word_actor x.0) (word_actor y.0) x.2 y.2)
-
-goes_set : (views : List WordView) (seat : ℕ) (v w : WordView) → get_elem? views seat ≡ some v → HasGoneOn (word_actor v) (word_actor w) → Goes views (set views seat w)
-goes_set views seat v w here on j u at = dite (ℕ_discrete j seat)
-    (λ is.
-    let same : v ≡ u = some-injective v u (sym here ∙ (ap (get_elem? views) (sym is) ∙ at)) in
-    (w, ap (get_elem? (set views seat w)) is ∙ set_here views seat w (place_below views seat v here), subst (λ (z : WordView). HasGoneOn (word_actor z) (word_actor w)) same on))
-    (λ not. (u, set_else views seat j w not ∙ at, gone_still u u refl refl))
-
-goes_more : (views : List WordView) (w : WordView) → Goes views (views ++ w ∷ [])
-goes_more views w j u at = (u, at_longer views (w ∷ []) j u at, gone_still u u refl refl)
-
-actors_go : (views later : List WordView) → Goes views later → HaveGoneOn (word_actors views) (word_actors later)
-actors_go views later goes seat a at =
-    let v = map_there word_actor views seat a at in
-    let g = goes seat v.0 v.1 in
-    (word_actor g.0, map_at word_actor later seat g.0 g.1, subst (λ (x : Actor). HasGoneOn x (word_actor g.0)) v.2 g.2)
-
-actors_through : (a b c : List Actor) → HaveGoneOn a b → HaveGoneOn b c → HaveGoneOn a c
-actors_through a b c p q seat x at =
-    let y = p seat x at in
-    let z = q seat y.0 y.1 in
-    (z.0, z.1, gone_through x y.0 z.0 y.2 z.2)
-
--- logs
-
-abbrev Rule : List ℕ → List View → Type 0
-Rule words views = KeepsOneHistory words_after words views
-
--- a step of one pass
-log_after : (before after : List ℕ) (views later : List View) (r : Rule before views) (q : Rule after later) (seat : ℕ) (v w : View) (steps : List Taken)
-    → get_elem? views seat ≡ some v → later ≡ set views seat w → w.own ≡ v.own ++ steps → IsPrefix r.log q.log
-log_after before after views later r q seat v w steps here is more =
-    let all : (vs : List View) → vs ≡ set views seat w → (p : Rule after vs) → p.log ≡ r.log ++ map (logged_by seat) steps =
-    (λ vs same. subst (λ (l : List View). (p : Rule after l) → p.log ≡ r.log ++ map (logged_by seat) steps) (sym same)
-    (λ p. steps_last words_after before after views r seat v w steps here p more)) in
-    (map (logged_by seat) steps, sym (all later is q))
-
--- two rules of the same views
-one_log : (before after : List ℕ) (views later : List View) (r : Rule before views) (q : Rule after later) (seat : ℕ) (v : View)
-    → get_elem? views seat ≡ some v → later ≡ views → IsPrefix r.log q.log
-one_log before after views later r q seat v here is = log_after before after views later r q seat v v [] here (is ∙ sym (set_again views seat v here)) (sym (append-nil v.own))
 
 -- each kind of step is one of the log
 
@@ -249,24 +190,26 @@ module _ (s t : State Entry WordView) (r : TableKeepsOneHistory s) (q : TableKee
   by_kind tells on logs p =
       let x = logs p.step p.was p.found p.is p.told in
       record {
-        log = log_after s.words t.words (known s.views) (known t.views) r.shared q.shared p.seat p.was.0.pass p.is.0.pass (x.0 ∷ []) (known_at s.views p.seat p.was.0 p.here)
+        log = log_after words_after s.words t.words (known s.views) (known t.views) r.shared q.shared p.seat p.was.0.pass p.is.0.pass (x.0 ∷ []) (known_at s.views p.seat p.was.0 p.here)
             (ap known p.views ∙ map_set (λ (z : WordView). z.pass) s.views p.seat p.is.0) x.1.own;
-        passes = actors_go s.views t.views (subst (Goes s.views) (sym p.views) (goes_set s.views p.seat p.was.0 p.is.0 p.here (on p.step p.was p.found p.is p.told)));
+        passes = actors_go word_actor s.views t.views (subst (PassesGoOn word_actor s.views) (sym p.views)
+            (one_goes_on word_actor s.views p.seat p.was.0 p.is.0 p.here (on p.step p.was p.found p.is p.told)));
       }
 
   by_split : (left right : WordView → WordView) (p : PassSplits left right s t) → HasGoneOn (word_actor p.was) (word_actor (left p.was))
-      → (r2 : Rule s.words (set (known s.views) p.seat (left p.was).pass ++ (right p.was).pass ∷ [])) → r2.log ≡ r.shared.log → GoesOnWith s t r q
+      → (r2 : KeepsOneHistory words_after s.words (set (known s.views) p.seat (left p.was).pass ++ (right p.was).pass ∷ [])) → r2.log ≡ r.shared.log → GoesOnWith s t r q
   by_split left right p on r2 same =
       let at = known_at s.views p.seat p.was p.here in
       let first = set (known s.views) p.seat (left p.was).pass in
       record {
-        log = subst (λ (l : Log). IsPrefix l q.shared.log) same (one_log s.words t.words (first ++ (right p.was).pass ∷ []) (known t.views) r2 q.shared p.seat (left p.was).pass
+        log = subst (λ (l : Log). IsPrefix l q.shared.log) same (one_log words_after s.words t.words (first ++ (right p.was).pass ∷ []) (known t.views) r2 q.shared p.seat (left p.was).pass
             (at_longer first ((right p.was).pass ∷ []) p.seat (left p.was).pass (set_here (known s.views) p.seat (left p.was).pass (place_below (known s.views) p.seat p.was.pass at)))
             (ap known p.views ∙ (map_more (λ (z : WordView). z.pass) (set s.views p.seat (left p.was)) (right p.was)
             ∙ ap (λ (l : List View). l ++ (right p.was).pass ∷ []) (map_set (λ (z : WordView). z.pass) s.views p.seat (left p.was)))));
-        passes = actors_go s.views t.views (subst (Goes s.views) (sym p.views)
-            (goes_through s.views (set s.views p.seat (left p.was)) (set s.views p.seat (left p.was) ++ right p.was ∷ []) (goes_set s.views p.seat p.was (left p.was) p.here on)
-            (goes_more (set s.views p.seat (left p.was)) (right p.was))));
+        passes = actors_go word_actor s.views t.views (subst (PassesGoOn word_actor s.views) (sym p.views)
+            (passes_through word_actor s.views (set s.views p.seat (left p.was)) (set s.views p.seat (left p.was) ++ right p.was ∷ [])
+            (one_goes_on word_actor s.views p.seat p.was (left p.was) p.here on)
+            (one_comes word_actor (set s.views p.seat (left p.was)) (right p.was))));
       }
 
   by_hearing : PassHears s t → GoesOnWith s t r q
@@ -282,13 +225,14 @@ module _ (s t : State Entry WordView) (r : TableKeepsOneHistory s) (q : TableKee
       let same = joined_same words_after s.words (known s.views) r.shared p.seat p.was.pass at p.other p.note.pass p.apart theirs number own in
       let views = set s.views p.seat told in
       record {
-        log = subst (λ (l : Log). IsPrefix l q.shared.log) same.1 (one_log s.words t.words (set (set (known s.views) p.seat told.pass) p.other newcomer) (known t.views) r2 q.shared p.other newcomer
+        log = subst (λ (l : Log). IsPrefix l q.shared.log) same.1
+            (one_log words_after s.words t.words (set (set (known s.views) p.seat told.pass) p.other newcomer) (known t.views) r2 q.shared p.other newcomer
             (set_here (set (known s.views) p.seat told.pass) p.other newcomer (place_below (set (known s.views) p.seat told.pass) p.other p.note.pass theirs))
             (ap known p.views ∙ (map_set (λ (z : WordView). z.pass) views p.other new_pass
             ∙ ap (λ (l : List View). set l p.other newcomer) (map_set (λ (z : WordView). z.pass) s.views p.seat told))));
-        passes = actors_go s.views t.views (subst (Goes s.views) (sym p.views)
-            (goes_through s.views views (set views p.other new_pass) (goes_set s.views p.seat p.was told p.here (gone_still p.was told refl refl))
-            (goes_set views p.other p.note new_pass (set_else s.views p.seat p.other told p.apart ∙ p.there) (gone_still p.note new_pass (sym number) (sym doing)))));
+        passes = actors_go word_actor s.views t.views (subst (PassesGoOn word_actor s.views) (sym p.views)
+            (passes_through word_actor s.views views (set views p.other new_pass) (one_goes_on word_actor s.views p.seat p.was told p.here (gone_still p.was told refl refl))
+            (one_goes_on word_actor views p.other p.note new_pass (set_else s.views p.seat p.other told p.apart ∙ p.there) (gone_still p.note new_pass (sym number) (sym doing)))));
       }
 
   one_step : StepsTo s t → GoesOnWith s t r q
@@ -332,30 +276,22 @@ some_finishes s t r q later = few_between s t r q (later_go_on s t r q later).pa
 -- a number that a reader was given
 
 pub numbers_rise : NumbersRiseInTime
-numbers_rise s t r q later seat v w here reader there pos =
+numbers_rise s t r q later seat v w here reader there =
     let on = (later_go_on s t r q later).passes in
-    let above : r.shared.enlisted < w.pass.number = dite (native.Mathlib.Decide.dec_le (suc r.shared.enlisted) w.pass.number)
-    (λ above. above)
-    (λ not.
-    let g = r.shared.given w.pass.number (omega arith) (omega (arith, not)) in
-    let u = map_there (λ (z : WordView). z.pass) s.views g.0 g.1 g.2 in
-    let n : u.0.pass.number ≡ w.pass.number = ap (λ (z : View). z.number) u.2 ∙ g.3 in
-    let b = on g.0 (word_actor u.0) (map_at word_actor s.views g.0 u.0 u.1) in
-    let x = map_there word_actor t.views g.0 b.0 b.1 in
-    let m : x.0.pass.number ≡ w.pass.number = ap (λ (z : Actor). z.number) x.2 ∙ (b.2.number (omega arith) ∙ n) in
-    let one : g.0 ≡ seat = q.shared.apart g.0 seat x.0.pass w.pass (known_at t.views g.0 x.0 x.1) (known_at t.views seat w there) (omega arith) m in
-    let same : v ≡ u.0 = some-injective v u.0 (sym here ∙ (ap (get_elem? s.views) (sym one) ∙ u.1)) in
-    let zero_is : u.0.pass.number ≡ 0 = ap (λ (z : WordView). z.pass.number) (sym same) ∙ reader in
-    absurd (omega arith)) in
-    record { above = above; others = λ k u at. let low = (r.shared.fits k u at).number in omega arith }
+    given_after words_after s.words t.words (known s.views) (known t.views) r.shared q.shared
+    (λ k u at.
+    let x = map_there (λ (z : WordView). z.pass) s.views k u at in
+    let b = on k (word_actor x.0) (map_at word_actor s.views k x.0 x.1) in
+    let y = map_there word_actor t.views k b.0 b.1 in
+    let was : x.0.pass.number ≡ u.number = ap (λ (z : View). z.number) x.2 in
+    let is : y.0.pass.number ≡ b.0.number = ap (λ (z : Actor). z.number) y.2 in
+    (y.0.pass, known_at t.views k y.0 y.1, λ pos. is ∙ (b.2.number (omega arith) ∙ was)))
+    seat v.pass w.pass (known_at s.views seat v here) reader (known_at t.views seat w there)
 
 -- a step on the number of reporters
 
 found_there : (s : State Entry WordView) (r : TableKeepsOneHistory s) (found word : ℕ) → found ≡ slice_index s.words word → word ≡ 0 → found ≡ r.shared.enlisted
 found_there s r found word there is = there ∙ (ap (slice_index s.words) is ∙ enlist_word s r)
-
-says_found : (v w : View) (found enlisted at : ℕ) → found ≡ enlisted → Takes v (step_taken (Enlisted found) at None ∷ []) w → CountsReporters enlisted v w
-says_found v w found enlisted at is takes = record { step = step_taken (Enlisted found) at None; takes = takes; found_is = (ap Enlisted is, refl) }
 
 pub counts_find : (place : ℕ) → FindsEnlisted (EnlistedStep place)
 counts_find place s t r p =
