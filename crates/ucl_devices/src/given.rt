@@ -1,61 +1,17 @@
 //! A source, a sink and a gate that have the members of their traits and no others.
 
-ghost use Rattle.std.specs.Prelude.{◌≡◌, ℕ, ◌+◌, Some, false};
-ghost use base.Fml.{ftrue};
+ghost use Rattle.std.specs.Prelude.{◌≡◌, Some, false, length};
 
-use std::marker::{Model, PhantomData};
+use ucl_answers::Asked;
 use ucl_board::Reading;
 use ucl_runs::Gate;
 use ucl_screen::{Sink, Source};
-
-/// How many calls were made, as contracts count them.
-pub struct Count {
-    marker: PhantomData<u8>,
-    pub ghost value: { ℕ },
-}
-
-impl Model for Count {
-    ghost also_owns = { λ _. ftrue };
-}
-
-impl Drop for Count {
-    fn drop(self) {
-        let Self { marker: _ } = self;
-    }
-}
-
-impl Count {
-    /// The count that a proof takes from what is passed.
-    fn counted<T>(by: &T) -> Count
-        ghost count: { ℕ }
-        ensures { result.value ≡ count }
-    {
-        let _ = by;
-        Count {
-            marker: PhantomData,
-        }
-    }
-
-    /// No call.
-    fn start() -> Count
-        ensures { result.value ≡ 0 }
-    {
-        Count::counted(&())
-    }
-
-    /// One call more.
-    fn next(&self) -> Count
-        ensures { result.value ≡ self.now.value + 1 }
-    {
-        Count::counted(self)
-    }
-}
 
 /// A source of given bytes. It never fails.
 #[derive(Drop)]
 pub struct Given<'b> {
     left: &'b [u8],
-    calls: Count,
+    calls: Asked<(), ()>,
 }
 
 impl<'b> Given<'b> {
@@ -65,7 +21,7 @@ impl<'b> Given<'b> {
     {
         Given {
             left: bytes,
-            calls: Count::start(),
+            calls: Asked::new(),
         }
     }
 }
@@ -73,12 +29,12 @@ impl<'b> Given<'b> {
 impl Source for Given<'_> {
     ghost left = { λ s. Some s.left.now };
 
-    ghost calls = { λ s. s.calls.value };
+    ghost calls = { λ s. length s.calls.times };
 
     ghost failed = { λ _. false };
 
     fn take(&mut self, buf: &mut [u8]) -> Option<usize> {
-        self.calls = self.calls.next();
+        self.calls = self.calls.and(&(), &());
         let count = buf.len().min(self.left.len());
         let (front, rest) = self.left.split_at(count);
         buf[..count].copy_from_slice(front);
@@ -93,7 +49,7 @@ pub struct Shelf {
     taken: Vec<u8>,
     room: usize,
     has_failed: bool,
-    calls: Count,
+    calls: Asked<(), ()>,
 }
 
 impl Shelf {
@@ -106,7 +62,7 @@ impl Shelf {
             taken,
             room,
             has_failed: false,
-            calls: Count::start(),
+            calls: Asked::new(),
         }
     }
 
@@ -121,12 +77,12 @@ impl Shelf {
 impl Sink for Shelf {
     ghost taken = { λ s. Some s.taken.items };
 
-    ghost calls = { λ s. s.calls.value };
+    ghost calls = { λ s. length s.calls.times };
 
     ghost failed = { λ s. s.has_failed };
 
     fn give(&mut self, text: &[u8]) -> Option<usize> {
-        self.calls = self.calls.next();
+        self.calls = self.calls.and(&(), &());
         let count = text.len().min(self.room);
         self.has_failed = self.has_failed
             || (count == 0 && !text.is_empty())

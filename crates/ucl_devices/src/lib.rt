@@ -5,7 +5,7 @@
 mod given;
 mod stored;
 
-pub use given::{Count, Given, Idle, Shelf};
+pub use given::{Given, Idle, Shelf};
 use std::io;
 pub use stored::{CLUBS, STORED, STORED_REPLIES, STORED_SCREEN, STORED_WORDS};
 

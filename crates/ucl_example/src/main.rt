@@ -2,7 +2,7 @@
 //! both goals.
 #![tactic(auto)]
 
-ghost use Rattle.std.specs.Prelude.{◌≡◌};
+ghost use Rattle.std.specs.Prelude.{◌≡◌, IfOk};
 
 use anyhow::Context;
 use std::alloc::Global;
@@ -10,7 +10,7 @@ use std::thread;
 use ucl_order::{Club, Profile, Roster};
 use ucl_screen::screen;
 use ucl_word::{Accepted, EventCall, Kind, MatchNo, Refusal, Side};
-use ucl_words::{WordBoard, WordReporterPass};
+use ucl_words::{WordBoard, WordNote, WordReporterPass};
 
 /// The four clubs of the group, in slots 1 to 4.
 fn clubs(alloc: Global) -> anyhow::Result<Roster> {
@@ -52,6 +52,19 @@ fn enter(
     }
 }
 
+/// Enters an event, and answers a note that has it.
+fn note_of(
+    board: &WordBoard,
+    pass: &mut WordReporterPass,
+    event: &EventCall,
+) -> Result<WordNote, Refusal>
+    requires { pass.old.board ≡ board.now }
+    ensures { IfOk result (λ note. note.board ≡ board.now) }
+{
+    enter(board, pass, event)?;
+    Ok(board.note_own_now(pass))
+}
+
 fn main(rt: HostRuntime) -> anyhow::Result<()> {
     let roster = clubs(rt.alloc())?;
     let (board, mut pass) = WordBoard::open(&rt, rt.alloc())?;
@@ -75,21 +88,19 @@ fn main(rt: HostRuntime) -> anyhow::Result<()> {
     );
     let (north_says, south_says) = thread::join(
         &rt,
-        ||
+        || -> Result<WordNote, Refusal>
             requires { north.board ≡ board }
-        { enter(&board, &mut north, &home) },
-        ||
+            ensures { IfOk result (λ note. note.board ≡ board) }
+        { note_of(&board, &mut north, &home) },
+        || -> Result<WordNote, Refusal>
             requires { south.board ≡ board }
-        { enter(&board, &mut south, &away) },
+            ensures { IfOk result (λ note. note.board ≡ board) }
+        { note_of(&board, &mut south, &away) },
     );
-    north_says.ok().context("no goal of the home side")?;
-    south_says.ok().context("no goal of the visitors")?;
-    let (north_notes, south_notes) = (
-        board.note_own_now(&mut north),
-        board.note_own_now(&mut south),
-    );
-    board.hear_now(&mut stadium, north_notes);
-    board.hear_now(&mut stadium, south_notes);
+    let home_goal = north_says.ok().context("no goal of the home side")?;
+    let away_goal = south_says.ok().context("no goal of the visitors")?;
+    board.hear_now(&mut stadium, home_goal);
+    board.hear_now(&mut stadium, away_goal);
     let reading = board.read_now(&mut stadium);
     print!(&rt;
         "{}",
