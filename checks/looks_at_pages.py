@@ -14,7 +14,7 @@ import sources
 BLOCK = re.compile(r"^```.*?^```$", re.M | re.S)
 WORD = r"[A-Za-z_][A-Za-z0-9_]*"
 SOURCES = "crates.txt crates/*/src/**/*.rt crates/*/specs/*.antt crates/*/proofs/**/*.antt bench/* bench/plain/**/*.rs tests/* checks/*"
-SOURCES += " examples/*.expected crates/*/*.h examples/python/*.py examples/rust/*.rs"
+SOURCES += " examples/*.expected crates/*/*.h examples/python/*.py examples/rust/*.rs packaging/*"
 NAME = r"(?:the (?:Display|type) of )?`[^`]+`"
 GROUP = re.compile(rf"({NAME}(?:, {NAME})*)(?:: ({NAME}(?:, {NAME})*))?")
 UNPROVED = re.compile(r"_tests$|_bench|_hostile|_example$")
@@ -31,7 +31,7 @@ def pages(top):
 
 def file_is_there(top, path):
     """The path is of a file or folder of the repository, or of a crate; words in capitals stand for any name, and out/ is what is built."""
-    pattern = re.sub(r"\b[A-Z]{2,}\b", "*", re.sub(r"/out(/.*)?$", "", path.rstrip("/")).replace("./", ""))
+    pattern = re.sub(r"\b[A-Z]{2,}\b", "*", re.sub(r"/out(/.*)?$", "", path.strip("/")).replace("./", ""))
     places = pattern, f"crates/*/{pattern}", f"crates/*/{pattern}.antt", f"crates/*/src/{pattern}"
     return any(True for place in places for _ in top.glob(place))
 

@@ -20,9 +20,9 @@ KINDS = {
 }
 BOARDS = {"ucl_words": "pub struct WordBoard {\n    table: Table,\n}\n", "ucl_pass": "pub struct CellBoard {\n    cell: Cell,\n}\n"}
 LET_GO = "    {\n        if !self.is_null() {\n            drop(self.take(alloc).into_box());\n        }\n    }\n"
-# What makes, lengthens or replaces the list of the times at which a source was asked; `wire.rt` does so twice.
-LISTS = re.compile(r"\basked\.and\(|\.asked\s*=(?!=)|&mut [\w.]+\.asked\b|\bAsked::(?:new|and)\b")
-LISTED = ["asked: Asked::new(),", "self.asked = self.asked.and(&self.source, &self.sink);"]
+# What makes, lengthens or replaces the list of the times at which a source was called; `duplex.rt` does so twice.
+LISTS = re.compile(r"\blog\.and\(|\.log\s*=(?!=)|&mut [\w.]+\.log\b|\bCallLog::(?:new|and)\b")
+LISTED = ["log: CallLog::new(),", "self.log = self.log.and(&self.source, &self.sink, machine);"]
 HANDLES = "e3846fb4d06c"
 DEFINED = re.compile(r"^ *(?:abbrev pub|unfoldable pub|pub record|pub data) (\S+)", re.M)
 # Names that definitions of two files have, and that stand for one thing of two kinds, as the words of either board.
@@ -31,9 +31,9 @@ TWICE = {"taken_by", "club_at", "rows_of", "words_after", "IsTheRule", "LogsOneS
 # option of one has. A roster and a club hold names, each of which came on one line.
 TYPE = re.compile(r"^(?:pub(?:\(crate\))? )?(?:struct|enum) (\w+)(?:<[^>]*>)? \{\n(.*?)^\}", re.M | re.S)
 PART = re.compile(r"^ *(?:pub(?:\(crate\))? )?\w+: (.*),$|^ *\w+\((.*)\),$", re.M)
-FIXED = {"u8", "u16", "u32", "u64", "usize", "bool", "ArrayVec", "Board", "Club", "FollowArgs", "LiveArgs", "Option", "Profile", "Roster"}
+FIXED = {"u8", "u16", "u32", "u64", "usize", "bool", "ArrayVec", "Board", "Club", "FollowArgs", "Global", "LiveArgs", "Option", "Profile", "Roster"}
 # What is kept from one step to the next: the crate, the type, and types that have to be found among its parts.
-KEPT = [("ucl_answers", "Live", {"Desk", "Page", "Stage", "Table"}), ("ucl_follows", "Follower", {"Following", "Moment"})]
+KEPT = [("ucl_answers", "Live", {"Desk", "Page", "Stage", "Table"}), ("ucl_follows", "Follower", {"Following", "Moment"}), ("ucl_io", "Lines", {"Output"})]
 # Where a lemma begins, or a module with parameters, in which lemmas stand two columns further in.
 LEMMA = re.compile(r"( *)(?:(module _)\b|(?:pub )?([^\s:(){}]+) :(?: |$))")
 
@@ -89,11 +89,11 @@ def night_is_on_words(top):
 
 
 def calls_are_listed_once(top):
-    """The list of the times at which a source was asked begins empty, and `take` alone adds to it, once. Devices of tests have lists of their own."""
+    """The list of the times at which a source was called begins empty, and `take` alone adds to it, once. Devices of tests have lists of their own."""
     crates = [crate for crate in sources.crates_of(top) if crate != "ucl_devices"]
     found = [(at, line.strip()) for _, at, line in lines_of(top, *crates) if LISTS.search(line)]
-    other = [f"{at}: lists when a source was asked" for at, line in found if line not in LISTED or "/ucl_answers/src/wire.rt:" not in at]
-    return other + ([] if [line for _, line in found] == LISTED else ["wire.rt does not list each call of `take` once"])
+    other = [f"{at}: lists when a source was called" for at, line in found if line not in LISTED or "/ucl_io/src/duplex.rt:" not in at]
+    return other + ([] if [line for _, line in found] == LISTED else ["duplex.rt does not list each call of `take` once"])
 
 
 def parts_are_of_fixed_size(top):
@@ -158,12 +158,15 @@ def crates_use_what_they_stand_on(top):
 
 
 def statuses_are_named(top):
-    """The numbers beside the names of statuses are 0 and those of refusals and of faults, each once."""
-    codes, faults = ((top / "crates/ucl_c/specs" / file).read_text() for file in ("Codes.antt", "Faults.antt"))
+    """The numbers beside the names of statuses are 0 and those of faults, each once; none is that of a refusal, which has its own name."""
+    files = "ucl_c/specs/Codes.antt", "ucl_c/specs/Faults.antt", "ucl_word/specs/Names.antt"
+    codes, faults, refusals = ((top / "crates" / file).read_text() for file in files)
     names = "".join(re.findall(r"^names_of_statuses =(.*?)∷ \[\]$", codes, re.M | re.S))
     named = sorted(int(number) for number in re.findall(r"\((\d+), codes ", names))
-    given = re.findall(r"^refusal_code .* = (\d+)$", codes, re.M) + re.findall(r"^fault_code .* = (\d+)$", faults, re.M)
-    return [] if named == sorted([0, *map(int, given)]) else [f"ucl_c: {named} have names, and the codes are 0 and {', '.join(given)}"]
+    given, refused = (re.findall(rf"^{function} .* = (\d+)$", text, re.M) for function, text in (("fault_code", faults), ("refusal_code", refusals)))
+    if named == sorted([0, *map(int, given)]) and {"0", *given}.isdisjoint(refused):
+        return []
+    return [f"ucl_c: {named} have names, and the codes are 0 and {', '.join(given)}, and of refusals {', '.join(refused)}"]
 
 
 def lemmas_of(lines):

@@ -1,8 +1,8 @@
 """Evenings beyond one machine, over mosquitto: the lines of examples/broker, and parts that are killed, doubled, lost or never read.
 
-The lines that are typed are those of examples/broker/README.md. Two reporters enter rows and send again what has no answer. In each evening every
-event is on the last board once, each answer in the journal has the words after it, the versions that a follower shows rise, each of its screens is
-that of the rules, and the last ones are the same.
+The lines that are typed are those of examples/broker/README.md, of group A. Reporters type at a terminal, or enter rows and send again what has no
+answer. In each evening every event is on the last board once, each answer in the journal has the words after it, the versions that a follower shows
+rise, each of its screens is that of the rules, and the last ones are the same.
 """
 
 import collections
@@ -10,8 +10,12 @@ import contextlib
 import fcntl
 import json
 import os
+import pathlib
+import pty
 import random
 import re
+import resource
+import select
 import signal
 import socket
 import subprocess
@@ -37,11 +41,11 @@ while window := [*itertools.islice(sys.stdin, 100)]:
 """
 
 
-def until(holds, seconds=float("inf")):
+def until(holds, seconds=float("inf"), pause=0.05):
     """Waits until something holds, so long at most, and gives what it is."""
     end = time.monotonic() + seconds
     while not (got := holds()) and time.monotonic() < end:
-        time.sleep(0.05)
+        time.sleep(pause)
     return got
 
 
@@ -67,6 +71,12 @@ class Line:
         """Starts it, or starts it again."""
         self.shell = subprocess.Popen(["bash", "-c", self.text], start_new_session=True, **self.how)
 
+    def pid_of(self, name):
+        """The process of this name that it has started; None where there is none."""
+        told = conftest.command(["ps", "-o", "pid=,comm=", "--ppid", str(self.shell.pid)]).output
+        found = re.search(rf"(\d+) {name}$", told, re.M)
+        return int(found[1]) if found else None
+
     def kill(self):
         """Kills all that it has started."""
         with contextlib.suppress(ProcessLookupError):
@@ -81,7 +91,7 @@ class Site:
         self.path, self.started, self.errors = path, [], open(path / "errors", "ab")
         (path / "examples").symlink_to(EXAMPLES)
         (path / "kept").mkdir()
-        self.place = {"cwd": path, "env": {**os.environ, "XDG_CONFIG_HOME": str(path)}, "stderr": self.errors}
+        self.place = {"cwd": path, "env": {**os.environ, "XDG_CONFIG_HOME": str(path), "GROUP": "a"}, "stderr": self.errors}
 
     def open_broker(self, more=""):
         """Starts a broker on a free port, which the clients find in their files, with these lines more in its own."""
@@ -107,11 +117,28 @@ class Site:
         """Types a line and waits for its end. Gives what it wrote."""
         return conftest.command(["bash", "-c", text], input, **self.place).output
 
-    def begin(self):
-        """Begins an evening: a broker, the board and the desk. Gives the lines of these two."""
-        self.open_broker()
-        self.done(LINES["The beginning of an evening"])
-        return self.line(LINES["The board"]), self.line(LINES["The desk"])
+    def left(self):
+        """The processes that run in this folder."""
+        found = []
+        for process in pathlib.Path("/proc").glob("[0-9]*"):
+            with contextlib.suppress(OSError):
+                if os.readlink(process / "cwd").startswith(str(self.path)):
+                    found.append((process / "cmdline").read_text().split("\0"))
+        return found
+
+    def begin(self, more=""):
+        """Begins an evening: a broker, with these lines more in its file, and the board. Gives the line of the board."""
+        self.open_broker(more)
+        return self.line(LINES["The board"].strip())
+
+    def journal(self):
+        """The answers in the journal."""
+        path = self.path / "a.jsonl"
+        return [json.loads(line) for line in path.read_text().split("\n")[:-1]] if path.exists() else []
+
+    def await_no_board(self):
+        """Waits until no board runs."""
+        until(lambda: self.done("flock -n a.lock echo free") == "free\n", 20)
 
 
 @contextlib.contextmanager
@@ -125,7 +152,9 @@ def opened(path, program):
     finally:
         for line in site.started:
             line.kill()
+        left = until(lambda: not site.left(), 10) or site.left()
         site.errors.close()
+    assert left is True, left
 
 
 @pytest.fixture
@@ -142,13 +171,14 @@ def site(tmp_path, program, monkeypatch):
 
 @pytest.mark.quick
 def test_lines_of_the_page_are_those_of_the_evening_and_of_the_readme():
-    in_one_line = lambda text: " ".join(text.replace("\\\n", " ").split())
+    in_one_line = lambda text: " ".join(text.replace("\\\n", " ").replace('"', "").split())
     lines = {name: in_one_line(line) for name, line in LINES.items()}
-    evening = in_one_line((BROKER / "evening").read_text()).replace('"$1"', "8080").replace("two_matches.csv; echo", "one_goal.csv; echo")
+    evening = in_one_line((BROKER / "evening").read_text()).replace("two_matches.csv", "one_goal.csv").replace("reporter $GROUP $1", "reporter $GROUP 1")
     readme = in_one_line((TOP / "README.md").read_text().split("\n## Beyond one machine\n")[1].split("\n## ")[0])
-    assert len(lines) == 7
-    assert [name for name, line in lines.items() if line not in evening] == ["A reporter"]
-    assert [name for name in ("The beginning of an evening", "The board", "The desk", "A screen") if lines[name] not in readme] == []
+    lists = ["Names", "Certificates"]
+    assert list(lines) == ["The board", "A reporter", "A screen", "A page", *lists]
+    assert [name for name, line in lines.items() if line not in evening.replace("--port=$1", "--port=8080")] == lists
+    assert [name for name, line in lines.items() if line not in readme] == ["A page", *lists]
 
 
 def test_an_evening_that_is_started_leaves_nothing_behind(site):
@@ -158,59 +188,226 @@ def test_an_evening_that_is_started_leaves_nothing_behind(site):
     with open(site.path / "told", "wb") as file:
         evening = site.line(f"TMPDIR={site.path}/room {BROKER}/evening", stdout=file)
     assert evening.shell.wait() == 0 and (site.path / "told").read_text().startswith(conftest.text_of(BROKER / "evening.expected"))
-    assert [*(site.path / "room").iterdir()] == [] and not site.done(f"grep -la {site.path}/room/tmp. /proc/[0-9]*/environ")
+    assert [*(site.path / "room").iterdir()] == []
+    assert until(lambda: not site.done(f"grep -la {site.path}/room/tmp. /proc/[0-9]*/environ"), 10)
+
+
+def test_one_board_and_a_journal_that_is_begun_once(site):
+    """A second board ends at once, also where the first one's program was killed and its board is not; the first line typed again goes on."""
+    board = site.begin()
+    until(site.journal)
+    assert site.done("examples/broker/board b") == "" and not (site.path / "b.jsonl").exists()
+    for word in "a", "a examples/two_matches.csv", "--cut a":
+        assert site.done(f"timeout 5 examples/broker/board {word} 2>&1; echo $?") == "board: another board of group a runs here: it holds a.lock\n1\n"
+    site.done("examples/broker/reporter a 1", "1 kickoff\n1 goal home\n")
+    board.kill()
+    site.await_no_board()
+    before = site.journal()
+    board.start()
+    assert until(lambda: len(site.journal()) == len(before) + 1, 20) and site.journal()[-1]["version"] == 2 and site.journal()[:-1] == before
+
+
+def test_a_board_that_is_killed_as_it_starts_leaves_no_client(site):
+    """It is killed with its first screen, when its clients start too; at the test's end nothing may run in its folder."""
+    board = site.begin()
+    for count in range(1, 9):
+        until(lambda: len(site.journal()) > count, pause=0.001)
+        board.kill()
+        site.await_no_board()
+        board.start()
+
+
+def test_a_late_screen_has_the_table_after_a_refusal_and_the_pulse_is_beside_the_journal(site):
+    board = site.begin("persistence false\n")
+    site.done("examples/broker/reporter a 1", "1 kickoff\n")
+    site.done("examples/broker/reporter a 1", "2 goal home\n")
+    assert [it.get("name") for it in site.journal()][-1] == "not-started"
+
+    def await_table(seconds):
+        first = site.line(f"mosquitto_sub -C 1 -q 1 -t ucl/$GROUP/desk | ./ucl_follow", stdout=subprocess.PIPE).shell
+        begun = time.monotonic()
+        assert first.stdout.readline() == b"GROUP A v00001 IN PLAY 1\n" and time.monotonic() - begun < seconds
+
+    await_table(1)
+    size = (site.path / "a.jsonl").stat().st_size
+    told = site.done("mosquitto_sub -q 1 -C 3 -t ucl/a/desk").splitlines()
+    assert len(set(told)) == 3 and [json.loads(line)["version"] for line in told] == [1, 1, 1]
+    assert (site.path / "a.jsonl").stat().st_size == size
+    site.broker.kill()
+    site.broker.start()
+    site.await_broker()
+    await_table(10)
+    await_table(1)
+    board.kill()
+    assert site.done("timeout 5 mosquitto_sub -q 1 -R -t ucl/a/desk") == ""
+
+
+def test_a_journal_that_is_cut(site):
+    board = site.begin()
+    site.done("examples/broker/reporter a 1", "1 kickoff\n1 goal home\n2 goal home\n")
+    board.kill()
+    site.await_no_board()
+    with open(site.path / "a.jsonl", "a") as journal:
+        journal.write('{"clubs":')
+    before = (site.path / "a.jsonl").read_bytes() + b"\n"
+    assert site.done("examples/broker/board --cut a") == "a.jsonl is one line, and a.jsonl.1 what it was\n"
+    assert (site.path / "a.jsonl.1").read_bytes() == before
+    (line,) = site.journal()
+    assert (line["reply"], line["version"]) == ("screen", 2)
+    board.start()
+    assert site.done("examples/broker/reporter a 2", "1 goal away\n").startswith("1 goal-away             entered: Bravo 1-1 Charlie, in play, event 3")
+    board.kill()
+    site.await_no_board()
+    assert site.done("examples/broker/board --cut a").split()[-4] == "a.jsonl.2"
+
+
+def test_a_thousand_rows_cost_a_restart_less_than_a_tenth_of_a_second(site):
+    """The journal has a thousand events and their screens. What else the machine does would count in the time on the clock, so the processor's counts."""
+    site.done("./ucl_live --screens --format json >a.jsonl", model.CLUBS + "".join(random_rows(random.Random(6), 1_000)))
+    used, taken = lambda: sum(resource.getrusage(resource.RUSAGE_CHILDREN)[:2]), []
+    for _ in range(5):
+        before = used()
+        site.done("(./ucl_follow --resume <a.jsonl; echo screen,,,) | ./ucl_live --format json >first")
+        taken.append(used() - before)
+    assert min(taken) < 0.1, taken
+    site.line("examples/broker/board a")
+    assert until(lambda: site.journal()[-1]["row"] == 17, 20) and site.journal()[-1]["version"] == 1_000
+
+
+# ---- reporters
+
+
+class Typist:
+    """A reporter at a terminal."""
+
+    def __init__(self, site, words):
+        self.master, slave = pty.openpty()
+        self.text = ""
+        self.line = site.line(f"exec examples/broker/reporter {words}", stdin=slave, stdout=slave, stderr=slave)
+        os.close(slave)
+
+    def type(self, text):
+        """Types letters."""
+        os.write(self.master, text.encode())
+
+    def sees(self, text, seconds=20):
+        """Whether this text has come since the one before."""
+        end = time.monotonic() + seconds
+        while text not in self.text and select.select([self.master], [], [], max(0, end - time.monotonic()))[0]:
+            self.text += os.read(self.master, 1 << 16).decode()
+        found, self.text = text in self.text, self.text.partition(text)[2]
+        return found
+
+
+def test_two_reporters_who_type_one_goal_do_not_count_it_twice(site):
+    """A row has the number that stood on the screen at its first letter, not the newest. Its answer is beside it, and a refusal comes once."""
+    site.begin()
+    first, second = Typist(site, "a 1"), Typist(site, "--matches 1,2 a 7")
+    assert first.sees("12 Delta 0-0 Charlie, to come, event 0") and second.sees(" 2 Delta 0-0 Alpha, to come, event 0")
+    first.type("1 kickoff\n")
+    assert first.sees("1 kickoff               entered: Bravo 0-0 Charlie, in play, event 1")
+    assert second.sees(" 1 Bravo 0-0 Charlie, in play, event 1, by reporter 1")
+    first.type("1 goal h")
+    assert first.sees("> 1 goal h")
+    second.type("1 goal homf\x7fe\n")
+    assert second.sees("1 goal-home             entered: Bravo 1-0 Charlie, in play, event 2")
+    assert first.sees(" 1 Bravo 1-0 Charlie, in play, event 2, by reporter 7") and first.sees("> 1 goal h")
+    first.type("ome\n")
+    assert first.sees("1 goal-home             refused, ") and first.sees("Bravo 1-0 Charlie, in play, event 2")
+    second.type("3 kickoff\n")
+    assert second.sees("match 3 is not yours")
+    second.type("2 goal home\n")
+    assert second.sees("2 goal-home             refused, not-started: Delta 0-0 Alpha, to come, event 0")
+    assert not first.sees("goal", 3) and not second.sees("goal", 0.1)
+    assert [(it["reply"], it.get("name")) for it in site.journal() if it["reply"] != "screen"] == [
+        ("ok", None), ("ok", None), ("refused", "stale"), ("refused", "not-started")]
+    first.type("1 goal away\n\x04")
+    assert first.sees("1 goal-away             entered: Bravo 1-1 Charlie, in play, event 3") and first.line.shell.wait() == 0
+
+
+def test_what_has_no_answer_is_sent_again(site):
+    """While there is no board, and the broker keeps no row for it, a reporter types; then the board begins. That the row is stale, when the match is one
+    event further, may be the answer to its second copy: whose that event is decides."""
+    site.open_broker()
+    site.done("(head -n 4 examples/one_goal.csv; echo screen,,,) | ./ucl_live --format json | mosquitto_pub -l -r -q 1 -t ucl/a/desk")
+    reporter = Typist(site, "--again 1 a 1")
+    assert reporter.sees("12 Delta 0-0 Charlie, to come, event 0")
+    reporter.type("1 kickoff\n")
+    assert reporter.sees("1 kickoff               no answer yet; it is sent again")
+    stale = {"code": 1, "event": "kickoff", "expected": 0, "match": 1, "name": "stale", "number": 1, "reply": "refused", "reporter": 1, "row": 19}
+    site.done("mosquitto_pub -q 1 -t ucl/a/answers -s", json.dumps(stale))
+    assert not reporter.sees("refused", 1)
+    site.line(LINES["The board"])
+    assert reporter.sees("1 kickoff               entered: Bravo 0-0 Charlie, in play, event 1")
 
 
 def test_a_reporter_is_told_of_rows_that_are_refused_anothers_or_none(site):
     site.begin()
-    report = lambda *rows: site.done("examples/broker/reporter 0.3 2 2>&1; echo $?", "".join(row + "\n" for row in rows)).splitlines()
-    assert report("1,1,0,kickoff", "1,2,0,goal-home") == ["1,1,0,kickoff", "reporter: 1,2,0,goal-home: no answer in 2 seconds", "1"]
-    assert report("2,1,0,kickoff") == ["reporter: 2,1,0,kickoff: another reporter has entered an event of this match", "1"]
-    assert report("1,1,0,kickoff") == ["1,1,0,kickoff", "0"]
-    assert report("1,1,1,goal-home", "1,1,0,kickoff") == ["1,1,1,goal-home", "1,1,0,kickoff", "0"]
-    assert report("1,13,0,kickoff") == ["reporter: 1,13,0,kickoff: no row of an event", "1"]
-    assert site.done("./ucl_follow <evening.jsonl | tail -n 6").startswith("GROUP A v00002 ")
+    state = "Bravo 0-0 Charlie, in play, event 1"
+    report = lambda who, *rows: site.done(f"examples/broker/reporter --again 0.3 --limit 2 {who} 2>&1; echo $?", "".join(row + "\n" for row in rows)).splitlines()
+    assert report("a 1", "1 kickoff", "1,2,0,goal-home") == [f"1 kickoff               entered: {state}", "reporter: 1,2,0,goal-home: refused, not-started", "1"]
+    assert report("a 2", "2,1,0,kickoff") == ["reporter: 2,1,0,kickoff: reporter 1 was first", "1"]
+    assert report("a 2", "1 kickoff") == ["reporter: 2,1,1,kickoff: refused, already-started", "1"]
+    assert report("a 1", "1,1,0,kickoff") == ["1 kickoff               passed over: the board is past it", "0"]
+    assert report("a 1", "1,1,1,goal-home", "1,1,0,kickoff")[1:] == ["1 kickoff               passed over: the board is past it", "0"]
+    assert report("a 1", "1,1,5,goal-home") == ["reporter: 1,1,5,goal-home: refused, stale, its number is 2", "1"]
+    assert report("--matches 2 a 1", "1,1,2,goal-home") == ["reporter: match 1 is not yours", "1"]
+    for row in "1,13,0,kickoff", "2,1,2,goal-home", "1 goal", "goal home":
+        assert report("a 1", row) == [f"reporter: {row}: no event of reporter 1; --help has them all", "1"]
+    for topic, text in ("rows/1", "2,1,2,goal-home"), ("rows/x", "x,1"), ("rows/1", "1,1,2,red-home\n"), ("desk", '{"clubs":[],"words":7}'), ("answers", "[1]"):
+        site.done(f"mosquitto_pub -q 1 -t ucl/a/{topic} -s", text)
+    assert report("a 1", "1,1,2,goal-home")[1:] == ["0"]
+    assert report("b 1", "1 kickoff") == ["reporter: the desk has told nothing in 2 seconds", "1"]
+    assert site.done("./ucl_follow <a.jsonl | tail -n 6").startswith("GROUP A v00003 ")
 
 
 def test_access_lists(site):
+    """Reporter 1 can not send as reporter 7, on no topic; whoever is not authorised is told so."""
     (site.path / "access.list").write_bytes((BROKER / "access.list").read_bytes())
-    site.done("mosquitto_passwd -b -c passwords board first; mosquitto_passwd -b passwords reporter1 second; chmod 644 passwords")
+    site.done(LINES["Names"] + "chmod 644 passwords")
+    clients = {"board": "-u board\n-P first\n", "reporter1": "-u reporter1\n-P second\n", "false": "-u reporter1\n-P first\n"}
     site.open_broker((BROKER / "access.conf").read_text())
-    files = [site.path / "rows", site.path / "all"]
-    site.line("mosquitto_sub -u board -P first -q 1 -t ucl/a/rows >rows")
-    site.line("mosquitto_sub -q 1 -t '#' >all")
-    sent = ["-t ucl/a/rows -m nobody", "-u reporter1 -P second -t ucl/a/desk -m reporter"]
-    sent += ["-u reporter1 -P second -t ucl/a/rows -m row", "-u board -P first -t ucl/a/desk -m answer"]
-
-    def heard():
-        site.done("".join(f"mosquitto_pub -q 1 {words}\n" for words in sent))
-        return all(path.exists() and path.read_bytes() for path in files)
-
-    until(heard)
-    assert [set(path.read_text().split()) for path in files] == [{"row"}, {"answer"}]
-    assert site.done("mosquitto_pub -u reporter1 -P first -t ucl/a/rows -m row || echo refused") == "refused\n"
+    for name, words in clients.items():
+        (site.path / name).mkdir()
+        for client in "mosquitto_sub", "mosquitto_pub":
+            (site.path / name / client).write_text((site.path / client).read_text() + words)
+    site.line("XDG_CONFIG_HOME=board " + LINES["The board"].strip())
+    site.line("mosquitto_sub -q 1 -t '#' -v >all")
+    report = lambda who, row: site.done(f"XDG_CONFIG_HOME={who} examples/broker/reporter --again 1 --limit 9 a {row[0]} 2>&1", row + "\n")
+    assert report("reporter1", "1,1,0,kickoff").startswith("1 kickoff               entered")
+    assert "not authorised: the broker takes no rows of reporter 7 from this name" in report("reporter1", "7,1,1,goal-home")
+    assert "not authorised" in report("false", "1,1,1,goal-home").lower()
+    sent = ["rows/1 -m 7,1,1,goal-home", "desk -m x", "answers -m x", "rows/7 -m 7,1,1,goal-home"]
+    sent += ["rows/1 -m '1,1,1,yellow-home\n7,1,2,goal-home'", "rows/1 -m '1,1,1,yellow-home\nucl/a/rows/7 7,1,2,goal-home'"]
+    for words in sent:
+        for who in ("XDG_CONFIG_HOME=reporter1", "") if words[:6] != "rows/1" else ("XDG_CONFIG_HOME=reporter1",):
+            site.done(f"{who} mosquitto_pub -q 1 -t ucl/a/{words}")
+    assert report("reporter1", "1,1,1,goal-home").startswith("1 goal-home             entered")
+    assert [it["reply"] for it in site.journal()] == ["screen", "screen", "ok", "screen", "ok", "screen"]
+    told = [line.split(" ", 1) for line in (site.path / "all").read_text().splitlines()]
+    assert {topic for topic, _ in told} == {"ucl/a/desk"} and "x" not in [text for _, text in told]
+    assert (site.path / "errors").read_text().count("board: passed over on ucl/a/rows/1: ") == 3
 
 
 def test_an_encrypted_port_takes_who_knows_its_certificate(site):
     conftest.needs("openssl")
-    certificate = "openssl req -x509 -newkey ec -pkeyopt ec_paramgen_curve:prime256v1 -nodes -days 1 -subj /CN=localhost -addext subjectAltName=DNS:localhost"
-    for key, out in ("broker.key", "ca.crt"), ("other.key", "other.crt"):
-        site.done(f"{certificate} -keyout {key} -out {out} && cp ca.crt broker.crt && chmod 644 broker.key")
+    site.done(LINES["Certificates"].replace("broker.example", "localhost"))
+    site.done("chmod 644 broker.key; openssl req -x509 -newkey rsa:2048 -nodes -days 1 -subj /CN=board -keyout other.key -out other.crt")
     port = free_port()
     site.open_broker(re.sub(r"listener \d+", f"listener {port} 127.0.0.1", (BROKER / "tls.conf").read_text()))
     until(lambda: is_reached(port))
-    sent = lambda more: site.done(f"mosquitto_pub -h localhost -p {port} -t ucl/a/rows -m row {more} && echo taken || echo refused")
+    sent = lambda more: site.done(f"mosquitto_pub -h localhost -p {port} -t ucl/a/rows/1 -m row {more} && echo taken || echo refused")
     assert [sent(more) for more in ("--cafile ca.crt", "--cafile other.crt", "")] == ["taken\n", "refused\n", "refused\n"]
 
 
 # ---- evenings in which something breaks
 
 
-def random_rows(chance):
+def random_rows(chance, count=ROWS):
     """Rows that the rules accept one after the other; matches with odd numbers are reporter 1's, the others reporter 2's."""
     matches, rows = model.fresh(), []
     in_play = [word for word in model.WORDS if word not in ("kickoff", "reopen", "fulltime")]
-    while len(rows) < ROWS:
+    while len(rows) < count:
         number = chance.randint(1, 12)
         m = matches[number - 1]
         word = {model.SCHEDULED: "kickoff", model.FINISHED: "reopen"}.get(m.state) or (chance.choice(in_play) if chance.random() < 0.99 else "fulltime")
@@ -250,8 +447,8 @@ class Evening:
 
     def __init__(self, site, seed):
         self.site, self.chance, self.lives = site, random.Random(seed), collections.defaultdict(list)
-        self.rows, self.journal, self.screen = random_rows(self.chance), site.path / "evening.jsonl", LINES["A screen"].strip()
-        self.board, self.desk = site.begin()
+        self.rows, self.journal, self.screen = random_rows(self.chance), site.path / "a.jsonl", LINES["A screen"].strip()
+        self.board = site.begin()
         for name in "first", "second":
             self.follow(name, self.screen)
         until(lambda: self.shown("first").endswith(model.screen(model.fresh())))
@@ -272,8 +469,8 @@ class Evening:
         """Lets both reporters enter their rows, and makes trouble so many times, each time after a random number of rows more."""
         for number in "12":
             (self.site.path / f"rows{number}").write_text("".join(row for row in self.rows if row.startswith(number)))
-        reporters = [self.site.line(f"examples/broker/reporter 1 30 <rows{number} >entered{number}") for number in "12"]
-        entered = lambda: sum(path.read_bytes().count(b"\n") for path in self.site.path.glob("entered?"))
+        reporters = [self.site.line(f"examples/broker/reporter --again 1 --limit 30 a {number} <rows{number} >entered{number}") for number in "12"]
+        entered = lambda: sum(path.read_bytes().count(b"entered:") for path in self.site.path.glob("entered?"))
         ended = lambda: all(line.shell.poll() is not None for line in reporters)
         for number, place in enumerate(sorted(self.chance.sample(range(ROWS // 20, ROWS * 19 // 20), steps))):
             until(lambda: entered() >= place or ended())
@@ -281,9 +478,10 @@ class Evening:
         until(ended)
         assert [line.shell.returncode for line in reporters] == [0, 0], (self.site.path / "errors").read_text()[-300:]
 
-    def settle(self, asked=1):
-        """Asks for the screen so many times, and waits until each follower shows it. Gives the screens of all versions."""
-        self.site.done(f"for i in $(seq {asked}); do echo screen,,,; done | mosquitto_pub -l -q 1 -t ucl/a/rows")
+    def settle(self, again=0):
+        """Waits until each follower shows the last board, for which its line comes so many times more. Gives the screens of all versions."""
+        until(lambda: f" v{ROWS:05d} " in self.shown("first"))
+        self.site.done(f'last=$(mosquitto_sub -C 1 -t ucl/a/desk); for i in $(seq {again}); do echo "$last"; done | mosquitto_pub -l -q 1 -t ucl/a/desk')
         for name in self.lives:
             until(lambda: f" v{ROWS:05d} " in self.shown(name))
         screens = screens_by_the_rules(self.rows, self.journal.read_text())
@@ -299,25 +497,21 @@ def test_the_broker_is_killed_and_started_again(site):
         site.broker.kill()
         site.broker.start()
         site.await_broker()
-        for line in evening.board, evening.desk:
-            if line.shell.poll() is not None:
-                line.kill()
-                line.start()
 
     evening.report(trouble, 3)
     evening.settle()
 
 
 def test_the_board_is_killed_and_goes_on_from_its_journal(site):
-    """It is killed alone, and its line after it; with its line, and the journal's last line is cut, or lacks its end alone."""
+    """It is killed alone, and its program ends; with its program, and the journal's last line is cut, or lacks its end alone."""
     evening = Evening(site, 2)
 
     def trouble(number):
         if number % 3 == 0:
-            told = conftest.command(["ps", "-o", "pid=,comm=", "--sid", str(evening.board.shell.pid)]).output
-            os.kill(int(re.search(r"(\d+) ucl_live$", told, re.M)[1]), signal.SIGKILL)
-            time.sleep(0.1)
+            os.kill(until(lambda: evening.board.pid_of("ucl_live")), signal.SIGKILL)
+            assert evening.board.shell.wait(10) != 0
         evening.board.kill()
+        site.await_no_board()
         with open(evening.journal, "a") as journal:
             if number % 3 == 1:
                 journal.write(evening.journal.read_text().split("\n")[-2][: evening.chance.randint(1, 200)])
@@ -331,29 +525,30 @@ def test_the_board_is_killed_and_goes_on_from_its_journal(site):
 
 def unended(evening):
     """What a board writes that is killed just before the end of a line: the answer to the next row, without its line feed."""
-    text = evening.site.done("echo >>evening.jsonl; ./ucl_follow --resume <evening.jsonl")
+    text = evening.site.done("(cat a.jsonl; echo) | ./ucl_follow --resume")
     numbers = [int(word, 16) & 4095 for word in re.findall(r"^word,\d+,(\w+),$", text, re.M)]
     row = next((row for row in evening.rows if int(row.split(",")[2]) == numbers[int(row.split(",")[1]) - 1]), None)
     return evening.site.done("./ucl_live --format json | tail -n 1 | tr -d '\\n'", text + row) if row else ""
 
 
 def test_every_row_comes_twice_and_some_ten_rows_later(site):
-    """Some are no rows; the answers are those of the rules, one by one."""
+    """All are one reporter's, and some are no rows; the answers are those of the rules, one by one."""
     evening = Evening(site, 3)
+    evening.rows = ["1" + row[1:] for row in evening.rows]
     again, sent = collections.deque([], 10), []
     for row in evening.rows:
         sent += [row, row]
         if len(again) == 10 and evening.chance.random() < 0.2:
             sent.append(again[0])
         if evening.chance.random() < 0.01:
-            sent.append(evening.chance.choice(["x\n", "1,1,0,goal-hoem\n", "1,13,0,kickoff\n"]))
+            sent.append(evening.chance.choice(["1,x\n", "1,1,0,goal-hoem\n", "1,13,0,kickoff\n"]))
         again.append(row)
-    site.done("mosquitto_pub -l -q 1 -t ucl/a/rows", "".join(sent))
+    site.done("mosquitto_pub -l -q 1 -t ucl/a/rows/1", "".join(sent))
     text = model.CLUBS + model.sheet(model.fresh()) + "screen,,,\n" + "".join(sent)
     last = '"row":%d}\n' % text.count("\n")
     until(lambda: evening.journal.read_text().endswith(last))
     wanted = model.Evening(["--format", "json", "--screens"]).of(text)[1].split("\n")
-    found = evening.journal.read_text().split("\n")[2:]
+    found = evening.journal.read_text().split("\n")[1:]
     assert next((pair for pair in zip(found, wanted) if pair[0] != pair[1]), None) is None and len(found) == len(wanted)
     evening.settle()
 

@@ -53,6 +53,10 @@ def test_proves_what_has_changed(tmp_path):
     first, again = small.build("one"), small.build("one")
     assert (first.status, "proved: 2;" in first.errors, again.status, again.errors) == (0, True, 0, "")
     assert small.build("--start", "one") == (0, "built\n", "")
+    for link, to in ("one", "build"), ("apart/one", "../one"):
+        (tmp_path / "apart").mkdir(exist_ok=True)
+        (tmp_path / link).symlink_to(to)
+        assert command([tmp_path / link]) == (0, "built\n", "")
     small.change("crates/one/src/main.rt", "changed")
     assert small.build("--built", "low", "one")[:2] == (1, "one\n")
     second = small.build("one")

@@ -6,7 +6,7 @@ import resource
 import subprocess
 
 import pytest
-from conftest import EXAMPLES, Has, command, needs, tabled, text_of
+from conftest import EXAMPLES, Has, built, command, needs, tabled, text_of
 from model import CLUBS
 
 example = lambda name: text_of(EXAMPLES / name)
@@ -288,8 +288,9 @@ WORKLOADS |= {"paced-2-0": '"readers":2,"reporters":0,', "paced-0-12": '"readers
 NO_WORKLOADS = ["", "write", "Read", "read-1", "report-1-1", "mix", "mix-3", "mix-17-1", "mix-1-13", "mix-a-1", "mix--1", "mix-1-", "mix-1-1-1"]
 
 
-def test_workloads(program, place):
-    program("ucl_bench")
+def test_workloads(place):
+    if built("ucl_bench", place) is None:
+        pytest.skip("not built: ucl_bench, which no user needs")
     measured = lambda name: command([place / "bench/boards", "run", "plain_words", name, "1"], cwd=place)
     for name, told in WORKLOADS.items():
         assert measured(name) == (0, Has(f'{{"board":"plain_words","workload":"{name}",{told}'), "")

@@ -2,6 +2,7 @@
 
 import ctypes as c
 import importlib.util
+import itertools
 import os
 import re
 import shutil
@@ -12,7 +13,9 @@ import pytest
 from conftest import EXAMPLES, TOP
 
 HEADER, MODULE = TOP / "crates/ucl_c/uclboard.h", TOP / "examples/python/uclboard.py"
-SOURCES, SPECS = TOP / "crates/ucl_c/src", TOP / "crates/ucl_c/specs"
+CRATES = TOP / "crates"
+SOURCES, SPECS = CRATES / "ucl_c/src", CRATES / "ucl_c/specs"
+NAMES = (CRATES / "ucl_word/specs/Names.antt").read_text()
 STRICT = "-O2 -Wall -Wextra -pedantic -Werror"
 
 
@@ -64,12 +67,12 @@ def defined():
     """The numbers of statuses, kinds, orders, states and marks by the definitions."""
     codes, faults = (SPECS / "Codes.antt").read_text(), (SPECS / "Faults.antt").read_text()
     numbers = {"UCLBOARD_DONE": 0}
-    for function, text in ("refusal_code", codes), ("mark_code", codes), ("state_code_in_c", codes), ("fault_code", faults):
-        for name, number in re.findall(rf"^{function} \(?((?:state\.)?\w+)[\w ]*\)? = (\d+)$", text, re.M):
-            numbers["UCLBOARD_ENDED" if name == "state.Finished" else shouted(name)] = int(number)
-    for function in "kinds", "profiles":
-        body = re.search(rf"^{function} =(.*?)∷ \[\]$", codes, re.M | re.S)[1]
-        numbers.update({shouted(name.strip()): number for number, name in enumerate(body.replace("\n", " ").strip(" ∷").split("∷"))})
+    for function, text in ("refusal_code", NAMES), ("mark_code", codes), ("state_code_in_c", codes), ("fault_code", faults):
+        for name, number in re.findall(rf"^{function} \(?(\w+)[\w ]*\)? = (\d+)$", text, re.M):
+            numbers["UCLBOARD_ENDED" if (function, name) == ("state_code_in_c", "Finished") else shouted(name)] = int(number)
+    orders = re.search(r"^profiles = (.*) ∷ \[\]$", (CRATES / "ucl_order/specs/Names.antt").read_text(), re.M)[1].split(" ∷ ")
+    for names in re.findall(r"\(codes \".*\", (.*)\)", NAMES), orders:
+        numbers.update({shouted(name): number for number, name in enumerate(names)})
     return numbers
 
 
@@ -153,6 +156,8 @@ def test_header_code_soname_and_pkg_config_have_one_version(library):
 
 def test_names_of_statuses(board):
     names = {int(code): name for code, name in re.findall(r"\((\d+), codes \"(.*?)\"\)", (SPECS / "Codes.antt").read_text())}
+    refusals = dict(re.findall(r"^refusal_code (.*) = (\d+)$", NAMES, re.M))
+    names.update({int(refusals[refusal]): name for refusal, name in re.findall(r"^refusal_name (.*) = codes \"(.*)\"$", NAMES, re.M)})
     assert set(names) == {0, *board.EXCEPTIONS}
     for code in [*range(70), 256, 2**32 - 1]:
         name = names.get(code, "")
@@ -197,6 +202,11 @@ def scripts(is_night):
     return [*found, (EXAMPLES / "away_goals_night.csv", "A away-in-tie", conftest.text_of(EXAMPLES / "away_goals_night.away_in_tie"))]
 
 
+def dressed(text):
+    """The same rows behind a byte order mark, with each field in quotes, other line ends and empty lines."""
+    return "\ufeff\n" + "\r\n\n".join(",".join(f'"{field}"' for field in row.split(",")) for row in text.splitlines())
+
+
 @pytest.fixture
 def shell(tmp_path, library):
     """A folder with the library and the examples, in which a line is typed: it gives what the line ends with."""
@@ -224,34 +234,116 @@ def test_an_example_writes_what_stands_beside_each_script(shell, line, variant):
     running = built(shell, line, variant)
     is_night = running.endswith(" A")
     for path, words, wanted in scripts(is_night):
-        run = shell(f"{running.removesuffix(' A')} {words}", conftest.text_of(path))
-        assert (run.status, run.output) == (0, wanted), (path.name, run.errors)
+        for text in (plain := conftest.text_of(path)), dressed(plain):
+            run = shell(f"{running.removesuffix(' A')} {words}", text)
+            assert (run.status, run.output) == (0, wanted), (path.name, run.errors)
 
 
-FAULTY = [("", 20, "row 1"), ("club,1,Alpha,1\n", 20, "row 2"), ("x" * 4_194_305, 24, "too long"), (model.CLUBS.replace("Delta", ""), 21, "slot 4")]
+GOOD = model.CLUBS + "1,1,0,kickoff\n\n"
+# Scripts that are refused, with the status, its name, and where it is.
+FAULTY = [
+    ("", 20, "bad-row", "row 1"),
+    ("club,1,Alpha,1\n", 20, "bad-row", "row 2"),
+    (GOOD + "+1,1,1,goal-home\n", 20, "bad-row", "row 6"),
+    (GOOD + "1,1,1,goal-hoem\n1,1,1,goal-home\n", 20, "bad-row", "row 6"),
+    (GOOD + '1,1,1,"goal""-home"\n', 20, "bad-row", "row 6"),
+    (GOOD + "3,1,1,goal-home\n1,1,1,x\n", 20, "bad-row", "row 7"),
+    (model.CLUBS.replace("Delta", ""), 21, "bad roster", "slot 4"),
+    (model.CLUBS.replace("Bravo", '"Al,pha"').replace("Charlie", 21 * "C"), 21, "bad roster", "slot 3"),
+    ("x" * 4_194_305, 24, "too long", "too long"),
+]
+STRANGER = GOOD + "3,1,1,goal-home\n", 25, "of a reporter other than 1 and 2", "row 6"
 
 
-@pytest.mark.parametrize("text, code, where", FAULTY, ids=[where for *_, where in FAULTY])
-def test_examples_tell_a_script_that_is_none(shell, text, code, where):
-    feed, night = (next(line for line, _ in LINES if name in line) for name in ("c/feed.c", "cpp/night.cpp"))
-    assert shell(built(shell, feed, "gcc"), text) == (3, "", f"input refused {code}: {where}\n")
-    run = shell(built(shell, night, "gcc"), text)
-    assert (run.status, run.output) == (1, "") and run.errors.startswith("night: ")
+@pytest.mark.parametrize("line", [pytest.param(line, id=re.search(r"examples/([\w/]+)", line)[1]) for line, _ in LINES])
+def test_an_example_tells_why_it_fails(shell, line):
+    """Of a script in C as `ucl_night` tells it, in other languages by the name of the status and the place."""
+    running = built(shell, line, "gcc")
+    has_reporters = "pthread" in line or "cargo" in line
+    for text, code, name, where in FAULTY + [STRANGER] * has_reporters:
+        run = shell(running, text)
+        if line.startswith("cc "):
+            assert run == (3, "", f"input refused {code}: {where}\n")
+        else:
+            told, place = run.errors.splitlines()[-1], re.findall(r"\d+", where)
+            assert (run.status, run.output) == (1, "") and told.startswith("night: ") and name in told and {*place} <= {*re.findall(r"\d+", told)}, run
+    if running.endswith(" A"):
+        run = shell(running[:-1] + "Z", GOOD)
+        assert (run.status, run.output) == (1, "") and "no group" in run.errors
+
+
+def blocks(page, language):
+    """The programs of a page in a language."""
+    return re.findall(rf"^```{language}\n(.*?)^```$", (TOP / page).read_text(), re.M | re.S)
+
+
+@pytest.mark.quick
+@pytest.mark.parametrize("compiler", ["gcc", "clang"])
+def test_programs_of_the_pages_compile_without_a_warning(compiler):
+    assert [len(blocks(page, "c")) for page in ("README.md", "docs/C.md")] == [1, 1]
+    for page in "README.md", "docs/C.md":
+        for text in blocks(page, "c"):
+            assert compiled([compiler, "-std=c99", *STRICT.split(), "-c", "-o", "/dev/null", "-x", "c", "-"], text) == (0, "", "")
+        assert re.findall(r"^    .*;$", re.sub(r"^```.*?^```$", "", (TOP / page).read_text(), flags=re.M | re.S), re.M) == []
 
 
 def test_programs_of_the_pages_print_the_screen_after_a_kick_off(shell, tmp_path):
-    readme, page = ((TOP / path).read_text() for path in ("README.md", "docs/C.md"))
-    line = re.search(r"`(cc board\.c [^`]*) && \./board`", readme)[1]
-    (in_c,) = re.findall(r"^```c\n(.*?)^```$", readme, re.M | re.S)
-    in_python = [*re.findall(r"^```python\n(.*?)^```$", readme, re.M | re.S), *re.findall(r"^```python\n(.*?)^```$", page, re.M | re.S)]
-    (tmp_path / "board.c").write_text(in_c)
-    for path in MODULE, tmp_path / "library/libuclboard.so":
-        shutil.copy(path, tmp_path)
+    line = re.search(r"`(cc board\.c [^`]*) && \./board`", (TOP / "README.md").read_text())[1]
+    in_python = re.search(r"^    (PYTHONPATH=\S+ .*) board\.py$", (TOP / "docs/C.md").read_text(), re.M)[1]
     matches = model.fresh()
     matches[0].enter(1, "kickoff")
     wanted = (0, model.screen(matches), "")
-    assert shell(f"{line} -Wall -Wextra -Werror && ./board") == wanted and len(in_python) == 2
-    assert [shell("python3 -", text) for text in in_python] == [wanted, wanted]
+    (tmp_path / "board.c").write_text(blocks("README.md", "c")[0])
+    assert shell(f"{line} && ./board") == wanted
+    for path in MODULE, tmp_path / "library/libuclboard.so":
+        shutil.copy(path, tmp_path)
+    programs = blocks("docs/C.md", "python")
+    assert [shell(f"{how} -", text) for how in (in_python, "python3") for text in programs] == [wanted] * 4
+    last = f"int main(void) {{\n    uint64_t words[UCLBOARD_WORDS];\n    return kick_off(words) != 0 || words[0] != UINT64_C(0x{matches[0].word()});\n}}\n"
+    (tmp_path / "board.c").write_text(blocks("docs/C.md", "c")[0] + last)
+    assert shell(f"{line} && ./board") == (0, "", "")
+
+
+@pytest.mark.quick
+def test_a_program_in_rust_sees_a_new_library_in_a_relative_folder(tmp_path):
+    """The libraries are none: all that their calls answer is a number."""
+    conftest.needs("cargo")
+    manifest, folder = tmp_path / "Cargo.toml", tmp_path / "libraries"
+    (needed,) = blocks("docs/C.md", "toml")
+    manifest.write_text('[package]\nname = "board"\nedition = "2021"\n\n' + needed.replace("PATH", str(TOP)))
+    (tmp_path / "src").mkdir()
+    folder.mkdir()
+    (tmp_path / "src/main.rs").write_text('fn main() { println!("{}", uclboard::version()); }\n')
+    for number in 1, 2:
+        (folder / "calls.c").write_text("".join(f"unsigned {name}(void) {{ return {number}; }}\n" for name in calls()))
+        made = "cc -c calls.c && rm -f libuclboard.a && ar rc libuclboard.a calls.o"
+        own = {**os.environ, "UCLBOARD_FOLDER": "libraries", "CARGO_NET_OFFLINE": "true", "RUSTFLAGS": "-D warnings"}
+        line = f"(cd libraries && {made}) && cargo run --quiet --manifest-path {manifest}"
+        assert conftest.command(["bash", "-c", line], cwd=tmp_path, env=own) == (0, f"{number}\n", "")
+
+
+def test_a_name_that_no_roster_takes_is_a_bad_roster_in_python(board):
+    for name in "\ud800", "Delta\udc80", "D\u00e9lta", 21 * "D", "":
+        with pytest.raises(board.BadRoster) as raised:
+            board.Board().screen([*model.ROSTER[:3], (name, 81_500)])
+        assert (raised.value.status, raised.value.told) == (21, 4)
+
+
+def test_each_drop_leaves_the_board_as_it_was(board):
+    """Of readers' and of reporters' handles, in each order; another reads after each drop, and reports where it can."""
+    for order in itertools.permutations(range(4)):
+        first = board.Pass.open()
+        passes, matches = [first, first.split(), first.enlist(), first.enlist()], model.fresh()
+        for number, reporter in enumerate(passes[2:], 1):
+            reporter.report(number, 0, "kickoff")
+            matches[number - 1].enter(number, "kickoff")
+        for at, gone in enumerate(order, 1):
+            passes[gone].drop()
+            for left in order[at:]:
+                if left > 1:
+                    passes[left].report(1, matches[0].number, "goal-home")
+                    matches[0].enter(left - 1, "goal-home")
+                assert [f"{word:016x}" for word in passes[left].read().words] == [m.word() for m in matches]
 
 
 @pytest.mark.parametrize("how", ["sound", "racy"])

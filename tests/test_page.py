@@ -1,12 +1,15 @@
-"""The page of an evening beyond one machine, in a browser without a window, while a reporter enters events.
+"""The page in a browser without a window: by lines that it is given, how it looks at each size; and over a broker, while a reporter enters events.
 
-After each row the table that the browser shows, its matches in play, its version, and what a screen reader is told are those of the rules. With
-`--picture FILE` the first test also writes a picture of the page, as PNG.
+What the page shows, and what a screen reader is told, is that of the rules. At each size no text is cut, overlaps or leaves the window, and columns are
+as wide as in every other group. With `--picture FILE` the test of letters also writes a picture of the page, as PNG.
 """
 
 import base64
+import itertools
+import json
 import pathlib
 import time
+from typing import NamedTuple
 
 import conftest
 import model
@@ -14,31 +17,425 @@ import pytest
 from test_broker import LINES, free_port, is_reached, site, until  # noqa: F401, a fixture
 
 pytestmark = pytest.mark.limit(200)
+PAGE = conftest.EXAMPLES / "broker/page/index.html"
 SILENCE = 4
-COLUMNS = ["place", "mark", "club", "played", "won", "drawn", "lost", "goals_for", "goals_against", "goal_difference", "points"]
-HEADS = ["Place", "Certain", "Club", "Played", "Won", "Drawn", "Lost", "Goals for", "Goals against", "Goal difference", "Points"]
+LARGE = (1920, 1080)
+# How large names, figures and scores of the season are at least at each size: of one group, and on the wall.
+SIZES = {(1280, 720): (36, 16), (1366, 768): (39, 17), LARGE: (54, 24), (3840, 2160): (108, 48), (1024, 768): (29, 14), (390, 844): (20, 9.5)}
+FONTS = ["DejaVu Sans", "Noto Sans"]
+STATES = {model.IN_PLAY: "In play", model.FINISHED: "Full time"}
+FIGURES = ["played", "won", "drawn", "lost", "goals_for", "goals_against"]
+HEADS = ["Place", "Certain", "Plays now", "Club", "Played", "Won", "Drawn", "Lost", "Goals for", "Goals against", "Goal difference", "Points"]
 MEANINGS = {"+": "certain to be among the first two", "-": "certain not to be among the first two", "": ""}
+LEGEND = "+ certain to be among the first two, \u2212 certain not to be, by points alone; a blank promises nothing"
 # Ten matches that are finished: the first and the last club are certain then, and two are level.
 FINISHED = {1: (2, 0), 2: (1, 1), 3: (1, 2), 4: (0, 3), 5: (0, 2), 6: (4, 0), 7: (3, 0), 8: (0, 1), 9: (1, 1), 10: (1, 2)}
 WORDS = ["--headless=new", "--no-sandbox", "--disable-gpu", "--disable-dev-shm-usage", "--hide-scrollbars", "--window-size=1920,1080"]
-SHOWN = """
-  if (!document.getElementById("version")) return {};
+# By the letter of each group what the page shows of it; the signs of a cell are those that are seen, and that are heard.
+SHOWN = """window.shown = () => {
   const text = (element) => element.textContent.trim();
-  const cell = (cell) => cell.classList.contains("mark") ? [text(cell.children[0]), text(cell.children[1])] : text(cell);
-  const at = (id) => text(document.getElementById(id));
-  return {
-    rows: [...document.querySelectorAll("tbody tr")].map((row) => [...row.children].map(cell)),
-    heads: [...document.querySelectorAll("thead th")].map((head) => (head.querySelector("abbr") || {}).title || text(head)),
-    playing: [...document.querySelectorAll("#matches li")].map(text),
-    group: at("group"), version: at("version"), signal: at("signal"), news: at("news"),
-  };"""
-LONG_NAMES = "show({...shown, table: shown.table.map((place) => ({...place, club: 'W'.repeat(20)}))})"
+  const cell = (cell) => cell.children.length ? [text(cell.children[0]) || cell.children[0].className, text(cell.children[1])] : text(cell);
+  const all = (element, selector) => [...element.querySelectorAll(selector)];
+  return Object.fromEntries(all(document, ".group").map((group) => [text(group.querySelector("h1")).replace(/^Group ?/, ""), {
+    rows: all(group, "tbody tr").map((row) => [...row.children].map(cell)),
+    heads: all(group, "thead th").map((head) => (head.querySelector("abbr") || {}).title || text(head)),
+    matches: all(group, ".matches li").map((match) => [...match.children].map(text).join("|") || text(match)),
+    version: text(group.querySelector(".version")), signal: text(group.querySelector(".signal")),
+  }]));
+};"""
+# What is drawn of each text that is seen, and of each dot: its edges, and the cell and the row that it stands in.
+INKS = """const pen = document.createElement("canvas").getContext("2d"), drawings = new Map();
+const all = (element, selector) => [...element.querySelectorAll(selector)], where = (element) => element.getBoundingClientRect();
+const drawn = (text, parent) => {
+  const style = getComputedStyle(parent), font = `${style.fontWeight} ${style.fontSize} ${style.fontFamily}`, name = font + text;
+  pen.font = font;
+  return drawings.get(name) || drawings.set(name, pen.measureText(text)).get(name);
+};
+const inksOf = (node) => {
+  const parent = node.parentElement, text = node.data.trim(), range = document.createRange();
+  if (!text || parent.closest(".heard, script, template")) return [];
+  range.selectNodeContents(node);
+  const ink = drawn(text, parent), cell = parent.closest("td, th, .match > span, li, h1, p, footer"), row = parent.closest("tr, li, header, footer");
+  return [...range.getClientRects()].filter((rect) => rect.width > 0).map((rect, line) => {
+    const base = rect.top + ink.fontBoundingBoxAscent, top = base - ink.actualBoundingBoxAscent, bottom = base + ink.actualBoundingBoxDescent;
+    return { text, parent, cell, row, line, left: rect.left, right: rect.right, top, bottom };
+  });
+};
+const inks = () => {
+  const walk = document.createTreeWalker(document.body, NodeFilter.SHOW_TEXT), found = [];
+  while (walk.nextNode()) found.push(...inksOf(walk.currentNode));
+  return found;
+};"""
+# What is wrong with how the page looks, the columns of its tables, how much of its cell a text of a row fills at most, and the smallest letters: of names,
+# figures and scores, and of all.
+LOOK = """const near = (one, two, most = 0.6) => Math.abs(one - two) <= most, size = (element) => parseFloat(getComputedStyle(element).fontSize);
+const lookAtTexts = (texts, need) => {
+  const dots = all(document, ".dot").map((dot) => ({ text: "dot", ...where(dot).toJSON() }));
+  for (const { text, parent, line, left, right, top, bottom, ...at } of texts) {
+    const cell = where(at.cell), row = where(at.row), below = Math.max(row.top - top, bottom - row.bottom);
+    need(line === 0 || line === 1 && innerHeight > innerWidth && parent.closest("footer"), text, "is on several lines");
+    need(left >= cell.left - 0.6 && right <= cell.right + 0.6 && below <= 0.1 * size(parent) + 1, text, "is cut");
+  }
+  [...texts, ...dots].sort((one, two) => one.left - two.left).forEach((one, i, sorted) => {
+    need(one.left >= 0 && one.top >= 0 && one.right <= innerWidth && one.bottom <= innerHeight, one.text, "leaves the window");
+    for (let j = i + 1; j < sorted.length && sorted[j].left < one.right - 0.6; j += 1) {
+      need(sorted[j].top >= one.bottom - 0.6 || sorted[j].bottom <= one.top + 0.6, one.text, "overlaps", sorted[j].text);
+    }
+  });
+  for (const element of [document.documentElement, document.body]) {
+    need(element.scrollWidth <= innerWidth && element.scrollHeight <= innerHeight, "the page is", element.scrollWidth, "by", element.scrollHeight);
+  }
+};
+const lookAtTable = (group, inkOf, need) => {
+  const rows = all(group, "tr"), heads = [...rows[0].children].map(where), columns = heads.map((_, i) => rows.map((row) => row.children[i]));
+  need(rows.length === 5, "a table has", rows.length - 1, "rows");
+  columns.forEach((cells, i) => {
+    need(cells.map(where).every((it) => near(it.left, heads[i].left) && near(it.width, heads[i].width, 0.1)), "column", i, "is not straight");
+    const texts = cells.map((cell) => inkOf.get(cell));
+    if (i === 3) need(texts.every((ink) => near(ink.left, texts[0].left, 1)), "Club does not stand over the names");
+    if (i > 3) need(texts.every((ink) => near(ink.right, texts[0].right)), "figures of column", i, "do not line up");
+    if (i > 3) need(near(heads[i].width, heads[4].width, 0.1), "columns are not equal");
+  });
+  const sizes = new Set(all(group, "tbody td:nth-child(n+5), tbody th").map(size));
+  need(sizes.size === 1, "names and figures are of sizes", ...sizes);
+  const lines = rows.slice(1).map((row) => parseFloat(getComputedStyle(row).borderTopWidth));
+  need(lines[2] > Math.max(1, lines[0], lines[1], lines[3]), "lines over the rows are", ...lines);
+  return heads.map((head) => [Math.round(10 * (head.left - where(group).left)), Math.round(10 * head.width)].join("+")).join(" ");
+};
+window.look = () => {
+  const faults = [], need = (holds, ...told) => holds || faults.push(told.join(" "));
+  const texts = inks(), inkOf = new Map(texts.map((ink) => [ink.cell, ink]));
+  lookAtTexts(texts, need);
+  const columns = new Set(all(document, ".group").map((group) => lookAtTable(group, inkOf, need)));
+  need(all(document, "abbr").every((it) => getComputedStyle(it).textDecorationLine === "none"), "a head has a line below it");
+  const letters = [all(document, "tbody td:not(.now), tbody th, .home, .away, .score"), texts.map((ink) => ink.parent)].map((them) => Math.min(...them.map(size)));
+  const fills = all(document, "tbody th, tbody td:nth-child(n+5)").map((cell) => (inkOf.get(cell).right - inkOf.get(cell).left) / cell.clientWidth);
+  return { faults, letters, fill: Math.max(...fills), columns: [...columns] };
+};"""
+# Takes lines, one round after the other, and tells what the page shows after each, and how it looks.
+ROUNDS = """return arguments[0].map((lines) => {
+  lines.forEach((line) => take(line));
+  return { shown: shown(), ...look() };
+});"""
 # From here on each version that is shown is noted, also one that is shown again.
-NOTED = """window.noted = []; new MutationObserver(() => noted.push(Number(document.getElementById("version").textContent)))
-  .observe(document.getElementById("version"), {childList: true, characterData: true, subtree: true})"""
-LETTERS = """
-  const size = (selector) => Math.min(...[...document.querySelectorAll(selector)].map((it) => parseFloat(getComputedStyle(it).fontSize)));
-  return [size("tbody th, tbody td:first-child, tbody td:last-child"), size("tbody td"), document.body.scrollWidth, document.body.scrollHeight];"""
+NOTED = """window.noted = []; new MutationObserver(() => noted.push(document.querySelector(".version").textContent))
+  .observe(document.querySelector(".version"), {childList: true, characterData: true, subtree: true})"""
+
+
+# ---- what the page has to show
+
+
+def shown_of(matches, roster, games, edition=0):
+    """What the page shows of these matches, where these are the matches of the evening, by their numbers."""
+    playing = {roster[slot - 1][0] for slots, match in zip(model.FIXTURES, matches) if match.state == model.IN_PLAY for slot in slots}
+    rows, lines = [], []
+    for place in model.places(matches, roster, False):
+        row = [place["place"], [place["mark"], MEANINGS[place["mark"]]], ["dot", "plays now"] if place["club"] in playing else ["", ""], place["club"]]
+        row += [place[name] for name in FIGURES] + [f"{place['goal_difference']:+}" if place["goal_difference"] else "0", place["points"]]
+        rows.append([[it.replace("-", "\u2212") for it in cell] if isinstance(cell, list) else str(cell) for cell in row])
+        rows[-1][3], rows[-1][10] = place["club"], rows[-1][10].replace("-", "\u2212")
+    for game in games:
+        match, (home, away) = matches[game - 1], (roster[slot - 1][0] for slot in model.FIXTURES[game - 1])
+        lines.append(f"{STATES[match.state]}|{home}|{match.goals[0]}\u2013{match.goals[1]}|{away}")
+    version = f"edition {edition}, " * bool(edition) + f"version {model.version(matches)}"
+    return {"rows": rows, "heads": HEADS, "matches": lines or ["No match is in play"], "version": version, "signal": ""}
+
+
+class Moment(NamedTuple):
+    """A moment of a group: its matches, its clubs, which of the matches are the evening's, and its edition."""
+
+    group: str
+    matches: list
+    roster: list
+    games: list
+    edition: int = 0
+
+    def line(self, row=1):
+        """The line by which an evening answers `screen,,,`."""
+        members = model.Style(["--group", self.group]).json(self.matches, self.roster, row)
+        return model.line_of({**members, "edition": self.edition} if self.edition else members)[:-1]
+
+    def shown(self):
+        """What the page shows of it."""
+        return shown_of(self.matches, self.roster, self.games, self.edition)
+
+    def of(self, group=None, edition=0, clubs=()):
+        """The same in another group, in another edition, or of other clubs."""
+        return self._replace(group=group or self.group, edition=edition, roster=[(name, 0) for name in clubs] or self.roster)
+
+
+def season(group):
+    """The season of a group: of each matchday both matches in play, the first over, both over."""
+    roster, events = model.parsed(conftest.text_of(conftest.EXAMPLES / f"season_2021_22/group_{group.lower()}.csv"))
+    moments, matches, games = [], model.fresh(), []
+    for reporter, game, _, word in events:
+        if word == "fulltime":
+            games.append(game)
+        else:
+            matches[game - 1].enter(reporter, word)
+        for over in [[], games[:1], games[1:]] if len(games) == 2 else []:
+            for number in over:
+                matches[number - 1].enter(2 - number % 2, "fulltime")
+            moments.append(Moment(group, [model.match_of(match.word()) for match in matches], roster, sorted(games)))
+        games = games if len(games) < 2 else []
+    assert len(moments) == 18 and {match.state for match in matches} == {model.FINISHED}
+    return moments
+
+
+SEASON = {group: season(group) for group in "ABCDEFGH"}
+
+
+# ---- a browser
+
+
+@pytest.fixture(scope="module")
+def browser(tmp_path_factory):
+    """A browser, which is one for all tests."""
+    webdriver = pytest.importorskip("selenium.webdriver", reason="no selenium: python3-selenium has it")
+    conftest.needs("chromium", "chromedriver")
+    options, folder = webdriver.ChromeOptions(), tmp_path_factory.mktemp("browser")
+    for word in [*WORDS, f"--user-data-dir={folder}/kept"]:
+        options.add_argument(word)
+    with pytest.MonkeyPatch.context() as patch:
+        patch.setenv("HOME", str(folder))
+        browser = webdriver.Chrome(service=webdriver.chrome.service.Service(conftest.shutil.which("chromedriver")), options=options)
+    yield browser
+    browser.quit()
+
+
+class Sheet:
+    """The page in a browser, without a board: it is given its lines."""
+
+    def __init__(self, browser):
+        self.browser, self.run = browser, browser.execute_script
+
+    def open(self, words, size=LARGE):
+        """Opens the page with these words, in a browser that knows nothing of an evening."""
+        self.resize(size)
+        self.browser.get(f"{PAGE.as_uri()}?lines=ws://127.0.0.1:9/&{words}")
+        self.run("localStorage.clear()")
+        self.reload()
+
+    def reload(self):
+        """Opens the page again, without a WebSocket, and with a clock that tests can put ahead."""
+        self.browser.refresh()
+        self.run(f"open = () => {{}}; window.ahead = 0; const now = Date.now; Date.now = () => now() + 1000 * ahead; {SHOWN} {INKS} {LOOK}")
+
+    def resize(self, size):
+        """Makes the window as large as this."""
+        self.browser.execute_cdp_cmd("Emulation.setDeviceMetricsOverride", dict(zip(["width", "height"], size), deviceScaleFactor=1, mobile=False))
+        assert until(lambda: self.run("return [innerWidth, innerHeight]") == [*size], 10)
+
+    def fonts(self):
+        """Of the fonts those that are installed; where none is, it skips the test."""
+        width = "const pen = document.createElement('canvas').getContext('2d'); pen.font = arguments[0]; return pen.measureText('Wing').width"
+        found = [font for font in FONTS if self.run(width, f"20px '{font}', monospace") != self.run(width, "20px monospace")]
+        return found or pytest.skip("not installed: fonts-dejavu-core")
+
+    def looks(self):
+        """Each font at each size, with a number of its own."""
+        for number, (font, size) in enumerate(itertools.product(self.fonts(), SIZES)):
+            self.run("document.body.style.fontFamily = arguments[0]", font)
+            self.resize(size)
+            yield number, size, f"{font} at {size[0]}x{size[1]}"
+
+    def take(self, *lines):
+        """Gives the page lines. Tells what it shows after them."""
+        return self.rounds([lines])[0]["shown"]
+
+    def rounds(self, rounds):
+        """Gives the page lines, one round after the other. Tells after each what it shows, and how it looks."""
+        return self.run(ROUNDS, rounds)
+
+
+@pytest.fixture
+def sheet(browser):
+    """The page in a browser, without a board."""
+    return Sheet(browser)
+
+
+def check(sheet, rounds, name, least=0):
+    """After each round of lines the page shows these moments, nothing is wrong with how it looks, columns are those of all other tables, letters are large."""
+    columns = set()
+    for moments, it in zip(rounds, sheet.rounds([[moment.line() for moment in moments] for moments in rounds])):
+        assert it["faults"] == [], f"{name}, matches {moments[0].games} of {moments[0].roster}"
+        assert it["shown"] == {moment.group: moment.shown() for moment in moments}, name
+        assert it["letters"][0] >= least, name
+        columns.update(it["columns"])
+    assert len(columns) == 1, name
+
+
+# ---- how it looks
+
+
+@pytest.mark.quick
+def test_a_group_at_each_size_on_each_matchday(sheet):
+    """All groups are shown in the place of one, each in an edition of its own."""
+    sheet.open("group=A")
+    for number, size, name in sheet.looks():
+        rounds = [[it.of("A", 8 * number + at)] for at, moments in enumerate(SEASON.values()) for it in moments[:: 3 if number else 1]]
+        check(sheet, rounds, name, SIZES[size][0])
+
+
+@pytest.mark.quick
+def test_the_wall_at_each_size_on_each_matchday(sheet):
+    sheet.open("wall")
+    for number, size, name in sheet.looks():
+        check(sheet, [[it.of(edition=number) for it in moments] for moments in [*zip(*SEASON.values())][:: 3 if number else 1]], name, SIZES[size][1])
+
+
+def large():
+    """A group in which two clubs score all that can be, ten matches are over, and two in play."""
+    matches = model.fresh()
+    for number, (match, slots) in enumerate(zip(matches, model.FIXTURES), 1):
+        match.number, match.reporter, match.state = 4094, 255, model.IN_PLAY if number > 10 else model.FINISHED
+        match.goals = [63 * (slot < 3) for slot in slots]
+    return Moment("A", matches, model.ROSTER, [11, 12])
+
+
+NAMES = {
+    "widest": ["W" * 20, "M" * 20, "@" * 20, "%" * 20],
+    "one is wide": ["W" * 20, "i", "Alpha", "Bravo"],
+    "twenty letters": ["Borussia Munchenglad", "Wolverhampton Wander", "Shakhtar Donetsk1936", "Paris Saint-Germain1"],
+    "no HTML": ["<b>A</b>", '"&amp;"', "a   b", "'"],
+}
+
+
+@pytest.mark.quick
+@pytest.mark.parametrize("words", ["group=A", "wall"])
+@pytest.mark.parametrize("name", NAMES)
+def test_long_names_large_figures_and_no_signal(sheet, name, words):
+    sheet.open(words)
+    season = [moments[15] for moments in SEASON.values()][: 8 if words == "wall" else 1]
+    moments = [moment.of(edition=12345, clubs=NAMES[name]) for moment in [large(), *season[1:]]]
+    before, after = sheet.rounds([[it.line() for it in season], [it.line() for it in moments]])
+    assert after["shown"] == {it.group: it.shown() for it in moments} and after["columns"] == before["columns"]
+    sheet.run("ahead = 8; other = {letter: 'B', heardAt: Date.now()}; tell()")
+    assert sheet.run("return shown().A.signal").startswith("No signal")
+    for *_, font in sheet.looks():
+        faults = lambda: sheet.run("const it = look(); return it.fill < 0.85 ? ['letters are too small'] : it.faults")
+        assert until(lambda: faults() == [], 5) or faults() == [], font
+
+
+@pytest.mark.quick
+@pytest.mark.parametrize("count", [0, 1, 3, 12])
+def test_another_count_of_matches_in_play(sheet, count):
+    sheet.open("group=A")
+    moment = Moment("A", model.fresh(), SEASON["A"][0].roster, [*range(1, count + 1)])
+    for game in moment.games:
+        moment.matches[game - 1].enter(1, "kickoff")
+    for edition, _, name in sheet.looks():
+        check(sheet, [[moment.of(edition=edition)]], name)
+
+
+@pytest.mark.quick
+def test_letters_for_twenty_metres_and_the_picture(sheet, pytestconfig):
+    sheet.open("wall")
+    sheet.run("document.body.style.fontFamily = arguments[0]", FONTS[0])
+    moments = [moments[15] for moments in SEASON.values()]
+    assert sheet.rounds([[moment.line() for moment in moments]])[0]["letters"][1] >= 24
+    sheet.open("group=A")
+    sheet.run("document.body.style.fontFamily = arguments[0]", FONTS[0])
+    assert sheet.rounds([[moments[0].line()]])[0]["letters"][1] >= 24
+    assert sheet.run("return document.querySelector('footer').textContent") == LEGEND
+    if pytestconfig.getoption("--picture", None):
+        picture = sheet.browser.execute_cdp_cmd("Page.captureScreenshot", {"format": "png"})["data"]
+        pathlib.Path(pytestconfig.getoption("--picture")).write_bytes(base64.b64decode(picture))
+
+
+# ---- what it takes
+
+
+@pytest.mark.quick
+def test_lines_of_other_groups(sheet):
+    a, b = (SEASON[group][0] for group in "AB")
+    for words, lines, moment in [("group=B", [a, b, a], b), ("group=b", [b, a], b), ("", [a, b], a), ("x", [b, a], b)]:
+        sheet.open(words)
+        assert sheet.take(*(it.line() for it in lines)) == {moment.group: moment.shown()}
+        assert sheet.run("return document.title") == f"Group {moment.group}, {moment.shown()['version']}"
+    sheet.open("wall")
+    shown = sheet.take(b.line())
+    assert [*shown] == [*"ABCDEFGH"] and shown["B"] == b.shown() and [it["rows"] for group, it in shown.items() if group != "B"] == [[]] * 7
+
+
+@pytest.mark.quick
+def test_a_newer_screen_is_of_a_later_edition_or_of_the_same_and_a_higher_version(sheet):
+    moments = SEASON["A"]
+    sheet.open("group=A")
+    steps = [(3, 0, True), (2, 0, False), (4, 0, True), (1, 1, True), (5, 0, False), (0, 1, False), (2, 1, True), (0, 10, True), (5, 9, False)]
+    for at, edition, is_newer in steps:
+        moment = moments[at].of(edition=edition)
+        version = sheet.take(moment.line(at))["A"]["version"]
+        last = moment.shown()["version"] if is_newer else last
+        assert version == last, (at, edition)
+
+
+@pytest.mark.quick
+def test_lines_that_tell_no_screen(sheet):
+    moment = SEASON["A"][0]
+    said = json.loads(moment.line())
+    changed = [{"group": "I"}, {"group": 1}, {"version": "16"}, {"edition": "1"}, {"edition": 0.5}, {"reply": "ok"}, {"table": [1, 2, 3]}, {"words": []}]
+    changed += [{"clubs": None}, {"table": [None] * 4}, {"words": ["x"] * 12}, {"clubs": [None] * 4}]
+    lines = [json.dumps({**said, "version": 99, "row": at, **it}) for at, it in enumerate(changed)]
+    sheet.open("group=A")
+    sheet.take(moment.line())
+    assert sheet.take("", "x", "null", "3", "[]", "{}", '{"reply":"screen"}', "[" * 500, moment.line()[:-20], *lines) == {"A": moment.shown()}
+    assert sheet.take(SEASON["A"][1].line()) == {"A": SEASON["A"][1].shown()}
+
+
+@pytest.mark.quick
+def test_no_signal_where_nothing_comes_or_lines_of_another_group_or_the_line_that_the_broker_keeps(sheet):
+    """Where lines come but no table of this group, the page tells of which group they are. A line again is a sign, but not as the first of a WebSocket."""
+    a, b = (SEASON[group][0] for group in "AB")
+    sheet.open("group=A")
+    signal = lambda: sheet.run("tell(); return shown()")["A"]["signal"]
+    wait = lambda seconds: sheet.run(f"ahead += {seconds}")
+    assert signal() == "No signal: no table comes"
+    sheet.take(b.line())
+    assert signal() == "No signal: tables of group B come"
+    sheet.take(a.line())
+    assert signal() == ""
+    wait(6)
+    assert signal() == ""
+    wait(2)
+    assert signal() == "No signal: no table comes"
+    for told in ["No signal: no table comes", ""]:
+        sheet.run("opened += 1" if told else "")
+        sheet.take(a.line())
+        assert signal() == told
+    wait(8)
+    sheet.run("opened += 1")
+    sheet.take("x", '{"reply":"refused"}', b.line())
+    assert signal() == "No signal: tables of group B come"
+    sheet.take(a.line(2))
+    assert signal() == ""
+    sheet.open("wall")
+    assert [group for group, it in sheet.take(b.line()).items() if it["signal"] == "No signal"] == [*"ACDEFGH"]
+
+
+@pytest.mark.quick
+def test_matches_that_are_over_stay_until_their_clubs_play_again(sheet):
+    """A browser keeps them. One that has not shown the group knows those in play, and of the others one that must be of the evening."""
+    first, second, third = SEASON["A"][:3], SEASON["A"][3:6], SEASON["A"][6:9]
+    sheet.open("group=A")
+    for moment in [*first, *second]:
+        assert sheet.take(moment.line()) == {"A": moment.shown()}
+    sheet.reload()
+    changed = model.match_of(second[2].matches[first[2].games[0] - 1].word())
+    for word in "reopen", "fulltime":
+        changed.enter(1, word)
+    later = second[2]._replace(matches=[changed if game == first[2].games[0] else it for game, it in enumerate(second[2].matches, 1)], edition=1)
+    for moment in second[2], later, third[0].of(edition=1):
+        assert sheet.take(moment.line()) == {"A": moment.shown()}
+    last = SEASON["A"][14]._replace(matches=[*SEASON["A"][14].matches])
+    last.matches[7] = model.match_of("2001000000001001")
+    for moment, games in (first[1], [6, 7]), (second[1], [2, 9]), (SEASON["A"][10], [12]), (last, [8]), (third[2], []):
+        sheet.open("group=A")
+        assert sheet.take(moment.line()) == {"A": moment._replace(games=games).shown()}
+    assert sheet.take(SEASON["A"][11].line()) == {"A": SEASON["A"][11].shown()}
+
+
+# ---- over a broker
 
 
 class Page:
@@ -46,9 +443,10 @@ class Page:
 
     def __init__(self, site, browser):
         self.site, self.browser, self.matches, port = site, browser, model.fresh(), free_port()
-        self.parts = [*site.begin(), site.line(LINES["A pulse"])]
+        self.parts = [site.begin()]
         self.socket = site.line(LINES["A page"].replace("8080", str(port)))
         until(lambda: is_reached(port))
+        Sheet(browser).resize(LARGE)
         browser.get(f"http://127.0.0.1:{port}/?silence={SILENCE}")
 
     def enter(self, *events):
@@ -57,98 +455,74 @@ class Page:
         for number, word in events:
             rows.append(f"1,{number},{self.matches[number - 1].number},{word}\n")
             self.matches[number - 1].enter(1, word)
-        self.site.done("examples/broker/reporter 1 40", "".join(rows))
+        self.site.done("examples/broker/reporter --again 1 --limit 40 a 1", "".join(rows))
 
     def play(self):
         """Ten matches that are finished, and two in play."""
         events = [(number, [*["goal-home"] * home, *["goal-away"] * away, "fulltime"]) for number, (home, away) in FINISHED.items()]
         self.enter(*[(number, word) for number, words in [*events, (11, []), (12, ["goal-home"])] for word in ["kickoff", *words]])
 
-    def score(self, number, parts):
-        """A match with its goals, in this form."""
+    def news(self, number):
+        """What is told of a match in which a goal was scored."""
         home, away = (model.ROSTER[slot - 1][0] for slot in model.FIXTURES[number - 1])
-        return parts.format(home, *self.matches[number - 1].goals, away)
+        return "{0} {1}, {3} {2}.".format(home, *self.matches[number - 1].goals, away)
 
     def wanted(self):
-        """What the page has to show: rows, matches in play, version."""
-        rows = []
-        for place in model.places(self.matches, model.ROSTER, False):
-            signed = {**place, "goal_difference": f"{place['goal_difference']:+}".replace("-", "\u2212")}
-            rows.append([str(signed[name]) for name in COLUMNS])
-            rows[-1][1] = [place["mark"].replace("-", "\u2212"), MEANINGS[place["mark"]]]
-        playing = [self.score(n, "{0} {1}\u2013{2} {3}") for n, match in enumerate(self.matches, 1) if match.state == model.IN_PLAY]
-        return {"rows": rows, "playing": playing, "version": str(model.version(self.matches)), "group": "A", "heads": HEADS, "signal": ""}
+        """What the page has to show."""
+        return shown_of(self.matches, model.ROSTER, [number for number, match in enumerate(self.matches, 1) if match.state == model.IN_PLAY])
+
+    def got(self):
+        """What the page shows, and what it last told who listens."""
+        return self.browser.execute_script(SHOWN + "return {...shown().A, news: (document.getElementById('news') || {}).textContent}")
 
     def shows(self, **more):
         """Awaits that the page shows what it has to."""
-        wanted, got = {**self.wanted(), **more}, {}
-
-        def is_shown():
-            got.update(self.browser.execute_script(SHOWN))
-            return {**got, **wanted} == got
-
-        until(is_shown, 30)
-        assert {name: got.get(name) for name in wanted} == wanted
+        wanted = {**self.wanted(), **more}
+        until(lambda: {**self.got(), **wanted} == self.got(), 30)
+        assert {name: it for name, it in self.got().items() if name in wanted} == wanted
 
 
 @pytest.fixture
-def page(site, tmp_path, monkeypatch):
+def page(site, browser):
     """A page in a browser."""
-    webdriver = pytest.importorskip("selenium.webdriver", reason="no selenium: python3-selenium has it")
-    conftest.needs("websocketd", "chromium", "chromedriver")
-    monkeypatch.setenv("HOME", str(tmp_path))
-    options = webdriver.ChromeOptions()
-    for word in [*WORDS, f"--user-data-dir={tmp_path}/browser"]:
-        options.add_argument(word)
-    browser = webdriver.Chrome(service=webdriver.chrome.service.Service(conftest.shutil.which("chromedriver")), options=options)
-    browser.execute_cdp_cmd("Emulation.setDeviceMetricsOverride", {"width": 1920, "height": 1080, "deviceScaleFactor": 1, "mobile": False})
-    yield Page(site, browser)
-    browser.quit()
+    conftest.needs("websocketd")
+    return Page(site, browser)
 
 
-def test_goals(page, pytestconfig):
+def test_goals(page):
     page.shows()
     page.play()
     page.shows()
     for match, word in (11, "goal-home"), (12, "goal-away"), (11, "goal-home"):
         page.enter((match, word))
-        page.shows(news=page.score(match, "{0} {1}, {3} {2}."))
-    if pytestconfig.getoption("--picture", None):
-        half = {"format": "png", "clip": {"x": 0, "y": 0, "width": 1920, "height": 1080, "scale": 0.5}}
-        picture = page.browser.execute_cdp_cmd("Page.captureScreenshot", half)["data"]
-        pathlib.Path(pytestconfig.getoption("--picture")).write_bytes(base64.b64decode(picture))
+        page.shows(news=page.news(match))
 
 
 def test_lines_that_are_old_doubled_cut_or_foreign_and_a_page_that_is_opened_late(page):
     page.play()
     page.shows()
-    journal = (page.site.path / "evening.jsonl").read_text().split("\n")[:-1]
+    journal = (page.site.path / "a.jsonl").read_text().split("\n")[:-1]
     screens = [line for line in journal if '"reply":"screen"' in line]
     page.browser.execute_script(NOTED)
     for line in [screens[1], screens[-1], "x", "{}", '{"reply":"screen"}', "[" * 500, screens[-1][:-20], journal[-2]]:
         page.site.done("mosquitto_pub -q 1 -t ucl/a/desk -s", line)
     page.enter((11, "yellow-home"))
     page.shows()
-    assert page.browser.execute_script("return noted") == [model.version(page.matches)]
+    assert page.browser.execute_script("return noted") == [f"version {model.version(page.matches)}"]
     page.browser.refresh()
     page.shows()
 
 
-def test_what_a_screen_reader_is_told_and_letters_for_twenty_metres(page):
+def test_what_a_screen_reader_is_told(page):
     page.play()
     page.shows()
     nodes = page.browser.execute_cdp_cmd("Accessibility.getFullAXTree", {})["nodes"]
     told = [(node["role"]["value"], node.get("name", {}).get("value", "")) for node in nodes if not node.get("ignored") and "role" in node]
-    counts = {role: sum(it == role for it, _ in told) for role in ("table", "columnheader", "rowheader", "row", "heading")}
-    assert counts == {"table": 1, "columnheader": 11, "rowheader": 4, "row": 5, "heading": 2}
-    assert [name for role, name in told if role == "rowheader"] == [row[2] for row in page.wanted()["rows"]]
+    counts = {role: sum(it == role for it, _ in told) for role in ("table", "columnheader", "rowheader", "row", "heading", "list", "listitem")}
+    assert counts == {"table": 1, "columnheader": 12, "rowheader": 4, "row": 5, "heading": 1, "list": 1, "listitem": 2}
+    assert [name for role, name in told if role == "rowheader"] == [row[3] for row in page.wanted()["rows"]]
     assert ("alert", "") in told
     assert page.browser.execute_script("return document.getElementById('news').getAttribute('aria-live')") == "polite"
-    large, small, width, height = page.browser.execute_script(LETTERS)
-    assert large >= 1080 * 0.07 and small >= 1080 * 0.045 and width <= 1920 and height <= 1080
-    page.browser.execute_script(LONG_NAMES)
-    *_, width, height = page.browser.execute_script(LETTERS)
-    assert width <= 1920 and height <= 1080
 
 
 @pytest.mark.parametrize("part", ["the board", "the broker", "the server"])
@@ -158,10 +532,10 @@ def test_no_signal_where_a_part_is_gone_and_a_page_that_goes_on_by_itself(page, 
     page.shows()
     for line in lines:
         line.kill()
-    page.shows(signal="No signal")
+    page.shows(signal="No signal: no table comes")
     end = time.monotonic() + (2 * SILENCE if part == "the board" else 0)
     while time.monotonic() < end:
-        assert page.browser.execute_script(SHOWN)["signal"] == "No signal"
+        assert page.got()["signal"] == "No signal: no table comes"
         time.sleep(0.1)
     for line in lines:
         line.start()

@@ -9,7 +9,7 @@ import signal
 
 import pytest
 from conftest import EXAMPLES, command, decoded, lines_of, text_of
-from model import CLUBS, ROSTER, Style, fresh, line_of, sheet, version
+from model import CLUBS, FINISHED, ROSTER, Style, fresh, line_of, match_of, sheet, version
 from threads import History, replies_of
 
 pytestmark = pytest.mark.limit(60)
@@ -255,11 +255,57 @@ def test_evening_that_goes_on(hall, run):
     assert hall.read("more.replies") == f"1 ok 1 402 {before + 1}\n2 refused 1 stale 402\n3 ok 4 1 {before + 2}\n"
 
 
+def words_under(reporter, words):
+    """Word rows as they were, had one reporter entered all events."""
+    matches = [match_of(row.split(",")[2]) for row in words.splitlines()]
+    for match in matches:
+        match.reporter = reporter if match.number else 0
+    return sheet(matches)
+
+
+def test_evening_that_begins_from_words(hall):
+    """The board is theirs, but for who entered events: reporter 1, and reporters of the evening have numbers from 2 on, sixteen of them each time."""
+    hall.write("north.rows", "".join(up_and_down(1, 40) + up_and_down(3, 2)) + "1,40,fulltime\n12,0,kickoff\n12,1,red-away\n12,2,fulltime\n")
+    hall.write("south.rows", "".join(f"{game},{at},{event}\n" for game in (2, 5) for at, event in enumerate(["kickoff", "yellow-home", "second-yellow-home"])))
+    words = hall.held(*BOTH).output
+    for evening in range(20):
+        hall.write("next.csv", CLUBS + words)
+        hall.write("rows", f"12,{3 + evening},{('reopen', 'fulltime')[evening % 2]}\n")
+        reporters = [f"--reporter=rows=answers{evening}"] + [f"--reporter={evening}.{number}={evening}.{number}.out" for number in range(15)]
+        for number in range(15):
+            hall.write(f"{evening}.{number}", "")
+        status, after, errors = hall.held(*reporters, "--json", f"desk{evening}", clubs="next.csv")
+        assert (status, errors, hall.read(f"answers{evening}")) == (0, "", f"1 ok 12 {4 + evening} {sum(numbers_of(words)) + 1}\n")
+        assert json.loads(hall.read(f"desk{evening}").splitlines()[-1])["words"] == [row.split(",")[2] for row in after.splitlines()]
+        before, lines = words_under(1, words).splitlines(), after.splitlines()
+        assert lines[:11] == before[:11] and match_of(lines[11].split(",")[2]).reporter == 2
+        words = after
+
+
+@pytest.mark.parametrize("record, is_reachable", [
+    ({"number": 1}, True), ({"number": 2}, False), ({"number": 3}, True), ({"number": 3, "goals": [1, 1]}, True), ({"number": 2, "goals": [1, 1]}, False),
+    ({"number": 4, "goals": [1, 1]}, False), ({"number": 2, "expulsions": [0, 1]}, True), ({"number": 3, "expulsions": [0, 1]}, True),
+    ({"number": 2, "state": FINISHED}, True), ({"number": 3, "state": FINISHED}, False), ({"number": 4095, "state": FINISHED, "goals": [63, 63]}, False),
+    ({"number": 4094, "state": FINISHED, "goals": [63, 63], "yellows": [63, 63]}, True),
+    ({"number": 4093, "goals": [63, 63], "yellows": [63, 63], "expulsions": [31, 30]}, True), ({"number": 300, "yellows": [63, 63], "expulsions": [31, 31]}, True),
+])
+def test_words_that_no_events_lead_to(hall, record, is_reachable):
+    """Kick-off, full time, and each goal, yellow and expulsion take an event; what is left over comes in pairs, or one stands for a second yellow."""
+    match, matches = match_of("2001000000001001"), fresh()
+    vars(match).update(record)
+    matches[6] = match
+    hall.write("next.csv", CLUBS + sheet(matches))
+    status, output, errors = hall.held("--reporter", "/dev/null=none", clubs="next.csv")
+    told = "input refused 10: word 7\nerror: no course of events leads to this word\n"
+    assert (status, output, errors) == ((0, sheet(matches), "") if is_reachable else (3, "", told))
+
+
 @pytest.mark.parametrize("script, status, line", [
+    (CLUBS + sheet(fresh()) + "1,1,0,kickoff\n", 3, "input refused 20: row 17"), (CLUBS + sheet(fresh())[:200], 3, "input refused 20: row 13"),
     (CLUBS + "1,1,0,kick\n", 3, "input refused 20: row 5"), (CLUBS + "1,1,0,kickoff\n9,1,0,goal-home\n", 3, "input refused 20: row 6"),
     (CLUBS.replace("Bravo", ""), 3, "input refused 21: slot 2"), ("", 3, "input refused 20: row 1"),
     (None, 4, READ_FAILED.strip()), (CLUBS + "255,1,0,kickoff\n", 6, "board refused 30"),
-], ids=["a bad row", "a refused row", "a bad club", "no row", "no script", "no number left"])
+], ids=["a row after the words", "words that are cut", "a bad row", "a refused row", "a bad club", "no row", "no script", "no number left"])
 def test_fault_of_the_start(hall, script, status, line):
     """Nothing is written then."""
     hall.write("rows", "1,0,kickoff\n")
@@ -276,6 +322,7 @@ def test_fault_of_the_start(hall, script, status, line):
     "--reporter rows=replies --reporter linked=other", "--reporter clubs.csv=replies", "--reporter rows=replies --group I",
     "--reporter rows=replies --order goals", "--reporter rows=replies more.csv", "--reporter pipe=replies --reporter twin=other",
     "--reporter rows=pipe --screen twin", "--screen pipe --json twin --reporter rows=replies",
+    "--reporter rows=new --screen ./new", "--reporter rows=replies --screen new --json folder/../new", "--reporter rows=replies --screen way/new --json folder/new",
 ])
 def test_words_that_are_refused(hall, words):
     """One file, or one pipe, by two names among them. Nothing is opened then."""
@@ -285,10 +332,33 @@ def test_words_that_are_refused(hall, words):
     for name, link in (("same", "rows"), ("twin", "pipe")):
         os.symlink(link, hall.path / name)
     os.link(hall.path / "rows", hall.path / "linked")
+    os.mkdir(hall.path / "folder")
+    os.symlink("folder", hall.path / "way")
     before = sorted(os.listdir(hall.path))
     status, output, errors = hall.held(*words.split())
     assert (status, output, errors[:7], errors[-1:]) == (2, "", "error: ", "\n")
     assert (sorted(os.listdir(hall.path)), hall.read("rows"), hall.read("full")) == (before, "1,0,kickoff\n", "something\n")
+
+
+@pytest.mark.parametrize("redirected, words", [(">words", "--screen words"), ("2>told", "--reporter rows=./told"), (">all 2>&1", "--json all")])
+def test_file_of_standard_output(hall, program, redirected, words):
+    """It is refused as any file by two names is."""
+    hall.write("rows", "1,0,kickoff\n")
+    hall.write("none", "")
+    words = f'exec "$0" clubs.csv --reporter none=out {words} {redirected}'
+    assert command(["bash", "-c", words, program("ucl_evening")], cwd=hall.path).status == 2
+    assert hall.read("none") == "" and not os.path.exists(hall.path / "out")
+
+
+def test_closed_standard_streams(hall, program):
+    """No file of the evening takes their place."""
+    hall.write("rows", "1,0,kickoff\n")
+    words = 'exec "$0" clubs.csv --reporter rows=replies --reporter missing=none --screen stadium '
+    for closed, errors in ((">&-", f"reporter 2: {READ_FAILED}{WRITE_FAILED}"), ("<&- >&- 2>&-", "")):
+        assert command(["bash", "-c", words + closed, program("ucl_evening")], cwd=hall.path)[::2] == (4, errors)
+        assert hall.read("replies") == "1 ok 1 1 1\n" and len(hall.read("stadium").splitlines()) % 6 == 0
+        os.remove(hall.path / "replies")
+        os.remove(hall.path / "stadium")
 
 
 def test_reporter_at_standard_input(hall):

@@ -98,7 +98,7 @@ enum { UCLBOARD_SCHEDULED = 0, UCLBOARD_IN_PLAY = 1, UCLBOARD_ENDED = 2 };
 /* The mark of a club: none, sure of a place among the first two, sure of none. */
 enum { UCLBOARD_BLANK = 0, UCLBOARD_PLUS = 1, UCLBOARD_MINUS = 2 };
 
-/* The word of a match before its kick-off. A new board is twelve of them. */
+/* The word of a match before its kick-off. A new board is twelve of them, and not of zeros, which are words of the first layout. */
 #define UCLBOARD_SCHEDULED_WORD UINT64_C(0x2000000000000000)
 
 /* How many words a board has, how many clubs a group, and how many bytes a name at most. */
@@ -208,13 +208,15 @@ UCLBOARD_NEEDS_LOOK uclboard_status uclboard_script(const char *script, size_t s
 UCLBOARD_NEEDS_LOOK uclboard_status uclboard_text_of_status(uint32_t status, char *out, size_t out_length, size_t *length);
 
 /* A board that threads share, behind handles. A handle is a pointer that begins as NULL and then holds a pass of a board. Each call is given the
-   address of the handle. The passes of a board are shares of it: the board is there as long as one of its handles is. No call waits: a report is
-   one load and at most one exchange of a word, an enlistment at most 255 exchanges of another, a reading loads all words twice, again where another
-   thread was quicker.
+   address of the handle. The passes of a board are shares of it: the board is there as long as one of its handles is. No call waits for another
+   thread: a report is one load and at most one exchange of a word, an enlistment at most 255 exchanges of another, a reading loads all words twice,
+   again where another thread was quicker. Not in these bounds are malloc and free, and the loop by which a split and an enlistment count one handle
+   more. A reading that begins after a report has returned has its event. A board is of one process: after a fork parent and child have one each.
 
    What a caller owes: a handle that is not NULL was given by this library and not yet dropped; it is not copied; it is in one call at a time, and
-   nothing reads or writes what it points to. It may go to another thread, by that thread's start or end, by a lock, or by an atomic that is
-   sequentially consistent. Several handles of one board are used at once, each in a thread of its own. */
+   nothing reads or writes what it points to. A call takes the pass out of its variable while it runs, so no other thread reads the variable then. A
+   handle may go to another thread, by that thread's start or end, by a lock, or by an atomic, with release and acquire or stronger. Several handles
+   of one board are used at once, each in a thread of its own. */
 typedef struct uclboard_pass uclboard_pass;
 
 /* A new board, and its first pass, a reader's, in `pass`, which was NULL. Judged: UCLBOARD_IN_USE. Or UCLBOARD_OUT_OF_MEMORY. */

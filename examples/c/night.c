@@ -2,76 +2,17 @@
  *
  *     cc -std=c11 -pthread night.c -I FOLDER FOLDER/libuclboard.a -o night && ./night A < ../first_night.csv
  *
- * Reads a script as `ucl_night night` does, and writes the closing screen as it does. The library answers what the next word of a match is; the
- * loop by which a word is exchanged, and the two equal rounds by which a screen reads all twelve, stand here, and nothing is proved of them.
+ * It reads a script, and writes the closing screen, as `ucl_night night` does. The library answers the next word of a match. The loop that
+ * exchanges a word, and the two equal rounds of a reading, stand here, and nothing is proved of them.
  */
-#include "uclboard.h"
+#include "script.h"
 #include <pthread.h>
 #include <stdatomic.h>
-#include <stdio.h>
-#include <stdlib.h>
-#include <string.h>
 
-#define MOST_ROWS 4096
 #define READINGS 50
 
-typedef struct {
-    uint32_t reporter, match, expected, kind;
-} event;
-
-static const char *const kinds[] = {"kickoff",     "goal-home",          "goal-away",          "disallow-home", "disallow-away", "yellow-home",
-                                    "yellow-away", "second-yellow-home", "second-yellow-away", "red-home",      "red-away",      "fulltime",
-                                    "reopen"};
-
 static _Atomic uint64_t board[UCLBOARD_WORDS];
-static uclboard_club clubs[UCLBOARD_CLUBS];
 static uint32_t group = 'A', profile = UCLBOARD_UEFA;
-static event events[MOST_ROWS];
-static size_t events_length;
-
-static void end_with(const char *what) {
-    fprintf(stderr, "night: %s\n", what);
-    exit(1);
-}
-
-/* Ends the program where a call was not done, by the name of its status. */
-static void need(uclboard_status status) {
-    char name[UCLBOARD_NAME_ROOM] = "";
-    size_t length;
-    if (status == UCLBOARD_DONE) return;
-    if (uclboard_text_of_status(status, name, sizeof name, &length) != UCLBOARD_DONE) end_with("a status without a name");
-    end_with(name);
-}
-
-static uint32_t kind_of(const char *word) {
-    for (uint32_t kind = 0; kind < sizeof kinds / sizeof *kinds; kind++)
-        if (strcmp(kinds[kind], word) == 0) return kind;
-    return UINT32_MAX; /* the library refuses it as no kind */
-}
-
-static void read_club(const char *row) {
-    unsigned slot, coefficient;
-    char name[64];
-    if (sscanf(row, "club,%u,%63[^,],%u", &slot, name, &coefficient) != 3 || slot < 1 || slot > UCLBOARD_CLUBS) end_with("no row of a club");
-    uclboard_club *club = &clubs[slot - 1];
-    club->length = (uint32_t)strlen(name);
-    club->coefficient = coefficient;
-    memcpy(club->name, name, club->length < UCLBOARD_NAME ? club->length : UCLBOARD_NAME);
-}
-
-static void read_script(void) {
-    char row[256], word[64];
-    while (fgets(row, sizeof row, stdin)) {
-        event *next = &events[events_length];
-        if (strncmp(row, "club,", 5) == 0) {
-            read_club(row);
-        } else if (sscanf(row, "%u,%u,%u,%63[a-z-]", &next->reporter, &next->match, &next->expected, word) == 4) {
-            if (next->match < 1 || next->match > UCLBOARD_WORDS || events_length + 1 == MOST_ROWS) end_with("no row of an event");
-            next->kind = kind_of(word);
-            events_length++;
-        }
-    }
-}
 
 /* Enters an event: where another thread has changed the word in between, it is judged again on the word that is there now. */
 static uclboard_status report(const event *what) {
@@ -86,7 +27,10 @@ static uclboard_status report(const event *what) {
 
 static void *reporter(void *number) {
     for (size_t i = 0; i < events_length; i++)
-        if (events[i].reporter == *(const uint32_t *)number && report(&events[i]) > UCLBOARD_NOT_FINISHED) end_with("an event that the library does not know");
+        if (events[i].reporter == *(const uint32_t *)number) {
+            const uclboard_status status = report(&events[i]);
+            if (status > UCLBOARD_NOT_FINISHED) need(status);
+        }
     return NULL;
 }
 
@@ -115,7 +59,7 @@ static void *reader(void *unused) {
     uint32_t seen = 0;
     for (int i = 0; i < READINGS; i++) {
         uint32_t version = screen(text);
-        if (version < seen) end_with("a version has fallen");
+        if (version < seen) END_WITH(1, "a version has fallen\n");
         seen = version;
     }
     return unused;
@@ -127,11 +71,12 @@ int main(int argc, char **argv) {
     char text[UCLBOARD_SCREEN_ROOM];
     if (argc > 1) group = (unsigned char)argv[1][0];
     if (argc > 2 && strcmp(argv[2], "away-in-tie") == 0) profile = UCLBOARD_AWAY_IN_TIE;
-    if (uclboard_version() / 1000000 != UCLBOARD_VERSION_NUMBER / 1000000) end_with("another version of the library");
+    if (uclboard_version() / 1000000 != UCLBOARD_VERSION_NUMBER / 1000000) END_WITH(1, "another version of the library\n");
     for (size_t i = 0; i < UCLBOARD_WORDS; i++) atomic_init(&board[i], UCLBOARD_SCHEDULED_WORD);
-    read_script();
+    read_night();
     for (size_t i = 0; i < 2; i++)
-        if (pthread_create(&threads[i], NULL, reporter, &numbers[i]) || pthread_create(&threads[i + 2], NULL, reader, NULL)) end_with("no thread");
+        if (pthread_create(&threads[i], NULL, reporter, &numbers[i]) || pthread_create(&threads[i + 2], NULL, reader, NULL))
+            END_WITH(5, "no thread 27\n");
     for (size_t i = 0; i < 4; i++) pthread_join(threads[i], NULL);
     screen(text);
     printf("FINAL\n%s", text);

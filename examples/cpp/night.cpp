@@ -12,21 +12,15 @@
 #include <string>
 #include <vector>
 
-// What the library answers where a call is not done.
-class Refused : public std::runtime_error {
-public:
-    Refused(uclboard_status status, uint32_t told) : std::runtime_error(name_of(status)), status(status), told(told) {}
-    const uclboard_status status;
-    const uint32_t told; // the word, the row or the slot, where the status has one
-
-private:
-    static std::string name_of(uclboard_status status) {
-        std::array<char, UCLBOARD_NAME_ROOM> name;
-        std::size_t length = 0;
-        if (uclboard_text_of_status(status, name.data(), name.size(), &length) != UCLBOARD_DONE) return "status " + std::to_string(status);
-        return std::string(name.data(), length);
-    }
-};
+// Throws where a call was not done: the name of its status, and the word, the row or the slot where the status has one.
+static void need(uclboard_status status, uint32_t told) {
+    if (status == UCLBOARD_DONE) return;
+    std::array<char, UCLBOARD_NAME_ROOM> name;
+    std::size_t length = 0;
+    std::string fault = "status " + std::to_string(status);
+    if (uclboard_text_of_status(status, name.data(), name.size(), &length) == UCLBOARD_DONE) fault.assign(name.data(), length);
+    throw std::runtime_error(told != 0 ? fault + " " + std::to_string(told) : fault);
+}
 
 // A script that was played: its clubs, the twelve matches after its events, and what became of each event.
 class Night {
@@ -63,9 +57,6 @@ public:
 
 private:
     static bool ends_row(char byte) { return byte == '\n' || byte == '\r'; }
-    static void need(uclboard_status status, uint32_t told) {
-        if (status != UCLBOARD_DONE) throw Refused(status, told);
-    }
     std::array<uclboard_club, UCLBOARD_CLUBS> clubs;
     std::array<uint64_t, UCLBOARD_WORDS> words;
     std::vector<uclboard_reply> replies;
@@ -74,16 +65,17 @@ private:
 static void play(const std::string &script, char group, uint32_t profile) {
     const Night night(script);
     if (night.entered() != night.version()) throw std::logic_error("the version is not the number of events that were entered");
-    std::cout << "FINAL\n" << night.screen(group, profile);
+    const std::string screen = night.screen(group, profile);
+    std::cout << "FINAL\n" << screen;
 }
 
 int main(int argc, char **argv) {
-    const std::istreambuf_iterator<char> begin(std::cin), end;
     const bool away = argc > 2 && std::string(argv[2]) == "away-in-tie";
     try {
+        const std::istreambuf_iterator<char> begin(std::cin), end;
         play(std::string(begin, end), argc > 1 ? argv[1][0] : 'A', away ? UCLBOARD_AWAY_IN_TIE : UCLBOARD_UEFA);
-    } catch (const Refused &refused) {
-        std::cerr << "night: " << refused.what() << " " << refused.told << "\n";
+    } catch (const std::exception &fault) {
+        std::cerr << "night: " << fault.what() << "\n";
         return EXIT_FAILURE;
     }
     return EXIT_SUCCESS;

@@ -16,4 +16,7 @@ def main():
     print("FINAL\n" + board.screen(clubs, group, order), end="")
 
 
-main()
+try:
+    main()
+except uclboard.Refused as refused:
+    sys.exit(f"night: {refused}")

@@ -12,8 +12,8 @@
     reporter.report(match=1, expected=0, kind="kickoff")
     board = screen.read()
 
-The library is libuclboard.so beside this file, or what the variable UCLBOARD_LIBRARY names. What the library does not do it answers by an
-exception: `Stale`, `Finished` and the others by their names, each of them a `Refused` with its `status`.
+The library is what the variable UCLBOARD_LIBRARY names, else libuclboard.so beside this file, else the one that is installed. What the library
+does not do it answers by an exception: `Stale`, `Finished` and the others by their names, each of them a `Refused` with its `status`.
 """
 
 import ctypes as c
@@ -85,7 +85,8 @@ NAMES.update({30: "FullBoard", 59: "InUse", 60: "NoPass", 61: "NotAReader", 62: 
 EXCEPTIONS = {status: exception(name, status) for status, name in NAMES.items()}
 globals().update({raised.__name__: raised for raised in EXCEPTIONS.values()})
 
-LIBRARY = c.CDLL(os.environ.get("UCLBOARD_LIBRARY", str(pathlib.Path(__file__).resolve().parent / "libuclboard.so")))
+BESIDE = pathlib.Path(__file__).resolve().parent / "libuclboard.so"
+LIBRARY = c.CDLL(os.environ.get("UCLBOARD_LIBRARY", str(BESIDE) if BESIDE.exists() else "libuclboard.so.1"))
 NUMBERS, CLUB_ROOM, TABLE_ROOM, REPLY_ROOM = c.POINTER(c.c_uint64), c.POINTER(Club), c.POINTER(Row), c.POINTER(Reply)
 ONE, SIZE = c.POINTER(c.c_uint32), c.POINTER(c.c_size_t)
 
@@ -150,7 +151,7 @@ def clubs_of(clubs):
     """Clubs as the library takes them, each a pair of a name and a coefficient."""
     made = (Club * len(clubs))()
     for club, (name, coefficient) in zip(made, clubs):
-        text = name.encode("utf-8")
+        text = name.encode("utf-8", "surrogatepass")
         club.name, club.length, club.coefficient = text[:NAME], len(text), number(coefficient)
     return made
 

@@ -1,11 +1,13 @@
-//! A night in Rust: two reporters and two screens in threads, each with a pass of one board. The closing screen is that of `ucl_night night`.
+//! A night in Rust: two reporters and two screens in threads, each with a pass of one board. It reads a script, and writes the closing screen, as
+//! `ucl_night night` does.
 //!
 //!     cargo run --manifest-path examples/rust/Cargo.toml -- A < examples/first_night.csv
 
 use std::error::Error;
 use std::io::Read;
+use std::process::ExitCode;
 use std::thread;
-use uclboard::{Club, Kind, Pass, Profile, Refused};
+use uclboard::{Club, Kind, Pass, Profile, Refused, CLUBS};
 
 const READINGS: u32 = 50;
 
@@ -17,23 +19,24 @@ struct Event {
     kind: Kind,
 }
 
-/// The clubs and the events of a script.
-fn read(script: &str) -> Result<(Vec<Club>, Vec<Event>), Box<dyn Error>> {
-    let (mut clubs, mut events) = (Vec::new(), Vec::new());
-    for row in script.lines() {
-        let fields: Vec<&str> = row.split(',').collect();
-        match fields[..] {
-            ["club", _, name, coefficient] => clubs.push(Club::new(name, coefficient.parse()?)),
-            [reporter, game, expected, kind] => events.push(Event {
-                reporter: reporter.parse()?,
-                game: game.parse()?,
-                expected: expected.parse()?,
-                kind: Kind::named(kind).ok_or("no kind of event")?,
-            }),
-            _ => return Err("no row of a script".into()),
-        }
+/// The event of a good row, which has no quote but those around a field.
+fn event_of(row: &str) -> Result<Event, Box<dyn Error>> {
+    let row = row.replace('"', "");
+    let fields: Vec<&str> = row.split(',').collect();
+    let [reporter, game, expected, kind] = fields[..] else { return Err("no row of an event".into()) };
+    let kind = Kind::named(kind).ok_or("no kind of event")?;
+    Ok(Event { reporter: reporter.parse()?, game: game.parse()?, expected: expected.parse()?, kind })
+}
+
+/// The clubs and the events of a script, once the library has found it good: then no row has a line end within it.
+fn read(script: &[u8]) -> Result<([Club; CLUBS], Vec<Event>), Box<dyn Error>> {
+    let night = uclboard::play(script)?;
+    let rows = std::str::from_utf8(script)?.trim_start_matches('\u{feff}').split(['\r', '\n']).filter(|row| !row.is_empty());
+    let events = rows.skip(CLUBS).map(event_of).collect::<Result<Vec<Event>, _>>()?;
+    match events.iter().zip(&night.replies).find(|(event, _)| event.reporter > 2) {
+        Some((_, reply)) => Err(format!("row {} is of a reporter other than 1 and 2", reply.row).into()),
+        None => Ok((night.clubs, events)),
     }
-    Ok((clubs, events))
 }
 
 /// Enters the events of one reporter, in turn. One that the rules refuse is not entered again.
@@ -58,15 +61,15 @@ fn watch(mut pass: Pass) -> Result<bool, Refused> {
     Ok(is_whole)
 }
 
-fn main() -> Result<(), Box<dyn Error>> {
+fn night() -> Result<(), Box<dyn Error>> {
     let options: Vec<String> = std::env::args().skip(1).collect();
     let group = options.first().and_then(|word| word.chars().next()).unwrap_or('A');
     let profile = if options.get(1).is_some_and(|word| word == "away-in-tie") { Profile::AwayInTie } else { Profile::Uefa };
     if uclboard::version() / 1_000_000 != uclboard::VERSION_NUMBER / 1_000_000 {
         return Err("another version of the library".into());
     }
-    let mut script = String::new();
-    std::io::stdin().read_to_string(&mut script)?;
+    let mut script = Vec::new();
+    std::io::stdin().read_to_end(&mut script)?;
     let (clubs, events) = read(&script)?;
     let events = &events[..];
     let mut first = Pass::open()?;
@@ -91,4 +94,14 @@ fn main() -> Result<(), Box<dyn Error>> {
     })?;
     print!("FINAL\n{}", uclboard::screen(&first.read()?.words, &clubs, group, profile)?);
     Ok(())
+}
+
+fn main() -> ExitCode {
+    match night() {
+        Ok(()) => ExitCode::SUCCESS,
+        Err(fault) => {
+            eprintln!("night: {fault}");
+            ExitCode::FAILURE
+        }
+    }
 }

@@ -1,5 +1,5 @@
 -- The board of an evening as that of a legal history.
-use Rattle.std.proofs.Common.{◌≡◌, ℕ, ◌+◌, ◌-◌, ◌≤◌, ◌==◌, ◌&&◌, Bool, true, false, List, [], ◌∷◌, ◌++◌, length, Option, Some, None, refl, sym, ap, ap₂, ◌∙◌, inl, inr, append-nil, arith}
+use Rattle.std.proofs.Common.{◌≡◌, ℕ, ◌+◌, ◌≤◌, ◌==◌, ◌&&◌, Bool, true, false, List, [], ◌∷◌, ◌++◌, length, Option, Some, None, refl, sym, ap, ap₂, ◌∙◌, inl, inr, append-nil, arith}
 use Rattle.std.specs.Str.{bytes_eq}
 use Rattle.std.specs.Prelude.{All, codes, nat_le, if◌then◌else◌, Result}
 use Rattle.std.specs.List.{fold}
@@ -9,7 +9,8 @@ use Rattle.std.proofs.lemmas.List.Elements.{All-append, All-head, All-tail}
 use Rattle.ucl_word.specs.declared.event.Accepted.{Accepted}
 use Rattle.ucl_word.specs.declared.event.Kind.{Kind}
 use Rattle.ucl_word.specs.declared.refusal.Refusal.{Refusal}
-use Rattle.ucl_word.specs.Rules.{after, reply_of}
+use Rattle.ucl_word.specs.Names.{kind_named}
+use Rattle.ucl_word.specs.Rules.{reply_of}
 use Rattle.ucl_board.specs.declared.entry.Entry.{Entry}
 use Rattle.ucl_board.specs.Words.{game_at}
 use Rattle.ucl_board.specs.History.{Attempt, IsAttempt, IsLegal, after_attempt, board_after, board_of, sequential_reply}
@@ -19,7 +20,7 @@ use Rattle.ucl_order.specs.Roster.{NamedClub}
 use Rattle.ucl_runs.specs.Feed.{attempt_of, line_of_reply, reply_line}
 use Rattle.ucl_screen.specs.declared.night.NightEvent.{NightEvent}
 use Rattle.ucl_screen.specs.Numbers.{in_range, number}
-use Rattle.ucl_screen.specs.Events.{◌>>=◌, event_of, kind_of}
+use Rattle.ucl_screen.specs.Events.{◌>>=◌, event_of}
 use Rattle.ucl_screen.specs.Rows.{FourFields}
 use Rattle.ucl_command.specs.declared.options.Format.{Format}
 use Rattle.ucl_command.specs.declared.options.Format.TheVariants.{Text, Json}
@@ -68,7 +69,7 @@ parts (Some a) (Some b) (Some c) None e h = cc
 
 pub event-is_attempt : (f : FourFields) (e : NightEvent) → event_of f ≡ Some e → IsAttempt (attempt_of e)
 event-is_attempt f e h =
-    let p = parts (in_range 1 255 (number 3 f.first)) (in_range 1 12 (number 2 f.second)) (in_range 0 65535 (number 5 f.third)) (kind_of f.fourth) e h in
+    let p = parts (in_range 1 255 (number 3 f.first)) (in_range 1 12 (number 2 f.second)) (in_range 0 65535 (number 5 f.third)) (kind_named f.fourth) e h in
     (ranged 1 255 (number 3 f.first) e.reporter p.0, ranged 1 12 (number 2 f.second) e.call.game p.1)
 
 -- of all requests

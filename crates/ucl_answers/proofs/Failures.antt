@@ -2,13 +2,14 @@
 use Rattle.std.proofs.Common.{◌≡◌, ℕ, Bool, List, [], ◌∷◌, ◌++◌, take, Option, Some, refl, sym, ap, ◌∙◌, subst, append_assoc, append-nil}
 use Rattle.std.specs.Prelude.{Result, Ok, Err, IfErr, IfOk, OnOk}
 use Rattle.std.specs.Io.KnownBytes.{Appends}
-use Rattle.ucl_screen.proofs.MovedBytes.{appends-none}
+use Rattle.ucl_io.proofs.MovedBytes.{appends-none}
 use Rattle.ucl_screen.specs.declared.fault.InputFault.{InputFault}
 use Rattle.ucl_runs.specs.declared.fault.RunFault.{RunFault}
 use Rattle.ucl_runs.specs.declared.fault.RunFault.TheVariants.{Input, OutOfMemory, WriteFailed, NotOnDuty, NoThread, TooManyReporters, Strangers}
 use Rattle.ucl_runs.specs.Run.{IsStopped}
-use Rattle.ucl_answers.specs.Lines.{ended_lines}
-use Rattle.ucl_answers.specs.Output.{FailsToPut, HasPut, Waiting}
+use Rattle.ucl_io.specs.Lines.{ended_lines}
+use Rattle.ucl_io.specs.Output.{HasPut, Waiting}
+use Rattle.ucl_answers.specs.Output.{FailsToPut}
 use Rattle.ucl_answers.specs.Stepping.{EveningIsRefused, LineAsks, Moment, answers_to, ended_at, last_answers, missing_at, moment_after}
 use Rattle.ucl_answers.specs.Taking.{FailsToEnd, FailsToGive, FailsToTake, LeavesLine}
 use Rattle.ucl_answers.proofs.Moments.{answers-to-append, moment-append}
@@ -27,7 +28,7 @@ within m i bytes part rest parts =
 refused-on : (m : Moment) (xs ys : List ℕ) (fault : InputFault) → EveningIsRefused (moment_after m xs).evening fault → EveningIsRefused (moment_after m (xs ++ ys)).evening fault
 refused-on m xs ys fault h =
     let n = moment_after m xs in
-    ap (λ (k : Moment). k.evening.stage) (moment-append m xs ys) ∙ stays-refused n.evening (ended_lines n.begun ys) fault h
+    ap (λ (k : Moment). k.evening.stage) (moment-append m xs ys) ∙ stays-refused n.evening (ended_lines 258 n.begun ys) fault h
 
 -- a part was not taken, after the bytes before it
 pub take-fails : (m : Moment) (i : ℕ) (bytes part rest : List ℕ) (a b after : Waiting) (failed : Bool) (x y z : Option (List ℕ)) (f : RunFault) → bytes ≡ (take i bytes ++ part) ++ rest

@@ -9,7 +9,8 @@ use Rattle.ucl_runs.specs.declared.fault.RunFault.TheVariants.{Input, OutOfMemor
 use Rattle.ucl_runs.specs.Run.{is_read_failed}
 use Rattle.ucl_answers.specs.declared.stage.Stage.{Stage as Reached}
 use Rattle.ucl_answers.specs.declared.stage.Stage.TheVariants as held
-use Rattle.ucl_answers.specs.Lines.{ended_lines, last_lines}
+use Rattle.ucl_io.specs.Lines.{ended_lines}
+use Rattle.ucl_answers.specs.Lines.{last_lines}
 use Rattle.ucl_answers.specs.Rows.{Said, Nothing, Garbled, Row, said_on}
 use Rattle.ucl_answers.specs.Seen.{stage_seen}
 use Rattle.ucl_answers.specs.Stages.{Stage, Naming, Restoring, Open, Refused, after_club, after_row, after_word, club_said, is_word_row, missing, next_stage, opened, restored, told_row}
@@ -114,7 +115,7 @@ pub give-kind : (U : Type 0) (m : Moment) (bytes : List ℕ) (out : ℕ) (failed
     → IsFair m.evening.stage → FailsToGive m bytes out (record { failed = failed; old = x; new = y }) f → IsNoFailedRead U f
 give-kind U m bytes out failed x y (WriteFailed written) fair s = record { read = refl; kind = tt }
 give-kind U m bytes out failed x y OutOfMemory fair s = record { read = refl; kind = tt }
-give-kind U m bytes out failed x y (Input fault) fair s = beginning U fault (why-refused _ fault s.1 (fair-lines m.evening (ended_lines m.begun bytes) fair))
+give-kind U m bytes out failed x y (Input fault) fair s = beginning U fault (why-refused _ fault s.1 (fair-lines m.evening (ended_lines 258 m.begun bytes) fair))
 give-kind U m bytes out failed x y (NotOnDuty row) fair s = absurd s
 give-kind U m bytes out failed x y NoThread fair s = absurd s
 give-kind U m bytes out failed x y TooManyReporters fair s = absurd s

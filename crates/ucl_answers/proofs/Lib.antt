@@ -11,8 +11,6 @@ pub mod Failures
 pub mod FaultKinds
 pub mod Steps
 pub mod Boards
-pub mod Walks
-pub mod Wires
 pub mod JsonLines
 pub mod Uncut
 pub mod Told

@@ -3,7 +3,8 @@ use Rattle.std.proofs.Common.{◌≡◌, ℕ, ◌+◌, ◌≤◌, ◌<◌, ◌==
 use Rattle.std.proofs.lemmas.Bool.{cases_Bool}
 use Rattle.std.proofs.lemmas.Bool.Decides.{nat_tests}
 use Rattle.std.specs.Prelude.{nat_le}
-use Rattle.ucl_answers.specs.Lines.{begun_line, ended_lines, last_lines, lines_of, longer}
+use Rattle.ucl_io.specs.Lines.{begun_line, ended_lines, longer}
+use Rattle.ucl_answers.specs.Lines.{last_lines, lines_of}
 use Rattle.ucl_answers.specs.Laws.{BeginningsAreAnswered, ended}
 use Rattle.ucl_answers.specs.Rows.{said_on}
 use Rattle.ucl_answers.specs.Text.{Evening, after_lines, answer_said, answers, live_text, missing_after, next}
@@ -14,27 +15,27 @@ use Rattle.ucl_answers.specs.Stepping.{Moment, answers_to, begins, ended_at, las
 abbrev Lines : Type 0
 Lines = List (List ℕ)
 
-pub ended-end : (line bytes : List ℕ) (b : ℕ) → b ≡ 10 → ended_lines line (b ∷ bytes) ≡ line ∷ ended_lines [] bytes
+pub ended-end : (line bytes : List ℕ) (b : ℕ) → b ≡ 10 → ended_lines 258 line (b ∷ bytes) ≡ line ∷ ended_lines 258 [] bytes
 unfolding ended_lines
 ended-end line bytes b e = rw e refl
 
-pub begun-end : (line bytes : List ℕ) (b : ℕ) → b ≡ 10 → begun_line line (b ∷ bytes) ≡ begun_line [] bytes
+pub begun-end : (line bytes : List ℕ) (b : ℕ) → b ≡ 10 → begun_line 258 line (b ∷ bytes) ≡ begun_line 258 [] bytes
 unfolding begun_line
 begun-end line bytes b e = rw e refl
 
-pub ended-more : (line bytes : List ℕ) (b : ℕ) → (b == 10) ≡ false → ended_lines line (b ∷ bytes) ≡ ended_lines (longer line b) bytes
+pub ended-more : (line bytes : List ℕ) (b : ℕ) → (b == 10) ≡ false → ended_lines 258 line (b ∷ bytes) ≡ ended_lines 258 (longer 258 line b) bytes
 unfolding ended_lines
 ended-more line bytes b e = rw e refl
 
-pub begun-more : (line bytes : List ℕ) (b : ℕ) → (b == 10) ≡ false → begun_line line (b ∷ bytes) ≡ begun_line (longer line b) bytes
+pub begun-more : (line bytes : List ℕ) (b : ℕ) → (b == 10) ≡ false → begun_line 258 line (b ∷ bytes) ≡ begun_line 258 (longer 258 line b) bytes
 unfolding begun_line
 begun-more line bytes b e = rw e refl
 
-pub ended-none : (line : List ℕ) → ended_lines line [] ≡ []
+pub ended-none : (line : List ℕ) → ended_lines 258 line [] ≡ []
 unfolding ended_lines
 ended-none line = refl
 
-pub begun-none : (line : List ℕ) → begun_line line [] ≡ line
+pub begun-none : (line : List ℕ) → begun_line 258 line [] ≡ line
 unfolding begun_line
 begun-none line = refl
 
@@ -56,20 +57,20 @@ after-one e line lines = refl
 
 -- beginnings of bytes
 
-pub ended-append : (line xs ys : List ℕ) → ended_lines line (xs ++ ys) ≡ ended_lines line xs ++ ended_lines (begun_line line xs) ys
+pub ended-append : (line xs ys : List ℕ) → ended_lines 258 line (xs ++ ys) ≡ ended_lines 258 line xs ++ ended_lines 258 (begun_line 258 line xs) ys
 unfolding ended_lines begun_line
 ended-append line [] ys = refl
 ended-append line (b ∷ xs) ys = elim (cases_Bool (b == 10)) [
   | inl y ↦ rw y (ap (λ (l : Lines). line ∷ l) (ended-append [] xs ys))
-  | inr n ↦ rw n (ended-append (longer line b) xs ys)
+  | inr n ↦ rw n (ended-append (longer 258 line b) xs ys)
 ]
 
-pub begun-append : (line xs ys : List ℕ) → begun_line line (xs ++ ys) ≡ begun_line (begun_line line xs) ys
+pub begun-append : (line xs ys : List ℕ) → begun_line 258 line (xs ++ ys) ≡ begun_line 258 (begun_line 258 line xs) ys
 unfolding begun_line
 begun-append line [] ys = refl
 begun-append line (b ∷ xs) ys = elim (cases_Bool (b == 10)) [
   | inl y ↦ rw y (begun-append [] xs ys)
-  | inr n ↦ rw n (begun-append (longer line b) xs ys)
+  | inr n ↦ rw n (begun-append (longer 258 line b) xs ys)
 ]
 
 pub answers-append : (e : Evening) (a b : List (List ℕ)) → answers e (a ++ b) ≡ answers e a ++ answers (after_lines e a) b
@@ -84,16 +85,16 @@ unfolding after_lines
 after-append e [] b = refl
 after-append e (line ∷ a) b = after-append (next e (said_on e.row line)) a b
 
-ended-begun : (line xs : List ℕ) → begun_line line (xs ++ 10 ∷ []) ≡ []
+ended-begun : (line xs : List ℕ) → begun_line 258 line (xs ++ 10 ∷ []) ≡ []
 unfolding begun_line
 ended-begun line xs = begun-append line xs (10 ∷ [])
 
-lines-append : (xs ys : List ℕ) → begun_line [] xs ≡ [] → lines_of (xs ++ ys) ≡ lines_of xs ++ lines_of ys
+lines-append : (xs ys : List ℕ) → begun_line 258 [] xs ≡ [] → lines_of (xs ++ ys) ≡ lines_of xs ++ lines_of ys
 lines-append xs ys e =
     rw (ended-append [] xs ys, begun-append [] xs ys, e)
-    (append_assoc (ended_lines [] xs) (ended_lines [] ys) (last_lines (begun_line [] ys)) ∙ ap (λ (l : Lines). l ++ lines_of ys) (sym (append-nil (ended_lines [] xs))))
+    (append_assoc (ended_lines 258 [] xs) (ended_lines 258 [] ys) (last_lines (begun_line 258 [] ys)) ∙ ap (λ (l : Lines). l ++ lines_of ys) (sym (append-nil (ended_lines 258 [] xs))))
 
-text-append : (e : Evening) (xs ys : List ℕ) → begun_line [] xs ≡ [] → live_text e (xs ++ ys) ≡ live_text e xs ++ live_text (after_lines e (lines_of xs)) ys
+text-append : (e : Evening) (xs ys : List ℕ) → begun_line 258 [] xs ≡ [] → live_text e (xs ++ ys) ≡ live_text e xs ++ live_text (after_lines e (lines_of xs)) ys
 text-append e xs ys k = ap (answers e) (lines-append xs ys k) ∙ answers-append e (lines_of xs) (lines_of ys)
 
 pub beginnings : BeginningsAreAnswered
@@ -114,19 +115,19 @@ answers-to-none m = ap (answers m.evening) (ended-none m.begun) ∙ answers-none
 
 pub moment-append : (m : Moment) (xs ys : List ℕ) → moment_after m (xs ++ ys) ≡ moment_after (moment_after m xs) ys
 moment-append m xs ys =
-    let a = ap (after_lines m.evening) (ended-append m.begun xs ys) ∙ after-append m.evening (ended_lines m.begun xs) (ended_lines (begun_line m.begun xs) ys) in
+    let a = ap (after_lines m.evening) (ended-append m.begun xs ys) ∙ after-append m.evening (ended_lines 258 m.begun xs) (ended_lines 258 (begun_line 258 m.begun xs) ys) in
     let b = begun-append m.begun xs ys in moments _ _ _ _ a b
 
 pub answers-to-append : (m : Moment) (xs ys : List ℕ) → answers_to m (xs ++ ys) ≡ answers_to m xs ++ answers_to (moment_after m xs) ys
 answers-to-append m xs ys =
-    ap (answers m.evening) (ended-append m.begun xs ys) ∙ answers-append m.evening (ended_lines m.begun xs) (ended_lines (begun_line m.begun xs) ys)
+    ap (answers m.evening) (ended-append m.begun xs ys) ∙ answers-append m.evening (ended_lines 258 m.begun xs) (ended_lines 258 (begun_line 258 m.begun xs) ys)
 
 -- one byte
 
-pub longer_some : (line : List ℕ) (b : ℕ) → length line < 258 → longer line b ≡ line ++ b ∷ []
+pub longer_some : (line : List ℕ) (b : ℕ) → length line < 258 → longer 258 line b ≡ line ++ b ∷ []
 longer_some line b h = elim (cases_Bool (nat_le 258 (length line))) [ inl y ↦ absurd (grind (arith, nat_tests)) | inr n ↦ rw n refl ]
 
-pub longer_full : (line : List ℕ) (b : ℕ) → 258 ≤ length line → longer line b ≡ line
+pub longer_full : (line : List ℕ) (b : ℕ) → 258 ≤ length line → longer 258 line b ≡ line
 longer_full line b h = elim (cases_Bool (nat_le 258 (length line))) [ inl y ↦ rw y refl | inr n ↦ absurd (grind (arith, nat_tests)) ]
 
 not-ten : (b : ℕ) → (b ≡ 10 → ⊥) → (b == 10) ≡ false
@@ -139,7 +140,7 @@ answers-last e line =
 after-last : (e : Evening) (line : List ℕ) → after_lines e (line ∷ []) ≡ next e (said_on e.row line)
 after-last e line = after-one e line [] ∙ after-none (next e (said_on e.row line))
 
-one-line : (m : Moment) (c : ℕ) → c ≡ 10 → ended_lines m.begun (c ∷ []) ≡ m.begun ∷ []
+one-line : (m : Moment) (c : ℕ) → c ≡ 10 → ended_lines 258 m.begun (c ∷ []) ≡ m.begun ∷ []
 one-line m c k = ended-end m.begun [] c k ∙ ap (λ (l : Lines). m.begun ∷ l) (ended-none [])
 
 pub end-answers : (m : Moment) (c : ℕ) → c ≡ 10 → answers_to m (c ∷ []) ≡ answer_said m.evening (said_on m.evening.row m.begun)
@@ -179,33 +180,33 @@ no-last-evening m h = ap (λ (l : List ℕ). after_lines m.evening (last_lines l
 -- a whole input
 
 pub whole-text : (e : Evening) (bytes : List ℕ) → live_text e bytes ≡ answers_to (begins e) bytes ++ last_answers (moment_after (begins e) bytes)
-whole-text e bytes = answers-append e (ended_lines [] bytes) (last_lines (begun_line [] bytes))
+whole-text e bytes = answers-append e (ended_lines 258 [] bytes) (last_lines (begun_line 258 [] bytes))
 
 whole-evening : (e : Evening) (bytes : List ℕ) → after_lines e (lines_of bytes) ≡ ended_at (moment_after (begins e) bytes)
-whole-evening e bytes = after-append e (ended_lines [] bytes) (last_lines (begun_line [] bytes))
+whole-evening e bytes = after-append e (ended_lines 258 [] bytes) (last_lines (begun_line 258 [] bytes))
 
 pub whole-missing : (e : Evening) (bytes : List ℕ) → missing_after e bytes ≡ missing_at (moment_after (begins e) bytes)
 whole-missing e bytes = rw (whole-evening e bytes) refl
 
 -- how long a line and how great a row number are
 
-pub begun-short : (line bytes : List ℕ) → length line ≤ 258 → length (begun_line line bytes) ≤ 258
+pub begun-short : (line bytes : List ℕ) → length line ≤ 258 → length (begun_line 258 line bytes) ≤ 258
 unfolding begun_line
 begun-short line [] h = h
 begun-short line (b ∷ bytes) h = elim (cases_Bool (b == 10)) [
   | inl y ↦ rw y (begun-short [] bytes (omega arith))
-  | inr n ↦ rw n (begun-short (longer line b) bytes (elim (cases_Bool (nat_le 258 (length line))) [
+  | inr n ↦ rw n (begun-short (longer 258 line b) bytes (elim (cases_Bool (nat_le 258 (length line))) [
     | inl full ↦ rw full h
     | inr less ↦ rw less (let k = length-append line (b ∷ []) in grind (arith, nat_tests))
   ]))
 ]
 
-count-lines : (line bytes : List ℕ) → length (ended_lines line bytes) ≤ length bytes
+count-lines : (line bytes : List ℕ) → length (ended_lines 258 line bytes) ≤ length bytes
 unfolding ended_lines
 count-lines line [] = omega arith
 count-lines line (b ∷ bytes) = elim (cases_Bool (b == 10)) [
   | inl y ↦ rw y (let k = count-lines [] bytes in omega arith)
-  | inr n ↦ rw n (let k = count-lines (longer line b) bytes in omega arith)
+  | inr n ↦ rw n (let k = count-lines (longer 258 line b) bytes in omega arith)
 ]
 
 row-after : (e : Evening) (lines : List (List ℕ)) → (after_lines e lines).row ≡ e.row + length lines
@@ -214,4 +215,4 @@ row-after e [] = omega arith
 row-after e (line ∷ lines) = let k = row-after (next e (said_on e.row line)) lines in omega (arith, k)
 
 pub row-bound : (m : Moment) (bytes : List ℕ) → (moment_after m bytes).evening.row ≤ m.evening.row + length bytes
-row-bound m bytes = let a = row-after m.evening (ended_lines m.begun bytes) in let b = count-lines m.begun bytes in omega (arith, a, b)
+row-bound m bytes = let a = row-after m.evening (ended_lines 258 m.begun bytes) in let b = count-lines m.begun bytes in omega (arith, a, b)

@@ -1,13 +1,14 @@
 -- Texts that are put one after the other.
 use Rattle.std.proofs.Common.{◌≡◌, ℕ, ◌+◌, ◌-◌, ◌^◌, ◌≤◌, min, Bool, List, [], ◌++◌, length, Option, refl, sym, ap, ◌∙◌, subst, append_assoc, append-nil, arith, length-append}
 use Rattle.std.specs.Io.KnownBytes.{Appends}
-use Rattle.ucl_screen.proofs.MovedBytes.{appends-none, appends-then}
+use Rattle.ucl_io.proofs.MovedBytes.{appends-none, appends-then}
 use Rattle.ucl_screen.specs.declared.fault.InputFault.{InputFault}
 use Rattle.ucl_runs.specs.declared.fault.RunFault.{RunFault}
 use Rattle.ucl_runs.specs.declared.fault.RunFault.TheVariants.{Input, OutOfMemory, WriteFailed, NotOnDuty, NoThread, TooManyReporters, Strangers}
-use Rattle.ucl_runs.specs.Run.{IsStopped}
+use Rattle.ucl_runs.specs.Run.{IsStopped, SinkFails}
 use Rattle.ucl_runs.proofs.Parts.{stopped_first, stopped_second}
-use Rattle.ucl_answers.specs.Output.{FailsToPut, HasPut, SinkFails, Waiting}
+use Rattle.ucl_io.specs.Output.{HasPut, Waiting}
+use Rattle.ucl_answers.specs.Output.{FailsToPut}
 
 count-then : (before mid after a b : ℕ) → mid ≡ min (before + a) (2 ^ 64 - 1) → after ≡ min (mid + b) (2 ^ 64 - 1) → after ≡ min (before + (a + b)) (2 ^ 64 - 1)
 count-then before mid after a b p q = omega arith

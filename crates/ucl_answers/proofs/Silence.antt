@@ -2,7 +2,8 @@
 use Rattle.std.proofs.Common.{◌≡◌, ℕ, Bool, true, false, List, [], ◌∷◌, Some, refl, ap, ◌∙◌, inl, inr}
 use Rattle.std.proofs.lemmas.Bool.{cases_Bool}
 use Rattle.ucl_screen.specs.declared.fault.InputFault.{InputFault}
-use Rattle.ucl_answers.specs.Lines.{ended_lines, last_lines}
+use Rattle.ucl_io.specs.Lines.{ended_lines}
+use Rattle.ucl_answers.specs.Lines.{last_lines}
 use Rattle.ucl_answers.specs.Requests.{request_of}
 use Rattle.ucl_answers.specs.Rows.{Said, Nothing, Garbled, Row, said_on}
 use Rattle.ucl_answers.specs.Stages.{Stage, Naming, Restoring, Open, Refused, after_row, missing, next_stage, opened}
@@ -85,7 +86,7 @@ refused-shut s fault h = rw h refl
 -- nor was anything answered before
 pub shut-before : (m : Moment) (xs ys : List ℕ) (fault : InputFault) → EveningIsRefused (moment_after (moment_after m xs) ys).evening fault → answers_to m xs ≡ []
 shut-before m xs ys fault h =
-    let n = moment_after m xs in silent m.evening (ended_lines m.begun xs) (shut-lines n.evening (ended_lines n.begun ys) (refused-shut _ fault h))
+    let n = moment_after m xs in silent m.evening (ended_lines 258 m.begun xs) (shut-lines n.evening (ended_lines 258 n.begun ys) (refused-shut _ fault h))
 
 pub refused-missing : (e : Evening) (fault : InputFault) → EveningIsRefused e fault → missing e.row e.stage ≡ Some fault
 refused-missing e fault h = rw h refl
@@ -102,7 +103,7 @@ missing-before m xs ys fault h =
     let n = moment_after m xs in
     let k = moment_after n ys in
     let shut = shut-lines k.evening (last_lines k.begun) (missing-shut (ended_at k).row (ended_at k).stage fault h) in
-    silent m.evening (ended_lines m.begun xs) (shut-lines n.evening (ended_lines n.begun ys) shut)
+    silent m.evening (ended_lines 258 m.begun xs) (shut-lines n.evening (ended_lines 258 n.begun ys) shut)
 
 pub missing-last : (m : Moment) (fault : InputFault) → missing_at m ≡ Some fault → last_answers m ≡ []
 missing-last m fault h = silent m.evening (last_lines m.begun) (missing-shut (ended_at m).row (ended_at m).stage fault h)

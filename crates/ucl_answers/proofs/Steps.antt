@@ -1,27 +1,27 @@
 -- A step of an evening, and the steps of a whole run.
-use Rattle.std.proofs.Common.{◌≡◌, ℕ, zero, suc, ◌+◌, ◌-◌, ◌^◌, ◌≤◌, ◌<◌, min, Bool, true, false, List, [], ◌∷◌, ◌++◌, length, Option, Some, None, refl, sym, ap, ◌∙◌, ◌⊎◌, inl, inr, subst}
+use Rattle.std.proofs.Common.{◌≡◌, ℕ, ◌+◌, ◌-◌, ◌^◌, ◌≤◌, ◌<◌, min, Bool, true, false, List, [], ◌∷◌, ◌++◌, length, Option, Some, None, refl, sym, ap, ◌∙◌, ◌⊎◌, inl, inr, subst}
 use Rattle.std.proofs.Common.{append_assoc, append-nil, arith, length-append}
 use Rattle.std.specs.Prelude.{IfSome}
 use Rattle.std.specs.Io.KnownBytes.{Appends, Consumes, IsAtEnd, Keeps}
-use Rattle.ucl_screen.proofs.MovedBytes.{appends-none, appends-then, consumes-then}
+use Rattle.ucl_io.proofs.MovedBytes.{appends-none, appends-then, consumes-then}
 use Rattle.ucl_screen.specs.declared.fault.InputFault.{InputFault}
 use Rattle.ucl_screen.specs.declared.fault.InputFault.TheVariants.{ReadFailed}
 use Rattle.ucl_runs.specs.declared.fault.RunFault.{RunFault}
 use Rattle.ucl_runs.specs.declared.fault.RunFault.TheVariants.{Input, OutOfMemory, WriteFailed, NotOnDuty, NoThread, TooManyReporters, Strangers}
-use Rattle.ucl_runs.specs.Run.{StoppedShort}
+use Rattle.ucl_io.specs.Output.{HasPut, StoppedShort, Waiting}
 use Rattle.ucl_runs.proofs.Parts.{stopped_second}
 use Rattle.ucl_answers.specs.declared.live.Live.{Live}
 use Rattle.ucl_answers.specs.declared.live.Progress.{Progress}
 use Rattle.ucl_answers.specs.declared.live.Progress.TheVariants.{Ended, Took}
-use Rattle.ucl_answers.specs.Output.{HasPut, Waiting}
 use Rattle.ucl_answers.specs.Text.{Evening, live_text, missing_after}
-use Rattle.ucl_answers.specs.Stepping.{Device, EndsLine, EveningIsRefused, Fails, FailsAfter, HasEnded, HasEndedPromptly, IfTook, IsAt, IsPrompt, IsPromptAgain, IsTextOf, IsTurnedAway, LineAsks}
+use Rattle.ucl_io.specs.Calls.{Device, HasEnded}
+use Rattle.ucl_answers.specs.Stepping.{EndsLine, EveningIsRefused, Fails, FailsAfter, HasEndedPromptly, IsAt, IsPrompt, IsPromptAgain, IsTextOf, IsTurnedAway, LineAsks}
 use Rattle.ucl_answers.specs.Stepping.{Moment, Past, StaysPrompt, answers_to, begins, last_answers, missing_at, moment_after, past_with, reached, unread}
 use Rattle.ucl_answers.specs.Taking.{FailsToEnd, FailsToGive, GaveBefore, live_moment}
 use Rattle.ucl_answers.proofs.Moments.{answers-to-append, answers-to-none, begun-short, moment-append, moment-none, row-bound, same-moment, whole-missing, whole-text}
 use Rattle.ucl_answers.proofs.Puts.{all_out}
 use Rattle.ucl_answers.proofs.Silence.{missing-before, shut-before}
-use Rattle.ucl_answers.proofs.Wires.{ended, ended-since}
+use Rattle.ucl_io.proofs.Calls.{ended, ended-since}
 
 -- where a prompt evening is
 pub prompt-moment : (past : Past) (live : Live) (taken : Option (List ℕ)) → IsPrompt past live taken → live_moment live ≡ moment_after (begins past.start) past.bytes

@@ -1,17 +1,15 @@
 -- The members of an answer in JSON say what it says as text.
-use Rattle.std.proofs.Common.{◌≡◌, ℕ, zero, suc, ◌+◌, ◌-◌, ◌≤◌, ◌<◌, ℤ, pos, negsuc, ◌-ℤ◌, Bool, true, false, List, [], ◌∷◌, ◌++◌, codes, Some}
+use Rattle.std.proofs.Common.{◌≡◌, ℕ, zero, suc, ◌+◌, ◌-◌, ◌≤◌, ◌<◌, ℤ, pos, negsuc, ◌-ℤ◌, Bool, true, false, List, [], ◌∷◌, ◌++◌, codes, Option, None, Some}
 use Rattle.std.proofs.Common.{refl, sym, ap, ◌∙◌, append-nil, arith, cond, le-leb, ltb}
 use Rattle.std.specs.Prelude.{Result, Ok, Err, decimal, flat_map}
-use Rattle.std.proofs.lemmas.Fmt.{decimal_digit}
 use Rattle.std.proofs.lemmas.List.{append_assoc}
 use Rattle.itoa.proofs.Decimal.{decimal_two, pair}
 use Rattle.std.proofs.lemmas.Bool.{lt-leb, ltb-false, ltb-true}
-use Rattle.serde_json.specs.Data.{number}
 use Rattle.serde_json.specs.Find.{as_integer, of_integer}
 use Rattle.serde_json.proofs.OnLiterals.{serde_json_on_literals}
 use Rattle.ucl_word.specs.declared.event.Accepted.{Accepted}
 use Rattle.ucl_word.specs.declared.refusal.Refusal.{Refusal}
-use Rattle.ucl_word.specs.declared.refusal.Refusal.TheVariants.{Stale, Finished, NotFinished, NotStarted, AlreadyStarted, NumberFull, NoGoal, NoCaution, LimitReached}
+use Rattle.ucl_word.specs.Names.{found_of, found_text, refusal_code, refusal_name}
 use Rattle.ucl_board.specs.Words.{version_of}
 use Rattle.ucl_order.specs.declared.mark.Mark.{Mark}
 use Rattle.ucl_order.specs.declared.mark.Mark.TheVariants.{Plus, Minus, Blank}
@@ -23,7 +21,7 @@ use Rattle.ucl_runs.specs.Feed.{line_of_reply, word_lines}
 use Rattle.ucl_runs.specs.Lines.{accepted_line}
 use Rattle.ucl_screen.specs.Lines.{difference_text, mark_text, place_line}
 use Rattle.ucl_screen.specs.Screen.{row_line, screen_text}
-use Rattle.ucl_json.specs.Values.{accepted_value, bad_row_value, coded_value, mark_name, place_items, place_value, refused_value, reply_value, screen_value, stale_value, word_items, words_value}
+use Rattle.ucl_json.specs.Values.{accepted_value, bad_row_value, mark_name, place_items, place_value, refused_by, reply_value, screen_value, word_items, words_value}
 use Rattle.ucl_answers.specs.Members.{mark_column, place_line_of, place_lines_of, signed_text, text_told, word_lines_of}
 use Rattle.ucl_answers.specs.Text.{bad_line}
 use Rattle.ucl_answers.specs.Laws.{JsonSaysTheSame, RaisesVersion}
@@ -35,53 +33,26 @@ accepted : (row game event_number : ℕ) (profile : Profile) (board : List ℕ) 
 unfolding accepted_value text_told serde_json_on_literals
 accepted row game event_number profile board clubs group = refl
 
--- three parts after a first one, together
-together : (front a b c : List ℕ) → front ++ a ++ b ++ c ≡ front ++ (a ++ b ++ c)
-together front a b c = ap (λ (l : List ℕ). l ++ c) (append_assoc front a b) ∙ append_assoc front (a ++ b) c
+-- parts that are told one by one, and together
+told-parts : (front code space name found end : List ℕ) → front ++ code ++ space ++ name ++ found ++ end ≡ front ++ (code ++ space ++ name ++ found) ++ end
+told-parts front code space name found end = simp append_assoc
 
-coded : (row code : ℕ) (name spelt : List ℕ) → decimal code ≡ spelt
-    → text_told (coded_value row code name) ≡ Some (decimal row ++ codes " refused " ++ (spelt ++ codes " " ++ name) ++ codes "\n")
+refused : (row code : ℕ) (name : List ℕ) (found : Option ℕ)
+    → text_told (refused_by row code name found) ≡ Some (decimal row ++ codes " refused " ++ (decimal code ++ codes " " ++ name ++ found_text found) ++ codes "\n")
 unfolding text_told serde_json_on_literals
-coded row code name spelt e =
-    ap (λ (l : List ℕ). Some (decimal row ++ codes " refused " ++ l ++ codes " " ++ name ++ [] ++ codes "\n")) e
-    ∙ ap (λ (l : List ℕ). Some (l ++ codes "\n"))
-    (append-nil (decimal row ++ codes " refused " ++ spelt ++ codes " " ++ name) ∙ together (decimal row ++ codes " refused ") spelt (codes " ") name)
-
--- a name and a number after it, as parts of a line
-stale-parts : (front spelt found : List ℕ) → front ++ spelt ++ codes " " ++ codes "stale" ++ (codes " " ++ found) ≡ front ++ (spelt ++ codes " stale " ++ found)
-stale-parts front spelt found =
-    sym (append_assoc (front ++ spelt ++ codes " " ++ codes "stale") (codes " ") found)
-    ∙ ap (λ (l : List ℕ). l ++ found)
-    (append_assoc (front ++ spelt ++ codes " ") (codes "stale") (codes " ") ∙ append_assoc (front ++ spelt) (codes " ") (codes "stale" ++ codes " "))
-    ∙ together front spelt (codes " stale ") found
-
-stale : (row found : ℕ) (spelt : List ℕ) → decimal 1 ≡ spelt
-    → text_told (stale_value row found) ≡ Some (decimal row ++ codes " refused " ++ (spelt ++ codes " stale " ++ decimal found) ++ codes "\n")
-unfolding text_told serde_json_on_literals
-stale row found spelt e =
-    ap (λ (l : List ℕ). Some (decimal row ++ codes " refused " ++ l ++ codes " " ++ codes "stale" ++ (codes " " ++ decimal found) ++ codes "\n")) e
-    ∙ ap (λ (l : List ℕ). Some (l ++ codes "\n")) (stale-parts (decimal row ++ codes " refused ") spelt (decimal found))
-
-refused : (row game before : ℕ) (refusal : Refusal) → text_told (refused_value row refusal) ≡ Some (line_of_reply row game before (Err refusal))
-refused row game before (Stale found) = stale row found (49 ∷ []) (decimal_digit 1 (omega arith))
-refused row game before Finished = coded row 2 (codes "finished") (50 ∷ []) (decimal_digit 2 (omega arith))
-refused row game before NotStarted = coded row 3 (codes "not-started") (51 ∷ []) (decimal_digit 3 (omega arith))
-refused row game before AlreadyStarted = coded row 4 (codes "already-started") (52 ∷ []) (decimal_digit 4 (omega arith))
-refused row game before NumberFull = coded row 5 (codes "number-full") (53 ∷ []) (decimal_digit 5 (omega arith))
-refused row game before NoGoal = coded row 6 (codes "no-goal") (54 ∷ []) (decimal_digit 6 (omega arith))
-refused row game before NoCaution = coded row 7 (codes "no-caution") (55 ∷ []) (decimal_digit 7 (omega arith))
-refused row game before LimitReached = coded row 8 (codes "limit-reached") (56 ∷ []) (decimal_digit 8 (omega arith))
-refused row game before NotFinished = coded row 9 (codes "not-finished") (57 ∷ []) (decimal_digit 9 (omega arith))
+refused row code name None = ap Some (told-parts (decimal row ++ codes " refused ") (decimal code) (codes " ") name [] (codes "\n"))
+refused row code name (Some found) = ap Some (told-parts (decimal row ++ codes " refused ") (decimal code) (codes " ") name (codes " " ++ decimal found) (codes "\n"))
 
 replied : (row : ℕ) (profile : Profile) (board : List ℕ) (clubs : List NamedClub) (group game before : ℕ) (reply : Result Accepted Refusal) → RaisesVersion reply before board
     → text_told (reply_value row game reply profile board clubs group) ≡ Some (line_of_reply row game before reply)
 replied row profile board clubs group game before (Ok a) h =
     accepted row game a.number profile board clubs group ∙ ap (λ (version : ℕ). Some (accepted_line row game a.number version)) h
-replied row profile board clubs group game before (Err refusal) h = refused row game before refusal
+replied row profile board clubs group game before (Err refusal) h = refused row (refusal_code refusal) (refusal_name refusal) (found_of refusal)
 
 bad : (row : ℕ) → text_told (bad_row_value row) ≡ Some (bad_line row)
 bad row =
-    coded row 20 (codes "bad-row") (pair 20) (decimal_two 20 (omega arith) (omega arith))
+    refused row 20 (codes "bad-row") None
+    ∙ ap (λ (number : List ℕ). Some (decimal row ++ codes " refused " ++ (number ++ codes " " ++ codes "bad-row" ++ []) ++ codes "\n")) (decimal_two 20 (omega arith) (omega arith))
     ∙ ap Some (append_assoc (decimal row ++ codes " refused ") (codes "20 bad-row") (codes "\n") ∙ append_assoc (decimal row) (codes " refused ") (codes "20 bad-row\n"))
 
 -- ---- words

@@ -3,7 +3,8 @@ use Rattle.std.proofs.Common.{◌≡◌, ℕ, ◌+◌, ◌-◌, ◌≤◌, ◌<�
 use Rattle.std.specs.Prelude.{⊤, ◌⊎◌, nat_le}
 use Rattle.std.proofs.lemmas.Bool.{cases_Bool, lt-leb}
 use Rattle.std.proofs.lemmas.Bool.Decides.{nat_tests}
-use Rattle.ucl_answers.specs.Lines.{begun_line, ended_lines, last_lines, lines_of, longer}
+use Rattle.ucl_io.specs.Lines.{begun_line, ended_lines, longer}
+use Rattle.ucl_answers.specs.Lines.{last_lines, lines_of}
 use Rattle.ucl_answers.specs.UncutLines.{uncut_after, uncut_lines}
 use Rattle.ucl_answers.specs.Rows.{Garbled, fits, said_by_text, said_on}
 use Rattle.ucl_answers.specs.Text.{Evening, after_lines, answer_said, answers, next}
@@ -16,7 +17,7 @@ Alike line whole = (line ≡ whole) ⊎ ((258 ≤ length line) × (258 ≤ lengt
 longer-by : (line : List ℕ) (b : ℕ) → length (line ++ b ∷ []) ≡ length line + 1
 longer-by line b = length-append line (b ∷ [])
 
-pub one-more : (line whole : List ℕ) (b : ℕ) → Alike line whole → Alike (longer line b) (whole ++ b ∷ [])
+pub one-more : (line whole : List ℕ) (b : ℕ) → Alike line whole → Alike (longer 258 line b) (whole ++ b ∷ [])
 one-more line whole b (inl e) = elim (cases_Bool (nat_le 258 (length line))) [
   | inl full ↦ rw full (let h : 258 ≤ length line = grind (arith, nat_tests) in
       let k : length line ≡ length whole = ap length e in let m = longer-by whole b in inr (h, omega (arith, h, k, m)))
@@ -59,12 +60,12 @@ last-alike [] (c ∷ whole) (inr (p, q)) = absurd (omega (arith, p))
 last-alike (b ∷ line) [] (inl e) = cc
 last-alike (b ∷ line) [] (inr (p, q)) = absurd (omega (arith, q))
 
-lines-alike : (line whole bytes : List ℕ) → Alike line whole → AllAlike (ended_lines line bytes ++ last_lines (begun_line line bytes)) (uncut_after whole bytes)
+lines-alike : (line whole bytes : List ℕ) → Alike line whole → AllAlike (ended_lines 258 line bytes ++ last_lines (begun_line 258 line bytes)) (uncut_after whole bytes)
 unfolding ended_lines begun_line uncut_after
 lines-alike line whole [] h = last-alike line whole h
 lines-alike line whole (b ∷ bytes) h = elim (cases_Bool (b == 10)) [
   | inl y ↦ rw y (h, lines-alike [] [] bytes (inl refl))
-  | inr n ↦ rw n (lines-alike (longer line b) (whole ++ b ∷ []) bytes (one-more line whole b h))
+  | inr n ↦ rw n (lines-alike (longer 258 line b) (whole ++ b ∷ []) bytes (one-more line whole b h))
 ]
 
 same-answers : (e : Evening) (lines wholes : List (List ℕ)) → AllAlike lines wholes → answers e lines ≡ answers e wholes

@@ -5,9 +5,10 @@ use Rattle.std.proofs.Math.Seq.{take-add, take-append_seam}
 use Rattle.std.proofs.lemmas.List.{length-drop, take-append-drop, take_more}
 use Rattle.ucl_runs.specs.declared.fault.RunFault.{RunFault}
 use Rattle.ucl_runs.specs.declared.fault.RunFault.TheVariants.{Input, OutOfMemory, WriteFailed, NotOnDuty, NoThread, TooManyReporters, Strangers}
-use Rattle.ucl_answers.specs.Lines.{begun_line, ended_lines, longer}
-use Rattle.ucl_answers.specs.Output.{FailsToPut, Waiting}
-use Rattle.ucl_answers.specs.Reading.{HasNoFeed, IsFirstLine, IsLineEnd}
+use Rattle.ucl_io.specs.Output.{Waiting}
+use Rattle.ucl_answers.specs.Output.{FailsToPut}
+use Rattle.ucl_io.specs.Lines.{HasNoFeed, begun_line, ended_lines, longer}
+use Rattle.ucl_answers.specs.Reading.{IsFirstLine, IsLineEnd}
 use Rattle.ucl_answers.specs.Rows.{Said, said_by_text, said_on}
 use Rattle.ucl_answers.specs.Text.{Evening, after_lines, answer_said, answers, next}
 use Rattle.ucl_answers.specs.Stepping.{AsksForMemory, EveningIsRefused, LineAsks, Moment, answers_to, moment_after}
@@ -32,17 +33,17 @@ pub no-feed-all : (text : List ℕ) → NoFeedIn text (length text) → HasNoFee
 no-feed-all [] h = tt
 no-feed-all (b ∷ text) h = (h 0 (omega arith), no-feed-all text (λ k l e. h (suc k) (omega arith) e))
 
-no-ended : (line bytes : List ℕ) → HasNoFeed bytes → ended_lines line bytes ≡ []
+no-ended : (line bytes : List ℕ) → HasNoFeed bytes → ended_lines 258 line bytes ≡ []
 no-ended line [] h = ended-none line
-no-ended line (b ∷ bytes) h = ended-more line bytes b (ne_eqb b 10 h.0) ∙ no-ended (longer line b) bytes h.1
+no-ended line (b ∷ bytes) h = ended-more line bytes b (ne_eqb b 10 h.0) ∙ no-ended (longer 258 line b) bytes h.1
 
-begun-all : (line bytes : List ℕ) → HasNoFeed bytes → begun_line line bytes ≡ fold longer line bytes
+begun-all : (line bytes : List ℕ) → HasNoFeed bytes → begun_line 258 line bytes ≡ fold (longer 258) line bytes
 begun-all line [] h = begun-none line
-begun-all line (b ∷ bytes) h = begun-more line bytes b (ne_eqb b 10 h.0) ∙ begun-all (longer line b) bytes h.1
+begun-all line (b ∷ bytes) h = begun-more line bytes b (ne_eqb b 10 h.0) ∙ begun-all (longer 258 line b) bytes h.1
 
 -- the moment with these bytes more of the line that has begun
 abbrev pub with_bytes : Moment → List ℕ → Moment
-with_bytes m bytes = record { evening = m.evening; begun = fold longer m.begun bytes }
+with_bytes m bytes = record { evening = m.evening; begun = fold (longer 258) m.begun bytes }
 
 pub kept-answers : (m : Moment) (bytes : List ℕ) → HasNoFeed bytes → answers_to m bytes ≡ []
 kept-answers m bytes h = ap (answers m.evening) (no-ended m.begun bytes h) ∙ answers-none m.evening
@@ -66,7 +67,7 @@ rest-answers m bytes i h =
 
 -- what the line says that ends with them
 abbrev pub said_with : Moment → List ℕ → Said
-said_with m front = said_on m.evening.row (fold longer m.begun front)
+said_with m front = said_on m.evening.row (fold (longer 258) m.begun front)
 
 pub line-answers : (m : Moment) (bytes : List ℕ) (e : IsLineEnd bytes) → answers_to m bytes ≡ answer_said m.evening (said_with m e.front)
 line-answers m bytes e =
@@ -85,14 +86,14 @@ line-begun m bytes e = ap (λ (k : Moment). k.begun) (line-moment m bytes e) ∙
 
 -- it lies whole in the bytes
 
-all-alike : (line whole front : List ℕ) → Alike line whole → Alike (fold longer line front) (whole ++ front)
+all-alike : (line whole front : List ℕ) → Alike line whole → Alike (fold (longer 258) line front) (whole ++ front)
 all-alike line whole [] h = rw (append-nil whole) h
-all-alike line whole (b ∷ front) h = rw (← append_assoc whole (b ∷ []) front) (all-alike (longer line b) (whole ++ b ∷ []) front (one-more line whole b h))
+all-alike line whole (b ∷ front) h = rw (← append_assoc whole (b ∷ []) front) (all-alike (longer 258 line b) (whole ++ b ∷ []) front (one-more line whole b h))
 
 pub whole-said : (m : Moment) (bytes : List ℕ) (e : IsLineEnd bytes) → m.begun ≡ [] → said_by_text m.evening.row bytes ≡ said_with m e.front
 whole-said m bytes e none =
-    let kept = same-said m.evening.row (fold longer [] e.front) e.front (all-alike [] [] e.front (inl refl)) in
-    ap (said_by_text m.evening.row) e.whole ∙ sym kept ∙ ap (λ (l : List ℕ). said_on m.evening.row (fold longer l e.front)) (sym none)
+    let kept = same-said m.evening.row (fold (longer 258) [] e.front) e.front (all-alike [] [] e.front (inl refl)) in
+    ap (said_by_text m.evening.row) e.whole ∙ sym kept ∙ ap (λ (l : List ℕ). said_on m.evening.row (fold (longer 258) l e.front)) (sym none)
 
 -- without the line feed
 

@@ -3,6 +3,7 @@ use Rattle.std.specs.Prelude.{ℕ, ◌+◌, ℤ, pos, negsuc, if◌then◌else�
 use Rattle.std.specs.Str.{bytes_eq}
 use Rattle.serde_json.specs.Data.{Data, Items, item, no_items}
 use Rattle.serde_json.specs.Find.{as_array, as_integer, as_number, as_str, as_u64, get}
+use Rattle.ucl_word.specs.Names.{found_text}
 use Rattle.ucl_runs.specs.Lines.{accepted_line}
 use Rattle.ucl_screen.specs.Events.{◌>>=◌}
 use Rattle.ucl_screen.specs.Lines.{header, left, right}
@@ -31,17 +32,12 @@ accepted_line_of value = do
   version ← number_of_member (codes "version") value
   Some (accepted_line row game event_number version)
 
--- the number that was found, where it is told
-abbrev pub found_number : Option ℕ → List ℕ
-found_number None = []
-found_number (Some found) = codes " " ++ decimal found
-
 abbrev pub refused_line_of : Data → Option (List ℕ)
 refused_line_of value = do
   row ← number_of_member (codes "row") value
   code ← number_of_member (codes "code") value
   name ← text_of_member (codes "name") value
-  Some (decimal row ++ codes " refused " ++ decimal code ++ codes " " ++ name ++ found_number (number_of_member (codes "number") value) ++ codes "\n")
+  Some (decimal row ++ codes " refused " ++ decimal code ++ codes " " ++ name ++ found_text (number_of_member (codes "number") value) ++ codes "\n")
 
 -- ---- words, of which the first is that of this match
 

@@ -1,11 +1,10 @@
 -- What waits to be given to a sink.
-use Rattle.std.specs.Prelude.{◌≡◌, ℕ, ◌+◌, ◌-◌, ◌^◌, min, Bool, true, List, ◌++◌, length, Option}
-use Rattle.std.specs.Io.KnownBytes.{Appends}
+use Rattle.std.specs.Prelude.{◌≡◌, ℕ, Bool, List, ◌++◌, Option}
 use Rattle.ucl_screen.specs.declared.fault.InputFault.{InputFault}
-use Rattle.ucl_screen.specs.declared.stream.Sink as writes
+use Rattle.ucl_io.specs.declared.stream.Sink as writes
 use Rattle.ucl_runs.specs.declared.fault.RunFault.{RunFault}
 use Rattle.ucl_runs.specs.declared.fault.RunFault.TheVariants.{Input, OutOfMemory, WriteFailed}
-use Rattle.ucl_runs.specs.Run.{StoppedShort}
+use Rattle.ucl_io.specs.Output.{StoppedShort, Waiting}
 
 -- a sink over a call: whether it has failed by its end, and what it had taken before and has taken then, where that is known
 pub record SinkChange : Type 0 where
@@ -16,26 +15,9 @@ pub record SinkChange : Type 0 where
 abbrev pub sink_change : {W : Type 0} → writes.Ghosts W → W → W → SinkChange
 sink_change sink before after = record { failed = sink.failed after; old = sink.taken before; new = sink.taken after }
 
--- what is held back, and how many bytes went out before
-pub record Waiting : Type 0 where
-  pub held : List ℕ
-  pub out : ℕ
-
--- a text was put after what was held: of what was held and the text a first part went out, and the rest is held
-pub record HasPut (before after : Waiting) (old new : Option (List ℕ)) (text : List ℕ) : Type 0 where
-  pub given : List ℕ
-  pub went : Appends old new given
-  pub rest : given ++ after.held ≡ before.held ++ text
-  pub told : after.out ≡ min (before.out + length given) (2 ^ 64 - 1)
-
 -- a text was not put: the sink failed in it; or there was no memory for it, which it asks for, or it is refused, and nothing was done
 abbrev pub FailsToPut : Waiting → Waiting → SinkChange → List ℕ → Type 0 → (InputFault → Type 0) → RunFault → Type 0
 FailsToPut before after sink text Asks Refuses (WriteFailed written) = StoppedShort before.out sink.failed sink.old sink.new (before.held ++ text) written
 FailsToPut before after sink text Asks Refuses OutOfMemory = (after ≡ before) × (sink.new ≡ sink.old) × Asks
 FailsToPut before after sink text Asks Refuses (Input fault) = (after ≡ before) × (sink.new ≡ sink.old) × Refuses fault
 FailsToPut before after sink text Asks Refuses _ = ⊥
-
--- a failed write is told only where the sink has failed; after any other fault the sink is as it was in this
-abbrev pub SinkFails : Bool → Bool → RunFault → Type 0
-SinkFails failed failed2 (WriteFailed written) = failed2 ≡ true
-SinkFails failed failed2 _ = failed2 ≡ failed

@@ -10,6 +10,7 @@ use Rattle.csv.specs.declared.parser.State.TheVariants as st
 use Rattle.csv.specs.declared.parser.Action.{Action}
 use Rattle.csv.specs.declared.parser.Action.TheVariants as act
 use Rattle.ucl_screen.specs.Rows.{Fields as Row, four_of}
+use Rattle.ucl_io.specs.Lines.{HasNoFeed}
 use Rattle.ucl_answers.specs.Rows.{Said, of_row}
 use Rattle.ucl_answers.specs.Rows as said
 use Rattle.ucl_answers.specs.declared.row.Stand.{Stand}
@@ -19,11 +20,6 @@ use Rattle.ucl_answers.specs.declared.row.Deed.TheVariants.{Copy, Skip, EndField
 use Rattle.ucl_answers.specs.declared.row.Found.{Found}
 use Rattle.ucl_answers.specs.declared.row.Found.TheVariants.{Nothing, One, More}
 use Rattle.ucl_answers.specs.declared.row.Fields.{Fields}
-
--- none of the bytes is a line feed
-abbrev pub HasNoFeed : List ℕ → Type 0
-HasNoFeed [] = ⊤
-HasNoFeed (b ∷ bytes) = (b ≡ 10 → ⊥) × HasNoFeed bytes
 
 -- bytes with which a line ends: their last is a line feed, and no other
 pub record IsLineEnd (bytes : List ℕ) : Type 0 where

@@ -1,5 +1,5 @@
 -- An evening between two bytes, and what is left of it where it fails.
-use Rattle.std.specs.Prelude.{◌≡◌, ◌⊎◌, ⊤, ℕ, ◌+◌, ◌-◌, ◌^◌, min, Bool, true, false, List, [], ◌∷◌, ◌++◌, length, Option, Some, None, IfSome}
+use Rattle.std.specs.Prelude.{◌≡◌, ◌⊎◌, ⊤, ℕ, ◌+◌, ◌-◌, ◌^◌, min, true, false, List, [], ◌∷◌, ◌++◌, length, Option, Some, None}
 use Rattle.std.specs.Result.{is_ok}
 use Rattle.std.specs.Io.KnownBytes.{Appends, Consumes, IsAtEnd}
 use Rattle.ucl_word.specs.Rules.{reply_of}
@@ -9,7 +9,7 @@ use Rattle.ucl_screen.specs.declared.fault.InputFault.TheVariants.{ReadFailed}
 use Rattle.ucl_screen.specs.declared.fault.InputFault.TheVariants as input
 use Rattle.ucl_runs.specs.declared.fault.RunFault.{RunFault}
 use Rattle.ucl_runs.specs.declared.fault.RunFault.TheVariants.{Input, OutOfMemory, WriteFailed}
-use Rattle.ucl_runs.specs.Run.{StoppedShort}
+use Rattle.ucl_io.specs.Output.{StoppedShort}
 use Rattle.ucl_answers.specs.declared.live.Live.{Live}
 use Rattle.ucl_answers.specs.declared.live.Progress.{Progress}
 use Rattle.ucl_answers.specs.declared.live.Progress.TheVariants.{Took, Ended}
@@ -17,8 +17,9 @@ use Rattle.ucl_command.specs.declared.options.Format.TheVariants.{Json}
 use Rattle.ucl_command.specs.declared.live.LiveArgs.{LiveArgs}
 use Rattle.ucl_answers.specs.declared.request.Request.{Request}
 use Rattle.ucl_answers.specs.declared.request.Request.TheVariants.{Bad, Event, Screen, Words}
-use Rattle.ucl_answers.specs.declared.wire.Wire.{Wire}
-use Rattle.ucl_answers.specs.Lines.{begun_line, ended_lines, last_lines}
+use Rattle.ucl_io.specs.Calls.{Device, HasEnded}
+use Rattle.ucl_io.specs.Lines.{begun_line, ended_lines}
+use Rattle.ucl_answers.specs.Lines.{last_lines}
 use Rattle.ucl_answers.specs.Rows.{Said, Nothing, Garbled, Row, said_on}
 use Rattle.ucl_answers.specs.Requests.{request_of}
 use Rattle.ucl_answers.specs.Seen.{evening_seen}
@@ -35,11 +36,11 @@ abbrev pub begins : Evening → Moment
 begins e = record { evening = e; begun = [] }
 
 abbrev pub moment_after : Moment → List ℕ → Moment
-moment_after m bytes = record { evening = after_lines m.evening (ended_lines m.begun bytes); begun = begun_line m.begun bytes }
+moment_after m bytes = record { evening = after_lines m.evening (ended_lines 258 m.begun bytes); begun = begun_line 258 m.begun bytes }
 
 -- the answers to the lines that end in these bytes
 abbrev pub answers_to : Moment → List ℕ → List ℕ
-answers_to m bytes = answers m.evening (ended_lines m.begun bytes)
+answers_to m bytes = answers m.evening (ended_lines 258 m.begun bytes)
 
 -- where the input ends here, a last line without an end is answered too
 abbrev pub last_answers : Moment → List ℕ
@@ -128,21 +129,6 @@ pub record IsPrompt (past : Past) (live : Live) (taken : Option (List ℕ)) : Ty
   pub at : IsAt (reached past.start past.bytes) live
   pub answered : Appends past.first taken (answers_to (begins past.start) past.bytes)
 
--- a device for both ways as a run leaves it: what its source has left and its sink has taken, where these are known, and which has failed
-pub record Device : Type 0 where
-  pub left : Option (List ℕ)
-  pub source_failed : Bool
-  pub taken : Option (List ℕ)
-  pub sink_failed : Bool
-
-abbrev pub device : {S W : Type 0} → (S → Option (List ℕ)) → (S → Bool) → (W → Option (List ℕ)) → (W → Bool) → Wire S W → Device
-device left source_failed taken sink_failed wire = record {
-  left = left wire.source;
-  source_failed = source_failed wire.source;
-  taken = taken wire.sink;
-  sink_failed = sink_failed wire.sink;
-}
-
 -- it took bytes, and is prompt again
 pub record IsPromptAgain (past : Past) (old new : Device) (live : Live) : Type 0 where
   pub bytes : List ℕ
@@ -175,10 +161,6 @@ IsOfEvening (Input fault) = ⊤
 IsOfEvening OutOfMemory = ⊤
 IsOfEvening (WriteFailed written) = ⊤
 IsOfEvening _ = ⊥
-
--- no byte is left of a source, where its bytes were known at first
-abbrev pub HasEnded : Option (List ℕ) → Option (List ℕ) → Type 0
-HasEnded left left2 = IfSome left (λ _. left2 ≡ Some [])
 
 -- the text that the sink failed in: the answers to the bytes that were taken, or these and that to a last line without an end
 abbrev pub IsTextOf : Moment → List ℕ → Option (List ℕ) → Option (List ℕ) → List ℕ → Type 0

@@ -1,17 +1,18 @@
 -- What taking bytes comes to where it fails.
-use Rattle.std.specs.Prelude.{◌≡◌, ◌⊎◌, ℕ, ◌^◌, ◌<◌, Bool, List, [], ◌∷◌, ◌++◌, length, Option, Some}
+use Rattle.std.specs.Prelude.{◌≡◌, ◌⊎◌, ℕ, ◌^◌, ◌<◌, List, [], ◌∷◌, ◌++◌, length, Option, Some}
 use Rattle.std.specs.Io.KnownBytes.{Appends, Consumes}
 use Rattle.ucl_screen.specs.declared.fault.InputFault.TheVariants.{TooLong}
 use Rattle.ucl_runs.specs.declared.fault.RunFault.{RunFault}
 use Rattle.ucl_runs.specs.declared.fault.RunFault.TheVariants.{Input, OutOfMemory, WriteFailed}
-use Rattle.ucl_runs.specs.Run.{StoppedShort}
+use Rattle.ucl_io.specs.Output.{HasPut, StoppedShort, Waiting}
 use Rattle.ucl_answers.specs.declared.desk.Desk.{Desk}
 use Rattle.ucl_answers.specs.declared.evening.Evening.{Evening as Held}
 use Rattle.ucl_answers.specs.declared.live.Live.{Live}
-use Rattle.ucl_answers.specs.Output.{HasPut, SinkChange, Waiting}
+use Rattle.ucl_answers.specs.Output.{SinkChange}
 use Rattle.ucl_answers.specs.Seen.{evening_seen}
 use Rattle.ucl_answers.specs.Text.{Evening}
-use Rattle.ucl_answers.specs.Stepping.{Device, EveningIsRefused, Fails, LineAsks, Moment, answers_to, begins, last_answers, missing_at, moment_after, unread}
+use Rattle.ucl_io.specs.Calls.{Device}
+use Rattle.ucl_answers.specs.Stepping.{EveningIsRefused, Fails, LineAsks, Moment, answers_to, begins, last_answers, missing_at, moment_after, unread}
 
 abbrev pub moment_of : Held → Desk → Moment
 moment_of e desk = record { evening = evening_seen e; begun = desk.line.items }

@@ -2,7 +2,7 @@
 
 ghost use Rattle.std.specs.Prelude.{◌≡◌, ◌<◌, ◌≤◌, ◌-◌, ◌^◌, ◌++◌, IfErr, IfOk};
 ghost use Rattle.arrayvec.specs.ArrayString.{array_string_len};
-ghost use Rattle.ucl_word.specs.Texts.{refusal_text};
+ghost use Rattle.ucl_word.specs.Names.{refusal_text};
 ghost use Rattle.ucl_screen.specs.Screen.{IsGroup};
 ghost use Rattle.ucl_runs.specs.Feed.{line_of_reply};
 ghost use Rattle.ucl_runs.specs.Lines.{accepted_line, refused_line};
@@ -61,23 +61,16 @@ pub fn accepted_line(row: u64, game: u8, number: u16, version: u16) -> ReplyLine
 
 /// Writes the number of a refusal and its name.
 fn push_refusal(line: &mut ReplyLine, refusal: Refusal)
-    requires { array_string_len line.old ≤ 40 }
+    requires { array_string_len line.old ≤ 30 }
     ensures text { line.new.bytes ≡ line.old.bytes ++ refusal_text refusal }
     ensures short { array_string_len line.new ≤ 60 }
 {
-    match refusal {
-        Refusal::Stale { found } => {
-            line.push_str("1 stale ");
-            line.push_str(Buffer::new().format(found));
-        }
-        Refusal::Finished => line.push_str("2 finished"),
-        Refusal::NotFinished => line.push_str("9 not-finished"),
-        Refusal::NotStarted => line.push_str("3 not-started"),
-        Refusal::AlreadyStarted => line.push_str("4 already-started"),
-        Refusal::NumberFull => line.push_str("5 number-full"),
-        Refusal::NoGoal => line.push_str("6 no-goal"),
-        Refusal::NoCaution => line.push_str("7 no-caution"),
-        Refusal::LimitReached => line.push_str("8 limit-reached"),
+    line.push_str(Buffer::new().format(refusal.code()));
+    line.push_str(" ");
+    line.push_str(refusal.name());
+    if let Some(found) = refusal.found() {
+        line.push_str(" ");
+        line.push_str(Buffer::new().format(found));
     }
 }
 

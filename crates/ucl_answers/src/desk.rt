@@ -3,8 +3,10 @@
 ghost use Rattle.std.specs.Prelude.{◌≡◌, ◌-◌, ◌^◌, ◌+◌, ◌<◌, ◌≤◌, ◌++◌, [], ◌∷◌, fold, length, option_map, IfErr, IfSome, OnOk};
 ghost use Rattle.csv.specs.Records.{Rising};
 ghost use Rattle.ucl_screen.specs.Rows.{four_seen};
-ghost use Rattle.ucl_answers.specs.Lines.{longer};
-ghost use Rattle.ucl_answers.specs.Output.{FailsToPut, HasPut, SinkFails, sink_change};
+ghost use Rattle.ucl_io.specs.Lines.{longer};
+ghost use Rattle.ucl_runs.specs.Run.{SinkFails};
+ghost use Rattle.ucl_io.specs.Output.{HasPut};
+ghost use Rattle.ucl_answers.specs.Output.{FailsToPut, sink_change};
 ghost use Rattle.ucl_answers.specs.Reading.{IsLineEnd, fields_in, said_in};
 ghost use Rattle.ucl_answers.specs.Rows.{Row, fits, said_by_text, said_on};
 ghost use Rattle.ucl_answers.specs.Seen.{evening_seen};
@@ -132,7 +134,7 @@ impl Desk {
     #[tactic(auto, using(crate::proofs::Moments::longer_some, crate::proofs::Moments::longer_full))]
     fn keep(&mut self, b: u8)
         requires { length self.old.line.items ≤ 258 }
-        ensures line { self.new.line.items ≡ longer self.old.line.items b }
+        ensures line { self.new.line.items ≡ longer 258 self.old.line.items b }
         ensures short { length self.new.line.items ≤ 258 }
         ensures page { self.new.page ≡ self.old.page }
     {
@@ -144,7 +146,7 @@ impl Desk {
     /// Puts bytes to the line that has begun, one after the other.
     pub(crate) fn keep_all(&mut self, bytes: &[u8])
         requires { length self.old.line.items ≤ 258 }
-        ensures line { self.new.line.items ≡ fold longer self.old.line.items bytes.now }
+        ensures line { self.new.line.items ≡ fold (longer 258) self.old.line.items bytes.now }
         ensures short { length self.new.line.items ≤ 258 }
         ensures page { self.new.page ≡ self.old.page }
     {

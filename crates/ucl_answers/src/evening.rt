@@ -2,7 +2,9 @@
 
 ghost use Rattle.std.specs.Prelude.{◌≡◌, ◌+◌, ◌-◌, ◌^◌, ◌<◌, IfErr, IfOk, OnOk, option_map};
 ghost use Rattle.ucl_screen.specs.Rows.{four_seen};
-ghost use Rattle.ucl_answers.specs.Output.{FailsToPut, HasPut, SinkFails, sink_change};
+ghost use Rattle.ucl_runs.specs.Run.{SinkFails};
+ghost use Rattle.ucl_io.specs.Output.{HasPut};
+ghost use Rattle.ucl_answers.specs.Output.{FailsToPut, sink_change};
 ghost use Rattle.ucl_answers.specs.Rows.{Nothing, of_row};
 ghost use Rattle.ucl_answers.specs.Requests.{request_of};
 ghost use Rattle.ucl_answers.specs.Seen.{evening_seen, stage_seen};

@@ -3,7 +3,6 @@
 #![tactic(auto)]
 
 mod answer;
-mod asked;
 mod desk;
 mod evening;
 mod laws;
@@ -17,11 +16,9 @@ mod row;
 mod some_words;
 mod stage;
 mod table;
-mod wire;
 mod words;
 
 pub use answer::{ReplyLine, accepted_line, bad_line, refused_line};
-pub use asked::Asked;
 pub use laws::{
     beginnings_are_answered, boards_take_events, evenings_are_sequential, evenings_say_the_same,
     first_rows_open_the_board, json_answers_are_lines, json_says_the_same, lines_are_read_whole,
@@ -30,5 +27,4 @@ pub use laws::{
 pub use live::{Live, Progress, live_run};
 pub use program::run_evening;
 pub use row::MOST_LINE_BYTES;
-pub use wire::Wire;
 pub use words::{Lines, word_lines};

@@ -1,7 +1,8 @@
 //! The lines of bytes as they come.
 
 ghost use Rattle.std.specs.Prelude.{◌≡◌, IfSome, None};
-ghost use Rattle.ucl_answers.specs.Reading.{HasNoFeed, IsFirstLine};
+ghost use Rattle.ucl_io.specs.Lines.{HasNoFeed};
+ghost use Rattle.ucl_answers.specs.Reading.{IsFirstLine};
 
 /// The first line of a text, with its line feed, where it has ended.
 pub(crate) fn first_line(text: &[u8]) -> Option<&[u8]>

@@ -2,21 +2,23 @@
 
 ghost use Rattle.std.specs.Prelude.{◌≡◌, ◌↔◌, IsTrue, ℕ, ◌+◌, ◌-◌, ◌^◌, ◌<◌, ◌≤◌, ◌++◌, [], ◌∷◌, None, length, IfErr, IfOk, OnOk, IfSome};
 ghost use Rattle.std.specs.Io.KnownBytes.{Appends};
-ghost use Rattle.ucl_answers.specs.Output.{FailsToPut, HasPut, SinkFails, sink_change};
-ghost use Rattle.ucl_runs.specs.Run.{is_read_failed};
+ghost use Rattle.ucl_io.specs.Output.{HasPut};
+ghost use Rattle.ucl_answers.specs.Output.{FailsToPut, sink_change};
+ghost use Rattle.ucl_runs.specs.Run.{SinkFails, is_read_failed};
 ghost use Rattle.ucl_answers.specs.Text.{live_text, missing_after, start_of};
-ghost use Rattle.ucl_answers.specs.Stepping.{EveningIsRefused, Fails, IfTook, IsAt, IsOfEvening, IsPrompt, LineAsks, Past, StaysPrompt, answers_to, begins, device, ended_at, last_answers, missing_at, moment_after, reached, unread};
+ghost use Rattle.ucl_io.specs.Calls.{LogsCalls, device};
+ghost use Rattle.ucl_answers.specs.Stepping.{EveningIsRefused, Fails, IfTook, IsAt, IsOfEvening, IsPrompt, LineAsks, Past, StaysPrompt, answers_to, begins, ended_at, last_answers, missing_at, moment_after, reached, unread};
 ghost use Rattle.ucl_answers.specs.Seen.{evening_seen};
-ghost use Rattle.ucl_answers.specs.Wires.{AskedMore, IsAnsweredSoFar};
+ghost use Rattle.ucl_answers.specs.Wires.{IsAnsweredSoFar};
 ghost use Rattle.ucl_answers.specs.Taking.{FailsToEnd, FailsToGive, FailsToTake, RunFails, line_begun_in, held_row, live_moment, live_row, live_waiting, moment_of};
 
 use crate::desk::Desk;
 use crate::evening::Evening;
 use crate::lines::first_line;
 use crate::stage::{Clubs, Stage};
-use crate::wire::Wire;
 use std::alloc::Global;
 use ucl_command::LiveArgs;
+use ucl_io::Duplex;
 use ucl_runs::RunFault;
 use ucl_screen::{InputFault, Sink, Source};
 
@@ -214,31 +216,31 @@ impl Live {
         self,
         alloc: Global,
         piece: &mut [u8],
-        wire: &mut Wire<S, W>,
+        duplex: &mut Duplex<S, W, ()>,
     ) -> Result<Progress, RunFault>
         requires room { 0 < length piece.old }
         requires few { live_row self + length piece.old < 2 ^ 64 }
         requires short { length (line_begun_in self) ≤ 258 }
         requires waiting { (live_waiting self).held ≡ [] }
-        ensures asked { wire.new.asked.times
-            ≡ wire.old.asked.times ++ (wire.old.source, wire.old.sink) ∷ [] }
-        ensures one_call { S.calls wire.new.source ≡ S.calls wire.old.source + 1 }
-        ensures read_failed { S.failed wire.new.source ≡ is_read_failed result }
+        ensures log { duplex.new.log.times
+            ≡ duplex.old.log.times ++ (duplex.old.source, duplex.old.sink, tt) ∷ [] }
+        ensures one_call { S.calls duplex.new.source ≡ S.calls duplex.old.source + 1 }
+        ensures read_failed { S.failed duplex.new.source ≡ is_read_failed result }
         ensures kinds { IfErr result IsOfEvening }
-        ensures sink_sound { OnOk result (W.failed wire.new.sink ≡ W.failed wire.old.sink) }
-        ensures sink_fails { IfErr result (SinkFails (W.failed wire.old.sink) (W.failed wire.new.sink)) }
-        ensures prompt { (past : Past) → IsPrompt past self (W.taken wire.old.sink)
+        ensures sink_sound { OnOk result (W.failed duplex.new.sink ≡ W.failed duplex.old.sink) }
+        ensures sink_fails { IfErr result (SinkFails (W.failed duplex.old.sink) (W.failed duplex.new.sink)) }
+        ensures prompt { (past : Past) → IsPrompt past self (W.taken duplex.old.sink)
             → IfOk result (StaysPrompt past
-            (device S.left S.failed W.taken W.failed wire.old)
-            (device S.left S.failed W.taken W.failed wire.new)) }
+            (device S.left S.failed W.taken W.failed duplex.old)
+            (device S.left S.failed W.taken W.failed duplex.new)) }
         ensures short { IfOk result (IfTook (λ live. length (line_begun_in live) ≤ 258)) }
         ensures waiting { IfOk result (IfTook (λ live. (live_waiting live).held ≡ [])) }
         ensures row { IfOk result
             (IfTook (λ live. live_row live ≤ live_row self + length piece.old)) }
-        ensures fails { (past : Past) → IsPrompt past self (W.taken wire.old.sink)
+        ensures fails { (past : Past) → IsPrompt past self (W.taken duplex.old.sink)
             → IfErr result (Fails (reached past.start past.bytes)
-            (device S.left S.failed W.taken W.failed wire.old)
-            (device S.left S.failed W.taken W.failed wire.new)) }
+            (device S.left S.failed W.taken W.failed duplex.old)
+            (device S.left S.failed W.taken W.failed duplex.new)) }
     {
         let Live {
             evening,
@@ -246,14 +248,14 @@ impl Live {
             read,
         } = self;
         let mut desk = desk;
-        match wire.take(piece) {
+        match duplex.take(&(), piece) {
             None => Err(RunFault::Input(InputFault::ReadFailed { bytes: read })),
             Some(0) => {
-                end(alloc, evening, &mut desk, &mut wire.sink)?;
+                end(alloc, evening, &mut desk, &mut duplex.sink)?;
                 Ok(Progress::Ended)
             }
             Some(n) => {
-                let evening = take_in(alloc, evening, &mut desk, &piece[..n], &mut wire.sink)?;
+                let evening = take_in(alloc, evening, &mut desk, &piece[..n], &mut duplex.sink)?;
                 Ok(Progress::Took(Live {
                     evening,
                     desk,
@@ -275,33 +277,33 @@ impl Live {
 pub fn live_run<S: Source, W: Sink>(
     alloc: Global,
     options: LiveArgs,
-    wire: &mut Wire<S, W>,
+    duplex: &mut Duplex<S, W, ()>,
 ) -> Result<(), RunFault>
     ensures text { OnOk result
-        (IfSome (S.left wire.old.source) (λ bytes. Appends (W.taken wire.old.sink)
-        (W.taken wire.new.sink) (live_text (start_of options) bytes))) }
+        (IfSome (S.left duplex.old.source) (λ bytes. Appends (W.taken duplex.old.sink)
+        (W.taken duplex.new.sink) (live_text (start_of options) bytes))) }
     ensures complete { OnOk result
-        (IfSome (S.left wire.old.source) (λ bytes. missing_after (start_of options) bytes ≡ None)) }
+        (IfSome (S.left duplex.old.source) (λ bytes. missing_after (start_of options) bytes ≡ None)) }
 
     // A failed read is answered exactly where the source has failed. Want of memory is not answered as a fault of the input.
-    ensures read_failed { S.failed wire.new.source ≡ is_read_failed result }
+    ensures read_failed { S.failed duplex.new.source ≡ is_read_failed result }
     ensures kinds { IfErr result IsOfEvening }
 
     // Just before each call for bytes, also in a run that failed, the answers to all lines that had an end by then were out.
-    ensures prompt { AskedMore (λ time. S.calls time.0)
-        wire.old.asked.times wire.new.asked.times
-        (S.calls wire.old.source) (S.calls wire.new.source)
+    ensures prompt { LogsCalls (λ time. S.calls time.0)
+        duplex.old.log.times duplex.new.log.times
+        (S.calls duplex.old.source) (S.calls duplex.new.source)
         (λ time. IsAnsweredSoFar (start_of options)
-        (S.left wire.old.source) (S.left time.0) (W.taken wire.old.sink) (W.taken time.1)) }
+        (S.left duplex.old.source) (S.left time.0) (W.taken duplex.old.sink) (W.taken time.1)) }
 
     // A failed write is answered exactly where the sink has failed.
-    ensures sink_sound { OnOk result (W.failed wire.new.sink ≡ W.failed wire.old.sink) }
-    ensures sink_fails { IfErr result (SinkFails (W.failed wire.old.sink) (W.failed wire.new.sink)) }
+    ensures sink_sound { OnOk result (W.failed duplex.new.sink ≡ W.failed duplex.old.sink) }
+    ensures sink_fails { IfErr result (SinkFails (W.failed duplex.old.sink) (W.failed duplex.new.sink)) }
 
     // Why it fails, and what is out then.
     ensures fails { IfErr result (RunFails (start_of options)
-        (device S.left S.failed W.taken W.failed wire.old)
-        (device S.left S.failed W.taken W.failed wire.new)) }
+        (device S.left S.failed W.taken W.failed duplex.old)
+        (device S.left S.failed W.taken W.failed duplex.new)) }
 {
     let mut live = Live::new(options);
     let mut piece = [0; PIECE];
@@ -309,7 +311,7 @@ pub fn live_run<S: Source, W: Sink>(
         if live.read > MOST_READ {
             return Err(RunFault::Input(InputFault::TooLong));
         }
-        match live.step(alloc, &mut piece, wire)? {
+        match live.step(alloc, &mut piece, duplex)? {
             Progress::Ended => return Ok(()),
             Progress::Took(next) => live = next,
         }

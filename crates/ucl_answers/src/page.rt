@@ -3,7 +3,7 @@
 ghost use Rattle.std.specs.Prelude.{◌≡◌, ◌-◌, ◌^◌, ◌≤◌, [], ◌++◌, length, IfErr, IfOk, OnOk};
 ghost use Rattle.std.specs.Io.KnownBytes.{Appends};
 ghost use Rattle.ucl_runs.specs.Run.{IsStopped};
-ghost use Rattle.ucl_answers.specs.Output.{HasPut};
+ghost use Rattle.ucl_io.specs.Output.{HasPut};
 
 use arrayvec::ArrayVec;
 use std::marker::Model;
@@ -21,7 +21,7 @@ pub(crate) struct Page {
 }
 
 impl Model for Page {
-    ghost use Rattle.ucl_answers.specs.Output.{Waiting};
+    ghost use Rattle.ucl_io.specs.Output.{Waiting};
 
     ghost Value = { Waiting };
 

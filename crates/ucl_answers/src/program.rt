@@ -3,9 +3,9 @@
 ghost use Rattle.ucl_answers.specs.Program.{RunsEvening};
 
 use crate::live::live_run;
-use crate::wire::Wire;
 use std::alloc::Global;
 use ucl_command::{LineFault, LiveArgs};
+use ucl_io::Duplex;
 use ucl_runs::{ended, ended_unasked};
 use ucl_screen::{Sink, Source};
 
@@ -15,17 +15,17 @@ use ucl_screen::{Sink, Source};
 pub fn run_evening<S: Source, W: Sink, E: Sink>(
     alloc: Global,
     asked: Result<LiveArgs, LineFault>,
-    wire: &mut Wire<S, W>,
+    duplex: &mut Duplex<S, W, ()>,
     errors: &mut E,
 ) -> u8
-    ensures { RunsEvening S.Source W.Sink asked wire.old wire.new result
+    ensures { RunsEvening S.Source W.Sink asked duplex.old duplex.new result
         (E.failed errors.new) (E.taken errors.old) (E.taken errors.new) }
 {
     match asked {
         Ok(options) => {
-            let done = live_run(alloc, options, wire);
+            let done = live_run(alloc, options, duplex);
             ended(errors, done)
         }
-        Err(fault) => ended_unasked(&mut wire.sink, errors, fault),
+        Err(fault) => ended_unasked(&mut duplex.sink, errors, fault),
     }
 }

@@ -1,7 +1,9 @@
 //! The answers of an open board.
 
 ghost use Rattle.std.specs.Prelude.{◌≡◌, IfErr, OnOk};
-ghost use Rattle.ucl_answers.specs.Output.{FailsToPut, HasPut, SinkFails, sink_change};
+ghost use Rattle.ucl_runs.specs.Run.{SinkFails};
+ghost use Rattle.ucl_io.specs.Output.{HasPut};
+ghost use Rattle.ucl_answers.specs.Output.{FailsToPut, sink_change};
 ghost use Rattle.ucl_answers.specs.Stages.{next_board};
 ghost use Rattle.ucl_answers.specs.Stepping.{AsksOf, NeverRefused};
 ghost use Rattle.ucl_answers.specs.Text.{answer_of, event_answer, words_answer};

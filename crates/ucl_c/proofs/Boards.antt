@@ -8,13 +8,13 @@ use Rattle.ucl_word.specs.Layout.{IsWord}
 use Rattle.ucl_word.proofs.FirstWords.{read_valid}
 use Rattle.ucl_board.specs.Words.{AreReadAs, AreWords, IsFirstBad}
 use Rattle.ucl_order.specs.declared.profile.Profile.{Profile}
+use Rattle.ucl_order.specs.Names.{profile_with}
 use Rattle.ucl_order.specs.Roster.{NamedClub, IsClub, IsRoster, bad_slot, bad_slot_from, coefficients_in, is_club}
 use Rattle.ucl_order.proofs.Coefficients.{table-same}
 use Rattle.ucl_screen.specs.WordsRead.{read_words}
 use Rattle.ucl_screen.proofs.ReadWords.{are-read, first-bad}
 use Rattle.ucl_c.specs.declared.fault.Fault.{Fault}
 use Rattle.ucl_c.specs.declared.fault.Fault.TheVariants.{BadWord, NotFour}
-use Rattle.ucl_c.specs.Codes.{profile_with}
 use Rattle.ucl_c.specs.Faults.{club_with, fault_of_clubs, fault_of_group, fault_of_inputs, fault_of_profile, fault_of_words, fault_unless, first_fault, of_slot}
 use Rattle.ucl_c.specs.Tables.{row_seen, table_by, table_shown}
 

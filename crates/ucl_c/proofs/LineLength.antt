@@ -16,13 +16,14 @@ use Rattle.ucl_order.specs.declared.mark.Mark.TheVariants.{Plus, Minus, Blank}
 use Rattle.ucl_order.specs.declared.profile.Profile.{Profile}
 use Rattle.ucl_order.specs.declared.profile.Profile.TheVariants.{Uefa, AwayInTie}
 use Rattle.ucl_order.specs.declared.table.Row.{Row}
+use Rattle.ucl_order.specs.Names.{profile_name}
 use Rattle.ucl_order.specs.Roster.{NamedClub, IsClub, IsRoster, club_in, coefficient_of, is_club, is_name, is_printed, name_of}
 use Rattle.ucl_order.specs.Rows.{row_of, IsWithinTable}
 use Rattle.ucl_order.proofs.KeysFit.{words_valid}
 use Rattle.ucl_order.proofs.Limits.{rows_within}
 use Rattle.ucl_screen.specs.Screen.{IsGroup, in_play}
 use Rattle.ucl_json.specs.Lines.{json_line}
-use Rattle.ucl_json.specs.Values.{club_value, club_items, mark_name, order_name, place_items, place_value, screen_value, word_items}
+use Rattle.ucl_json.specs.Values.{club_value, club_items, mark_name, place_items, place_value, screen_value, word_items}
 use Rattle.ucl_c.proofs.JsonLength.{size, items_size, sized, difference_short, plain_byte, printed_quoted, hex_quoted}
 use Rattle.ucl_c.proofs.ScreenLength.{both, version_low, in_play_low, name_short}
 
@@ -64,7 +65,7 @@ mark_quoted Plus = omega arith
 mark_quoted Minus = omega arith
 mark_quoted Blank = omega arith
 
-order_quoted : (profile : Profile) → length (quoted (order_name profile)) ≤ 13
+order_quoted : (profile : Profile) → length (quoted (profile_name profile)) ≤ 13
 unfolding escape_byte
 order_quoted Uefa = omega arith
 order_quoted AwayInTie = omega arith

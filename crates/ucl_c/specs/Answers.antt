@@ -1,15 +1,15 @@
 -- What is answered for an event, and how C sees a record.
-use Rattle.std.specs.Prelude.{ℕ, Option, Some, None}
+use Rattle.std.specs.Prelude.{ℕ, Option, Some, None, unwrap_or}
 use Rattle.ucl_word.specs.declared.event.Kind.{Kind}
 use Rattle.ucl_word.specs.declared.record.MatchRecord.{MatchRecord}
 use Rattle.ucl_word.specs.declared.refusal.Refusal.{Refusal}
-use Rattle.ucl_word.specs.declared.refusal.Refusal.TheVariants.{Stale}
 use Rattle.ucl_word.specs.Layout.{record_at, word_of}
+use Rattle.ucl_word.specs.Names.{found_of, kind_with, refusal_code}
 use Rattle.ucl_word.specs.Rules.{refusal_of, after}
 use Rattle.ucl_c.specs.declared.event.MatchOfC.{MatchOfC}
 use Rattle.ucl_c.specs.declared.fault.Fault.{Fault}
 use Rattle.ucl_c.specs.declared.fault.Fault.TheVariants.{NoKind}
-use Rattle.ucl_c.specs.Codes.{kind_with, refusal_code, state_code_in_c}
+use Rattle.ucl_c.specs.Codes.{state_code_in_c}
 use Rattle.ucl_c.specs.Faults.{fault_code, fault_of_entry}
 
 -- what a call for an event leaves: its status, the next word, and the number that a stale event was told
@@ -24,8 +24,7 @@ answered status next found = record { status = status; next = next; found = foun
 -- the next word where no rule refuses the event; the number found where it is stale; over what was there before
 abbrev pub answer_by : Option Refusal → ℕ → ℕ → ℕ → EventAnswer
 answer_by None word next found = answered 0 word found
-answer_by (Some (Stale number)) word next found = answered 1 next number
-answer_by (Some refusal) word next found = answered (refusal_code refusal) next found
+answer_by (Some refusal) word next found = answered (refusal_code refusal) next (unwrap_or (found_of refusal) found)
 
 -- what the rules answer for an event of this reporter: the first that refuses it, or the word of the record after it
 abbrev pub answer_to : MatchRecord → ℕ → ℕ → Kind → ℕ → ℕ → EventAnswer

@@ -2,11 +2,11 @@
 use Rattle.std.specs.Prelude.{◌≡◌, ℕ, ◌+◌, ◌≤◌, List, None, Some, Ok}
 use Rattle.ucl_word.specs.Layout.{layout, held_at, IsMarked}
 use Rattle.ucl_board.specs.Words.{AreWords}
+use Rattle.ucl_order.specs.Names.{profile_with}
 use Rattle.ucl_order.specs.Roster.{NamedClub}
 use Rattle.ucl_screen.specs.Screen.{IsGroup}
 use Rattle.ucl_screen.specs.WordsRead.{read_words}
 use Rattle.ucl_c.specs.declared.group.Group.{Group}
-use Rattle.ucl_c.specs.Codes.{profile_with}
 use Rattle.ucl_c.specs.Faults.{fault_of_inputs}
 
 -- the group of inputs with no fault

@@ -1,16 +1,15 @@
 -- Calls on a board that threads share, as C sees them.
-use Rattle.std.specs.Prelude.{◌≡◌, ℕ, ◌&&◌, nat_le, nat_lt, if◌then◌else◌, [], ◌∷◌, Option, None, Some, Result, Ok, Err}
+use Rattle.std.specs.Prelude.{◌≡◌, ℕ, ◌&&◌, nat_le, nat_lt, if◌then◌else◌, [], ◌∷◌, Option, None, Some, unwrap_or, Result, Ok, Err}
 use Rattle.ucl_word.specs.declared.event.EventCall.{EventCall}
 use Rattle.ucl_word.specs.declared.event.Accepted.{Accepted}
 use Rattle.ucl_word.specs.declared.refusal.Refusal.{Refusal}
-use Rattle.ucl_word.specs.declared.refusal.Refusal.TheVariants.{Stale}
+use Rattle.ucl_word.specs.Names.{found_of, kind_with, refusal_code}
 use Rattle.ucl_c_boards.specs.declared.board_pass.AnyPass.{AnyPass}
 use Rattle.ucl_c_boards.specs.declared.board_pass.WhyNot.{WhyNot}
 use Rattle.ucl_c_boards.specs.declared.board_pass.WhyNot.TheVariants as cause
 use Rattle.ucl_c_boards.specs.BoardPasses.{IsReported, fault_of_report, fault_of_read}
 use Rattle.ucl_c.specs.declared.fault.Fault.{Fault}
 use Rattle.ucl_c.specs.declared.fault.Fault.TheVariants.{OutOfMemory, FullBoard, InUse, NoPass, NotAReader, NoMatch, NotAReporter}
-use Rattle.ucl_c.specs.Codes.{kind_with, refusal_code}
 use Rattle.ucl_c.specs.Faults.{first_fault, fault_of_kind, fault_of_twelve, fault_unless}
 
 abbrev pub fault_because : WhyNot → Fault
@@ -57,8 +56,7 @@ status_of_reply (Err refusal) = refusal_code refusal
 -- the number that a reply tells, over what was there before: the match's event number after an accepted event, or that found by a stale one
 abbrev pub number_after : Result Accepted Refusal → ℕ → ℕ
 number_after (Ok accepted) before = accepted.number
-number_after (Err (Stale found)) before = found
-number_after (Err _) before = before
+number_after (Err refusal) before = unwrap_or (found_of refusal) before
 
 -- an event was entered or refused by the rules, and this is how that is told
 pub record IsReply (game expected code : ℕ) (before after : AnyPass) (status old new : ℕ) : Type 0 where

@@ -1,8 +1,8 @@
 -- What becomes of the events of a script, as C sees it.
-use Rattle.std.specs.Prelude.{◌≡◌, ℕ, ◌+◌, ◌-◌, ◌++◌, List, [], ◌∷◌, length, map, take, drop, replicate, Result, Ok, Err}
+use Rattle.std.specs.Prelude.{◌≡◌, ℕ, ◌+◌, ◌-◌, ◌++◌, List, [], ◌∷◌, length, map, take, drop, replicate, unwrap_or, Result, Ok, Err}
 use Rattle.ucl_word.specs.declared.event.Accepted.{Accepted}
 use Rattle.ucl_word.specs.declared.refusal.Refusal.{Refusal}
-use Rattle.ucl_word.specs.declared.refusal.Refusal.TheVariants.{Stale}
+use Rattle.ucl_word.specs.Names.{found_of, refusal_code}
 use Rattle.ucl_board.specs.declared.entry.Entry.{Entry}
 use Rattle.ucl_board.specs.History.{after_attempt, accepted_of, board_of, sequential_reply}
 use Rattle.ucl_order.specs.Roster.{NamedClub}
@@ -11,17 +11,12 @@ use Rattle.ucl_screen.specs.Script.{Script, night_of}
 use Rattle.ucl_runs.specs.Feed.{attempt_of}
 use Rattle.ucl_c.specs.declared.script.ReplyOfC.{ReplyOfC}
 use Rattle.ucl_c.specs.declared.group.ClubOfC.{ClubOfC}
-use Rattle.ucl_c.specs.Codes.{refusal_code}
 
--- the number that a refusal tells: that found where the event is stale, and else 0
-abbrev pub number_told : Refusal → ℕ
-number_told (Stale found) = found
-number_told _ = 0
-
--- the reply to an event in this row, of this match, where so many events were accepted before: an accepted one raises the version by one
+-- the reply to an event in this row, of this match, where so many events were accepted before: an accepted one raises the version by one, and
+-- a stale one tells the number found
 abbrev pub reply_by : ℕ → ℕ → ℕ → Result Accepted Refusal → ReplyOfC
 reply_by row game before (Ok accepted) = record { row = row; match_number = game; status = 0; event_number = accepted.number; version = before + 1 }
-reply_by row game before (Err refusal) = record { row = row; match_number = game; status = refusal_code refusal; event_number = number_told refusal; version = before }
+reply_by row game before (Err refusal) = record { row = row; match_number = game; status = refusal_code refusal; event_number = unwrap_or (found_of refusal) 0; version = before }
 
 -- the reply of the board of one thread after a history
 abbrev pub reply_after : ℕ → List Entry → NightEvent → ReplyOfC

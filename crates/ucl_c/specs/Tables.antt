@@ -3,6 +3,7 @@ use Rattle.std.specs.Prelude.{◌≡◌, ℕ, ◌+◌, ◌<◌, ◌≤◌, ◌++
 use Rattle.ucl_board.specs.Words.{version_of}
 use Rattle.ucl_order.specs.declared.profile.Profile.{Profile}
 use Rattle.ucl_order.specs.declared.table.Row.{Row}
+use Rattle.ucl_order.specs.Names.{profile_with}
 use Rattle.ucl_order.specs.Roster.{NamedClub}
 use Rattle.ucl_order.specs.Rows.{rows_of}
 use Rattle.ucl_screen.specs.Screen.{screen_text}
@@ -11,7 +12,7 @@ use Rattle.ucl_json.specs.Lines.{json_line}
 use Rattle.ucl_json.specs.Values.{screen_value}
 use Rattle.ucl_c.specs.declared.table.RowOfC.{RowOfC}
 use Rattle.ucl_c.specs.declared.group.ClubOfC.{ClubOfC}
-use Rattle.ucl_c.specs.Codes.{mark_code, profile_with}
+use Rattle.ucl_c.specs.Codes.{mark_code}
 
 -- a row of the table as C sees it
 abbrev pub row_seen : Row → RowOfC

@@ -1,62 +1,21 @@
-//! The numbers by which C names kinds, states, marks, profiles and refusals.
+//! The numbers by which C names marks, states and refusals.
 
-ghost use Rattle.std.specs.Prelude.{◌≡◌};
-ghost use Rattle.ucl_c.specs.Codes.{kind_with, profile_with, refusal_code, mark_code, state_code_in_c};
+ghost use Rattle.std.specs.Prelude.{◌≡◌, unwrap_or};
+ghost use Rattle.ucl_word.specs.Names.{found_of, refusal_code};
+ghost use Rattle.ucl_c.specs.Codes.{mark_code, state_code_in_c};
 
-use ucl_order::{Mark, Profile};
-use ucl_word::{Kind, Refusal, Side, State};
+use ucl_order::Mark;
+use ucl_word::{Refusal, State};
 
-/// The kinds of events, by their codes.
-// A table, so that a kind that can't be foreseen costs no jump.
-static KINDS: [Kind; 13] = [
-    Kind::KickOff,
-    Kind::Goal(Side::Home),
-    Kind::Goal(Side::Away),
-    Kind::Disallow(Side::Home),
-    Kind::Disallow(Side::Away),
-    Kind::Yellow(Side::Home),
-    Kind::Yellow(Side::Away),
-    Kind::SecondYellow(Side::Home),
-    Kind::SecondYellow(Side::Away),
-    Kind::Red(Side::Home),
-    Kind::Red(Side::Away),
-    Kind::FullTime,
-    Kind::Reopen,
-];
-
-/// The kind of event with this code, where there is one.
-pub fn kind_with(code: u32) -> Option<Kind>
-    ensures { result ≡ kind_with code }
+/// Tells of a refusal: its number, and in `number` the number found, where the event is stale.
+pub fn tell_refusal(refusal: Refusal, number: &mut u32) -> u32
+    ensures status { result ≡ refusal_code refusal }
+    ensures number { number.new ≡ unwrap_or (found_of refusal) number.old }
 {
-    KINDS.get(code as usize).copied()
-}
-
-/// The order profile with this code, where there is one.
-pub fn profile_with(code: u32) -> Option<Profile>
-    ensures { result ≡ profile_with code }
-{
-    match code {
-        0 => Some(Profile::Uefa),
-        1 => Some(Profile::AwayInTie),
-        _ => None,
+    if let Some(found) = refusal.found() {
+        *number = u32::from(found);
     }
-}
-
-/// The number of a refusal, 1 to 9.
-pub fn refusal_code(refusal: Refusal) -> u32
-    ensures { result ≡ refusal_code refusal }
-{
-    match refusal {
-        Refusal::Stale { found } => 1,
-        Refusal::Finished => 2,
-        Refusal::NotStarted => 3,
-        Refusal::AlreadyStarted => 4,
-        Refusal::NumberFull => 5,
-        Refusal::NoGoal => 6,
-        Refusal::NoCaution => 7,
-        Refusal::LimitReached => 8,
-        Refusal::NotFinished => 9,
-    }
+    u32::from(refusal.code())
 }
 
 /// The number of a mark.

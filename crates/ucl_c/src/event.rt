@@ -4,12 +4,12 @@ ghost use Rattle.std.specs.Prelude.{◌≡◌, ◌↔◌, IsSome, IfSome, IfOk, 
 ghost use Rattle.ucl_word.specs.Record.{IsReporter};
 ghost use Rattle.ucl_word.specs.Layout.{IsWord, record_at, word_of};
 ghost use Rattle.ucl_word.specs.Migration.{IsReadable, IsReadAs};
+ghost use Rattle.ucl_word.specs.Names.{kind_with};
 ghost use Rattle.ucl_word.specs.Rules.{refusal_of, after};
-ghost use Rattle.ucl_c.specs.Codes.{kind_with};
 ghost use Rattle.ucl_c.specs.Faults.{fault_of_entry};
 ghost use Rattle.ucl_c.specs.Answers.{answered, match_seen, outcome_of};
 
-use crate::codes::{kind_with, refusal_code, state_code};
+use crate::codes::{state_code, tell_refusal};
 use crate::fault::{Fault, fault_code};
 use crate::word::is_word;
 use ucl_word::{Kind, Refusal, ReporterNo, migrate, next_word, number_of, record_of};
@@ -68,7 +68,7 @@ fn event_of(word: u64, reporter: u32, kind: u32) -> Result<(ReporterNo, Kind), F
     let Some(reporter) = reporter_with(reporter) else {
         return Err(Fault::NoReporter);
     };
-    let Some(kind) = kind_with(kind) else {
+    let Some(kind) = Kind::from_code(kind) else {
         return Err(Fault::NoKind);
     };
     if !is_word(word) {
@@ -97,11 +97,7 @@ pub extern "C" fn uclboard_next_word(
                 *next = entered;
                 0
             }
-            Err(Refusal::Stale { found: number }) => {
-                *found = u32::from(number);
-                1
-            }
-            Err(refusal) => refusal_code(refusal),
+            Err(refusal) => tell_refusal(refusal, found),
         },
         Err(fault) => fault_code(fault),
     }

@@ -2,15 +2,14 @@
 
 ghost use Rattle.std.specs.Prelude.{◌≡◌, map, None, Some, Ok, IfOk, IfErr};
 ghost use Rattle.ucl_board.specs.Words.{AreWords};
+ghost use Rattle.ucl_order.specs.Names.{profile_with};
 ghost use Rattle.ucl_order.specs.Roster.{club_lent};
 ghost use Rattle.ucl_screen.specs.Screen.{IsGroup};
 ghost use Rattle.ucl_screen.specs.WordsRead.{read_words};
-ghost use Rattle.ucl_c.specs.Codes.{profile_with};
 ghost use Rattle.ucl_c.specs.Faults.{club_with, fault_of_clubs, fault_of_coefficients, fault_of_group, fault_of_inputs, fault_of_profile, fault_of_words};
 ghost use Rattle.ucl_c.specs.Tables.{club_handed, clubs_handed};
 ghost use Rattle.ucl_c.specs.Inputs.{IsGroupOf};
 
-use crate::codes::profile_with;
 use crate::fault::Fault;
 use ucl_board::Board;
 use ucl_order::{LentClub, Profile, Roster};
@@ -45,7 +44,7 @@ pub fn profile_of(code: u32) -> Result<Profile, Fault>
     ensures taken { IfOk result (λ profile. profile_with code ≡ Some profile) }
     ensures refused { IfErr result (λ fault. fault_of_profile code ≡ Some fault) }
 {
-    match profile_with(code) {
+    match Profile::from_code(code) {
         Some(profile) => Ok(profile),
         None => Err(Fault::NoProfile),
     }

@@ -10,11 +10,11 @@ ghost use Rattle.ucl_c.specs.declared.fault.Fault.{Fault};
 ghost use Rattle.ucl_c.specs.Faults.{fault_code};
 ghost use Rattle.ucl_c.specs.PassCalls.{IsCallOf, IsReply, fault_because, fault_of_call, fault_of_event, fault_of_reading, expected_told, number_after, status_of_reply};
 
-use crate::codes::{kind_with, refusal_code};
+use crate::codes::tell_refusal;
 use crate::fault::{Fault, fault_code};
 use std::alloc::Global;
 use ucl_c_boards::{Handle, WhyNot};
-use ucl_word::{Accepted, EventCall, MatchNo, Refusal};
+use ucl_word::{Accepted, EventCall, Kind, MatchNo, Refusal};
 
 /// The fault that a cause is for C.
 fn fault_because(cause: WhyNot) -> Fault
@@ -108,7 +108,7 @@ fn call_of(game: u32, expected: u32, kind: u32) -> Result<EventCall, Fault>
     ensures sound { IfOk result (λ _. fault_of_call game kind ≡ None) }
     ensures refused { IfErr result (λ fault. fault_of_call game kind ≡ Some fault) }
 {
-    let Some(kind) = kind_with(kind) else {
+    let Some(kind) = Kind::from_code(kind) else {
         return Err(Fault::NoKind);
     };
     let Some(game) = match_with(game) else {
@@ -131,11 +131,7 @@ fn answer(reply: Result<Accepted, Refusal>, number: &mut u32) -> u32
             *number = u32::from(accepted.number);
             0
         }
-        Err(Refusal::Stale { found }) => {
-            *number = u32::from(found);
-            1
-        }
-        Err(refusal) => refusal_code(refusal),
+        Err(refusal) => tell_refusal(refusal, number),
     }
 }
 

@@ -12,16 +12,14 @@ ghost use Rattle.ucl_screen.specs.Parsing.{night_seen};
 ghost use Rattle.ucl_runs.specs.Feed.{IsBoardAfter, attempt_of};
 ghost use Rattle.ucl_c.specs.declared.fault.Fault.TheVariants.{OutOfMemory};
 ghost use Rattle.ucl_c.specs.Faults.{fault_of_four, fault_of_play, fault_of_script, fault_of_twelve, first_fault, of_input, place_with, status_with};
-ghost use Rattle.ucl_c.specs.Replies.{CountsEvents, IsWholeScript, club_written, number_told, replies_to, reply_after, words_after};
+ghost use Rattle.ucl_c.specs.Replies.{CountsEvents, IsWholeScript, club_written, replies_to, reply_after, words_after};
 
-use crate::codes::refusal_code;
 use crate::fault::{Fault, fault_code, tell};
 use crate::group::ClubOfC;
 use std::alloc::Global;
 use ucl_board::Board;
 use ucl_order::Roster;
 use ucl_screen::{InputFault, Night, NightEvent, night_of_bytes};
-use ucl_word::Refusal;
 
 /// What became of an event of a script.
 #[repr(C)]
@@ -37,16 +35,6 @@ pub struct ReplyOfC {
     pub event_number: u32,
     /// How many events were entered by then.
     pub version: u32,
-}
-
-/// The number that a refusal tells.
-fn number_told(refusal: Refusal) -> u32
-    ensures { result ≡ number_told refusal }
-{
-    match refusal {
-        Refusal::Stale { found } => u32::from(found),
-        _ => 0,
-    }
 }
 
 /// Enters the event of a row on a board of this version.
@@ -69,8 +57,8 @@ fn reply_to(board: &mut Board, version: u32, row: u32, event: &NightEvent) -> Re
         Err(refusal) => ReplyOfC {
             row,
             match_number,
-            status: refusal_code(refusal),
-            event_number: number_told(refusal),
+            status: u32::from(refusal.code()),
+            event_number: u32::from(refusal.found().unwrap_or(0)),
             version,
         },
     }

@@ -1,10 +1,11 @@
 //! Texts, written into the caller's room.
 
 ghost use Rattle.std.specs.Prelude.{◌≡◌, List, ℕ, None, Some, MatchOption};
-ghost use Rattle.ucl_c.specs.Codes.{RefusalsAreWrittenByName, name_of_status};
+ghost use Rattle.ucl_c.specs.Codes.{name_in, name_of_status, names_of_statuses};
 ghost use Rattle.ucl_c.specs.Tables.{HandsOver};
 
 use crate::fault::{Fault, fault_code};
+use ucl_word::Refusal;
 
 /// Writes a text and a zero to the front of `out`, where there is room for both; its length goes to `length` in any case.
 pub fn hand_over(text: &[u8], out: &mut [u8], length: &mut usize) -> u32
@@ -20,22 +21,13 @@ pub fn hand_over(text: &[u8], out: &mut [u8], length: &mut usize) -> u32
     0
 }
 
-/// The name of a status, where there is one.
-fn name_of_status(status: u32) -> Option<&'static str>
-    ensures { MatchOption result (name_of_status status ≡ None)
-        (λ name. name_of_status status ≡ Some name.now) }
+/// The name of a status that no refusal has, where there is one.
+fn other_name(status: u32) -> Option<&'static str>
+    ensures { MatchOption result (name_in names_of_statuses status ≡ None)
+        (λ name. name_in names_of_statuses status ≡ Some name.now) }
 {
     match status {
         0 => Some("done"),
-        1 => Some("stale"),
-        2 => Some("finished"),
-        3 => Some("not-started"),
-        4 => Some("already-started"),
-        5 => Some("number-full"),
-        6 => Some("no-goal"),
-        7 => Some("no-caution"),
-        8 => Some("limit-reached"),
-        9 => Some("not-finished"),
         10 => Some("bad word"),
         20 => Some("bad-row"),
         21 => Some("bad roster"),
@@ -60,6 +52,17 @@ fn name_of_status(status: u32) -> Option<&'static str>
     }
 }
 
+/// The name of a status, where there is one: that of the refusal with this number, or one of the others.
+fn name_of_status(status: u32) -> Option<&'static str>
+    ensures { MatchOption result (name_of_status status ≡ None)
+        (λ name. name_of_status status ≡ Some name.now) }
+{
+    match Refusal::from_code(status, 0) {
+        Some(refusal) => Some(refusal.name()),
+        None => other_name(status),
+    }
+}
+
 /// The name of a status. Its bytes and a zero go to the front of `out`, and their number without the zero to `length`, also where the room
 /// is too small. A number that is no status leaves both as they were.
 #[unsafe(no_mangle)]
@@ -74,11 +77,6 @@ pub extern "C" fn uclboard_text_of_status(status: u32, out: &mut [u8], length: &
         None => fault_code(Fault::NoStatus),
     }
 }
-
-/// The command line writes each refusal as its number, the name of the status with this number, and, where it is stale, the number found.
-pub fn refusals_are_written_by_name()
-    ensures { RefusalsAreWrittenByName }
-{}
 
 /// The version of the library: its first number times 1,000,000, its second times 1,000, and its third.
 #[unsafe(no_mangle)]

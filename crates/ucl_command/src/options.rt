@@ -6,7 +6,7 @@ ghost use Rattle.ucl_screen.specs.Screen.{IsGroup};
 use crate::help;
 use clap::{Arg, ArgAction, ArgMatches, Command, value_parser};
 use std::alloc::Global;
-use ucl_order::Profile;
+use ucl_order::{PROFILE_NAMES, Profile};
 use ucl_screen::is_group;
 
 /// In which form answers or screens are written.
@@ -20,13 +20,7 @@ pub enum Format {
 
 static GROUPS: [&str; 8] = ["A", "B", "C", "D", "E", "F", "G", "H"];
 
-static ORDERS: [&str; 2] = [UEFA, AWAY_IN_TIE];
-
 static FORMATS: [&str; 2] = [TEXT, JSON];
-
-const UEFA: &str = "uefa";
-
-const AWAY_IN_TIE: &str = "away-in-tie";
 
 const TEXT: &str = "text";
 
@@ -67,8 +61,8 @@ pub(crate) fn group_option<'a>(alloc: Global) -> Arg<'a> {
 /// `--order` with `uefa` or `away-in-tie`, which is `uefa` where it is left out.
 pub(crate) fn order_option<'a>(alloc: Global) -> Arg<'a> {
     option(alloc, "order", "ORDER", help::ORDER)
-        .value_parser(ORDERS.as_slice())
-        .default_value(UEFA)
+        .value_parser(PROFILE_NAMES.as_slice())
+        .default_value(Profile::Uefa.name())
 }
 
 /// `--format` with `text` or `json`, which is `text` where it is left out.
@@ -115,11 +109,7 @@ pub(crate) fn group_of(matches: &ArgMatches<'_>) -> Option<u8>
 
 /// The order that was named.
 pub(crate) fn order_of(matches: &ArgMatches<'_>) -> Option<Profile> {
-    match matches.get_str("order")? {
-        UEFA => Some(Profile::Uefa),
-        AWAY_IN_TIE => Some(Profile::AwayInTie),
-        _ => None,
-    }
+    Profile::from_name(matches.get_str("order")?)
 }
 
 /// The form that was named.

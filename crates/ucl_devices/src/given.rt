@@ -2,8 +2,8 @@
 
 ghost use Rattle.std.specs.Prelude.{◌≡◌, Some, false, length};
 
-use ucl_answers::Asked;
 use ucl_board::Reading;
+use ucl_io::CallLog;
 use ucl_runs::Gate;
 use ucl_screen::{Sink, Source};
 
@@ -11,7 +11,7 @@ use ucl_screen::{Sink, Source};
 #[derive(Drop)]
 pub struct Given<'b> {
     left: &'b [u8],
-    calls: Asked<(), ()>,
+    calls: CallLog<(), (), ()>,
 }
 
 impl<'b> Given<'b> {
@@ -21,7 +21,7 @@ impl<'b> Given<'b> {
     {
         Given {
             left: bytes,
-            calls: Asked::new(),
+            calls: CallLog::new(),
         }
     }
 }
@@ -34,7 +34,7 @@ impl Source for Given<'_> {
     ghost failed = { λ _. false };
 
     fn take(&mut self, buf: &mut [u8]) -> Option<usize> {
-        self.calls = self.calls.and(&(), &());
+        self.calls = self.calls.and(&(), &(), &());
         let count = buf.len().min(self.left.len());
         let (front, rest) = self.left.split_at(count);
         buf[..count].copy_from_slice(front);
@@ -49,7 +49,7 @@ pub struct Shelf {
     taken: Vec<u8>,
     room: usize,
     has_failed: bool,
-    calls: Asked<(), ()>,
+    calls: CallLog<(), (), ()>,
 }
 
 impl Shelf {
@@ -62,7 +62,7 @@ impl Shelf {
             taken,
             room,
             has_failed: false,
-            calls: Asked::new(),
+            calls: CallLog::new(),
         }
     }
 
@@ -82,7 +82,7 @@ impl Sink for Shelf {
     ghost failed = { λ s. s.has_failed };
 
     fn give(&mut self, text: &[u8]) -> Option<usize> {
-        self.calls = self.calls.and(&(), &());
+        self.calls = self.calls.and(&(), &(), &());
         let count = text.len().min(self.room);
         self.has_failed = self.has_failed
             || (count == 0 && !text.is_empty())

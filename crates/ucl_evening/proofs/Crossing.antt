@@ -4,9 +4,9 @@ use denote.Ref.{NamedLft}
 use denote.Param.Send.{IsSend, IsSync, AllSend, owning_send, sendable}
 use denote.Struct.Owning.{fields}
 use Rattle.std.specs.contracts.fs.File as file
-use Rattle.ucl_screen.specs.contracts.calls.Tally as tally
-use Rattle.ucl_screen.specs.contracts.devices.FromRead as source
-use Rattle.ucl_screen.specs.contracts.devices.ToWrite as sink
+use Rattle.ucl_io.specs.contracts.tally.Tally as tally
+use Rattle.ucl_io.specs.contracts.devices.FromRead as source
+use Rattle.ucl_io.specs.contracts.devices.ToWrite as sink
 use Rattle.ucl_evening.specs.contracts.files.In as input
 use Rattle.ucl_evening.specs.contracts.files.Out as output
 

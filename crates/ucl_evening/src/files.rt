@@ -2,8 +2,9 @@
 
 use std::fs::{File, Files, Metadata, OpenOptions};
 use std::io::{Read, Write};
-use std::os::unix::fs::MetadataExt;
-use std::{fs, io};
+use std::os::unix::fs::{FileTypeExt, MetadataExt};
+use std::path::Path;
+use std::{fs, io, mem};
 
 /// A file or pipe that rows come from. It is opened by the first read.
 #[derive(Drop)]
@@ -98,6 +99,33 @@ impl<R: Files<File = File>> Write for Out<'_, R> {
 /// What a name stands for, where it stands for anything.
 pub fn found<R: Files>(files: &R, name: &str) -> Option<Metadata> {
     fs::metadata(files, name).ok()
+}
+
+/// The folder that a file of this name is in, or would be, where there is one.
+pub fn folder_of<R: Files>(files: &R, name: &str) -> Option<Metadata> {
+    let folder = Path::new(name).parent()?;
+    found(
+        files,
+        if folder.as_str().is_empty() {
+            "."
+        } else {
+            folder.as_str()
+        },
+    )
+}
+
+/// Whether it is a device, such as a terminal, at which any number of names may be.
+pub fn is_device(found: &Metadata) -> bool {
+    found.file_type().is_char_device()
+}
+
+/// Opens descriptors 0 to 2, for good, where they were closed at the start, so that no file of the evening takes their place.
+pub fn hold_descriptors<R: Files<File = File>>(files: &R) {
+    for _ in 0..3u8 {
+        if let Ok(file) = fs::open(files, "/dev/null") {
+            mem::forget(file);
+        }
+    }
 }
 
 /// Whether it is a file with bytes in it.

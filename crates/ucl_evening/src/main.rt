@@ -7,6 +7,7 @@ mod hold;
 mod outputs;
 mod ready;
 
+use files::hold_descriptors;
 use hold::hold;
 use outputs::tell_stop;
 use ready::ready_for;
@@ -19,6 +20,7 @@ use ucl_screen::ToWrite;
 /// Runs the program. Standard output has no buffer, so that nothing is left to flush.
 fn main(rt: HostRuntime) -> ExitCode {
     let alloc = rt.alloc();
+    hold_descriptors(&rt);
     let mut output = ToWrite::new(rt.stdout());
     let mut errors = ToWrite::new(rt.stderr());
     let asked = match words_of(&rt, alloc) {

@@ -8,9 +8,11 @@ use crate::outputs::{Befores, Stop, befores_of};
 use std::alloc::Global;
 use std::fs::{File, Files};
 use ucl_command::{EveningArgs, Format, LiveArgs};
-use ucl_evenings_threads::{Reporter, Screen};
+use ucl_evenings_threads::{Reporter, Screen, night_towards};
 use ucl_runs::RunFault;
-use ucl_screen::{FromRead, Night, ToWrite, read_night};
+use ucl_screen::{
+    FIRST_EVENT_ROW, FromRead, InputFault, Night, ToWrite, read_all, read_night, read_words,
+};
 
 /// What an evening needs: `S` is where rows come from, and `V` where answers and screens go.
 #[derive(Drop)]
@@ -74,12 +76,18 @@ fn screens_on<'r, R: Files<File = File>>(
     Ok(screens)
 }
 
-/// The script that the words name.
-fn script_of<R: Files<File = File>>(rt: &R, alloc: Global, name: &str) -> Result<Night, RunFault>
+/// The script that the argument names. Where it has the words of a board in place of events, it is events that lead to these words.
+fn script_of<R: Files<File = File>>(rt: &R, alloc: Global, name: &str) -> Result<Night, Stop>
     ensures few { IfOk result (λ night. length night.events.items ≤ most_bytes) }
 {
-    let mut source = FromRead::new(In::named(rt, name));
-    Ok(read_night(alloc, &mut source)?)
+    let bytes = read_all(alloc, &mut FromRead::new(In::named(rt, name)))?;
+    match read_night(alloc, &mut FromRead::new(bytes.as_slice())) {
+        Err(InputFault::BadRow { row }) if row == u32::from(FIRST_EVENT_ROW) => {
+            let sheet = read_words(alloc, &mut FromRead::new(bytes.as_slice()))?;
+            Ok(night_towards(alloc, sheet)?)
+        }
+        night => Ok(night?),
+    }
 }
 
 /// Looks at all names, reads the script, and gets the reporters and screens ready, none of whose files is opened yet.

@@ -1,161 +1,295 @@
--- What a reporter's run comes to.
-use Rattle.std.proofs.Common.{◌≡◌, ◌⊎◌, ℕ, ◌+◌, List, [], ◌∷◌, ◌++◌, length, Option, refl, sym, subst, inl, inr, append-nil}
-use Rattle.std.specs.Prelude.{⊤, Result, Ok, Err, IfErr, OnOk}
-use Rattle.std.specs.Io.KnownBytes.{Appends, Consumes, IsAtEnd, Keeps}
+-- What a reporter's run comes to, from what the driver says of it.
+use Rattle.std.proofs.Common.{◌≡◌, ◌⊎◌, ℕ, ◌+◌, ◌≤◌, Bool, List, [], ◌∷◌, ◌++◌, length, Option, refl, sym, ap, ap₂, ◌∙◌, subst, inl, inr, append_assoc, append-nil, arith, length-append}
+use Rattle.std.specs.Prelude.{⊤, Result, Ok, Err}
+use Rattle.std.specs.Io.KnownBytes.{Appends, Consumes}
 use mathlib.Core.List.{IsPrefix}
-use Rattle.ucl_board.proofs.Beginnings.{begins_longer, begins_same}
-use Rattle.ucl_screen.specs.declared.fault.InputFault.TheVariants.{ReadFailed}
-use Rattle.ucl_screen.proofs.MovedBytes.{consumes-kept, consumes-then}
-use Rattle.ucl_shared.specs.Passes.{PassView}
+use Rattle.ucl_board.proofs.Beginnings.{begins_longer}
+use Rattle.ucl_io.specs.declared.fault.PumpFault.{PumpFault}
+use Rattle.ucl_io.specs.declared.fault.PumpFault.TheVariants.{Machine, ReadFailed, TooLong, WriteFailed}
+use Rattle.ucl_io.specs.Calls.{Device, LogsCalls}
+use Rattle.ucl_io.specs.Output.{SinkEnds, StoppedAt}
+use Rattle.ucl_io.specs.Turns.{AreGiven, AreTurns, IsLeft, KeptBack, StopsNext, Turn, lines_in, state_after, text_in}
+use Rattle.ucl_io.specs.Pumping.{LineRules, HasClosed, HasMade, IsPromptAt, Pumped, Seen, StopsLast, is_source_failed, rules_of}
+use Rattle.ucl_io.proofs.Calls.{logs-as}
+use Rattle.ucl_io.proofs.Turns.{lines_count as turns_count}
+use Rattle.ucl_shared.specs.Passes.{PassView, IsSound}
 use Rattle.ucl_runs.specs.declared.fault.RunFault.{RunFault}
-use Rattle.ucl_runs.specs.declared.fault.RunFault.TheVariants.{Input, OutOfMemory, WriteFailed, NotOnDuty, NoThread, TooManyReporters, Strangers}
-use Rattle.ucl_answers.specs.Lines.{begun_line, ended_lines, last_lines, lines_of}
-use Rattle.ucl_answers.specs.Stepping.{Device, HasEnded}
-use Rattle.ucl_answers.specs.Wires.{AskedMore}
-use Rattle.ucl_answers.proofs.Moments.{ended-append}
-use Rattle.ucl_answers.proofs.Wires.{asked-then, ended, ended-since}
+use Rattle.ucl_runs.specs.Run.{SinkFails, fault_of, is_read_failed}
+use Rattle.ucl_runs.proofs.Driven.{IfMachine, IsOwn, reads, sinks}
+use Rattle.ucl_io.specs.Lines.{begun_line, ended_lines}
+use Rattle.ucl_answers.specs.Lines.{last_lines, lines_of}
 use Rattle.ucl_evenings.specs.declared.went.Went.{Went}
 use Rattle.ucl_evenings.specs.Answering.{calls_typed, typed_answers}
-use Rattle.ucl_evenings.specs.Reporting.{RangFor}
-use Rattle.ucl_evenings.specs.Rows.{AnswersStop, AreAnswered, AreAnsweredSo, FailsToAnswer, IsAnsweredUpTo, TookRows}
+use Rattle.ucl_evenings.specs.Reporting.{RangFor, accepted_in}
+use Rattle.ucl_evenings.specs.Rows.{IsAnsweredUpTo, RunEnds, StopsInLast, TookRows, TurnsBy, TurnsLines}
 use Rattle.ucl_evenings.proofs.Events.{rang_for}
-use Rattle.ucl_evenings.proofs.Lines.{answered_then, begins_behind, lines_count, reported_then, stopped_then}
+use Rattle.ucl_evenings.proofs.LineAnswers.{answers_none, answers_then}
+use Rattle.ucl_evenings.proofs.Lines.{by_none, by_then, lines_count}
 
--- ---- each time that the source was asked
+behind : (a b c : List Went) → IsPrefix b c → IsPrefix (a ++ b) (a ++ c)
+behind [] b c p = p
+behind (w ∷ a) b c p = let q = behind a b c p in (q.0, ap (λ (x : List Went). w ∷ x) q.1)
 
-module _ {S W : Type 0} (calls_of : S → ℕ) (left : S → Option (List ℕ)) (taken : W → Option (List ℕ)) (rung : W → ℕ → Type 0) (left0 taken0 : Option (List ℕ)) (rung0 : ℕ → Type 0) where
-  abbrev count : S × W → ℕ
-  count time = calls_of time.0
+-- what a machine whose pass reports events does with lines
+module _ (M K : Type 0) (board : M → K) (view : M → PassView) (reports rung : M → ℕ → Type 0) (A Z : M → ℕ → List ℕ → M → List ℕ → Type 0) (S E : M → ℕ → List ℕ → RunFault → Type 0)
+    (stays : (m : M) (row : ℕ) (line : List ℕ) (n : M) (text : List ℕ) → A m row line n text → board n ≡ board m)
+    (ends : (m : M) (row : ℕ) (line : List ℕ) (n : M) (text : List ℕ) → Z m row line n text → board n ≡ board m)
+    (gives : (m : M) (row : ℕ) (line : List ℕ) (n : M) (text : List ℕ) → A m row line n text → TurnsLines (view m) (view n) (reports m) (reports n) (rung m) (rung n) row (line ∷ []) text)
+    (closes : (m : M) (row : ℕ) (begun : List ℕ) (n : M) (text : List ℕ) → Z m row begun n text
+    → TurnsLines (view m) (view n) (reports m) (reports n) (rung m) (rung n) row (last_lines begun) text)
+    (never : (m : M) (row : ℕ) (line : List ℕ) (f : RunFault) → S m row line f → ⊥) (never_last : (m : M) (row : ℕ) (line : List ℕ) (f : RunFault) → E m row line f → ⊥) where
+  unfoldable went_of : (row : ℕ) (m : M) (turns : List (Turn M)) → AreTurns A row m turns → List Went
+  unfolding AreTurns
+  went_of row m [] p = []
+  went_of row m (t ∷ turns) p = (gives m row t.line t.after t.text p.0).0 ++ went_of (row + 1) t.after turns p.1
 
-  abbrev Prompt : List Went → S × W → Type 0
-  Prompt went time = IsAnsweredUpTo went left0 (left time.0) taken0 (taken time.1) rung0 (rung time.1)
+  abbrev By : M → M → ℕ → List (List ℕ) → List ℕ → List Went → Type 0
+  By m n row lines text went = TurnsBy (view m) (view n) (reports m) (reports n) (rung m) (rung n) row lines text went
 
-  up_to_longer : (went later : List Went) (time : S × W) → Prompt went time → Prompt (went ++ later) time
-  up_to_longer went later time u = record {
-    bytes = u.bytes;
-    first = u.first;
-    among = begins_longer u.first went later u.among;
-    each = u.each;
-    consumed = u.consumed;
-    answered = u.answered;
-    rang = u.rang;
-  }
+  turned : (row : ℕ) (m : M) (turns : List (Turn M)) (p : AreTurns A row m turns) → IsSound (view m) → By m (state_after m turns) row (lines_in turns) (text_in turns) (went_of row m turns p)
+  unfolding AreTurns went_of lines_in text_in state_after
+  turned row m [] p sound = by_none (view m) (reports m) (rung m) row sound
+  turned row m (t ∷ turns) p sound =
+      let x = gives m row t.line t.after t.text p.0 in
+      let n = state_after t.after turns in
+      by_then (view m) (view t.after) (view n) (reports m) (reports t.after) (reports n) (rung m) (rung t.after) (rung n) row (row + 1) (t.line ∷ []) (lines_in turns) t.text (text_in turns) x.0 _ refl
+      x.1 (turned (row + 1) t.after turns p.1 x.1.reported.rows.always.sound)
 
-  asked_longer : (old new : List (S × W)) (calls calls2 : ℕ) (went later : List Went) → AskedMore count old new calls calls2 (Prompt went)
-      → AskedMore count old new calls calls2 (Prompt (went ++ later))
-  asked_longer old new calls calls2 went later p = record {
-    times = p.times;
-    more = p.more;
-    each = p.each;
-    in_turn = p.in_turn;
-    held = λ i d below. up_to_longer went later _ (p.held i d below);
-  }
+  same_board : (row : ℕ) (m : M) (turns : List (Turn M)) → AreTurns A row m turns → board (state_after m turns) ≡ board m
+  unfolding AreTurns state_after
+  same_board row m [] p = refl
+  same_board row m (t ∷ turns) p = same_board (row + 1) t.after turns p.1 ∙ stays m row t.line t.after t.text p.0
 
-  -- it was asked once more
-  pub asked_again : (old mid new : List (S × W)) (calls calls2 calls3 : ℕ) (went later : List Went) (time : S × W) → AskedMore count old mid calls calls2 (Prompt went) → new ≡ mid ++ time ∷ []
-      → calls3 ≡ calls2 + 1 → count time ≡ calls2 → Prompt went time → AskedMore count old new calls calls3 (Prompt (went ++ later))
-  asked_again old mid new calls calls2 calls3 went later time p e n is now =
-      asked_longer old new calls calls3 went later (asked-then count old mid new calls calls2 calls3 (Prompt went) time p e n is now)
+  front : (row : ℕ) (m : M) (first rest : List (Turn M)) (p : AreTurns A row m (first ++ rest)) → (q : AreTurns A row m first) × IsPrefix (went_of row m first q) (went_of row m (first ++ rest) p)
+  unfolding AreTurns went_of
+  front row m [] rest p = (tt, (_, refl))
+  front row m (t ∷ first) rest p = let x = front (row + 1) t.after first rest p.1 in ((p.0, x.0), behind _ _ _ x.1)
 
--- what is out by now
-pub up_to_now : (k m : PassView) (a b : ℕ → Type 0) (bytes : List ℕ) (went : List Went) (out out2 : ℕ) (left left2 taken taken2 : Option (List ℕ)) (rung rung2 : ℕ → Type 0) → Consumes left left2 bytes
-    → AreAnsweredSo k m a b 1 (ended_lines [] bytes) went out out2 taken taken2 → RangFor k m rung rung2 → IsAnsweredUpTo went left left2 taken taken2 rung rung2
-up_to_now k m a b bytes went out out2 left left2 taken taken2 rung rung2 consumed p rang = record {
-  bytes = bytes;
-  first = went;
-  among = begins_same went;
-  each = lines_count k m a b (ended_lines [] bytes) went p.reported;
-  consumed = consumed;
-  answered = p.given;
-  rang = rang_for k m (calls_typed (ended_lines [] bytes)) went rung rung2 p.reported.rows rang;
-}
+  front_of : (row : ℕ) (m : M) (turns first rest : List (Turn M)) → turns ≡ first ++ rest → (p : AreTurns A row m turns)
+      → (q : AreTurns A row m first) × IsPrefix (went_of row m first q) (went_of row m turns p)
+  front_of row m turns first rest e =
+      subst (λ (l : List (Turn M)). (p : AreTurns A row m l) → (q : AreTurns A row m first) × IsPrefix (went_of row m first q) (went_of row m l p)) (sym e) (front row m first rest)
 
--- ---- how a run ends
+  lines_last : (before : List (Turn M)) (last : Turn M) → lines_in (before ++ last ∷ []) ≡ lines_in before ++ last.line ∷ []
+  unfolding lines_in
+  lines_last [] last = refl
+  lines_last (t ∷ before) last = ap (λ (l : List (List ℕ)). t.line ∷ l) (lines_last before last)
 
-module _ (k m z : PassView) (a b c : ℕ → Type 0) (old mid new : Device) (bytes : List ℕ) (went : List Went) (written : ℕ) (consumed : Consumes old.left mid.left bytes)
-    (p : AreAnsweredSo k m a b 1 (ended_lines [] bytes) went 0 written old.taken mid.taken) (Prompt : List Went → Type 0) where
-  abbrev done : List (List ℕ)
-  done = ended_lines [] bytes
+  module _ (old new : Seen M) (sound : IsSound (view old.machine)) where
+    -- the answers to some first lines do not depend on how later events went
+    first_text : (turns first rest : List (Turn M)) → turns ≡ first ++ rest → (p : AreTurns A 1 old.machine turns) (more : List Went)
+        → typed_answers 1 (lines_in first) (went_of 1 old.machine turns p ++ more) ≡ text_in first
+    first_text turns first rest e p more =
+        let x = front_of 1 old.machine turns first rest e p in
+        let went = went_of 1 old.machine first x.0 in
+        let by = turned 1 old.machine first x.0 sound in
+        let z = state_after old.machine first in
+        ap (λ (l : List Went). typed_answers 1 (lines_in first) (l ++ more)) (sym x.1.1) ∙ ap (typed_answers 1 (lines_in first)) (append_assoc went x.1.0 more)
+        ∙ ap (λ (l : List (List ℕ)). typed_answers 1 l (went ++ (x.1.0 ++ more))) (sym (append-nil (lines_in first)))
+        ∙ answers_then 1 (lines_in first) [] went (x.1.0 ++ more) (lines_count (view old.machine) (view z) (reports old.machine) (reports z) (lines_in first) went by.reported)
+        ∙ ap₂ (λ (a b : List ℕ). a ++ b) (sym by.text_is) (answers_none (1 + length (lines_in first)) (x.1.0 ++ more)) ∙ append-nil (text_in first)
 
-  -- the source failed
-  pub run_read_failed : (read : ℕ) → Keeps mid.left new.left → new.taken ≡ mid.taken → read ≡ length bytes → Prompt went → TookRows k m a b old new (Err (Input (ReadFailed read))) Prompt
-  run_read_failed read kept same is prompt = record {
-    bytes = bytes;
-    lines = done;
-    went = went;
-    consumed = consumes-kept old.left mid.left new.left bytes consumed kept;
-    reported = p.reported;
-    prompt = prompt;
-    ends = (record { all = refl; answered = subst (λ (t : Option (List ℕ)). Appends old.taken t (typed_answers 1 done went)) (sym same) p.given }, is);
-  }
+    -- at one time
+    prompt : (now : Seen M) (turns : List (Turn M)) (p : AreTurns A 1 old.machine turns) (later : List Went) → IsPromptAt 258 old now turns
+        → IsAnsweredUpTo (went_of 1 old.machine turns p ++ later) old.left now.left old.taken now.taken (rung old.machine) (rung now.machine)
+    prompt now turns p later u =
+        let x = front_of 1 old.machine turns u.first u.later u.among p in
+        let went = went_of 1 old.machine u.first x.0 in
+        let by = subst (λ (l : List (List ℕ)). By old.machine (state_after old.machine u.first) 1 l (text_in u.first) went) u.lines (turned 1 old.machine u.first x.0 sound) in
+        let z = state_after old.machine u.first in
+        record {
+          bytes = u.bytes;
+          first = went;
+          among = begins_longer went (went_of 1 old.machine turns p) later x.1;
+          each = lines_count (view old.machine) (view z) (reports old.machine) (reports z) (ended_lines 258 [] u.bytes) went by.reported;
+          consumed = u.consumed;
+          answered = subst (Appends old.taken now.taken) by.text_is u.out;
+          rang = subst (λ (k : M). (n : ℕ) → rung old.machine n → rung k (n + accepted_in went)) (sym u.machine)
+              (rang_for (view old.machine) (view z) (calls_typed (ended_lines 258 [] u.bytes)) went (rung old.machine) (rung z) by.reported.rows by.rang);
+        }
 
-  -- the sink failed in some lines of more bytes, or in a last line
-  stops : (more : List ℕ) (first : List (List ℕ)) (later : List Went) (count : ℕ) → Consumes mid.left new.left more
-      → (IsPrefix (done ++ first) (ended_lines [] (bytes ++ more)) ⊎ (HasEnded old.left new.left × IsPrefix (done ++ first) (lines_of (bytes ++ more))))
-      → (s : AnswersStop m z b c (1 + length done) first written new.sink_failed mid.taken new.taken count) → s.went ≡ later → Prompt (went ++ later)
-      → TookRows k z a c old new (Err (WriteFailed count)) Prompt
-  stops more first later count moved some s is prompt = record {
-    bytes = bytes ++ more;
-    lines = done ++ first;
-    went = went ++ s.went;
-    consumed = consumes-then old.left mid.left new.left bytes more consumed moved;
-    reported = reported_then k m z a b c done first went s.went p.reported s.reported;
-    prompt = subst (λ (l : List Went). Prompt (went ++ l)) (sym is) prompt;
-    ends = record { some = some; stopped = stopped_then k m z a b c 1 done first went s.went 0 written old.taken mid.taken new.taken p new.sink_failed count s.stopped };
-  }
+    all_turns : (turns : List (Turn M)) (p : AreTurns A 1 old.machine turns) → new.machine ≡ state_after old.machine turns
+        → By old.machine new.machine 1 (lines_in turns) (text_in turns) (went_of 1 old.machine turns p ++ [])
+    all_turns turns p is =
+        subst (By old.machine new.machine 1 (lines_in turns) (text_in turns)) (sym (append-nil (went_of 1 old.machine turns p)))
+        (subst (λ (k : M). By old.machine k 1 (lines_in turns) (text_in turns) (went_of 1 old.machine turns p)) (sym is) (turned 1 old.machine turns p sound))
 
-  pub run_stopped : (more : List ℕ) (f : RunFault) → Consumes mid.left new.left more
-      → FailsToAnswer m z b c (1 + length done) (ended_lines (begun_line [] bytes) more) written new.sink_failed mid.taken new.taken f
-      → ((later : List Went) → Prompt (went ++ later)) → TookRows k z a c old new (Err f) Prompt
-  run_stopped more (WriteFailed count) moved q prompt =
-      let all = ended-append [] bytes more in
-      let some = subst (λ (l : List (List ℕ)). IsPrefix (done ++ q.0) l) (sym all) (begins_behind done q.0 (ended_lines (begun_line [] bytes) more) q.1) in
-      stops more q.0 q.2.went count moved (inl some) q.2 refl (prompt q.2.went)
-  run_stopped more OutOfMemory moved q prompt = absurd q
-  run_stopped more (Input e) moved q prompt = absurd q
-  run_stopped more (NotOnDuty n) moved q prompt = absurd q
-  run_stopped more NoThread moved q prompt = absurd q
-  run_stopped more TooManyReporters moved q prompt = absurd q
-  run_stopped more (Strangers version) moved q prompt = absurd q
+    with_last : (turns : List (Turn M)) (p : AreTurns A 1 old.machine turns) (begun text : List ℕ) (x : Z (state_after old.machine turns) (1 + length turns) begun new.machine text)
+        → By old.machine new.machine 1 (lines_in turns ++ last_lines begun) (text_in turns ++ text)
+        (went_of 1 old.machine turns p ++ (closes (state_after old.machine turns) (1 + length turns) begun new.machine text x).0)
+    with_last turns p begun text x =
+        let z = state_after old.machine turns in
+        let last = closes z (1 + length turns) begun new.machine text x in
+        by_then (view old.machine) (view z) (view new.machine) (reports old.machine) (reports z) (reports new.machine) (rung old.machine) (rung z) (rung new.machine) 1 (1 + length turns)
+        (lines_in turns) (last_lines begun) (text_in turns) text (went_of 1 old.machine turns p) last.0 (ap (λ (n : ℕ). 1 + n) (sym (turns_count M turns)))
+        (turned 1 old.machine turns p sound) last.1
 
-  at_last : IsAtEnd mid.left → Consumes mid.left new.left [] → HasEnded old.left new.left
-  at_last at_end moved = ended-since old.left mid.left new.left bytes consumed (ended mid.left new.left at_end moved)
+    -- ---- how a run ends that has taken these bytes
 
-  last_stopped : (f : RunFault) → Consumes mid.left new.left [] → HasEnded old.left new.left
-      → FailsToAnswer m z b c (1 + length done) (last_lines (begun_line [] bytes)) written new.sink_failed mid.taken new.taken f
-      → ((later : List Went) → Prompt (went ++ later)) → TookRows k z a c old new (Err f) Prompt
-  last_stopped (WriteFailed count) moved at_end q prompt =
-      let some : IsPrefix (done ++ q.0) (lines_of bytes) = begins_behind done q.0 (last_lines (begun_line [] bytes)) q.1 in
-      let some2 = subst (λ (l : List ℕ). IsPrefix (done ++ q.0) (lines_of l)) (sym (append-nil bytes)) some in
-      stops [] q.0 q.2.went count moved (inr (at_end, some2)) q.2 refl (prompt q.2.went)
-  last_stopped OutOfMemory moved at_end q prompt = absurd q
-  last_stopped (Input e) moved at_end q prompt = absurd q
-  last_stopped (NotOnDuty n) moved at_end q prompt = absurd q
-  last_stopped NoThread moved at_end q prompt = absurd q
-  last_stopped TooManyReporters moved at_end q prompt = absurd q
-  last_stopped (Strangers version) moved at_end q prompt = absurd q
+    module _ (failed : Bool) where
+      abbrev Stops : List (List ℕ) → List Went → ℕ → Type 0
+      Stops lines went n = StopsInLast 1 lines went 0 failed old.taken new.taken n
 
-  -- the input ended
-  pub run_ended : (out2 : ℕ) (r : Result ⊤ RunFault) → IsAtEnd mid.left → Consumes mid.left new.left []
-      → OnOk r (AreAnswered m z b c (1 + length done) (last_lines (begun_line [] bytes)) written out2 mid.taken new.taken)
-      → IfErr r (FailsToAnswer m z b c (1 + length done) (last_lines (begun_line [] bytes)) written new.sink_failed mid.taken new.taken)
-      → ((later : List Went) → Prompt (went ++ later)) → TookRows k z a c old new r Prompt
-  run_ended out2 (Ok v) at_end moved q e prompt =
-      let all = answered_then k m z a b c 1 done (last_lines (begun_line [] bytes)) went q.0 0 written old.taken mid.taken new.taken p out2 q.1 in record {
-        bytes = bytes;
-        lines = lines_of bytes;
-        went = went ++ q.0;
-        consumed = subst (Consumes old.left new.left) (append-nil bytes) (consumes-then old.left mid.left new.left bytes [] consumed moved);
-        reported = all.reported;
-        prompt = prompt q.0;
-        ends = record { ended = at_last at_end moved; all = refl; answered = all.given };
-      }
-  run_ended out2 (Err f) at_end moved q e prompt = last_stopped f moved (at_last at_end moved) e prompt
+      cut : (text text2 : List ℕ) (n count : ℕ) → text ≡ text2 → StoppedAt 0 failed old.taken new.taken text n count → StoppedAt 0 failed old.taken new.taken text2 n count
+      cut text text2 n count e s = subst (λ (l : List ℕ). StoppedAt 0 failed old.taken new.taken l n count) e s
 
--- it goes on
-pub goes_further : (k m z : PassView) (a b c : ℕ → Type 0) (bytes more : List ℕ) (went later : List Went) (written out2 : ℕ) (w x y : Option (List ℕ))
-    → AreAnsweredSo k m a b 1 (ended_lines [] bytes) went 0 written w x → AreAnsweredSo m z b c (1 + length (ended_lines [] bytes)) (ended_lines (begun_line [] bytes) more) later written out2 x y
-    → AreAnsweredSo k z a c 1 (ended_lines [] (bytes ++ more)) (went ++ later) 0 out2 w y
-goes_further k m z a b c bytes more went later written out2 w x y p q =
-    subst (λ (l : List (List ℕ)). AreAnsweredSo k z a c 1 l (went ++ later) 0 out2 w y) (sym (ended-append [] bytes more))
-    (answered_then k m z a b c 1 (ended_lines [] bytes) (ended_lines (begun_line [] bytes) more) went later 0 written w x y p out2 q)
+      -- in the answer to the last of the lines
+      turns_stop : (turns : List (Turn M)) (p : AreTurns A 1 old.machine turns) (is : new.machine ≡ state_after old.machine turns) (n count : ℕ) → KeptBack 0 [] turns count
+          → StoppedAt 0 failed old.taken new.taken (text_in turns) n count → Stops (lines_in turns) (went_of 1 old.machine turns p ++ []) n
+      turns_stop turns p is n count kept s =
+          let all = all_turns turns p is in
+          let there = cut (text_in turns) _ n count all.text_is s in
+          let before = ap (λ (l : List ℕ). length l) (first_text turns kept.before (kept.last ∷ []) kept.in_last p []) in
+          let most = kept.most in record {
+            before = lines_in kept.before;
+            last = kept.last.line;
+            in_last = ap (λ (l : List (Turn M)). lines_in l) kept.in_last ∙ lines_last kept.before kept.last;
+            stopped = record { failed_is = there.failed_is; count = count; first = there.first; told = there.told };
+            answered = omega arith;
+          }
+
+      -- in the answer to a last one without an end
+      last_stops : (turns : List (Turn M)) (p : AreTurns A 1 old.machine turns) (begun last : List ℕ) (x : Z (state_after old.machine turns) (1 + length turns) begun new.machine last) (n count : ℕ)
+          → length (text_in turns) ≤ count → StoppedAt 0 failed old.taken new.taken (text_in turns ++ last) n count
+          → Stops (lines_in turns ++ last_lines begun) (went_of 1 old.machine turns p ++ (closes (state_after old.machine turns) (1 + length turns) begun new.machine last x).0) n
+      last_stops turns p [] last x n count out s =
+          let by = (closes (state_after old.machine turns) (1 + length turns) [] new.machine last x).1 in
+          let none = ap (λ (l : List ℕ). length l) (by.text_is ∙ answers_none (1 + length turns) _) in
+          let long = length-append (text_in turns) last in
+          let less = s.first.cut in absurd (omega arith)
+      last_stops turns p (b ∷ line) last x n count out s =
+          let all = with_last turns p (b ∷ line) last x in
+          let there = cut (text_in turns ++ last) _ n count all.text_is s in
+          let before = ap (λ (l : List ℕ). length l) (first_text turns turns [] (sym (append-nil turns)) p
+          (closes (state_after old.machine turns) (1 + length turns) (b ∷ line) new.machine last x).0) in record {
+            before = lines_in turns;
+            last = b ∷ line;
+            in_last = refl;
+            stopped = record { failed_is = there.failed_is; count = count; first = there.first; told = there.told };
+            answered = omega arith;
+          }
+
+      module _ (T : Type 0) (count : T → ℕ) (at : T → Seen M) (times times2 : List T) (calls calls2 : ℕ) where
+        abbrev Before : List (Turn M) → Type 0
+        Before turns = LogsCalls count times times2 calls calls2 (λ t. IsPromptAt 258 old (at t) turns)
+
+        abbrev Then : List Went → Type 0
+        Then went = LogsCalls count times times2 calls calls2 (λ t. IsAnsweredUpTo went old.left (at t).left old.taken (at t).taken (rung old.machine) (rung (at t).machine))
+
+        abbrev D : LineRules M RunFault
+        D = rules_of A S Z E
+
+        abbrev Run : Result ℕ (PumpFault RunFault) → Type 0
+        Run result = Pumped D 258 0 old new failed result Before
+
+        always : (turns : List (Turn M)) (p : AreTurns A 1 old.machine turns) (later : List Went) → Before turns → Then (went_of 1 old.machine turns p ++ later)
+        always turns p later logged = logs-as count times times2 calls calls2 _ _ (λ t u. prompt (at t) turns p later u) logged
+
+        no_fault : (f : RunFault) (bytes : List ℕ) (turns : List (Turn M)) (rest : List (List ℕ)) → (StopsNext S 1 old.machine turns rest f ⊎ StopsLast D 258 old new bytes turns rest f) → ⊥
+        no_fault f bytes turns rest (inl e) = never _ _ _ f e.stops
+        no_fault f bytes turns rest (inr e) = never_last _ _ _ f e.stops
+
+        module _ (x y z : Bool) where
+          abbrev before : Device
+          before = record { left = old.left; source_failed = x; taken = old.taken; sink_failed = y }
+
+          abbrev after : Device
+          after = record { left = new.left; source_failed = z; taken = new.taken; sink_failed = failed }
+
+          -- what it came to
+          pub record Came (result : Result ⊤ RunFault) : Type 0 where
+            pub took : TookRows (view old.machine) (view new.machine) (reports old.machine) (reports new.machine) before after result Then
+            pub rang : RangFor (view old.machine) (view new.machine) (rung old.machine) (rung new.machine)
+            pub same : board new.machine ≡ board old.machine
+
+          module _ (bytes : List ℕ) (turns : List (Turn M)) (rest : List (List ℕ)) (consumed : Consumes old.left new.left bytes)
+              (p : AreGiven A 1 old.machine (ended_lines 258 [] bytes) turns rest) (logged : Before turns) where
+            all_lines : rest ≡ [] → lines_in turns ≡ ended_lines 258 [] bytes
+            all_lines none = sym (p.lines_are ∙ ap (λ (l : List (List ℕ)). lines_in turns ++ l) none ∙ append-nil (lines_in turns))
+
+            -- between two lines
+            came_turns : (result : Result ⊤ RunFault) → new.machine ≡ state_after old.machine turns
+                → RunEnds before after result bytes (lines_in turns) (went_of 1 old.machine turns p.turned ++ []) → Came result
+            came_turns result is how = let all = all_turns turns p.turned is in record {
+              took = record {
+                bytes = bytes;
+                lines = lines_in turns;
+                went = went_of 1 old.machine turns p.turned ++ [];
+                consumed = consumed;
+                reported = all.reported;
+                prompt = always turns p.turned [] logged;
+                ends = how;
+              };
+              rang = all.rang;
+              same = ap board is ∙ same_board 1 old.machine turns p.turned;
+            }
+
+            -- at the end
+            came_last : (result : Result ⊤ RunFault) (last : List ℕ) (e : HasClosed D 258 old new bytes turns rest last)
+                → RunEnds before after result bytes (lines_in turns ++ last_lines (begun_line 258 [] bytes))
+                (went_of 1 old.machine turns p.turned ++ (closes (state_after old.machine turns) (1 + length turns) (begun_line 258 [] bytes) new.machine last e.last).0) → Came result
+            came_last result last e how = let all = with_last turns p.turned (begun_line 258 [] bytes) last e.last in record {
+              took = record {
+                bytes = bytes;
+                lines = lines_in turns ++ last_lines (begun_line 258 [] bytes);
+                went = _;
+                consumed = consumed;
+                reported = all.reported;
+                prompt = always turns p.turned _ logged;
+                ends = how;
+              };
+              rang = all.rang;
+              same = ends (state_after old.machine turns) (1 + length turns) (begun_line 258 [] bytes) new.machine last e.last ∙ same_board 1 old.machine turns p.turned;
+            }
+
+            whole_lines : (last : List ℕ) → HasClosed D 258 old new bytes turns rest last → lines_in turns ++ last_lines (begun_line 258 [] bytes) ≡ lines_of bytes
+            whole_lines last e = ap (λ (l : List (List ℕ)). l ++ last_lines (begun_line 258 [] bytes)) (all_lines e.all)
+
+            came_short : (n : ℕ) (text : List ℕ) (k : ℕ) → HasMade D 258 0 old new bytes turns rest text k → StoppedAt 0 failed old.taken new.taken text n k → Came (Err (fault_of (WriteFailed n)))
+            came_short n text k (inl (e, inl is, kept)) s =
+                came_turns (Err (fault_of (WriteFailed n))) is
+                (record { some = inl (rest, sym p.lines_are); stopped = turns_stop turns p.turned is n k kept (cut text (text_in turns) n k e s) })
+            came_short n text k (inl (e, inr stops, kept)) s = absurd (never _ _ _ _ stops.1.stops)
+            came_short n text k (inr (last, e, closed, out)) s =
+                came_last (Err (fault_of (WriteFailed n))) last closed
+                (record {
+                  some = inr (closed.ended, ([], append-nil _ ∙ whole_lines last closed));
+                  stopped = last_stops turns p.turned (begun_line 258 [] bytes) last closed.last n k out (cut text (text_in turns ++ last) n k e s);
+                })
+
+          pub came_well : (n : ℕ) (done : ⊤) → Run (Ok n) → Came (Ok done)
+          came_well n done p =
+              let e = p.ends.1 in
+              let all = with_last p.turns p.given.turned (begun_line 258 [] p.bytes) e.0 e.1.last in
+              came_last p.bytes p.turns p.rest p.consumed p.given p.prompt (Ok done) e.0 e.1
+              (record {
+                ended = e.1.ended;
+                all = whole_lines p.bytes p.turns p.rest p.consumed p.given p.prompt e.0 e.1;
+                answered = subst (Appends old.taken new.taken) all.text_is e.2;
+              })
+
+          pub came_badly : (f : PumpFault RunFault) → Run (Err f) → Came (Err (fault_of f))
+          came_badly (ReadFailed n) p =
+              let e = p.ends.1 in
+              let all = all_turns p.turns p.given.turned e.machine in
+              came_turns p.bytes p.turns p.rest p.consumed p.given p.prompt (Err (fault_of (ReadFailed n))) e.machine
+              (record { all = all_lines p.bytes p.turns p.rest p.consumed p.given p.prompt e.all; answered = subst (Appends old.taken new.taken) all.text_is e.out }, p.ends.0)
+          came_badly TooLong p =
+              let e = p.ends.1 in
+              let all = all_turns p.turns p.given.turned e.machine in
+              came_turns p.bytes p.turns p.rest p.consumed p.given p.prompt (Err (fault_of TooLong)) e.machine
+              (record { all = all_lines p.bytes p.turns p.rest p.consumed p.given p.prompt e.all; answered = subst (Appends old.taken new.taken) all.text_is e.out }, p.ends.0)
+          came_badly (WriteFailed n) p = came_short p.bytes p.turns p.rest p.consumed p.given p.prompt n p.ends.0 p.ends.1 p.ends.2 p.ends.3
+          came_badly (Machine f) p = absurd (no_fault f p.bytes p.turns p.rest p.ends.0)
+
+        own : (f : PumpFault RunFault) → Run (Err f) → IfMachine IsOwn f
+        own (ReadFailed n) p = tt
+        own TooLong p = tt
+        own (WriteFailed n) p = tt
+        own (Machine f) p = absurd (no_fault f p.bytes p.turns p.rest p.ends.0)
+
+        pub run_reads : (f : PumpFault RunFault) (z : Bool) → Run (Err f) → z ≡ is_source_failed {V = ℕ} (Err f) → z ≡ is_read_failed {U = ⊤} (Err (fault_of f))
+        run_reads f z p e = reads ℕ ⊤ f z (own f p) e
+
+        pub run_sinks : (f : PumpFault RunFault) (y z : Bool) → Run (Err f) → SinkEnds {V = ℕ} y z (Err f) → SinkFails y z (fault_of f)
+        run_sinks f y z p e = sinks ℕ f y z (own f p) e

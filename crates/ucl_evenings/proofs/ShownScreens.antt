@@ -11,9 +11,9 @@ use Rattle.ucl_board.specs.History.{board_of}
 use Rattle.ucl_board.proofs.HistoryLaws.{versions as versions_are}
 use Rattle.ucl_board.proofs.Beginnings.{begins_length, begins_same, begins_take, begins_through, take_beginning}
 use Rattle.ucl_order.specs.Roster.{NamedClub}
-use Rattle.ucl_screen.proofs.MovedBytes.{appends-none, appends-then}
+use Rattle.ucl_io.proofs.MovedBytes.{appends-none, appends-then}
 use Rattle.ucl_runs.specs.declared.fault.RunFault.TheVariants.{WriteFailed}
-use Rattle.ucl_runs.specs.Run.{StoppedShort}
+use Rattle.ucl_io.specs.Output.{StoppedShort}
 use Rattle.ucl_runs.proofs.EnteredRows.{goes_on}
 use Rattle.ucl_runs.proofs.Parts.{stopped_second}
 use Rattle.ucl_shared.specs.Passes.{PassView, Continues, SharedReading}

@@ -8,7 +8,7 @@ use Rattle.ucl_board.specs.History.{board_of}
 use Rattle.ucl_order.specs.Roster.{NamedClub}
 use Rattle.ucl_runs.specs.declared.fault.RunFault.{RunFault}
 use Rattle.ucl_runs.specs.declared.fault.RunFault.TheVariants.{OutOfMemory, WriteFailed}
-use Rattle.ucl_runs.specs.Run.{StoppedShort}
+use Rattle.ucl_io.specs.Output.{StoppedShort}
 use Rattle.ucl_shared.specs.Passes.{PassView, Continues}
 use Rattle.ucl_command.specs.declared.live.LiveArgs.{LiveArgs}
 use Rattle.ucl_answers.specs.Text.{screen_answer}

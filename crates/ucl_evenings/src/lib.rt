@@ -3,14 +3,15 @@
 #![tactic(auto)]
 
 mod answer;
+mod reporter;
 mod ring;
-mod rows;
 mod show;
 mod take;
 mod typed;
 mod went;
 
-pub use ring::{Desk, Ring};
+pub use reporter::{Reporter, Said};
+pub use ring::Ring;
 pub use show::{Bell, Screens, show_boards, show_noted, show_on};
 pub use take::take_rows;
 pub use went::Went;

@@ -3,7 +3,7 @@
 ghost use Rattle.std.specs.Prelude.{◌≡◌, ◌-◌, ◌^◌, ◌<◌, ◌≤◌, [], ◌∷◌, IfErr, IfOk, IfSome, OnOk, string_bytes};
 ghost use mathlib.Core.List.{IsPrefix};
 ghost use Rattle.ucl_shared.specs.Passes.{Continues};
-ghost use Rattle.ucl_answers.specs.Output.{SinkFails};
+ghost use Rattle.ucl_runs.specs.Run.{SinkFails};
 ghost use Rattle.ucl_answers.specs.Text.{screen_answer};
 ghost use Rattle.ucl_evenings.specs.Showing.{AreFew, EndWasTold, GaveNotes, GoesOnOrStays, FailsToShowReading, HasShownReading, OnlyGives, ShowsBoards, ShowsFurther, ends_by, no_screen};
 

@@ -11,13 +11,13 @@ use Rattle.ucl_board.specs.declared.entry.Entry.{Entry}
 use Rattle.ucl_board.specs.declared.reading.Reading.{Reading}
 use Rattle.ucl_board.proofs.Beginnings.{take_whole}
 use Rattle.ucl_order.specs.Roster.{NamedClub}
-use Rattle.ucl_screen.specs.declared.stream.Source as sources
-use Rattle.ucl_screen.specs.declared.stream.Sink as sinks
+use Rattle.ucl_io.specs.declared.stream.Source as sources
+use Rattle.ucl_io.specs.declared.stream.Sink as sinks
 use Rattle.ucl_shared.specs.declared.live_board.LiveBoard as boards
 use Rattle.ucl_shared.specs.Passes.{PassView, entries_by}
 use Rattle.ucl_runs.specs.declared.fault.RunFault.{RunFault}
 use Rattle.ucl_answers.specs.Lines.{lines_of}
-use Rattle.ucl_answers.specs.Stepping.{Device}
+use Rattle.ucl_io.specs.Calls.{Device}
 use Rattle.ucl_evenings.specs.Answering.{calls_typed}
 use Rattle.ucl_evenings.specs.Reporting.{entered_in}
 use Rattle.ucl_evenings.specs.declared.went.Went.{Went}

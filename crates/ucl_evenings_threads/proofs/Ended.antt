@@ -11,15 +11,15 @@ use Rattle.ucl_shared.specs.Passes.{PassView, IsSound, ReportsMore}
 use Rattle.ucl_runs.specs.declared.fault.RunFault.{RunFault}
 use Rattle.ucl_runs.specs.declared.fault.RunFault.TheVariants.{Input, OutOfMemory, WriteFailed, NotOnDuty, NoThread, TooManyReporters, Strangers}
 use Rattle.ucl_command.specs.declared.live.LiveArgs.{LiveArgs}
-use Rattle.ucl_answers.specs.Output.{SinkFails}
-use Rattle.ucl_answers.specs.Stepping.{Device}
+use Rattle.ucl_runs.specs.Run.{SinkFails}
+use Rattle.ucl_io.specs.Calls.{Device}
 use Rattle.ucl_evenings.specs.declared.went.Went.{Went}
 use Rattle.ucl_evenings.specs.Answering.{calls_typed}
 use Rattle.ucl_evenings.specs.Reporting.{HasReportedRows}
 use Rattle.ucl_evenings.specs.Rows.{TookRows}
 use Rattle.ucl_evenings.specs.Showing.{EndsWithLatest, RiseWithin, ScreensEnd, Screening, ShowsSince, SoFar, AreFew, GoesOnOrStays, screens_shown}
 use Rattle.ucl_evenings.proofs.ShownScreens.{goes_next, rise_count, rise_lower, rise_upper, screens_on}
-use Rattle.ucl_screen.specs.declared.stream.Sink as sinks
+use Rattle.ucl_io.specs.declared.stream.Sink as sinks
 use Rattle.ucl_shared.specs.declared.live_board.LiveBoard as boards
 use Rattle.ucl_evenings_threads.specs.declared.workers.Screen.{Screen}
 use Rattle.ucl_evenings_threads.specs.declared.workers.ScreenEnd.{ScreenEnd}

@@ -10,8 +10,8 @@ use Rattle.ucl_board.specs.declared.reading.Reading.{Reading}
 use Rattle.ucl_board.specs.History.{entry_of, sequential_reply}
 use Rattle.ucl_board.proofs.Beginnings.{at_beginning, begins_length, begins_take, begins_through, take_beginning}
 use Rattle.ucl_order.specs.Roster.{NamedClub}
-use Rattle.ucl_screen.specs.declared.stream.Source as sources
-use Rattle.ucl_screen.specs.declared.stream.Sink as sinks
+use Rattle.ucl_io.specs.declared.stream.Source as sources
+use Rattle.ucl_io.specs.declared.stream.Sink as sinks
 use Rattle.ucl_shared.specs.declared.live_board.LiveBoard as boards
 use Rattle.ucl_shared.specs.Passes.{PassView, Continues, SharedReading}
 use Rattle.ucl_evenings.specs.declared.went.Went.{Went}

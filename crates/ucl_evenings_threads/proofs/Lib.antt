@@ -7,6 +7,7 @@ pub mod Running
 pub mod OneReporter
 pub mod Decided
 mod Judged
+mod Beginnings
 mod Told
 mod Stopped
 mod Entering

@@ -7,8 +7,8 @@ use mathlib.Core.List.{IsPrefix}
 use Rattle.ucl_board.specs.declared.entry.Entry.{Entry}
 use Rattle.ucl_board.proofs.Beginnings.{begins_length, begins_same}
 use Rattle.ucl_order.specs.Roster.{NamedClub}
-use Rattle.ucl_screen.specs.declared.stream.Source as sources
-use Rattle.ucl_screen.specs.declared.stream.Sink as sinks
+use Rattle.ucl_io.specs.declared.stream.Source as sources
+use Rattle.ucl_io.specs.declared.stream.Sink as sinks
 use Rattle.ucl_shared.specs.declared.live_board.LiveBoard as boards
 use Rattle.ucl_shared.specs.Passes.{PassView}
 use Rattle.ucl_evenings_threads.specs.declared.screens.Ran.{Ran}

@@ -4,7 +4,7 @@ use Rattle.std.proofs.Common.{Some, None, inl, inr, length-append, arith, true}
 use Rattle.std.specs.Prelude.{⊤, Result, Ok, Err, unwrap_or}
 use Rattle.std.specs.Io.KnownBytes.{Appends}
 use Rattle.std.proofs.lemmas.List.{take-append-le}
-use Rattle.ucl_screen.proofs.MovedBytes.{appends-then}
+use Rattle.ucl_io.proofs.MovedBytes.{appends-then}
 use Rattle.ucl_runs.specs.declared.fault.RunFault.TheVariants.{Input, OutOfMemory, WriteFailed, NotOnDuty, NoThread, TooManyReporters, Strangers}
 use Rattle.ucl_runs.specs.Run.{IsCutShort}
 use Rattle.ucl_runs.specs.Telling.{Tells}

@@ -3,14 +3,21 @@ use Rattle.std.specs.Prelude.{◌≡◌, ◌⊎◌, ⊤, ℕ, ◌+◌, ◌-◌, 
 use Rattle.std.specs.Result.{is_ok}
 use mathlib.Core.List.{IsPrefix}
 use Rattle.ucl_board.specs.declared.entry.Entry.{Entry}
-use Rattle.ucl_board.specs.History.{after_attempt, entry_of, followed_by, sequential_reply}
+use Rattle.ucl_board.specs.History.{after_attempt, board_of, entry_of, followed_by, sequential_reply}
 use Rattle.ucl_shared.specs.declared.live_board.LiveBoard as boards
 use Rattle.ucl_shared.specs.Passes.{PassView, entries_by}
 use Rattle.ucl_screen.specs.declared.fault.InputFault.TheVariants.{BadRow}
+use Rattle.ucl_board.specs.Words.{greatest_version}
+use Rattle.ucl_board.specs.Ways.{IsFirstUnreached, words_under}
+use Rattle.ucl_screen.specs.declared.night.Night.{Night}
 use Rattle.ucl_screen.specs.declared.night.NightEvent.{NightEvent}
+use Rattle.ucl_screen.specs.declared.sheet.Sheet.{Sheet}
+use Rattle.ucl_evenings_threads.specs.declared.beginning.NoBeginning.{NoBeginning}
+use Rattle.ucl_evenings_threads.specs.declared.beginning.NoBeginning.TheVariants.{Unreachable}
 use Rattle.ucl_screen.specs.Script.{first_event_row}
 use Rattle.ucl_runs.specs.declared.fault.RunFault.{RunFault}
 use Rattle.ucl_runs.specs.declared.fault.RunFault.TheVariants.{Input, OutOfMemory, TooManyReporters}
+use Rattle.ucl_evenings_threads.specs.declared.beginning.NoBeginning.TheVariants as no_beginning
 use Rattle.ucl_runs.specs.Feed.{attempt_of}
 
 -- the history after events, the first of which is in this row, where each is accepted; or the first row whose event is refused
@@ -19,6 +26,24 @@ entered_from row history [] = Ok history
 entered_from row history (event ∷ events) =
     if is_ok (sequential_reply history event.call) then entered_from (row + 1) (after_attempt history (attempt_of event)) events
     else Err (Input (BadRow row))
+
+-- the events are all of one reporter, and are accepted one after the other, up to the board with these words
+pub record LeadTo (reporter : ℕ) (words : List ℕ) (events : List NightEvent) : Type 0 where
+  pub theirs : All (λ event. event.reporter ≡ reporter) events
+  pub history : List Entry
+  pub accepted : entered_from first_event_row [] events ≡ Ok history
+  pub board : board_of history ≡ words
+
+-- a night has the clubs of a sheet, and its events lead to the sheet's board as it were, had reporter 1 entered all
+pub record BeginsFrom (sheet : Sheet) (night : Night) : Type 0 where
+  pub clubs : night.roster ≡ sheet.roster
+  pub few : length night.events.items ≤ greatest_version
+  pub lead : LeadTo 1 (words_under 1 sheet.board) night.events.items
+
+-- an evening does not begin from a sheet: no legal history has the record of this match, or there is no memory
+abbrev pub IsNoBeginning : Sheet → NoBeginning → Type 0
+IsNoBeginning sheet (Unreachable game) = IsFirstUnreached sheet.board game
+IsNoBeginning sheet no_beginning.OutOfMemory = ⊤
 
 -- the events are all accepted, or the first row is told whose event is not
 abbrev pub IsJudgedAs : Result (List Entry) RunFault → Result ⊤ RunFault → Type 0

@@ -6,7 +6,7 @@ use mathlib.Core.List.{IsPrefix}
 use Rattle.ucl_word.specs.declared.event.EventCall.{EventCall}
 use Rattle.ucl_board.specs.declared.entry.Entry.{Entry}
 use Rattle.ucl_board.specs.History.{Attempt, after_attempt, attempted, board_of}
-use Rattle.ucl_screen.specs.declared.stream.Source as sources
+use Rattle.ucl_io.specs.declared.stream.Source as sources
 use Rattle.ucl_shared.specs.declared.live_board.LiveBoard as boards
 use Rattle.ucl_shared.specs.Passes.{PassView, entries_by}
 use Rattle.ucl_answers.specs.Lines.{lines_of}

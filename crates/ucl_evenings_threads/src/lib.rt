@@ -2,6 +2,7 @@
 //! what is told in the end.
 #![tactic(auto)]
 
+mod beginning;
 mod bells;
 mod earlier;
 mod ending;
@@ -15,6 +16,7 @@ mod screens;
 mod tally;
 mod workers;
 
+pub use beginning::{NoBeginning, night_towards};
 pub use earlier::{Earlier, enter_earlier};
 pub use ending::{Part, Worker, put_words, tell_faults, tell_part};
 pub use evening::{EveningEnd, hold_evening};

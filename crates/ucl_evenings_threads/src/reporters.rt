@@ -15,8 +15,8 @@ use std::alloc::Global;
 use std::snapshot::Snapshot;
 use std::sync::Wait;
 use std::thread::{Promise, PromisedHandle, Scope, Threads};
-use ucl_answers::Wire;
-use ucl_evenings::{Desk, take_rows};
+use ucl_evenings::{Reporter, take_rows};
+use ucl_io::Duplex;
 use ucl_runs::RunFault;
 use ucl_screen::{Sink, Source};
 use ucl_shared::LiveBoard;
@@ -32,22 +32,29 @@ fn report<B: LiveBoard, S: Source, W: Sink, R: Wait>(
     ensures { HasRun B.LiveBoard board.entry.now S.Source W.Sink enlisted result }
 {
     let Enlisted {
-        mut pass,
+        pass,
         rows,
         replies,
     } = enlisted;
-    let desk = Desk {
-        sink: replies,
+    let mut reporter = Reporter {
+        rt,
+        board,
+        pass,
         bells: Bells::of(wakes),
     };
-    let mut wire = Wire::new(rows, desk);
-    let result = take_rows(rt, board, &mut pass, &mut wire);
-    let Wire {
+    let mut duplex = Duplex::new(rows, replies);
+    let result = take_rows(&mut reporter, &mut duplex);
+    let Duplex {
         source,
         sink,
-        asked: _,
-    } = wire;
-    let Desk { sink, bells: _ } = sink;
+        log: _,
+    } = duplex;
+    let Reporter {
+        rt: _,
+        board: _,
+        pass,
+        bells: _,
+    } = reporter;
     ReporterEnd {
         pass,
         rows: source,

@@ -3,20 +3,20 @@
 #![tactic(auto)]
 
 use std::process::ExitCode;
-use ucl_answers::Wire;
 use ucl_command::words_of;
 pub use ucl_command::{LineFault, follow_args};
 pub use ucl_follows::run_following;
+use ucl_io::Duplex;
 use ucl_screen::{FromRead, ToWrite};
 
 /// Runs the program over the standard streams. Standard output has no buffer, so that nothing is left to flush.
 fn main(rt: HostRuntime) -> ExitCode {
     let alloc = rt.alloc();
-    let mut wire = Wire::new(FromRead::new(rt.stdin()), ToWrite::new(rt.stdout()));
+    let mut duplex = Duplex::new(FromRead::new(rt.stdin()), ToWrite::new(rt.stdout()));
     let mut errors = ToWrite::new(rt.stderr());
     let asked = match words_of(&rt, alloc) {
         Ok(words) => follow_args(alloc, &words),
         Err(fault) => Err(fault),
     };
-    ExitCode::from(run_following(alloc, asked, &mut wire, &mut errors))
+    ExitCode::from(run_following(alloc, asked, &mut duplex, &mut errors))
 }

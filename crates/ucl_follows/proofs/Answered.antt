@@ -1,5 +1,5 @@
 -- What an evening answers tells its moment.
-use Rattle.std.proofs.Common.{◌≡◌, ◌∙◌, ℕ, zero, suc, ◌+◌, ◌*◌, ◌/◌, ◌%◌, ◌^◌, ◌<◌, ◌≤◌, ◌&&◌, ◌==◌, Bool, true, false, refl, ap, arith, List, [], ◌∷◌, codes}
+use Rattle.std.proofs.Common.{◌≡◌, ◌∙◌, ℕ, zero, suc, ◌+◌, ◌*◌, ◌/◌, ◌%◌, ◌^◌, ◌<◌, ◌&&◌, ◌==◌, Bool, true, false, refl, ap, arith, List, [], ◌∷◌, codes}
 use Rattle.std.proofs.Common.{length, Option, Some, None, le-leb, inl}
 use Rattle.std.specs.Prelude.{All, nat_le, option_and_then, Ok}
 use Rattle.std.specs.Fmt.{digit_glyph}
@@ -11,16 +11,17 @@ use Rattle.serde_json.proofs.OnLiterals.{serde_json_on_literals}
 use Rattle.ucl_board.specs.Words.{AreWords}
 use Rattle.ucl_order.specs.declared.profile.Profile.{Profile}
 use Rattle.ucl_order.specs.declared.profile.Profile.TheVariants.{Uefa, AwayInTie}
+use Rattle.ucl_order.specs.Names.{profile_name, profile_named}
 use Rattle.ucl_order.specs.Roster.{IsClub, IsRoster, NamedClub, bad_slot, bad_slot_from, is_club, is_name}
 use Rattle.ucl_screen.specs.Numbers.{hex_digits}
 use Rattle.ucl_screen.specs.Numbers.{hex_after, hex_digit, hex_word}
 use Rattle.ucl_screen.specs.Screen.{IsGroup}
 use Rattle.ucl_screen.specs.WordsRead.{read_words}
 use Rattle.ucl_screen.proofs.ReadWords.{all-read}
-use Rattle.ucl_json.specs.Values.{accepted_value, club_items, order_name, screen_value, word_items}
+use Rattle.ucl_json.specs.Values.{accepted_value, club_items, screen_value, word_items}
 use Rattle.ucl_answers.proofs.WordDigits.{low, word-digits}
 use Rattle.ucl_follows.specs.declared.moment.Moment.{Moment}
-use Rattle.ucl_follows.specs.Told.{board_told, club_told, clubs_told, each_told, group_told, if_read, just, letter_in, list_at, listed, moment_told, order_called}
+use Rattle.ucl_follows.specs.Told.{board_told, club_told, clubs_told, each_told, group_told, if_read, just, letter_in, list_at, listed, moment_told}
 use Rattle.ucl_follows.specs.Told.{order_told, roster_told, text_at, word_told}
 use Rattle.ucl_follows.specs.Answered.{AnswersTellTheirMoment, IsMoment}
 
@@ -134,7 +135,7 @@ clubs-told (a ∷ b ∷ c ∷ d ∷ e ∷ more) is = absurd (let t = is.four in 
 letter-told : (group : ℕ) → IsGroup group → letter_in (group ∷ []) ≡ Some group
 letter-told group h = rw (le-leb 65 group h.0, le-leb group 72 h.1) refl
 
-order-back : (profile : Profile) → order_called (order_name profile) ≡ Some profile
+order-back : (profile : Profile) → profile_named (profile_name profile) ≡ Some profile
 order-back Uefa = refl
 order-back AwayInTie = refl
 
@@ -146,13 +147,13 @@ unfolding moment_told
 told-by value m a b c d = rw (a, b, c, d) refl
 
 abbrev Has : Data → Moment → Type 0
-Has value m = (text_at (codes "group") value ≡ Some (m.group ∷ [])) × (text_at (codes "order") value ≡ Some (order_name m.profile))
+Has value m = (text_at (codes "group") value ≡ Some (m.group ∷ [])) × (text_at (codes "order") value ≡ Some (profile_name m.profile))
     × (list_at (codes "clubs") value ≡ Some (listed (club_items m.roster))) × (list_at (codes "words") value ≡ Some (listed (word_items m.board)))
 
 tells : (value : Data) (m : Moment) → IsMoment m → Has value m → moment_told value ≡ Some m
 tells value m is (group, order, clubs, words) = told-by value m
     (ap (option_and_then letter_in) group ∙ letter-told m.group is.letter)
-    (ap (option_and_then order_called) order ∙ order-back m.profile)
+    (ap (option_and_then profile_named) order ∙ order-back m.profile)
     (ap (option_and_then roster_told) clubs ∙ clubs-told m.roster is.clubs)
     (rw words (board-told m.board is.words is.bits))
 

@@ -1,5 +1,4 @@
 pub mod Members
-pub mod Bytes
 pub mod Shown
 pub mod Runs
 pub mod Answered

@@ -3,12 +3,11 @@ use Rattle.std.proofs.Common.{◌≡◌, ◌∙◌, ℕ, suc, ◌+◌, ◌<◌, 
 use Rattle.std.proofs.Common.{get_or, append_assoc, Option, Some, None, le-leb, leb-true, inl, inr}
 use Rattle.std.specs.Prelude.{nat_le, map, option_and_then}
 use Rattle.std.specs.List.{slice_index_or}
-use Rattle.std.specs.Str.{bytes_eq, is_utf8}
+use Rattle.std.specs.Str.{is_utf8}
 use Rattle.std.specs.Prelude.{IsUtf8}
 use Rattle.std.proofs.lemmas.Str.{IsUtf8-from_is_utf8, is_utf8-from_IsUtf8}
 use Rattle.serde_json.specs.Read.{read}
 use Rattle.ucl_follows.specs.declared.moment.Moment.{Moment}
-use Rattle.std.proofs.lemmas.Slice.Eq.{bytes_eq-Decides}
 use Rattle.std.proofs.lemmas.Bool.{cases_Bool}
 use Rattle.std.proofs.lemmas.Bool.Decides.{nat_tests}
 use Rattle.std.proofs.lemmas.List.{take-append-drop, take_more}
@@ -23,7 +22,7 @@ use Rattle.ucl_screen.specs.Events.{◌>>=◌}
 use Rattle.ucl_screen.specs.Numbers.{digits_after, hex_word}
 use Rattle.ucl_screen.specs.Screen.{IsGroup}
 use Rattle.ucl_screen.specs.Script.{word_of_row}
-use Rattle.ucl_follows.specs.Told.{club_told, each_told, if_read, just, letter_in, listed, moment_on, moment_told, order_called, roster_told, unless_bad}
+use Rattle.ucl_follows.specs.Told.{club_told, each_told, if_read, just, letter_in, listed, moment_on, moment_told, roster_told, unless_bad}
 
 -- ---- one letter
 
@@ -53,18 +52,6 @@ other_letter (x ∷ []) some one other = go (nat_le 65 x && nat_le x 72) refl
     go : (b : Bool) → (nat_le 65 x && nat_le x 72) ≡ b → None ≡ cond b (Some x) None
     go false e = refl
     go true e = let parts = both _ _ e in absurd (other (leb-true _ _ parts.0, leb-true _ _ parts.1))
-
--- ---- the name of an order
-
-differs : (xs ys : List ℕ) → (xs ≡ ys → ⊥) → bytes_eq xs ys ≡ false
-differs xs ys other = go (bytes_eq xs ys) refl
-  where
-    go : (b : Bool) → bytes_eq xs ys ≡ b → b ≡ false
-    go false e = refl
-    go true e = absurd (other ((bytes_eq-Decides xs ys).0 e))
-
-pub no_order : (text : List ℕ) → (text ≡ codes "uefa" → ⊥) → (text ≡ codes "away-in-tie" → ⊥) → None ≡ order_called text
-no_order text uefa away = rw (differs text (codes "uefa") uefa, differs text (codes "away-in-tie") away) refl
 
 -- ---- a word
 

@@ -10,7 +10,8 @@ use Rattle.ucl_runs.specs.Lines.{word_line}
 use Rattle.ucl_screen.specs.Rows.{FourFields}
 use Rattle.ucl_screen.specs.Script.{club_of, word_of_row}
 use Rattle.ucl_command.specs.declared.live.LiveArgs.{LiveArgs}
-use Rattle.ucl_answers.specs.Lines.{begun_line, ended_lines, last_lines, lines_of}
+use Rattle.ucl_io.specs.Lines.{begun_line, ended_lines}
+use Rattle.ucl_answers.specs.Lines.{last_lines, lines_of}
 use Rattle.ucl_answers.specs.Requests.{request_of}
 use Rattle.ucl_answers.specs.Rows.{Row}
 use Rattle.ucl_answers.specs.Stages.{Stage, Naming, Open, Restoring, after_club, after_row, after_word, next_stage, opened, with_clubs, with_roster, with_words}
@@ -156,21 +157,21 @@ board-passes options clubs (word ∷ more) are bits =
 
 -- ---- what comes next
 
-whole-lines : (text : List ℕ) → begun_line [] text ≡ [] → lines_of text ≡ ended_lines [] text
-whole-lines text none = ap (λ (l : List ℕ). ended_lines [] text ++ last_lines l) none ∙ append-nil (ended_lines [] text)
+whole-lines : (text : List ℕ) → begun_line 258 [] text ≡ [] → lines_of text ≡ ended_lines 258 [] text
+whole-lines text none = ap (λ (l : List ℕ). ended_lines 258 [] text ++ last_lines l) none ∙ append-nil (ended_lines 258 [] text)
 
 goes-on : (e f : Evening) (text bytes : List ℕ) → Passes e text f → live_text e (text ++ bytes) ≡ live_text f bytes
 goes-on e f text bytes p =
-    let none : begun_line [] text ≡ [] = ap (λ (m : Point). m.begun) p.after in
-    let after : after_lines e (ended_lines [] text) ≡ f = ap (λ (m : Point). m.evening) p.after in
-    let ended : ended_lines [] (text ++ bytes) ≡ ended_lines [] text ++ ended_lines [] bytes =
-    ended-append [] text bytes ∙ ap (λ (l : List ℕ). ended_lines [] text ++ ended_lines l bytes) none in
-    let begun : begun_line [] (text ++ bytes) ≡ begun_line [] bytes = begun-append [] text bytes ∙ ap (λ (l : List ℕ). begun_line l bytes) none in
-    let lines : lines_of (text ++ bytes) ≡ ended_lines [] text ++ lines_of bytes =
-    ap (λ (ls : List (List ℕ)). ls ++ last_lines (begun_line [] (text ++ bytes))) ended ∙ ap (λ (l : List ℕ). (ended_lines [] text ++ ended_lines [] bytes) ++ last_lines l) begun
-    ∙ append_assoc (ended_lines [] text) (ended_lines [] bytes) (last_lines (begun_line [] bytes)) in
-    ap (answers e) lines ∙ (answers-append e (ended_lines [] text) (lines_of bytes)
-    ∙ (ap (λ (l : List ℕ). l ++ answers (after_lines e (ended_lines [] text)) (lines_of bytes)) p.silent ∙ ap (λ (g : Evening). answers g (lines_of bytes)) after))
+    let none : begun_line 258 [] text ≡ [] = ap (λ (m : Point). m.begun) p.after in
+    let after : after_lines e (ended_lines 258 [] text) ≡ f = ap (λ (m : Point). m.evening) p.after in
+    let ended : ended_lines 258 [] (text ++ bytes) ≡ ended_lines 258 [] text ++ ended_lines 258 [] bytes =
+    ended-append [] text bytes ∙ ap (λ (l : List ℕ). ended_lines 258 [] text ++ ended_lines 258 l bytes) none in
+    let begun : begun_line 258 [] (text ++ bytes) ≡ begun_line 258 [] bytes = begun-append [] text bytes ∙ ap (λ (l : List ℕ). begun_line 258 l bytes) none in
+    let lines : lines_of (text ++ bytes) ≡ ended_lines 258 [] text ++ lines_of bytes =
+    ap (λ (ls : List (List ℕ)). ls ++ last_lines (begun_line 258 [] (text ++ bytes))) ended ∙ ap (λ (l : List ℕ). (ended_lines 258 [] text ++ ended_lines 258 [] bytes) ++ last_lines l) begun
+    ∙ append_assoc (ended_lines 258 [] text) (ended_lines 258 [] bytes) (last_lines (begun_line 258 [] bytes)) in
+    ap (answers e) lines ∙ (answers-append e (ended_lines 258 [] text) (lines_of bytes)
+    ∙ (ap (λ (l : List ℕ). l ++ answers (after_lines e (ended_lines 258 [] text)) (lines_of bytes)) p.silent ∙ ap (λ (g : Evening). answers g (lines_of bytes)) after))
 
 moment-passes : (options : LiveArgs) (m : Moment) → IsRoster m.roster → AreWords m.board → All (λ w. w < 2 ^ 64) m.board → Passes (start_of options) (resuming_rows m) (opened_at options m)
 moment-passes options m clubs words bits =

@@ -22,7 +22,8 @@ use Rattle.ucl_screen.specs.Numbers.{digits_after, is_digit, number}
 use Rattle.ucl_screen.specs.Rows.{FourFields}
 use Rattle.ucl_screen.specs.Script.{club_of, word_of_row}
 use Rattle.ucl_screen.proofs.Digits.{number-is}
-use Rattle.ucl_answers.specs.Reading.{AreJoining, EndsRow, HasNoFeed, IsBehindEnds, IsFieldBefore, IsLineEnd, is_joining}
+use Rattle.ucl_io.specs.Lines.{HasNoFeed}
+use Rattle.ucl_answers.specs.Reading.{AreJoining, EndsRow, IsBehindEnds, IsFieldBefore, IsLineEnd, is_joining}
 use Rattle.ucl_answers.specs.Rows.{Row, fits, of_rows, said_by_text}
 use Rattle.ucl_answers.proofs.PlainRows.{field-before, plain_row, row-ends}
 use Rattle.ucl_answers.proofs.RowBytes.{between-same, skip-one}

@@ -1,5 +1,6 @@
 -- What a follower writes.
 use Rattle.std.specs.Prelude.{ℕ, ◌+◌, ◌-◌, ◌^◌, ◌==◌, min, nat_lt, if◌then◌else◌, Bool, true, List, [], ◌∷◌, ◌++◌, codes, decimal, flat_map, Option, Some, None}
+use Rattle.ucl_io.specs.Lines.{ended_lines}
 use Rattle.ucl_board.specs.Words.{version_of}
 use Rattle.ucl_order.specs.Roster.{NamedClub, coefficient_of, name_of}
 use Rattle.ucl_runs.specs.Feed.{word_lines}
@@ -10,7 +11,6 @@ use Rattle.ucl_follows.specs.declared.moment.Moment.{Moment}
 use Rattle.ucl_follows.specs.declared.following.Following.{Following}
 use Rattle.ucl_command.specs.declared.follow.FollowArgs.{FollowArgs}
 use Rattle.ucl_command.specs.declared.follow.FollowArgs.TheVariants.{Text, Json, Rows}
-use Rattle.ucl_follows.specs.Heard.{whole_lines}
 use Rattle.ucl_follows.specs.Told.{moment_on}
 
 abbrev pub version_at : Moment → ℕ
@@ -83,10 +83,15 @@ resuming_text Rows None = []
 resuming_text Text newest = []
 resuming_text Json newest = []
 
+-- the lines that have an end, each without its line feed. What comes after the 4,097th byte of a line is passed over: it is too long by
+-- then. A line that is torn off, last, is none
+abbrev pub whole_lines : List ℕ → List (List ℕ)
+whole_lines bytes = ended_lines 4097 [] bytes
+
 -- the text of a follower that has this whole input
 abbrev pub follow_text : FollowArgs → List ℕ → List ℕ
-follow_text shape bytes = sights shape unseen (whole_lines [] bytes) ++ resuming_text shape (followed unseen (whole_lines [] bytes)).newest
+follow_text shape bytes = sights shape unseen (whole_lines bytes) ++ resuming_text shape (followed unseen (whole_lines bytes)).newest
 
 -- what it has followed by then
 abbrev pub follow_end : List ℕ → Following
-follow_end bytes = followed unseen (whole_lines [] bytes)
+follow_end bytes = followed unseen (whole_lines bytes)

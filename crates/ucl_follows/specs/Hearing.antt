@@ -1,59 +1,34 @@
--- A follower between two bytes of its input, and what is left of it where it fails.
-use Rattle.std.specs.Prelude.{◌≡◌, ◌⊎◌, ℕ, ◌^◌, ◌<◌, Bool, true, List, [], ◌++◌, length, Option}
+-- A follower as a machine, and what is left of it where a run fails.
+use Rattle.std.specs.Prelude.{◌≡◌, ◌⊎◌, ℕ, ◌^◌, ◌<◌, true, List, [], ◌++◌, length, Option, string_bytes}
 use Rattle.std.specs.Io.KnownBytes.{Appends, Consumes}
+use Rattle.ucl_io.specs.Calls.{Device, HasEnded}
+use Rattle.ucl_io.specs.Output.{StoppedShort}
 use Rattle.ucl_screen.specs.declared.fault.InputFault.TheVariants.{ReadFailed, TooLong}
 use Rattle.ucl_runs.specs.declared.fault.RunFault.{RunFault}
 use Rattle.ucl_runs.specs.declared.fault.RunFault.TheVariants.{Input, OutOfMemory, WriteFailed}
-use Rattle.ucl_runs.specs.Run.{StoppedShort}
-use Rattle.ucl_answers.specs.Output.{SinkChange}
-use Rattle.ucl_answers.specs.Stepping.{Device, HasEnded}
 use Rattle.ucl_follows.specs.declared.follower.Follower.{Follower}
+use Rattle.ucl_follows.specs.declared.follower.Sight.{Sight}
+use Rattle.ucl_follows.specs.declared.follower.Sight.TheVariants.{Nothing, Screen, Rows}
 use Rattle.ucl_follows.specs.declared.following.Following.{Following}
+use Rattle.ucl_follows.specs.declared.moment.Moment.{Moment}
 use Rattle.ucl_follows.specs.declared.run.Followed.{Followed}
 use Rattle.ucl_command.specs.declared.follow.FollowArgs.{FollowArgs}
-use Rattle.ucl_follows.specs.Heard.{torn_line, whole_lines}
-use Rattle.ucl_follows.specs.Follow.{follow_text, followed, sights, unseen}
+use Rattle.ucl_follows.specs.Follow.{after_told, follow_text, sights, unseen, whole_lines}
 
--- between two bytes: what was followed by the lines that have an end, and the line that has begun
-pub record Listener : Type 0 where
-  pub following : Following
-  pub torn : List ℕ
+abbrev pub sight_bytes : Sight → List ℕ
+sight_bytes Nothing = []
+sight_bytes (Screen text) = string_bytes text
+sight_bytes (Rows rows) = rows.items
 
--- before the first byte
-abbrev pub unheard : Listener
-unheard = record { following = unseen; torn = [] }
+abbrev pub shape_of : Follower → FollowArgs
+shape_of f = f.shape
 
-abbrev pub hearing_of : Follower → Listener
-hearing_of f = record { following = f.following; torn = f.line.items }
+abbrev pub following_of : Follower → Following
+following_of f = f.following
 
-abbrev pub out_of : Follower → ℕ
-out_of f = f.out
-
--- after bytes, and what the lines that end among them made it write
-abbrev pub heard : Listener → List ℕ → Listener
-heard h bytes = record { following = followed h.following (whole_lines h.torn bytes); torn = torn_line h.torn bytes }
-
-abbrev pub heard_text : FollowArgs → Listener → List ℕ → List ℕ
-heard_text shape h bytes = sights shape h.following (whole_lines h.torn bytes)
-
--- a text was not written: the sink failed in it, or there was no memory for it
-abbrev pub FailsToShow : ℕ → SinkChange → List ℕ → RunFault → Type 0
-FailsToShow out sink text (WriteFailed written) = StoppedShort out sink.failed sink.old sink.new text written
-FailsToShow out sink text OutOfMemory = sink.new ≡ sink.old
-FailsToShow out sink text _ = ⊥
-
--- a first part of bytes was heard, and all that its lines made it write went out
-pub record HeardFirst (shape : FollowArgs) (h : Listener) (bytes : List ℕ) (old new : Option (List ℕ)) : Type 0 where
-  pub front : List ℕ
-  pub rest : List ℕ
-  pub parts : bytes ≡ front ++ rest
-  pub out : Appends old new (heard_text shape h front)
-
--- bytes were not all heard
-abbrev pub FailsToHear : FollowArgs → Listener → List ℕ → ℕ → SinkChange → RunFault → Type 0
-FailsToHear shape h bytes out sink (WriteFailed written) = StoppedShort out sink.failed sink.old sink.new (heard_text shape h bytes) written
-FailsToHear shape h bytes out sink OutOfMemory = HeardFirst shape h bytes sink.old sink.new
-FailsToHear shape h bytes out sink _ = ⊥
+-- after a line that told this
+abbrev pub heard : Follower → Option Moment → Follower
+heard f told = record { alloc = f.alloc; shape = f.shape; following = after_told f.following told }
 
 -- ---- a whole run
 
@@ -61,27 +36,38 @@ FailsToHear shape h bytes out sink _ = ⊥
 abbrev pub counts_of : Following → Followed
 counts_of f = record { lines = f.lines; shown = f.shown }
 
+-- what the lines that end among these bytes made it write
+abbrev pub heard_text : FollowArgs → List ℕ → List ℕ
+heard_text shape bytes = sights shape unseen (whole_lines bytes)
+
 -- some bytes were taken by now, and what the lines that end among them made it write is out, and nothing else
 abbrev pub IsFollowedSoFar : FollowArgs → Option (List ℕ) → Option (List ℕ) → Option (List ℕ) → Option (List ℕ) → Type 0
-IsFollowedSoFar shape left left2 taken taken2 = (bytes : List ℕ) × Consumes left left2 bytes × Appends taken taken2 (heard_text shape unheard bytes)
+IsFollowedSoFar shape left left2 taken taken2 = (bytes : List ℕ) × Consumes left left2 bytes × Appends taken taken2 (heard_text shape bytes)
 
 -- the text that the sink failed in: that of the lines that came; or the whole text, once the input has ended
 abbrev pub IsTextFollowed : FollowArgs → List ℕ → Option (List ℕ) → Option (List ℕ) → List ℕ → Type 0
-IsTextFollowed shape bytes left left2 text = (text ≡ heard_text shape unheard bytes) ⊎ (HasEnded left left2 × (text ≡ follow_text shape bytes))
+IsTextFollowed shape bytes left left2 text = (text ≡ heard_text shape bytes) ⊎ (HasEnded left left2 × (text ≡ follow_text shape bytes))
 
 pub record FollowStops (shape : FollowArgs) (bytes : List ℕ) (old new : Device) (written : ℕ) : Type 0 where
   pub text : List ℕ
   pub text_is : IsTextFollowed shape bytes old.left new.left text
   pub stopped : StoppedShort 0 new.sink_failed old.taken new.taken text written
 
+-- a first part of bytes was heard, and all that its lines made it write went out
+pub record HeardFirst (shape : FollowArgs) (bytes : List ℕ) (old new : Option (List ℕ)) : Type 0 where
+  pub front : List ℕ
+  pub rest : List ℕ
+  pub parts : bytes ≡ front ++ rest
+  pub out : Appends old new (heard_text shape front)
+
 -- why a follower fails that has taken these bytes: the source failed after them, they are more than any input has, the sink failed, or
 -- there was no memory for a line, or for the rows of the end
 abbrev pub FollowFailsAfter : FollowArgs → List ℕ → Device → Device → RunFault → Type 0
 FollowFailsAfter shape bytes old new (Input (ReadFailed count)) =
-    (new.source_failed ≡ true) × (count ≡ length bytes) × Appends old.taken new.taken (heard_text shape unheard bytes)
-FollowFailsAfter shape bytes old new (Input TooLong) = (2 ^ 62 < length bytes) × Appends old.taken new.taken (heard_text shape unheard bytes)
+    (new.source_failed ≡ true) × (count ≡ length bytes) × Appends old.taken new.taken (heard_text shape bytes)
+FollowFailsAfter shape bytes old new (Input TooLong) = (2 ^ 62 < length bytes) × Appends old.taken new.taken (heard_text shape bytes)
 FollowFailsAfter shape bytes old new (WriteFailed written) = FollowStops shape bytes old new written
-FollowFailsAfter shape bytes old new OutOfMemory = HeardFirst shape unheard bytes old.taken new.taken
+FollowFailsAfter shape bytes old new OutOfMemory = HeardFirst shape bytes old.taken new.taken
 FollowFailsAfter shape bytes old new _ = ⊥
 
 pub record FollowFails (shape : FollowArgs) (old new : Device) (fault : RunFault) : Type 0 where

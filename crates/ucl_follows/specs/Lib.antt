@@ -1,4 +1,3 @@
-pub mod Heard
 pub mod Told
 pub mod Follow
 pub mod Hearing

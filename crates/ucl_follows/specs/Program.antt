@@ -1,30 +1,27 @@
 -- What the program does with what its words ask for.
-use Rattle.std.specs.Prelude.{◌≡◌, ◌-◌, ℕ, ⊤, Bool, List, ◌++◌, Option, IfSome, codes, decimal, Result, Ok, Err, IfErr, IfOk, OnOk}
+use Rattle.std.specs.Prelude.{◌≡◌, ◌-◌, ℕ, Bool, List, ◌++◌, Option, IfSome, codes, decimal, Result, Ok, Err, IfErr, IfOk, OnOk}
 use Rattle.std.specs.Io.KnownBytes.{Appends}
-use Rattle.ucl_screen.specs.declared.stream.Source as reads
-use Rattle.ucl_screen.specs.declared.stream.Sink as writes
+use Rattle.ucl_io.specs.declared.stream.Source as reads
+use Rattle.ucl_io.specs.declared.stream.Sink as writes
 use Rattle.ucl_runs.specs.declared.fault.RunFault.{RunFault}
 use Rattle.ucl_runs.specs.Faults.{status}
-use Rattle.ucl_runs.specs.Run.{is_read_failed}
+use Rattle.ucl_runs.specs.Run.{SinkFails, is_read_failed}
 use Rattle.ucl_runs.specs.Telling.{Tells, fault_line}
-use Rattle.ucl_answers.specs.declared.wire.Wire.{Wire}
-use Rattle.ucl_answers.specs.Output.{SinkFails}
-use Rattle.ucl_answers.specs.Stepping.{IsOfEvening, device}
-use Rattle.ucl_answers.specs.Wires.{AskedMore}
+use Rattle.ucl_io.specs.declared.duplex.Duplex.{Duplex}
+use Rattle.ucl_io.specs.Calls.{LogsCalls, device}
 use Rattle.ucl_command.specs.declared.fault.LineFault.{LineFault}
-use Rattle.ucl_answers.specs.Program.{AnsweredAlone}
+use Rattle.ucl_runs.specs.Ending.{AnsweredAlone}
 use Rattle.ucl_follows.specs.declared.run.Followed.{Followed}
 use Rattle.ucl_command.specs.declared.follow.FollowArgs.{FollowArgs}
 use Rattle.ucl_follows.specs.Follow.{follow_end, follow_text}
 use Rattle.ucl_follows.specs.Hearing.{FollowFails, IsFollowedSoFar, counts_of}
 
 -- lines were followed over a device for both ways, or that has the fault r: what `follow_run` says
-pub record FollowsLines {S W : Type 0} (source : reads.Ghosts S) (sink : writes.Ghosts W) (shape : FollowArgs) (before after : Wire S W) (r : Result Followed RunFault) : Type 0 where
+pub record FollowsLines {S W M : Type 0} (source : reads.Ghosts S) (sink : writes.Ghosts W) (shape : FollowArgs) (before after : Duplex S W M) (r : Result Followed RunFault) : Type 0 where
   pub text : OnOk r (IfSome (source.left before.source) (λ bytes. Appends (sink.taken before.sink) (sink.taken after.sink) (follow_text shape bytes)))
   pub counts : IfOk r (λ followed. IfSome (source.left before.source) (λ bytes. followed ≡ counts_of (follow_end bytes)))
   pub read_failed : source.failed after.source ≡ is_read_failed r
-  pub kinds : IfErr r IsOfEvening
-  pub prompt : AskedMore (λ time. source.calls time.0) before.asked.times after.asked.times (source.calls before.source) (source.calls after.source)
+  pub prompt : LogsCalls (λ time. source.calls time.0) before.log.times after.log.times (source.calls before.source) (source.calls after.source)
       (λ time. IsFollowedSoFar shape (source.left before.source) (source.left time.0) (sink.taken before.sink) (sink.taken time.1))
   pub sink_sound : OnOk r (sink.failed after.sink ≡ sink.failed before.sink)
   pub sink_fails : IfErr r (SinkFails (sink.failed before.sink) (sink.failed after.sink))
@@ -42,7 +39,7 @@ EndsFollowing (Err fault) code failed old new = (code ≡ status fault) × Tells
 
 -- what the program does where its words ask it to follow, ask for help, are refused, or could not be read for want of memory; and its
 -- exit status, and what it tells on the error sink
-abbrev pub RunsFollowing : {S W : Type 0} → reads.Ghosts S → writes.Ghosts W → Result FollowArgs LineFault → Wire S W → Wire S W
+abbrev pub RunsFollowing : {S W M : Type 0} → reads.Ghosts S → writes.Ghosts W → Result FollowArgs LineFault → Duplex S W M → Duplex S W M
     → ℕ → Bool → Option (List ℕ) → Option (List ℕ) → Type 0
 RunsFollowing source sink (Ok shape) before after code failed old new =
     (r : Result Followed RunFault) × FollowsLines source sink shape before after r × EndsFollowing r code failed old new

@@ -1,12 +1,12 @@
 -- The moment that a line tells: it is JSON whose members `group`, `order`, `clubs` and `words` are those of a board of a group. Whatever
 -- else a line has, and in whichever order, does not matter.
 use Rattle.std.specs.Prelude.{ℕ, ◌==◌, ◌&&◌, nat_le, if◌then◌else◌, List, [], ◌∷◌, codes, length, Option, Some, None, option_and_then, Result, Ok, Err}
-use Rattle.std.specs.Str.{bytes_eq, is_utf8}
+use Rattle.std.specs.Str.{is_utf8}
 use Rattle.serde_json.specs.Data.{Data, Items, item, no_items}
 use Rattle.serde_json.specs.Find.{as_array, as_number, as_str, as_u64, get}
 use Rattle.serde_json.specs.Read.{read}
 use Rattle.ucl_order.specs.declared.profile.Profile.{Profile}
-use Rattle.ucl_order.specs.declared.profile.Profile.TheVariants.{Uefa, AwayInTie}
+use Rattle.ucl_order.specs.Names.{profile_named}
 use Rattle.ucl_order.specs.Roster.{NamedClub, bad_slot, named}
 use Rattle.ucl_screen.specs.Events.{◌>>=◌}
 use Rattle.ucl_screen.specs.Numbers.{hex_word}
@@ -50,11 +50,8 @@ letter_in _ = None
 abbrev pub group_told : Data → Option ℕ
 group_told value = option_and_then letter_in (text_at (codes "group") value)
 
-abbrev pub order_called : List ℕ → Option Profile
-order_called text = if bytes_eq text (codes "uefa") then Some Uefa else (if bytes_eq text (codes "away-in-tie") then Some AwayInTie else None)
-
 abbrev pub order_told : Data → Option Profile
-order_told value = option_and_then order_called (text_at (codes "order") value)
+order_told value = option_and_then profile_named (text_at (codes "order") value)
 
 -- ---- four clubs, by their slots
 

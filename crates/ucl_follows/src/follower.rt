@@ -1,141 +1,139 @@
-//! A follower between two bytes of its input.
+//! A follower, which answers lines with screens.
 
-ghost use Rattle.std.specs.Prelude.{◌≡◌, ◌+◌, ◌-◌, ◌^◌, ◌<◌, ◌≤◌, [], ◌∷◌, IfErr, OnOk, length, min};
-ghost use Rattle.std.specs.Io.KnownBytes.{Appends};
-ghost use Rattle.ucl_answers.specs.Output.{SinkFails, sink_change};
-ghost use Rattle.ucl_follows.specs.Heard.{kept_line};
-ghost use Rattle.ucl_follows.specs.Hearing.{FailsToHear, FailsToShow, heard, heard_text, hearing_of, out_of, unheard};
-ghost use Rattle.ucl_follows.specs.Follow.{resuming_text};
+ghost use Rattle.std.specs.Prelude.{◌≡◌, ⊤, IfErr, IfOk};
+ghost use Rattle.ucl_screen.specs.Screen.{IsGroup};
+ghost use Rattle.ucl_follows.specs.Follow.{resuming_text, sight_text, told_text, unseen};
+ghost use Rattle.ucl_follows.specs.Hearing.{following_of, heard, shape_of, sight_bytes};
+ghost use Rattle.ucl_follows.specs.Told.{moment_on};
+ghost use Rattle.ucl_runs.specs.declared.fault.RunFault.TheVariants.{OutOfMemory};
 
-use crate::following::{Following, put};
+use crate::following::{Following, is_newer};
+use crate::moment::Moment;
 use crate::rows::resuming_rows;
-use arrayvec::ArrayVec;
+use crate::told::moment_on;
 use std::alloc::Global;
 use ucl_command::FollowArgs;
+use ucl_io::{LineMachine, Text};
+use ucl_json::screen_json;
 use ucl_runs::RunFault;
-use ucl_screen::Sink;
+use ucl_screen::screen;
 
-/// The most bytes of a line that are kept: one more than a line may have.
-const LINE: usize = 4097;
-
-/// A follower between two bytes of its input: what it has followed, the line that has begun, and how many bytes it wrote, which past
-/// `usize::MAX` is told as that.
+/// What a line is answered.
 #[derive(Drop)]
-pub(crate) struct Follower {
+pub enum Sight {
+    /// Nothing.
+    Nothing,
+    /// A screen.
+    Screen(String),
+    /// The rows by which an evening goes on.
+    Rows(Vec<u8>),
+}
+
+impl Text for Sight {
+    ghost bytes = { sight_bytes };
+
+    ghost front = { sight_bytes };
+
+    fn front(&self) -> &[u8] {
+        match self {
+            Sight::Nothing => b"".as_slice(),
+            Sight::Screen(text) => text.as_str().as_bytes(),
+            Sight::Rows(rows) => rows.as_slice(),
+        }
+    }
+
+    fn back(&self) -> &[u8] {
+        b"".as_slice()
+    }
+}
+
+/// The screen of a moment that the line of this number told.
+fn show(alloc: Global, shape: FollowArgs, row: u64, moment: &Moment) -> Result<Sight, RunFault>
+    requires { IsGroup moment.now.group }
+    ensures text { IfOk result (λ sight. sight_bytes sight ≡ sight_text shape row moment.now) }
+    ensures memory { IfErr result (λ fault. fault ≡ OutOfMemory) }
+{
+    match shape {
+        FollowArgs::Text => Ok(Sight::Screen(screen(
+            alloc,
+            &moment.board,
+            &moment.roster,
+            moment.group,
+            moment.profile,
+        )?)),
+        FollowArgs::Json => Ok(Sight::Screen(screen_json(
+            alloc,
+            row,
+            &moment.board,
+            &moment.roster,
+            moment.group,
+            moment.profile,
+        )?)),
+        FollowArgs::Rows => Ok(Sight::Nothing),
+    }
+}
+
+/// A follower between two lines: what it has followed, and what it shows of it.
+#[derive(Drop)]
+pub struct Follower {
+    alloc: Global,
+    shape: FollowArgs,
     pub(crate) following: Following,
-    pub(crate) line: ArrayVec<u8, LINE>,
-    pub(crate) out: usize,
 }
 
 impl Follower {
-    /// Before the first byte.
-    pub(crate) fn new() -> Follower
-        ensures hearing { hearing_of result ≡ unheard }
-        ensures out { out_of result ≡ 0 }
+    /// Before the first line.
+    pub(crate) fn new(alloc: Global, shape: FollowArgs) -> Follower
+        ensures following { following_of result ≡ unseen }
+        ensures shape { shape_of result ≡ shape }
     {
         Follower {
+            alloc,
+            shape,
             following: Following::new(),
-            line: ArrayVec::new(),
-            out: 0,
         }
     }
+}
 
-    /// How many bytes it wrote.
-    fn written(&self) -> usize
-        ensures value { result ≡ out_of self.now }
-        ensures bound { out_of self.now ≤ 2 ^ 64 - 1 }
-    {
-        self.out
-    }
+impl LineMachine for Follower {
+    type Answer = Sight;
 
-    /// Puts a byte to the line that has begun, where the line is not too long by then.
-    #[tactic(auto, using(crate::proofs::Bytes::kept_some, crate::proofs::Bytes::kept_full))]
-    fn keep(&mut self, b: u8)
-        ensures line { self.new.line.items ≡ kept_line self.old.line.items b }
-        ensures following { self.new.following ≡ self.old.following }
-        ensures out { self.new.out ≡ self.old.out }
-    {
-        if self.line.len() < LINE {
-            self.line.push(b);
-        }
-    }
+    type Fault = RunFault;
 
-    /// Hears a byte.
-    fn hear_byte<W: Sink>(
-        &mut self,
-        alloc: Global,
-        shape: FollowArgs,
-        b: u8,
-        sink: &mut W,
-    ) -> Result<(), RunFault>
-        ensures hears { OnOk result (hearing_of self.new ≡ heard (hearing_of self.old) (b ∷ [])) }
-        ensures all { OnOk result (Appends (W.taken sink.old) (W.taken sink.new)
-            (heard_text shape (hearing_of self.old) (b ∷ []))) }
-        ensures count { OnOk result (out_of self.new ≡ min (out_of self.old
-            + length (heard_text shape (hearing_of self.old) (b ∷ []))) (2 ^ 64 - 1)) }
-        ensures fails { IfErr result (FailsToHear shape (hearing_of self.old) (b ∷ [])
-            (out_of self.old) (sink_change W.Sink sink.old sink.new)) }
-        ensures sound { OnOk result (W.failed sink.new ≡ W.failed sink.old) }
-        ensures sink_fails { IfErr result (SinkFails (W.failed sink.old) (W.failed sink.new)) }
-    {
-        let _written = self.written();
-        if b == b'\n' {
-            let line = self.line.as_slice();
-            self.out = self.following.hear(alloc, shape, line, self.out, sink)?;
-            self.line.clear();
-            return Ok(());
-        }
-        self.keep(b);
-        Ok(())
-    }
+    ghost ready = { λ _. ⊤ };
 
-    /// Hears bytes, one after the other.
-    pub(crate) fn hear<W: Sink>(
-        &mut self,
-        alloc: Global,
-        shape: FollowArgs,
-        bytes: &[u8],
-        sink: &mut W,
-    ) -> Result<(), RunFault>
-        ensures hears { OnOk result (hearing_of self.new ≡ heard (hearing_of self.old) bytes.now) }
-        ensures all { OnOk result (Appends (W.taken sink.old) (W.taken sink.new)
-            (heard_text shape (hearing_of self.old) bytes.now)) }
-        ensures count { OnOk result (out_of self.new ≡ min (out_of self.old
-            + length (heard_text shape (hearing_of self.old) bytes.now)) (2 ^ 64 - 1)) }
-        ensures fails { IfErr result (FailsToHear shape (hearing_of self.old) bytes.now
-            (out_of self.old) (sink_change W.Sink sink.old sink.new)) }
-        ensures sound { OnOk result (W.failed sink.new ≡ W.failed sink.old) }
-        ensures sink_fails { IfErr result (SinkFails (W.failed sink.old) (W.failed sink.new)) }
-    {
-        let _written = self.written();
-        for b in bytes {
-            self.hear_byte(alloc, shape, *b, sink)?;
-        }
-        Ok(())
-    }
+    ghost answers = { λ m row line n text. (n ≡ heard m (moment_on line))
+        × (text ≡ told_text m.shape m.following (moment_on line)) };
 
-    /// Writes the rows of the newest moment, where they are wanted and there is one.
-    pub(crate) fn end<W: Sink>(
-        &self,
-        alloc: Global,
-        shape: FollowArgs,
-        sink: &mut W,
-    ) -> Result<(), RunFault>
-        ensures all { OnOk result (Appends (W.taken sink.old) (W.taken sink.new)
-            (resuming_text shape (hearing_of self.now).following.newest)) }
-        ensures fails { IfErr result (FailsToShow (out_of self.now)
-            (sink_change W.Sink sink.old sink.new)
-            (resuming_text shape (hearing_of self.now).following.newest)) }
-        ensures sound { OnOk result (W.failed sink.new ≡ W.failed sink.old) }
-        ensures sink_fails { IfErr result (SinkFails (W.failed sink.old) (W.failed sink.new)) }
-    {
-        match (shape, &self.following.newest) {
-            (FollowArgs::Rows, Some(moment)) => {
-                let rows = resuming_rows(alloc, moment)?;
-                put(sink, self.out, rows.as_slice())?;
-                Ok(())
+    ghost stops = { λ _ _ _ fault. fault ≡ OutOfMemory };
+
+    ghost ends = { λ m row begun n text. (n ≡ m)
+        × (text ≡ resuming_text m.shape m.following.newest) };
+
+    ghost stops_at_end = { λ _ _ _ fault. fault ≡ OutOfMemory };
+
+    fn answer(&mut self, _row: u64, line: &[u8]) -> Result<Sight, RunFault> {
+        let told = moment_on(self.alloc, line)?;
+        let row = self.following.lines.saturating_add(1);
+        match told {
+            Some(moment) if is_newer(&self.following.newest, &moment) => {
+                let sight = show(self.alloc, self.shape, row, &moment)?;
+                self.following.newest = Some(moment);
+                self.following.lines = row;
+                self.following.shown = self.following.shown.saturating_add(1);
+                Ok(sight)
             }
-            _ => Ok(()),
+            _ => {
+                self.following.lines = row;
+                Ok(Sight::Nothing)
+            }
+        }
+    }
+
+    fn end(&mut self, _row: u64, _begun: &[u8]) -> Result<Sight, RunFault> {
+        match (self.shape, &self.following.newest) {
+            (FollowArgs::Rows, Some(moment)) => Ok(Sight::Rows(resuming_rows(self.alloc, moment)?)),
+            _ => Ok(Sight::Nothing),
         }
     }
 }

@@ -4,12 +4,13 @@ ghost use Rattle.std.specs.Prelude.{◌≡◌};
 ghost use Rattle.ucl_runs.specs.Telling.{Tells};
 ghost use Rattle.ucl_follows.specs.Program.{EndsFollowing, RunsFollowing, counts_line};
 
+use crate::follower::Follower;
 use crate::run::{Followed, follow_run};
 use arrayvec::ArrayString;
 use itoa::Buffer;
 use std::alloc::Global;
-use ucl_answers::Wire;
 use ucl_command::{FollowArgs, LineFault};
+use ucl_io::Duplex;
 use ucl_runs::{RunFault, ended_unasked, put_text, tell};
 use ucl_screen::{Sink, Source};
 
@@ -48,17 +49,17 @@ fn told<E: Sink>(errors: &mut E, done: Result<Followed, RunFault>) -> u8
 pub fn run_following<S: Source, W: Sink, E: Sink>(
     alloc: Global,
     asked: Result<FollowArgs, LineFault>,
-    wire: &mut Wire<S, W>,
+    duplex: &mut Duplex<S, W, Follower>,
     errors: &mut E,
 ) -> u8
-    ensures { RunsFollowing S.Source W.Sink asked wire.old wire.new result
+    ensures { RunsFollowing S.Source W.Sink asked duplex.old duplex.new result
         (E.failed errors.new) (E.taken errors.old) (E.taken errors.new) }
 {
     match asked {
         Ok(shape) => {
-            let done = follow_run(alloc, shape, wire);
+            let done = follow_run(alloc, shape, duplex);
             told(errors, done)
         }
-        Err(fault) => ended_unasked(&mut wire.sink, errors, fault),
+        Err(fault) => ended_unasked(&mut duplex.sink, errors, fault),
     }
 }

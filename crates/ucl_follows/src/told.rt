@@ -5,7 +5,7 @@ ghost use Rattle.serde_json.specs.View.{items_view, view};
 ghost use Rattle.ucl_order.specs.Roster.{bad_slot, club_lent};
 ghost use Rattle.ucl_screen.specs.Screen.{IsGroup};
 ghost use Rattle.ucl_screen.specs.WordsRead.{read_words};
-ghost use Rattle.ucl_follows.specs.Told.{board_told, club_told, clubs_told, each_told, group_told, if_read, just, letter_in, list_at, moment_on, moment_told, order_called, order_told, roster_told, text_at, unless_bad, word_told};
+ghost use Rattle.ucl_follows.specs.Told.{board_told, club_told, clubs_told, each_told, group_told, if_read, just, letter_in, list_at, moment_on, moment_told, order_told, roster_told, text_at, unless_bad, word_told};
 
 use crate::moment::Moment;
 use arrayvec::ArrayVec;
@@ -47,22 +47,11 @@ fn group_in(value: &Value) -> Option<u8>
     letter_in(text_in(value, "group")?.as_bytes())
 }
 
-/// The order of a name, where a text is one.
-fn order_called(text: &str) -> Option<Profile>
-    ensures { result ≡ order_called text.now }
-{
-    match text {
-        "uefa" => Some(Profile::Uefa),
-        "away-in-tie" => Some(Profile::AwayInTie),
-        _ => None,
-    }
-}
-
 /// The order of the clubs.
 fn order_in(value: &Value) -> Option<Profile>
     ensures { result ≡ order_told (view value.now) }
 {
-    order_called(text_in(value, "order")?)
+    Profile::from_name(text_in(value, "order")?)
 }
 
 /// A club, with its coefficient.

@@ -8,16 +8,16 @@ use Rattle.serde_json.specs.Written.{has_float, items_have_float}
 use Rattle.serde_json.specs.View.{items_view, view}
 use Rattle.serde_json.specs.declared.value.Value.{Value}
 use Rattle.serde_json.proofs.OnLiterals.{serde_json_on_literals}
-use Rattle.std.specs.Prelude.{Result, Ok, Err}
+use Rattle.std.specs.Prelude.{Option, None, Some, Result, Ok, Err}
 use Rattle.ucl_word.specs.declared.event.Accepted.{Accepted}
 use Rattle.ucl_word.specs.declared.refusal.Refusal.{Refusal}
-use Rattle.ucl_word.specs.declared.refusal.Refusal.TheVariants.{Stale, Finished, NotFinished, NotStarted, AlreadyStarted, NumberFull, NoGoal, NoCaution, LimitReached}
+use Rattle.ucl_word.specs.Names.{found_of, refusal_code, refusal_name}
 use Rattle.ucl_order.specs.declared.profile.Profile.{Profile}
 use Rattle.ucl_order.specs.declared.table.Row.{Row}
 use Rattle.ucl_order.specs.Rows.{rows_of}
 use Rattle.ucl_order.specs.Roster.{NamedClub}
 use Rattle.ucl_screen.specs.Numbers.{hex_digits}
-use Rattle.ucl_json.specs.Values.{accepted_value, place_items, place_value, refused_value, reply_value, screen_value, with_club, with_goals, with_matches, word_items, words_value}
+use Rattle.ucl_json.specs.Values.{accepted_value, place_items, place_value, refused_by, reply_value, screen_value, with_club, with_goals, with_matches, word_items, words_value}
 
 abbrev add : Items → Data → Items
 add no_items d = item d no_items
@@ -101,36 +101,22 @@ unfolding screen_value
 screen-shallow row profile board roster group = let k = places-flat roster (rows_of profile board roster) in rw (words-flat board) (omega (arith, k))
 
 -- a reply
-refused-whole : (row : ℕ) (refusal : Refusal) → has_float (refused_value row refusal) ≡ false
-refused-whole row (Stale found) = refl
-refused-whole row Finished = refl
-refused-whole row NotFinished = refl
-refused-whole row NotStarted = refl
-refused-whole row AlreadyStarted = refl
-refused-whole row NumberFull = refl
-refused-whole row NoGoal = refl
-refused-whole row NoCaution = refl
-refused-whole row LimitReached = refl
+refused-whole : (row code : ℕ) (name : List ℕ) (found : Option ℕ) → has_float (refused_by row code name found) ≡ false
+refused-whole row code name None = refl
+refused-whole row code name (Some found) = refl
 
-refused-shallow : (row : ℕ) (refusal : Refusal) → depth (refused_value row refusal) ≤ max_depth
-refused-shallow row (Stale found) = omega arith
-refused-shallow row Finished = omega arith
-refused-shallow row NotFinished = omega arith
-refused-shallow row NotStarted = omega arith
-refused-shallow row AlreadyStarted = omega arith
-refused-shallow row NumberFull = omega arith
-refused-shallow row NoGoal = omega arith
-refused-shallow row NoCaution = omega arith
-refused-shallow row LimitReached = omega arith
+refused-shallow : (row code : ℕ) (name : List ℕ) (found : Option ℕ) → depth (refused_by row code name found) ≤ max_depth
+refused-shallow row code name None = omega arith
+refused-shallow row code name (Some found) = omega arith
 
 pub reply-whole : (row game : ℕ) (reply : Result Accepted Refusal) (profile : Profile) (board : List ℕ) (roster : List NamedClub) (group : ℕ)
     → has_float (reply_value row game reply profile board roster group) ≡ false
 unfolding accepted_value
 reply-whole row game (Ok accepted) profile board roster group = rw (words-items board) refl
-reply-whole row game (Err refusal) profile board roster group = refused-whole row refusal
+reply-whole row game (Err refusal) profile board roster group = refused-whole row (refusal_code refusal) (refusal_name refusal) (found_of refusal)
 
 pub reply-shallow : (row game : ℕ) (reply : Result Accepted Refusal) (profile : Profile) (board : List ℕ) (roster : List NamedClub) (group : ℕ)
     → depth (reply_value row game reply profile board roster group) ≤ max_depth
 unfolding accepted_value
 reply-shallow row game (Ok accepted) profile board roster group = rw (words-flat board) (omega arith)
-reply-shallow row game (Err refusal) profile board roster group = refused-shallow row refusal
+reply-shallow row game (Err refusal) profile board roster group = refused-shallow row (refusal_code refusal) (refusal_name refusal) (found_of refusal)

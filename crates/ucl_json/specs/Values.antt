@@ -1,17 +1,17 @@
 -- Answers as values. The members of an object stand in the order of their names. An accepted event's answer and a screen's stand for
 -- themselves: each has the group, its order, the clubs and the words of the board, so that it is one moment, whole.
-use Rattle.std.specs.Prelude.{ℕ, pos, ◌-ℤ◌, List, [], ◌∷◌, codes, Result, Ok, Err}
+use Rattle.std.specs.Prelude.{ℕ, pos, ◌-ℤ◌, List, [], ◌∷◌, codes, Option, None, Some, Result, Ok, Err}
 use Rattle.serde_json.specs.Data.{Data, Items, item, no_items, Members, member, no_members, array, number, object, put, string, unsigned}
 use Rattle.serde_json.specs.Find.{of_integer}
 use Rattle.ucl_word.specs.declared.event.Accepted.{Accepted}
 use Rattle.ucl_word.specs.declared.refusal.Refusal.{Refusal}
-use Rattle.ucl_word.specs.declared.refusal.Refusal.TheVariants.{Stale, Finished, NotFinished, NotStarted, AlreadyStarted, NumberFull, NoGoal, NoCaution, LimitReached}
+use Rattle.ucl_word.specs.Names.{found_of, refusal_code, refusal_name}
 use Rattle.ucl_board.specs.Words.{version_of}
 use Rattle.ucl_order.specs.declared.mark.Mark.{Mark}
 use Rattle.ucl_order.specs.declared.mark.Mark.TheVariants.{Plus, Minus, Blank}
 use Rattle.ucl_order.specs.declared.profile.Profile.{Profile}
-use Rattle.ucl_order.specs.declared.profile.Profile.TheVariants.{Uefa, AwayInTie}
 use Rattle.ucl_order.specs.declared.table.Row.{Row}
+use Rattle.ucl_order.specs.Names.{profile_name}
 use Rattle.ucl_order.specs.Roster.{NamedClub, coefficient_of, name_of}
 use Rattle.ucl_order.specs.Rows.{rows_of}
 use Rattle.ucl_screen.specs.Screen.{in_play}
@@ -21,10 +21,6 @@ abbrev pub number_value : ℕ → Data
 number_value n = number (unsigned n)
 
 -- ---- what a moment is told by
-
-abbrev pub order_name : Profile → List ℕ
-order_name Uefa = codes "uefa"
-order_name AwayInTie = codes "away-in-tie"
 
 -- each word in sixteen hexadecimal digits
 abbrev pub word_items : List ℕ → Items
@@ -50,22 +46,13 @@ accepted_value row game event_number profile board roster group = object (
     member (codes "group") (string (group ∷ [])) (
     member (codes "match") (number_value game) (
     member (codes "number") (number_value event_number) (
-    member (codes "order") (string (order_name profile)) (
+    member (codes "order") (string (profile_name profile)) (
     member (codes "reply") (string (codes "ok")) (
     member (codes "row") (number_value row) (
     member (codes "version") (number_value (version_of board)) (
     member (codes "words") (array (word_items board)) no_members)))))))))
 
--- the reply to an event that is stale, with the number that was found
-abbrev pub stale_value : ℕ → ℕ → Data
-stale_value row found = object (
-    member (codes "code") (number_value 1) (
-    member (codes "name") (string (codes "stale")) (
-    member (codes "number") (number_value found) (
-    member (codes "reply") (string (codes "refused")) (
-    member (codes "row") (number_value row) no_members)))))
-
--- the reply to any other row that is refused
+-- the reply to a row that is refused
 abbrev pub coded_value : ℕ → ℕ → List ℕ → Data
 coded_value row code name = object (
     member (codes "code") (number_value code) (
@@ -73,17 +60,22 @@ coded_value row code name = object (
     member (codes "reply") (string (codes "refused")) (
     member (codes "row") (number_value row) no_members))))
 
+-- the same with the number that was found
+abbrev pub numbered_value : ℕ → ℕ → List ℕ → ℕ → Data
+numbered_value row code name found = object (
+    member (codes "code") (number_value code) (
+    member (codes "name") (string name) (
+    member (codes "number") (number_value found) (
+    member (codes "reply") (string (codes "refused")) (
+    member (codes "row") (number_value row) no_members)))))
+
+abbrev pub refused_by : ℕ → ℕ → List ℕ → Option ℕ → Data
+refused_by row code name None = coded_value row code name
+refused_by row code name (Some found) = numbered_value row code name found
+
 -- the reply to an event that is refused
 abbrev pub refused_value : ℕ → Refusal → Data
-refused_value row (Stale found) = stale_value row found
-refused_value row Finished = coded_value row 2 (codes "finished")
-refused_value row NotStarted = coded_value row 3 (codes "not-started")
-refused_value row AlreadyStarted = coded_value row 4 (codes "already-started")
-refused_value row NumberFull = coded_value row 5 (codes "number-full")
-refused_value row NoGoal = coded_value row 6 (codes "no-goal")
-refused_value row NoCaution = coded_value row 7 (codes "no-caution")
-refused_value row LimitReached = coded_value row 8 (codes "limit-reached")
-refused_value row NotFinished = coded_value row 9 (codes "not-finished")
+refused_value row refusal = refused_by row (refusal_code refusal) (refusal_name refusal) (found_of refusal)
 
 -- the reply to an event, with the board after it
 abbrev pub reply_value : ℕ → ℕ → Result Accepted Refusal → Profile → List ℕ → List NamedClub → ℕ → Data
@@ -148,7 +140,7 @@ screen_value row profile board roster group = object (
     member (codes "clubs") (array (club_items roster)) (
     member (codes "group") (string (group ∷ [])) (
     member (codes "in_play") (number_value (in_play board)) (
-    member (codes "order") (string (order_name profile)) (
+    member (codes "order") (string (profile_name profile)) (
     member (codes "reply") (string (codes "screen")) (
     member (codes "row") (number_value row) (
     member (codes "table") (array (place_items roster (rows_of profile board roster))) (

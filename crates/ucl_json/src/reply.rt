@@ -4,11 +4,11 @@ ghost use Rattle.std.specs.Prelude.{◌≡◌, ◌≤◌, [], ◌∷◌, IfOk, l
 ghost use Rattle.serde_json.specs.View.{view};
 ghost use Rattle.ucl_screen.specs.Screen.{IsGroup};
 ghost use Rattle.ucl_json.specs.Lines.{IsLineOf};
-ghost use Rattle.ucl_json.specs.Values.{accepted_value, bad_row_value, coded_value, refused_value, reply_value, stale_value};
+ghost use Rattle.ucl_json.specs.Values.{accepted_value, bad_row_value, coded_value, numbered_value, refused_value, reply_value};
 
 use crate::clubs::club_values;
 use crate::line::line_of;
-use crate::screen::{letter_of, order_name};
+use crate::screen::letter_of;
 use crate::words::word_values;
 use serde_json::{Value, json};
 use std::alloc::{AllocError, Global};
@@ -41,40 +41,47 @@ fn accepted_value(
         "number": number,
         "version": board.version(),
         "group": letter_of(group),
-        "order": order_name(profile),
+        "order": profile.name(),
         "clubs": clubs,
         "words": words
     })
 }
 
-/// The reply to an event that is stale.
-fn stale_value(alloc: Global, row: u64, found: u16) -> Result<Value, AllocError>
-    ensures { IfOk result (λ value. view value ≡ stale_value row found) }
-{
-    json!(in alloc; {"row": row, "reply": "refused", "code": 1, "name": "stale", "number": found})
-}
-
-/// The reply to any other row that is refused.
+/// The reply to a row that is refused.
 fn coded_value(alloc: Global, row: u64, code: u8, name: &str) -> Result<Value, AllocError>
     ensures { IfOk result (λ value. view value ≡ coded_value row code name.now) }
 {
     json!(in alloc; {"row": row, "reply": "refused", "code": code, "name": name})
 }
 
+/// The reply to an event that is refused for its number, with the number that was found.
+fn numbered_value(
+    alloc: Global,
+    row: u64,
+    code: u8,
+    name: &str,
+    found: u16,
+) -> Result<Value, AllocError>
+    ensures { IfOk result (λ value. view value ≡ numbered_value row code name.now found) }
+{
+    json!(in alloc; {
+        "row": row,
+        "reply": "refused",
+        "code": code,
+        "name": name,
+        "number": found
+    })
+}
+
 /// The reply to an event that is refused.
 fn refused_value(alloc: Global, row: u64, refusal: Refusal) -> Result<Value, AllocError>
     ensures { IfOk result (λ value. view value ≡ refused_value row refusal) }
 {
-    match refusal {
-        Refusal::Stale { found } => stale_value(alloc, row, found),
-        Refusal::Finished => coded_value(alloc, row, 2, "finished"),
-        Refusal::NotStarted => coded_value(alloc, row, 3, "not-started"),
-        Refusal::AlreadyStarted => coded_value(alloc, row, 4, "already-started"),
-        Refusal::NumberFull => coded_value(alloc, row, 5, "number-full"),
-        Refusal::NoGoal => coded_value(alloc, row, 6, "no-goal"),
-        Refusal::NoCaution => coded_value(alloc, row, 7, "no-caution"),
-        Refusal::LimitReached => coded_value(alloc, row, 8, "limit-reached"),
-        Refusal::NotFinished => coded_value(alloc, row, 9, "not-finished"),
+    let code = refusal.code();
+    let name = refusal.name();
+    match refusal.found() {
+        Some(found) => numbered_value(alloc, row, code, name, found),
+        None => coded_value(alloc, row, code, name),
     }
 }
 

@@ -5,7 +5,7 @@ ghost use Rattle.serde_json.specs.View.{items_view, members_view, view};
 ghost use Rattle.ucl_order.specs.Rows.{IsWithinTable, rows_of};
 ghost use Rattle.ucl_screen.specs.Screen.{IsGroup};
 ghost use Rattle.ucl_json.specs.Lines.{IsLineOf};
-ghost use Rattle.ucl_json.specs.Values.{mark_name, order_name, place_items, place_value, screen_value, with_club, with_goals, with_matches};
+ghost use Rattle.ucl_json.specs.Values.{mark_name, place_items, place_value, screen_value, with_club, with_goals, with_matches};
 
 use crate::clubs::club_values;
 use crate::line::line_of;
@@ -24,16 +24,6 @@ fn mark_name(mark: Mark) -> &'static str
         Mark::Plus => "+",
         Mark::Minus => "-",
         Mark::Blank => "",
-    }
-}
-
-/// The name of an order.
-pub(crate) fn order_name(profile: Profile) -> &'static str
-    ensures { result.now ≡ order_name profile }
-{
-    match profile {
-        Profile::Uefa => "uefa",
-        Profile::AwayInTie => "away-in-tie",
     }
 }
 
@@ -142,7 +132,7 @@ fn screen_value(
         "row": row,
         "reply": "screen",
         "group": letter_of(group),
-        "order": order_name(profile),
+        "order": profile.name(),
         "version": board.version(),
         "in_play": matches_in_play(board),
         "table": table,

@@ -4,9 +4,10 @@ use crate::json::{KICKED_OFF, accepted};
 use crate::{CLUBS, joined};
 use std::alloc::Global;
 use std::test::Fail;
-use ucl_answers::{Wire, run_evening};
+use ucl_answers::run_evening;
 use ucl_command::{Format, LineFault, live_args};
 use ucl_devices::{Cut, Full, Out};
+use ucl_io::Duplex;
 use ucl_order::Profile;
 use ucl_screen::{FromRead, ToWrite};
 
@@ -120,7 +121,7 @@ fn ran(alloc: Global, line: &str, input: &str, fails: usize, room: usize) -> Res
             room,
             full: Full::Fails,
         });
-        let mut wire = Wire::new(source, sink);
+        let mut duplex = Duplex::new(source, sink);
         let mut told = ToWrite::new(Out {
             taken: &mut errors,
             piece: 7,
@@ -128,7 +129,7 @@ fn ran(alloc: Global, line: &str, input: &str, fails: usize, room: usize) -> Res
             full: Full::Fails,
         });
         let asked = live_args(alloc, &words);
-        run_evening(alloc, asked, &mut wire, &mut told)
+        run_evening(alloc, asked, &mut duplex, &mut told)
     };
     Ok((status, out, errors))
 }

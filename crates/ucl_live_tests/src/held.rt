@@ -2,9 +2,10 @@
 
 use std::alloc::Global;
 use std::io;
-use ucl_answers::{Wire, live_run};
+use ucl_answers::live_run;
 use ucl_command::{Format, LiveArgs};
 use ucl_devices::{Cut, Full, Out};
+use ucl_io::Duplex;
 use ucl_order::Profile;
 use ucl_runs::RunFault;
 use ucl_screen::{FromRead, InputFault, ToWrite};
@@ -39,8 +40,8 @@ pub fn held_with<R: io::Read + Drop>(
             room,
             full,
         });
-        let mut wire = Wire::new(source, sink);
-        live_run(alloc, options_of(format, screens), &mut wire)
+        let mut duplex = Duplex::new(source, sink);
+        live_run(alloc, options_of(format, screens), &mut duplex)
     };
     (answer, out)
 }

@@ -44,7 +44,7 @@ record Between (club : ℕ) (games board later : List ℕ) : Type 0 where
   low : points club (finished (board_part board games)) ≤ points club (started (board_part later games))
   high : points club (started (board_part later games)) ≤ points club (finished (board_part board games)) + 3 * played club (unfinished (board_part board games))
 
-started-done : (m : Match) (ms : List Match) → m.result.state ≡ Finished → started (m ∷ ms) ≡ m ∷ started ms
+started-done : (m : Match) (ms : List Match) → m.score.state ≡ Finished → started (m ∷ ms) ≡ m ∷ started ms
 started-done m ms e = rw e
 
 finished-done : (m : Match) (ms : List Match) → has_finished m ≡ true → finished (m ∷ ms) ≡ m ∷ finished ms

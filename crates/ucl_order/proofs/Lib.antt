@@ -22,5 +22,5 @@ pub mod LevelMatches
 pub mod SmallKeys
 pub mod SortedClubs
 pub mod MarkFacts
-pub mod Unsigned
+pub mod Scores
 pub mod Coefficients

@@ -5,14 +5,13 @@ use Rattle.std.proofs.lemmas.Bool.Decides.{nat_tests}
 use Rattle.std.proofs.lemmas.List.Sums.{sum_by-cons, sum_by-le, count_by-le-length}
 use Rattle.std.proofs.lemmas.List.Sorted.{All-permutation, length_permutation}
 use Rattle.std.proofs.lemmas.List.Elements.{All-head, All-tail, All-cons, All-nil, All-filter}
-use Rattle.ucl_word.specs.Record.{IsValid}
 use Rattle.ucl_board.specs.Fixtures.{IsSlot}
 use Rattle.ucl_order.specs.declared.profile.Profile.{Profile}
 use Rattle.ucl_order.specs.declared.game.Match.{Match}
 use Rattle.ucl_order.specs.declared.game.Appearance.{Appearance}
 use Rattle.ucl_order.specs.declared.mark.Mark.{Mark}
 use Rattle.ucl_order.specs.Roster.{NamedClub}
-use Rattle.ucl_order.specs.Matches.{has_started, matches_of, started_of}
+use Rattle.ucl_order.specs.Matches.{HasScore, has_started, matches_of, started_of}
 use Rattle.ucl_order.specs.Appearances.{seen_by, is_won, is_drawn, is_lost}
 use Rattle.ucl_order.specs.Results.{appearances, played, wins, draws, losses, points, goals_for, goals_against}
 use Rattle.ucl_order.specs.Order.{all_clubs, order_of}
@@ -104,19 +103,19 @@ seen_parts true away h v a e few_h few_v = let same : h ≡ a = (cc) in subst Ar
 seen_parts false true h v a e few_h few_v = let same : v ≡ a = (cc) in subst AreFew same few_v
 seen_parts false false h v a e few_h few_v = absurd (cc)
 
-seen_few : (club : ℕ) (m : Match) (a : Appearance) → IsValid m.result → seen_by club m ≡ Some a → AreFew a
+seen_few : (club : ℕ) (m : Match) (a : Appearance) → HasScore m → seen_by club m ≡ Some a → AreFew a
 seen_few club m a h e =
     seen_parts (m.home == club) (m.away == club) _ _ a e
-    (record { scored = h.within.home_goals; conceded = h.within.away_goals; yellows = h.within.home_yellows; expulsions = h.within.home_expulsions })
-    (record { scored = h.within.away_goals; conceded = h.within.home_goals; yellows = h.within.away_yellows; expulsions = h.within.away_expulsions })
+    (record { scored = h.home_goals; conceded = h.away_goals; yellows = h.home_yellows; expulsions = h.home_expulsions })
+    (record { scored = h.away_goals; conceded = h.home_goals; yellows = h.away_yellows; expulsions = h.away_expulsions })
 
-pub all_few : (club : ℕ) (ms : List Match) → All (λ m. IsValid m.result) ms → All AreFew (appearances club ms)
+pub all_few : (club : ℕ) (ms : List Match) → All HasScore ms → All AreFew (appearances club ms)
 all_few club [] h = All-nil AreFew
 all_few club (m ∷ ms) h =
-    few_one (seen_by club m) (appearances club ms) (λ a e. seen_few club m a (All-head (λ x. IsValid x.result) m ms h) e) (all_few club ms (All-tail (λ x. IsValid x.result) m ms h))
+    few_one (seen_by club m) (appearances club ms) (λ a e. seen_few club m a (All-head HasScore m ms h) e) (all_few club ms (All-tail HasScore m ms h))
 
 -- a row of the table
-within_table : (place slot : ℕ) (mark : Mark) (ms : List Match) → IsSlot slot → All (λ m. IsValid m.result) ms → played slot ms ≤ 6 → IsWithinTable (row_with place slot mark ms)
+within_table : (place slot : ℕ) (mark : Mark) (ms : List Match) → IsSlot slot → All HasScore ms → played slot ms ≤ 6 → IsWithinTable (row_with place slot mark ms)
 within_table place slot mark ms is_slot valid most =
     let games : List Appearance = appearances slot ms in
     let few : All AreFew games = all_few slot ms valid in
@@ -142,7 +141,7 @@ at_most_six board club slot =
     let all : played club (matches_of board) ≡ 6 = six board club slot in
     omega arith
 
-module _ (profile : Profile) (board : List ℕ) (roster : List NamedClub) (valid : All (λ m. IsValid m.result) (matches_of board)) where
+module _ (profile : Profile) (board : List ℕ) (roster : List NamedClub) (valid : All HasScore (matches_of board)) where
   row_within : (place : ℕ) → 1 ≤ place → place ≤ 4 → IsWithinTable (row_of profile board roster place)
   unfolding row_of
   row_within place low high =
@@ -150,7 +149,7 @@ module _ (profile : Profile) (board : List ℕ) (roster : List NamedClub) (valid
       let long : length order ≡ 4 = length_permutation _ _ (IsPermutation-order profile board roster) in
       let slot : IsSlot (slice_index order (place - 1)) = All-permutation IsSlot all_clubs order (IsPermutation-order profile board roster) slots (place - 1) 0 (omega arith) in
       within_table place (slice_index order (place - 1)) _ (started_of board) slot
-      (All-filter has_started (λ m. IsValid m.result) (matches_of board) valid) (at_most_six board (slice_index order (place - 1)) slot)
+      (All-filter has_started HasScore (matches_of board) valid) (at_most_six board (slice_index order (place - 1)) slot)
 
   pub rows_within : All IsWithinTable (rows_of profile board roster)
   rows_within zero d h = row_within 1 (omega arith) (omega arith)

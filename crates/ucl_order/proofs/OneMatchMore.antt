@@ -6,14 +6,14 @@ use Rattle.std.proofs.lemmas.List.{take_more, length_push, map-append}
 use Rattle.std.proofs.lemmas.List.Sums.{sum_by_push}
 use Rattle.std.proofs.lemmas.List.Elements.{filter_map-append, filter-append}
 use Rattle.ucl_order.specs.declared.game.Match.{Match}
+use Rattle.ucl_order.specs.declared.game.Score.{Score}
 use Rattle.ucl_order.specs.declared.game.Appearance.{Appearance}
 use Rattle.ucl_order.specs.declared.results.Results.{Results}
-use Rattle.ucl_word.specs.declared.record.MatchRecord.{MatchRecord}
 use Rattle.ucl_board.specs.Fixtures.{fixture_of, match_numbers}
 use Rattle.ucl_board.specs.Words.{game_at}
 use Rattle.ucl_order.specs.declared.mark.Mark.{Mark}
 use Rattle.ucl_order.specs.Rows.{row_with}
-use Rattle.ucl_order.specs.Matches.{match_at, matches_of}
+use Rattle.ucl_order.specs.Matches.{match_at, matches_of, score_of}
 use Rattle.ucl_order.specs.Appearances.{seen_by, is_won, is_drawn, is_lost, disciplinary_points}
 use Rattle.ucl_order.specs.Results.{points_for, appearances, results_of}
 use Rattle.ucl_order.specs.Code.Counting.{with_match, IsWithin, seen_among}
@@ -221,6 +221,6 @@ pub matches_all : (board : List ℕ) (n : ℕ) (ms : List Match) → n ≡ 13 �
 unfolding matches_of
 matches_all board n ms last is = rw (is, last)
 
-pub match_is : (board : List ℕ) (n g h a : ℕ) (r : MatchRecord) → g ≡ n → h ≡ (fixture_of g).home
-    → a ≡ (fixture_of g).away → r ≡ game_at board g → record { home = h; away = a; result = r } ≡ match_at board n
-match_is board n g h a r same home away is = rw (home, away, is, same)
+pub match_is : (board : List ℕ) (n g h a : ℕ) (s : Score) → g ≡ n → h ≡ (fixture_of g).home
+    → a ≡ (fixture_of g).away → s ≡ score_of (game_at board g) → record { home = h; away = a; score = s } ≡ match_at board n
+match_is board n g h a s same home away is = rw (home, away, is, same)

@@ -4,10 +4,10 @@ use Rattle.ucl_order.specs.declared.game.Match.{Match}
 use Rattle.ucl_order.specs.declared.game.Appearance.{Appearance}
 
 abbrev pub seen_from_home : Match → Appearance
-seen_from_home m = record { is_away = false; scored = m.result.home_goals; conceded = m.result.away_goals; yellows = m.result.home_yellows; expulsions = m.result.home_expulsions }
+seen_from_home m = record { is_away = false; scored = m.score.home_goals; conceded = m.score.away_goals; yellows = m.score.home_yellows; expulsions = m.score.home_expulsions }
 
 abbrev pub seen_from_away : Match → Appearance
-seen_from_away m = record { is_away = true; scored = m.result.away_goals; conceded = m.result.home_goals; yellows = m.result.away_yellows; expulsions = m.result.away_expulsions }
+seen_from_away m = record { is_away = true; scored = m.score.away_goals; conceded = m.score.home_goals; yellows = m.score.away_yellows; expulsions = m.score.away_expulsions }
 
 abbrev pub seen_by : ℕ → Match → Option Appearance
 seen_by club m =

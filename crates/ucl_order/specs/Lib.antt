@@ -1,3 +1,4 @@
+pub mod Names
 pub mod Roster
 pub mod Matches
 pub mod Appearances

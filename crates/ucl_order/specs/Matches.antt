@@ -1,23 +1,49 @@
 -- The matches of a board, each with the clubs that play it.
-use Rattle.std.specs.Prelude.{◌≢◌, ℕ, not, Bool, List, map, filter}
+use Rattle.std.specs.Prelude.{◌≢◌, ◌≤◌, ℕ, not, Bool, List, map, filter}
+use Rattle.ucl_word.specs.declared.record.MatchRecord.{MatchRecord}
 use Rattle.ucl_word.specs.Rules.{is_scheduled, is_finished}
 use Rattle.ucl_board.specs.Fixtures.{IsSlot, fixture_of, match_numbers}
 use Rattle.ucl_board.specs.Words.{game_at}
 use Rattle.ucl_order.specs.declared.game.Match.{Match}
+use Rattle.ucl_order.specs.declared.game.Score.{Score}
 
--- the match with this number: who plays, and what is known of it
+-- what the table goes by of a record: neither who entered the last event nor how many there were
+abbrev pub score_of : MatchRecord → Score
+score_of m = record {
+  state = m.state;
+  home_goals = m.home_goals;
+  away_goals = m.away_goals;
+  home_yellows = m.home_yellows;
+  away_yellows = m.away_yellows;
+  home_expulsions = m.home_expulsions;
+  away_expulsions = m.away_expulsions;
+}
+
+-- a score that a match can have
+pub record IsScore (s : Score) : Type 0 where
+  pub home_goals : s.home_goals ≤ 63
+  pub away_goals : s.away_goals ≤ 63
+  pub home_yellows : s.home_yellows ≤ 63
+  pub away_yellows : s.away_yellows ≤ 63
+  pub home_expulsions : s.home_expulsions ≤ 31
+  pub away_expulsions : s.away_expulsions ≤ 31
+
+abbrev pub HasScore : Match → Type 0
+HasScore m = IsScore m.score
+
+-- the match with this number: who plays, and its score
 abbrev pub match_at : List ℕ → ℕ → Match
-match_at board game = record { home = (fixture_of game).home; away = (fixture_of game).away; result = game_at board game }
+match_at board game = record { home = (fixture_of game).home; away = (fixture_of game).away; score = score_of (game_at board game) }
 
 -- the twelve matches of the board
 unfoldable pub matches_of : List ℕ → List Match
 matches_of board = map (match_at board) match_numbers
 
 abbrev pub has_started : Match → Bool
-has_started m = not (is_scheduled m.result.state)
+has_started m = not (is_scheduled m.score.state)
 
 abbrev pub has_finished : Match → Bool
-has_finished m = is_finished m.result.state
+has_finished m = is_finished m.score.state
 
 -- two different clubs of the group play
 abbrev pub IsPairing : Match → Type 0

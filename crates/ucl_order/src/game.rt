@@ -6,7 +6,7 @@ ghost use Rattle.ucl_order.specs.Code.Counting.{point_bounds, worth, seen_among}
 ghost use Rattle.ucl_order.specs.Code.Rounds.{is_level};
 ghost use Rattle.ucl_order.specs.Keys.{slots_in};
 ghost use Rattle.ucl_order.specs.Order.{is_in};
-ghost use Rattle.ucl_order.specs.Matches.{IsPairing, has_finished, has_started, matches_of, started};
+ghost use Rattle.ucl_order.specs.Matches.{HasScore, IsPairing, IsScore, has_finished, has_started, matches_of, score_of, started};
 ghost use Rattle.ucl_order.specs.Appearances.{is_drawn, is_lost, is_won, disciplinary_points, seen_by, seen_from_away, seen_from_home};
 
 use arrayvec::ArrayVec;
@@ -16,12 +16,24 @@ use ucl_word::{MatchNo, MatchRecord, State};
 /// The points for a win.
 pub(crate) const WIN: u8 = 3;
 
-/// A match of the group: the slots of its clubs, and what is known of it.
+/// What the table goes by of the record of a match: whether it has begun or ended, the goals and the cards.
+#[derive(Clone, Copy, Debug, Default, PartialEq, Eq)]
+pub(crate) struct Score {
+    pub(crate) state: State,
+    pub(crate) home_goals: u8,
+    pub(crate) away_goals: u8,
+    pub(crate) home_yellows: u8,
+    pub(crate) away_yellows: u8,
+    pub(crate) home_expulsions: u8,
+    pub(crate) away_expulsions: u8,
+}
+
+/// A match of the group: the slots of its clubs, and its score.
 #[derive(Clone, Copy, Debug, Default, PartialEq, Eq)]
 pub(crate) struct Match {
     pub(crate) home: u8,
     pub(crate) away: u8,
-    pub(crate) result: MatchRecord,
+    pub(crate) score: Score,
 }
 
 /// A match as one of its clubs sees it.
@@ -39,18 +51,37 @@ pub(crate) struct Appearance {
     pub(crate) expulsions: u8,
 }
 
+impl Score {
+    /// That of a record.
+    fn of(game: MatchRecord) -> Score
+        requires { IsValid game }
+        ensures value { result ≡ score_of game }
+        ensures valid { IsScore result }
+    {
+        Score {
+            state: game.state,
+            home_goals: game.home_goals,
+            away_goals: game.away_goals,
+            home_yellows: game.home_yellows,
+            away_yellows: game.away_yellows,
+            home_expulsions: game.home_expulsions,
+            away_expulsions: game.away_expulsions,
+        }
+    }
+}
+
 impl Match {
     /// The match as the home club sees it.
     pub(crate) fn seen_from_home(&self) -> Appearance
         ensures { result ≡ seen_from_home self.now }
     {
-        let game = &self.result;
+        let score = &self.score;
         Appearance {
             is_away: false,
-            scored: game.home_goals,
-            conceded: game.away_goals,
-            yellows: game.home_yellows,
-            expulsions: game.home_expulsions,
+            scored: score.home_goals,
+            conceded: score.away_goals,
+            yellows: score.home_yellows,
+            expulsions: score.home_expulsions,
         }
     }
 
@@ -58,13 +89,13 @@ impl Match {
     pub(crate) fn seen_from_away(&self) -> Appearance
         ensures { result ≡ seen_from_away self.now }
     {
-        let game = &self.result;
+        let score = &self.score;
         Appearance {
             is_away: true,
-            scored: game.away_goals,
-            conceded: game.home_goals,
-            yellows: game.away_yellows,
-            expulsions: game.away_expulsions,
+            scored: score.away_goals,
+            conceded: score.home_goals,
+            yellows: score.away_yellows,
+            expulsions: score.away_expulsions,
         }
     }
 
@@ -96,7 +127,7 @@ impl Match {
     fn has_started(&self) -> bool
         ensures { result ≡ has_started self.now }
     {
-        match self.result.state {
+        match self.score.state {
             State::Scheduled => false,
             State::InPlay | State::Finished => true,
         }
@@ -114,7 +145,7 @@ impl Match {
     pub(crate) fn has_finished(&self) -> bool
         ensures { result ≡ has_finished self.now }
     {
-        match self.result.state {
+        match self.score.state {
             State::Scheduled | State::InPlay => false,
             State::Finished => true,
         }
@@ -186,7 +217,7 @@ pub(crate) fn fill_matches(board: &Board, matches: &mut ArrayVec<Match, 12>)
     requires { matches.old.items ≡ [] }
     ensures value { matches.new.items ≡ matches_of board.now }
     ensures twelve { length matches.new.items ≡ 12 }
-    ensures valid { All (λ m. IsValid m.result) matches.new.items }
+    ensures scores { All HasScore matches.new.items }
     ensures pairings { All IsPairing matches.new.items }
 {
     for number in 1..13 {
@@ -194,7 +225,7 @@ pub(crate) fn fill_matches(board: &Board, matches: &mut ArrayVec<Match, 12>)
             matches.push(Match {
                 home: home_of(game),
                 away: away_of(game),
-                result: board.game(game),
+                score: Score::of(board.game(game)),
             });
         }
     }

@@ -18,6 +18,6 @@ pub use laws::{
     rankings_are_orders, table_goes_by_coefficients, ties_follow_rule,
 };
 pub use mark::Mark;
-pub use profile::Profile;
+pub use profile::{PROFILE_NAMES, Profile};
 pub use roster::{BadRoster, Club, LentClub, Roster};
 pub use table::{Row, standings};

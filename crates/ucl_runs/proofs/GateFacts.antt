@@ -1,14 +1,9 @@
 -- What a gate is told, and how many events were reported.
-use Rattle.std.proofs.Common.{◌≡◌, ◌≢◌, inl, inr, ℕ, ◌+◌, ◌<◌, ◌≤◌, ◌%◌, ◌^◌, Bool, cond, ◌==◌, List, [], ◌∷◌, ◌++◌, length, take, get_or, filter, All, sym, ap, ◌∙◌}
+use Rattle.std.proofs.Common.{◌≡◌, ◌≢◌, ℕ, ◌+◌, ◌<◌, Bool, cond, ◌==◌, List, [], ◌∷◌, ◌++◌, length, take, get_or, filter, sym, ap, ◌∙◌}
 use Rattle.std.proofs.Common.{subst, arith, append-nil, eq-eqb, ne_eqb, length-append}
 use Rattle.std.proofs.lemmas.List.{take_more}
-use Rattle.std.proofs.lemmas.List.Elements.{All-push, filter-append}
-use Rattle.std.proofs.Math.Nat.{eq-or-lt_of_le, lt_trans, mod-eq_of_lt}
-use mathlib.Core.List.{IsPrefix}
-use Rattle.ucl_board.specs.declared.entry.Entry.{Entry}
+use Rattle.std.proofs.lemmas.List.Elements.{filter-append}
 use Rattle.ucl_board.specs.declared.reading.Reading.{Reading}
-use Rattle.ucl_board.specs.History.{board_of, snapshot_at}
-use Rattle.ucl_board.proofs.Beginnings.{take_beginning}
 use Rattle.ucl_screen.specs.declared.night.NightEvent.{NightEvent}
 use Rattle.ucl_shared.specs.Passes.{PassView, Continues, SharedReading, ReportsMore}
 use Rattle.ucl_runs.specs.Gates.{IsScreenOf, rows_by}

@@ -4,6 +4,7 @@ pub mod RunFacts
 pub mod ShownVersions
 pub mod Points
 pub mod Parts
+pub mod Driven
 pub mod Duty
 pub mod WorkSteps
 pub mod GateFacts

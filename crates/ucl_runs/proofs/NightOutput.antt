@@ -18,7 +18,8 @@ use Rattle.ucl_runs.specs.declared.fault.RunFault.{RunFault}
 use Rattle.ucl_runs.specs.declared.fault.RunFault.TheVariants.{Input, OutOfMemory, WriteFailed, NotOnDuty, NoThread, TooManyReporters, Strangers}
 use Rattle.ucl_runs.specs.Nights.{EachMatchHasOneReporter, HasShown, IsMerge, IsOnDuty, night_text, number_of_two}
 use Rattle.ucl_runs.specs.Program.{HasLooked, IsPlayed, IsScriptOnDuty, Obeys, streams}
-use Rattle.ucl_runs.specs.Run.{IsStopped, StoppedShort, TextHas}
+use Rattle.ucl_io.specs.Output.{StoppedShort}
+use Rattle.ucl_runs.specs.Run.{IsStopped, TextHas}
 use Rattle.ucl_runs.specs.Styles.{styled}
 use Rattle.ucl_runs.proofs.Unsigned.{screen_of_script}
 

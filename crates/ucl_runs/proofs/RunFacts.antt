@@ -12,7 +12,7 @@ use Rattle.ucl_runs.specs.Feed.{IsBoardAfter, IsFed, feed_text}
 use Rattle.ucl_runs.specs.Show.{IsShown}
 use Rattle.ucl_runs.specs.declared.fault.RunFault.{RunFault}
 use Rattle.ucl_runs.specs.declared.fault.RunFault.TheVariants.{Input, OutOfMemory, WriteFailed, NotOnDuty, NoThread, TooManyReporters, Strangers}
-use Rattle.ucl_screen.specs.Stream.{WroteFirst}
+use Rattle.ucl_io.specs.Stream.{WroteFirst}
 use Rattle.ucl_runs.specs.Run.{IfWriteFailed, IsCutShort, TextHas}
 
 -- a script's text, and a sheet's screen

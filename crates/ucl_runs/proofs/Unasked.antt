@@ -1,7 +1,7 @@
 -- What is done where the words name nothing to do, over the streams.
 use Rattle.std.proofs.Common.{ap, ℕ, Bool, List, Option}
-use Rattle.ucl_screen.specs.declared.stream.Source as reads
-use Rattle.ucl_screen.specs.declared.stream.Sink as writes
+use Rattle.ucl_io.specs.declared.stream.Source as reads
+use Rattle.ucl_io.specs.declared.stream.Sink as writes
 use Rattle.ucl_command.specs.declared.fault.LineFault.{LineFault}
 use Rattle.ucl_command.specs.declared.fault.LineFault.TheVariants.{Help, Refused, OutOfMemory}
 use Rattle.ucl_runs.specs.Ending.{EndsUnasked}

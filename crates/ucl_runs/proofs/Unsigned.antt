@@ -27,13 +27,30 @@ use Rattle.ucl_board.specs.History.{of_match, entries_of, match_after, entry_of,
 use Rattle.ucl_board.proofs.Histories.{legal_match, match_valid, word_after}
 use Rattle.ucl_order.specs.declared.profile.Profile.{Profile}
 use Rattle.ucl_order.specs.Roster.{NamedClub}
-use Rattle.ucl_order.proofs.Unsigned.{without, same_rows}
+use Rattle.ucl_order.specs.Matches.{score_of}
+use Rattle.ucl_order.proofs.Scores.{same_rows}
 use Rattle.ucl_screen.specs.declared.night.NightEvent.{NightEvent}
 use Rattle.ucl_screen.specs.Lines.{header}
 use Rattle.ucl_screen.specs.Screen.{columns, in_play, row_line, screen_text}
 use Rattle.ucl_runs.specs.Feed.{attempt_of}
 use Rattle.ucl_runs.specs.Nights.{EachMatchHasOneReporter, IsMerge, IsOnDuty, attempt_by, number_of_two}
 use Rattle.ucl_runs.proofs.Merges.{entries_agree}
+
+-- The record of a match without its reporter. --
+
+abbrev without : MatchRecord → MatchRecord
+without m =
+    record {
+      number = m.number;
+      state = m.state;
+      home_goals = m.home_goals;
+      away_goals = m.away_goals;
+      home_yellows = m.home_yellows;
+      away_yellows = m.away_yellows;
+      home_expulsions = m.home_expulsions;
+      away_expulsions = m.away_expulsions;
+      reporter = 0;
+    }
 
 -- Matches by counting. --
 
@@ -218,14 +235,15 @@ module _ (h l : List Entry) (same : (game : ℕ) → without (read_after h game)
   unfolding board_of
   in_play_is = ap (λ (r : ℕ → MatchRecord). count_by (λ (m : MatchRecord). is_in_play m.state) (map r match_numbers)) (fun_ext same)
 
-  games_are : (game : ℕ) → IsMatch game → without (game_at (board_of h) game) ≡ without (game_at (board_of l) game)
-  games_are game is =
-      ap (λ (word : ℕ). without (record_at word)) (word_after h game is) ∙ (same game ∙ ap (λ (word : ℕ). without (record_at word)) (sym (word_after l game is)))
+  scores_are : (game : ℕ) → IsMatch game → score_of (game_at (board_of h) game) ≡ score_of (game_at (board_of l) game)
+  scores_are game is =
+      ap (λ (word : ℕ). score_of (record_at word)) (word_after h game is)
+      ∙ (ap score_of (same game) ∙ ap (λ (word : ℕ). score_of (record_at word)) (sym (word_after l game is)))
 
   pub same_screen : (profile : Profile) (roster : List NamedClub) (group : ℕ) → screen_text profile (board_of h) roster group ≡ screen_text profile (board_of l) roster group
   unfolding screen_text
   same_screen profile roster group =
-      let rows = same_rows (board_of h) (board_of l) games_are profile roster in
+      let rows = same_rows (board_of h) (board_of l) scores_are profile roster in
       λ i. header group (versions_are i) (in_play_is i) ++ columns ++ flat_map (row_line roster) (rows i)
 
 -- Nights in which each match has one reporter. --

@@ -1,6 +1,8 @@
 -- How a program ends.
 use Rattle.std.specs.Prelude.{◌≡◌, ℕ, ⊤, Bool, List, Option, Result, Ok, Err, IfErr, OnOk, string_bytes}
 use Rattle.std.specs.Io.KnownBytes.{Appends}
+use Rattle.ucl_io.specs.declared.duplex.Duplex.{Duplex}
+use Rattle.ucl_io.specs.declared.stream.Sink as writes
 use Rattle.ucl_runs.specs.declared.fault.RunFault.{RunFault}
 use Rattle.ucl_runs.specs.declared.fault.RunFault.TheVariants.{OutOfMemory}
 use Rattle.ucl_runs.specs.Faults.{status}
@@ -27,3 +29,8 @@ module _ {W : Type 0} (failed_of : W → Bool) (taken_of : W → Option (List �
       (r : Result ⊤ RunFault) × WritesText (string_bytes text) (failed_of after) (taken_of before) (taken_of after) r × Ends r code failed old new
   EndsUnasked (words.Refused text) before after code failed old new = (after ≡ before) × (code ≡ 2) × Tells failed old new (string_bytes text)
   EndsUnasked words.OutOfMemory before after code failed old new = (after ≡ before) × Ends (Err OutOfMemory) code failed old new
+
+-- nothing was read, and it was answered that the words name nothing to do
+abbrev pub AnsweredAlone : {S W M : Type 0} → writes.Ghosts W → LineFault → Duplex S W M → Duplex S W M → ℕ → Bool → Option (List ℕ) → Option (List ℕ) → Type 0
+AnsweredAlone sink fault before after code failed old new =
+    (after ≡ record before { sink = after.sink }) × EndsUnasked sink.failed sink.taken fault before.sink after.sink code failed old new

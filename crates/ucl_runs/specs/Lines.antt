@@ -2,7 +2,7 @@
 use Rattle.std.specs.Prelude.{ℕ, List, ◌++◌, codes, decimal}
 use Rattle.ucl_screen.specs.Numbers.{hex_digits}
 use Rattle.ucl_word.specs.declared.refusal.Refusal.{Refusal}
-use Rattle.ucl_word.specs.Texts.{refusal_text}
+use Rattle.ucl_word.specs.Names.{refusal_text}
 
 -- ROW ok MATCH NUMBER VERSION
 abbrev pub accepted_line : ℕ → ℕ → ℕ → ℕ → List ℕ

@@ -5,8 +5,8 @@ use Rattle.ucl_board.specs.History.{accepted_of, board_of}
 use Rattle.ucl_order.specs.declared.profile.Profile.{Profile}
 use Rattle.ucl_order.specs.Roster.{NamedClub}
 use Rattle.ucl_screen.specs.declared.fault.InputFault.{InputFault}
-use Rattle.ucl_screen.specs.declared.stream.Source as reads
-use Rattle.ucl_screen.specs.declared.stream.Sink as writes
+use Rattle.ucl_io.specs.declared.stream.Source as reads
+use Rattle.ucl_io.specs.declared.stream.Sink as writes
 use Rattle.ucl_screen.specs.Input.{Reads}
 use Rattle.ucl_screen.specs.Script.{Script}
 use Rattle.ucl_screen.specs.Parsing.{MeansNight, MeansSheet, night_seen, sheet_seen}
@@ -21,8 +21,9 @@ use Rattle.ucl_runs.specs.Faults.{IsOfOneThread}
 use Rattle.ucl_runs.specs.Feed.{IsFed, attempt_of}
 use Rattle.ucl_runs.specs.Show.{IsShown}
 use Rattle.ucl_runs.specs.Nights.{EachMatchHasOneReporter, IsFirstOffDuty, IsMerge, IsOnDuty, night_text, number_of_two}
-use Rattle.ucl_screen.specs.Stream.{WroteFirst}
-use Rattle.ucl_runs.specs.Run.{BlamesOutput, IfInput, IfWriteFailed, StoppedShort, TellsMemoryApart, TextHas, WritesAll, WritesNothing, is_read_failed}
+use Rattle.ucl_io.specs.Stream.{WroteFirst}
+use Rattle.ucl_io.specs.Output.{StoppedShort}
+use Rattle.ucl_runs.specs.Run.{BlamesOutput, IfInput, IfWriteFailed, TellsMemoryApart, TextHas, WritesAll, WritesNothing, is_read_failed}
 
 -- The text that a line calls for. --
 

@@ -1,10 +1,13 @@
 -- What a run of the program does to its input and its output, and which faults it ends with.
-use Rattle.std.specs.Prelude.{◌≡◌, ℕ, ◌+◌, ◌-◌, ◌^◌, ◌≤◌, min, Bool, true, false, ⊤, List, Option, IfSome, Result, Err, IfErr, IsErrOf, OnOk}
+use Rattle.std.specs.Prelude.{◌≡◌, ℕ, ◌+◌, ◌≤◌, Bool, true, false, ⊤, List, Option, IfSome, Result, Err, IfErr, IsErrOf, OnOk}
 use Rattle.std.specs.Io.KnownBytes.{Appends}
 use Rattle.ucl_screen.specs.declared.fault.InputFault.{InputFault}
 use Rattle.ucl_screen.specs.declared.fault.InputFault.TheVariants as input
 use Rattle.ucl_screen.specs.Input.{Reads, most_bytes}
-use Rattle.ucl_screen.specs.Stream.{WroteFirst}
+use Rattle.ucl_io.specs.declared.fault.PumpFault.{PumpFault}
+use Rattle.ucl_io.specs.declared.fault.PumpFault.TheVariants as driver
+use Rattle.ucl_io.specs.Output.{StoppedShort}
+use Rattle.ucl_io.specs.Stream.{WroteFirst}
 use Rattle.ucl_runs.specs.declared.fault.RunFault.{RunFault}
 use Rattle.ucl_runs.specs.declared.fault.RunFault.TheVariants.{Input, WriteFailed, NotOnDuty}
 
@@ -76,14 +79,21 @@ abbrev pub MatchDuty : RunFault → (ℕ → Type 0) → Type 0 → Type 0
 MatchDuty (NotOnDuty row) P Q = P row
 MatchDuty _ P Q = Q
 
--- the output has failed: some first bytes of the text went out, and not all of them; so many were out before, and the number of all
--- that went out is told (at most the greatest that can be told)
-pub record StoppedShort (before : ℕ) (failed : Bool) (old new : Option (List ℕ)) (text : List ℕ) (written : ℕ) : Type 0 where
-  pub failed_is : failed ≡ true
-  pub count : ℕ
-  pub first : WroteFirst old new count text
-  pub told : written ≡ min (before + count) (2 ^ 64 - 1)
-
+-- the output has failed in a text after so many bytes, and the number of all that went out is told
 abbrev pub IsStopped : ℕ → Bool → Option (List ℕ) → Option (List ℕ) → List ℕ → RunFault → Type 0
 IsStopped before failed old new text (WriteFailed written) = StoppedShort before failed old new text written
 IsStopped before failed old new text _ = ⊥
+
+-- Runs whose lines a driver hands to a machine. --
+
+-- the fault of the driver, as the run tells it
+abbrev pub fault_of : PumpFault RunFault → RunFault
+fault_of (driver.ReadFailed bytes) = Input (input.ReadFailed bytes)
+fault_of driver.TooLong = Input input.TooLong
+fault_of (driver.WriteFailed written) = WriteFailed written
+fault_of (driver.Machine fault) = fault
+
+-- a failed write is told only where the sink has failed; after any other fault the sink is as it was in this
+abbrev pub SinkFails : Bool → Bool → RunFault → Type 0
+SinkFails failed failed2 (WriteFailed written) = failed2 ≡ true
+SinkFails failed failed2 _ = failed2 ≡ failed

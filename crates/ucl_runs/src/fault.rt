@@ -4,9 +4,11 @@ ghost use Rattle.std.specs.Prelude.{◌≡◌, Some};
 ghost use Rattle.ucl_runs.specs.declared.fault.RunFault.TheVariants.{OutOfMemory, NoThread, TooManyReporters, Strangers};
 ghost use Rattle.ucl_screen.specs.Texts.{line_text};
 ghost use Rattle.ucl_runs.specs.Faults.{fault_text, handed_on, status};
+ghost use Rattle.ucl_runs.specs.Run.{fault_of};
 
 use std::alloc::AllocError;
 use std::{error, fmt};
+use ucl_io::PumpFault;
 use ucl_screen::{FaultLine, InputFault};
 
 /// Why a run failed. Its text is the line that the program writes to standard error.
@@ -85,6 +87,20 @@ impl From<ucl_word::OutOfMemory> for RunFault {
 
     fn from(_error: ucl_word::OutOfMemory) -> RunFault {
         RunFault::OutOfMemory
+    }
+}
+
+/// The fault of a run whose lines a driver hands to a machine.
+impl From<PumpFault<RunFault>> for RunFault {
+    ghost from_gives = { λ fault f. f ≡ fault_of fault };
+
+    fn from(fault: PumpFault<RunFault>) -> RunFault {
+        match fault {
+            PumpFault::ReadFailed { bytes } => RunFault::Input(InputFault::ReadFailed { bytes }),
+            PumpFault::TooLong => RunFault::Input(InputFault::TooLong),
+            PumpFault::WriteFailed { written } => RunFault::WriteFailed { written },
+            PumpFault::Machine(fault) => fault,
+        }
     }
 }
 

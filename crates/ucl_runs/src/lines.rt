@@ -1,7 +1,7 @@
 //! Single lines of the output.
 
 ghost use Rattle.std.specs.Prelude.{◌≡◌, ◌++◌, OnOk, codes, decimal, string_bytes};
-ghost use Rattle.ucl_word.specs.Texts.{refusal_text};
+ghost use Rattle.ucl_word.specs.Names.{refusal_text};
 ghost use Rattle.ucl_runs.specs.Lines.{accepted_line, refused_line, word_line};
 
 use itoa::Buffer;
@@ -15,19 +15,20 @@ fn push_number(out: &mut String, number: u32) -> Result<(), AllocError>
     out.push_str(Buffer::new().format(number))
 }
 
-/// Writes that an event is refused, with the number of the refusal and its name. Of most that are refused another event was first, so that
-/// one is written with no options.
+/// Writes that an event is refused, with the number of the refusal and its name.
 fn push_refusal(out: &mut String, refusal: Refusal) -> Result<(), AllocError>
     ensures { OnOk result (string_bytes out.new
         ≡ string_bytes out.old ++ codes " refused " ++ refusal_text refusal) }
 {
-    match refusal {
-        Refusal::Stale { found } => {
-            out.push_str(" refused 1 stale ")?;
-            push_number(out, u32::from(found))
-        }
-        _ => write!(out, " refused {refusal}"),
+    out.push_str(" refused ")?;
+    push_number(out, u32::from(refusal.code()))?;
+    out.push_str(" ")?;
+    out.push_str(refusal.name())?;
+    if let Some(found) = refusal.found() {
+        out.push_str(" ")?;
+        push_number(out, u32::from(found))?;
     }
+    Ok(())
 }
 
 /// Writes the line of an event that was entered.

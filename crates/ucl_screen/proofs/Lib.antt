@@ -1,4 +1,3 @@
-pub mod MovedBytes
 pub mod FourFacts
 pub mod RowFacts
 pub mod Digits

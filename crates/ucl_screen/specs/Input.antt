@@ -2,7 +2,7 @@
 use Rattle.std.specs.Prelude.{◌≡◌, ℕ, ◌+◌, ◌≤◌, nat_le, Bool, true, false, if◌then◌else◌, List, length, Option, IfSome, Result, Ok, Err}
 use Rattle.ucl_screen.specs.declared.fault.InputFault.{InputFault}
 use Rattle.ucl_screen.specs.declared.fault.InputFault.TheVariants.{ReadFailed, OutOfMemory, TooLong}
-use Rattle.ucl_screen.specs.Stream.{MovesCount}
+use Rattle.ucl_io.specs.Stream.{MovesCount}
 
 -- the most bytes that an input may have
 abbrev pub most_bytes : ℕ

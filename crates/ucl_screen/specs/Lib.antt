@@ -1,5 +1,3 @@
-pub mod Stream
-pub mod Devices
 pub mod Input
 pub mod Rows
 pub mod Numbers

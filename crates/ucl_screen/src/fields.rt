@@ -2,9 +2,8 @@
 
 ghost use Rattle.std.specs.Prelude.{◌≡◌, ◌<◌, ◌≤◌, IfSome};
 ghost use Rattle.ucl_screen.specs.Numbers.{number, in_range, hex_digit, hex_word};
-ghost use Rattle.ucl_screen.specs.Events.{kind_of};
 
-use ucl_word::{Kind, MatchNo, ReporterNo, Side};
+use ucl_word::{MatchNo, ReporterNo};
 
 /// The number of a text of decimal digits, at least one and at most so many.
 pub(crate) fn number(text: &[u8], most: usize) -> Option<u32>
@@ -71,40 +70,4 @@ pub(crate) fn hex_word(text: &[u8]) -> Option<u64>
         word = 16 * word + u64::from(digit);
     }
     Some(word)
-}
-
-/// What an event word says.
-#[tactic(auto, unfolding(crate::specs::Events::kind_of))]
-pub(crate) fn kind_of(text: &[u8]) -> Option<Kind>
-    ensures { result ≡ kind_of text.now }
-{
-    if text == b"kickoff".as_slice() {
-        Some(Kind::KickOff)
-    } else if text == b"goal-home".as_slice() {
-        Some(Kind::Goal(Side::Home))
-    } else if text == b"goal-away".as_slice() {
-        Some(Kind::Goal(Side::Away))
-    } else if text == b"disallow-home".as_slice() {
-        Some(Kind::Disallow(Side::Home))
-    } else if text == b"disallow-away".as_slice() {
-        Some(Kind::Disallow(Side::Away))
-    } else if text == b"yellow-home".as_slice() {
-        Some(Kind::Yellow(Side::Home))
-    } else if text == b"yellow-away".as_slice() {
-        Some(Kind::Yellow(Side::Away))
-    } else if text == b"second-yellow-home".as_slice() {
-        Some(Kind::SecondYellow(Side::Home))
-    } else if text == b"second-yellow-away".as_slice() {
-        Some(Kind::SecondYellow(Side::Away))
-    } else if text == b"red-home".as_slice() {
-        Some(Kind::Red(Side::Home))
-    } else if text == b"red-away".as_slice() {
-        Some(Kind::Red(Side::Away))
-    } else if text == b"fulltime".as_slice() {
-        Some(Kind::FullTime)
-    } else if text == b"reopen".as_slice() {
-        Some(Kind::Reopen)
-    } else {
-        None
-    }
 }

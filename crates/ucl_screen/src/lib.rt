@@ -1,8 +1,6 @@
 //! The screen of a board; bytes in and out, and what the bytes of an input mean.
 #![tactic(auto)]
 
-mod calls;
-mod devices;
 mod fault;
 mod fault_line;
 mod fields;
@@ -12,11 +10,9 @@ mod night;
 mod reading;
 mod rows;
 mod sheet;
-mod stream;
 mod text;
 mod transfer;
 
-pub use devices::{FromRead, ToWrite};
 pub use fault::InputFault;
 pub use fault_line::FaultLine;
 pub use laws::lines_have_53_columns;
@@ -27,6 +23,6 @@ pub use reading::{
 };
 pub use rows::Four;
 pub use sheet::Sheet;
-pub use stream::{Sink, Source};
 pub use text::{is_group, matches_in_play, screen, text_of};
-pub use transfer::give_all;
+pub use transfer::read_all;
+pub use ucl_io::{FromRead, Sink, Source, ToWrite, give_all};

@@ -10,17 +10,17 @@ ghost use Rattle.ucl_screen.specs.Script.{said_by, club_of, club_at, roster_at, 
 ghost use Rattle.ucl_screen.specs.Parsing.{AnswersAsSaid, MeansNight, MeansSheet, night_seen, sheet_seen};
 
 use crate::fault::InputFault;
-use crate::fields::{hex_word, kind_of, match_of, number, number_of, reporter_of};
+use crate::fields::{hex_word, match_of, number, number_of, reporter_of};
 use crate::night::{Night, NightEvent};
 use crate::rows::{Four, four_fields, next_row, open};
 use crate::sheet::Sheet;
-use crate::stream::Source;
 use crate::transfer::{MOST_INPUT_BYTES, read_all};
 use csv::{ByteRecord, Reader};
 use std::alloc::{AllocError, Global};
 use ucl_board::Board;
+use ucl_io::Source;
 use ucl_order::{Club, Roster};
-use ucl_word::EventCall;
+use ucl_word::{EventCall, Kind};
 
 /// The row of the first event of a script: rows 1 to 4 are its clubs.
 pub const FIRST_EVENT_ROW: u8 = 5;
@@ -94,7 +94,7 @@ pub fn event_of_fields(fields: &Four<'_>) -> Option<NightEvent>
     let reporter = reporter_of(number(fields.first, 3)?)?;
     let game = match_of(number(fields.second, 2)?)?;
     let expected = number_of(number(fields.third, 5)?)?;
-    let kind = kind_of(fields.fourth)?;
+    let kind = Kind::from_name(fields.fourth)?;
     Some(NightEvent {
         reporter,
         call: EventCall {

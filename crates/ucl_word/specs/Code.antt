@@ -2,3 +2,4 @@
 pub mod Changes
 pub mod Moving
 pub mod Reading
+pub mod Going

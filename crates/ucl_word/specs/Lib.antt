@@ -5,5 +5,6 @@ pub mod Counts
 pub mod Layout
 pub mod Migration
 pub mod Laws
-pub mod Texts
+pub mod Names
 pub mod Code
+pub mod Ways

@@ -1,5 +1,8 @@
 //! What reporters enter.
 
+ghost use Rattle.std.specs.Prelude.{◌≡◌};
+ghost use Rattle.ucl_word.specs.Names.{kind_named, kind_with};
+
 use crate::match_no::MatchNo;
 
 /// A side of a match.
@@ -30,6 +33,70 @@ pub enum Kind {
     FullTime,
     /// The match is not over after all, and goes on.
     Reopen,
+}
+
+/// The kinds of events, by their codes.
+// A table, so that a kind that can't be foreseen costs no jump.
+static KINDS: [Kind; 13] = [
+    Kind::KickOff,
+    Kind::Goal(Side::Home),
+    Kind::Goal(Side::Away),
+    Kind::Disallow(Side::Home),
+    Kind::Disallow(Side::Away),
+    Kind::Yellow(Side::Home),
+    Kind::Yellow(Side::Away),
+    Kind::SecondYellow(Side::Home),
+    Kind::SecondYellow(Side::Away),
+    Kind::Red(Side::Home),
+    Kind::Red(Side::Away),
+    Kind::FullTime,
+    Kind::Reopen,
+];
+
+impl Kind {
+    /// The kind with this code, where there is one.
+    #[inline]
+    pub fn from_code(code: u32) -> Option<Kind>
+        ensures { result ≡ kind_with code }
+    {
+        KINDS.get(code as usize).copied()
+    }
+
+    /// The kind with this name, where there is one.
+    #[tactic(auto, unfolding(crate::specs::Names::kind_named))]
+    pub fn from_name(name: &[u8]) -> Option<Kind>
+        ensures { result ≡ kind_named name.now }
+    {
+        if name == b"kickoff".as_slice() {
+            Some(Kind::KickOff)
+        } else if name == b"goal-home".as_slice() {
+            Some(Kind::Goal(Side::Home))
+        } else if name == b"goal-away".as_slice() {
+            Some(Kind::Goal(Side::Away))
+        } else if name == b"disallow-home".as_slice() {
+            Some(Kind::Disallow(Side::Home))
+        } else if name == b"disallow-away".as_slice() {
+            Some(Kind::Disallow(Side::Away))
+        } else if name == b"yellow-home".as_slice() {
+            Some(Kind::Yellow(Side::Home))
+        } else if name == b"yellow-away".as_slice() {
+            Some(Kind::Yellow(Side::Away))
+        } else if name == b"second-yellow-home".as_slice() {
+            Some(Kind::SecondYellow(Side::Home))
+        } else if name == b"second-yellow-away".as_slice() {
+            Some(Kind::SecondYellow(Side::Away))
+        } else if name == b"red-home".as_slice() {
+            Some(Kind::Red(Side::Home))
+        } else if name == b"red-away".as_slice() {
+            Some(Kind::Red(Side::Away))
+        } else if name == b"fulltime".as_slice() {
+            Some(Kind::FullTime)
+        } else if name == b"reopen".as_slice() {
+            Some(Kind::Reopen)
+        } else {
+            None
+        }
+    }
 }
 
 /// An event for one match, with the event number that its reporter last saw there.

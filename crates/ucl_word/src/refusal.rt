@@ -1,7 +1,7 @@
 //! Why events, words and calls are refused.
 
-ghost use Rattle.std.specs.Prelude.{Some};
-ghost use Rattle.ucl_word.specs.Texts.{refusal_text};
+ghost use Rattle.std.specs.Prelude.{◌≡◌, ◌≤◌, Some, length};
+ghost use Rattle.ucl_word.specs.Names.{found_of, refusal_code, refusal_name, refusal_text, refusal_with};
 
 use std::alloc::{AllocError, AllocFailed};
 use std::{error, fmt};
@@ -30,21 +30,81 @@ pub enum Refusal {
     LimitReached,
 }
 
-/// The number of the refusal and its name, as in `1 stale 6`.
+impl Refusal {
+    /// The number of the refusal, 1 to 9.
+    pub fn code(self) -> u8
+        ensures { result ≡ refusal_code self }
+    {
+        match self {
+            Refusal::Stale { found } => 1,
+            Refusal::Finished => 2,
+            Refusal::NotStarted => 3,
+            Refusal::AlreadyStarted => 4,
+            Refusal::NumberFull => 5,
+            Refusal::NoGoal => 6,
+            Refusal::NoCaution => 7,
+            Refusal::LimitReached => 8,
+            Refusal::NotFinished => 9,
+        }
+    }
+
+    /// The name of the refusal.
+    pub fn name(self) -> &'static str
+        ensures value { result.now ≡ refusal_name self }
+        ensures short { length result.now ≤ 15 }
+    {
+        match self {
+            Refusal::Stale { found } => "stale",
+            Refusal::Finished => "finished",
+            Refusal::NotStarted => "not-started",
+            Refusal::AlreadyStarted => "already-started",
+            Refusal::NumberFull => "number-full",
+            Refusal::NoGoal => "no-goal",
+            Refusal::NoCaution => "no-caution",
+            Refusal::LimitReached => "limit-reached",
+            Refusal::NotFinished => "not-finished",
+        }
+    }
+
+    /// The number found, which a stale event is told.
+    pub fn found(self) -> Option<u16>
+        ensures { result ≡ found_of self }
+    {
+        match self {
+            Refusal::Stale { found } => Some(found),
+            _ => None,
+        }
+    }
+
+    /// The refusal with this number, where there is one. A stale event is told `found`.
+    pub fn from_code(code: u32, found: u16) -> Option<Refusal>
+        ensures { result ≡ refusal_with code found }
+    {
+        match code {
+            1 => Some(Refusal::Stale { found }),
+            2 => Some(Refusal::Finished),
+            3 => Some(Refusal::NotStarted),
+            4 => Some(Refusal::AlreadyStarted),
+            5 => Some(Refusal::NumberFull),
+            6 => Some(Refusal::NoGoal),
+            7 => Some(Refusal::NoCaution),
+            8 => Some(Refusal::LimitReached),
+            9 => Some(Refusal::NotFinished),
+            _ => None,
+        }
+    }
+}
+
+/// The number of the refusal and its name, and of a stale event the number found, as in `1 stale 6`.
 impl fmt::Display for Refusal {
     ghost output = { λ refusal. Some (refusal_text refusal) };
 
     fn fmt<W: fmt::Write>(&self, f: &mut fmt::Formatter<W>) -> fmt::Result {
-        match self {
-            Refusal::Stale { found } => write!(f, "1 stale {found}"),
-            Refusal::Finished => write!(f, "2 finished"),
-            Refusal::NotFinished => write!(f, "9 not-finished"),
-            Refusal::NotStarted => write!(f, "3 not-started"),
-            Refusal::AlreadyStarted => write!(f, "4 already-started"),
-            Refusal::NumberFull => write!(f, "5 number-full"),
-            Refusal::NoGoal => write!(f, "6 no-goal"),
-            Refusal::NoCaution => write!(f, "7 no-caution"),
-            Refusal::LimitReached => write!(f, "8 limit-reached"),
+        let code = self.code();
+        let name = self.name();
+        match self.found() {
+            Some(found) => write!(f, "{code} {name} {found}"),
+            None => write!(f, "{code} {name}"),
         }
     }
 }

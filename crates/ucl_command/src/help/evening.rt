@@ -10,8 +10,10 @@ pub(crate) const PROGRAM_MORE: &str = "\
 Clubs: rows of four fields separated by commas, one a line
   club,SLOT,NAME,COEFFICIENT     the first four: the clubs of slots 1 to 4, each
                                  with its coefficient in thousandths
-  REPORTER,MATCH,EXPECTED,EVENT  then the events that were entered before, if the
-                                 evening goes on from an earlier one; they are
+  word,MATCH,WORD,               then the words of the twelve matches, if the
+                                 evening begins from them: reporter 1 enters
+                                 events that lead there
+  REPORTER,MATCH,EXPECTED,EVENT  or the events that were entered before; they are
                                  entered first, and none may be refused
 
 Reporters: each line of IN is answered on OUT before the next is read; a line has
@@ -36,8 +38,8 @@ Each file or pipe is opened by the thread that uses it, so one that nobody has
 opened yet holds up nobody else: IN and then OUT with the first answer. An OUT
 that is a file with bytes in it is refused, and so is a name that comes twice.
 
-Output: when all reporters have ended, the words of the twelve matches, for
-ucl_night show and ucl_live.
+Output: when all reporters have ended, the words of the twelve matches: after the
+clubs they begin the next evening.
 
 Exit status, with a line on standard error for each fault; that of a reporter or
 screen begins with its place, as `reporter 2: `, and the others go on. The status
@@ -59,8 +61,8 @@ docs/RULES.md has the rules of the board, of its input and of its answers.";
 
 /// What the script is.
 pub(crate) const CLUBS: &str = "\
-The file with the clubs and the events that were
-entered before";
+The file with the clubs, and the words or the events
+with which the evening begins";
 
 /// What `--reporter` is.
 pub(crate) const REPORTER: &str = "\

@@ -5,9 +5,9 @@ ghost use Rattle.std.specs.Prelude.{◌≡◌};
 use std::alloc::Global;
 use std::sync::Wait;
 use std::test::Fail;
-use ucl_answers::Wire;
 use ucl_devices::{Cut, Full, Out};
-use ucl_evenings::{Desk, Ring, take_rows};
+use ucl_evenings::{Reporter, Ring, take_rows};
+use ucl_io::Duplex;
 use ucl_runs::RunFault;
 use ucl_screen::{FromRead, InputFault, ToWrite};
 use ucl_shared::LiveBoard;
@@ -46,7 +46,7 @@ fn told_on<B: LiveBoard, R: Wait>(
     ensures { B.is_reader board.now reader.new }
 {
     let pass = board.split(rt, reader);
-    let Ok(mut reporter) = board.enlist(rt, pass) else {
+    let Ok(pass) = board.enlist(rt, pass) else {
         return None;
     };
     let mut out = Vec::new(alloc);
@@ -62,13 +62,21 @@ fn told_on<B: LiveBoard, R: Wait>(
             room: rooms.1,
             full: Full::Fails,
         });
-        let desk = Desk {
-            sink,
+        let mut reporter = Reporter {
+            rt,
+            board,
+            pass,
             bells: Counting { rung: 0 },
         };
-        let mut wire = Wire::new(source, desk);
-        let answer = take_rows(rt, board, &mut reporter, &mut wire);
-        (answer, wire.sink.bells.rung)
+        let mut duplex = Duplex::new(source, sink);
+        let answer = take_rows(&mut reporter, &mut duplex);
+        let Reporter {
+            rt: _,
+            board: _,
+            pass: _,
+            bells,
+        } = reporter;
+        (answer, bells.rung)
     };
     Some((answer, out, rung))
 }

@@ -1,5 +1,5 @@
 use Rattle.std.proofs.Common.{◌≡◌, ◌≤◌, ◌+◌, ◌-◌, length, take}
-use Rattle.ucl_answers.specs.Output.{HasPut}
+use Rattle.ucl_io.specs.Output.{HasPut}
 use Rattle.ucl_answers.specs.Stepping.{answers_to, moment_after}
 use Rattle.ucl_answers.specs.Taking.{moment_of}
 use Rattle.ucl_answers.proofs.live.enter.Given as goal

@@ -1,4 +1,4 @@
-use Rattle.std.proofs.Common.{◌≡◌, sym, refl, true≢false}
+use Rattle.std.proofs.Common.{sym, refl, true≢false}
 use Rattle.ucl_follows.proofs.Members.{is_letter, many_letters, no_letter, other_letter}
 use Rattle.ucl_follows.proofs.told.letter_in.Goals as goal
 

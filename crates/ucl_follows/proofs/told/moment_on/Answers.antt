@@ -1,5 +1,5 @@
 use Rattle.ucl_follows.proofs.Members.{not-read, too-long, was-read}
-use Rattle.std.proofs.Common.{◌≡◌, ◌∙◌, arith, true≢false, sym}
+use Rattle.std.proofs.Common.{◌∙◌, arith, true≢false, sym}
 use Rattle.ucl_follows.proofs.told.moment_on.Goals as goal
 
 pub returns-then-line-gt-MOST_ANSWER_BYTES-clause-told : goal.returns-then-line-gt-MOST_ANSWER_BYTES-clause-told

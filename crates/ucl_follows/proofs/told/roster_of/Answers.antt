@@ -1,4 +1,4 @@
-use Rattle.std.proofs.Common.{◌≡◌, ◌∙◌, refl, None}
+use Rattle.std.proofs.Common.{◌∙◌, refl, None}
 use Rattle.ucl_follows.proofs.Members.{of-four}
 use Rattle.ucl_follows.proofs.told.roster_of.Goals as goal
 

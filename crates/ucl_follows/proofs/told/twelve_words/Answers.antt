@@ -1,4 +1,4 @@
-use Rattle.std.proofs.Common.{◌≡◌, ◌∙◌, ℕ, length, sym, ap, arith}
+use Rattle.std.proofs.Common.{◌∙◌, ℕ, length, sym, ap, arith}
 use Rattle.ucl_follows.specs.Told.{word_told}
 use Rattle.ucl_follows.proofs.Members.{not-told, told-next, told-not, told-start}
 use Rattle.ucl_follows.proofs.told.twelve_words.Goals as goal

@@ -1,6 +1,6 @@
-use Rattle.std.proofs.Common.{◌≡◌, arith, rules}
+use Rattle.std.proofs.Common.{◌≡◌, ◌∙◌, ap, arith, rules}
 use Rattle.std.proofs.lemmas.List.Elements.{All-push}
-use Rattle.ucl_word.specs.Record.{IsValid}
+use Rattle.ucl_order.specs.Matches.{HasScore, score_of}
 use Rattle.ucl_order.proofs.OneMatchMore.{match_is, matches_more, matches_all}
 use Rattle.ucl_order.proofs.game.fill_matches.Goals as goal
 use Rattle.ucl_order.proofs.game.fill_matches.Goals.{in-Some, in_default}
@@ -9,11 +9,11 @@ pub loop-number-preserved : goal.loop-number-preserved
 loop-number-preserved c = elim c.match-new.branch [
   | in-Some w ↦ rw w.matches-is (record {
     so_far = matches_more c.args.board.now c.loop-number.number c.loop-number.matches.items w.push.new.self.items _ (omega arith) (omega arith) c.loop-number.invariant.so_far
-        (match_is c.args.board.now c.loop-number.number w.in-Some.game w.home_of.result w.away_of.result w.game.result
-        w.in-Some.ensures.value w.home_of.ensures.value w.away_of.ensures.value w.game.ensures.value)
+        (match_is c.args.board.now c.loop-number.number w.in-Some.game w.home_of.result w.away_of.result w.of.result
+        w.in-Some.ensures.value w.home_of.ensures.value w.away_of.ensures.value (w.of.ensures.value ∙ ap score_of w.game.ensures.value))
         w.push.ensures.items;
     many = omega arith;
-    valid = rw w.push.ensures.items (All-push (λ m. IsValid m.result) c.loop-number.matches.items _ c.loop-number.invariant.valid w.game.ensures.valid);
+    valid = rw w.push.ensures.items (All-push HasScore c.loop-number.matches.items _ c.loop-number.invariant.valid w.of.ensures.valid);
   })
   | in_default w ↦ absurd (search rules)
 ]

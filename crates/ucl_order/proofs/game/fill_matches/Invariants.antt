@@ -1,12 +1,11 @@
 use Rattle.std.proofs.Common.{◌≡◌, ◌-◌, ◌+◌, All, take, map, length}
-use Rattle.ucl_word.specs.Record.{IsValid}
 use Rattle.ucl_board.specs.Fixtures.{match_numbers}
-use Rattle.ucl_order.specs.Matches.{match_at}
+use Rattle.ucl_order.specs.Matches.{HasScore, match_at}
 use Rattle.ucl_order.proofs.game.fill_matches.Given as goal
 
 abbrev pub invariant-loop-number : goal.invariant-loop-number
 invariant-loop-number l = record {
   so_far : l.matches.items ≡ map (match_at l.board) (take (l.number - 1) match_numbers);
   many : length l.matches.items + 1 ≡ l.number;
-  valid : All (λ m. IsValid m.result) l.matches.items;
+  valid : All HasScore l.matches.items;
 }

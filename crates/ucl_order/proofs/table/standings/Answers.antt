@@ -1,8 +1,7 @@
 use Rattle.std.proofs.Common.{◌≡◌, ◌∙◌, ap, refl, sym, subst, All, List, map}
 use Rattle.std.proofs.lemmas.List.Elements.{All-same}
 use Rattle.ucl_order.specs.declared.game.Match.{Match}
-use Rattle.ucl_word.specs.Record.{IsValid}
-use Rattle.ucl_order.specs.Matches.{matches_of, started, started_of}
+use Rattle.ucl_order.specs.Matches.{HasScore, matches_of, started, started_of}
 use Rattle.ucl_order.specs.Marks.{mark_by}
 use Rattle.ucl_order.specs.Code.Rounds.{results_of_clubs}
 use Rattle.ucl_order.specs.Order.{order_of}
@@ -14,7 +13,7 @@ use Rattle.ucl_order.proofs.table.standings.Goals as goal
 pub order-order-requires-clause-started : goal.order-order-requires-clause-started
 order-order-requires-clause-started c = record {
   board = c.args.board.now;
-  valid = (let P : List Match → Type 0 = All (λ m. IsValid m.result) in subst P c.fill_matches.ensures.value c.fill_matches.ensures.valid);
+  valid = subst (All HasScore) c.fill_matches.ensures.value c.fill_matches.ensures.scores;
   are = ap started (c.deref-2.ensures.0 ∙ c.fill_matches.ensures.value);
 }
 
@@ -41,13 +40,13 @@ returns-clause-rows c =
 
 pub returns-clause-within : goal.returns-clause-within
 returns-clause-within c =
-    let valid : All (λ m. IsValid m.result) (matches_of c.args.board.now) =
-    (let P : List Match → Type 0 = All (λ m. IsValid m.result) in subst P c.fill_matches.ensures.value c.fill_matches.ensures.valid) in
+    let valid : All HasScore (matches_of c.args.board.now) =
+    subst (All HasScore) c.fill_matches.ensures.value c.fill_matches.ensures.scores in
     All-same IsWithinTable _ (rows_of c.args.profile c.args.board.now c.args.roster.now) (returns-clause-rows c) (rows_within c.args.profile c.args.board.now c.args.roster.now valid)
 
 pub returns-clause-certain : goal.returns-clause-certain
 returns-clause-certain c =
-    let valid : All (λ m. IsValid m.result) (matches_of c.args.board.now) =
-    (let P : List Match → Type 0 = All (λ m. IsValid m.result) in subst P c.fill_matches.ensures.value c.fill_matches.ensures.valid) in
+    let valid : All HasScore (matches_of c.args.board.now) =
+    subst (All HasScore) c.fill_matches.ensures.value c.fill_matches.ensures.scores in
     All-same (MarkIsCertain c.args.profile c.args.board.now c.args.roster.now) _ (rows_of c.args.profile c.args.board.now c.args.roster.now) (returns-clause-rows c)
     (all_certain c.args.profile c.args.board.now c.args.roster.now (rows_within c.args.profile c.args.board.now c.args.roster.now valid))

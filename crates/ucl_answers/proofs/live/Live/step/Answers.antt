@@ -1,4 +1,4 @@
-use Rattle.std.proofs.Common.{◌≡◌, refl, sym, ap, inl, inr, ◌∙◌, ◌+◌, ◌-◌, ◌^◌, min, take, length, arith, ℕ, true≢false}
+use Rattle.std.proofs.Common.{◌≡◌, refl, sym, ap, ◌∙◌, ◌+◌, ◌-◌, ◌^◌, min, take, length, arith, ℕ, true≢false}
 use Rattle.std.proofs.lemmas.List.{length-take}
 use Rattle.std.proofs.lemmas.Result.{err_from_is_err_and}
 use Rattle.ucl_answers.specs.declared.live.Live.{Live}
@@ -6,7 +6,6 @@ use Rattle.ucl_answers.specs.declared.live.Progress.{Progress}
 use Rattle.ucl_answers.specs.Taking.{moment_of}
 use Rattle.ucl_answers.proofs.FaultKinds.{end-kind, fair-seen, give-kind}
 use Rattle.ucl_answers.proofs.Steps.{end-fails, give-fails, prompt-complete, prompt-end, prompt-then, read-fails, sound}
-use Rattle.ucl_answers.proofs.Wires.{ended}
 use Rattle.ucl_answers.proofs.live.Live.step.Goals as goal
 
 pub returns-in_ok-end-in-Some-eq0-clause-prompt : goal.returns-in_ok-end-in-Some-eq0-clause-prompt

@@ -1,6 +1,6 @@
 use Rattle.std.proofs.Common.{[], ap, subst}
 use Rattle.std.proofs.lemmas.Result.{err_from_is_err_and}
-use Rattle.ucl_answers.specs.Output.{HasPut, Waiting}
+use Rattle.ucl_io.specs.Output.{HasPut, Waiting}
 use Rattle.ucl_answers.proofs.Puts.{put_given, put_stopped, put_then}
 use Rattle.ucl_answers.proofs.page.Page.put.Goals as goal
 

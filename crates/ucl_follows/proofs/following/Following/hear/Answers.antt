@@ -1,1 +1,0 @@
-use Rattle.ucl_follows.proofs.following.Following.hear.Goals as goal

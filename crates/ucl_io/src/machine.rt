@@ -1,0 +1,61 @@
+//! What answers lines.
+
+ghost use Rattle.std.specs.Prelude.{◌≡◌, ◌++◌, ℕ, List, IfErr, IfOk};
+
+/// What can be written: a text in two parts, so that two that were made apart need not be copied together.
+pub trait Text {
+    // Its bytes.
+    ghost bytes: { Self → List ℕ };
+
+    // The first of them.
+    ghost front: { Self → List ℕ };
+
+    /// The first part of its bytes, which may be all.
+    fn front(&self) -> &[u8]
+        ensures { result.now ≡ front self.now };
+
+    /// The rest of its bytes.
+    fn back(&self) -> &[u8]
+        ensures { bytes self.now ≡ front self.now ++ result.now };
+}
+
+/// What answers lines, one after the other. It is given no device: who gives it a line writes its answer.
+///
+/// What it answers is a relation between its states, so others may act on what it borrows.
+pub trait LineMachine {
+    /// What it answers. An answer may be nothing.
+    type Answer: Text + Drop;
+
+    /// Why it has no answer.
+    type Fault: Drop;
+
+    // It can be given a line.
+    ghost ready: { Self → Type 0 };
+
+    // In the first state it answers the line of this number so, and is in the second state then.
+    ghost answers: { Self → ℕ → List ℕ → Self → List ℕ → Type 0 };
+
+    // In this state it has no answer to the line of this number, for this reason.
+    ghost stops: { Self → ℕ → List ℕ → Self.Fault → Type 0 };
+
+    // The same where the input ends, and a last line of this number has begun so: it may have no byte.
+    ghost ends: { Self → ℕ → List ℕ → Self → List ℕ → Type 0 };
+
+    ghost stops_at_end: { Self → ℕ → List ℕ → Self.Fault → Type 0 };
+
+    /// Answers the line of this number, which comes without its line feed.
+    fn answer(&mut self, row: u64, line: &[u8]) -> Result<Self::Answer, Self::Fault>
+        requires { ready self.old }
+        ensures ready { ready self.new }
+        ensures answers { IfOk result
+            (λ text. answers self.old row line.now self.new (Self.Answer.bytes text)) }
+        ensures stops { IfErr result (stops self.old row line.now) };
+
+    /// Answers what has begun of a last line, which has no end.
+    fn end(&mut self, row: u64, begun: &[u8]) -> Result<Self::Answer, Self::Fault>
+        requires { ready self.old }
+        ensures ready { ready self.new }
+        ensures answers { IfOk result
+            (λ text. ends self.old row begun.now self.new (Self.Answer.bytes text)) }
+        ensures stops { IfErr result (stops_at_end self.old row begun.now) };
+}

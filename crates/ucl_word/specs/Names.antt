@@ -1,0 +1,81 @@
+-- The numbers, names and texts of refusals, and the codes and names of kinds of events. Each stands here and nowhere else.
+use Rattle.std.specs.Prelude.{ℕ, ◌==◌, List, [], ◌∷◌, ◌++◌, codes, decimal, map, find, slice_get, Option, None, Some, option_map}
+use Rattle.std.specs.Str.{bytes_eq}
+use Rattle.ucl_word.specs.declared.event.Side.TheVariants.{Home, Away}
+use Rattle.ucl_word.specs.declared.event.Kind.{Kind}
+use Rattle.ucl_word.specs.declared.event.Kind.TheVariants.{KickOff, Goal, Disallow, Yellow, SecondYellow, Red, FullTime, Reopen}
+use Rattle.ucl_word.specs.declared.refusal.Refusal.{Refusal}
+use Rattle.ucl_word.specs.declared.refusal.Refusal.TheVariants.{Stale, Finished, NotFinished, NotStarted, AlreadyStarted, NumberFull, NoGoal, NoCaution, LimitReached}
+
+-- ---- refusals
+
+abbrev pub refusal_code : Refusal → ℕ
+refusal_code (Stale found) = 1
+refusal_code Finished = 2
+refusal_code NotStarted = 3
+refusal_code AlreadyStarted = 4
+refusal_code NumberFull = 5
+refusal_code NoGoal = 6
+refusal_code NoCaution = 7
+refusal_code LimitReached = 8
+refusal_code NotFinished = 9
+
+abbrev pub refusal_name : Refusal → List ℕ
+refusal_name (Stale found) = codes "stale"
+refusal_name Finished = codes "finished"
+refusal_name NotStarted = codes "not-started"
+refusal_name AlreadyStarted = codes "already-started"
+refusal_name NumberFull = codes "number-full"
+refusal_name NoGoal = codes "no-goal"
+refusal_name NoCaution = codes "no-caution"
+refusal_name LimitReached = codes "limit-reached"
+refusal_name NotFinished = codes "not-finished"
+
+-- each refusal, a stale event being told this number
+abbrev pub refusals : ℕ → List Refusal
+refusals found = Stale found ∷ Finished ∷ NotStarted ∷ AlreadyStarted ∷ NumberFull ∷ NoGoal ∷ NoCaution ∷ LimitReached ∷ NotFinished ∷ []
+
+-- the refusal with this number
+abbrev pub refusal_with : ℕ → ℕ → Option Refusal
+refusal_with code found = find (λ refusal. refusal_code refusal == code) (refusals found)
+
+-- the number found, which a stale event is told
+abbrev pub found_of : Refusal → Option ℕ
+found_of (Stale found) = Some found
+found_of _ = None
+
+abbrev pub found_text : Option ℕ → List ℕ
+found_text None = []
+found_text (Some found) = codes " " ++ decimal found
+
+-- what a refusal is written as
+abbrev pub refusal_text : Refusal → List ℕ
+refusal_text refusal = decimal (refusal_code refusal) ++ codes " " ++ refusal_name refusal ++ found_text (found_of refusal)
+
+-- ---- kinds of events
+
+-- the kinds by their names, in the order of their codes 0 to 12
+abbrev pub kinds : List (List ℕ × Kind)
+kinds =
+    (codes "kickoff", KickOff)
+    ∷ (codes "goal-home", Goal Home)
+    ∷ (codes "goal-away", Goal Away)
+    ∷ (codes "disallow-home", Disallow Home)
+    ∷ (codes "disallow-away", Disallow Away)
+    ∷ (codes "yellow-home", Yellow Home)
+    ∷ (codes "yellow-away", Yellow Away)
+    ∷ (codes "second-yellow-home", SecondYellow Home)
+    ∷ (codes "second-yellow-away", SecondYellow Away)
+    ∷ (codes "red-home", Red Home)
+    ∷ (codes "red-away", Red Away)
+    ∷ (codes "fulltime", FullTime)
+    ∷ (codes "reopen", Reopen)
+    ∷ []
+
+-- the kind with this code
+abbrev pub kind_with : ℕ → Option Kind
+kind_with code = slice_get (map (λ named. named.1) kinds) code
+
+-- the kind with this name
+unfoldable pub kind_named : List ℕ → Option Kind
+kind_named name = option_map (λ named. named.1) (find (λ named. bytes_eq name named.0) kinds)

@@ -1,0 +1,108 @@
+"""A matchday of eight groups over a broker: the season of 2021/22, one night after the other, with parts that are killed."""
+
+import os
+import pathlib
+import random
+import re
+import signal
+import time
+
+import conftest
+import pytest
+from conftest import EXAMPLES
+from test_broker import site, until  # noqa: F401, a fixture
+
+SEASON = EXAMPLES / "season_2021_22"
+GROUPS = "abcdefgh"
+NIGHTS, SCREENS = 6, 4
+# Seconds between two rows of a reporter: 24,000 times as fast as the two hours of a match with ten events.
+PACE = 0.03
+
+
+def boards(site):
+    """The processes of the boards in this folder, by their group."""
+    found = {}
+    for process in pathlib.Path("/proc").glob("[0-9]*"):
+        try:
+            words = (process / "cmdline").read_text().split("\0")
+            is_board = (process / "comm").read_text() == "ucl_live\n" and "--screens" in words and os.readlink(process / "cwd") == str(site.path)
+        except OSError:
+            continue
+        if is_board:
+            found[words[words.index("--group") + 1].lower()] = int(process.name)
+    return found
+
+
+class Season:
+    """A season: its rows by groups, four screens of each, and nights of which each is a matchday that is started and ended."""
+
+    def __init__(self, site):
+        self.site, self.chance = site, random.Random(7)
+        self.rows = {group: conftest.text_of(SEASON / f"group_{group}.csv").splitlines()[4:] for group in GROUPS}
+        self.screens = [(group, site.path / f"screen-{group}-{number}") for group in GROUPS for number in range(SCREENS)]
+        for group, path in self.screens:
+            site.line(f"mosquitto_sub -q 1 -t ucl/{group}/desk | ./ucl_follow >{path.name}")
+
+    def until_night(self, group, night):
+        """How many rows a group has by the end of a night, with two matches each."""
+        ends = [number for number, row in enumerate(self.rows[group], 1) if row.endswith(",fulltime")]
+        return ends[2 * night - 1] if night else 0
+
+    def entered(self):
+        """How many events stand in the journals."""
+        paths = [self.site.path / f"{group}.jsonl" for group in GROUPS]
+        return sum(path.read_bytes().count(b'"reply":"ok"') for path in paths if path.exists())
+
+    def play(self, night):
+        """Plays a night, in which the broker and the board of a group are killed, each in the midst of the rows."""
+        told, (before, after) = self.site.path / f"told{night}", (sum(self.until_night(group, it) for group in GROUPS) for it in (night - 1, night))
+        with open(told, "wb") as file:
+            matchday = self.site.line(f"exec examples/matchday --rehearse {PACE} --matchday {night} {SEASON} mosquitto_sub", stdout=file)
+        places = sorted(self.chance.sample(range(before + 1, after - 3), 2))
+        for place, kill in zip(places, self.chance.sample([self.kill_broker, self.kill_board], 2)):
+            until(lambda: self.entered() >= place)
+            kill()
+        wanted = [(it.upper(), str(self.until_night(it, night))) for it in GROUPS]
+        versions = lambda: re.findall(r"^([A-H]) +\d+ +(\d+) ", told.read_text(), re.M)[-8:]
+        until(lambda: f"Matchday {night} is entered\n" in told.read_text() and versions() == wanted)
+        os.kill(matchday.shell.pid, signal.SIGINT)
+        assert matchday.shell.wait() == 130 and until(lambda: not boards(self.site), 10)
+
+    def kill_broker(self):
+        """Kills the broker, and starts it again."""
+        self.site.broker.kill()
+        self.site.broker.start()
+        self.site.await_broker()
+
+    def kill_board(self):
+        """Kills the board of a group, which is there again by itself."""
+        found = until(lambda: boards(self.site))
+        group = self.chance.choice(sorted(found))
+        os.kill(found[group], signal.SIGKILL)
+        assert until(lambda: boards(self.site).get(group, found[group]) != found[group], 20)
+
+
+def test_a_season_on_four_screens_a_group(site):
+    """All 32 screens end with the final tables, though one board and the broker are killed each night."""
+    site.open_broker()
+    season = Season(site)
+    for night in range(1, NIGHTS + 1):
+        season.play(night)
+    for group, path in season.screens:
+        until(lambda: f" v{len(season.rows[group]):05d} " in path.read_text(), 20)
+        shown = path.read_text().splitlines(True)[-6:]
+        assert shown == conftest.text_of(SEASON / f"group_{group}.expected").splitlines(True)[-6:]
+        table = [row.split(",") for row in conftest.text_of(SEASON / "tables.csv").splitlines() if row.startswith(group.upper())]
+        assert [(row[4:24].rstrip(), *map(int, (row[49:53], row[36:40], row[40:44]))) for row in shown[2:]] == [(row[2], *map(int, row[3:])) for row in table]
+
+
+def test_a_matchday_needs_eight_files_and_a_folder_of_its_own(site):
+    (site.path / "clubs").mkdir()
+    assert site.done("examples/matchday clubs 2>&1; echo $?") == "matchday: there is no file clubs/group_a.csv\n1\n"
+    matchday = site.line(f"exec examples/matchday {SEASON}")
+    until(lambda: len(boards(site)) == len(GROUPS))
+    assert site.done(f"timeout 5 examples/matchday {SEASON} 2>&1; echo $?") == "matchday: another matchday runs here: it holds matchday.lock\n1\n"
+    report = "printf '3 kickoff\\n3 goal away\\n' | XDG_CONFIG_HOME=clients examples/broker/reporter h 200"
+    assert site.done(report).endswith("3 goal-away             entered: Chelsea 0-1 Juventus, in play, event 2\n")
+    os.kill(matchday.shell.pid, signal.SIGINT)
+    assert matchday.shell.wait() == 130 and until(lambda: not boards(site), 10)
