@@ -57,6 +57,37 @@ def names_are_there(top):
     return found
 
 
+def sentences_of(text):
+    """Of each sentence of a page, outside blocks of code and headings: where its paragraph begins, its words, and whether it stands in a table. Names in
+    backticks that stand side by side are one word."""
+    parts = [(0, False, "")]
+    for number, line in enumerate(BLOCK.sub(lambda block: "\n" * block[0].count("\n"), text).split("\n"), 1):
+        if line.startswith("|"):
+            parts += [(number, True, cell) for cell in line.split("|")]
+        elif re.match(r"#|    |$", line):
+            parts.append((number, False, ""))
+        elif re.match(r"- |\d+\. ", line) or parts[-1][1] or not parts[-1][2]:
+            parts.append((number, False, line))
+        else:
+            parts[-1] = (*parts[-1][:2], f"{parts[-1][2]} {line}")
+    for number, in_table, part in parts:
+        part = re.sub(r"(?:`[^`]*`(?:[,;:]? )?)+", "name ", re.sub(r"\]\([^)]*\)", "]", part))
+        for sentence in re.split(r"(?<=[.?!])[*)\"']*\s+", part):
+            if words := re.findall(r"\S*\w\S*", sentence):
+                yield number, words, in_table
+
+
+def sentences_are_short(top):
+    """No sentence has over 40 words, and those of a page outside its tables have 25 at most on the average."""
+    found = []
+    for page in [*pages(top), top / "CHANGELOG.md", *top.glob("bench/*.md"), *top.glob("examples/*/README.md")]:
+        sentences, name = [*sentences_of(page.read_text())], page.relative_to(top)
+        prose = [len(words) for _, words, in_table in sentences if not in_table]
+        found += [f"{name}:{line}: {len(words)} words: {' '.join(words[:9])} .." for line, words, _ in sentences if len(words) > 40]
+        found += [f"{name}: {sum(prose)} words, {sum(prose) / len(prose):.1f} a sentence"] if sum(prose) > 25 * len(prose) else []
+    return found
+
+
 def crates_are_listed(top):
     """The table of crates has each crate of crates.txt, once."""
     section = (top / "docs/ARCHITECTURE.md").read_text().split("\n## The crates\n", 1)[-1].split("\n## ", 1)[0]
@@ -164,6 +195,7 @@ def texts_are_for_readers(top):
 
 LOOKS = [
     ("what pages name and link to is there", names_are_there),
+    ("sentences are short", sentences_are_short),
     ("the table of crates is that of crates.txt", crates_are_listed),
     ("each block of docs/READING.md stands in its file", reading_quotes),
     ("each promise names its function and its clause", promises_are_carried),

@@ -170,15 +170,13 @@ def site(tmp_path, program, monkeypatch):
 
 
 @pytest.mark.quick
-def test_lines_of_the_page_are_those_of_the_evening_and_of_the_readme():
+def test_lines_of_the_page_are_those_of_the_evening():
     in_one_line = lambda text: " ".join(text.replace("\\\n", " ").replace('"', "").split())
     lines = {name: in_one_line(line) for name, line in LINES.items()}
     evening = in_one_line((BROKER / "evening").read_text()).replace("two_matches.csv", "one_goal.csv").replace("reporter $GROUP $1", "reporter $GROUP 1")
-    readme = in_one_line((TOP / "README.md").read_text().split("\n## Beyond one machine\n")[1].split("\n## ")[0])
     lists = ["Names", "Certificates"]
     assert list(lines) == ["The board", "A reporter", "A screen", "A page", *lists]
     assert [name for name, line in lines.items() if line not in evening.replace("--port=$1", "--port=8080")] == lists
-    assert [name for name, line in lines.items() if line not in readme] == ["A page", *lists]
 
 
 def test_an_evening_that_is_started_leaves_nothing_behind(site):

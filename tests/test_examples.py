@@ -42,11 +42,10 @@ def test_writers_that_share_a_pipe(program, place):
 
 
 def test_first_look(program, place):
-    """The first commands of the README, typed as they stand there, give what it shows."""
+    """The commands of the README's first look, typed as they stand there, give what it shows."""
     program("ucl_live")
-    block = re.search(r"^```console\n(.*?)^```$", README, re.M | re.S)[1]
-    typed = [line for line in block.splitlines(True) if line.startswith("$ ")]
-    assert "".join(line + command(["bash", "-c", line[2:]], cwd=place).output for line in typed) == block
+    blocks = re.findall(r"^```console\n\$ (.*)\n((?s:.*?))^```$", README, re.M)
+    assert [command(["bash", "-c", line], cwd=place).output for line, _ in blocks] == [shown for _, shown in blocks] and len(blocks) == 2
 
 
 # ---- sources
@@ -54,9 +53,9 @@ def test_first_look(program, place):
 
 @pytest.mark.quick
 def test_program_of_the_readme():
-    """The README shows a function of the crate ucl_example, which the gate proves and runs, and its line of crates.txt."""
+    """The README shows lines of the crate ucl_example, which the gate proves and runs, and its line of crates.txt."""
     shown = re.search(r"^```rust\n(.*?)^```$", README, re.M | re.S)[1]
-    assert f"\n{shown}\n" in text_of(TOP / "crates/ucl_example/src/main.rt")
+    assert f"\n{shown}" in re.sub(r"^ +", "", text_of(TOP / "crates/ucl_example/src/main.rt"), flags=re.M)
     assert next(line for line in text_of(TOP / "crates.txt").splitlines() if line.startswith("ucl_example:")) in README
 
 

@@ -297,7 +297,7 @@ def test_programs_of_the_pages_print_the_screen_after_a_kick_off(shell, tmp_path
     assert shell(f"{line} && ./board") == wanted
     for path in MODULE, tmp_path / "library/libuclboard.so":
         shutil.copy(path, tmp_path)
-    programs = blocks("docs/C.md", "python")
+    programs = [*blocks("README.md", "python"), *blocks("docs/C.md", "python")]
     assert [shell(f"{how} -", text) for how in (in_python, "python3") for text in programs] == [wanted] * 4
     last = f"int main(void) {{\n    uint64_t words[UCLBOARD_WORDS];\n    return kick_off(words) != 0 || words[0] != UINT64_C(0x{matches[0].word()});\n}}\n"
     (tmp_path / "board.c").write_text(blocks("docs/C.md", "c")[0] + last)
