@@ -33,9 +33,7 @@ follows_ends h low high (m ∷ ms) f = let a = f.0 in let b = follows_ends h m.a
 -- the history may be longer
 pub follows_longer : (h h' : List Entry) (low high : ℕ) (ms : List Access) → IsPrefix h h' → high ≤ length h → Follows h low ms high → Follows h' low ms high
 follows_longer h h' low high [] p le f = f
-follows_longer h h' low high (m ∷ ms) p le f =
-    let up = follows_ends h m.at high ms f.2 in
-    (f.0, f.1 ∙ ap (λ (z : List Entry). word_of (match_after z m.game)) (sym (take_beginning h h' m.at p (omega arith))), follows_longer h h' m.at high ms p le f.2)
+follows_longer h h' low high (m ∷ ms) p le f = search (arith, follows_ends, take_beginning, follows_longer h h' m.at high ms p le f.2)
 
 -- the bounds may be wider
 pub follows_wider : (h : List Entry) (low low' high high' : ℕ) (ms : List Access) → low' ≤ low → high ≤ high' → Follows h low ms high → Follows h low' ms high'
@@ -65,17 +63,8 @@ pub record Parts (h : List Entry) (low high : ℕ) (ms ns : List Access) : Type 
 
 pub follows_parts : (h : List Entry) (low high : ℕ) (ms ns : List Access) → Follows h low (ms ++ ns) high → Parts h low high ms ns
 follows_parts h low high [] ns f = record { middle = low; former = le_refl low; latter = f; ends = λ k m e last. absurd (none-some m e) }
-follows_parts h low high (m ∷ []) ns f = record {
-  middle = m.at;
-  former = (f.0, f.1, le_refl m.at);
-  latter = f.2;
-  ends = λ k x e last. let is : k ≡ 0 = omega arith in ap (λ (z : Access). z.at) (sym (same_Some m x (ap (slice_get (m ∷ [])) (sym is) ∙ e)));
-}
-follows_parts h low high (m ∷ n ∷ ms) ns f = let t = follows_parts h m.at high (n ∷ ms) ns f.2 in record { middle = t.middle; former = (f.0, f.1, t.former); latter = t.latter; ends = last_of t }
-  where
-    last_of : (t : Parts h m.at high (n ∷ ms) ns) (k : ℕ) (x : Access) → slice_get (m ∷ n ∷ ms) k ≡ Some x → k + 1 ≡ length (m ∷ n ∷ ms) → x.at ≡ t.middle
-    last_of t zero x e last = absurd (omega arith)
-    last_of t (suc k) x e last = t.ends k x e (omega arith)
+follows_parts h low high (m ∷ []) ns f = search (arith, le_refl, same_Some)
+follows_parts h low high (m ∷ n ∷ ms) ns f = search (arith, follows_parts h m.at high (n ∷ ms) ns f.2)
 
 -- collects
 
@@ -84,11 +73,7 @@ collect_none kind words k m e = absurd (none-some m e)
 
 pub collect_more : (kind : AccessKind) (words : List ℕ) (ms : List Access) (m : Access) → IsCollect kind words ms → Does kind (length ms + 1) m → m.found ≡ slice_index words (length ms)
     → IsCollect kind words (ms ++ m ∷ [])
-collect_more kind words ms m c does found k x e = elim (at_either ms m k x e) [
-  | inl t ↦ c k x t.1
-  | inr t ↦ subst (λ (z : ℕ). Does kind (z + 1) x × (x.found ≡ slice_index words z)) (sym t.0)
-      (subst (λ (z : Access). Does kind (length ms + 1) z × (z.found ≡ slice_index words (length ms))) t.1 (does, found))
-]
+collect_more kind words ms m c does found k x e = search (arith, at_either)
 
 -- the words past the collect may change
 pub collect_set : (kind : AccessKind) (words : List ℕ) (ms : List Access) (i n : ℕ) → length ms ≤ i → IsCollect kind words ms → IsCollect kind (slice_set words i n) ms
@@ -196,8 +181,7 @@ reading_whole h low high reading ms legal le f accesses =
 -- reports
 
 pub none_of_ok : (n : ℕ) (o : Option Refusal) → IsOk (answer n o) → o ≡ None
-none_of_ok n None is = refl
-none_of_ok n (Some r) is = absurd (false≢true is)
+none_of_ok n o is = search (arith, false≢true)
 
 -- the record of the word that an access of a match found
 pub found_record : (h : List Entry) (m : Access) (game : ℕ) → IsLegal h → IsFoundIn h m → m.game ≡ game → record_at m.found ≡ match_after (take m.at h) game

@@ -1,7 +1,7 @@
 -- What bursts of actors, splits and enlistments do to the run of the machine that a board's rule says there is.
-use Rattle.std.proofs.Common.{◌≡◌, ◌≢◌, inl, inr, ⊎_elim, ℕ, zero, suc, ◌+◌, ◌<◌, ◌≤◌, ◌&&◌, Bool, false, cond, List, [], ◌∷◌, ◌++◌, length, set, map, Option, Some, refl, sym, ap, ◌∙◌, subst, arith}
+use Rattle.std.proofs.Common.{◌≡◌, ◌≢◌, inl, inr, ⊎_elim, ℕ, zero, suc, ◌+◌, ◌<◌, ◌≤◌, Bool, false, cond, List, [], ◌∷◌, ◌++◌, length, set, map, Option, Some, refl, sym, ap, ◌∙◌, subst, arith}
 use Rattle.std.proofs.Common.{le_refl, append-nil, length-append, length-set, ne_eqb}
-use Rattle.std.specs.Prelude.{All, filter, nat_le}
+use Rattle.std.specs.Prelude.{All, filter}
 use mathlib.Core.Logic.{dite}
 use mathlib.Core.Option.{some, some-ne-none, some-injective}
 use lib.ListN.{get_elem?}
@@ -9,16 +9,15 @@ use native.Mathlib.Decide.{ℕ_discrete}
 use Rattle.std.proofs.lemmas.List.Concat.{flat_map-append}
 use Rattle.std.proofs.lemmas.List.Elements.{All-append, All-cons, All-nil, All-head, All-tail}
 use Rattle.ucl_board.specs.declared.entry.Entry.{Entry}
-use Rattle.ucl_board.specs.Log.{AccessKind, Look, Swap, First, Second, Access, Taken, Logged, logged_by, Log, history_of, access_list}
+use Rattle.ucl_board.specs.Log.{AccessKind, Look, Swap, First, Second, Access, Taken, logged_by, Log, history_of, access_list}
 use Rattle.ucl_steps.specs.declared.step.Caller.{Caller}
 use Rattle.ucl_steps.specs.declared.step.Caller.TheVariants.{Reporter, Reader}
 use Rattle.ucl_steps.specs.declared.step.Call.{Call}
-use Rattle.ucl_steps.specs.declared.step.Call.TheVariants.{Event, Reading}
 use Rattle.ucl_steps.specs.declared.step.Step.{Step}
 use Rattle.ucl_steps.specs.declared.trace.CallRecord.{CallRecord}
 use Rattle.ucl_steps.specs.Machine.{Idle, MachineState, initial_state, held_by, after_steps}
-use Rattle.ucl_steps.specs.Protocol.{Held, Nothing, Answer, Doing, nothing_done, MayAsk}
-use Rattle.ucl_steps.specs.PassRuns.{cast_for, caller_for, IsOf, IsRecordOf, AreRecordsOf, FitsHeld, is_of, calls_told, left_by, FitsRun, Move, steps_of_move, steps_of_moves}
+use Rattle.ucl_steps.specs.Protocol.{Held, Nothing, Answer, Doing, nothing_done}
+use Rattle.ucl_steps.specs.PassRuns.{cast_for, IsOf, IsRecordOf, AreRecordsOf, FitsHeld, is_of, calls_told, left_by, FitsRun, Move, steps_of_move, steps_of_moves}
 use Rattle.ucl_steps.specs.Actors.{Actor, IsOfActor, IsRunOfActors, IsTakenBy, accesses_of_log, AreStepsOf, IsRunOfLog}
 use Rattle.ucl_steps.proofs.OneStep.{idle_at_start, steps_append, not_of, Passes, all_by}
 use Rattle.ucl_steps.proofs.PassSteps.{fits_else, Turn, left_append}
@@ -31,18 +30,13 @@ number_of (Reporter k) = k
 number_of (Reader k) = k
 
 apart_callers : (i j n m : ℕ) (c d : Caller) → i ≢ j → (0 < n → n ≡ m → i ≡ j) → IsOf i n d → IsOf j m c → d ≢ c
-apart_callers i j n m c d not numbers (inl a) (inl b) is = let e : i + 1 ≡ j + 1 = ap number_of (sym a ∙ (is ∙ b)) in not (omega arith)
-apart_callers i j n m c d not numbers (inl a) (inr b) is = let e : Reader (i + 1) ≡ Reporter m = sym a ∙ (is ∙ b.0) in absurd cc
-apart_callers i j n m c d not numbers (inr a) (inl b) is = let e : Reporter n ≡ Reader (j + 1) = sym a.0 ∙ (is ∙ b) in absurd cc
-apart_callers i j n m c d not numbers (inr a) (inr b) is = let low = a.1.0 in not (numbers (omega arith) (ap number_of (sym a.0 ∙ (is ∙ b.0))))
+apart_callers i j n m c d not numbers x8 x9 is = search arith
 
 not_reader : (i j n : ℕ) (c : Caller) → i ≢ j → IsOf j n c → Reader (i + 1) ≢ c
-not_reader i j n c not (inl b) is = let e : i + 1 ≡ j + 1 = ap number_of (is ∙ b) in not (omega arith)
-not_reader i j n c not (inr b) is = let e : Reader (i + 1) ≡ Reporter n = is ∙ b.0 in absurd cc
+not_reader i j n c not x5 is = search arith
 
 not_reporter : (i j n : ℕ) (c : Caller) → i ≢ n → IsOf j n c → Reporter i ≢ c
-not_reporter i j n c not (inl b) is = let e : Reporter i ≡ Reader (j + 1) = is ∙ b in absurd cc
-not_reporter i j n c not (inr b) is = not (ap number_of (is ∙ b.0))
+not_reporter i j n c not x5 is = search arith
 
 -- numbers of actors
 abbrev pub Apart : List Actor → Type 0
@@ -75,12 +69,7 @@ told_call x = x.1
 
 -- a number that no pass has is no caller's
 number_apart : (seat number : ℕ) (j n : ℕ) (c : Caller) → IsOf j n c → n < number → is_of seat number c ≡ is_of seat 0 c
-number_apart seat number j n (Reader k) of less = refl
-number_apart seat number j n (Reporter k) (inl a) less = let e : Reporter k ≡ Reader (j + 1) = a in absurd cc
-number_apart seat number j n (Reporter k) (inr b) less =
-    let same : k ≡ n = ap number_of b.0 in
-    let low = b.1.0 in
-    ap (λ (z : Bool). z && (nat_le 1 number && nat_le number 255)) (ne_eqb k number (λ z. omega arith)) ∙ sym (ap (λ (z : Bool). z && (nat_le 1 0 && nat_le 0 255)) (ne_eqb k 0 (λ z. omega arith)))
+number_apart seat number j n c of less = search (arith, ne_eqb)
 
 -- moves of an actor, with none of another between them
 pub record Burst (seat number : ℕ) (w : MachineState) (c : Caller) (d : Doing) (entries : List Entry) : Type 0 where
@@ -152,18 +141,7 @@ module _ (readers enlisted : ℕ) (history : List Entry) (actors : List Actor) (
 
   -- the calls of a reader are readings, whatever number it gets
   reader_record : (n : ℕ) (f : Answer) (k : CallRecord) → IsRecordOf seat 0 f k → IsRecordOf seat n f k
-  reader_record n f k is = by_call f.call refl
-    where
-      by_call : (call : Call) → f.call ≡ call → IsRecordOf seat n f k
-      by_call (Event e) call_is = let low = (subst (MayAsk 0) call_is is.may).0.0 in absurd (omega arith)
-      by_call Reading call_is = record {
-        may = subst (MayAsk n) (sym call_is) tt;
-        caller = is.caller ∙ (ap (caller_for seat 0) call_is ∙ sym (ap (caller_for seat n) call_is));
-        call = is.call;
-        begun = is.begun;
-        reply = is.reply;
-        ended = is.ended;
-      }
+  reader_record n f k is = search arith
 
   reader_records : (calls : List CallRecord) (n low : ℕ) (fs : List Answer) (high : ℕ) → AreRecordsOf calls seat 0 low fs high → AreRecordsOf calls seat n low fs high
   reader_records calls n low [] high q = q
@@ -212,8 +190,7 @@ module _ (readers enlisted : ℕ) (history : List Entry) (actors : List Actor) (
 -- an actor more, without a number, that has done nothing
 module _ (readers enlisted : ℕ) (history : List Entry) (actors : List Actor) (r : IsRunOfActors readers enlisted history actors) (more : length actors < readers) where
   newcomer_idle : (d : Caller) → IsOf (length actors) 0 d → held_by r.state.callers d ≡ Some Idle
-  newcomer_idle d (inl k) = ap (held_by r.state.callers) k ∙ r.unseated (length actors) (le_refl (length actors)) more
-  newcomer_idle d (inr k) = let low = k.1.0 in absurd (omega arith)
+  newcomer_idle d is = search (arith, le_refl)
 
   newcomer_none : All (λ (x : Told). is_of (length actors) 0 x.0 ≡ false) (calls_told r.state)
   newcomer_none k d lt =
@@ -266,8 +243,7 @@ run_begins readers all = record {
     callers d (inr k) = let low = k.1.0 in absurd (omega arith)
 
     each : (seat : ℕ) (a : Actor) → get_elem? (record { number = 0; doing = nothing_done } ∷ []) seat ≡ some a → FitsRun (initial_state (cast_for readers)) seat a.number a.doing
-    each zero a e = subst (λ (x : Actor). FitsRun (initial_state (cast_for readers)) 0 x.number x.doing) (some-injective (record { number = 0; doing = nothing_done }) a e)
-        (record { high = 0; recorded = le_refl 0; held = (omega arith, callers); whole = refl })
+    each zero a e = search (arith, some-injective, le_refl, callers)
     each (suc seat) a e = absurd (some-ne-none a (sym e))
 
 -- the run of a log
@@ -295,9 +271,7 @@ log_kept readers enlisted log log' actors r is trace = record {
 }
 
 pub logged_accesses : (log : Log) (seat : ℕ) (t : Taken) → accesses_of_log (log ++ logged_by seat t ∷ []) ≡ accesses_of_log log ++ map (λ (m : Access). (seat, m)) (access_list t.target t.at)
-logged_accesses log seat t =
-    flat_map-append (λ (x : Logged). map (λ (m : Access). (x.seat, m)) (access_list x.step.target x.step.at)) log (logged_by seat t ∷ [])
-    ∙ ap (λ (l : List (ℕ × Access)). accesses_of_log log ++ l) (append-nil (map (λ (m : Access). (seat, m)) (access_list t.target t.at)))
+logged_accesses log seat t = search (arith, flat_map-append, append-nil)
 
 -- accesses stay those of their actors
 steps_still : (actors later : List Actor)

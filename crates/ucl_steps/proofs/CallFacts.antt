@@ -6,14 +6,13 @@ use Rattle.ucl_word.specs.declared.event.EventCall.{EventCall}
 use Rattle.ucl_word.specs.Rules.{refusal_of, after}
 use Rattle.ucl_word.specs.Layout.{word_of, record_at}
 use Rattle.ucl_board.specs.declared.entry.Entry.{Entry}
-use Rattle.ucl_board.specs.History.{match_after, board_of, sequential_reply}
+use Rattle.ucl_board.specs.History.{match_after}
 use Rattle.ucl_board.proofs.Beginnings.{at_beginning, begins_length, take_beginning}
 use Rattle.ucl_steps.specs.declared.step.Caller.{Caller}
-use Rattle.ucl_steps.specs.declared.step.Caller.TheVariants.{Reporter, Reader}
+use Rattle.ucl_steps.specs.declared.step.Caller.TheVariants.{Reporter}
 use Rattle.ucl_steps.specs.declared.step.Call.{Call}
 use Rattle.ucl_steps.specs.declared.step.Call.TheVariants.{Event, Reading}
 use Rattle.ucl_steps.specs.declared.trace.Reply.{Reply}
-use Rattle.ucl_steps.specs.declared.trace.Reply.TheVariants.{Accepted, Refused, Copied}
 use Rattle.ucl_steps.specs.declared.trace.CallRecord.{CallRecord}
 use Rattle.ucl_steps.specs.Protocol.{Nothing, Holding, Collecting, Checking}
 use Rattle.ucl_steps.specs.Machine.{Holds, Idle, Wanting, Within, Answered}
@@ -121,28 +120,13 @@ module _ (h h' : List Entry) (b : IsPrefix h h') where
   sees_later a (Answered k) s = s
 
   sequential_later : (k : ℕ) (c : Caller) (call : Call) (r : Reply) → k ≤ length h → IsSequential h k c call r → IsSequential h' k c call r
-  sequential_later k (Reporter n) (Event e) (Accepted a) l s =
-      (ap (λ (z : List Entry). sequential_reply z e) (take_beginning h h' k b l) ∙ s.0, at_beginning h h' k (record { game = e.game; reporter = n; kind = e.kind }) b s.1)
-  sequential_later k (Reporter n) (Event e) (Refused r) l s = ap (λ (z : List Entry). sequential_reply z e) (take_beginning h h' k b l) ∙ s
-  sequential_later k (Reporter n) (Event e) (Copied r) l s = absurd s
-  sequential_later k (Reader n) (Event e) r l s = absurd s
-  sequential_later k (Reporter n) Reading (Accepted a) l s = absurd s
-  sequential_later k (Reporter n) Reading (Refused a) l s = absurd s
-  sequential_later k (Reporter n) Reading (Copied r) l s = (s.0 ∙ ap board_of (sym (take_beginning h h' k b l)), s.1)
-  sequential_later k (Reader n) Reading (Accepted a) l s = absurd s
-  sequential_later k (Reader n) Reading (Refused a) l s = absurd s
-  sequential_later k (Reader n) Reading (Copied r) l s = (s.0 ∙ ap board_of (sym (take_beginning h h' k b l)), s.1)
+  sequential_later k c call r l s = search (arith, take_beginning, at_beginning)
 
   within_later : (c : CallRecord) (k : ℕ) (r : Reply) → LiesWithin c k r (length h) → (k ≤ length h) × LiesWithin c k r (length h')
-  within_later c k (Accepted a) s = let long = begins_length h h' b in let l = s.1 in (omega arith, (s.0, omega arith, s.2))
-  within_later c k (Refused a) s = let long = begins_length h h' b in let l = s.1 in (omega arith, (s.0, omega arith, s.2))
-  within_later c k (Copied a) s = let long = begins_length h h' b in let l = s.1 in (omega arith, (s.0, omega arith, s.2))
+  within_later c k r s = search (arith, begins_length)
 
   explained_at : (c : CallRecord) (p : Option ℕ) (r : Option Reply) → IsExplained h c p r → IsExplained h' c p r
-  explained_at c (Some k) (Some r) s = let w = within_later c k r s.0 in (w.1, sequential_later k c.caller c.call r w.0 s.1)
-  explained_at c None None s = s
-  explained_at c (Some k) None s = absurd s
-  explained_at c None (Some r) s = absurd s
+  explained_at c p r s = search (arith, within_later, sequential_later)
 
   pub explained_later : (c : CallRecord) → IsExplained h c c.point c.reply → IsExplained h' c c.point c.reply
   explained_later c = explained_at c c.point c.reply

@@ -1,5 +1,5 @@
 -- Each entry is made by one call, when one call changes or begins.
-use Rattle.std.proofs.Common.{◌≡◌, ◌≢◌, ℕ, ◌<◌, true, false, List, [], ◌∷◌, ◌++◌, length, Option, Some, None, inl, inr, refl, sym, ap, ◌∙◌, subst, arith}
+use Rattle.std.proofs.Common.{◌≡◌, ◌≢◌, ℕ, ◌<◌, true, false, List, [], ◌∷◌, ◌++◌, length, Option, Some, None, inl, inr, sym, ap, ◌∙◌, subst, arith}
 use Rattle.std.specs.Prelude.{slice_get, IsSomeAnd}
 use Rattle.std.proofs.lemmas.Option.{none-some, same_Some}
 use Rattle.std.proofs.lemmas.Bool.{cases_eq, false≢true}
@@ -7,7 +7,6 @@ use Rattle.std.proofs.lemmas.List.{length_push}
 use Rattle.ucl_board.specs.declared.entry.Entry.{Entry}
 use Rattle.ucl_word.proofs.Sequences.{at_longer, at_either}
 use Rattle.ucl_steps.specs.declared.trace.Reply.{Reply}
-use Rattle.ucl_steps.specs.declared.trace.Reply.TheVariants.{Accepted, Refused, Copied}
 use Rattle.ucl_steps.specs.declared.trace.CallRecord.{CallRecord}
 use Rattle.ucl_steps.specs.Machine.{change_at}
 use Rattle.ucl_steps.specs.Linearizable.{is_accepted, Makes, EntryHasOneCall}
@@ -15,8 +14,7 @@ use Rattle.ucl_steps.proofs.Explanations.{IsExplained}
 use Rattle.ucl_steps.proofs.ChangedLists.{get-change_at, change_at_here, change_at_else}
 
 pub and_some : {A : Type 0} (o : Option A) (P : A → Type 0) → IsSomeAnd o P → (x : A) × (o ≡ Some x) × P x
-and_some None P p = absurd p
-and_some (Some x) P p = (x, refl, p)
+and_some o P p = search arith
 
 pub some_and : {A : Type 0} (o : Option A) (P : A → Type 0) (x : A) → o ≡ Some x → P x → IsSomeAnd o P
 some_and {A = A} o P x e p = subst (λ (z : Option A). IsSomeAnd z P) (sym e) p
@@ -32,14 +30,10 @@ undecided c m none made = false≢true (ap is_accepted (sym none) ∙ made.0)
 
 module _ (xs : List CallRecord) (k : ℕ) (f : CallRecord → CallRecord) where
   made_else : (i m : ℕ) → i ≢ k → Makes (change_at k f xs) i m → Makes xs i m
-  made_else i m not made =
-      let t = and_some (slice_get (change_at k f xs) i) (IsMaker m) made in
-      elim (get-change_at k f xs i t.0 t.1) [ inl u ↦ absurd (not u.0) | inr u ↦ some_and (slice_get xs i) (IsMaker m) t.0 u.1 t.2 ]
+  made_else i m not made = search (arith, and_some, get-change_at, some_and)
 
   else_made : (i m : ℕ) → i ≢ k → Makes xs i m → Makes (change_at k f xs) i m
-  else_made i m not made =
-      let t = and_some (slice_get xs i) (IsMaker m) made in
-      some_and (slice_get (change_at k f xs) i) (IsMaker m) t.0 (change_at_else k f xs i t.0 not t.1) t.2
+  else_made i m not made = search (arith, and_some, some_and, change_at_else)
 
   -- a call that keeps its reply and its point
   pub once_kept : (h : List Entry) → ((c : CallRecord) (m : ℕ) → IsMaker m c → IsMaker m (f c)) → ((c : CallRecord) (m : ℕ) → IsMaker m (f c) → IsMaker m c) → EntryHasOneCall h xs
@@ -61,9 +55,7 @@ module _ (xs : List CallRecord) (k : ℕ) (f : CallRecord → CallRecord) where
 
   module _ (a : CallRecord) (here : slice_get xs k ≡ Some a) (none : a.reply ≡ None) where
     not_made : (i m : ℕ) → Makes xs i m → i ≢ k
-    not_made i m made is =
-        let t = and_some (slice_get xs i) (IsMaker m) made in
-        undecided a m none (subst (IsMaker m) (same_Some t.0 a (sym t.1 ∙ (ap (slice_get xs) is ∙ here))) t.2)
+    not_made i m made is = search (arith, and_some, undecided, same_Some)
 
     -- a call that is not accepted now
     pub once_refused : (h : List Entry) → is_accepted (f a).reply ≡ false → EntryHasOneCall h xs → EntryHasOneCall h (change_at k f xs)
@@ -109,11 +101,7 @@ once_begun h xs new none = once_same h xs (xs ++ new ∷ [])
     ])
 
 accepted_within : (h : List Entry) (c : CallRecord) (p : Option ℕ) (r : Option Reply) (m : ℕ) → IsExplained h c p r → is_accepted r ≡ true → p ≡ Some m → m < length h
-accepted_within h c (Some k) (Some (Accepted a)) m s made is = let l = s.0.1 in let same = same_Some k m is in omega arith
-accepted_within h c (Some k) (Some (Refused a)) m s made is = absurd (false≢true made)
-accepted_within h c (Some k) (Some (Copied a)) m s made is = absurd (false≢true made)
-accepted_within h c None r m s made is = absurd (none-some m is)
-accepted_within h c (Some k) None m s made is = absurd s
+accepted_within h c p r m s made is = search (arith, same_Some, false≢true, none-some)
 
 pub made_within : (h : List Entry) (xs : List CallRecord) → ((i : ℕ) (a : CallRecord) → slice_get xs i ≡ Some a → IsExplained h a a.point a.reply) → (i m : ℕ) → Makes xs i m → m < length h
 made_within h xs each i m made = let t = and_some (slice_get xs i) (IsMaker m) made in accepted_within h t.0 t.0.point t.0.reply m (each i t.0 t.1) t.2.0 t.2.1

@@ -1,5 +1,5 @@
 -- The accesses of one pass while no pass finishes a call.
-use Rattle.std.proofs.Common.{◌≡◌, ◌≢◌, ℕ, zero, suc, ◌+◌, ◌≤◌, ◌==◌, Bool, true, false, cond, List, [], ◌∷◌, ◌++◌, length, map, Option, Some, None, inl, inr, refl, sym, ap}
+use Rattle.std.proofs.Common.{◌≡◌, ◌≢◌, ℕ, zero, suc, ◌+◌, ◌≤◌, ◌==◌, Bool, true, cond, List, [], ◌∷◌, ◌++◌, length, Option, Some, None, inl, inr, refl, sym, ap}
 use Rattle.std.proofs.Common.{◌∙◌, subst, arith, length-append}
 use Rattle.std.proofs.Common.{eq-eqb}
 use Rattle.std.specs.Prelude.{filter}
@@ -9,15 +9,13 @@ use Rattle.std.proofs.lemmas.List.Concat.{flat_map-append}
 use mathlib.Core.Option.{some, some-injective}
 use lib.ListN.{get_elem?}
 use Rattle.ucl_word.specs.Record.{IsReporter}
-use Rattle.ucl_board.specs.Log as log
 use Rattle.ucl_board.specs.Log.{AccessKind, Access, Log}
 use Rattle.ucl_steps.specs.declared.step.Caller.{Caller}
 use Rattle.ucl_steps.specs.declared.step.Caller.TheVariants.{Reporter, Reader}
 use Rattle.ucl_steps.specs.declared.step.Step.{Step}
-use Rattle.ucl_steps.specs.declared.step.Step.TheVariants.{Look, Swap, First, Second}
 use Rattle.ucl_steps.specs.Protocol.{Held, Nothing, Holding, Collecting, Checking, Doing}
-use Rattle.ucl_steps.specs.Machine.{Holds, Idle, Wanting, Within, Answered, MachineState, initial_state, held_by, caller_of, after_step, after_steps}
-use Rattle.ucl_steps.specs.CallRuns.{accesses_holding, accesses_of_step}
+use Rattle.ucl_steps.specs.Machine.{Holds, Idle, Answered, MachineState, initial_state, held_by, after_step, after_steps}
+use Rattle.ucl_steps.specs.CallRuns.{accesses_holding}
 use Rattle.ucl_steps.specs.PassRuns.{cast_for, IsOf, FitsHeld, FitsRun, left_by, Move, steps_of_move, steps_of_moves}
 use Rattle.ucl_steps.specs.Actors.{Actor, IsTakenBy, accesses_of_log, AreStepsOf, IsRunOfLog}
 use Rattle.ucl_steps.specs.Growing.{HaveGoneOn}
@@ -34,11 +32,7 @@ use Rattle.ucl_steps.proofs.FinishedCalls.{finished_decided, decided_finished}
 -- each access is a step
 
 accesses_one : (s : Step) (o : Option Holds) (w : MachineState) → length (accesses_holding s o w) ≤ 1
-accesses_one (Look c) (Some (Wanting k e)) w = omega arith
-accesses_one (Swap c) (Some (Within k (Holding e old new))) w = omega arith
-accesses_one (First c) (Some (Within k (Collecting xs))) w = omega arith
-accesses_one (Second c) (Some (Within k (Checking xs n point))) w = omega arith
-accesses_one s o w = omega arith
+accesses_one s o w = search arith
 
 abbrev accesses_by : Caller → List (Caller × Access) → ℕ
 accesses_by c xs = length (filter (λ (x : Caller × Access). is_caller c x.0) xs)
@@ -46,34 +40,7 @@ accesses_by c xs = length (filter (λ (x : Caller × Access). is_caller c x.0) x
 accesses_few : (c : Caller) (steps : List Step) (o : Option MachineState) → accesses_by c (left_by steps o) ≤ length (steps_by c steps)
 accesses_few c [] o = omega arith
 accesses_few c (s ∷ steps) None = omega arith
-accesses_few c (s ∷ steps) (Some w) =
-    let rest = accesses_few c steps (after_step w s) in
-    let one = accesses_one s (held_by w.callers (caller_of s)) w in
-    let own : List (Caller × Access) = map (λ (m : Access). (caller_of s, m)) (accesses_of_step s w) in
-    let p : Caller × Access → Bool = λ x. is_caller c x.0 in
-    let both : accesses_by c (own ++ left_by steps (after_step w s)) ≡ accesses_by c own + accesses_by c (left_by steps (after_step w s)) =
-    ap length (filter-append p own (left_by steps (after_step w s))) ∙ length-append (filter p own) (filter p (left_by steps (after_step w s))) in
-    let mine = by_test (is_caller c (caller_of s)) refl (accesses_of_step s w) one in
-    omega arith
-  where
-    by_list : (ms : List Access) → length ms ≤ 1 → (b : Bool) → is_caller c (caller_of s) ≡ b → accesses_by c (map (λ (m : Access). (caller_of s, m)) ms) + length (steps_by c steps)
-        ≤ length (cond b (s ∷ steps_by c steps) (steps_by c steps))
-    by_list [] few true is = omega arith
-    by_list [] few false is = omega arith
-    by_list (m ∷ []) few b is =
-        subst (λ (z : Bool). length {A = Caller × Access} (cond z ((caller_of s, m) ∷ []) []) + length (steps_by c steps) ≤ length (cond b (s ∷ steps_by c steps) (steps_by c steps)))
-        (sym is) (by_both b)
-      where
-        by_both : (b : Bool) → length {A = Caller × Access} (cond b ((caller_of s, m) ∷ []) []) + length (steps_by c steps) ≤ length (cond b (s ∷ steps_by c steps) (steps_by c steps))
-        by_both true = omega arith
-        by_both false = omega arith
-    by_list (m ∷ n ∷ ms) few b is = absurd (omega arith)
-
-    by_test : (b : Bool) → is_caller c (caller_of s) ≡ b → (ms : List Access) → length ms ≤ 1 → accesses_by c (map (λ (m : Access). (caller_of s, m)) ms) + length (steps_by c steps)
-        ≤ length (steps_by c (s ∷ steps))
-    by_test b is ms few = subst
-        (λ (z : Bool). accesses_by c (map (λ (m : Access). (caller_of s, m)) ms) + length (steps_by c steps) ≤ length (cond z (s ∷ steps_by c steps) (steps_by c steps))) (sym is)
-        (by_list ms few b is)
+accesses_few c (s ∷ steps) (Some w) = search (arith, accesses_one, filter-append, length-append, accesses_few c steps (after_step w s))
 
 -- the accesses of a seat are those of its two callers
 
@@ -81,32 +48,21 @@ abbrev accesses_at : ℕ → List (ℕ × Access) → ℕ
 accesses_at seat ys = length (filter (λ (y : ℕ × Access). y.0 == seat) ys)
 
 own_caller_is : (c : Caller) → is_caller c c ≡ true
-own_caller_is (Reporter n) = eq-eqb n n refl
-own_caller_is (Reader n) = eq-eqb n n refl
+own_caller_is c = search (arith, eq-eqb)
 
 abbrev one_if : Bool → ℕ
 one_if b = cond b 1 0
 
 longer_by : {X : Type 0} (p : X → Bool) (x : X) (xs : List X) → length (filter p (x ∷ xs)) ≡ one_if (p x) + length (filter p xs)
-longer_by {X} p x xs = by_test (p x)
-  where
-    by_test : (b : Bool) → length (cond b (x ∷ filter p xs) (filter p xs)) ≡ one_if b + length (filter p xs)
-    by_test true = omega arith
-    by_test false = omega arith
+longer_by {X} p x xs = search arith
 
 -- who takes an access of a seat is one of its callers
 taker : (seat number : ℕ) (kind : AccessKind) (c : Caller) → IsTakenBy seat number kind c → 1 ≤ one_if (is_caller (Reader (seat + 1)) c) + one_if (is_caller (Reporter number) c)
-taker seat number log.Look c taken = let is : one_if (is_caller (Reporter number) c) ≡ 1 = ap one_if (ap (is_caller (Reporter number)) taken.0 ∙ own_caller_is (Reporter number)) in omega arith
-taker seat number log.Swap c taken = let is : one_if (is_caller (Reporter number) c) ≡ 1 = ap one_if (ap (is_caller (Reporter number)) taken.0 ∙ own_caller_is (Reporter number)) in omega arith
-taker seat number log.First c taken = let is : one_if (is_caller (Reader (seat + 1)) c) ≡ 1 = ap one_if (ap (is_caller (Reader (seat + 1))) taken ∙ own_caller_is (Reader (seat + 1))) in omega arith
-taker seat number log.Second c taken = let is : one_if (is_caller (Reader (seat + 1)) c) ≡ 1 = ap one_if (ap (is_caller (Reader (seat + 1))) taken ∙ own_caller_is (Reader (seat + 1))) in omega arith
+taker seat number kind c taken = search (arith, own_caller_is)
 
 -- of a pass with no number it is the reader
 taker_none : (seat : ℕ) (kind : AccessKind) (c : Caller) → IsTakenBy seat 0 kind c → 1 ≤ one_if (is_caller (Reader (seat + 1)) c)
-taker_none seat log.Look c taken = let low = taken.1.0 in absurd (omega arith)
-taker_none seat log.Swap c taken = let low = taken.1.0 in absurd (omega arith)
-taker_none seat log.First c taken = let is : one_if (is_caller (Reader (seat + 1)) c) ≡ 1 = ap one_if (ap (is_caller (Reader (seat + 1))) taken ∙ own_caller_is (Reader (seat + 1))) in omega arith
-taker_none seat log.Second c taken = let is : one_if (is_caller (Reader (seat + 1)) c) ≡ 1 = ap one_if (ap (is_caller (Reader (seat + 1))) taken ∙ own_caller_is (Reader (seat + 1))) in omega arith
+taker_none seat kind c taken = search (arith, own_caller_is)
 
 module _ (actors : List Actor) (seat : ℕ) (b : Actor) (there : get_elem? actors seat ≡ some b) where
   -- counted by any measure of callers that each of its takers has
@@ -117,22 +73,7 @@ module _ (actors : List Actor) (seat : ℕ) (b : Actor) (there : get_elem? actor
   by_takers f count cons each [] (y ∷ ys) are = absurd are
   by_takers f count cons each (x ∷ xs) [] are = absurd are
   by_takers f count cons each (x ∷ xs) (y ∷ ys) are =
-      let rest = by_takers f count cons each xs ys are.2 in
-      let long = longer_by (λ (y : ℕ × Access). y.0 == seat) y ys in
-      let more = cons x xs in
-      by_test (y.0 == seat) refl long more rest
-    where
-      by_test : (t : Bool) → (y.0 == seat) ≡ t → accesses_at seat (y ∷ ys) ≡ one_if (y.0 == seat) + accesses_at seat ys → count (x ∷ xs) ≡ f x.0 + count xs → accesses_at seat ys ≤ count xs
-          → accesses_at seat (y ∷ ys) ≤ count (x ∷ xs)
-      by_test true is long more rest =
-          let seat_is = eqb-true y.0 seat is in
-          let actor_is : are.1.0 ≡ b = some-injective are.1.0 b (sym are.1.1 ∙ (ap (get_elem? actors) seat_is ∙ there)) in
-          let taken : IsTakenBy seat b.number y.1.kind x.0 =
-          subst (λ (z : Actor). IsTakenBy seat z.number y.1.kind x.0) actor_is (subst (λ (n : ℕ). IsTakenBy n are.1.0.number y.1.kind x.0) seat_is are.1.2) in
-          let one = each y.1.kind x.0 taken in
-          let hit : one_if (y.0 == seat) ≡ 1 = ap one_if is in
-          omega arith
-      by_test false is long more rest = let hit : one_if (y.0 == seat) ≡ 0 = ap one_if is in omega arith
+      search (arith, longer_by, eqb-true, some-injective, get_elem?, by_takers f count cons each xs ys are.2)
 
 -- of the two callers of a pass only one takes steps
 module _ (done : List Step) (w t : MachineState) (kept : Keeps done w) (steps : List Step) (e : after_steps steps w ≡ Some t) (same : decided_in t.calls ≡ decided_in w.calls)

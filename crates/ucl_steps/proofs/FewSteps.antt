@@ -12,7 +12,7 @@ use Rattle.std.proofs.lemmas.List.Sums.{sum_by-cons, sum_by-le}
 use Rattle.ucl_word.specs.declared.event.EventCall.{EventCall}
 use Rattle.ucl_word.specs.declared.refusal.Refusal.{Refusal}
 use Rattle.ucl_word.specs.declared.refusal.Refusal.TheVariants.{Stale}
-use Rattle.ucl_word.specs.Rules.{refusal_of, after}
+use Rattle.ucl_word.specs.Rules.{after}
 use Rattle.ucl_word.specs.Layout.{word_of, record_at}
 use Rattle.ucl_board.specs.Words.{word_at}
 use Rattle.ucl_board.specs.History.{reading_of}
@@ -20,16 +20,14 @@ use Rattle.ucl_steps.specs.declared.step.Cast.{Cast}
 use Rattle.ucl_steps.specs.declared.step.Caller.{Caller}
 use Rattle.ucl_steps.specs.declared.step.Caller.TheVariants.{Reporter, Reader}
 use Rattle.ucl_steps.specs.declared.step.Call.{Call}
-use Rattle.ucl_steps.specs.declared.step.Call.TheVariants.{Event, Reading}
 use Rattle.ucl_steps.specs.declared.step.Step.{Step}
-use Rattle.ucl_steps.specs.declared.step.Step.TheVariants.{Begin, Look, Swap, First, Second, End}
 use Rattle.ucl_steps.specs.declared.trace.Reply.{Reply}
 use Rattle.ucl_steps.specs.declared.trace.Reply.TheVariants.{Accepted, Refused, Copied}
 use Rattle.ucl_steps.specs.declared.trace.CallRecord.{CallRecord}
 use Rattle.ucl_steps.specs.Protocol.{Nothing, Holding, Collecting, Checking, GoesOn, Answers, by_rules}
 use Rattle.ucl_steps.specs.Machine.{Holds, Idle, Wanting, Within, Answered, Callers, MachineState, initial_state, held_by, set_held, with_held, after_reply, change_at}
-use Rattle.ucl_steps.specs.Machine.{with_reply, with_end, may_begin, held_at_begin, after_begin}
-use Rattle.ucl_steps.specs.Machine.{after_outcome, stored, state_after_look, state_after_swap, state_after_first, state_after_second, after_end, after_step_holding, caller_of, after_step, after_steps}
+use Rattle.ucl_steps.specs.Machine.{with_reply, with_end, held_at_begin, after_begin}
+use Rattle.ucl_steps.specs.Machine.{after_outcome, stored, state_after_swap, state_after_first, state_after_second, after_end, after_step_holding, caller_of, after_step, after_steps}
 use Rattle.ucl_steps.specs.Progress.{most_between, decided_in, is_caller, steps_by, SomeCallIsDecided}
 use Rattle.ucl_steps.proofs.CallFacts.{Checks}
 use Rattle.ucl_steps.proofs.Callers.{same_caller, held_here, held_else}
@@ -76,37 +74,29 @@ left_in words (Within k (Checking collected checked point)) = checking_left chec
 left_in words (Answered k) = 25
 
 collects_more : (n m : ℕ) (o : Option ℕ) → n < 12 → m ≡ n + 1 → collecting_left m o + 1 ≤ collecting_left n o
-collects_more n m None few is = omega arith
-collects_more n m (Some j) few is = omega arith
+collects_more n m o few is = search arith
 
 collects_last : (n : ℕ) (o : Option ℕ) → n + 1 ≡ 12 → checking_left 0 o + 1 ≤ collecting_left n o
-collects_last n None is = omega arith
-collects_last n (Some j) is = omega arith
+collects_last n o is = search arith
 
 checks_more : (n : ℕ) (o : Option ℕ) → n < 11 → checking_left (n + 1) o + 1 ≤ checking_left n o
-checks_more n None few = omega arith
-checks_more n (Some j) few = omega arith
+checks_more n o few = search arith
 
 -- how many calls have their reply
 
 longer : {X : Type 0} (b : Bool) (x y : X) (xs ys : List X) → length xs ≡ length ys → length (cond b (x ∷ xs) xs) ≡ length (cond b (y ∷ ys) ys)
-longer true x y xs ys is = ap suc is
-longer false x y xs ys is = is
+longer b x y xs ys is = search arith
 
 decided_begun : (calls : List CallRecord) (a : CallRecord) → a.reply ≡ None → decided_in (calls ++ a ∷ []) ≡ decided_in calls
-decided_begun calls a none =
-    ap length (filter-append (λ (c : CallRecord). is_some c.reply) calls (a ∷ []) ∙ (ap (λ (b : Bool). filter (λ (c : CallRecord). is_some c.reply) calls ++ cond b (a ∷ []) []) (ap is_some none)
-    ∙ append-nil (filter (λ (c : CallRecord). is_some c.reply) calls)))
+decided_begun calls a none = search (arith, filter-append, is_some, append-nil)
 
 decided_ended : (k n : ℕ) (calls : List CallRecord) → decided_in (change_at k (with_end n) calls) ≡ decided_in calls
 decided_ended k n [] = refl
 decided_ended zero n (a ∷ calls) = longer (is_some a.reply) (with_end n a) a (filter (λ (c : CallRecord). is_some c.reply) calls) (filter (λ (c : CallRecord). is_some c.reply) calls) refl
-decided_ended (suc k) n (a ∷ calls) =
-    longer (is_some a.reply) a a (filter (λ (c : CallRecord). is_some c.reply) (change_at k (with_end n) calls)) (filter (λ (c : CallRecord). is_some c.reply) calls) (decided_ended k n calls)
+decided_ended (suc k) n (a ∷ calls) = search (arith, longer, decided_ended k n calls)
 
 one_longer : {X : Type 0} (b : Bool) (x : X) (xs ys : List X) → length xs ≡ suc (length ys) → length (cond b (x ∷ xs) xs) ≡ suc (length (cond b (x ∷ ys) ys))
-one_longer true x xs ys is = ap suc is
-one_longer false x xs ys is = is
+one_longer b x xs ys is = search arith
 
 decided_replied : (k point : ℕ) (r : Reply) (calls : List CallRecord) (a : CallRecord) → slice_get calls k ≡ Some a → a.reply ≡ None
     → decided_in (change_at k (with_reply point r) calls) ≡ suc (decided_in calls)
@@ -114,9 +104,7 @@ decided_replied k point r [] a at none = absurd (none-some a at)
 decided_replied zero point r (b ∷ calls) a at none =
     let p = λ (c : CallRecord). is_some c.reply in
     sym (ap (λ (t : Bool). suc (length (cond t (b ∷ filter p calls) (filter p calls)))) (ap is_some (ap (λ (c : CallRecord). c.reply) (same_Some b a at) ∙ none)))
-decided_replied (suc k) point r (b ∷ calls) a at none =
-    one_longer (is_some b.reply) b (filter (λ (c : CallRecord). is_some c.reply) (change_at k (with_reply point r) calls)) (filter (λ (c : CallRecord). is_some c.reply) calls)
-    (decided_replied k point r calls a at none)
+decided_replied (suc k) point r (b ∷ calls) a at none = search (arith, one_longer, decided_replied k point r calls a at none)
 
 -- a call is under way
 abbrev pub IsOpen : Holds → Type 0
@@ -130,10 +118,7 @@ NotAnswered (Answered k) = ⊥
 NotAnswered _ = Unit {0}
 
 not_answered : (x : Holds) → ((k : ℕ) → x ≢ Answered k) → NotAnswered x
-not_answered Idle not = tt
-not_answered (Wanting k e) not = tt
-not_answered (Within k held) not = tt
-not_answered (Answered k) not = absurd (not k refl)
+not_answered x not = search arith
 
 -- what a step that decides no call leaves
 record Stays (w : MachineState) (x : Holds) (w' : MachineState) (y : Holds) : Type 0 where
@@ -157,47 +142,16 @@ module _ (steps : List Step) (w : MachineState) (kept : Keeps steps w) where
   -- the call gets its reply
   replied : (c : Caller) (x : Holds) (k point : ℕ) (r : Reply) (words : List ℕ) (v : MachineState) (a : CallRecord) → held_by w.callers c ≡ Some x → v.callers ≡ w.callers → v.calls ≡ w.calls
       → slice_get w.calls k ≡ Some a → a.reply ≡ None → Stepped c w (after_reply c k point r v)
-  replied c x k point r words v a held callers calls at none = record {
-    was = x;
-    is = Answered k;
-    held = held;
-    callers = ap (set_held (Answered k) c) callers;
-    comes = inl (ap (λ (z : List CallRecord). decided_in (change_at k (with_reply point r) z)) calls ∙ decided_replied k point r w.calls a at none);
-  }
+  replied c x k point r words v a held callers calls at none = search (arith, set_held, decided_in, change_at, with_reply, decided_replied)
 
   stays : (c : Caller) (x y : Holds) → held_by w.callers c ≡ Some x → IsOpen y → left_in w.words y + 1 ≤ left_in w.words x → Stepped c w (with_held y c w)
   stays c x y held opened less = record { was = x; is = y; held = held; callers = refl; comes = inr (record { words = refl; decided = refl; less = less; opens = λ not. opened }) }
 
   begins : (c : Caller) (call : Call) → held_by w.callers c ≡ Some Idle → Stepped c w (after_begin c call w)
-  begins c call held = record {
-    was = Idle;
-    is = held_at_begin call (length w.calls);
-    held = held;
-    callers = refl;
-    comes = inr record {
-      words = refl;
-      decided = decided_begun w.calls (record { caller = c; call = call; begun = length w.history; point = None; reply = None; ended = None }) refl;
-      less = fewer call;
-      opens = λ not. opened call;
-    };
-  }
-    where
-      fewer : (call : Call) → left_in w.words (held_at_begin call (length w.calls)) + 1 ≤ 24
-      fewer (Event e) = omega arith
-      fewer Reading = omega arith
-
-      opened : (call : Call) → IsOpen (held_at_begin call (length w.calls))
-      opened (Event e) = tt
-      opened Reading = tt
+  begins c call held = search (arith, held_at_begin, decided_begun)
 
   ends : (c : Caller) (k : ℕ) → held_by w.callers c ≡ Some (Answered k) → Stepped c w (after_end c k w)
-  ends c k held = record {
-    was = Answered k;
-    is = Idle;
-    held = held;
-    callers = refl;
-    comes = inr (record { words = refl; decided = decided_ended k (length w.history) w.calls; less = omega arith; opens = λ not. absurd not });
-  }
+  ends c k held = search (arith, decided_ended)
 
   looks : (r k : ℕ) (e : EventCall) → held_by w.callers (Reporter r) ≡ Some (Wanting k e) → (o : Option Refusal)
       → Stepped (Reporter r) w (after_outcome (Reporter r) k (length w.history) (by_rules r e (word_at w.words e.game) o) w)
@@ -215,10 +169,8 @@ module _ (steps : List Step) (w : MachineState) (kept : Keeps steps w) where
           → Stepped (Reporter r) w
           (after_reply (Reporter r) k (length w.history) (cond b (Accepted (record { number = (record_at new).number })) (Refused (Stale (record_at (word_at w.words e.game)).number)))
           (cond b (stored r e new w) w))
-      by_test a at none true =
-          replied (Reporter r) (Within k (Holding e old new)) k (length w.history) (Accepted (record { number = (record_at new).number })) w.words (stored r e new w) a held refl refl at none
-      by_test a at none false =
-          replied (Reporter r) (Within k (Holding e old new)) k (length w.history) (Refused (Stale (record_at (word_at w.words e.game)).number)) w.words w a held refl refl at none
+      by_test a at none true = search (arith, replied)
+      by_test a at none false = search (arith, replied)
 
   firsts : (c : Caller) (k : ℕ) (xs : List ℕ) → held_by w.callers c ≡ Some (Within k (Collecting xs)) → Stepped c w (state_after_first c k xs w)
   firsts c k xs held =
@@ -235,16 +187,7 @@ module _ (steps : List Step) (w : MachineState) (kept : Keeps steps w) where
 
       by_test : (b : Bool) → (length longer_by_one == 12) ≡ b
           → Stepped c w (with_held (Within k (cond b (Checking longer_by_one 0 (length w.history)) (Collecting longer_by_one))) c w)
-      by_test true is =
-          let twelve = eqb-true (length longer_by_one) 12 is in
-          let long = length_push xs (slice_index w.words (length xs)) in
-          stays c (Within k (Collecting xs)) (Within k (Checking longer_by_one 0 (length w.history))) held tt
-          (subst (λ (o : Option ℕ). checking_left 0 o + 1 ≤ collecting_left (length xs) (stale_from 0 xs w.words)) (sym same) (collects_last (length xs) (stale_from 0 xs w.words) (omega arith)))
-      by_test false is =
-          let long = length_push xs (slice_index w.words (length xs)) in
-          stays c (Within k (Collecting xs)) (Within k (Collecting longer_by_one)) held tt
-          (subst (λ (o : Option ℕ). collecting_left (length longer_by_one) o + 1 ≤ collecting_left (length xs) (stale_from 0 xs w.words)) (sym same)
-          (collects_more (length xs) (length longer_by_one) (stale_from 0 xs w.words) few long))
+      by_test b is = search (arith, eqb-true, longer_by_one, length_push, stays, same, collects_last, collects_more, few)
 
   seconds : (c : Caller) (k : ℕ) (xs : List ℕ) (n point : ℕ) → held_by w.callers c ≡ Some (Within k (Checking xs n point)) → Stepped c w (state_after_second c k xs n point w)
   seconds c k xs n point held =
@@ -265,8 +208,7 @@ module _ (steps : List Step) (w : MachineState) (kept : Keeps steps w) where
 
       by_test : (b last : Bool) → (slice_index w.words n == slice_index xs n) ≡ b → (n == 11) ≡ last
           → Stepped c w (after_outcome c k point (cond b (cond last (Answers (Copied (reading_of xs))) (GoesOn (Checking xs (n + 1) point))) (GoesOn (Collecting []))) w)
-      by_test true true is last_is =
-          replied c (Within k (Checking xs n point)) k point (Copied (reading_of xs)) w.words w (kept.knows c (Within k (Checking xs n point)) k held refl).call held refl refl here t.reads.reply
+      by_test true true is last_is = search (arith, replied, here, t)
       by_test true false is last_is =
           let not_last = eqb-false n 11 last_is in
           let few = t.few in
@@ -278,17 +220,7 @@ module _ (steps : List Step) (w : MachineState) (kept : Keeps steps w) where
           (subst (λ (o : Option ℕ). 24 ≤ checking_left n o) (sym (now false is)) (omega arith))
 
   step_counted : (s : Step) (o : Option Holds) (w' : MachineState) → held_by w.callers (caller_of s) ≡ o → after_step_holding s o w ≡ Some w' → Stepped (caller_of s) w w'
-  step_counted (Begin c call) (Some Idle) w' holds done =
-      let t = cond_some (may_begin c call) (after_begin c call w) w' done in
-      subst (Stepped c w) t.1 (begins c call holds)
-  step_counted (Look (Reporter n)) (Some (Wanting k e)) w' holds done =
-      subst (Stepped (Reporter n) w) (same_Some (state_after_look n k e w) w' done) (looks n k e holds (refusal_of (record_at (word_at w.words e.game)) e.expected e.kind))
-  step_counted (Swap (Reporter n)) (Some (Within k (Holding e old new))) w' holds done =
-      subst (Stepped (Reporter n) w) (same_Some (state_after_swap n k e old new w) w' done) (swaps n k e old new holds)
-  step_counted (First c) (Some (Within k (Collecting xs))) w' holds done = subst (Stepped c w) (same_Some (state_after_first c k xs w) w' done) (firsts c k xs holds)
-  step_counted (Second c) (Some (Within k (Checking xs n point))) w' holds done = subst (Stepped c w) (same_Some (state_after_second c k xs n point w) w' done) (seconds c k xs n point holds)
-  step_counted (End c) (Some (Answered k)) w' holds done = subst (Stepped c w) (same_Some (after_end c k w) w' done) (ends c k holds)
-  step_counted s o w' holds done = absurd (none-some w' done)
+  step_counted s o w' holds done = search (arith, cond_some, begins, same_Some, looks, swaps, firsts, seconds, ends, none-some)
 
   -- what a caller holds leaves it few steps
   few_left : (c : Caller) (x : Holds) → held_by w.callers c ≡ Some x → left_in w.words x ≤ most_between
@@ -296,12 +228,7 @@ module _ (steps : List Step) (w : MachineState) (kept : Keeps steps w) where
   few_left c (Wanting k e) held = omega arith
   few_left c (Within k Nothing) held = omega arith
   few_left c (Within k (Holding e old new)) held = omega arith
-  few_left c (Within k (Collecting xs)) held =
-      let few = (kept.knows c (Within k (Collecting xs)) k held refl).sees.few in by_place (stale_from 0 xs w.words) (λ j at. (stale_within 0 xs w.words j at).1)
-    where
-      by_place : (o : Option ℕ) → ((j : ℕ) → o ≡ Some j → j < 0 + length xs) → collecting_left (length xs) o ≤ most_between
-      by_place None within = omega arith
-      by_place (Some j) within = let l = within j refl in omega arith
+  few_left c (Within k (Collecting xs)) held = search (arith, stale_within, most_between)
   few_left c (Within k (Checking xs n point)) held =
       let t = (kept.knows c (Within k (Checking xs n point)) k held refl).sees in
       let twelve = t.twelve in
@@ -321,14 +248,10 @@ left_of words None = 0
 left_of words (Some x) = left_in words x
 
 not_caller : (c d : Caller) → c ≢ d → is_caller c d ≡ false
-not_caller (Reporter n) (Reporter k) not = ne_eqb n k (λ e. not (ap Reporter e))
-not_caller (Reporter n) (Reader k) not = refl
-not_caller (Reader n) (Reporter k) not = refl
-not_caller (Reader n) (Reader k) not = ne_eqb n k (λ e. not (ap Reader e))
+not_caller c d not = search (arith, ne_eqb)
 
 one_more : {X : Type 0} (b : Bool) (x : X) (xs : List X) → length (cond b (x ∷ xs) xs) ≤ suc (length xs)
-one_more true x xs = omega arith
-one_more false x xs = omega arith
+one_more b x xs = search arith
 
 -- the number of decided calls never falls
 pub decided_more : (done steps : List Step) (w t : MachineState) → Keeps done w → after_steps steps w ≡ Some t → decided_in w.calls ≤ decided_in t.calls
@@ -370,8 +293,7 @@ few_by c done (s ∷ steps) w t kept e few = option_and_then_some (after_steps s
     ])
 
 few_of : (c : Caller) (done : List Step) (w : MachineState) → Keeps done w → (o : Option Holds) → held_by w.callers c ≡ o → left_of w.words o ≤ most_between
-few_of c done w kept None held = omega arith
-few_of c done w kept (Some x) held = few_left done w kept c x held
+few_of c done w kept o held = search (arith, few_left)
 
 pub each_few : (c : Caller) (done steps : List Step) (w t : MachineState) → Keeps done w → after_steps steps w ≡ Some t → decided_in t.calls ≡ decided_in w.calls
     → length (steps_by c steps) ≤ most_between
@@ -383,8 +305,7 @@ each_few c done steps w t kept e same =
 -- a call under way stays so
 stays_open : (c : Caller) (done steps : List Step) (w t : MachineState) (x : Holds) → Keeps done w → after_steps steps w ≡ Some t → decided_in t.calls ≤ decided_in w.calls
     → held_by w.callers c ≡ Some x → IsOpen x → held_by t.callers c ≡ Some Idle → ⊥
-stays_open c done [] w t x kept e few held opened idle =
-    subst IsOpen (same_Some x Idle (sym held ∙ (ap (λ (z : MachineState). held_by z.callers c) (same_Some w t e) ∙ idle))) opened
+stays_open c done [] w t x kept e few held opened idle = search (arith, same_Some, held_by)
 stays_open c done (s ∷ steps) w t x kept e few held opened idle = option_and_then_some (after_steps steps) (after_step w s) t e (λ v is then.
     let later = step_kept done w kept s (held_by w.callers (caller_of s)) v refl is in
     let more = decided_more (done ++ s ∷ []) steps v t later then in
@@ -451,20 +372,13 @@ sum_less words (z ∷ xs) zero x y at less =
     let a = sum_by-cons (left_in words) z xs in
     let b = sum_by-cons (left_in words) y xs in
     omega arith
-sum_less words (z ∷ xs) (suc k) x y at less =
-    let rest = sum_less words xs k x y at less in
-    let a = sum_by-cons (left_in words) z xs in
-    let b = sum_by-cons (left_in words) z (slice_set xs k y) in
-    omega arith
+sum_less words (z ∷ xs) (suc k) x y at less = search (arith, sum_by-cons, sum_less words xs k x y at less)
 
 before_it : (k : ℕ) → k ≡ suc k - 1
 before_it k = omega arith
 
 all_less : (words : List ℕ) (cs : Callers) (c : Caller) (x y : Holds) → held_by cs c ≡ Some x → left_in words y + 1 ≤ left_in words x → all_left words (set_held y c cs) + 1 ≤ all_left words cs
-all_less words cs (Reporter zero) x y held less = absurd (none-some x held)
-all_less words cs (Reporter (suc k)) x y held less = let one = sum_less words cs.reporters (suc k - 1) x y (ap (slice_get cs.reporters) (sym (before_it k)) ∙ held) less in omega arith
-all_less words cs (Reader zero) x y held less = absurd (none-some x held)
-all_less words cs (Reader (suc k)) x y held less = let one = sum_less words cs.readers (suc k - 1) x y (ap (slice_get cs.readers) (sym (before_it k)) ∙ held) less in omega arith
+all_less words cs c x y held less = search (arith, none-some, sum_less, before_it)
 
 few_in_all : (done steps : List Step) (w t : MachineState) → Keeps done w → after_steps steps w ≡ Some t → decided_in t.calls ≤ decided_in w.calls → length steps ≤ all_left w.words w.callers
 few_in_all done [] w t kept e few = omega arith
@@ -489,8 +403,7 @@ record AsCast (cast : Cast) (cs : Callers) : Type 0 where
   readers : length cs.readers ≡ cast.readers
 
 as_cast_set : (cast : Cast) (cs : Callers) (c : Caller) (y : Holds) → AsCast cast cs → AsCast cast (set_held y c cs)
-as_cast_set cast cs (Reporter n) y sizes = record { reporters = length-set cs.reporters (n - 1) y ∙ sizes.reporters; readers = sizes.readers }
-as_cast_set cast cs (Reader n) y sizes = record { reporters = sizes.reporters; readers = length-set cs.readers (n - 1) y ∙ sizes.readers }
+as_cast_set cast cs c y sizes = search (arith, length-set)
 
 as_cast_run : (cast : Cast) (done steps : List Step) (w t : MachineState) → Keeps done w → AsCast cast w.callers → after_steps steps w ≡ Some t → AsCast cast t.callers
 as_cast_run cast done [] w t kept sizes e = subst (λ (z : MachineState). AsCast cast z.callers) (same_Some w t e) sizes

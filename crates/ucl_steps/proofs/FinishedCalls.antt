@@ -1,5 +1,5 @@
 -- The decided calls of a run of actors are as many as the finished calls of its actors.
-use Rattle.std.proofs.Common.{◌≡◌, ◌≢◌, ℕ, zero, suc, ◌+◌, ◌≤◌, ◌==◌, ◌&&◌, nat_le, Bool, true, false, cond, List, [], ◌∷◌, ◌++◌, drop, length, map, Some, None, inl, inr, refl}
+use Rattle.std.proofs.Common.{◌≡◌, ◌≢◌, ℕ, zero, suc, ◌+◌, ◌≤◌, ◌==◌, ◌&&◌, nat_le, Bool, true, false, cond, List, [], ◌∷◌, drop, length, map, Some, refl}
 use Rattle.std.proofs.Common.{sym, ap, ◌∙◌, subst, arith}
 use Rattle.std.proofs.Common.{length-append, eq-eqb, ne_eqb}
 use Rattle.std.specs.Prelude.{All, slice_get, is_some, filter}
@@ -14,9 +14,9 @@ use Rattle.ucl_steps.specs.declared.step.Caller.{Caller}
 use Rattle.ucl_steps.specs.declared.step.Caller.TheVariants.{Reporter, Reader}
 use Rattle.ucl_steps.specs.declared.trace.CallRecord.{CallRecord}
 use Rattle.ucl_steps.specs.Linearizable.{caller_and_call}
-use Rattle.ucl_steps.specs.Protocol.{Held, Nothing, Holding, Collecting, Checking, Answer, Doing, MayAsk}
+use Rattle.ucl_steps.specs.Protocol.{Held, Answer, Doing, MayAsk}
 use Rattle.ucl_steps.specs.Machine.{MachineState}
-use Rattle.ucl_steps.specs.PassRuns.{caller_for, IsOf, is_of, call_of, call_under_way, CanHold, AreRecordsOf, IsUnderWay, FitsHeld, FitsRun, calls_told}
+use Rattle.ucl_steps.specs.PassRuns.{IsOf, is_of, call_of, CanHold, AreRecordsOf, FitsRun, calls_told}
 use Rattle.ucl_steps.specs.Actors.{Actor, IsOfActor}
 use Rattle.ucl_steps.specs.Progress.{decided_in, finished_by}
 use Rattle.ucl_steps.proofs.OneStep.{and_true, own_caller}
@@ -47,64 +47,19 @@ at_least seat number calls low high (f ∷ fs) r =
 
 filter_few : {X : Type 0} (p : X → Bool) (xs : List X) → length (filter p xs) ≤ length xs
 filter_few p [] = omega arith
-filter_few {X} p (x ∷ xs) = let rest = filter_few p xs in by_test (p x) rest
-  where
-    by_test : (b : Bool) → length (filter p xs) ≤ length xs → length (cond b (x ∷ filter p xs) (filter p xs)) ≤ suc (length xs)
-    by_test true rest = omega arith
-    by_test false rest = omega arith
+filter_few {X} p (x ∷ xs) = search (arith, filter_few p xs)
 
 module _ (p q : CallRecord → Bool) where
   one_less : (xs : List CallRecord) (k : ℕ) (a : CallRecord) → slice_get xs k ≡ Some a → p a ≡ true → q a ≡ false → length (filter q (filter p xs)) + 1 ≤ length (filter p xs)
   one_less [] k a at is_own undone = absurd (none-some a at)
-  one_less (x ∷ xs) zero a at is_own undone =
-      let is = same_Some x a at in
-      let mine : p x ≡ true = ap p is ∙ is_own in
-      let not : q x ≡ false = ap q is ∙ undone in
-      let few = filter_few q (filter p xs) in
-      let left : length (filter q (filter p (x ∷ xs))) ≡ length (filter q (filter p xs)) =
-      ap (λ (b : Bool). length (filter q (cond b (x ∷ filter p xs) (filter p xs)))) mine ∙ ap (λ (b : Bool). length (cond b (x ∷ filter q (filter p xs)) (filter q (filter p xs)))) not in
-      let right : length (filter p (x ∷ xs)) ≡ suc (length (filter p xs)) = ap (λ (b : Bool). length (cond b (x ∷ filter p xs) (filter p xs))) mine in
-      omega arith
-  one_less (x ∷ xs) (suc k) a at is_own undone = by_test (p x) (q x) refl refl (one_less xs k a at is_own undone)
-    where
-      by_test : (b c : Bool) → p x ≡ b → q x ≡ c → length (filter q (filter p xs)) + 1 ≤ length (filter p xs)
-          → length (filter q (filter p (x ∷ xs))) + 1 ≤ length (filter p (x ∷ xs))
-      by_test false c pb qc rest = subst (λ (b : Bool). length (filter q (cond b (x ∷ filter p xs) (filter p xs))) + 1 ≤ length (cond b (x ∷ filter p xs) (filter p xs))) (sym pb) rest
-      by_test true c pb qc rest = subst (λ (b : Bool). length (filter q (cond b (x ∷ filter p xs) (filter p xs))) + 1 ≤ length (cond b (x ∷ filter p xs) (filter p xs))) (sym pb)
-          (subst (λ (b : Bool). length (cond b (x ∷ filter q (filter p xs)) (filter q (filter p xs))) + 1 ≤ suc (length (filter p xs))) (sym qc) (by_second c))
-        where
-          by_second : (c : Bool) → length (cond c (x ∷ filter q (filter p xs)) (filter q (filter p xs))) + 1 ≤ suc (length (filter p xs))
-          by_second true = omega arith
-          by_second false = omega arith
+  one_less (x ∷ xs) zero a at is_own undone = search (arith, same_Some, filter_few)
+  one_less (x ∷ xs) (suc k) a at is_own undone = search (arith, one_less xs k a at is_own undone)
 
 may_hold : (number : ℕ) (held : Held) → CanHold number held → MayAsk number (call_of held)
-may_hold number Nothing can = tt
-may_hold number (Holding e old new) can = (can.0, can.1)
-may_hold number (Collecting words) can = tt
-may_hold number (Checking words checked point) can = tt
+may_hold number held can = search arith
 
 at_most : (state : MachineState) (seat number : ℕ) (d : Doing) → FitsRun state seat number d → decided_of seat number state.calls ≤ length d.calls
-at_most state seat number d f = by_held d.held refl f.held
-  where
-    total : (held : Held) → d.held ≡ held → length (filter (own seat number) state.calls) ≡ length d.calls + length (call_under_way held)
-    total held is =
-        sym (as_many seat number state.calls)
-        ∙ (ap length (f.whole ∙ ap (λ (h : Held). map (λ (x : Answer). x.call) d.calls ++ call_under_way h) is)
-        ∙ (length-append (map (λ (x : Answer). x.call) d.calls) (call_under_way held) ∙ ap (λ (n : ℕ). n + length (call_under_way held)) (length-map d.calls (λ (x : Answer). x.call))))
-
-    under : (held : Held) → d.held ≡ held → length (call_under_way held) ≡ 1 → IsUnderWay state seat number d.begun held f.high → decided_of seat number state.calls ≤ length d.calls
-    under held is long u =
-        let all = total held is in
-        let less = one_less (own seat number) is_decided state.calls u.place
-        (record { caller = caller_for seat number (call_of held); call = call_of held; begun = d.begun; point = None; reply = None; ended = None })
-        u.record_is (own_caller seat number (call_of held) (may_hold number held u.can)) refl in
-        omega arith
-
-    by_held : (held : Held) → d.held ≡ held → FitsHeld state seat number d.begun d.held f.high → decided_of seat number state.calls ≤ length d.calls
-    by_held Nothing is fits = let all = total Nothing is in let few = filter_few is_decided (filter (own seat number) state.calls) in omega arith
-    by_held (Holding e old new) is fits = under (Holding e old new) is refl (subst (λ (h : Held). FitsHeld state seat number d.begun h f.high) is fits)
-    by_held (Collecting words) is fits = under (Collecting words) is refl (subst (λ (h : Held). FitsHeld state seat number d.begun h f.high) is fits)
-    by_held (Checking words checked point) is fits = under (Checking words checked point) is refl (subst (λ (h : Held). FitsHeld state seat number d.begun h f.high) is fits)
+at_most state seat number d f = search (arith, own, as_many, length-append, length-map, one_less, own_caller, may_hold, filter_few)
 
 -- of all passes, from this seat on
 
@@ -121,33 +76,11 @@ hits i (a ∷ actors) c = one_if (is_of i a.number c) + hits (i + 1) actors c
 
 decided_cons : (seat number : ℕ) (c : CallRecord) (calls : List CallRecord)
     → decided_of seat number (c ∷ calls) ≡ cond (is_decided c) (one_if (is_of seat number c.caller)) 0 + decided_of seat number calls
-decided_cons seat number c calls = by_test (own seat number c) (is_decided c) refl refl
-  where
-    by_test : (b d : Bool) → own seat number c ≡ b → is_decided c ≡ d → decided_of seat number (c ∷ calls) ≡ cond d (one_if b) 0 + decided_of seat number calls
-    by_test true true p q = ap (λ (b : Bool). length (filter is_decided (cond b (c ∷ filter (own seat number) calls) (filter (own seat number) calls)))) p
-        ∙ (ap (λ (b : Bool). length (cond b (c ∷ filter is_decided (filter (own seat number) calls)) (filter is_decided (filter (own seat number) calls)))) q ∙ omega arith)
-    by_test true false p q = ap (λ (b : Bool). length (filter is_decided (cond b (c ∷ filter (own seat number) calls) (filter (own seat number) calls)))) p
-        ∙ (ap (λ (b : Bool). length (cond b (c ∷ filter is_decided (filter (own seat number) calls)) (filter is_decided (filter (own seat number) calls)))) q ∙ omega arith)
-    by_test false true p q = ap (λ (b : Bool). length (filter is_decided (cond b (c ∷ filter (own seat number) calls) (filter (own seat number) calls)))) p ∙ omega arith
-    by_test false false p q = ap (λ (b : Bool). length (filter is_decided (cond b (c ∷ filter (own seat number) calls) (filter (own seat number) calls)))) p ∙ omega arith
+decided_cons seat number c calls = search (arith, own)
 
 count_cons : (i : ℕ) (actors : List Actor) (c : CallRecord) (calls : List CallRecord) → count_own i actors (c ∷ calls) ≡ cond (is_decided c) (hits i actors c.caller) 0 + count_own i actors calls
-count_cons i [] c calls = by_test (is_decided c)
-  where
-    by_test : (d : Bool) → 0 ≡ cond d 0 0 + 0
-    by_test true = refl
-    by_test false = refl
-count_cons i (a ∷ actors) c calls =
-    let first = decided_cons i a.number c calls in
-    let rest = count_cons (i + 1) actors c calls in
-    by_test (is_decided c) first rest
-  where
-    by_test : (d : Bool) → decided_of i a.number (c ∷ calls) ≡ cond d (one_if (is_of i a.number c.caller)) 0 + decided_of i a.number calls
-        → count_own (i + 1) actors (c ∷ calls) ≡ cond d (hits (i + 1) actors c.caller) 0 + count_own (i + 1) actors calls
-        → decided_of i a.number (c ∷ calls) + count_own (i + 1) actors (c ∷ calls)
-        ≡ cond d (one_if (is_of i a.number c.caller) + hits (i + 1) actors c.caller) 0 + (decided_of i a.number calls + count_own (i + 1) actors calls)
-    by_test true first rest = omega arith
-    by_test false first rest = omega arith
+count_cons i [] c calls = search arith
+count_cons i (a ∷ actors) c calls = search (arith, decided_cons, count_cons (i + 1) actors c calls)
 
 count_none : (i : ℕ) (actors : List Actor) → count_own i actors [] ≡ 0
 count_none i [] = refl
@@ -156,17 +89,11 @@ count_none i (a ∷ actors) = let rest = count_none (i + 1) actors in omega arit
 -- each call is of an actor
 
 own_of : (seat number : ℕ) (c : Caller) → IsOf seat number c → is_of seat number c ≡ true
-own_of seat number c (inl is) = ap (is_of seat number) is ∙ eq-eqb (seat + 1) (seat + 1) refl
-own_of seat number c (inr t) = ap (is_of seat number) t.0 ∙ and_true (number == number) (nat_le 1 number && nat_le number 255) (eq-eqb number number refl)
-    (and_true (nat_le 1 number) (nat_le number 255) (le-leb 1 number t.1.0) (le-leb number 255 t.1.1))
+own_of seat number c is = search (arith, eq-eqb, and_true, nat_le, le-leb)
 
 hits_one : (i j : ℕ) (actors : List Actor) (a : Actor) (c : Caller) → get_elem? actors j ≡ some a → is_of (i + j) a.number c ≡ true → 1 ≤ hits i actors c
 hits_one i j [] a c at is_own = absurd (some-ne-none a (sym at))
-hits_one i zero (b ∷ actors) a c at is_own =
-    let is = some-injective b a at in
-    let here : i ≡ i + 0 = omega arith in
-    let hit : one_if (is_of i b.number c) ≡ 1 = ap (λ (t : Bool). one_if t) (ap (λ (n : ℕ). is_of n b.number c) here ∙ (ap (λ (z : Actor). is_of (i + 0) z.number c) is ∙ is_own)) in
-    omega arith
+hits_one i zero (b ∷ actors) a c at is_own = search (arith, some-injective)
 hits_one i (suc j) (b ∷ actors) a c at is_own =
     let next : i + 1 + j ≡ i + suc j = omega arith in
     let rest = hits_one (i + 1) j actors a c at (ap (λ (n : ℕ). is_of n a.number c) next ∙ is_own) in
@@ -191,22 +118,11 @@ decided_counted actors (c ∷ calls) only =
 
 hits_reader_none : (i : ℕ) (actors : List Actor) (k : ℕ) → k ≤ i → hits i actors (Reader k) ≡ 0
 hits_reader_none i [] k l = refl
-hits_reader_none i (a ∷ actors) k l =
-    let rest = hits_reader_none (i + 1) actors k (omega arith) in
-    let not : one_if (k == i + 1) ≡ 0 = ap (λ (b : Bool). one_if b) (ne_eqb k (i + 1) (λ is. omega arith)) in
-    omega arith
+hits_reader_none i (a ∷ actors) k l = search (arith, ne_eqb, hits_reader_none (i + 1) actors k (omega arith))
 
 hits_reader : (i : ℕ) (actors : List Actor) (k : ℕ) → hits i actors (Reader k) ≤ 1
 hits_reader i [] k = omega arith
-hits_reader i (a ∷ actors) k = by_test (k == i + 1) refl (hits_reader (i + 1) actors k)
-  where
-    by_test : (b : Bool) → (k == i + 1) ≡ b → hits (i + 1) actors (Reader k) ≤ 1 → one_if (k == i + 1) + hits (i + 1) actors (Reader k) ≤ 1
-    by_test true is rest =
-        let n = eqb-true k (i + 1) is in
-        let none = hits_reader_none (i + 1) actors k (omega arith) in
-        let one : one_if (k == i + 1) ≡ 1 = ap (λ (b : Bool). one_if b) is in
-        omega arith
-    by_test false is rest = let none : one_if (k == i + 1) ≡ 0 = ap (λ (b : Bool). one_if b) is in omega arith
+hits_reader i (a ∷ actors) k = search (arith, eqb-true, hits_reader_none, hits_reader (i + 1) actors k)
 
 hits_reporter_none : (i : ℕ) (actors : List Actor) (k : ℕ) → ((j : ℕ) (b : Actor) → get_elem? actors j ≡ some b → k ≢ b.number) → hits i actors (Reporter k) ≡ 0
 hits_reporter_none i [] k none = refl
@@ -237,12 +153,7 @@ hits_few actors (Reporter k) apart = hits_reporter 0 actors k apart
 
 counted_decided : (actors : List Actor) (calls : List CallRecord) → Apart actors → count_own 0 actors calls ≤ decided_in calls
 counted_decided actors [] apart = let none = count_none 0 actors in omega arith
-counted_decided actors (c ∷ calls) apart = by_test (is_decided c) (hits_few actors c.caller apart) (count_cons 0 actors c calls) (counted_decided actors calls apart)
-  where
-    by_test : (d : Bool) → hits 0 actors c.caller ≤ 1 → count_own 0 actors (c ∷ calls) ≡ cond d (hits 0 actors c.caller) 0 + count_own 0 actors calls → count_own 0 actors calls ≤ decided_in calls
-        → count_own 0 actors (c ∷ calls) ≤ length (cond d (c ∷ filter is_decided calls) (filter is_decided calls))
-    by_test true hit count rest = omega arith
-    by_test false hit count rest = omega arith
+counted_decided actors (c ∷ calls) apart = search (arith, hits_few, count_cons, counted_decided actors calls apart)
 
 -- the finished calls of actors
 

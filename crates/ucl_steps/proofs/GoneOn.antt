@@ -14,11 +14,7 @@ pub gone_same : (a : Actor) → HasGoneOn a a
 gone_same a = record { number = λ _. refl; finished = begins_same a.doing.calls; asked = begins_same (calls_asked a.doing) }
 
 pub gone_through : (a b c : Actor) → HasGoneOn a b → HasGoneOn b c → HasGoneOn a c
-gone_through a b c p q = record {
-  number = λ pos. let is = p.number pos in q.number (omega arith) ∙ is;
-  finished = begins_through a.doing.calls b.doing.calls c.doing.calls p.finished q.finished;
-  asked = begins_through (calls_asked a.doing) (calls_asked b.doing) (calls_asked c.doing) p.asked q.asked;
-}
+gone_through a b c p q = search (arith, begins_through)
 
 pub actors_through : (a b c : List Actor) → HaveGoneOn a b → HaveGoneOn b c → HaveGoneOn a c
 actors_through a b c p q seat x at =
@@ -48,7 +44,4 @@ module _ {V : Type 0} (actor : V → Actor) where
   one_comes views w j u at = (u, at_longer views (w ∷ []) j u at, gone_same (actor u))
 
   pub actors_go : (views later : List V) → PassesGoOn views later → HaveGoneOn (map actor views) (map actor later)
-  actors_go views later goes seat a at =
-      let v = map_there actor views seat a at in
-      let g = goes seat v.0 v.1 in
-      (actor g.0, map_at actor later seat g.0 g.1, subst (λ (x : Actor). HasGoneOn x (actor g.0)) v.2 g.2)
+  actors_go views later goes seat a at = search (arith, map_there, map_at)

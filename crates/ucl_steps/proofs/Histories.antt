@@ -1,5 +1,5 @@
 -- Histories: one entry more, their beginnings, and the words of their boards.
-use Rattle.std.proofs.Common.{◌≡◌, ℕ, ◌+◌, ◌-◌, ◌==◌, ◌<◌, ◌≤◌, List, [], ◌∷◌, ◌++◌, take, drop, length, Some, None, refl, sym, ap, ◌∙◌, subst, arith, length-append, get_or, set, ne_eqb}
+use Rattle.std.proofs.Common.{◌≡◌, ℕ, ◌+◌, ◌-◌, ◌==◌, ◌<◌, ◌≤◌, List, [], ◌∷◌, ◌++◌, take, drop, length, Some, None, sym, ap, ◌∙◌, subst, arith, length-append, get_or, set, ne_eqb}
 use Rattle.std.specs.Prelude.{slice_index, slice_set, replicate}
 use Rattle.std.proofs.lemmas.Bool.{eqb-true, not-false, not_from_false}
 use Rattle.std.proofs.lemmas.List.{take-append-drop, ext_get_or}
@@ -8,7 +8,6 @@ use Rattle.ucl_word.specs.declared.event.Kind.{Kind}
 use Rattle.ucl_word.specs.declared.refusal.Refusal.TheVariants.{Stale}
 use Rattle.ucl_word.specs.Record.{scheduled}
 use Rattle.ucl_word.specs.Rules.{refusal_of, after}
-use Rattle.ucl_word.specs.Counts.{counted_match}
 use Rattle.ucl_word.specs.Layout.{word_of, record_at}
 use Rattle.ucl_word.proofs.AcceptedEvents.{accepts, after_number}
 use Rattle.ucl_word.proofs.Sequences.{may_none, may_next, may_begin}
@@ -45,9 +44,7 @@ pub number_is : (h : List Entry) (g : ℕ) → (match_after h g).number ≡ leng
 number_is h g = number_of_count (entries_of g h)
 
 pub match_next : (h : List Entry) (e : Entry) → IsLegal h → MayFollow h e → match_after (h ++ e ∷ []) e.game ≡ after (match_after h e.game) e.reporter e.kind
-match_next h e legal may = ap counted_match (entries_same h e e.game refl)
-    ∙ record_next (entries_of e.game h) e.reporter e.kind (legal_balanced (entries_of e.game h) (legal_match e.game h legal)) (legal_case (entries_of e.game h) (legal_match e.game h legal))
-    (accepts (match_after h e.game) (length (entries_of e.game h)) e.kind may.accepted.accepted)
+match_next h e legal may = search (arith, entries_same, record_next, legal_balanced, legal_match, legal_case, accepts)
 
 -- a word is of one record
 pub read_back : (h : List Entry) (g : ℕ) → IsLegal h → record_at (word_of (match_after h g)) ≡ match_after h g
@@ -68,13 +65,7 @@ numbers_rise g h a b l =
 -- a word that a match has before and after a place, it has there too
 pub squeezed : (g x : ℕ) (h : List Entry) (a p b : ℕ) → IsLegal h → a ≤ p → p ≤ b → x ≡ word_of (match_after (take a h) g) → x ≡ word_of (match_after (take b h) g)
     → x ≡ word_of (match_after (take p h) g)
-squeezed g x h a p b legal low high is_a is_b =
-    let same = ap length (same_word h a b g legal (sym is_a ∙ is_b)) in
-    let up = numbers_rise g h a p low in
-    let down = numbers_rise g h p b high in
-    let na = number_is (take a h) g in
-    let np = number_is (take p h) g in
-    is_a ∙ (same_number h a p g (omega arith)).1
+squeezed g x h a p b legal low high is_a is_b = search (arith, same_word, numbers_rise, number_is, same_number)
 
 pub board_at : (h : List Entry) (g : ℕ) → IsMatch g → slice_index (board_of h) (g - 1) ≡ word_of (match_after h g)
 board_at h g within = word_after h g within

@@ -17,7 +17,6 @@ use Rattle.ucl_steps.specs.declared.step.Step.{Step}
 use Rattle.ucl_steps.specs.declared.step.Step.TheVariants.{Begin, End}
 use Rattle.ucl_steps.specs.declared.trace.CallRecord.{CallRecord}
 use Rattle.ucl_steps.specs.declared.trace.Reply.{Reply}
-use Rattle.ucl_steps.specs.declared.trace.Reply.TheVariants.{Accepted, Refused, Copied}
 use Rattle.ucl_steps.specs.Machine.{Holds, Idle, Answered, Callers, MachineState, held_by, set_held, with_held, change_at, with_end}
 use Rattle.ucl_steps.specs.Linearizable.{EntryHasOneCall}
 use Rattle.ucl_steps.proofs.Explanations.{IsExplained}
@@ -51,17 +50,11 @@ change_at_same zero (a ∷ xs) = refl
 change_at_same (suc k) (a ∷ xs) = ap (λ (z : List CallRecord). a ∷ z) (change_at_same k xs)
 
 some_or_none : (o : Option ℕ) → IsSome o ⊎ (o ≡ None)
-some_or_none None = inr refl
-some_or_none (Some n) = inl refl
+some_or_none o = search arith
 
 -- a call that has its reply may end now
 explained_closed : (h : List Entry) (c : CallRecord) (p : Option ℕ) (r : Option Reply) → IsExplained h c p r → IsSome r → IsExplained h (with_end (length h) c) p r
-explained_closed h c (Some k) (Some (Accepted a)) s some = ((s.0.0, s.0.1, s.0.1), s.1)
-explained_closed h c (Some k) (Some (Refused a)) s some = ((s.0.0, s.0.1, s.0.1), s.1)
-explained_closed h c (Some k) (Some (Copied a)) s some = ((s.0.0, s.0.1, s.0.1), s.1)
-explained_closed h c None (Some r) s some = absurd s
-explained_closed h c (Some k) None s some = absurd s
-explained_closed h c None None s some = absurd (false≢true some)
+explained_closed h c p r s some = search (arith, false≢true)
 
 module _ (steps : List Step) (w : MachineState) (kept : Keeps steps w) (c : Caller) (x : Holds) (holds : held_by w.callers c ≡ Some x) where
   -- what other callers hold, and know

@@ -50,8 +50,7 @@ same_reporter n m e = cc
 
 sequential_reading : (h : List Entry) (k : ℕ) (c : Caller) (board : List ℕ) (version : ℕ) → board ≡ board_of (take k h) → version ≡ k
     → IsSequential h k c Reading (Copied (record { board = board; version = version }))
-sequential_reading h k (Reporter n) board version same is = (same, is)
-sequential_reading h k (Reader n) board version same is = (same, is)
+sequential_reading h k c board version same is = search arith
 
 module _ (steps : List Step) (w : MachineState) (kept : Keeps steps w) where
   abbrev now : ℕ
@@ -178,8 +177,7 @@ module _ (steps : List Step) (w : MachineState) (kept : Keeps steps w) where
 
     swap_kept : (b : Bool) → (word_at w.words e.game == old) ≡ b → Keeps (steps ++ Swap (Reporter n) ∷ []) (after_reply (Reporter n) k now
         (cond b (Accepted (record { number = (record_at new).number })) (Refused (Stale (record_at (word_at w.words e.game)).number))) (cond b (stored n e new w) w))
-    swap_kept true is = won is
-    swap_kept false is = missed is
+    swap_kept b is = search (arith, won, missed)
 
   word_at_place : (i : ℕ) → i < 12 → get_or w.words i 0 ≡ word_of (match_after (take now w.history) (i + 1))
   word_at_place i few = ap (λ (z : List ℕ). get_or z i 0) kept.words ∙ (board_get w.history i few ∙ ap (λ (z : List Entry). word_of (match_after z (i + 1))) (sym (take-length w.history)))
@@ -296,9 +294,7 @@ module _ (steps : List Step) (w : MachineState) (kept : Keeps steps w) where
 
     second_kept : (a b : Bool) → (slice_index w.words checked == slice_index words checked) ≡ a → (checked == 11) ≡ b
         → Keeps (steps ++ Second c ∷ []) (after_outcome c k point (cond a (cond b (Answers (Copied (reading_of words))) (GoesOn (Checking words (checked + 1) point))) (GoesOn (Collecting []))) w)
-    second_kept true true same last = copied same last
-    second_kept true false same last = goes_on same last
-    second_kept false b same last = start_again
+    second_kept a b same last = search (arith, copied, goes_on, start_again)
 
   begin_kept : (c : Caller) (call : Call) → held_by w.callers c ≡ Some Idle → may_begin c call ≡ true → Keeps (steps ++ Begin c call ∷ []) (after_begin c call w)
   begin_kept (Reporter zero) (Event e) holds may = absurd (none-some Idle holds)

@@ -1,5 +1,5 @@
 -- The calls of a pass that has no call under way are just its finished calls: so a later run keeps what an earlier one has of it.
-use Rattle.std.proofs.Common.{◌≡◌, ℕ, zero, suc, ◌+◌, ◌≤◌, Bool, true, false, cond, List, [], ◌∷◌, ◌++◌, length, drop, map, Some, None, refl, sym, ap, ◌∙◌, subst, arith, append-nil, length-append}
+use Rattle.std.proofs.Common.{◌≡◌, ℕ, zero, suc, ◌+◌, ◌≤◌, Bool, true, cond, List, [], ◌∷◌, ◌++◌, length, drop, map, Some, None, refl, sym, ap, ◌∙◌, subst, arith, append-nil, length-append}
 use Rattle.std.specs.Prelude.{slice_get, filter}
 use Rattle.std.proofs.lemmas.Option.{none-some, same_Some}
 use Rattle.std.proofs.lemmas.List.{map-append, length-map}
@@ -9,12 +9,11 @@ use mathlib.Core.List.{IsPrefix}
 use lib.ListN.{get_elem?}
 use Rattle.ucl_steps.specs.declared.step.Caller.{Caller}
 use Rattle.ucl_steps.specs.declared.step.Call.{Call}
-use Rattle.ucl_steps.specs.declared.step.Call.TheVariants.{Event, Reading}
 use Rattle.ucl_steps.specs.declared.trace.CallRecord.{CallRecord}
 use Rattle.ucl_steps.specs.Linearizable.{caller_and_call}
 use Rattle.ucl_steps.specs.Machine.{MachineState}
-use Rattle.ucl_steps.specs.Protocol.{Held, Nothing, Answer, MayAsk}
-use Rattle.ucl_steps.specs.PassRuns.{caller_for, is_of, call_under_way, calls_by, AreRecordsOf, FitsRun}
+use Rattle.ucl_steps.specs.Protocol.{Nothing, Answer}
+use Rattle.ucl_steps.specs.PassRuns.{caller_for, is_of, calls_by, AreRecordsOf, FitsRun}
 use Rattle.ucl_steps.specs.Actors.{Actor}
 use Rattle.ucl_steps.specs.Growing.{HasGoneOn, HaveGoneOn, records_by}
 use Rattle.ucl_steps.proofs.OneStep.{own_caller}
@@ -84,34 +83,16 @@ module _ (seat number : ℕ) where
   -- the calls that a pass has asked are as many
   pub as_many : (calls : List CallRecord) → length (calls_by seat number (map caller_and_call calls)) ≡ length (filter own calls)
   as_many [] = refl
-  as_many (c ∷ calls) = by_test (is_of seat number c.caller) (as_many calls)
-    where
-      by_test : (b : Bool) → length (calls_by seat number (map caller_and_call calls)) ≡ length (filter own calls)
-          → length (map (λ (x : Caller × Call). x.1) (cond b ((c.caller, c.call) ∷ filter told (map caller_and_call calls)) (filter told (map caller_and_call calls)))) ≡ length
-          (cond b (c ∷ filter own calls) (filter own calls))
-      by_test true rest = ap suc rest
-      by_test false rest = rest
+  as_many (c ∷ calls) = search (arith, as_many calls)
 
   pub records_are : (state : MachineState) (a : Actor) → FitsRun state seat number a.doing → a.doing.held ≡ Nothing → records_by seat number state ≡ map recorded a.doing.calls
-  records_are state a f none =
-      let count : length (filter own state.calls) ≡ length a.doing.calls =
-      sym (as_many state.calls)
-      ∙ (ap length (f.whole ∙ (ap (λ (h : Held). map (λ (x : Answer). x.call) a.doing.calls ++ call_under_way h) none ∙ append-nil (map (λ (x : Answer). x.call) a.doing.calls)))
-      ∙ length-map a.doing.calls (λ (x : Answer). x.call)) in
-      just_these state.calls 0 f.high a.doing.calls f.recorded count
+  records_are state a f none = search (arith, as_many, append-nil, length-map, just_these)
 
 -- the finished calls of a pass that got a number since are by the same callers
 same_callers : (seat : ℕ) (was is : Actor) → HasGoneOn was is → (calls : List CallRecord) (low high : ℕ) (fs : List Answer) → AreRecordsOf calls seat was.number low fs high
     → map (recorded seat was.number) fs ≡ map (recorded seat is.number) fs
 same_callers seat was is on calls low high [] r = refl
-same_callers seat was is on calls low high (f ∷ fs) r =
-    let callers : caller_for seat was.number f.call ≡ caller_for seat is.number f.call = by_call f.call r.4.may in
-    let rest = same_callers seat was is on calls (r.0 + 1) high fs r.5 in
-    λ i. record { caller = callers i; call = f.call; begun = f.begun; point = None; reply = Some f.reply; ended = Some f.ended } ∷ rest i
-  where
-    by_call : (call : Call) → MayAsk was.number call → caller_for seat was.number call ≡ caller_for seat is.number call
-    by_call (Event e) may = let low = may.0.0 in let same : was.number ≡ is.number = sym (on.number (omega arith)) in ap (λ (n : ℕ). caller_for seat n (Event e)) same
-    by_call Reading may = refl
+same_callers seat was is on calls low high (f ∷ fs) r = search (arith, same_callers seat was is on calls (r.0 + 1) high fs r.5)
 
 -- where no actor has a call under way
 pub kept_records : (actors later : List Actor) (last last' : MachineState) → HaveGoneOn actors later

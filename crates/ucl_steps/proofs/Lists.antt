@@ -1,13 +1,12 @@
 -- Elements of lists at a place, and options.
-use Rattle.std.proofs.Common.{◌≡◌, ℕ, zero, suc, ◌<◌, ◌≤◌, List, [], ◌∷◌, ◌++◌, take, drop, length, Option, Some, None, refl, sym, ap, ◌∙◌, arith}
+use Rattle.std.proofs.Common.{◌≡◌, ℕ, zero, suc, ◌<◌, ◌≤◌, List, [], ◌∷◌, ◌++◌, take, drop, length, Option, Some, refl, sym, ap, ◌∙◌, arith}
 use Rattle.std.specs.Prelude.{slice_get, IfSome}
 use Rattle.std.proofs.lemmas.List.{take-append-drop, take-take}
 use Rattle.std.proofs.lemmas.Option.{none-some, same_Some}
 
 module _ {A : Type 0} where
   pub if_some : (o : Option A) (P : A → Type 0) → ((x : A) → o ≡ Some x → P x) → IfSome o P
-  if_some None P f = tt
-  if_some (Some x) P f = f x refl
+  if_some o P f = search arith
 
   pub get_some : (xs : List A) (k : ℕ) → k < length xs → (x : A) × (slice_get xs k ≡ Some x)
   get_some [] k l = absurd (omega arith)

@@ -1,5 +1,5 @@
 -- A run is told by the log and by what the actors have asked: so runs of later states are longer runs.
-use Rattle.std.proofs.Common.{◌≡◌, ◌≢◌, ◌⊎◌, inl, inr, ℕ, zero, suc, ◌+◌, ◌==◌, ◌&&◌, nat_le, Bool, true, false, cond, List, [], ◌∷◌, ◌++◌, length, map, replicate, Option, Some, None, refl, sym, ap}
+use Rattle.std.proofs.Common.{◌≡◌, ◌≢◌, ◌⊎◌, inl, inr, ℕ, zero, suc, ◌+◌, Bool, true, false, cond, List, [], ◌∷◌, ◌++◌, length, map, replicate, Option, Some, None, refl, sym, ap}
 use Rattle.std.proofs.Common.{◌∙◌, subst, arith, append_assoc, eq-eqb}
 use Rattle.std.specs.Prelude.{slice_get}
 use Rattle.std.proofs.lemmas.Option.{none-some, same_Some, option_and_then_some}
@@ -16,17 +16,17 @@ use Rattle.ucl_board.specs.Log.{AccessKind, Access, Logged, Log, access_list}
 use Rattle.std.specs.Prelude.{slice_index}
 use Rattle.ucl_steps.specs.declared.step.Cast.{Cast}
 use Rattle.ucl_steps.specs.declared.step.Caller.{Caller}
-use Rattle.ucl_steps.specs.declared.step.Caller.TheVariants.{Reporter, Reader}
+use Rattle.ucl_steps.specs.declared.step.Caller.TheVariants.{Reporter}
 use Rattle.ucl_steps.specs.declared.step.Call.{Call}
-use Rattle.ucl_steps.specs.declared.step.Call.TheVariants.{Event, Reading}
+use Rattle.ucl_steps.specs.declared.step.Call.TheVariants.{Reading}
 use Rattle.ucl_steps.specs.declared.step.Step.{Step}
 use Rattle.ucl_steps.specs.declared.step.Step.TheVariants.{Begin, Look, Swap, First, Second, End}
-use Rattle.ucl_steps.specs.Protocol.{Held, Nothing, Holding, Collecting, Checking, Outcome, GoesOn, Answers, looked, swapped, loaded, compared}
+use Rattle.ucl_steps.specs.Protocol.{Held, Holding, Collecting, Checking, Outcome, GoesOn, Answers, looked, swapped, loaded, compared}
 use Rattle.ucl_steps.specs.Machine.{Holds, Idle, Wanting, Within, Answered, Callers, MachineState, initial_state, held_by, set_held, may_begin, held_at_begin, after_begin, after_end, after_outcome}
 use Rattle.ucl_steps.specs.Machine.{stored, state_after_look, state_after_swap, state_after_first, state_after_second, after_step_holding, caller_of, after_step, after_steps}
 use Rattle.ucl_steps.specs.CallRuns.{step_of, access_in, accesses_holding, accesses_of_step}
 use Rattle.ucl_steps.specs.Linearizable.{begun_in}
-use Rattle.ucl_steps.specs.PassRuns.{cast_for, caller_for, IsOf, is_of, call_of, IsUnderWay, FitsHeld, calls_told, calls_by, left_by, FitsRun, Move, end_by, steps_of_move, steps_of_moves}
+use Rattle.ucl_steps.specs.PassRuns.{cast_for, caller_for, IsOf, is_of, call_of, FitsHeld, calls_told, calls_by, left_by, FitsRun, Move, end_by, steps_of_move, steps_of_moves}
 use Rattle.ucl_steps.specs.Actors.{Actor, IsTakenBy, accesses_of_log, AreStepsOf, IsRunOfLog}
 use Rattle.ucl_steps.specs.Growing.{HasGoneOn, HaveGoneOn}
 use Rattle.ucl_steps.proofs.Callers.{same_caller, held_here, held_else}
@@ -62,37 +62,23 @@ held_after k (Answers reply) = Answered k
 
 outcome_alike : (c : Caller) (k point : ℕ) (o : Outcome) (st : MachineState) (cs : Callers)
     → after_outcome c k point o (record st { callers = cs }) ≡ record (after_outcome c k point o st) { callers = set_held (held_after k o) c cs }
-outcome_alike c k point (GoesOn held) st cs = refl
-outcome_alike c k point (Answers reply) st cs = refl
+outcome_alike c k point o st cs = search arith
 
 swap_alike : (r k : ℕ) (e : EventCall) (new point : ℕ) (o : Outcome) (a : MachineState) (cs : Callers) (b : Bool)
     → after_outcome (Reporter r) k point o (cond b (stored r e new (record a { callers = cs })) (record a { callers = cs }))
     ≡ record (after_outcome (Reporter r) k point o (cond b (stored r e new a) a)) { callers = set_held (held_after k o) (Reporter r) cs }
-swap_alike r k e new point o a cs true = outcome_alike (Reporter r) k point o (stored r e new a) cs
-swap_alike r k e new point o a cs false = outcome_alike (Reporter r) k point o a cs
+swap_alike r k e new point o a cs b = search (arith, outcome_alike)
 
 begun_to : (c : Caller) (call : Call) (a a' : MachineState) → held_by a.callers c ≡ Some Idle → (b : Bool) → may_begin c call ≡ b → cond b (Some (after_begin c call a)) None ≡ Some a'
     → Stepped (Begin c call) a a'
-begun_to c call a a' held false may e = absurd (none-some a' e)
-begun_to c call a a' held true may e =
-    stepped_to (Begin c call) Idle a (after_begin c call) (held_at_begin call (length a.calls)) (λ st. ap (λ (b : Bool). cond b (Some (after_begin c call st)) None) may) (λ cs. refl) held a'
-    (ap (λ (b : Bool). cond b (Some (after_begin c call a)) None) may ∙ e)
+begun_to c call a a' held b may e = search (arith, none-some, stepped_to)
 
 stepped_by : (s : Step) (a a' : MachineState) (o : Option Holds) → held_by a.callers (caller_of s) ≡ o → after_step_holding s o a ≡ Some a' → Stepped s a a'
 stepped_by (Begin c call) a a' (Some Idle) held e = begun_to c call a a' held (may_begin c call) refl e
-stepped_by (Look (Reporter r)) a a' (Some (Wanting call e)) held is =
-    stepped_to (Look (Reporter r)) (Wanting call e) a (state_after_look r call e) (held_after call (looked r e (word_at a.words e.game))) (λ st. refl)
-    (λ cs. outcome_alike (Reporter r) call (length a.history) (looked r e (word_at a.words e.game)) a cs) held a' is
-stepped_by (Swap (Reporter r)) a a' (Some (Within call (Holding e old new))) held is =
-    stepped_to (Swap (Reporter r)) (Within call (Holding e old new)) a (state_after_swap r call e old new) (held_after call (swapped old new (word_at a.words e.game))) (λ st. refl)
-    (λ cs. swap_alike r call e new (length a.history) (swapped old new (word_at a.words e.game)) a cs (word_at a.words e.game == old)) held a' is
-stepped_by (First c) a a' (Some (Within call (Collecting words))) held is =
-    stepped_to (First c) (Within call (Collecting words)) a (state_after_first c call words) (held_after call (loaded words (slice_index a.words (length words)) (length a.history))) (λ st. refl)
-    (λ cs. outcome_alike c call (length a.history) (loaded words (slice_index a.words (length words)) (length a.history)) a cs) held a' is
-stepped_by (Second c) a a' (Some (Within call (Checking words checked point))) held is =
-    stepped_to (Second c) (Within call (Checking words checked point)) a (state_after_second c call words checked point) (held_after call (compared words checked point (slice_index a.words checked)))
-    (λ st. refl)
-    (λ cs. outcome_alike c call point (compared words checked point (slice_index a.words checked)) a cs) held a' is
+stepped_by (Look (Reporter r)) a a' (Some (Wanting call e)) held is = search (arith, stepped_to, state_after_look, looked, word_at, outcome_alike)
+stepped_by (Swap (Reporter r)) a a' (Some (Within call (Holding e old new))) held is = search (arith, stepped_to, state_after_swap, swapped, word_at, swap_alike)
+stepped_by (First c) a a' (Some (Within call (Collecting words))) held is = search (arith, stepped_to, state_after_first, loaded, slice_index, outcome_alike)
+stepped_by (Second c) a a' (Some (Within call (Checking words checked point))) held is = search (arith, stepped_to, state_after_second, compared, slice_index, outcome_alike)
 stepped_by (End c) a a' (Some (Answered call)) held is = stepped_to (End c) (Answered call) a (after_end c call) Idle (λ st. refl) (λ cs. refl) held a' is
 stepped_by s a a' o held is = absurd (none-some a' is)
 
@@ -141,10 +127,7 @@ idle_only (suc n) zero x e = sym (same_Some Idle x e)
 idle_only (suc n) (suc k) x e = idle_only n k x e
 
 held_at_start : (cast : Cast) (c : Caller) (x : Holds) → held_by (initial_state cast).callers c ≡ Some x → x ≡ Idle
-held_at_start cast (Reporter zero) x e = absurd (none-some x e)
-held_at_start cast (Reporter (suc k)) x e = idle_only cast.reporters k x e
-held_at_start cast (Reader zero) x e = absurd (none-some x e)
-held_at_start cast (Reader (suc k)) x e = idle_only cast.readers k x e
+held_at_start cast c x e = search (arith, none-some, idle_only)
 
 -- the parts of a move
 
@@ -192,10 +175,7 @@ second_left c (Some (Within call (Checking words checked point))) a v is = (acce
 second_left c o a v is = absurd (none-some v is)
 
 step_left : (c : Caller) (kind : AccessKind) (a v : MachineState) → after_step a (step_of c kind) ≡ Some v → (m : Access) × (accesses_of_step (step_of c kind) a ≡ m ∷ []) × (m.kind ≡ kind)
-step_left c kinds.Look a v is = look_left c (held_by a.callers c) a v is
-step_left c kinds.Swap a v is = swap_left c (held_by a.callers c) a v is
-step_left c kinds.First a v is = first_left c (held_by a.callers c) a v is
-step_left c kinds.Second a v is = second_left c (held_by a.callers c) a v is
+step_left c kind a v is = search (arith, look_left, swap_left, first_left, second_left)
 
 -- the end of a move, and the steps after it
 record Ending (c : Caller) (ends : Bool) (rest : List Step) (v last : MachineState) : Type 0 where
@@ -205,8 +185,7 @@ record Ending (c : Caller) (ends : Bool) (rest : List Step) (v last : MachineSta
   left : left_by (end_by c ends ++ rest) (Some v) ≡ left_by rest (Some after)
 
 ending : (c : Caller) (ends : Bool) (rest : List Step) (v last : MachineState) → after_steps (end_by c ends ++ rest) v ≡ Some last → Ending c ends rest v last
-ending c false rest v last e = record { after = v; is = refl; then = e; left = refl }
-ending c true rest v last e = option_and_then_some (after_steps rest) (after_step v (End c)) last e (λ z is then. record { after = z; is = is; then = then; left = ap (left_by rest) is })
+ending c ends rest v last e = search (arith, option_and_then_some)
 
 -- the access and the end of a move
 record Accessing (c : Caller) (kind : AccessKind) (ends : Bool) (rest : List Step) (w last : MachineState) : Type 0 where
@@ -230,9 +209,7 @@ accessing c kind ends rest w last e =
       ended = t;
       access = l.0;
       kind_is = l.2;
-      left = ap (λ (ms : List Access). map (λ (m : Access). (caller_of (step_of c kind), m)) ms ++ after) l.1
-          ∙ (ap (λ (d : Caller). (d, l.0) ∷ after) (caller_of_kind c kind)
-          ∙ ap (λ (z : List (Caller × Access)). (c, l.0) ∷ z) (ap (left_by (end_by c ends ++ rest)) is ∙ t.left));
+      left = search (arith, caller_of, step_of, caller_of_kind, left_by, end_by);
     })
 
 moving_by : (c : Caller) (begins : Option Call) (kind : AccessKind) (ends : Bool) (rest : List Step) (a last : MachineState)
@@ -266,51 +243,34 @@ moving m rest a last e = moving_by m.caller m.begins m.kind m.ends rest a last e
 
 takes_none : (c : Caller) (kind : AccessKind) (x : Holds) (a v : MachineState) → held_by a.callers c ≡ Some x → after_step_holding (step_of c kind) (Some x) a ≡ None
     → after_step a (step_of c kind) ≡ Some v → ⊥
-takes_none c kind x a v held none e = none-some v (sym none ∙ (sym (ap (λ (o : Option Holds). after_step_holding (step_of c kind) o a) (ap (held_by a.callers) (caller_of_kind c kind) ∙ held)) ∙ e))
+takes_none c kind x a v held none e = cc (caller_of_kind c kind)
 
 idle_takes : (c : Caller) (kind : AccessKind) (a : MachineState) → after_step_holding (step_of c kind) (Some Idle) a ≡ None
-idle_takes (Reporter r) kinds.Look a = refl
-idle_takes (Reader r) kinds.Look a = refl
-idle_takes (Reporter r) kinds.Swap a = refl
-idle_takes (Reader r) kinds.Swap a = refl
-idle_takes c kinds.First a = refl
-idle_takes c kinds.Second a = refl
+idle_takes c kind a = search arith
 
 answered_takes : (c : Caller) (kind : AccessKind) (k : ℕ) (a : MachineState) → after_step_holding (step_of c kind) (Some (Answered k)) a ≡ None
-answered_takes (Reporter r) kinds.Look k a = refl
-answered_takes (Reader r) kinds.Look k a = refl
-answered_takes (Reporter r) kinds.Swap k a = refl
-answered_takes (Reader r) kinds.Swap k a = refl
-answered_takes c kinds.First k a = refl
-answered_takes c kinds.Second k a = refl
+answered_takes c kind k a = search arith
 
 -- a call begins where its caller is idle, and then it holds what its call begins with
 begin_holds : (c : Caller) (call : Call) (a w : MachineState) (o : Option Holds) → held_by a.callers c ≡ o → after_step_holding (Begin c call) o a ≡ Some w
     → (o ≡ Some Idle) × (held_by w.callers c ≡ Some (held_at_begin call (length a.calls)))
-begin_holds c call a w (Some Idle) held e = (refl, by_right (may_begin c call) e)
-  where
-    by_right : (b : Bool) → cond b (Some (after_begin c call a)) None ≡ Some w → held_by w.callers c ≡ Some (held_at_begin call (length a.calls))
-    by_right false e = absurd (none-some w e)
-    by_right true e = subst (λ (z : MachineState). held_by z.callers c ≡ Some (held_at_begin call (length a.calls))) (same_Some (after_begin c call a) w e)
-        (held_here a.callers c Idle (held_at_begin call (length a.calls)) held)
-begin_holds c call a w o held e = absurd (none-some w e)
+begin_holds c call a w o held e = search (arith, none-some, same_Some, held_here)
 
 begin_made : (c : Caller) (call : Call) (a w : MachineState) → after_step a (Begin c call) ≡ Some w
     → (held_by a.callers c ≡ Some Idle) × (held_by w.callers c ≡ Some (held_at_begin call (length a.calls)))
 begin_made c call a w e = begin_holds c call a w (held_by a.callers c) refl e
 
 end_holds : (c : Caller) (v z : MachineState) (o : Option Holds) → after_step_holding (End c) o v ≡ Some z → (k : ℕ) × (o ≡ Some (Answered k))
-end_holds c v z (Some (Answered k)) e = (k, refl)
-end_holds c v z o e = absurd (none-some z e)
+end_holds c v z o e = search (arith, none-some)
 
 -- what moves leave to others
 
 begun_keeps : (c d : Caller) (o : Option Call) (a w : MachineState) → AfterBegin c o a w → d ≢ c → held_by w.callers d ≡ held_by a.callers d
-begun_keeps c d None a w is not = ap (λ (z : MachineState). held_by z.callers d) (sym is)
+begun_keeps c d None a w is not = cc
 begun_keeps c d (Some call) a w is not = step_keeps (Begin c call) a w d is not
 
 ended_keeps : (c d : Caller) (b : Bool) (v z : MachineState) → AfterEnd c b v z → d ≢ c → held_by z.callers d ≡ held_by v.callers d
-ended_keeps c d false v z is not = ap (λ (y : MachineState). held_by y.callers d) (sym is)
+ended_keeps c d false v z is not = cc
 ended_keeps c d true v z is not = step_keeps (End c) v z d is not
 
 moved_keeps : (m : Move) (a z : MachineState) (d : Caller) → Moved m a z → d ≢ m.caller → held_by z.callers d ≡ held_by a.callers d
@@ -321,12 +281,11 @@ moved_keeps m a z d t not =
 -- a caller whose call has its reply makes no move
 none_answered : (c : Caller) (o : Option Call) (kind : AccessKind) (a w v : MachineState) (k : ℕ) → AfterBegin c o a w → after_step w (step_of c kind) ≡ Some v
     → held_by a.callers c ≡ Some (Answered k) → ⊥
-none_answered c None kind a w v k is makes held = takes_none c kind (Answered k) w v (ap (λ (z : MachineState). held_by z.callers c) (sym is) ∙ held) (answered_takes c kind k w) makes
-none_answered c (Some call) kind a w v k is makes held = let e : Answered k ≡ Idle = same_Some (Answered k) Idle (sym held ∙ (begin_made c call a w is).0) in absurd cc
+none_answered c o kind a w v k is makes held = search (arith, takes_none, answered_takes, same_Some, begin_made)
 
 pub answered_stays : (ms : List Move) (a last : MachineState) (c : Caller) (k : ℕ) → held_by a.callers c ≡ Some (Answered k) → after_steps (steps_of_moves ms) a ≡ Some last
     → held_by last.callers c ≡ Some (Answered k)
-answered_stays [] a last c k held e = ap (λ (z : MachineState). held_by z.callers c) (sym (same_Some a last e)) ∙ held
+answered_stays [] a last c k held e = cc
 answered_stays (m ∷ ms) a last c k held e =
     let t = moving m (steps_of_moves ms) a last e in
     elim (same_caller c m.caller) [
@@ -337,37 +296,20 @@ answered_stays (m ∷ ms) a last c k held e =
 -- and no actor's call stays so
 pub answered_ends : (state : MachineState) (seat number begun : ℕ) (held : Held) (high : ℕ) (c : Caller) (k : ℕ) → IsOf seat number c → FitsHeld state seat number begun held high
     → held_by state.callers c ≡ Some (Answered k) → ⊥
-answered_ends state seat number begun held high c k of f is = under held f
-  where
-    within : (held : Held) → IsUnderWay state seat number begun held high → ⊥
-    within held u = elim (same_caller c (caller_for seat number (call_of held))) [
-      | inl same ↦ let e : Answered k ≡ Within u.place held = same_Some (Answered k) (Within u.place held) (sym is ∙ (ap (held_by state.callers) same ∙ u.holds)) in absurd cc
-      | inr not ↦ let e : Answered k ≡ Idle = same_Some (Answered k) Idle (sym is ∙ u.others c of not) in absurd cc
-    ]
-
-    under : (held : Held) → FitsHeld state seat number begun held high → ⊥
-    under Nothing f = let e : Answered k ≡ Idle = same_Some (Answered k) Idle (sym is ∙ f.1 c of) in absurd cc
-    under (Holding e old new) u = within (Holding e old new) u
-    under (Collecting words) u = within (Collecting words) u
-    under (Checking words checked point) u = within (Checking words checked point) u
+answered_ends state seat number begun held high c k of f is = search (arith, same_caller, caller_for, call_of, same_Some, held_by)
 
 -- two moves of one caller, of one kind, from states that are alike
 
 -- a call begins in both or in neither
 begin_both : (c : Caller) (kind : AccessKind) (call : Call) (a b w v : MachineState) → HoldAlike a.callers b.callers → after_step a (step_of c kind) ≡ Some v → after_step b (Begin c call) ≡ Some w → ⊥
-begin_both c kind call a b w v alike makes begins =
-    let p = stepped (step_of c kind) a v makes in
-    let held : held_by a.callers c ≡ Some p.holds = ap (held_by a.callers) (sym (caller_of_kind c kind)) ∙ p.held in
-    let idle : p.holds ≡ Idle = alike c p.holds Idle held (begin_made c call b w begins).0 in
-    takes_none c kind Idle a v (held ∙ ap (λ (z : Holds). Some z) idle) (idle_takes c kind a) makes
+begin_both c kind call a b w v alike makes begins = search (arith, stepped, step_of, held_by, caller_of_kind, begin_made, takes_none, idle_takes)
 
 same_begins : (c : Caller) (kind : AccessKind) (o p : Option Call) (a b wa wb va vb : MachineState) → Alike a b → AfterBegin c o a wa → AfterBegin c p b wb → after_step wa (step_of c kind) ≡ Some va
     → after_step wb (step_of c kind) ≡ Some vb
     → ((f g : Call) → o ≡ Some f → p ≡ Some g → f ≡ g) → o ≡ p
 same_begins c kind None None a b wa wb va vb alike ba bb ma mb calls = refl
-same_begins c kind None (Some g) a b wa wb va vb alike ba bb ma mb calls = absurd (begin_both c kind g a b wb va alike.holds (ap (λ (z : MachineState). after_step z (step_of c kind)) ba ∙ ma) bb)
-same_begins c kind (Some f) None a b wa wb va vb alike ba bb ma mb calls =
-    absurd (begin_both c kind f b a wa vb (λ d x y p q. sym (alike.holds d y x q p)) (ap (λ (z : MachineState). after_step z (step_of c kind)) bb ∙ mb) ba)
+same_begins c kind None (Some g) a b wa wb va vb alike ba bb ma mb calls = absurd (begin_both c kind g a b wb va alike.holds (cc) bb)
+same_begins c kind (Some f) None a b wa wb va vb alike ba bb ma mb calls = search (arith, begin_both)
 same_begins c kind (Some f) (Some g) a b wa wb va vb alike ba bb ma mb calls = ap (λ (z : Call). Some z) (calls f g refl refl)
 
 begin_alike : (c : Caller) (o : Option Call) (a b wa wb : MachineState) → Alike a b → AfterBegin c o a wa → AfterBegin c o b wb → Alike wa wb
@@ -377,20 +319,12 @@ begin_alike c (Some call) a b wa wb alike ba bb = step_alike (Begin c call) a b 
 -- a call ends in both or in neither
 end_both : (c : Caller) (va vb zb : MachineState) (y : Holds) → HoldAlike va.callers vb.callers → (za : MachineState) → after_step va (End c) ≡ Some za → held_by vb.callers c ≡ Some y
     → (k : ℕ) × (held_by vb.callers c ≡ Some (Answered k))
-end_both c va vb zb y alike za ends held =
-    let t = end_holds c va za (held_by va.callers c) ends in
-    (t.0, held ∙ ap (λ (z : Holds). Some z) (sym (alike c (Answered t.0) y t.1 held)))
+end_both c va vb zb y alike za ends held = search (arith, end_holds, held_by)
 
 same_ends : (c : Caller) (x y : Bool) (va vb za zb : MachineState) (ha hb : Holds) → Alike va vb → held_by va.callers c ≡ Some ha → held_by vb.callers c ≡ Some hb → AfterEnd c x va za
     → AfterEnd c y vb zb
     → ((k : ℕ) → held_by za.callers c ≢ Some (Answered k)) → ((k : ℕ) → held_by zb.callers c ≢ Some (Answered k)) → x ≡ y
-same_ends c false false va vb za zb ha hb alike held_a held_b ea eb na nb = refl
-same_ends c true true va vb za zb ha hb alike held_a held_b ea eb na nb = refl
-same_ends c true false va vb za zb ha hb alike held_a held_b ea eb na nb = let t = end_both c va vb zb hb alike.holds za ea held_b in
-    absurd (nb t.0 (ap (λ (z : MachineState). held_by z.callers c) (sym eb) ∙ t.1))
-same_ends c false true va vb za zb ha hb alike held_a held_b ea eb na nb =
-    let t = end_both c vb va za ha (λ d u v p q. sym (alike.holds d v u q p)) zb eb held_a in
-    absurd (na t.0 (ap (λ (z : MachineState). held_by z.callers c) (sym ea) ∙ t.1))
+same_ends c x y va vb za zb ha hb alike held_a held_b ea eb na nb = search (arith, end_both)
 
 end_alike : (c : Caller) (x : Bool) (va vb za zb : MachineState) → Alike va vb → AfterEnd c x va za → AfterEnd c x vb zb → Alike za zb
 end_alike c false va vb za zb alike ea eb = subst (λ (z : MachineState). Alike z zb) ea (subst (Alike va) eb alike)
@@ -402,9 +336,7 @@ module _ (c : Caller) (kind : AccessKind) (o p : Option Call) (x y : Bool) (a b 
   same_begin = same_begins c kind o p a b t.begun u.begun t.made u.made alike t.begins u.begins t.makes u.makes calls
 
   made_alike : Alike t.made u.made
-  made_alike =
-      let begun = begin_alike c o a b t.begun u.begun alike t.begins (subst (λ (q : Option Call). AfterBegin c q b u.begun) (sym same_begin) u.begins) in
-      step_alike (step_of c kind) t.begun u.begun t.made u.made begun t.makes u.makes
+  made_alike = search (arith, begin_alike, same_begin, step_alike, step_of)
 
   same_end : x ≡ y
   same_end =
@@ -423,9 +355,7 @@ module _ (c : Caller) (kind : AccessKind) (o p : Option Call) (x y : Bool) (a b 
 
 -- a reading begins with a load of its first collect; and no call with one of its second
 begins_reading : (c : Caller) (call : Call) (a w v : MachineState) → after_step a (Begin c call) ≡ Some w → (after_step w (First c) ≡ Some v) ⊎ (after_step w (Second c) ≡ Some v) → call ≡ Reading
-begins_reading c Reading a w v begins makes = refl
-begins_reading c (Event e) a w v begins (inl makes) = absurd (takes_none c kinds.First (Wanting (length a.calls) e) w v (begin_made c (Event e) a w begins).1 refl makes)
-begins_reading c (Event e) a w v begins (inr makes) = absurd (takes_none c kinds.Second (Wanting (length a.calls) e) w v (begin_made c (Event e) a w begins).1 refl makes)
+begins_reading c call a w v begins makes = search (arith, takes_none, begin_made)
 
 abbrev first_of : Call → List Call → Call
 first_of call [] = call
@@ -441,11 +371,7 @@ next_same (k ∷ ks) x y xs ys rest e = next_same ks x y xs ys rest (ap rest_of 
 
 next_asked : (seat number : ℕ) (c : Caller) (f g : Call) (told xs ys : List (Caller × Call)) → is_of seat number c ≡ true
     → IsPrefix (calls_by seat number (told ++ (c, f) ∷ xs)) (calls_by seat number (told ++ (c, g) ∷ ys)) → f ≡ g
-next_asked seat number c f g told xs ys is p =
-    let by : List (Caller × Call) → List Call = calls_by seat number in
-    let split : (h : Call) (zs : List (Caller × Call)) → by (told ++ (c, h) ∷ zs) ≡ by told ++ h ∷ by zs =
-    (λ h zs. calls_append seat number told ((c, h) ∷ zs) ∙ ap (λ (l : List Call). by told ++ l) (calls_next seat number c h zs is)) in
-    next_same (by told) f g (by xs) (by ys) p.0 (ap (λ (l : List Call). l ++ p.0) (sym (split f xs)) ∙ (p.1 ∙ split g ys))
+next_asked seat number c f g told xs ys is p = search (arith, calls_by, calls_append, calls_next, next_same)
 
 -- the calls that a move begins
 
@@ -454,39 +380,21 @@ begun_by c None = []
 begun_by c (Some call) = (c, call) ∷ []
 
 begun_after : (c : Caller) (kind : AccessKind) (ends : Bool) (rest : List Step) → begun_in (step_of c kind ∷ end_by c ends ++ rest) ≡ begun_in rest
-begun_after c kind ends rest = by_kind kind ∙ by_end ends
-  where
-    by_kind : (kind : AccessKind) → begun_in (step_of c kind ∷ end_by c ends ++ rest) ≡ begun_in (end_by c ends ++ rest)
-    by_kind kinds.Look = refl
-    by_kind kinds.Swap = refl
-    by_kind kinds.First = refl
-    by_kind kinds.Second = refl
-
-    by_end : (ends : Bool) → begun_in (end_by c ends ++ rest) ≡ begun_in rest
-    by_end false = refl
-    by_end true = refl
+begun_after c kind ends rest = search (arith, begun_in, step_of, end_by)
 
 begun_move : (c : Caller) (o : Option Call) (kind : AccessKind) (ends : Bool) (rest : List Step) → begun_in (steps_of_move (move_of c o kind ends) ++ rest) ≡ begun_by c o ++ begun_in rest
-begun_move c None kind ends rest = begun_after c kind ends rest
-begun_move c (Some call) kind ends rest = ap (λ (l : List (Caller × Call)). (c, call) ∷ l) (begun_after c kind ends rest)
+begun_move c o kind ends rest = search (arith, begun_after)
 
 -- the reporter of a number, as a test
 is_reporter : (seat number : ℕ) → IsReporter number → is_of seat number (Reporter number) ≡ true
-is_reporter seat number is = and_true (number == number) (nat_le 1 number && nat_le number 255) (eq-eqb number number refl)
-    (and_true (nat_le 1 number) (nat_le number 255) (le-leb 1 number is.0) (le-leb number 255 is.1))
+is_reporter seat number is = search (arith, and_true, eq-eqb, le-leb)
 
 taken_of : (seat number : ℕ) (kind : AccessKind) (c : Caller) → IsTakenBy seat number kind c → IsOf seat number c
-taken_of seat number kinds.Look c by = inr by
-taken_of seat number kinds.Swap c by = inr by
-taken_of seat number kinds.First c by = inl by
-taken_of seat number kinds.Second c by = inl by
+taken_of seat number kind c by = search arith
 
 -- an actor that has gone on takes its steps by the same callers
 same_taker : (seat : ℕ) (was is : Actor) (kind : AccessKind) (c d : Caller) → HasGoneOn was is → IsTakenBy seat was.number kind c → IsTakenBy seat is.number kind d → c ≡ d
-same_taker seat was is kinds.Look c d on by then = let low = by.1.0 in by.0 ∙ (ap Reporter (sym (on.number (omega arith))) ∙ sym then.0)
-same_taker seat was is kinds.Swap c d on by then = let low = by.1.0 in by.0 ∙ (ap Reporter (sym (on.number (omega arith))) ∙ sym then.0)
-same_taker seat was is kinds.First c d on by then = by ∙ sym then
-same_taker seat was is kinds.Second c d on by then = by ∙ sym then
+same_taker seat was is kind c d on by then = search arith
 
 module _ (actors later : List Actor) (on : HaveGoneOn actors later) (last last' : MachineState)
     (each : (seat : ℕ) (a : Actor) → get_elem? actors seat ≡ some a → FitsRun last seat a.number a.doing)

@@ -1,7 +1,7 @@
 -- One step of the machine on a match word: the word that it finds, what comes of it, the access that it leaves, and what it leaves as it was.
-use Rattle.std.proofs.Common.{◌≡◌, ◌≢◌, ℕ, zero, suc, ◌+◌, ◌-◌, ◌<◌, ◌≤◌, ◌==◌, ◌&&◌, nat_le, Bool, true, false, cond, List, [], ◌∷◌, ◌++◌, length, map, replicate, Option, Some, None, Result, Ok, Err}
-use Rattle.std.proofs.Common.{inl, inr, refl, sym, ap, ◌∙◌, arith, append_assoc, append-nil, eq-eqb, ne_eqb}
-use Rattle.std.specs.Prelude.{slice_get, slice_index, IsSome, is_some, is_ok, filter}
+use Rattle.std.proofs.Common.{◌≡◌, ◌≢◌, ℕ, zero, suc, ◌+◌, ◌-◌, ◌<◌, ◌≤◌, ◌==◌, ◌&&◌, nat_le, Bool, true, false, cond, List, [], ◌∷◌, ◌++◌, length, map, replicate, Option, Some, None, Ok}
+use Rattle.std.proofs.Common.{refl, ap, ◌∙◌, arith, append_assoc, append-nil, eq-eqb, ne_eqb}
+use Rattle.std.specs.Prelude.{slice_get, slice_index, IsSome}
 use Rattle.std.specs.Option.{option_and_then}
 use Rattle.std.proofs.lemmas.Option.{same_Some, option_and_then_some}
 use Rattle.std.proofs.lemmas.Bool.{false≢true, cases_eq, le-leb, leb-true}
@@ -20,18 +20,15 @@ use Rattle.ucl_board.specs.Log as log
 use Rattle.ucl_board.specs.Log.{AccessKind, Access, access}
 use Rattle.ucl_steps.specs.declared.step.Cast.{Cast}
 use Rattle.ucl_steps.specs.declared.step.Caller.{Caller}
-use Rattle.ucl_steps.specs.declared.step.Caller.TheVariants.{Reporter, Reader}
+use Rattle.ucl_steps.specs.declared.step.Caller.TheVariants.{Reporter}
 use Rattle.ucl_steps.specs.declared.step.Call.{Call}
-use Rattle.ucl_steps.specs.declared.step.Call.TheVariants.{Event, Reading}
 use Rattle.ucl_steps.specs.declared.step.Step.{Step}
-use Rattle.ucl_steps.specs.declared.step.Step.TheVariants.{Look, Swap, First, Second}
 use Rattle.ucl_steps.specs.declared.trace.CallRecord.{CallRecord}
-use Rattle.ucl_steps.specs.Protocol.{Holding, Collecting, Checking, Outcome, GoesOn, Answers, looked, swapped, loaded, compared, MayAsk}
-use Rattle.ucl_steps.specs.Machine.{Holds, Idle, Wanting, Within, Answered, MachineState, initial_state, held_by, with_reply, may_begin, after_outcome, stored, after_step_holding, caller_of}
+use Rattle.ucl_steps.specs.Protocol.{Holding, Collecting, Checking, Outcome, looked, swapped, loaded, compared, MayAsk}
+use Rattle.ucl_steps.specs.Machine.{Holds, Idle, Wanting, Within, MachineState, initial_state, held_by, may_begin, after_outcome, stored, after_step_holding, caller_of}
 use Rattle.ucl_steps.specs.Machine.{after_step, after_steps}
 use Rattle.ucl_steps.specs.Trails.{Does}
 use Rattle.ucl_steps.specs.CallRuns.{step_of, access_in, accesses_holding, accesses_of_step, IsInCast}
-use Rattle.ucl_steps.specs.Linearizable.{caller_and_call}
 use Rattle.ucl_steps.specs.PassRuns.{caller_for, IsOf, is_of, calls_told, calls_by}
 use Rattle.ucl_steps.proofs.ChangedLists.{change_at_else, length-change_at, map_unseen}
 use Rattle.ucl_steps.proofs.Callers.{held_else}
@@ -53,10 +50,7 @@ idle_in (suc n) zero l = refl
 idle_in (suc n) (suc k) l = idle_in n k (omega arith)
 
 pub idle_at_start : (cast : Cast) (c : Caller) → IsInCast cast c → held_by (initial_state cast).callers c ≡ Some Idle
-idle_at_start cast (Reporter zero) inside = let low = inside.0 in absurd (omega arith)
-idle_at_start cast (Reporter (suc k)) inside = let high = inside.1 in idle_in cast.reporters k (omega arith)
-idle_at_start cast (Reader zero) inside = let low = inside.0 in absurd (omega arith)
-idle_at_start cast (Reader (suc k)) inside = let high = inside.1 in idle_in cast.readers k (omega arith)
+idle_at_start cast c inside = search (arith, idle_in)
 
 -- who may begin what
 
@@ -64,10 +58,7 @@ pub and_true : (a b : Bool) → a ≡ true → b ≡ true → (a && b) ≡ true
 and_true a b p q = ap (λ (z : Bool). z && b) p ∙ q
 
 pub may_ask_begin : (seat number : ℕ) (call : Call) → MayAsk number call → may_begin (caller_for seat number call) call ≡ true
-may_ask_begin seat number (Event e) may =
-    and_true (nat_le 1 e.game) (nat_le e.game 12 && nat_le number 255) (le-leb 1 e.game may.1.0)
-    (and_true (nat_le e.game 12) (nat_le number 255) (le-leb e.game 12 may.1.1) (le-leb number 255 may.0.1))
-may_ask_begin seat number Reading may = refl
+may_ask_begin seat number call may = search (arith, and_true, nat_le, le-leb)
 
 -- a call that has just begun
 abbrev pub began : Caller → Call → ℕ → CallRecord
@@ -75,12 +66,7 @@ began c call begun = record { caller = c; call = call; begun = begun; point = No
 
 -- a number that the rules answer
 pub none_of : (n : ℕ) (o : Option Refusal) (reply : word.Accepted) → answer n o ≡ Ok reply → (o ≡ None) × (reply ≡ record { number = n + 1 })
-none_of n None reply e = (refl, sym (ap got e))
-  where
-    got : Result word.Accepted Refusal → word.Accepted
-    got (Ok x) = x
-    got (Err r) = reply
-none_of n (Some r) reply e = absurd (false≢true (ap is_ok e))
+none_of n o reply e = search (arith, false≢true)
 
 -- what a step finds, and the access that it leaves
 
@@ -90,14 +76,10 @@ pub record IsNow (w : MachineState) (m : Access) : Type 0 where
   pub found : m.found ≡ word_of (match_after w.history m.game)
 
 pub caller_of_kind : (c : Caller) (kind : AccessKind) → caller_of (step_of c kind) ≡ c
-caller_of_kind c log.Look = refl
-caller_of_kind c log.Swap = refl
-caller_of_kind c log.First = refl
-caller_of_kind c log.Second = refl
+caller_of_kind c kind = search arith
 
 access_same : (m : Access) (kind : AccessKind) (game found at : ℕ) → m.kind ≡ kind → m.game ≡ game → found ≡ m.found → at ≡ m.at → access kind game found at ≡ m
-access_same m kind game found at a g f p = ap (λ (z : AccessKind). access z game found at) (sym a)
-    ∙ (ap (λ (z : ℕ). access m.kind z found at) (sym g) ∙ (ap (λ (z : ℕ). access m.kind m.game z at) f ∙ ap (λ (z : ℕ). access m.kind m.game m.found z) p))
+access_same m kind game found at a g f p = search arith
 
 -- the step of an access was taken, and left it
 pub record Made (c : Caller) (w : MachineState) (m : Access) (w' : MachineState) : Type 0 where
@@ -106,8 +88,7 @@ pub record Made (c : Caller) (w : MachineState) (m : Access) (w' : MachineState)
 
 module _ (w : MachineState) (m : Access) (words : w.words ≡ board_of w.history) (now : IsNow w m) where
   found_at : (game : ℕ) → m.game ≡ game → IsMatch game → word_at w.words game ≡ m.found
-  found_at game is match =
-      ap (λ (ws : List ℕ). word_at ws game) words ∙ (word_after w.history game match ∙ (ap (λ (g : ℕ). word_of (match_after w.history g)) (sym is) ∙ sym now.found))
+  found_at game is match = search (arith, word_after)
 
   -- the same of a word by its place
   found_in : (k : ℕ) → m.game ≡ k + 1 → k < 12 → slice_index w.words k ≡ m.found
@@ -115,41 +96,23 @@ module _ (w : MachineState) (m : Access) (words : w.words ≡ board_of w.history
 
   made : (c : Caller) (x : Holds) (s : Step) (kind : AccessKind) (game : ℕ) (w' : MachineState) → held_by w.callers c ≡ Some x → caller_of s ≡ c → s ≡ step_of c kind → Does kind game m → IsMatch game
       → accesses_holding s (Some x) w ≡ access_in w kind game ∷ [] → after_step_holding s (Some x) w ≡ Some w' → Made c w m w'
-  made c x s kind game w' held by step_is does match leaves done =
-      let same : s ≡ step_of c m.kind = step_is ∙ ap (step_of c) (sym does.0) in
-      record {
-        done = ap (after_step w) (sym same) ∙ (ap (λ (z : Caller). after_step_holding s (held_by w.callers z) w) by ∙ (ap (λ (o : Option Holds). after_step_holding s o w) held ∙ done));
-        left = ap (λ (z : Step). accesses_of_step z w) (sym same)
-            ∙ (ap (λ (z : Caller). accesses_holding s (held_by w.callers z) w) by ∙ (ap (λ (o : Option Holds). accesses_holding s o w) held ∙ (leaves
-            ∙ ap (λ (z : Access). z ∷ []) (access_same m kind game (word_at w.words game) (length w.history) does.0 does.1 (found_at game does.1 match) (sym now.place)))));
-      }
+  made c x s kind game w' held by step_is does match leaves done = search (arith, access_same, found_at)
 
   pub made_look : (r k : ℕ) (e : EventCall) → held_by w.callers (Reporter r) ≡ Some (Wanting k e) → IsMatch e.game → Does log.Look e.game m
       → Made (Reporter r) w m (after_outcome (Reporter r) k (length w.history) (looked r e m.found) w)
-  made_look r k e held match does =
-      made (Reporter r) (Wanting k e) (Look (Reporter r)) log.Look e.game (after_outcome (Reporter r) k (length w.history) (looked r e m.found) w) held refl refl does match refl
-      (ap (λ (z : ℕ). Some (after_outcome (Reporter r) k (length w.history) (looked r e z) w)) (found_at e.game does.1 match))
+  made_look r k e held match does = search (arith, made, found_at)
 
   pub made_swap : (r k : ℕ) (e : EventCall) (old new : ℕ) → held_by w.callers (Reporter r) ≡ Some (Within k (Holding e old new)) → IsMatch e.game → Does log.Swap e.game m
       → Made (Reporter r) w m (after_outcome (Reporter r) k (length w.history) (swapped old new m.found) (cond (m.found == old) (stored r e new w) w))
-  made_swap r k e old new held match does =
-      made (Reporter r) (Within k (Holding e old new)) (Swap (Reporter r)) log.Swap e.game
-      (after_outcome (Reporter r) k (length w.history) (swapped old new m.found) (cond (m.found == old) (stored r e new w) w)) held refl refl does match refl
-      (ap (λ (z : ℕ). Some (after_outcome (Reporter r) k (length w.history) (swapped old new z) (cond (z == old) (stored r e new w) w))) (found_at e.game does.1 match))
+  made_swap r k e old new held match does = search (arith, made, found_at)
 
   pub made_first : (c : Caller) (k : ℕ) (ws : List ℕ) → held_by w.callers c ≡ Some (Within k (Collecting ws)) → length ws < 12 → Does log.First (length ws + 1) m
       → Made c w m (after_outcome c k (length w.history) (loaded ws m.found (length w.history)) w)
-  made_first c k ws held few does =
-      made c (Within k (Collecting ws)) (First c) log.First (length ws + 1) (after_outcome c k (length w.history) (loaded ws m.found (length w.history)) w) held refl refl does
-      (omega arith, omega arith) refl
-      (ap (λ (z : ℕ). Some (after_outcome c k (length w.history) (loaded ws z (length w.history)) w)) (found_in (length ws) does.1 few))
+  made_first c k ws held few does = search (arith, made, found_in)
 
   pub made_second : (c : Caller) (k : ℕ) (ws : List ℕ) (checked point : ℕ) → held_by w.callers c ≡ Some (Within k (Checking ws checked point)) → checked < 12 → Does log.Second (checked + 1) m
       → Made c w m (after_outcome c k point (compared ws checked point m.found) w)
-  made_second c k ws checked point held few does =
-      made c (Within k (Checking ws checked point)) (Second c) log.Second (checked + 1) (after_outcome c k point (compared ws checked point m.found) w) held refl refl does (omega arith, omega arith)
-      refl
-      (ap (λ (z : ℕ). Some (after_outcome c k point (compared ws checked point z) w)) (found_in checked does.1 few))
+  made_second c k ws checked point held few does = search (arith, made, found_in)
 
 -- what a step leaves as it was
 
@@ -162,18 +125,7 @@ pub record Frame (c : Caller) (k : ℕ) (w w' : MachineState) : Type 0 where
 
 pub frame_outcome : (c : Caller) (k : ℕ) (x : Holds) (w v : MachineState) (point : ℕ) (o : Outcome) → held_by w.callers c ≡ Some x → v.callers ≡ w.callers → v.calls ≡ w.calls
     → Frame c k w (after_outcome c k point o v)
-frame_outcome c k x w v point (GoesOn held) holds callers calls = record {
-  holds = λ d not. held_else v.callers c d (Within k held) x (ap (λ z. held_by z c) callers ∙ holds) not ∙ ap (λ z. held_by z d) callers;
-  calls = λ i a not at. ap (λ z. slice_get z i) calls ∙ at;
-  count = omega (arith, ap length calls);
-  told = ap (map caller_and_call) calls;
-}
-frame_outcome c k x w v point (Answers reply) holds callers calls = record {
-  holds = λ d not. held_else v.callers c d (Answered k) x (ap (λ z. held_by z c) callers ∙ holds) not ∙ ap (λ z. held_by z d) callers;
-  calls = λ i a not at. change_at_else k (with_reply point reply) v.calls i a not (ap (λ z. slice_get z i) calls ∙ at);
-  count = omega (arith, length-change_at k (with_reply point reply) v.calls, ap length calls);
-  told = map_unseen caller_and_call k (with_reply point reply) (λ z. refl) v.calls ∙ ap (map caller_and_call) calls;
-}
+frame_outcome c k x w v point o holds callers calls = search (arith, held_else, change_at_else, length-change_at, map_unseen)
 
 -- calls of one caller
 abbrev pub all_by : Caller → List Call → List (Caller × Call)
@@ -198,67 +150,38 @@ passes_on c w v u p q =
       ended = λ i a some at. q.ended i a some (p.ended i a some at);
       count = omega arith;
       new = p.new ++ q.new;
-      told = q.told
-          ∙ (ap (λ (l : List (Caller × Call)). l ++ all_by c q.new) p.told
-          ∙ (append_assoc (calls_told w) (all_by c p.new) (all_by c q.new) ∙ ap (λ (l : List (Caller × Call)). calls_told w ++ l) (sym (map-append (λ (call : Call). (c, call)) p.new q.new))));
+      told = search (arith, append_assoc, map-append);
     }
 
 pub passes_frame : (c : Caller) (k : ℕ) (w w' : MachineState) (b : CallRecord) → Frame c k w w' → slice_get w.calls k ≡ Some b → b.caller ≡ c → b.ended ≡ None → Passes c w w'
-passes_frame c k w w' b frame at own unended = record {
-  holds = frame.holds;
-  calls = λ i a not at_i. frame.calls i a (λ is. not (ap (λ (z : CallRecord). z.caller) (same_Some a b (sym at_i ∙ (ap (slice_get w.calls) is ∙ at))) ∙ own)) at_i;
-  ended = λ i a some at_i. frame.calls i a (λ is. false≢true (sym (ap is_some (ap (λ (z : CallRecord). z.ended) (same_Some a b (sym at_i ∙ (ap (slice_get w.calls) is ∙ at))) ∙ unended)) ∙ some)) at_i;
-  count = frame.count;
-  new = [];
-  told = frame.told ∙ sym (append-nil (calls_told w));
-}
+passes_frame c k w w' b frame at own unended = search (arith, same_Some, false≢true, append-nil)
 
 -- whose calls they are
 
 pub not_of : (seat number : ℕ) (c : Caller) → ((d : Caller) → IsOf seat number d → d ≢ c) → is_of seat number c ≡ false
-not_of seat number (Reader k) apart = ne_eqb k (seat + 1) (λ is. apart (Reader k) (inl (ap Reader is)) refl)
-not_of seat number (Reporter k) apart = elim (cases_eq k number) [
-  | inr not ↦ ap (λ (b : Bool). b && (nat_le 1 number && nat_le number 255)) (ne_eqb k number not)
-  | inl is ↦ ap (λ (b : Bool). b && (nat_le 1 number && nat_le number 255)) (eq-eqb k number is) ∙ by_reporter is (nat_le 1 number) (nat_le number 255) refl refl
-]
-  where
-    by_reporter : k ≡ number → (a b : Bool) → nat_le 1 number ≡ a → nat_le number 255 ≡ b → (nat_le 1 number && nat_le number 255) ≡ false
-    by_reporter is false b p q = ap (λ (z : Bool). z && nat_le number 255) p
-    by_reporter is true false p q = ap (λ (z : Bool). z && nat_le number 255) p ∙ q
-    by_reporter is true true p q = absurd (apart (Reporter k) (inr (ap Reporter is, (leb-true 1 number p, leb-true number 255 q))) refl)
+not_of seat number c apart = search (arith, ne_eqb, cases_eq, nat_le, eq-eqb, leb-true)
 
 pub own_caller : (seat number : ℕ) (call : Call) → MayAsk number call → is_of seat number (caller_for seat number call) ≡ true
-own_caller seat number (Event e) may = and_true (number == number) (nat_le 1 number && nat_le number 255) (eq-eqb number number refl)
-    (and_true (nat_le 1 number) (nat_le number 255) (le-leb 1 number may.0.0) (le-leb number 255 may.0.1))
-own_caller seat number Reading may = eq-eqb (seat + 1) (seat + 1) refl
+own_caller seat number call may = search (arith, and_true, nat_le, eq-eqb, le-leb)
 
 abbrev snd : Caller × Call → Call
 snd x = x.1
 
 pub calls_append : (seat number : ℕ) (xs ys : List (Caller × Call)) → calls_by seat number (xs ++ ys) ≡ calls_by seat number xs ++ calls_by seat number ys
-calls_append seat number xs ys =
-    let p : Caller × Call → Bool = λ x. is_of seat number x.0 in
-    ap (map snd) (filter-append p xs ys) ∙ map-append snd (filter p xs) (filter p ys)
+calls_append seat number xs ys = search (arith, filter-append, map-append)
 
 -- a call of one of its own callers is the next
 pub calls_next : (seat number : ℕ) (c : Caller) (call : Call) (xs : List (Caller × Call)) → is_of seat number c ≡ true → calls_by seat number ((c, call) ∷ xs) ≡ call ∷ calls_by seat number xs
-calls_next seat number c call xs is =
-    let p : Caller × Call → Bool = λ x. is_of seat number x.0 in
-    ap (λ (b : Bool). map snd (cond b ((c, call) ∷ filter p xs) (filter p xs))) is
+calls_next seat number c call xs is = search arith
 
 none_new : (seat number : ℕ) (c : Caller) → is_of seat number c ≡ false → (calls : List Call) → calls_by seat number (all_by c calls) ≡ []
 none_new seat number c not [] = refl
-none_new seat number c not (call ∷ calls) =
-    let p : Caller × Call → Bool = λ x. is_of seat number x.0 in
-    ap (λ (b : Bool). map snd (cond b ((c, call) ∷ filter p (all_by c calls)) (filter p (all_by c calls)))) not ∙ none_new seat number c not calls
+none_new seat number c not (call ∷ calls) = search (arith, none_new seat number c not calls)
 
 -- a caller of another pass adds none
 pub calls_else : (seat number : ℕ) (c : Caller) (w w' : MachineState) → ((d : Caller) → IsOf seat number d → d ≢ c) → Passes c w w'
     → calls_by seat number (calls_told w') ≡ calls_by seat number (calls_told w)
-calls_else seat number c w w' apart passes =
-    ap (calls_by seat number) passes.told
-    ∙ (calls_append seat number (calls_told w) (all_by c passes.new)
-    ∙ (ap (λ (l : List Call). calls_by seat number (calls_told w) ++ l) (none_new seat number c (not_of seat number c apart) passes.new) ∙ append-nil (calls_by seat number (calls_told w))))
+calls_else seat number c w w' apart passes = search (arith, calls_append, none_new, not_of, append-nil)
 
 -- one of its own adds one
 pub calls_one : (seat number : ℕ) (c : Caller) (call : Call) (xs : List (Caller × Call)) → is_of seat number c ≡ true

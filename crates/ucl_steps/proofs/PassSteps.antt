@@ -40,8 +40,7 @@ use Rattle.ucl_steps.proofs.OneStep.{steps_on, may_ask_begin, began, IsNow, call
 use Rattle.ucl_steps.proofs.OneStep.{own_caller, calls_else, calls_one}
 
 pub of_call : (seat number : ℕ) (call : Call) → MayAsk number call → IsOf seat number (caller_for seat number call)
-of_call seat number (Event e) may = inr (refl, may.0)
-of_call seat number Reading may = inl refl
+of_call seat number call may = search arith
 
 -- records
 
@@ -60,23 +59,10 @@ records_kept calls calls' seat number low (f ∷ fs) high kept r = (r.0, r.1, r.
 -- steps of other passes leave it
 module _ (seat number : ℕ) (c : Caller) (w w' : MachineState) (apart : (d : Caller) → IsOf seat number d → d ≢ c) (passes : Passes c w w') where
   held_still : (begun : ℕ) (held : Held) (high : ℕ) → MayAsk number (call_of held) → IsUnderWay w seat number begun held high → IsUnderWay w' seat number begun held high
-  held_still begun held high may u =
-      let mine = caller_for seat number (call_of held) in
-      let not = apart mine (of_call seat number (call_of held) may) in
-      record {
-        can = u.can;
-        place = u.place;
-        low = u.low;
-        record_is = passes.calls u.place (began mine (call_of held) begun) not u.record_is;
-        holds = passes.holds mine not ∙ u.holds;
-        others = λ d of other. passes.holds d (apart d of) ∙ u.others d of other;
-      }
+  held_still begun held high may u = search (arith, caller_for, call_of, of_call, began)
 
   held_else_by : (begun : ℕ) (held : Held) (high : ℕ) → FitsHeld w seat number begun held high → FitsHeld w' seat number begun held high
-  held_else_by begun Nothing high f = let l = f.0 in let n = passes.count in (omega arith, λ d of. passes.holds d (apart d of) ∙ f.1 d of)
-  held_else_by begun (Holding e old new) high u = held_still begun (Holding e old new) high (u.can.0, u.can.1) u
-  held_else_by begun (Collecting words) high u = held_still begun (Collecting words) high tt u
-  held_else_by begun (Checking words checked point) high u = held_still begun (Checking words checked point) high tt u
+  held_else_by begun held high f = search (arith, held_still)
 
   pub fits_else : (d : Doing) → FitsRun w seat number d → FitsRun w' seat number d
   fits_else d f = record {
@@ -107,9 +93,7 @@ abbrev with_caller : Step → List Access → List (Caller × Access)
 with_caller step ms = map (λ m. (caller_of step, m)) ms
 
 one_left : (c : Caller) (m : Access) (w : MachineState) → accesses_of_step (step_of c m.kind) w ≡ m ∷ [] → with_caller (step_of c m.kind) (accesses_of_step (step_of c m.kind) w) ≡ (c, m) ∷ []
-one_left c m w left =
-    let g : Caller → List (Caller × Access) = λ d. (d, m) ∷ [] in
-    ap (with_caller (step_of c m.kind)) left ∙ ap g (caller_of_kind c m.kind)
+one_left c m w left = search (arith, step_of, caller_of_kind)
 
 pub left_append : (xs ys : List Step) (w v : MachineState) → after_steps xs w ≡ Some v → left_by (xs ++ ys) (Some w) ≡ left_by xs (Some w) ++ left_by ys (Some v)
 left_append [] ys w v e = ap (λ (z : MachineState). left_by ys (Some z)) (same_Some w v e)
@@ -137,8 +121,7 @@ record Under (seat number : ℕ) (w : MachineState) (fs : List Answer) (call : C
 under_way : (seat number : ℕ) (w : MachineState) (fs : List Answer) (begun : ℕ) (held : Held) (high : ℕ) → MayAsk number (call_of held) → AreRecordsOf w.calls seat number 0 fs high
     → IsUnderWay w seat number begun held high
     → calls_by seat number (calls_told w) ≡ map (λ (f : Answer). f.call) fs ++ call_of held ∷ [] → Under seat number w fs (call_of held) begun (λ k. Within k held)
-under_way seat number w fs begun held high may recorded u whole =
-    record { may = may; high = high; recorded = recorded; place = u.place; low = u.low; at = u.record_is; held = u.holds; others = u.others; whole = whole }
+under_way seat number w fs begun held high may recorded u whole = search arith
 
 abbrev has_call : List Call → Bool
 has_call [] = false
@@ -146,10 +129,7 @@ has_call (call ∷ calls) = true
 
 fits_under : (seat number : ℕ) (w : MachineState) (fs : List Answer) (begun : ℕ) (held : Held) → CanHold number held → call_under_way held ≡ call_of held ∷ []
     → (u : Under seat number w fs (call_of held) begun (λ k. Within k held)) → FitsHeld w seat number begun held u.high
-fits_under seat number w fs begun Nothing can one u = absurd (false≢true (ap has_call one))
-fits_under seat number w fs begun (Holding e old new) can one u = record { can = can; place = u.place; low = u.low; record_is = u.at; holds = u.held; others = u.others }
-fits_under seat number w fs begun (Collecting words) can one u = record { can = can; place = u.place; low = u.low; record_is = u.at; holds = u.held; others = u.others }
-fits_under seat number w fs begun (Checking words checked point) can one u = record { can = can; place = u.place; low = u.low; record_is = u.at; holds = u.held; others = u.others }
+fits_under seat number w fs begun held can one u = search (arith, false≢true)
 
 -- a call begins
 module _ (seat number : ℕ) (call : Call) (w : MachineState) (may : MayAsk number call) where
@@ -160,10 +140,7 @@ module _ (seat number : ℕ) (call : Call) (w : MachineState) (may : MayAsk numb
   after_it = after_begin mine call w
 
   begins_step : held_by w.callers mine ≡ Some Idle → after_step w (Begin mine call) ≡ Some after_it
-  begins_step held = begins_by mine held (may_ask_begin seat number call may)
-    where
-      begins_by : (c : Caller) → held_by w.callers c ≡ Some Idle → may_begin c call ≡ true → after_step w (Begin c call) ≡ Some (after_begin c call w)
-      begins_by c held may = ap (λ (o : Option Holds). after_step_holding (Begin c call) o w) held ∙ ap (λ (b : Bool). cond b (Some (after_begin c call w)) None) may
+  begins_step held = search (arith, may_ask_begin, held_by, may_begin, after_step, after_begin, after_step_holding)
 
   begins_passes : held_by w.callers mine ≡ Some Idle → Passes mine w after_it
   begins_passes held =
@@ -301,8 +278,7 @@ module _ (seat number : ℕ) (w : MachineState) (d : Doing) (call : Call) (begun
       record { turn = turn; ends = true; move_is = refl }
 
   turn_by : (o : Outcome) → CanGo number call o → Made by w m (after_outcome by u.place point o v) → TurnOn seat number w by m (done_by call begun now o d) entries
-  turn_by (GoesOn held) can made = going_on held can made
-  turn_by (Answers reply) can made = answered reply made
+  turn_by o can made = search (arith, going_on, answered)
 
 -- the same of a step that stores nothing
 turn_kept : (seat number : ℕ) (w : MachineState) (d : Doing) (call : Call) (begun : ℕ) (hold : ℕ → Holds) (u : Under seat number w d.calls call begun hold) (m : Access) (point : ℕ) (o : Outcome)
@@ -359,8 +335,7 @@ module _ (cast : Cast) (seat number : ℕ) (steps : List Step) (w : MachineState
 
   -- Look
   can_look : (e : EventCall) → MayAsk number (Event e) → (o : Option Refusal) → refusal_of (record_at m.found) e.expected e.kind ≡ o → CanGo number (Event e) (by_rules number e m.found o)
-  can_look e may (Some refusal) is = tt
-  can_look e may None is = ((may.0, may.1, is, refl), refl, refl)
+  can_look e may o is = search arith
 
   pub turn_look : (e : EventCall) → MayAsk number (Event e) → d.held ≡ Nothing → Does log.Look e.game m → Turn seat number w (Reporter number) m (after_look number e m.found m.at d) []
   turn_look e may none does =
@@ -384,8 +359,7 @@ module _ (cast : Cast) (seat number : ℕ) (steps : List Step) (w : MachineState
     board_by b = cond b (stored number e new w) w
 
     keeps_calls : (b : Bool) → ((cond b (stored number e new w) w).callers ≡ w.callers) × ((cond b (stored number e new w) w).calls ≡ w.calls)
-    keeps_calls true = (refl, refl)
-    keeps_calls false = (refl, refl)
+    keeps_calls b = search arith
 
     swap_by : (entries : List Entry) (after : ℕ) → (cond (m.found == old) (stored number e new w) w).history ≡ w.history ++ entries → length (w.history ++ entries) ≡ after
         → Turn seat number w (Reporter number) m (after_swap m.found after d) entries
@@ -396,13 +370,10 @@ module _ (cast : Cast) (seat number : ℕ) (steps : List Step) (w : MachineState
         (made_swap w m words_now now number swap_under.place e old new swap_under.held swapping.can.1 does)).turn
 
     pub turn_swapped : m.found ≡ old → Turn seat number w (Reporter number) m (after_swap m.found (m.at + 1) d) (entry_of number e ∷ [])
-    turn_swapped same =
-        swap_by (entry_of number e ∷ []) (m.at + 1) (ap (λ (b : Bool). (cond b (stored number e new w) w).history) (eq-eqb m.found old same))
-        (length_push w.history (entry_of number e) ∙ ap (λ (z : ℕ). z + 1) (sym now.place))
+    turn_swapped same = search (arith, swap_by, entry_of, stored, eq-eqb, length_push)
 
     pub turn_kept_out : m.found ≢ old → Turn seat number w (Reporter number) m (after_swap m.found m.at d) []
-    turn_kept_out other =
-        swap_by [] m.at (ap (λ (b : Bool). (cond b (stored number e new w) w).history) (ne_eqb m.found old other) ∙ sym (append-nil w.history)) (ap length (append-nil w.history) ∙ sym now.place)
+    turn_kept_out other = search (arith, swap_by, stored, ne_eqb, append-nil)
 
   -- First
   abbrev reader : Caller
@@ -410,13 +381,7 @@ module _ (cast : Cast) (seat number : ℕ) (steps : List Step) (w : MachineState
 
   can_load : (words : List ℕ) (at : ℕ) → length words < 12 → (b : Bool) → (length (words ++ m.found ∷ []) == 12) ≡ b
       → CanGo number Reading (GoesOn (cond b (Checking (words ++ m.found ∷ []) 0 at) (Collecting (words ++ m.found ∷ []))))
-  can_load words at few true is = (omega arith, refl, refl)
-  can_load words at few false is =
-      let more = words ++ m.found ∷ [] in
-      let long = length_push words m.found in
-      let not : length more ≢ 12 = λ z. false≢true (sym is ∙ eq-eqb (length more) 12 z) in
-      let less : length more < 12 = elim (cases_eq (length more) 12) [ inl z ↦ absurd (not z) | inr z ↦ omega arith ] in
-      (less, refl, refl)
+  can_load words at few b is = search (arith, length_push, false≢true, eq-eqb, cases_eq)
 
   -- the first First of a reading
   pub turn_begins : d.held ≡ Nothing → Does log.First 1 m → Turn seat number w reader m (goes m.at (collected (m.found ∷ []) m.at) d) []
@@ -460,12 +425,7 @@ module _ (cast : Cast) (seat number : ℕ) (steps : List Step) (w : MachineState
 
     can_compare : (same last : Bool) → (checked == 11) ≡ last
         → CanGo number Reading (cond same (cond last (Answers (Copied (reading_of words))) (GoesOn (Checking words (checked + 1) point))) (GoesOn (Collecting [])))
-    can_compare true true is = tt
-    can_compare true false is = let few = checking.can in let not : checked ≢ 11 = λ z. false≢true (sym is ∙ eq-eqb checked 11 z) in (below not few, refl, refl)
-      where
-        below : checked ≢ 11 → checked < 12 → checked + 1 < 12
-        below not few = elim (cases_eq checked 11) [ inl z ↦ absurd (not z) | inr z ↦ omega arith ]
-    can_compare false last is = (omega arith, refl, refl)
+    can_compare same last is = search (arith, checking, false≢true, eq-eqb, cases_eq)
 
     turn_compared : Turn seat number w reader m (done_by Reading d.begun m.at (compared words checked point m.found) d) []
     turn_compared =
@@ -476,12 +436,10 @@ module _ (cast : Cast) (seat number : ℕ) (steps : List Step) (w : MachineState
         (made_second w m words_now now reader u.place words checked point u.held checking.can does)).turn
 
     pub turn_again : m.found ≡ slice_index words checked → checked ≢ 11 → Turn seat number w reader m (goes d.begun (Checking words (checked + 1) point) d) []
-    turn_again same not = subst (λ (b : Bool). Turn seat number w reader m (done_by Reading d.begun m.at (compared_by true b) d) []) (ne_eqb checked 11 not)
-        (subst (λ (b : Bool). Turn seat number w reader m (done_by Reading d.begun m.at (compared_by b (checked == 11)) d) []) (eq-eqb m.found (slice_index words checked) same) turn_compared)
+    turn_again same not = search (arith, done_by, ne_eqb, eq-eqb, slice_index, turn_compared)
 
     pub turn_clean : m.found ≡ slice_index words checked → checked ≡ 11 → Turn seat number w reader m (ends Reading (Copied (reading_of words)) d.begun m.at d) []
-    turn_clean same eleven = subst (λ (b : Bool). Turn seat number w reader m (done_by Reading d.begun m.at (compared_by true b) d) []) (eq-eqb checked 11 eleven)
-        (subst (λ (b : Bool). Turn seat number w reader m (done_by Reading d.begun m.at (compared_by b (checked == 11)) d) []) (eq-eqb m.found (slice_index words checked) same) turn_compared)
+    turn_clean same eleven = search (arith, done_by, eq-eqb, slice_index, turn_compared)
 
   second_by : m.kind ≡ log.Second → (h : Held) → d.held ≡ h → IsNext log.Second m.game h → Turn seat number w reader m (seconds_holding h m.found m.at d) []
   second_by kind Nothing is next = absurd next

@@ -34,11 +34,7 @@ begins_call steps p i c b =
     ap (λ (z : List (Caller × Call)). slice_get z i) whole ∙ at_longer (front ++ (c, b.call) ∷ []) rest i (c, b.call) there
 
 later : (s : Step) (steps : List Step) (p i : ℕ) (c : Caller) → begun_in (s ∷ []) ≡ [] → BeginsAt steps p i c → BeginsAt (s ∷ steps) (suc p) i c
-later s steps p i c none b = record {
-  call = b.call;
-  begins = b.begins;
-  number = ap length (begun_in-append (s ∷ []) (take p steps) ∙ ap (λ (z : List (Caller × Call)). z ++ begun_in (take p steps)) none) ∙ b.number;
-}
+later s steps p i c none b = search (arith, begun_in-append)
 
 -- each call that the steps begin is begun at a place
 pub place_of : (steps : List Step) (i : ℕ) (c : Caller) (call : Call) → slice_get (begun_in steps) i ≡ Some (c, call) → (p : ℕ) × BeginsAt steps p i c
@@ -87,11 +83,7 @@ module _ (steps : List Step) (s : Step) where
   }
 
   pub more_begins : (p i : ℕ) (c : Caller) → BeginsAt steps p i c → BeginsAt (steps ++ s ∷ []) p i c
-  more_begins p i c b = let l = at_below steps p (Begin c b.call) b.begins in record {
-    call = b.call;
-    begins = at_longer steps (s ∷ []) p (Begin c b.call) b.begins;
-    number = ap (λ (z : List Step). length (begun_in z)) (take-append-le p steps (s ∷ []) (omega arith)) ∙ b.number;
-  }
+  more_begins p i c b = search (arith, at_below, at_longer, take-append-le)
 
   pub more_ends : (p i : ℕ) (c : Caller) → EndsAt steps p i c → EndsAt (steps ++ s ∷ []) p i c
   more_ends p i c e = let l = at_below steps p (End c) e.ends in record {
@@ -107,5 +99,4 @@ module _ (steps : List Step) (s : Step) where
   old_or_last p x e = elim (at_either steps s p x e) [ inl t ↦ inl t.0 | inr t ↦ inr t ]
 
   pub number_at_end : (i : ℕ) (c : Caller) (p : ℕ) → p ≡ length steps → BeginsAt (steps ++ s ∷ []) p i c → i ≡ length (begun_in steps)
-  number_at_end i c p is b = sym b.number ∙ ap (λ (z : List Step). length (begun_in z))
-      (ap (λ (z : ℕ). take z (steps ++ s ∷ [])) is ∙ (take-append-le (length steps) steps (s ∷ []) (omega arith) ∙ take-length steps))
+  number_at_end i c p is b = search (arith, take-append-le, take-length)

@@ -1,14 +1,13 @@
 -- What is known of a state that steps lead to.
-use Rattle.std.proofs.Common.{◌≡◌, ℕ, zero, suc, ◌+◌, ◌-◌, ◌<◌, ◌≤◌, ◌==◌, Bool, true, false, cond, List, [], ◌∷◌, ◌++◌, take, length, map, Option, Some, None, refl, sym, ap, ◌∙◌, subst, arith}
+use Rattle.std.proofs.Common.{◌≡◌, ℕ, zero, suc, ◌+◌, ◌-◌, ◌<◌, ◌≤◌, Bool, true, List, [], ◌∷◌, ◌++◌, take, length, map, Option, Some, None, refl, sym, ap, ◌∙◌, arith}
 use Rattle.std.proofs.Common.{get_or, set, length-take, eq-eqb, ne_eqb}
 use Rattle.std.specs.Prelude.{slice_get, slice_index, replicate}
 use Rattle.std.specs.Option.{option_map, option_and_then}
-use Rattle.std.proofs.lemmas.Option.{none-some, same_Some, slice_get-map, slice_get-get_or, slice_get_past, option_and_then_some}
+use Rattle.std.proofs.lemmas.Option.{none-some, slice_get-map, slice_get-get_or, slice_get_past, option_and_then_some}
 use Rattle.std.proofs.lemmas.Bool.{false≢true}
 use Rattle.std.proofs.lemmas.List.{get_or_default, take_more_set, take_all, length-take-le, map-set, length-set}
 use Rattle.ucl_word.specs.declared.event.EventCall.{EventCall}
-use Rattle.ucl_word.specs.declared.refusal.Refusal.TheVariants.{Stale}
-use Rattle.ucl_word.specs.Layout.{word_of, record_at, IsWord}
+use Rattle.ucl_word.specs.Layout.{record_at, IsWord}
 use Rattle.ucl_board.specs.Fixtures.{IsMatch}
 use Rattle.ucl_board.specs.Words.{AreWords, word_at, greatest_version}
 use Rattle.ucl_board.specs.History.{match_after, board_of, reading_of}
@@ -19,12 +18,12 @@ use Rattle.ucl_steps.specs.declared.step.Caller.{Caller}
 use Rattle.ucl_steps.specs.declared.step.Caller.TheVariants.{Reporter, Reader}
 use Rattle.ucl_steps.specs.declared.step.Step.{Step}
 use Rattle.ucl_steps.specs.declared.step.Step.TheVariants.{Swap, Second}
-use Rattle.ucl_steps.specs.declared.trace.Reply.TheVariants.{Accepted, Refused, Copied}
+use Rattle.ucl_steps.specs.declared.trace.Reply.TheVariants.{Accepted, Copied}
 use Rattle.ucl_steps.specs.declared.trace.CallRecord.{CallRecord}
 use Rattle.ucl_steps.specs.declared.machine.Held.{Held}
 use Rattle.ucl_steps.specs.declared.machine.Held.TheVariants as has
-use Rattle.ucl_steps.specs.Protocol.{Holding, Collecting, Checking, Outcome, GoesOn, Answers}
-use Rattle.ucl_steps.specs.Machine.{Holds, Idle, Wanting, Within, Callers, MachineState, initial_state, held_by, with_held, after_reply, after_outcome, stored, state_after_first, change_at, caller_of}
+use Rattle.ucl_steps.specs.Protocol.{Collecting, Checking}
+use Rattle.ucl_steps.specs.Machine.{Holds, Idle, Wanting, Within, Callers, MachineState, initial_state, held_by, with_held, after_reply, stored, state_after_first, change_at, caller_of}
 use Rattle.ucl_steps.specs.Machine.{after_step_holding, after_step, after_steps}
 use Rattle.ucl_board.specs.declared.entry.Entry.{Entry}
 use Rattle.ucl_steps.specs.Running.{holds_of, IsReachable, Takes}
@@ -33,7 +32,6 @@ use Rattle.ucl_steps.proofs.Invariant.{Keeps}
 use Rattle.ucl_steps.proofs.CallFacts.{in_call}
 use Rattle.ucl_steps.proofs.KeptBySteps.{word_now}
 use Rattle.ucl_steps.proofs.Histories.{legal_beginning, board_none}
-use Rattle.ucl_word.specs.Record.{scheduled}
 use Rattle.ucl_steps.proofs.Runs.{kept_at_start, run_kept}
 
 pub reached_kept : (w : MachineState) (r : IsReachable w) → Keeps r.1 w
@@ -57,12 +55,10 @@ idle_all (suc n) = ap (λ (z : List Holds). Idle ∷ z) (idle_all n)
 
 -- a caller's place
 pub held_reporter : (cs : Callers) (r : ℕ) → 1 ≤ r → held_by cs (Reporter r) ≡ slice_get cs.reporters (r - 1)
-held_reporter cs zero l = absurd (omega arith)
-held_reporter cs (suc k) l = let e : k ≡ suc k - 1 = omega arith in ap (slice_get cs.reporters) e
+held_reporter cs r l = search arith
 
 pub held_reader : (cs : Callers) (r : ℕ) → 1 ≤ r → held_by cs (Reader r) ≡ slice_get cs.readers (r - 1)
-held_reader cs zero l = absurd (omega arith)
-held_reader cs (suc k) l = let e : k ≡ suc k - 1 = omega arith in ap (slice_get cs.readers) e
+held_reader cs r l = search arith
 
 pub held_at : (hs : List Held) (k : ℕ) (x d : Held) → k < length hs → x ≡ get_or hs k d → Some (holds_of x) ≡ slice_get (map holds_of hs) k
 held_at hs k x d l e = sym (slice_get-map holds_of hs k ∙ (ap (option_map holds_of) (slice_get-get_or hs k d l) ∙ ap (λ (z : Held). Some (holds_of z)) (sym e)))
@@ -76,15 +72,11 @@ state words history calls reporters readers = record { words = words; history = 
 module _ (words : List ℕ) (history : List Entry) (calls : List CallRecord) where
   pub hold_reporter : (hs : List Held) (readers : List Holds) (c : Caller) (r k : ℕ) (y : Held) → c ≡ Reporter r → k ≡ r - 1
       → state words history calls (map holds_of (set hs k y)) readers ≡ with_held (holds_of y) c (state words history calls (map holds_of hs) readers)
-  hold_reporter hs readers c r k y is at =
-      subst (λ (c : Caller). state words history calls (map holds_of (set hs k y)) readers ≡ with_held (holds_of y) c (state words history calls (map holds_of hs) readers)) (sym is)
-      (ap (λ (z : List Holds). state words history calls z readers) (map-set holds_of hs k y ∙ ap (λ (k : ℕ). set (map holds_of hs) k (holds_of y)) at))
+  hold_reporter hs readers c r k y is at = search (arith, map-set)
 
   pub hold_reader : (hs : List Held) (reporters : List Holds) (c : Caller) (r k : ℕ) (y : Held) → c ≡ Reader r → k ≡ r - 1
       → state words history calls reporters (map holds_of (set hs k y)) ≡ with_held (holds_of y) c (state words history calls reporters (map holds_of hs))
-  hold_reader hs reporters c r k y is at =
-      subst (λ (c : Caller). state words history calls reporters (map holds_of (set hs k y)) ≡ with_held (holds_of y) c (state words history calls reporters (map holds_of hs))) (sym is)
-      (ap (λ (z : List Holds). state words history calls reporters z) (map-set holds_of hs k y ∙ ap (λ (k : ℕ). set (map holds_of hs) k (holds_of y)) at))
+  hold_reader hs reporters c r k y is at = search (arith, map-set)
 
 pub set-change_at : (calls : List CallRecord) (k : ℕ) (x : CallRecord) (f : CallRecord → CallRecord) → k < length calls → x ≡ get_or calls k x → set calls k (f x) ≡ change_at k f calls
 set-change_at calls k x f l is = ap (λ (z : CallRecord). set calls k (f z)) is ∙ sym (change_at-set k f calls x l)
@@ -103,31 +95,15 @@ module _ (w : MachineState) (c : Caller) (k : ℕ) (ws : List ℕ) (n : ℕ) (tw
   filled = set ws n (get_or w.words n 0)
 
   pub first_last : n ≡ 11 → with_held (Within k (Checking (set ws n (get_or w.words n 0)) 0 (length w.history))) c w ≡ state_after_first c k (take n ws) w
-  first_last is =
-      let l = length-set ws n (get_or w.words n 0) in
-      let whole : take (n + 1) filled ≡ filled = take_all (n + 1) filled (omega arith) in
-      let test : (length (take (n + 1) filled) == 12) ≡ true = eq-eqb (length (take (n + 1) filled)) 12 (long ∙ omega arith) in
-      sym (ap (λ (z : List ℕ). with_held (Within k (cond (length z == 12) (Checking z 0 (length w.history)) (Collecting z))) c w) one_longer
-      ∙ (ap (λ (b : Bool). with_held (Within k (cond b (Checking (take (n + 1) filled) 0 (length w.history)) (Collecting (take (n + 1) filled)))) c w) test
-      ∙ ap (λ (z : List ℕ). with_held (Within k (Checking z 0 (length w.history))) c w) whole))
+  first_last is = search (arith, length-set, take_all, eq-eqb, long, one_longer)
 
   pub first_more : (n ≡ 11 → ⊥) → with_held (Within k (Collecting (take (n + 1) (set ws n (get_or w.words n 0))))) c w ≡ state_after_first c k (take n ws) w
-  first_more not =
-      let l = long in
-      let test : (length (take (n + 1) filled) == 12) ≡ false = ne_eqb (length (take (n + 1) filled)) 12 (λ is. not (omega arith)) in
-      sym (ap (λ (z : List ℕ). with_held (Within k (cond (length z == 12) (Checking z 0 (length w.history)) (Collecting z))) c w) one_longer
-      ∙ ap (λ (b : Bool). with_held (Within k (cond b (Checking (take (n + 1) filled) 0 (length w.history)) (Collecting (take (n + 1) filled)))) c w) test)
+  first_more not = search (arith, long, ne_eqb, one_longer)
 
 pub start_is : (cast : Cast) (words : List ℕ) (history : List Entry) (calls : List CallRecord) (reporters readers : List Holds) → words ≡ board_of [] → history ≡ [] → calls ≡ []
     → reporters ≡ replicate cast.reporters Idle → readers ≡ replicate cast.readers Idle
     → state words history calls reporters readers ≡ initial_state cast
-start_is cast words history calls reporters readers w a b c d =
-    ap (λ (z : List ℕ). state z history calls reporters readers) (w ∙ sym board_none)
-    ∙ (ap (λ (z : List Entry). state start z calls reporters readers) a ∙ (ap (λ (z : List CallRecord). state start [] z reporters readers) b
-    ∙ (ap (λ (z : List Holds). state start [] [] z readers) c ∙ ap (λ (z : List Holds). state start [] [] (replicate cast.reporters Idle) z) d)))
-  where
-    start : List ℕ
-    start = replicate 12 (word_of scheduled)
+start_is cast words history calls reporters readers w a b c d = search (arith, board_none)
 
 -- what a step makes of the state, where its caller holds this
 pub step_is : (s : Step) (w w' : MachineState) (x : Holds) → held_by w.callers (caller_of s) ≡ Some x → after_step_holding s (Some x) w ≡ Some w' → after_step w s ≡ Some w'
@@ -166,40 +142,21 @@ module _ (w : MachineState) (r : IsReachable w) (c : Caller) (o : Option Held) (
   -- a swap that is won
   pub won_step : (n k : ℕ) (e : EventCall) (old new : ℕ) → c ≡ Reporter n → o ≡ Some (has.Holding k e old new) → word_at w.words e.game ≡ old
       → after_step w (Swap c) ≡ Some (after_reply c k (length w.history) (Accepted (record { number = (record_at new).number })) (stored n e new w))
-  won_step n k e old new reporter is same =
-      let me : Caller = Reporter n in
-      let held : held_by w.callers me ≡ Some (Within k (Holding e old new)) = ap (held_by w.callers) (sym reporter) ∙ holds (has.Holding k e old new) is in
-      let found = word_at w.words e.game in
-      subst (λ (z : Caller). after_step w (Swap z) ≡ Some (after_reply z k (length w.history) (Accepted (record { number = (record_at new).number })) (stored n e new w))) (sym reporter)
-      (step_is (Swap me) w (after_reply me k (length w.history) (Accepted (record { number = (record_at new).number })) (stored n e new w)) (Within k (Holding e old new)) held
-      (ap (λ (b : Bool). Some (after_reply me k (length w.history) (cond b (Accepted (record { number = (record_at new).number })) (Refused (Stale (record_at found).number)))
-      (cond b (stored n e new w) w))) (eq-eqb found old same)))
+  won_step n k e old new reporter is same = search (arith, holds, step_is, eq-eqb)
 
   -- a second collect that is clean
   pub clean_step : (k : ℕ) (ws : List ℕ) (n p : ℕ) → o ≡ Some (has.Checking k ws n p) → slice_index w.words n ≡ slice_index ws n → n ≡ 11
       → after_step w (Second c) ≡ Some (after_reply c k p (Copied (reading_of ws)) w)
-  clean_step k ws n p is same last =
-      let held = holds (has.Checking k ws n p) is in
-      let found = eq-eqb (slice_index w.words n) (slice_index ws n) same in
-      let all = eq-eqb n 11 last in
-      let clean : Outcome = Answers (Copied (reading_of ws)) in
-      step_is (Second c) w (after_reply c k p (Copied (reading_of ws)) w) (Within k (Checking ws n p)) held
-      (ap (λ (b : Bool). Some (after_outcome c k p (cond b (cond (n == 11) clean (GoesOn (Checking ws (n + 1) p))) (GoesOn (Collecting []))) w)) found
-      ∙ ap (λ (b : Bool). Some (after_outcome c k p (cond b clean (GoesOn (Checking ws (n + 1) p))) w)) all)
+  clean_step k ws n p is same last = search (arith, holds, eq-eqb, step_is)
 
 -- a step that was taken was enabled
 pub taken_step : (old new : MachineState) (s : Step) (taken : Bool) → Takes old s taken new → taken ≡ true → after_step old s ≡ Some new
-taken_step old new s true t is = t
-taken_step old new s false t is = absurd (false≢true is)
+taken_step old new s taken t is = search (arith, false≢true)
 
 -- one step more of a list
 pub steps_more : (steps : List Step) (at : ℕ) (s : Step) (w v u : MachineState) → slice_get steps at ≡ Some s → after_steps (take at steps) w ≡ Some v → after_step v s ≡ Some u
     → after_steps (take (suc at) steps) w ≡ Some u
 steps_more [] at s w v u here before then = absurd (none-some s here)
-steps_more (x ∷ steps) zero s w v u here before then =
-    let x_is = same_Some x s here in
-    let v_is = same_Some w v before in
-    ap (λ (z : Step). option_and_then (after_steps []) (after_step w z)) x_is
-    ∙ (ap (λ (z : MachineState). option_and_then (after_steps []) (after_step z s)) v_is ∙ ap (option_and_then (after_steps [])) then)
+steps_more (x ∷ steps) zero s w v u here before then = search arith
 steps_more (x ∷ steps) (suc at) s w v u here before then =
     option_and_then_some (after_steps (take at steps)) (after_step w x) v before (λ y is rest. ap (option_and_then (after_steps (take (suc at) steps))) is ∙ steps_more steps at s y v u here rest then)

@@ -1,5 +1,5 @@
 -- Every run keeps what every step keeps, and so its history explains its calls.
-use Rattle.std.proofs.Common.{◌≡◌, ℕ, zero, suc, ◌<◌, ◌≤◌, true, false, List, [], ◌∷◌, ◌++◌, map, Option, Some, None, ◌⊎◌, inl, inr, refl, sym, ap, ◌∙◌, subst, arith, append_assoc, append-nil, get_or}
+use Rattle.std.proofs.Common.{◌≡◌, ℕ, zero, suc, ◌<◌, ◌≤◌, false, List, [], ◌∷◌, ◌++◌, map, Option, Some, ◌⊎◌, inl, inr, refl, sym, ap, ◌∙◌, subst, arith, append_assoc, append-nil, get_or}
 use Rattle.std.specs.Prelude.{◌↔◌, All, slice_get, IfSome, IsSome, replicate}
 use Rattle.std.specs.Option.{option_map}
 use Rattle.std.proofs.lemmas.Option.{none-some, same_Some, slice_get-map, slice_get-get_or, option_and_then_some}
@@ -10,20 +10,17 @@ use Rattle.ucl_steps.proofs.Lists.{if_some}
 use Rattle.ucl_steps.proofs.Histories.{legal_none, board_none}
 use Rattle.ucl_steps.specs.declared.step.Cast.{Cast}
 use Rattle.ucl_steps.specs.declared.step.Caller.{Caller}
-use Rattle.ucl_steps.specs.declared.step.Caller.TheVariants.{Reporter, Reader}
 use Rattle.ucl_steps.specs.declared.step.Call.{Call}
-use Rattle.ucl_steps.specs.declared.step.Call.TheVariants.{Event, Reading}
 use Rattle.ucl_steps.specs.declared.step.Step.{Step}
 use Rattle.ucl_steps.specs.declared.trace.CallRecord.{CallRecord}
 use Rattle.ucl_steps.specs.declared.trace.Reply.{Reply}
-use Rattle.ucl_steps.specs.declared.trace.Reply.TheVariants.{Accepted, Refused, Copied}
 use Rattle.ucl_steps.specs.Machine.{Holds, Idle, MachineState, initial_state, held_by, caller_of, after_step, after_steps}
 use Rattle.ucl_steps.specs.declared.trace.Trace.{Trace}
 use Rattle.ucl_steps.specs.Linearizable.{EndsAt, EndedBySteps, PointWithinCall, AcceptedIsEntry, is_accepted, RefusedAtPoint, ReadingIsSnapshot, Precedes, caller_and_call, RealTimeOrder, version_read}
 use Rattle.ucl_steps.specs.Linearizable.{VersionsRise, IsLinearizable}
 use Rattle.ucl_steps.specs.Traces.{IsLeftBy}
 use Rattle.ucl_steps.specs.Laws.{RunsAreLinearizable, WordsAreOfTheHistory}
-use Rattle.ucl_steps.proofs.Explanations.{IsSequential, IsExplained}
+use Rattle.ucl_steps.proofs.Explanations.{IsExplained}
 use Rattle.ucl_steps.proofs.Clauses.{point_within, accepted_entry, refused_there, reading_snapshot}
 use Rattle.ucl_steps.proofs.Places.{earlier_call}
 use Rattle.ucl_steps.proofs.Turns.{told, EndedBy, turns_none}
@@ -37,21 +34,10 @@ idle_all (suc n) zero x e = same_Some x Idle (sym e)
 idle_all (suc n) (suc k) x e = idle_all n k x e
 
 idle_at_start : (cast : Cast) (c : Caller) (x : Holds) → held_by (initial_state cast).callers c ≡ Some x → x ≡ Idle
-idle_at_start cast (Reporter zero) x e = absurd (none-some x e)
-idle_at_start cast (Reporter (suc k)) x e = idle_all cast.reporters k x e
-idle_at_start cast (Reader zero) x e = absurd (none-some x e)
-idle_at_start cast (Reader (suc k)) x e = idle_all cast.readers k x e
+idle_at_start cast c x e = search (arith, none-some, idle_all)
 
 pub kept_at_start : (cast : Cast) → Keeps [] (initial_state cast)
-kept_at_start cast = record {
-  legal = legal_none;
-  words = board_none;
-  explained = λ i a at. absurd (none-some a at);
-  once = λ k l. absurd (omega arith);
-  turns = turns_none;
-  knows = λ c x k holds within. absurd (none-some k (ap in_call (sym (idle_at_start cast c x holds)) ∙ within));
-  unended = λ i a at none. absurd (none-some a at);
-}
+kept_at_start cast = search (arith, legal_none, board_none, none-some, turns_none, in_call, idle_at_start)
 
 pub run_kept : (steps done : List Step) (w w' : MachineState) → Keeps done w → after_steps steps w ≡ Some w' → Keeps (done ++ steps) w'
 run_kept [] done w w' kept e = subst (λ (z : List Step). Keeps z w') (sym (append-nil done)) (subst (Keeps done) (same_Some w w' e) kept)
@@ -62,47 +48,22 @@ run_kept (s ∷ steps) done w w' kept e =
 
 -- the place of a call is after its beginning, and before its end
 placed_late : (h : List Entry) (c : CallRecord) (p : ℕ) (r : Option Reply) → IsExplained h c (Some p) r → c.begun ≤ p
-placed_late h c p (Some (Accepted a)) s = s.0.0
-placed_late h c p (Some (Refused a)) s = s.0.0
-placed_late h c p (Some (Copied a)) s = s.0.0
-placed_late h c p None s = absurd s
+placed_late h c p r s = search arith
 
 by_end : (o : Option ℕ) (p n : ℕ) → IfSome o (λ e. p ≤ e) → EndedBy o n → p ≤ n
-by_end None p n s e = absurd e
-by_end (Some x) p n s e = omega arith
+by_end o p n s e = search arith
 
 before_end : (o : Option ℕ) (p n : ℕ) → IfSome o (λ e. p < e) → EndedBy o n → p < n
-before_end None p n s e = absurd e
-before_end (Some x) p n s e = omega arith
+before_end o p n s e = search arith
 
 placed_early : (h : List Entry) (c : CallRecord) (p n : ℕ) (r : Option Reply) → IsExplained h c (Some p) r → EndedBy c.ended n → (p < n) ⊎ ((p ≤ n) × (is_accepted r ≡ false))
-placed_early h c p n (Some (Accepted a)) s e = inl (before_end c.ended p n s.0.2 e)
-placed_early h c p n (Some (Refused a)) s e = inr (by_end c.ended p n s.0.2 e, refl)
-placed_early h c p n (Some (Copied a)) s e = inr (by_end c.ended p n s.0.2 e, refl)
-placed_early h c p n None s e = absurd s
+placed_early h c p n r s e = search (arith, before_end, by_end)
 
 stands_before : (h : List Entry) (i j : ℕ) (a b : CallRecord) → IsExplained h a a.point a.reply → IsExplained h b b.point b.reply → EndedBy a.ended b.begun → i < j → Precedes i a j b
-stands_before h i j a b ea eb by l = if_some a.point (λ p. IfSome b.point (λ q. (p < q) ⊎ ((p ≡ q) × (is_accepted a.reply ≡ false) × ((is_accepted b.reply ≡ true) ⊎ (i < j))))) (λ p at_p.
-    if_some b.point (λ q. (p < q) ⊎ ((p ≡ q) × (is_accepted a.reply ≡ false) × ((is_accepted b.reply ≡ true) ⊎ (i < j)))) (λ q at_q.
-    let late = placed_late h b q b.reply (subst (λ (z : Option ℕ). IsExplained h b z b.reply) at_q eb) in
-    elim (placed_early h a p b.begun a.reply (subst (λ (z : Option ℕ). IsExplained h a z a.reply) at_p ea) by) [
-      | inl less ↦ inl (omega arith)
-      | inr t ↦ let le = t.0 in elim (cases_lt p q) [ inl less ↦ inl less | inr more ↦ inr (omega arith, t.1, inr l) ]
-    ]))
+stands_before h i j a b ea eb by l = search (arith, if_some, placed_late, placed_early, cases_lt)
 
 pub version_point : (h : List Entry) (c : CallRecord) (p : Option ℕ) (r : Option Reply) (v : ℕ) → IsExplained h c p r → version_read r ≡ Some v → p ≡ Some v
-version_point h c (Some p) (Some (Copied a)) v s e = ap Some (sym (version_of_reading c.caller c.call s.1) ∙ same_Some a.version v e)
-  where
-    version_of_reading : (d : Caller) (call : Call) → IsSequential h p d call (Copied a) → a.version ≡ p
-    version_of_reading (Reporter n) (Event ev) s = absurd s
-    version_of_reading (Reporter n) Reading s = s.1
-    version_of_reading (Reader n) (Event ev) s = absurd s
-    version_of_reading (Reader n) Reading s = s.1
-version_point h c (Some p) (Some (Accepted a)) v s e = absurd (none-some v e)
-version_point h c (Some p) (Some (Refused a)) v s e = absurd (none-some v e)
-version_point h c (Some p) None v s e = absurd s
-version_point h c None (Some r) v s e = absurd s
-version_point h c None None v s e = absurd (none-some v e)
+version_point h c p r v s e = search (arith, same_Some, none-some)
 
 versions_rise : (h : List Entry) (a b : CallRecord) (p q n : ℕ) → IsExplained h a (Some p) a.reply → IsExplained h b (Some q) b.reply → EndedBy a.ended b.begun → p ≤ q
 versions_rise h a b p q n ea eb by = let late = placed_late h b q b.reply eb in elim (placed_early h a p b.begun a.reply ea by) [ inl less ↦ omega arith | inr t ↦ let le = t.0 in omega arith ]

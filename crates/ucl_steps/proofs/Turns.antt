@@ -72,16 +72,13 @@ if_more None n m l p = tt
 if_more (Some e) n m l p = omega arith
 
 ended_by : (o : Option ℕ) (n : ℕ) → IsSome o → IfSome o (λ e. e ≤ n) → EndedBy o n
-ended_by None n some p = absurd (false≢true some)
-ended_by (Some e) n some p = p
+ended_by o n some p = search (arith, false≢true)
 
 not_ended : (o : Option ℕ) (n : ℕ) → o ≡ None → EndedBy o n → ⊥
-not_ended None n e p = p
-not_ended (Some x) n e p = none-some x (sym e)
+not_ended o n e p = search (arith, none-some)
 
 not_some : (o : Option ℕ) → o ≡ None → IsSome o → ⊥
-not_some None e p = false≢true p
-not_some (Some x) e p = none-some x (sym e)
+not_some o e p = search (arith, false≢true, none-some)
 
 pub turns_inner : (steps : List Step) (n m : ℕ) (ts : List Time) (s : Step) → IsInner s → n ≤ m → Turns steps n ts → Turns (steps ++ s ∷ []) m ts
 turns_inner steps n m ts s inner le k = record {
@@ -158,12 +155,7 @@ ended_at n t = record t { ended = Some n }
 -- a call that is begun has its time
 time_of_call : (steps : List Step) (ts : List Time) (i : ℕ) (c : Caller) (call : Call) → begun_in steps ≡ map told ts → slice_get (begun_in steps) i ≡ Some (c, call)
     → (t : Time) × (slice_get ts i ≡ Some t) × (t.caller ≡ c)
-time_of_call steps ts i c call same e =
-    let below = at_below (begun_in steps) i (c, call) e in
-    let count : length (begun_in steps) ≡ length ts = ap length same ∙ length-map ts told in
-    let t = get_some ts i (omega arith) in
-    let there : Some (told t.0) ≡ Some (c, call) = ap (option_map told) (sym t.1) ∙ (sym (slice_get-map told ts i) ∙ (ap (λ (z : List (Caller × Call)). slice_get z i) (sym same) ∙ e)) in
-    (t.0, t.1, ap (λ (z : Caller × Call). z.0) (same_Some (told t.0) (c, call) there))
+time_of_call steps ts i c call same e = search (arith, at_below, length-map, get_some, slice_get-map, same_Some)
 
 -- the time of a call before a step that ends the call at this place, and which time it has after it
 record TimeBefore (k n : ℕ) (ts : List Time) (i : ℕ) (after : Time) : Type 0 where
@@ -175,8 +167,7 @@ record TimeBefore (k n : ℕ) (ts : List Time) (i : ℕ) (after : Time) : Type 0
   which : ((i ≡ k) × (after.ended ≡ Some n)) ⊎ ((i ≢ k) × (time ≡ after))
 
 still_ended : (before after : Time) → (before.ended ≡ after.ended) ⊎ (before.ended ≡ None) → (m : ℕ) → EndedBy before.ended m → EndedBy after.ended m
-still_ended before after (inl same) m by = subst (λ (z : Option ℕ). EndedBy z m) same by
-still_ended before after (inr none) m by = absurd (not_ended before.ended m none by)
+still_ended before after is m by = search (arith, not_ended)
 
 module _ (steps : List Step) (n : ℕ) (ts : List Time) (c : Caller) (k : ℕ) (held : Time) (here : slice_get ts k ≡ Some held) (own : held.caller ≡ c) (open_call : held.ended ≡ None)
     (kept : Turns steps n ts) where
@@ -220,19 +211,7 @@ module _ (steps : List Step) (n : ℕ) (ts : List Time) (c : Caller) (k : ℕ) (
       }
 
   time_before : (i : ℕ) (after : Time) → slice_get (change_at k (ended_at n) ts) i ≡ Some after → TimeBefore k n ts i after
-  time_before i after at = elim (get-change_at k (ended_at n) ts i after at) [
-    | inl u ↦
-        let same : u.1 ≡ held = same_Some u.1 held (sym u.2 ∙ here) in
-        record {
-          time = u.1;
-          there = ap (slice_get ts) u.0 ∙ u.2;
-          caller = ap (λ (z : Time). z.caller) u.3;
-          begun = ap (λ (z : Time). z.begun) u.3;
-          ended = inr (ap (λ (z : Time). z.ended) same ∙ open_call);
-          which = inl (u.0, sym (ap (λ (z : Time). z.ended) u.3));
-        }
-    | inr u ↦ record { time = after; there = u.1; caller = refl; begun = refl; ended = inl refl; which = inr (u.0, refl) }
-  ]
+  time_before i after at = search (arith, get-change_at, same_Some)
 
   pub turns_end : Turns (steps ++ End c ∷ []) n (change_at k (ended_at n) ts)
   turns_end =

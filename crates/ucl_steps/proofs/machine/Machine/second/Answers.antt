@@ -1,9 +1,4 @@
-use Rattle.std.proofs.Common.{◌≡◌, Some, refl, sym, ap, ◌∙◌, arith, rules}
-use Rattle.std.specs.Prelude.{slice_index}
-use Rattle.ucl_board.specs.declared.reading.Reading.{Reading}
-use Rattle.ucl_board.specs.History.{reading_of}
-use Rattle.ucl_steps.specs.declared.trace.Reply.TheVariants.{Copied}
-use Rattle.ucl_steps.specs.Machine.{after_reply}
+use Rattle.std.proofs.Common.{◌≡◌, Some, refl, arith, rules}
 use Rattle.ucl_steps.specs.declared.machine.Held.TheVariants as has
 use Rattle.ucl_steps.specs.Running.{state_of}
 use Rattle.ucl_steps.proofs.Reachable.{call_below, checked_few, collected_words, clean_step}
@@ -46,9 +41,4 @@ of_packed-requires c =
     c.in-Some-Checking.point (search rules)
 
 pub returns-then-checked-eq11 : goal.returns-then-checked-eq11
-returns-then-checked-eq11 c =
-    let same : slice_index c.args.self.now.words c.in-Some-Checking.checked ≡ slice_index c.in-Some-Checking.words c.in-Some-Checking.checked = search rules in
-    clean_step (state_of c.args.self.now) c.requires c.args.caller c.held-held.result c.held-held.ensures c.in-Some-Checking.call c.in-Some-Checking.words c.in-Some-Checking.checked
-    c.in-Some-Checking.point (search rules) same c.if-checked-eq11.true
-    ∙ ap Some (sym (c.reply.ensures ∙ ap (λ (r : Reading). after_reply c.args.caller c.in-Some-Checking.call c.in-Some-Checking.point (Copied r) (state_of c.args.self.now))
-    (c.of-reading.ensures ∙ ap reading_of c.of_packed.ensures)))
+returns-then-checked-eq11 c = search (arith, rules, clean_step)
