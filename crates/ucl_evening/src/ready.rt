@@ -7,8 +7,8 @@ use crate::files::{Before, In, Out};
 use crate::outputs::{Befores, Stop, befores_of};
 use std::alloc::Global;
 use std::fs::{File, Files};
-use ucl_command::{EveningArgs, Format, LiveArgs};
-use ucl_evenings_threads::{Reporter, Screen, night_towards};
+use ucl_command::EveningArgs;
+use ucl_evenings_threads::{Place, Reporter, night_towards};
 use ucl_runs::RunFault;
 use ucl_screen::{
     FIRST_EVENT_ROW, FromRead, InputFault, Night, ToWrite, read_all, read_night, read_words,
@@ -21,8 +21,8 @@ pub struct Ready<S, V> {
     pub night: Night,
     /// The reporters, in the order of the words.
     pub reporters: Vec<Reporter<S, V>>,
-    /// The screens: those of text, and then those of JSON, each in the order of the words.
-    pub screens: Vec<Screen<V>>,
+    /// The places of the screens: those of text, and then those of JSON, each in the order of the words.
+    pub places: Vec<Place<V>>,
 }
 
 /// The reporters, with their files and pipes.
@@ -45,35 +45,24 @@ fn reporters_on<'r, R: Files<File = File>>(
     Ok(reporters)
 }
 
-/// How a screen in this form shows.
-fn options_of(asked: &EveningArgs, format: Format) -> LiveArgs {
-    let group = asked.group;
-    LiveArgs {
-        group,
-        profile: asked.profile,
-        screens: true,
-        format,
-    }
-}
-
-/// The screens, with their files and pipes.
-fn screens_on<'r, R: Files<File = File>>(
+/// The places of the screens: their files and pipes, and their forms.
+fn places_on<'r, R: Files<File = File>>(
     rt: &'r R,
     alloc: Global,
     asked: &'r EveningArgs,
     befores: &[Before],
-) -> Result<Vec<Screen<ToWrite<Out<'r, R>>>>, RunFault> {
-    let mut screens = Vec::new(alloc);
+) -> Result<Vec<Place<ToWrite<Out<'r, R>>>>, RunFault> {
+    let mut places = Vec::new(alloc);
     for (shown, before) in asked.screens.iter().zip(befores.iter()) {
-        let screen = Screen {
+        let place = Place {
             sink: ToWrite::new(Out::named(rt, shown.place.as_str(), *before)),
-            options: options_of(asked, shown.format),
+            format: shown.format,
         };
-        if screens.push(screen).is_err() {
+        if places.push(place).is_err() {
             return Err(RunFault::OutOfMemory);
         }
     }
-    Ok(screens)
+    Ok(places)
 }
 
 /// The script that the argument names. Where it has the words of a board in place of events, it is events that lead to these words.
@@ -90,7 +79,7 @@ fn script_of<R: Files<File = File>>(rt: &R, alloc: Global, name: &str) -> Result
     }
 }
 
-/// Looks at all names, reads the script, and gets the reporters and screens ready, none of whose files is opened yet.
+/// Looks at all names, reads the script, and gets the reporters and places ready, none of whose files is opened yet.
 pub fn ready_for<'r, R: Files<File = File>>(
     rt: &'r R,
     alloc: Global,
@@ -104,10 +93,10 @@ pub fn ready_for<'r, R: Files<File = File>>(
     } = befores_of(rt, alloc, asked)?;
     let night = script_of(rt, alloc, asked.clubs.as_str())?;
     let reporters = reporters_on(rt, alloc, asked, &before_replies)?;
-    let screens = screens_on(rt, alloc, asked, &before_screens)?;
+    let places = places_on(rt, alloc, asked, &before_screens)?;
     Ok(Ready {
         night,
         reporters,
-        screens,
+        places,
     })
 }

@@ -56,13 +56,13 @@ module _ {B R P N V : Type 0} (live : boards.Ghosts B R P N) (board : B) (sink :
   lent : (history : List Entry) (least : ℕ) (looking : Looking R V) (options : LiveArgs) (pass : R) (kept : V) (r : Result ⊤ RunFault) → options ≡ looking.screen.options
       → live.is_reader board pass → IsPrefix (live.reader pass).seen history → SinkServed sink looking.screen.sink kept r
       → Shown options clubs (live.reader looking.pass).seen history least (sink.failed kept) (sink.taken looking.screen.sink) (sink.taken kept) r
-      → HasShownAbove live board sink clubs history least looking (record { pass = pass; sink = kept; result = r })
+      → HasShownAbove live board sink clubs history least looking (record { pass = pass; screen = record { sink = kept; options = options }; result = r })
   lent history least looking options pass kept r same own seen served p =
       let q = subst (λ (o : LiveArgs). Shown o clubs (live.reader looking.pass).seen history least (sink.failed kept) (sink.taken looking.screen.sink) (sink.taken kept) r) same p in
-      record { own = own; seen = seen; versions = q.versions; rise = q.rise; ends = q.ends; served = served }
+      record { own = own; options = same; seen = seen; versions = q.versions; rise = q.rise; ends = q.ends; served = served }
 
   pub closed_failed : (looking : Looking R V) (looked : Looked R V) (least : ℕ) (f : RunFault) → looked.result ≡ Err f → HasLookedOn live board sink clubs looking looked
-      → HasShownAbove live board sink clubs (live.reader looked.pass).seen least looking (record { pass = looked.pass; sink = looked.screen.sink; result = Err f })
+      → HasShownAbove live board sink clubs (live.reader looked.pass).seen least looking (record { pass = looked.pass; screen = looked.screen; result = Err f })
   closed_failed looking looked least f is h =
       lent (live.reader looked.pass).seen least looking looked.screen.options looked.pass looked.screen.sink (Err f) h.options h.own (begins_same (live.reader looked.pass).seen)
       (served_same sink looking.screen.sink looked.screen.sink looked.result (Err f) is h.served)
@@ -73,7 +73,7 @@ module _ {B R P N V : Type 0} (live : boards.Ghosts B R P N) (board : B) (sink :
       → length (live.noted news) ≡ least → live.is_reader board theirs → SinkServed sink looked.screen.sink kept r → HasLookedOn live board sink clubs looking looked
       → ShowsFurther live.noted looked.screen.options clubs (live.reader looked.pass) (live.reader theirs) looked.screens t [] (news ∷ [])
       (sink.failed kept) (sink.taken looked.screen.sink) (sink.taken kept) r
-      → HasShownAbove live board sink clubs (live.reader theirs).seen least looking (record { pass = theirs; sink = kept; result = r })
+      → HasShownAbove live board sink clubs (live.reader theirs).seen least looking (record { pass = theirs; screen = record { sink = kept; options = looked.screen.options }; result = r })
   closed_further looking looked theirs kept t news least r is long own served h f =
       lent (live.reader theirs).seen least looking looked.screen.options theirs kept r h.options own (begins_same (live.reader theirs).seen)
       (served_then sink looking.screen.sink looked.screen.sink kept r (served_same sink looking.screen.sink looked.screen.sink looked.result (Ok tt) is h.served) served)
@@ -83,9 +83,10 @@ module _ {B R P N V : Type 0} (live : boards.Ghosts B R P N) (board : B) (sink :
   -- its pass has told what it has seen
   pub closed_told : (history : List Entry) (least : ℕ) (looking : Looking R V) (end : ScreenEnd R V) (pass : R) → live.is_reader board pass → live.reader pass ≡ live.reader end.pass
       → HasShownAbove live board sink clubs history least looking end
-      → HasShownAbove live board sink clubs history least looking (record { pass = pass; sink = end.sink; result = end.result })
+      → HasShownAbove live board sink clubs history least looking (record { pass = pass; screen = end.screen; result = end.result })
   closed_told history least looking end pass own same p = record {
     own = own;
+    options = p.options;
     seen = subst (λ (k : PassView). IsPrefix k.seen history) (sym same) p.seen;
     versions = p.versions;
     rise = p.rise;

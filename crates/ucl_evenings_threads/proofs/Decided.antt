@@ -1,5 +1,5 @@
 -- Where each match has one reporter: an evening's board goes by the rows of its reporters.
-use Rattle.std.proofs.Common.{◌≡◌, inl, inr, ⊎_elim, ◌⊎◌, ℕ, zero, suc, ◌+◌, ◌<◌, ◌≤◌, List, [], ◌∷◌, ◌++◌, map, length, slice_get, Some, refl, sym, ap, ◌∙◌, subst, arith}
+use Rattle.std.proofs.Common.{◌≡◌, inl, inr, ⊎_elim, ◌⊎◌, ℕ, zero, suc, ◌<◌, ◌≤◌, List, [], ◌∷◌, ◌++◌, map, length, slice_get, Some, refl, sym, ap, ◌∙◌, subst, arith}
 use Rattle.std.specs.Prelude.{⊤, All, IfOk, Result, Ok, Err}
 use Rattle.std.specs.List.{AllPairs, AllZip, Any, zip}
 use Rattle.std.proofs.lemmas.Option.{get_or_from_slice_get}

@@ -73,12 +73,13 @@ module _ {B R P N V : Type 0} (live : boards.Ghosts B R P N) (board : B) (sink :
   shown_on before s h Ends More screen end on f p =
       let le = begins_length s h on in record {
         own = p.own;
+        options = p.options;
         seen = begins_through (live.reader end.pass).seen s h p.seen on;
         versions = p.versions;
         rise = rise_upper (length before) (length s + 1) (length h + 1) p.versions p.rise (omega arith);
-        ends = subst (λ (text : List ℕ). ScreensEnd (sink.failed end.sink) (sink.taken screen.sink) (sink.taken end.sink) text (More p.versions) end.result)
+        ends = subst (λ (text : List ℕ). ScreensEnd (sink.failed end.screen.sink) (sink.taken screen.sink) (sink.taken end.screen.sink) text (More p.versions) end.result)
             (sym (screens_on screen.options clubs s h 1 (length before) (length s + 1) p.versions on p.rise (omega arith)))
-            (screens_end (sink.failed end.sink) (sink.taken screen.sink) (sink.taken end.sink) (screens_shown screen.options clubs s 1 p.versions) (Ends p.versions) (More p.versions)
+            (screens_end (sink.failed end.screen.sink) (sink.taken screen.sink) (sink.taken end.screen.sink) (screens_shown screen.options clubs s 1 p.versions) (Ends p.versions) (More p.versions)
             end.result (f p.versions) p.ends);
         served = p.served;
       }
@@ -89,6 +90,7 @@ pub shown_since : {B R P N V : Type 0} (live : boards.Ghosts B R P N) (board : B
 shown_since live board sink clubs first before h Ends screen end on p =
     let le = begins_length first before on in record {
       own = p.own;
+      options = p.options;
       seen = p.seen;
       versions = p.versions;
       rise = rise_lower (length first) (length before) (length h + 1) p.versions p.rise (omega arith);

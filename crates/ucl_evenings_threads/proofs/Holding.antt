@@ -56,10 +56,11 @@ module _ {B R P N V : Type 0} (live : boards.Ghosts B R P N) (board : B) (sink :
   shown_whole before s h version screen end on long p =
       let q = shown_on live board sink clubs before s h (LastIsAtLeast version) (LastIsAtLeast version) screen end on (λ versions e. e) p in record {
         own = q.own;
+        options = q.options;
         seen = q.seen;
         versions = q.versions;
         rise = q.rise;
-        ends = screens_end (sink.failed end.sink) (sink.taken screen.sink) (sink.taken end.sink) (screens_shown screen.options clubs h 1 q.versions) (LastIsAtLeast version q.versions)
+        ends = screens_end (sink.failed end.screen.sink) (sink.taken screen.sink) (sink.taken end.screen.sink) (screens_shown screen.options clubs h 1 q.versions) (LastIsAtLeast version q.versions)
             (LastIs version q.versions) end.result
             (ends_at (length before) version q.versions (subst (λ (n : ℕ). RiseWithin (length before) (n + 1) q.versions) long q.rise)) q.ends;
         served = q.served;

@@ -1,6 +1,6 @@
 -- What is told of workers' faults, and the exit status.
 use Rattle.std.proofs.Common.{◌≡◌, ◌∙◌, ℕ, suc, ◌+◌, ◌<◌, ◌≤◌, Bool, refl, sym, ap, subst, List, [], ◌∷◌, ◌++◌, length, take, drop, get_or, Option}
-use Rattle.std.proofs.Common.{Some, None, inl, inr, length-append, arith, true}
+use Rattle.std.proofs.Common.{None, inl, inr, length-append, arith, true}
 use Rattle.std.specs.Prelude.{⊤, Result, Ok, Err, unwrap_or}
 use Rattle.std.specs.Io.KnownBytes.{Appends}
 use Rattle.std.proofs.lemmas.List.{take-append-le}
@@ -8,10 +8,16 @@ use Rattle.ucl_io.proofs.MovedBytes.{appends-then}
 use Rattle.ucl_runs.specs.declared.fault.RunFault.TheVariants.{Input, OutOfMemory, WriteFailed, NotOnDuty, NoThread, TooManyReporters, Strangers}
 use Rattle.ucl_runs.specs.Run.{IsCutShort}
 use Rattle.ucl_runs.specs.Telling.{Tells}
+use Rattle.ucl_runs.specs.Faults.{status}
 use Rattle.ucl_runs.specs.declared.fault.RunFault.{RunFault}
 use Rattle.ucl_evenings_threads.specs.declared.ending.Part.{Part}
 use Rattle.ucl_evenings_threads.specs.declared.ending.Worker.{Worker}
-use Rattle.ucl_evenings_threads.specs.Ending.{TellsAll, TellsEnd, TellsResult, first_status, status_at}
+use Rattle.ucl_evenings_threads.specs.declared.ending.Worker.TheVariants.{Reporter}
+use Rattle.ucl_evenings_threads.specs.declared.workers.ReporterEnd.{ReporterEnd}
+use Rattle.ucl_evenings_threads.specs.declared.workers.ScreenEnd.{ScreenEnd}
+use Rattle.ucl_command.specs.declared.options.Format.{Format}
+use Rattle.ucl_command.specs.declared.options.Format.TheVariants as forms
+use Rattle.ucl_evenings_threads.specs.Ending.{TellsAll, TellsEnd, TellsResult, first_status, number_for, one_of, reporter_parts, screen_parts, status_at, worker_for}
 use Rattle.ucl_command.proofs.Lists.{first_left, past_end}
 
 -- ---- a line of two parts
@@ -50,32 +56,11 @@ told_second failed old between new a b out (inr broke) = let short = broke.first
   };
 })
 
--- ---- the status of the first fault
-
-pub status_passed : (i : ℕ) (parts : List Part) (d : Part) (whole : ℕ) → i < length parts → None ≡ status_at (get_or parts i d).result
-    → first_status (drop i parts) ≡ whole → first_status (drop (i + 1) parts) ≡ whole
-unfolding first_status
-status_passed i parts d whole h well so_far =
-    ap (λ (o : Option ℕ). unwrap_or o (first_status (drop (i + 1) parts))) well ∙ ap first_status (sym (first_left i parts d h)) ∙ so_far
-
-pub status_found : (i : ℕ) (parts : List Part) (d : Part) (code whole : ℕ) → i < length parts → Some code ≡ status_at (get_or parts i d).result
-    → first_status (drop i parts) ≡ whole → code ≡ whole
-unfolding first_status
-status_found i parts d code whole h failed so_far =
-    ap (λ (o : Option ℕ). unwrap_or o (first_status (drop (i + 1) parts))) failed ∙ ap first_status (sym (first_left i parts d h)) ∙ so_far
-
-pub status_none : (i : ℕ) (parts : List Part) (whole : ℕ) → length parts ≤ i → first_status (drop i parts) ≡ whole → 0 ≡ whole
-unfolding first_status
-status_none i parts whole h so_far = rw (past_end i parts h) at so_far
-
 -- ---- what is told
 
 -- what is told of the parts that are left completes what was told; a sink that has failed by now has failed in the end
 abbrev pub Completes : List Part → List Part → Bool → Option (List ℕ) → Option (List ℕ) → Type 0
 Completes left parts failed now old = (end : Bool) (new : Option (List ℕ)) → (failed ≡ true → end ≡ true) → TellsAll left end now new → TellsAll parts end old new
-
-pub told_start : (parts : List Part) (failed : Bool) (old : Option (List ℕ)) → Completes (drop 0 parts) parts failed old old
-told_start parts failed old end new stays told = told
 
 -- a line that broke off, where the sink has failed since
 told_later : (worker : Worker) (number : ℕ) (r : Result ⊤ RunFault) (failed end : Bool) (old new : Option (List ℕ)) → (failed ≡ true → end ≡ true)
@@ -84,16 +69,74 @@ told_later worker number (Ok done) failed end old new stays told = told
 told_later worker number (Err fault) failed end old new stays (inl all) = inl all
 told_later worker number (Err fault) failed end old new stays (inr broke) = inr (record { failed_is = stays broke.failed_is; count = broke.count; first = broke.first })
 
-pub told_step : (i : ℕ) (parts : List Part) (d : Part) (before failed : Bool) (old now next : Option (List ℕ)) → i < length parts
-    → TellsEnd (get_or parts i d) failed now next → (before ≡ true → failed ≡ true) → Completes (drop i parts) parts before now old
-    → Completes (drop (i + 1) parts) parts failed next old
-unfolding TellsAll
-told_step i parts d before failed old now next h told stays so_far end new more rest =
-    let part = get_or parts i d in
-    let line = told_later part.worker part.number part.result failed end now next more told in
-    so_far end new (λ e. more (stays e)) (subst (λ (left : List Part). TellsAll left end now new) (sym (first_left i parts d h)) (next, line, rest))
+-- a part that ended well leaves the first status as it is
+pub count_well : (first : Option ℕ) (part : Part) (rest : List Part) (done : ⊤) → part.result ≡ Ok done
+    → unwrap_or first (first_status rest) ≡ unwrap_or first (first_status (part ∷ rest))
+unfolding first_status
+count_well first part rest done is = ap (λ (r : Result ⊤ RunFault). unwrap_or first (unwrap_or (status_at r) (first_status rest))) (sym is)
 
-pub told_end : (i : ℕ) (parts : List Part) (failed : Bool) (old now : Option (List ℕ)) → length parts ≤ i → Completes (drop i parts) parts failed now old
-    → TellsAll parts failed old now
+pub count_fault : (first : Option ℕ) (part : Part) (rest : List Part) (fault : RunFault) (code : ℕ) → part.result ≡ Err fault → code ≡ unwrap_or first (status fault)
+    → code ≡ unwrap_or first (first_status (part ∷ rest))
+unfolding first_status
+count_fault first part rest fault code is code_is = code_is ∙ ap (λ (r : Result ⊤ RunFault). unwrap_or first (unwrap_or (status_at r) (first_status rest))) (sym is)
+
+-- so much was told of these parts, and the status of the first fault so far is this
+pub record StandsAt (parts left : List Part) (failed : Bool) (old now : Option (List ℕ)) (first : Option ℕ) : Type 0 where
+  pub told : Completes left parts failed now old
+  pub status : unwrap_or first (first_status left) ≡ first_status parts
+
+pub stands_first : (parts : List Part) (failed : Bool) (old : Option (List ℕ)) → StandsAt parts parts failed old old None
+stands_first parts failed old = record { told = λ end new stays told. told; status = refl }
+
+pub stands_next : (parts left rest : List Part) (part : Part) (before failed : Bool) (old now next : Option (List ℕ)) (first first2 : Option ℕ) → left ≡ part ∷ rest
+    → TellsEnd part failed now next → (before ≡ true → failed ≡ true)
+    → ((rest : List Part) → unwrap_or first2 (first_status rest) ≡ unwrap_or first (first_status (part ∷ rest)))
+    → StandsAt parts left before old now first → StandsAt parts rest failed old next first2
 unfolding TellsAll
-told_end i parts failed old now h so_far = so_far failed now (λ e. e) (subst (λ (left : List Part). TellsAll left failed now now) (sym (past_end i parts h)) refl)
+stands_next parts left rest part before failed old now next first first2 is told stays count s = record {
+  told = λ end new more all.
+      let line = told_later part.worker part.number part.result failed end now next more told in
+      s.told end new (λ e. more (stays e)) (subst (λ (l : List Part). TellsAll l end now new) (sym is) (next, line, all));
+  status = count rest ∙ (ap (λ (l : List Part). unwrap_or first (first_status l)) (sym is) ∙ s.status);
+}
+
+pub stands_last : (parts left : List Part) (failed : Bool) (old now : Option (List ℕ)) (first : Option ℕ) → left ≡ [] → StandsAt parts left failed old now first
+    → TellsAll parts failed old now × (unwrap_or first 0 ≡ first_status parts)
+unfolding TellsAll first_status
+stands_last parts left failed old now first none s = (
+  s.told failed now (λ e. e) (subst (λ (l : List Part). TellsAll l failed now now) (sym none) refl),
+  ap (λ (l : List Part). unwrap_or first (first_status l)) (sym none) ∙ s.status,
+)
+
+pub tells_later : (parts : List Part) (failed end : Bool) (old now : Option (List ℕ)) → (failed ≡ true → end ≡ true) → TellsAll parts failed old now → TellsAll parts end old now
+unfolding TellsAll
+tells_later [] failed end old now stays told = told
+tells_later (part ∷ parts) failed end old now stays told =
+    (told.0, told_later part.worker part.number part.result failed end old told.0 stays told.1, tells_later parts failed end told.0 now stays told.2)
+
+-- ---- the workers that are left
+
+pub reporters_left : {P S W : Type 0} (i number : ℕ) (ends : List (ReporterEnd P S W)) (end : ReporterEnd P S W) (more : List Part) → i < length ends → end ≡ get_or ends i end
+    → reporter_parts number (drop i ends) ++ more ≡ record { worker = Reporter; number = number; result = end.result } ∷ reporter_parts (number + 1) (drop (i + 1) ends) ++ more
+unfolding reporter_parts
+reporters_left {P} {S} {W} i number ends end more h is =
+    ap (λ (l : List (ReporterEnd P S W)). reporter_parts number l ++ more) (first_left i ends end h ∙ ap (λ (x : ReporterEnd P S W). x ∷ drop (i + 1) ends) (sym is))
+
+pub reporters_done : {P S W : Type 0} (i number : ℕ) (ends : List (ReporterEnd P S W)) (more : List Part) → length ends ≤ i → reporter_parts number (drop i ends) ++ more ≡ more
+unfolding reporter_parts
+reporters_done {P} {S} {W} i number ends more h = ap (λ (l : List (ReporterEnd P S W)). reporter_parts number l ++ more) (past_end i ends h)
+
+pub screens_left : {R V : Type 0} (i text json : ℕ) (ends : List (ScreenEnd R V)) (end : ScreenEnd R V) (form : Format) (worker : Worker) (number text2 json2 : ℕ) → i < length ends
+    → end ≡ get_or ends i end → end.screen.options.format ≡ form → worker ≡ worker_for form → number ≡ number_for form text json
+    → text2 ≡ text + one_of forms.Text form → json2 ≡ json + one_of forms.Json form
+    → screen_parts text json (drop i ends) ≡ record { worker = worker; number = number; result = end.result } ∷ screen_parts text2 json2 (drop (i + 1) ends)
+unfolding screen_parts
+screens_left {R} {V} i text json ends end form worker number text2 json2 h at is w n t j =
+    rw (w, n, t, j)
+    (ap (screen_parts text json) (first_left i ends end h ∙ ap (λ (x : ScreenEnd R V). x ∷ drop (i + 1) ends) (sym at))
+    ∙ ap (λ (f : Format). record { worker = worker_for f; number = number_for f text json; result = end.result }
+    ∷ screen_parts (text + one_of forms.Text f) (json + one_of forms.Json f) (drop (i + 1) ends)) is)
+
+pub screens_done : {R V : Type 0} (i text json : ℕ) (ends : List (ScreenEnd R V)) → length ends ≤ i → screen_parts text json (drop i ends) ≡ []
+unfolding screen_parts
+screens_done i text json ends h = ap (screen_parts text json) (past_end i ends h)

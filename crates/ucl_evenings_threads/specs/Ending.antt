@@ -1,8 +1,13 @@
 -- How an evening ends: what is told of its faults, and the exit status.
-use Rattle.std.specs.Prelude.{◌≡◌, ℕ, ⊤, Bool, List, [], ◌∷◌, ◌++◌, Option, Some, None, unwrap_or, codes, decimal, Result, Ok, Err}
+use Rattle.std.specs.Prelude.{◌≡◌, ℕ, ◌+◌, ⊤, Bool, List, [], ◌∷◌, ◌++◌, Option, Some, None, unwrap_or, codes, decimal, Result, Ok, Err}
 use Rattle.ucl_runs.specs.declared.fault.RunFault.{RunFault}
 use Rattle.ucl_runs.specs.Faults.{status}
 use Rattle.ucl_runs.specs.Telling.{Tells, fault_line}
+use Rattle.ucl_command.specs.declared.options.Format.{Format}
+use Rattle.ucl_command.specs.declared.options.Format.TheVariants as forms
+use Rattle.ucl_evenings_threads.specs.declared.evening.EveningEnd.{EveningEnd}
+use Rattle.ucl_evenings_threads.specs.declared.workers.ReporterEnd.{ReporterEnd}
+use Rattle.ucl_evenings_threads.specs.declared.workers.ScreenEnd.{ScreenEnd}
 use Rattle.ucl_evenings_threads.specs.declared.ending.Part.{Part}
 use Rattle.ucl_evenings_threads.specs.declared.ending.Worker.{Worker}
 use Rattle.ucl_evenings_threads.specs.declared.ending.Worker.TheVariants.{Reporter, Screen, Json}
@@ -33,6 +38,39 @@ TellsEnd part failed old new = TellsResult part.worker part.number part.result f
 unfoldable pub TellsAll : List Part → Bool → Option (List ℕ) → Option (List ℕ) → Type 0
 TellsAll [] failed old new = new ≡ old
 TellsAll (part ∷ parts) failed old new = (between : Option (List ℕ)) × TellsEnd part failed old between × TellsAll parts failed between new
+
+-- ---- how the workers of an evening ended
+
+-- reporters, counted from this number on
+unfoldable pub reporter_parts : {P S W : Type 0} → ℕ → List (ReporterEnd P S W) → List Part
+reporter_parts number [] = []
+reporter_parts number (end ∷ ends) = record { worker = Reporter; number = number; result = end.result } ∷ reporter_parts (number + 1) ends
+
+abbrev pub worker_for : Format → Worker
+worker_for forms.Text = Screen
+worker_for forms.Json = Json
+
+-- what has this form is counted by one of two numbers
+abbrev pub number_for : Format → ℕ → ℕ → ℕ
+number_for forms.Text text json = text
+number_for forms.Json text json = json
+
+abbrev pub one_of : Format → Format → ℕ
+one_of forms.Text forms.Text = 1
+one_of forms.Json forms.Json = 1
+one_of _ _ = 0
+
+-- screens: those of text and those in JSON are counted each for themselves, from these numbers on
+unfoldable pub screen_parts : {R V : Type 0} → ℕ → ℕ → List (ScreenEnd R V) → List Part
+screen_parts text json [] = []
+screen_parts text json (end ∷ ends) =
+    let form = end.screen.options.format in
+    record { worker = worker_for form; number = number_for form text json; result = end.result }
+    ∷ screen_parts (text + one_of forms.Text form) (json + one_of forms.Json form) ends
+
+-- all of an evening, in the order in which they were given
+abbrev pub parts_of : {Q P S W V : Type 0} → EveningEnd Q P S W V → List Part
+parts_of end = reporter_parts 1 end.reporters.items ++ screen_parts 1 1 end.screens.items
 
 -- the status of a fault, where there is one
 abbrev pub status_at : Result ⊤ RunFault → Option ℕ

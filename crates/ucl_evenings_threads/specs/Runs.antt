@@ -131,11 +131,13 @@ pub record HasLookedOn {B R P N V : Type 0} (live : boards.Ghosts B R P N) (boar
 pub record HasShownOf {B R P N V : Type 0} (live : boards.Ghosts B R P N) (board : B) (sink : sinks.Ghosts V) (clubs : List NamedClub) (before history : List Entry)
     (Ends : List ℕ → Type 0) (screen : Screen V) (end : ScreenEnd R V) : Type 0 where
   pub own : live.is_reader board end.pass
+  pub options : end.screen.options ≡ screen.options
   pub seen : IsPrefix (live.reader end.pass).seen history
   pub versions : List ℕ
   pub rise : RiseWithin (length before) (length history + 1) versions
-  pub ends : ScreensEnd (sink.failed end.sink) (sink.taken screen.sink) (sink.taken end.sink) (screens_shown screen.options clubs history 1 versions) (Ends versions) end.result
-  pub served : SinkServed sink screen.sink end.sink end.result
+  pub ends : ScreensEnd (sink.failed end.screen.sink) (sink.taken screen.sink) (sink.taken end.screen.sink) (screens_shown screen.options clubs history 1 versions) (Ends versions)
+      end.result
+  pub served : SinkServed sink screen.sink end.screen.sink end.result
 
 -- a screen with a lent pass has shown boards of a history, and the last of them is no lower than this, where it ended well
 abbrev pub HasShownAbove : {B R P N V : Type 0} → boards.Ghosts B R P N → B → sinks.Ghosts V → List NamedClub → List Entry → ℕ → Looking R V → ScreenEnd R V → Type 0

@@ -1,17 +1,20 @@
 //! How the program ends: its last words, what is told of faults, and its exit status.
 
-ghost use Rattle.std.specs.Prelude.{◌≡◌, true, OnOk, IfErr};
+ghost use Rattle.std.specs.Prelude.{◌≡◌, ◌∷◌, true, List, OnOk, IfErr, unwrap_or};
 ghost use Rattle.std.specs.Io.KnownBytes.{Appends};
 ghost use Rattle.ucl_runs.specs.Faults.{status};
 ghost use Rattle.ucl_runs.specs.Feed.{word_lines};
 ghost use Rattle.ucl_runs.specs.Run.{IsCutShort};
 ghost use Rattle.ucl_runs.specs.Telling.{Tells};
-ghost use Rattle.ucl_evenings_threads.specs.Ending.{TellsAll, TellsEnd, first_status, part_heading, part_line, status_at, worker_name};
+ghost use Rattle.ucl_evenings_threads.specs.Ending.{TellsAll, TellsEnd, first_status, part_heading, part_line, parts_of, worker_name};
+ghost use Rattle.ucl_evenings_threads.specs.declared.ending.Part.{Part};
 
+use crate::evening::EveningEnd;
 use arrayvec::ArrayString;
 use itoa::Buffer;
 use ucl_answers::word_lines;
 use ucl_board::Board;
+use ucl_command::Format;
 use ucl_runs::{RunFault, put_text, status_of, tell};
 use ucl_screen::{Sink, give_all};
 
@@ -32,7 +35,7 @@ pub struct Part {
     /// What it is.
     pub worker: Worker,
     /// Its place among those of its kind on the command line, from 1.
-    pub number: u8,
+    pub number: usize,
     /// How it ended.
     pub result: Result<(), RunFault>,
 }
@@ -49,7 +52,7 @@ fn name_of(worker: Worker) -> &'static str
 }
 
 /// What stands before the line of a worker's fault.
-fn heading_of(worker: Worker, number: u8) -> ArrayString<32>
+fn heading_of(worker: Worker, number: usize) -> ArrayString<32>
     ensures { result.bytes ≡ part_heading worker number }
 {
     let mut heading = ArrayString::new();
@@ -61,7 +64,7 @@ fn heading_of(worker: Worker, number: u8) -> ArrayString<32>
 
 /// Tells of a worker's fault by its line, which begins with the worker's place, as far as the error sink takes it, and gives the exit status.
 #[tactic(auto, using(crate::proofs::Told::broke_first, crate::proofs::Told::told_second))]
-pub fn tell_part<E: Sink>(errors: &mut E, worker: Worker, number: u8, fault: RunFault) -> u8
+pub fn tell_part<E: Sink>(errors: &mut E, worker: Worker, number: usize, fault: RunFault) -> u8
     ensures status { result ≡ status fault }
     ensures told { Tells (E.failed errors.new) (E.taken errors.old) (E.taken errors.new)
         (part_line worker number fault) }
@@ -73,49 +76,60 @@ pub fn tell_part<E: Sink>(errors: &mut E, worker: Worker, number: u8, fault: Run
     }
 }
 
-/// Tells how a worker ended: nothing where it ended well.
-fn tell_end<E: Sink>(errors: &mut E, part: &Part)
-    ensures told { TellsEnd part.now (E.failed errors.new) (E.taken errors.old) (E.taken errors.new) }
+/// Tells how a worker ended: nothing where it ended well. Gives the status of the first fault, where there was one before, or is one now.
+fn tell_end<E: Sink>(errors: &mut E, part: Part, first: Option<u8>) -> Option<u8>
+    ensures told { TellsEnd part (E.failed errors.new) (E.taken errors.old) (E.taken errors.new) }
+    ensures stays { E.failed errors.old ≡ true → E.failed errors.new ≡ true }
+    ensures first { (rest : List Part)
+        → unwrap_or result (first_status rest) ≡ unwrap_or first (first_status (part ∷ rest)) }
+{
+    let Err(fault) = part.result else {
+        return first;
+    };
+    let status = tell_part(errors, part.worker, part.number, fault);
+    Some(first.unwrap_or(status))
+}
+
+/// Tells of the faults of all workers of an evening, in their order, and gives the exit status: that of the first fault, or 0 where there is
+/// none. Reporters come first, and then screens; reporters, screens of text and those in JSON are counted each for themselves.
+pub fn tell_faults<Q, P, S, W, V, E: Sink>(errors: &mut E, end: &EveningEnd<Q, P, S, W, V>) -> u8
+    ensures status { result ≡ first_status (parts_of end.now) }
+    ensures told { TellsAll (parts_of end.now) (E.failed errors.new) (E.taken errors.old)
+        (E.taken errors.new) }
     ensures stays { E.failed errors.old ≡ true → E.failed errors.new ≡ true }
 {
-    if let Err(fault) = part.result {
-        let _status = tell_part(errors, part.worker, part.number, fault);
+    let mut first = None;
+    let mut number: usize = 0;
+    for reporter in end.reporters.iter() {
+        number += 1;
+        let part = Part {
+            worker: Worker::Reporter,
+            number,
+            result: reporter.result,
+        };
+        first = tell_end(errors, part, first);
     }
-}
-
-/// The status of a fault, where there is one.
-fn status_at(part: &Part) -> Option<u8>
-    ensures { result ≡ status_at part.now.result }
-{
-    match part.result {
-        Ok(()) => None,
-        Err(fault) => Some(status_of(&fault)),
+    let mut texts: usize = 0;
+    let mut jsons: usize = 0;
+    for screen in end.screens.iter() {
+        let (worker, number) = match screen.screen.options.format {
+            Format::Text => {
+                texts += 1;
+                (Worker::Screen, texts)
+            }
+            Format::Json => {
+                jsons += 1;
+                (Worker::Json, jsons)
+            }
+        };
+        let part = Part {
+            worker,
+            number,
+            result: screen.result,
+        };
+        first = tell_end(errors, part, first);
     }
-}
-
-/// The status of the first fault, or 0 where there is none.
-fn first_status(parts: &[Part]) -> u8
-    ensures { result ≡ first_status parts.now }
-{
-    for part in parts {
-        if let Some(status) = status_at(part) {
-            return status;
-        }
-    }
-    0
-}
-
-/// Tells of the faults of all workers, in their order, and gives the exit status: that of the first fault, or 0 where there is none.
-#[tactic(auto, using(crate::proofs::Told::told_start, crate::proofs::Told::told_end))]
-pub fn tell_faults<E: Sink>(errors: &mut E, parts: &[Part]) -> u8
-    ensures status { result ≡ first_status parts.now }
-    ensures told { TellsAll parts.now (E.failed errors.new) (E.taken errors.old)
-        (E.taken errors.new) }
-{
-    for part in parts {
-        tell_end(errors, part);
-    }
-    first_status(parts)
+    first.unwrap_or(0)
 }
 
 /// Writes the word lines of a board, whole, or as far as the sink takes them.

@@ -133,7 +133,7 @@ fn finish<B: LiveBoard, V: Sink, R: Wait>(
     if let Err(fault) = result {
         return ScreenEnd {
             pass: theirs,
-            sink: screen.sink,
+            screen,
             result: Err(fault),
         };
     }
@@ -151,7 +151,7 @@ fn finish<B: LiveBoard, V: Sink, R: Wait>(
     );
     ScreenEnd {
         pass: theirs,
-        sink: screen.sink,
+        screen,
         result,
     }
 }

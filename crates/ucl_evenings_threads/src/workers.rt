@@ -40,8 +40,8 @@ pub struct ReporterEnd<P, S, W> {
 pub struct ScreenEnd<P, V> {
     /// The pass that read the board.
     pub pass: P,
-    /// Where the screens went.
-    pub sink: V,
+    /// The screen, as it was given.
+    pub screen: Screen<V>,
     /// How its run ended.
     pub result: Result<(), RunFault>,
 }

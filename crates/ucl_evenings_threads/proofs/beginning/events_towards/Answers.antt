@@ -1,8 +1,8 @@
-use Rattle.std.proofs.Common.{◌≡◌, ◌+◌, ◌∷◌, [], arith, rules, sym, subst, true, length, length-append, List}
+use Rattle.std.proofs.Common.{◌≡◌, ◌+◌, ◌∷◌, [], arith, rules, true, length, length-append}
 use Rattle.std.specs.Result.{is_ok}
 use Rattle.ucl_word.specs.Record.{IsReporter}
 use Rattle.ucl_screen.specs.declared.night.NightEvent.{NightEvent}
-use Rattle.ucl_evenings_threads.proofs.Beginnings.{IsUnderWay, begun_way, next_on_way, room_on_way}
+use Rattle.ucl_evenings_threads.proofs.Beginnings.{begun_way, next_on_way, room_on_way}
 use Rattle.ucl_evenings_threads.proofs.beginning.events_towards.Goals as goal
 
 pub events-init : goal.events-init

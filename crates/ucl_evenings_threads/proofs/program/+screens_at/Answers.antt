@@ -1,0 +1,18 @@
+use Rattle.std.proofs.Common.{refl}
+use Rattle.ucl_evenings_threads.specs.Program.{IsAskedFor}
+use Rattle.ucl_evenings_threads.proofs.Zips.{zip_none, zip_push}
+use Rattle.ucl_evenings_threads.proofs.program.+screens_at.Goals as goal
+
+pub returns-in_default-clause-asked : goal.returns-in_default-clause-asked
+returns-in_default-clause-asked g t c = zip_none (IsAskedFor c.args.asked.now) _ _ c.in_default.ensures.none c.new.ensures.items
+
+pub returns-clause-asked : goal.returns-clause-asked
+returns-clause-asked g t c =
+    rw (c.in-Some.ensures.some, c.in_ok-put.ensures.items)
+    (zip_push (IsAskedFor c.args.asked.now) _ _ _ _ c.in_ok-screens.ensures.asked
+    (record {
+      sink = refl;
+      group = c.options_for-options.ensures.group;
+      profile = c.options_for-options.ensures.profile;
+      format = c.options_for-options.ensures.format;
+    }))

@@ -1,0 +1,65 @@
+-- What `ucl_evening` does, once it has its script, and the files and pipes of its reporters and screens.
+use Rattle.std.specs.Prelude.{◌≡◌, ◌⊎◌, ◌==◌, ℕ, ⊤, Bool, List, Option, Result, Ok, Err, if◌then◌else◌}
+use Rattle.std.specs.List.{AllZip}
+use Rattle.ucl_board.specs.declared.entry.Entry.{Entry}
+use Rattle.ucl_command.specs.declared.files.EveningArgs.{EveningArgs}
+use Rattle.ucl_io.specs.declared.stream.Source as sources
+use Rattle.ucl_io.specs.declared.stream.Sink as sinks
+use Rattle.ucl_runs.specs.declared.fault.RunFault.{RunFault}
+use Rattle.ucl_runs.specs.Ending.{Ends, WritesText}
+use Rattle.ucl_runs.specs.Feed.{word_lines}
+use Rattle.ucl_screen.specs.declared.night.Night.{Night}
+use Rattle.ucl_shared.specs.declared.live_board.LiveBoard as boards
+use Rattle.ucl_evenings_threads.specs.declared.earlier.Earlier.{Earlier}
+use Rattle.ucl_evenings_threads.specs.declared.evening.EveningEnd.{EveningEnd}
+use Rattle.ucl_evenings_threads.specs.declared.program.Place.{Place}
+use Rattle.ucl_evenings_threads.specs.declared.workers.Reporter.{Reporter}
+use Rattle.ucl_evenings_threads.specs.declared.workers.Screen.{Screen}
+use Rattle.ucl_evenings_threads.specs.Earlier.{IsWhyNotEntered, WereEntered}
+use Rattle.ucl_evenings_threads.specs.Ending.{TellsAll, first_status, parts_of}
+use Rattle.ucl_evenings_threads.specs.Held.{HasHeld}
+use Rattle.ucl_evenings_threads.specs.OneReporter.{RowsDecide}
+use Rattle.ucl_evenings_threads.specs.Runs.{IsOfThreads}
+
+-- a screen goes to this place, in the group, the order and the form that were asked for
+pub record IsAskedFor {V : Type 0} (asked : EveningArgs) (place : Place V) (screen : Screen V) : Type 0 where
+  pub sink : screen.sink ≡ place.sink
+  pub group : screen.options.group ≡ asked.group
+  pub profile : screen.options.profile ≡ asked.profile
+  pub format : screen.options.format ≡ place.format
+
+-- the events of the script were entered on a board, on which this had been seen before, and then an evening was held there, with the
+-- script's clubs, of these reporters and of a screen at each place
+pub record IsEveningOf {B R P N S W V : Type 0} (live : boards.Ghosts B R P N) (board : B) (source : sources.Ghosts S) (replies : sinks.Ghosts W) (sink : sinks.Ghosts V)
+    (asked : EveningArgs) (night : Night) (before : List Entry) (reporters : List (Reporter S W)) (places : List (Place V)) (end : EveningEnd R P S W V) : Type 0 where
+  pub earlier : Earlier R P
+  pub entered : WereEntered live before night.events.items earlier.pass earlier.reporters.items
+  pub screens : List (Screen V)
+  pub asked_for : AllZip (IsAskedFor asked) places screens
+  pub held : HasHeld live board source replies sink night.roster (live.reader earlier.pass).seen earlier.reporters.items reporters screens end
+  pub decided : RowsDecide live source (live.reader earlier.pass).seen earlier.reporters.items reporters end
+
+-- the evening was not held: an event of the script was not entered, or there was no memory, no thread or no number for a part of it, or the
+-- board has events of others
+abbrev pub IsWhyNotHeld : {B R P N : Type 0} → boards.Ghosts B R P N → B → Night → List Entry → RunFault → Type 0
+IsWhyNotHeld live board night before fault = IsWhyNotEntered live board before night.events.items fault ⊎ IsOfThreads fault
+
+-- the first status, and the last where that is 0
+abbrev pub status_of_two : ℕ → ℕ → ℕ
+status_of_two first last = if first == 0 then last else first
+
+-- an evening was concluded: how each part ended was told, the words of the last board went out, or that they did not was told, and this is the
+-- exit status
+pub record Concludes {Q P S W V : Type 0} (end : EveningEnd Q P S W V) (status : ℕ) (failed : Bool) (old new : Option (List ℕ)) (errors_failed : Bool) (errors_old errors_new : Option (List ℕ)) : Type 0 where
+  pub between : Option (List ℕ)
+  pub told : TellsAll (parts_of end) errors_failed errors_old between
+  pub done : Result ⊤ RunFault
+  pub words : WritesText (word_lines 1 end.last.board) failed old new done
+  pub last : ℕ
+  pub ends : Ends done last errors_failed between errors_new
+  pub status_is : status ≡ status_of_two (first_status (parts_of end)) last
+
+-- the same, or an evening was not held: nothing went out, the fault was told, and this is its status
+abbrev pub EndsEvening : {Q P S W V : Type 0} → Result (EveningEnd Q P S W V) RunFault → ℕ → Bool → Option (List ℕ) → Option (List ℕ) → Bool → Option (List ℕ) → Option (List ℕ) → Type 0
+EndsEvening (Ok end) status failed old new errors_failed errors_old errors_new = Concludes end status failed old new errors_failed errors_old errors_new
+EndsEvening (Err fault) status failed old new errors_failed errors_old errors_new = (new ≡ old) × Ends (Err fault) status errors_failed errors_old errors_new
