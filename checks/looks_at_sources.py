@@ -12,13 +12,56 @@ import sources
 # What goes beside the log: a load, a wait or a wake of a cell or a table that is no step of a pass.
 UNCOUNTED = re.compile(r"\b(peek|park|wake_one|load_new_seat|swap_new_seat|into_badge|close|close_with)\b|\.pass\(")
 STEP = re.compile(r"^impl\b.*\b(Play|Outcome|Split|Join)\b.* for (?:\w+::)*([A-Za-z]+)")
-ACTS = re.compile(r"^\s*impl\b(?:<.*>)? (?:\w+::)*Drop\b.* for |^\s*(?:pub )?use .*\bDrop\b")
 # The kinds of step of each board, in the order of the file of its rule, and the parts of the board.
 KINDS = {
     "ucl_words": "Play Look, Play First, Play Second, Play CountEnlisted, Play Swap, Play Enlist, Split SecondPass, Split Note, Join Note",
     "ucl_pass": "Outcome LooksAt, Outcome Adds, Outcome Reads, Outcome Counts, Outcome Enlists, Split SecondPass, Split Note, Join Note",
 }
-BOARDS = {"ucl_words": "pub struct WordBoard {\n    table: Table,\n}\n", "ucl_pass": "pub struct CellBoard {\n    cell: Cell,\n}\n"}
+# What a board, its passes and its notes have, and what that is of.
+PARTS = {
+    "ucl_words": [
+        "pub struct WordBoard { table: Table, }", "pub type Table = atomic_table::Table<Entry, WordView, (), OneHistory, Global>;",
+        "pub type Seat = atomic_table::Seat<Entry, WordView>;", "pub struct WordReaderPass { pub(crate) seat: Seat, }",
+        "pub struct WordNote { pub(crate) seat: Seat, }",
+        "pub struct WordReporterPass { pub(crate) seat: Seat, pub(crate) number: ReporterNo, pub(crate) accepted: u16, }",
+    ],
+    "ucl_pass": [
+        "pub struct CellBoard { cell: Cell, }", "pub type Cell = RuledSeqCell<[u64; 13], CellView, OneHistory, 13>;",
+        "pub type Seat = Pass<[u64; 13], CellView>;", "pub struct CellReaderPass { pub(crate) seat: Seat, }", "pub struct CellNote { pub(crate) seat: Seat, }",
+        "pub struct CellReporterPass { pub(crate) seat: Seat, pub(crate) number: ReporterNo, pub(crate) accepted: u16, }",
+    ],
+}
+# What the types of the boards, of their readings and of handles implement, and no more: what is derived, and behind a bar what is written. So
+# none acts when it is let go, no load is of a kind of its own, and no equality is written, and no text but that of refusals.
+PLAIN = "Clone Copy Debug Eq PartialEq"
+TRAITS = {
+    "ucl_word": {
+        **dict.fromkeys(["Accepted", "EventCall", "Kind", "Side"], PLAIN),
+        **dict.fromkeys(["MatchRecord", "State"], "Clone Copy Debug Default Eq PartialEq"),
+        **dict.fromkeys(["MatchNo", "ReporterNo"], f"{PLAIN} | Model"), "BadWord": "Clone Copy Debug Eq Error PartialEq", "Tally": "Clone Copy",
+        "OutOfMemory": "Clone Copy Debug Eq Error PartialEq | From<AllocError> From<AllocFailed<T>>", "Refusal": f"{PLAIN} | error::Error fmt::Display",
+    },
+    "ucl_board": {"BadWordAt": "Clone Copy Debug Eq Error PartialEq", "Board": f"{PLAIN} | Model", "Entry": PLAIN, "Reading": PLAIN},
+    "ucl_shared": {"Brand": "| Asking", "Strangers": "Clone Copy Debug Eq Error PartialEq", "TooManyReporters": "Drop Error", "View": "| Model"},
+    "ucl_pass": {
+        **dict.fromkeys(["Adds<K>", "Counts<K>", "Enlists<K>", "LooksAt<K>", "Reads<K>"], "| Outcome<[u64; 13], CellView>"),
+        **dict.fromkeys(["CellNote", "CellReaderPass", "CellReporterPass"], "Drop | Model"), "CellBoard": "Drop | LiveBoard Model",
+        "CellView": "| Model", "Note": "| Join<CellView> Split<CellView>", "OneHistory": "| Protocol<[u64; 13], CellView>",
+        "SecondPass": "| Split<CellView>",
+    },
+    "ucl_words": {
+        **dict.fromkeys(["CountEnlisted<K>", "Enlist<K>", "First", "Look<K>", "Second<K>", "Swap<K>"], "| Play<Entry, WordView>"),
+        **dict.fromkeys(["WordNote", "WordReaderPass", "WordReporterPass"], "Drop | Model"), "WordBoard": "Drop | LiveBoard Model",
+        "WordView": "| Model", "Note": "| Join<WordView> Split<WordView>", "OneHistory": "Clone Copy | TableRule<Entry, WordView, ()>",
+        "SecondPass": "| Split<WordView>",
+    },
+    "ucl_c_boards": {"AnyPass": "Drop", "BoardPass": "Drop | Model", "Handle": "| Model Send", "Parts<T, A>": "| Model", "WhyNot": PLAIN},
+}
+DERIVES = re.compile(r"#\s*\[derive\(([^)]*)\)\](?:\s*#\s*\[[^\]]*\])*\s*(?:pub(?:\([^)]*\))?\s+)?(?:struct|enum)\s+(\w+)")
+IMPL = re.compile(r"\bimpl\b\s*(?:<[^{]*?>\s*)?([\w:]+(?:<[^{]*?>)?)\s+for\s+([^{]+?)\s*\{")
+ALIAS = re.compile(r"(?<!ghost )\buse\b[^;]*\bas\b[^;]*;|\bmacro_rules\b")
+# Where a type lets go of its parts by a body that is written.
+LETS_GO = re.compile(r"\bDrop\s+for\b|\bfn\s+drop\b")
 LET_GO = "    {\n        if !self.is_null() {\n            drop(self.take(alloc).into_box());\n        }\n    }\n"
 # What makes, lengthens or replaces the list of the times at which a source was called; `duplex.rt` does so twice.
 LISTS = re.compile(r"\blog\.and\(|\.log\s*=(?!=)|&mut [\w.]+\.log\b|\bCallLog::(?:new|and)\b")
@@ -68,17 +111,39 @@ def kinds_of_step(top):
     return found
 
 
+def code_of(top, crate):
+    """The code of a crate, with no comment."""
+    return "\n".join(re.sub(r"//[^\n]*", "", path.read_text()) for path in sorted((top / "crates" / crate / "src").glob("**/*.rt")))
+
+
+def traits_are_listed(top):
+    """What the types of the boards, of readings and of handles implement is listed, however it is written; and no trait goes by another name."""
+    found = []
+    for crate, known in TRAITS.items():
+        text = code_of(top, crate)
+        has = collections.defaultdict(lambda: ([], []))
+        for derived, name in DERIVES.findall(text):
+            has[next((it for it in known if it.split("<")[0] == name), name)][0].extend(derived.replace(" ", "").replace("\n", "").split(","))
+        for trait, name in IMPL.findall(text):
+            has[" ".join(name.split())][1].append(" ".join(trait.split()))
+        told = {name: " ".join([*sorted(filter(None, derived)), *(["|", *sorted(written)] if written else [])]) for name, (derived, written) in has.items()}
+        found += [f"{crate}: `{name}` implements {told.get(name, 'nothing')}" for name in sorted({*told, *known}) if told.get(name) != known.get(name)]
+        found += [f"{crate}: {' '.join(line.split())}" for line in ALIAS.findall(text)]
+    return found
+
+
 def nothing_acts_when_let_go(top):
-    """No type of the boards, of nights, of evenings and of handles does anything when it is let go, but let go of its parts."""
-    crates = *KINDS, "ucl_runs", "ucl_evenings", "ucl_evenings_threads", "ucl_c_boards"
-    found = [f"{at}: {line.strip()}" for _, at, line in lines_of(top, *crates) if ACTS.search(line)]
+    """No type of nights and of evenings does anything when it is let go, but let go of its parts; and a handle does so alone."""
+    found = [f"{crate}: {it}" for crate in (*TRAITS, "ucl_runs", "ucl_evenings", "ucl_evenings_threads") for it in LETS_GO.findall(code_of(top, crate))]
     handles = text_of(top, "ucl_c_boards", "src").split("fn let_go(")
     return found + ([] if len(handles) == 2 and LET_GO in handles[1] else ["ucl_c_boards: a handle does something else when it is let go"])
 
 
 def boards_hold_words_alone(top):
-    """A board has its words, and nothing else: no lock, and no copy."""
-    return [f"{crate}: the board has other parts than {text}" for crate, text in BOARDS.items() if text not in text_of(top, crate, "src")]
+    """A board has its words, and nothing else: no lock, and no copy; and a pass or a note has its seat, and of a reporter the number and a count."""
+    texts = {crate: " ".join(code_of(top, crate).split()) for crate in PARTS}
+    found = [f"{crate}: not there: {part}" for crate, parts in PARTS.items() for part in parts if part not in texts[crate]]
+    return found + [f"{crate}: a static, which all boards have" for crate, text in texts.items() if re.search(r"(?<!')\bstatic\b", text)]
 
 
 def night_is_on_words(top):
@@ -207,6 +272,7 @@ def scripts_are_clean(top):
 LOOKS = [
     ("the boards go through their passes", boards_go_through_passes),
     ("the kinds of step of the boards", kinds_of_step),
+    ("what the types of boards, readings and handles implement is listed", traits_are_listed),
     ("passes and handles do nothing when they are let go", nothing_acts_when_let_go),
     ("the boards hold their words alone", boards_hold_words_alone),
     ("a night of the program is on the word board", night_is_on_words),

@@ -41,12 +41,10 @@ use Rattle.ucl_pass.proofs.KeptRule.{match_words, match_word, last_word}
 
 -- an exchange that was won
 pub won : (r : Result (List ℕ) (List ℕ)) (P Q : List ℕ → Type 0) → MatchResult r P Q → is_ok r ≡ true → (x : List ℕ) × P x
-won (Ok x) P Q m is = (x, m)
-won (Err x) P Q m is = absurd (true≢false (sym is))
+won r P Q m is = search (arith, true≢false)
 
 pub lost : (r : Result (List ℕ) (List ℕ)) (P Q : List ℕ → Type 0) → MatchResult r P Q → is_ok r ≡ false → (x : List ℕ) × Q x
-lost (Ok x) P Q m is = absurd (true≢false is)
-lost (Err x) P Q m is = (x, m)
+lost r P Q m is = search (arith, true≢false)
 
 -- just after a load or an exchange
 module _ (words : List ℕ) (v w : View) (seen_all : HasSeenAll words v w) (goes : Goes v w) where
@@ -61,9 +59,7 @@ module _ (words : List ℕ) (v w : View) (seen_all : HasSeenAll words v w) (goes
 
   -- the word of a match, among the twelve and among the thirteen
   pub same_word : (game : ℕ) → IsMatch game → word_at (take 12 words) game ≡ word_at words game
-  same_word game is =
-      ap (λ (ws : List ℕ). word_at ws game) board_seen
-      ∙ (word_after w.seen game is ∙ sym (ap (λ (ws : List ℕ). word_at ws game) seen_all.words_are ∙ match_word w.seen w.listed game is))
+  same_word game is = search (arith, board_seen, word_after, match_word)
 
   pub last_seen : slice_index words 12 ≡ w.listed
   last_seen = ap (λ (ws : List ℕ). slice_index ws 12) seen_all.words_are ∙ last_word w.seen w.listed
@@ -85,9 +81,7 @@ tried_none call v = record { stays = stays_none v; tries = []; takes = takes_non
 -- where an exchange found other words than were looked at, and no event came between, a reporter was enlisted
 
 same_length : (a b : List Entry) → IsPrefix a b → length a ≡ length b → a ≡ b
-same_length a b p same =
-    let none : p.0 ≡ [] = nil_from_length p.0 (omega (arith, ap length p.1, length-append a p.0)) in
-    sym (append-nil a) ∙ (ap (λ (l : List Entry). a ++ l) (sym none) ∙ p.1)
+same_length a b p same = search (arith, nil_from_length, length-append, append-nil)
 
 enlisted_between : (u z : View) (x y : List ℕ) → x ≡ words_after u.seen u.listed → y ≡ words_after z.seen z.listed → y ≢ x → IsPrefix u.seen z.seen → u.listed ≤ z.listed
     → length u.seen ≡ length z.seen → u.listed < z.listed
@@ -100,18 +94,7 @@ enlisted_between u z x y looked found other more le same = dite (native.Mathlib.
 
 lost_more : (listed : ℕ) (tries : List (List Taken)) (one : List Taken) (before after : ℕ) → WereLost listed tries before → before ≤ after → (no_event_between one ≡ true → before < after)
     → WereLost listed (tries ++ one ∷ []) after
-lost_more listed tries one before after lost le more = by (no_event_between one) refl
-  where
-    by : (b : Bool) → no_event_between one ≡ b → WereLost listed (tries ++ one ∷ []) after
-    by true is =
-        let last : filter no_event_between (one ∷ []) ≡ one ∷ [] = ap (λ (b : Bool). cond b (one ∷ []) []) is in
-        let all = ap length (filter-append no_event_between tries (one ∷ []) ∙ ap (λ (l : List (List Taken)). filter no_event_between tries ++ l) last) in
-        let less = more is in
-        omega (arith, all, length-append (filter no_event_between tries) (one ∷ []))
-    by false is =
-        let last : filter no_event_between (one ∷ []) ≡ [] = ap (λ (b : Bool). cond b (one ∷ []) []) is in
-        let all = ap length (filter-append no_event_between tries (one ∷ []) ∙ ap (λ (l : List (List Taken)). filter no_event_between tries ++ l) last) in
-        omega (arith, all, length-append (filter no_event_between tries) [])
+lost_more listed tries one before after lost le more = search (arith, filter-append, length-append)
 
 same_places : (m n : ℕ) → (m == n) ≡ true → m ≡ n
 same_places m n is = dite (ℕ_discrete m n) (λ same. same) (λ not. absurd (true≢false (sym is ∙ ne_eqb m n not)))
@@ -198,15 +181,7 @@ module _ (call : EventCall) (v w u : View) (x : List ℕ) (tried : TriedReport c
     }
 
     pub accepted_continues : Continues (pass_view_of v) (pass_view_of z)
-    accepted_continues = record {
-      sound = sound next u z stored.seen_all stored.adds.goes;
-      on = record {
-        seen = begins_through v.seen u.seen z.seen look_stays.on.seen stored.adds.goes.seen;
-        listed = (let a = look_stays.on.listed in let b = stored.seen_all.listed in omega arith);
-        share = stored.adds.goes.share ∙ look_stays.on.share;
-      };
-      number = stored.adds.number ∙ look_stays.number;
-    }
+    accepted_continues = search (arith, sound, begins_through, look_stays)
 
     pub accepted_steps : (reply : Accepted) → reply_of (record_at (word_at x call.game)) call ≡ Ok reply → CellReport v call (Ok reply) z
     accepted_steps reply answer =
@@ -234,22 +209,16 @@ module _ (call : EventCall) (v w u : View) (x : List ℕ) (tried : TriedReport c
 
 -- a report takes a step at least
 some_steps : (n : ℕ) (call : EventCall) (r : Result Accepted Refusal) (now : ℕ) (steps : List Taken) → Rattle.ucl_pass.specs.CellCalls.CellAnswered n call r now steps → 0 < length steps
-some_steps n call (Ok reply) now steps a = let l = ap length (a.steps_are ∙ ap (steps_with (entry_made n call (Ok reply))) a.deciding.accesses) in omega arith
-some_steps n call (Err refusal) now steps a = let l = ap length (a.steps_are ∙ ap (steps_with (entry_made n call (Err refusal))) a.deciding.accesses) in omega arith
+some_steps n call r now steps a = search arith
 
 pub report_counts : (v w : View) (call : EventCall) (r : Result Accepted Refusal) → CellReport v call r w → count_of v < count_of w
-report_counts v w call r s =
-    let n = some_steps v.number call r (length w.seen) s.last s.answered in
-    omega (arith, takes_count v w (flat_map (λ t. t) s.tries ++ s.last) s.takes, length-append (flat_map (λ t. t) s.tries) s.last)
+report_counts v w call r s = search (arith, some_steps, takes_count, length-append)
 
 -- the words of the next board, with the number of the enlisted
 pub next_words : (x board next : List ℕ) (e : Entry)
     → ((history : List Entry) → IsLegal history → board_of history ≡ take 12 x → (board ≡ board_of (followed_by history e)) × IsLegal (followed_by history e))
     → next ≡ board ++ slice_index x 12 ∷ [] → IsNextBoard e x next
-next_words x board next e counted is n h legal words =
-    let c = counted h legal (sym (match_words h n) ∙ ap (take 12) words) in
-    let last : slice_index x 12 ≡ n = ap (λ (ws : List ℕ). slice_index ws 12) (sym words) ∙ last_word h n in
-    (is ∙ (ap (λ (k : ℕ). board ++ k ∷ []) last ∙ ap (λ (b : List ℕ). b ++ n ∷ []) c.0), c.1)
+next_words x board next e counted is n h legal words = search (arith, match_words, last_word)
 
 -- a reading
 module _ (v w : View) (x : List ℕ) (reading : Reading) (shows : LooksAndShows v x x w) (is : reading ≡ reading_of (take 12 x)) where
@@ -274,11 +243,7 @@ module _ (v w : View) (x : List ℕ) (reading : Reading) (shows : LooksAndShows 
   read_steps = subst (λ (k : ℕ). Takes v (step_taken Rattle.ucl_board.specs.Log.Whole k None ∷ []) w) (sym version_seen) shows.sees.takes
 
   pub read_continues : Continues (pass_view_of v) (pass_view_of w)
-  read_continues = record {
-    sound = sound x v w shows.seen_all shows.sees.goes;
-    on = record { seen = shows.sees.goes.seen; listed = shows.seen_all.listed; share = shows.sees.goes.share };
-    number = shows.sees.number;
-  }
+  read_continues = search (arith, sound)
 
 -- an enlistment, after tries in vain
 pub record TriedEnlist (v w : View) : Type 0 where
@@ -324,34 +289,10 @@ module _ (v w u : View) (x : List ℕ) (tried : TriedEnlist v w) (looked : Looks
 
   module _ (z : View) (next : List ℕ) (stored : StoresReporter u x next z) where
     pub enlisted_says : Enlistment (pass_view_of v) (pass_view_of z)
-    enlisted_says =
-        let e = stored.enlists in
-        record {
-          sound = sound next u z stored.seen_all e.goes;
-          on = record {
-            seen = begins_through v.seen u.seen z.seen count_stays.on.seen e.goes.seen;
-            listed = (let a = count_stays.on.listed in let b = e.above in omega arith);
-            share = e.goes.share ∙ count_stays.on.share;
-          };
-          number = e.number;
-          above = (let a = count_stays.on.listed in let b = e.above in omega arith);
-          fresh = sym e.goes.own ∙ e.mine;
-          mine = e.mine;
-          shown = e.shown;
-        }
+    enlisted_says = search (arith, sound, begins_through, count_stays)
 
     pub enlisted_steps : CellEnlistment v true z
-    enlisted_steps =
-        let swap_step = step_taken (Enlisted (slice_index x 12)) (length z.seen) None in
-        record {
-          tries = tried.tries;
-          last = count_step ∷ swap_step ∷ [];
-          takes = subst (λ (l : List Taken). Takes v l z) (append_assoc (flat_map (λ t. t) tried.tries) (count_step ∷ []) (swap_step ∷ []))
-              (takes_on v u z (flat_map (λ t. t) tried.tries ++ count_step ∷ []) (swap_step ∷ []) count_takes stored.enlists.takes);
-          missed = tried.missed;
-          lost = (let a = tried.lost in let b = looked.seen_all.listed in let d = stored.enlists.above in omega arith);
-          answered = (slice_index x 12, length u.seen, refl, stored.enlists.number ∙ stored.enlists.next);
-        }
+    enlisted_steps = search (arith, append_assoc, takes_on, count_takes)
 
     pub enlisted_counts : count_of v < count_of z
     enlisted_counts = let before = look_counts in omega (arith, before, takes_count u z (step_taken (Enlisted (slice_index x 12)) (length z.seen) None ∷ []) stored.enlists.takes)
@@ -372,11 +313,7 @@ module _ (a v w : View) (x : List ℕ) (looked : LooksAtEnlisted (told_by v (not
   }
 
   pub met_continues : Continues (pass_view_of v) (pass_view_of w)
-  met_continues = record {
-    sound = sound x (told_by v (note_of a)) w looked.seen_all looked.sees.goes;
-    on = record { seen = own_first; listed = looked.seen_all.listed; share = looked.sees.goes.share };
-    number = looked.sees.number;
-  }
+  met_continues = search (arith, sound, own_first)
 
   pub met_steps : MeetingSteps v w
   met_steps = record {
@@ -396,16 +333,14 @@ err_or other (Ok reply) = other
 err_or other (Err refusal) = refusal
 
 accepts_none : (n : ℕ) (o : Option Refusal) (reply : Accepted) → answer n o ≡ Ok reply → o ≡ None
-accepts_none n None reply is = refl
-accepts_none n (Some refusal) reply is = absurd (true≢false (sym (ap is_ok is)))
+accepts_none n o reply is = search (arith, true≢false)
 
 accepts_number : (n : ℕ) (o : Option Refusal) (reply : Accepted) → answer n o ≡ Ok reply → reply ≡ record { number = n + 1 }
 accepts_number n None reply is = sym (ap (ok_or reply) is)
 accepts_number n (Some refusal) reply is = absurd (true≢false (sym (ap is_ok is)))
 
 refuses_some : (n : ℕ) (o : Option Refusal) (refusal : Refusal) → answer n o ≡ Err refusal → o ≡ Some refusal
-refuses_some n None refusal is = absurd (true≢false (ap is_ok is))
-refuses_some n (Some other) refusal is = ap (λ (r : Result Accepted Refusal). Some (err_or refusal r)) is
+refuses_some n o refusal is = search (arith, true≢false)
 
 module _ (e : EventCall) (v w u : CellView) (x : List ℕ) (tried : TriedReport e v.pass w.pass) (same : w.calls ≡ v.calls) (looked : LookOfCell e w x x u) where
   abbrev found : ℕ
@@ -421,13 +356,7 @@ module _ (e : EventCall) (v w u : CellView) (x : List ℕ) (tried : TriedReport 
   looked_number = looked.looks.sees.number ∙ tried.stays.number
 
   pub finishes_refused : (refusal : Refusal) → reply_of (record_at found) e ≡ Err refusal → FinishesReport v e (Err refusal) u
-  finishes_refused refusal is = record {
-    begun = length u.pass.seen;
-    after_seen = looked_on;
-    at_once = omega arith;
-    does = looked.calls ∙ (ap at_found (refuses_some (record_at found).number (refusal_of (record_at found) e.expected e.kind) refusal is)
-        ∙ ap (finished_too (calls.Event e) (replies.Refused refusal) (length u.pass.seen) (length u.pass.seen)) same);
-  }
+  finishes_refused refusal is = search (arith, looked_on, refuses_some)
 
   module _ (reply : Accepted) (is : reply_of (record_at found) e ≡ Ok reply) where
     pub are_accepting : AreAccepting x e
@@ -451,9 +380,4 @@ module _ (e : EventCall) (v w u : CellView) (x : List ℕ) (tried : TriedReport 
 
 -- and after a reading
 pub finishes_reading : (v w : CellView) (x : List ℕ) (reading : Reading) → ReadOfCell v x x w → reading ≡ reading_of (take 12 x) → FinishesReading v reading w
-finishes_reading v w x reading shows is = record {
-  begun = length w.pass.seen;
-  after_seen = begins_length v.pass.seen w.pass.seen shows.shows.sees.goes.seen;
-  at_once = omega arith;
-  does = shows.calls ∙ ap (λ (r : Reading). finished_too calls.Reading (replies.Copied r) (length w.pass.seen) (length w.pass.seen) v.calls) (sym is);
-}
+finishes_reading v w x reading shows is = search (arith, begins_length)

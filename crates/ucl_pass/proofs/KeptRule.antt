@@ -185,8 +185,7 @@ module _ (x : List ℕ) (views : List CellView) (r : CellKeepsOneHistory x views
 
     -- a load that decides nothing
     idle_load : (shown : List ℕ) → CellKeepsOneHistory x (set views seat (record { pass = seen_by_load shown; calls = v.calls }))
-    idle_load shown = load_keeps shown v.calls
-        (λ readers all. same_run (record { pass = seen_by_load shown; calls = v.calls }) refl readers r.shared.enlisted (history_of r.shared.log) (r.one_run readers all))
+    idle_load shown = search (arith, load_keeps, same_run)
 
     -- one that decides a call, by all steps of it
     deciding_load : (shown : List ℕ) (calls : List Answer) (c : Caller)
@@ -297,11 +296,7 @@ begins_stands = record { state = record { words = words_after [] 0; views = firs
 
 -- the exchange, by whether the words are those that were expected
 by_exchange : (current next : List ℕ) (P : List ℕ → List ℕ → Type 0) (x : List ℕ) → (x ≡ current → P x next) → (x ≢ current → P x x) → P x (if pointwise nat_eq x current then next else x)
-by_exchange current next P x hit miss = go (pointwise nat_eq x current) refl
-  where
-    go : (b : Bool) → pointwise nat_eq x current ≡ b → P x (if b then next else x)
-    go true e = hit ((bytes_decides x current).0 e)
-    go false e = miss (λ same. true≢false (sym ((bytes_decides x current).1 same) ∙ e))
+by_exchange current next P x hit miss = search (arith, pointwise, nat_eq, bytes_decides, true≢false)
 
 -- an exchange that adds an entry
 module _ (x next : List ℕ) (views : List CellView) (r : CellKeepsOneHistory x views) (seat : ℕ) (v : CellView) (e : EventCall) (here : get_elem? views seat ≡ some v) (acts : IsSome v.pass.share)
@@ -560,35 +555,13 @@ other_words x current not is = true≢false (sym ((bytes_decides x current).1 is
 pub add_says : (e : Entry) (v w : View) (current next : List ℕ) (r : Result (List ℕ) (List ℕ)) → IsNextBoard e current next
     → MatchResult r (λ x. (pointwise nat_eq x current ≡ true) × AddsOrLooks e v x next w) (λ x. (pointwise nat_eq x current ≡ false) × AddsOrLooks e v x x w)
     → MatchResult r (λ x. (x ≡ current) × StoresEntry e v current next w) (λ x. (x ≢ current) × LooksOnly (word_looked_at Swap e.game x) v x x w)
-add_says e v w current next (Ok x) is said =
-    let same : x ≡ current = (bytes_decides x current).0 said.0 in
-    ⊎_elim
-    (λ (t : (x ≡ next) × LooksOnly (word_looked_at Swap e.game x) v x next w).
-    let l = t.1 in
-    let was : current ≡ words_after w.seen w.listed = sym same ∙ (t.0 ∙ l.seen_all.words_are) in
-    let n = is w.listed w.seen l.sees.goes.legal (sym was) in
-    absurd (entry_differs w.seen w.listed e n.1 (sym l.seen_all.words_are ∙ n.0)))
-    (λ (t : (x ≢ next) × StoresEntry e v x next w). (same, subst (λ (c : List ℕ). StoresEntry e v c next w) same t.1))
-    said.1
-add_says e v w current next (Err x) is said =
-    (other_words x current said.0, ⊎_elim (λ (t : (x ≡ x) × LooksOnly (word_looked_at Swap e.game x) v x x w). t.1) (λ (t : (x ≢ x) × StoresEntry e v x x w). absurd (t.0 refl)) said.1)
+add_says e v w current next r is said = search (arith, bytes_decides, entry_differs, other_words)
 
 -- what an exchange for an enlistment says by its answer
 pub enlist_says : (v w : View) (current next : List ℕ) (r : Result (List ℕ) (List ℕ)) → next ≡ with_one_more current
     → MatchResult r (λ x. (pointwise nat_eq x current ≡ true) × EnlistsOrLooks v x next w) (λ x. (pointwise nat_eq x current ≡ false) × EnlistsOrLooks v x x w)
     → MatchResult r (λ x. (x ≡ current) × StoresReporter v current next w) (λ x. (x ≢ current) × LooksAtEnlisted v x x w)
-enlist_says v w current next (Ok x) is said =
-    let same : x ≡ current = (bytes_decides x current).0 said.0 in
-    ⊎_elim
-    (λ (t : (x ≡ next) × LooksAtEnlisted v x next w).
-    let l = t.1 in
-    let was : current ≡ words_after w.seen w.listed = sym same ∙ (t.0 ∙ l.seen_all.words_are) in
-    let more : next ≡ words_after w.seen (w.listed + 1) = is ∙ (ap with_one_more was ∙ more_words w.seen w.listed) in
-    absurd (reporter_differs w.seen w.listed (sym l.seen_all.words_are ∙ more)))
-    (λ (t : (x ≢ next) × StoresReporter v x next w). (same, subst (λ (c : List ℕ). StoresReporter v c next w) same t.1))
-    said.1
-enlist_says v w current next (Err x) is said =
-    (other_words x current said.0, ⊎_elim (λ (t : (x ≡ x) × LooksAtEnlisted v x x w). t.1) (λ (t : (x ≢ x) × StoresReporter v x x w). absurd (t.0 refl)) said.1)
+enlist_says v w current next r is said = search (arith, bytes_decides, more_words, reporter_differs, other_words)
 
 -- what an exchange tells by its answer
 abbrev pub AnswersBy : (CellView → List ℕ → List ℕ → CellView → Type 0) → CellView → List ℕ → List ℕ → Result (List ℕ) (List ℕ) → CellView → Type 0
@@ -596,13 +569,11 @@ AnswersBy tells v current next r w = MatchResult r (λ x. (pointwise nat_eq x cu
 
 pub told_by : (seat : ℕ) (tells : CellView → List ℕ → List ℕ → CellView → Type 0) (v w : CellView) (current next : List ℕ) (r : Result (List ℕ) (List ℕ))
     → AnswersBy (TellsAndStands seat tells) v current next r w → AnswersBy tells v current next r w
-told_by seat tells v w current next (Ok x) said = (said.0, said.1.told)
-told_by seat tells v w current next (Err x) said = (said.0, said.1.told)
+told_by seat tells v w current next r said = search arith
 
 pub stands_by : (seat : ℕ) (tells : CellView → List ℕ → List ℕ → CellView → Type 0) (v w : CellView) (current next : List ℕ) (r : Result (List ℕ) (List ℕ))
     → AnswersBy (TellsAndStands seat tells) v current next r w → CellStands seat w
-stands_by seat tells v w current next (Ok x) said = said.1.stands
-stands_by seat tells v w current next (Err x) said = said.1.stands
+stands_by seat tells v w current next r said = search arith
 
 -- an exchange for an event
 abbrev pub AnswersAdd : EventCall → CellView → List ℕ → List ℕ → Result (List ℕ) (List ℕ) → CellView → Type 0
@@ -612,35 +583,21 @@ AnswersAdd e v current next r w = AnswersBy (AddOfCell e) v current next r w
 pub add_decides : (e : EventCall) (v w : CellView) (current next : List ℕ) (r : Result (List ℕ) (List ℕ)) → IsNextBoard (entry_of v.pass.number e) current next
     → AnswersAdd e v current next r w
     → DecidesReport e v current r w
-add_decides e v w current next (Ok x) is said =
-    let same : x ≡ current = (bytes_decides x current).0 said.0 in
-    let differs : x ≢ next = ⊎_elim
-    (λ (t : (x ≡ next) × LooksOnly (word_looked_at Swap e.game x) v.pass x next w.pass).
-    let l = t.1 in
-    let was : current ≡ words_after w.pass.seen w.pass.listed = sym same ∙ (t.0 ∙ l.seen_all.words_are) in
-    let n = is w.pass.listed w.pass.seen l.sees.goes.legal (sym was) in
-    absurd (entry_differs w.pass.seen w.pass.listed (entry_of v.pass.number e) n.1 (sym l.seen_all.words_are ∙ n.0)))
-    (λ (t : (x ≢ next) × StoresEntry (entry_of v.pass.number e) v.pass x next w.pass). t.0)
-    said.1.adds in
-    subst (λ (ws : List ℕ). HasAccepted e (word_at ws e.game) v w) same (said.1.won differs)
-add_decides e v w current next (Err x) is said = said.1.missed refl
+add_decides e v w current next r is said = search (arith, bytes_decides, entry_differs)
 
 -- what each exchange says of the pass
 pub add_seen : (e : EventCall) (v w : CellView) (current next : List ℕ) (r : Result (List ℕ) (List ℕ))
     → AnswersAdd e v current next r w
     → MatchResult r (λ x. (pointwise nat_eq x current ≡ true) × AddsOrLooks (entry_of v.pass.number e) v.pass x next w.pass)
     (λ x. (pointwise nat_eq x current ≡ false) × AddsOrLooks (entry_of v.pass.number e) v.pass x x w.pass)
-add_seen e v w current next (Ok x) said = (said.0, said.1.adds)
-add_seen e v w current next (Err x) said = (said.0, said.1.adds)
+add_seen e v w current next r said = search arith
 
 pub enlist_seen : (v w : CellView) (current next : List ℕ) (r : Result (List ℕ) (List ℕ))
     → MatchResult r (λ x. (pointwise nat_eq x current ≡ true) × EnlistOfCell v x next w) (λ x. (pointwise nat_eq x current ≡ false) × EnlistOfCell v x x w)
     → MatchResult r (λ x. (pointwise nat_eq x current ≡ true) × EnlistsOrLooks v.pass x next w.pass) (λ x. (pointwise nat_eq x current ≡ false) × EnlistsOrLooks v.pass x x w.pass)
-enlist_seen v w current next (Ok x) said = (said.0, said.1.enlists)
-enlist_seen v w current next (Err x) said = (said.0, said.1.enlists)
+enlist_seen v w current next r said = search arith
 
 pub enlist_does : (v w : CellView) (current next : List ℕ) (r : Result (List ℕ) (List ℕ))
     → MatchResult r (λ x. (pointwise nat_eq x current ≡ true) × EnlistOfCell v x next w) (λ x. (pointwise nat_eq x current ≡ false) × EnlistOfCell v x x w)
     → w.calls ≡ v.calls
-enlist_does v w current next (Ok x) said = said.1.calls
-enlist_does v w current next (Err x) said = said.1.calls
+enlist_does v w current next r said = search arith

@@ -65,8 +65,7 @@ load_calls e at (Some refusal) calls later is = (_, sym is)
 load_calls e at None calls later is = subst (IsPrefix calls) (sym is) (begins_same calls)
 
 pub looks_on : (place : ℕ) (e : EventCall) → LetsPassGoOn (TellsAndStands place (LookOfCell e))
-looks_on place e v x y w l =
-    gone v w (λ _. l.told.looks.sees.number) (load_calls e (length w.pass.seen) (refusal_of (record_at (word_at x e.game)) e.expected e.kind) v.calls w.calls l.told.calls)
+looks_on place e v x y w l = search (arith, gone, load_calls)
 
 pub adds_on : (place : ℕ) (e : EventCall) → LetsPassGoOn (TellsAndStands place (AddOfCell e))
 adds_on place e v x y w l = ⊎_elim

@@ -20,10 +20,7 @@ count_more p xs ys = ap length (filter-append p xs ys) ∙ length-append (filter
 
 -- what two lists of steps report together
 reports_both : (xs ys : List Taken) (m n : ℕ) → CellHasReported xs m → CellHasReported ys n → CellHasReported (xs ++ ys) (m + n)
-reports_both xs ys m n a b =
-    let l = count_more (λ x. looks_for_report x.target) xs ys in
-    let w = count_more (λ x. was_missed x.target x.entry) xs ys in
-    omega arith
+reports_both xs ys m n a b = search (arith, count_more)
 
 -- a try in vain reports nothing
 try_reports : (call : EventCall) (steps : List Taken) → CellMissed call steps → CellHasReported steps 0
@@ -34,9 +31,7 @@ tries_report call [] all = refl
 tries_report call (t ∷ ts) all = reports_both t (flat_map (λ x. x) ts) 0 0 (try_reports call t all.0) (tries_report call ts all.1)
 
 answer_reports : (number : ℕ) (call : EventCall) (reply : Result Accepted Refusal) (now : ℕ) (steps : List Taken) → CellAnswered number call reply now steps → CellHasReported steps 1
-answer_reports number call (Ok reply) now steps a = subst (λ (l : List Taken). CellHasReported l 1) (sym (a.steps_are ∙ ap (steps_with (entry_made number call (Ok reply))) a.deciding.accesses)) refl
-answer_reports number call (Err refusal) now steps a =
-    subst (λ (l : List Taken). CellHasReported l 1) (sym (a.steps_are ∙ ap (steps_with (entry_made number call (Err refusal))) a.deciding.accesses)) refl
+answer_reports number call reply now steps a = search arith
 
 -- what a pass has reported after steps that report so many
 more_by : (v : View) (steps : List Taken) (w : View) (more : ℕ) → Takes v steps w → CellHasReported steps more → ReportsMore (CellHasReported v.own) more (CellHasReported w.own)
@@ -55,8 +50,7 @@ enlist_tries_report [] all = refl
 enlist_tries_report (t ∷ ts) all = reports_both t (flat_map (λ x. x) ts) 0 0 (enlist_try_reports t all.0) (enlist_tries_report ts all.1)
 
 enlist_answer_reports : (given : Bool) (w : View) (steps : List Taken) → CellEnlistAnswered given w steps → CellHasReported steps 0
-enlist_answer_reports true w steps a = subst (λ (l : List Taken). CellHasReported l 0) (sym a.2) refl
-enlist_answer_reports false w steps a = subst (λ (l : List Taken). CellHasReported l 0) (sym a) refl
+enlist_answer_reports given w steps a = search arith
 
 pub enlistment_counts : (v w : View) (given : Bool) → CellEnlistment v given w → ReportsMore (CellHasReported v.own) 0 (CellHasReported w.own)
 enlistment_counts v w given e =

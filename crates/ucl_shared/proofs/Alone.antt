@@ -16,12 +16,10 @@ use Rattle.ucl_shared.proofs.Halves.{in_whole}
 -- the first step of a log
 
 pub taken_here : (seat : ℕ) (t : Taken) (log : Log) → taken_by seat (logged_by seat t ∷ log) ≡ t ∷ taken_by seat log
-taken_here seat t log = ap (λ (b : Bool). map (λ (x : Logged). x.step) (cond b (logged_by seat t ∷ filter (λ (x : Logged). x.seat == seat) log) (filter (λ (x : Logged). x.seat == seat) log)))
-    (eq-eqb seat seat refl)
+taken_here seat t log = search (arith, eq-eqb)
 
 pub taken_else : (seat other : ℕ) (t : Taken) (log : Log) → other ≢ seat → taken_by seat (logged_by other t ∷ log) ≡ taken_by seat log
-taken_else seat other t log not = ap (λ (b : Bool). map (λ (x : Logged). x.step)
-    (cond b (logged_by other t ∷ filter (λ (x : Logged). x.seat == seat) log) (filter (λ (x : Logged). x.seat == seat) log))) (ne_eqb other seat not)
+taken_else seat other t log not = search (arith, ne_eqb)
 
 -- a step of its own is among a seat's steps
 pub some_here : (seat : ℕ) (t : Taken) (log : Log) → taken_by seat (logged_by seat t ∷ log) ≢ []

@@ -46,12 +46,7 @@ pub stays_none : (v : View) → Stays v v
 stays_none v = record { on = record { seen = begins_same v.seen; listed = le_refl v.listed; share = refl }; mine = refl; number = refl; shown = refl }
 
 pub stays_more : (v w u : View) → Stays v w → Goes w u → w.listed ≤ u.listed → u.mine ≡ w.mine → u.number ≡ w.number → u.shown ≡ w.shown → Stays v u
-stays_more v w u t goes le mine number shown = record {
-  on = record { seen = begins_through v.seen w.seen u.seen t.on.seen goes.seen; listed = (let a = t.on.listed in omega arith); share = goes.share ∙ t.on.share };
-  mine = mine ∙ t.mine;
-  number = number ∙ t.number;
-  shown = shown ∙ t.shown;
-}
+stays_more v w u t goes le mine number shown = search (arith, begins_through)
 
 pub all_more : {X : Type 0} (P : X → Type 0) (xs : List X) (x : X) → AllByRecursion P xs → P x → AllByRecursion P (xs ++ x ∷ [])
 all_more P [] x all one = (one, tt)
@@ -67,8 +62,7 @@ one_more v w u found at s t = record {
 
 pub number_told : (u v : View) (r : Option ℕ) (n : ℕ) → Enlistment (pass_view_of u) (pass_view_of v) → v.number ≡ n → IfSome r (λ k. k ≡ n)
     → IfSome r (λ k. Enlistment (pass_view_of u) (pass_view_of v) × (v.number ≡ k))
-number_told u v (Some k) n e is told = (e, is ∙ sym told)
-number_told u v None n e is told = tt
+number_told u v r n e is told = search arith
 
 -- what was split off as a note is one
 pub note_is : (a n : View) → n ≡ note_of a → IsNote n

@@ -21,9 +21,7 @@ module _ {X : Type 0} (x y : X) (xs ys : List X) (same : x ∷ xs ≡ y ∷ ys) 
   heads = ap (head_or x) same
 
 pub overlap_swap : (s t : Share) → Overlap s t → Overlap t s
-overlap_swap (Some a) (Some b) o = ⊎_elim (λ p. inr p) (λ p. inl p) o
-overlap_swap (Some a) None o = absurd o
-overlap_swap None t o = absurd o
+overlap_swap s t o = search arith
 
 -- what begins a longer way, or lies before its last turn
 comparable : (b rest way : List Bool) (side : Bool) → b ++ rest ≡ way ++ side ∷ [] → IsPrefix way b ⊎ IsPrefix b way
@@ -49,11 +47,7 @@ one_turn [] rest a b is = heads a b rest [] is
 one_turn (x ∷ way) rest a b is = one_turn way rest a b (tails x x ((way ++ a ∷ []) ++ rest) (way ++ b ∷ []) is)
 
 pub halves_apart : (s : Share) → Overlap (second_half s) (first_half s) → ⊥
-halves_apart (Some way) o = ⊎_elim
-    (λ (p : IsPrefix (way ++ true ∷ []) (way ++ false ∷ [])). true≢false (one_turn way p.0 true false p.1))
-    (λ (p : IsPrefix (way ++ false ∷ []) (way ++ true ∷ [])). true≢false (sym (one_turn way p.0 false true p.1)))
-    o
-halves_apart None o = o
+halves_apart s o = search (arith, true≢false, one_turn)
 
 no_end : (way : List Bool) (side : Bool) → way ++ side ∷ [] ≡ [] → ⊥
 no_end way side is = let l = ap length is in omega (arith, length-append way (side ∷ []))
@@ -62,25 +56,21 @@ some_same : (a b : List Bool) → Some a ≡ Some b → a ≡ b
 some_same a b is = ap (unwrap_or_nil) is
 
 pub half_acts : (side : Bool) (s : Share) → IsSome s → IsSome (half_of side s)
-half_acts side (Some way) acts = refl
-half_acts side None acts = acts
+half_acts side s acts = search arith
 
 pub acts_some : (s : Share) → IsSome s → s ≡ None → ⊥
 acts_some s acts none = true≢false (sym (subst IsSome none acts))
 
 pub half_not_whole : (side : Bool) (s : Share) → half_of side s ≡ whole → ⊥
-half_not_whole side (Some way) is = no_end way side (some_same (way ++ side ∷ []) [] is)
-half_not_whole side None is = acts_some whole refl (sym is)
+half_not_whole side s is = search (arith, no_end, some_same, acts_some)
 
 pub half_none : (side : Bool) (s : Share) → half_of side s ≡ None → s ≡ None
-half_none side (Some way) none = absurd (acts_some (Some (way ++ side ∷ [])) refl none)
-half_none side None none = refl
+half_none side s none = search (arith, acts_some)
 
 -- every share lies in the whole, and on one side of each part that it lies in or that lies in it
 
 pub in_whole : (s : Share) → IsSome s → Overlap s whole
-in_whole (Some way) acts = inr (begins_none way)
-in_whole None acts = absurd (true≢false (sym acts))
+in_whole s acts = search (arith, begins_none, true≢false)
 
 pub on_a_side : (s : Share) (way : List Bool) → Overlap s (Some way) → Overlap s (Some (way ++ false ∷ [])) ⊎ Overlap s (Some (way ++ true ∷ []))
 on_a_side (Some a) way o = ⊎_elim

@@ -99,20 +99,7 @@ own_fits : (log : Log) (enlisted more seat : ℕ) (v : View) (t : Taken) (mine :
     → mine ≡ entries_by number (history_of (logged log seat t)) → mine ≡ added_by (v.own ++ t ∷ []) → number ≤ more → listed ≤ more
     → Fits (logged log seat t) more seat (after_step v log seat t mine number listed shown)
 own_fits log enlisted more seat v t mine number listed shown acts f is made low few =
-    let own : v.own ++ t ∷ [] ≡ taken_by seat (logged log seat t) = ap (λ (l : List Taken). l ++ t ∷ []) f.own ∙ sym (taken_own seat log t) in
-    record {
-      seen = begins_same (history_of (logged log seat t));
-      told = All-nil (λ (l : List Entry). IsPrefix l (history_of (logged log seat t)));
-      mine = is;
-      made = made;
-      number = low;
-      listed = few;
-      own = own;
-      knows = begins_same (logged log seat t);
-      all_own = sym own;
-      sees = begins_same (history_of (logged log seat t));
-      idle = λ none. absurd (acts_some v.share acts none);
-    }
+    search (arith, taken_own, begins_same, All-nil, acts_some)
 
 -- what a meeting leaves as seen
 
@@ -532,21 +519,7 @@ module _ (words_after : List Entry → ℕ → List ℕ) where
   -- a note was taken in: it has no number, and took no step
 
   told_fits : (log : Log) (enlisted seat other : ℕ) (v u : View) → Fits log enlisted seat v → Fits log enlisted other u → Fits log enlisted seat (told_by v u)
-  told_fits log enlisted seat other v u f g =
-      let begins : List Entry → Type 0 = (λ l. IsPrefix l (history_of log)) in
-      record {
-        seen = longer_begins v.seen u.seen (history_of log) f.seen g.seen (nat_lt (length v.seen) (length u.seen));
-        told = All-cons begins v.seen (u.seen ∷ v.told) f.seen (All-cons begins u.seen v.told g.seen f.told);
-        mine = f.mine;
-        made = f.made;
-        number = f.number;
-        listed = f.listed;
-        own = f.own;
-        knows = f.knows;
-        all_own = f.all_own;
-        sees = begins_longer_of (history_of v.log) v.seen u.seen (history_of log) f.sees f.seen g.seen (nat_lt (length v.seen) (length u.seen)) refl;
-        idle = f.idle;
-      }
+  told_fits log enlisted seat other v u f g = search (arith, longer_begins, All-cons, begins_longer_of)
 
   module _ (words : List ℕ) (views : List View) (r : Rule words views) (seat : ℕ) (v : View) (here : get_elem? views seat ≡ some v) where
     module _ (other : ℕ) (u : View) (apart : ¬ (other ≡ seat)) (there : get_elem? (set views seat (told_by v u)) other ≡ some u) (number : u.number ≡ 0) (own : u.own ≡ []) where
@@ -590,47 +563,7 @@ module _ (words_after : List Entry → ℕ → List ℕ) where
 
   -- a board opens with no event, no reporter and no step
   pub opens : (words : List ℕ) → words ≡ words_after [] 0 → Rule words (opener ∷ [])
-  opens words are = record {
-    log = [];
-    enlisted = 0;
-    words_are = are;
-    is_log = log_none;
-    legal = may_none MayFollow;
-    few = omega arith;
-    ranked = All-nil (InRank 0);
-    seated = All-nil (λ (x : Logged). x.seat < 1);
-    fits = one;
-    apart = λ i j v w e f pos same. absurd (numberless i v e pos);
-    shared = λ i j v w e f over. only i v e ∙ sym (only j w f);
-    given = λ n low high. absurd (omega arith);
-  }
-    where
-      only : (seat : ℕ) (v : View) → get_elem? (opener ∷ []) seat ≡ some v → seat ≡ 0
-      only zero v e = refl
-      only (suc seat) v e = absurd (some-ne-none v (sym e))
-
-      fit : Fits [] 0 0 opener
-      fit = record {
-        seen = begins_none [];
-        told = All-nil (λ (l : List Entry). IsPrefix l []);
-        mine = refl;
-        made = refl;
-        number = le_refl 0;
-        listed = le_refl 0;
-        own = refl;
-        knows = begins_none [];
-        all_own = refl;
-        sees = begins_none [];
-        idle = λ _. (refl, refl);
-      }
-
-      one : (seat : ℕ) (v : View) → get_elem? (opener ∷ []) seat ≡ some v → Fits [] 0 seat v
-      one zero v e = subst (Fits [] 0 0) (some-injective _ _ e) fit
-      one (suc seat) v e = absurd (some-ne-none v (sym e))
-
-      numberless : (seat : ℕ) (v : View) → get_elem? (opener ∷ []) seat ≡ some v → ¬ (0 < v.number)
-      numberless zero v e pos = let z : 0 ≡ v.number = ap (λ (q : View). q.number) (some-injective opener v e) in omega arith
-      numberless (suc seat) v e pos = absurd (some-ne-none v (sym e))
+  opens words are = search (arith, log_none, may_none, All-nil, get_elem?, some-ne-none, begins_none, le_refl, some-injective)
 
   pub opens_same : (words : List ℕ) (are : words ≡ words_after [] 0) → ((opens words are).enlisted ≡ 0) × ((opens words are).log ≡ [])
   unfolding opens

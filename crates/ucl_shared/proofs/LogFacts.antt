@@ -44,10 +44,7 @@ Knows seat old new = (j : ℕ) → j ≢ seat → (known : Log) × IsPrefix know
 -- both logs have the same first step
 module _ (seat : ℕ) (x : Logged) (old new : Log) where
   cancel : (j : ℕ) (xs ys : Log) → taken_by j (x ∷ xs) ≡ taken_by j (x ∷ ys) → taken_by j xs ≡ taken_by j ys
-  cancel j xs ys same = dite (ℕ_discrete x.seat j)
-      (λ is. tail_same x.step x.step (taken_by j xs) (taken_by j ys)
-      (sym (taken_here j x.step xs) ∙ (subst (λ (k : ℕ). taken_by j (logged_by k x.step ∷ xs) ≡ taken_by j (logged_by k x.step ∷ ys)) is same ∙ taken_here j x.step ys)))
-      (λ not. sym (taken_else j x.seat x.step xs not) ∙ (same ∙ taken_else j x.seat x.step ys not))
+  cancel j xs ys same = search (arith, dite, tail_same, taken_here, taken_else)
 
   both_after : Knows seat (x ∷ old) (x ∷ new) → Knows seat old new
   both_after knows j not = go (knows j not).0 (knows j not).1 (knows j not).2 (knows j not).3 (knows j not).4
@@ -72,9 +69,7 @@ starts_with j [] y old p any = absurd (any refl)
 starts_with j (x ∷ known) y old p any = let same = head_same x y (known ++ p.0) old p.1 in (known, ap (λ (z : Logged). z ∷ known) same)
 
 first_of : (known : Log) (y : Logged) (rest new : Log) → known ≡ y ∷ rest → IsPrefix known new → new ≡ y ∷ (drop 1 new)
-first_of known y rest new is p =
-    let whole : new ≡ y ∷ (rest ++ p.0) = sym p.1 ∙ ap (λ (l : Log). l ++ p.0) is in
-    whole ∙ ap (λ (l : Log). y ∷ l) (sym (ap (drop 1) whole))
+first_of known y rest new is p = search arith
 
 -- one step that both logs have, and what comes after it
 module _ (seat j : ℕ) (t : Taken) (steps : List Taken) (old new : Log)
@@ -174,14 +169,10 @@ last_sees_all words_after words views r before seat x v is here =
 
 no_steps : (log : Log) → All (λ (x : Logged). x.seat < 1) log → taken_by 0 log ≡ [] → log ≡ []
 no_steps [] all none = refl
-no_steps (x ∷ log) all none =
-    let below = All-head (λ (y : Logged). y.seat < 1) x log all in
-    let zero_is : x.seat ≡ 0 = omega arith in
-    absurd (some_here 0 x.step log (ap (λ (k : ℕ). taken_by 0 (logged_by k x.step ∷ log)) (sym zero_is) ∙ none))
+no_steps (x ∷ log) all none = search (arith, All-head, some_here)
 
 numberless : (seat : ℕ) (v : View) (n : ℕ) → get_elem? (opener ∷ []) seat ≡ some v → v.number ≡ n → 1 ≤ n → ⊥
-numberless zero v n here is low = let z : 0 ≡ v.number = ap (λ (q : View). q.number) (some-injective opener v here) in omega arith
-numberless (suc seat) v n here is low = some-ne-none v (sym here)
+numberless seat v n here is low = search (arith, some-injective, some-ne-none)
 
 pub opens_fresh : (words_after : List Entry → ℕ → List ℕ) → BoardsOpenFresh words_after
 opens_fresh words_after words r =

@@ -26,15 +26,11 @@ others a b t = filter (λ (e : Entry). not (e.reporter == a) && not (e.reporter 
 
 one_of_three : {X : Type 0} (p q : Bool) (x : X) (A B C : List X) → (p ≡ true → q ≡ true → ⊥)
     → length (cond p (x ∷ A) A) + length (cond q (x ∷ B) B) + length (cond (not p && not q) (x ∷ C) C) ≡ suc (length A + length B + length C)
-one_of_three true true x A B C apart = absurd (apart refl refl)
-one_of_three true false x A B C apart = omega arith
-one_of_three false true x A B C apart = omega arith
-one_of_three false false x A B C apart = omega arith
+one_of_three p q x A B C apart = search arith
 
 three_counts : (a b : ℕ) → a ≢ b → (t : List Entry) → length (entries_by a t) + length (entries_by b t) + length (others a b t) ≡ length t
 three_counts a b ne [] = refl
-three_counts a b ne (x ∷ t) = one_of_three (x.reporter == a) (x.reporter == b) x (entries_by a t) (entries_by b t) (others a b t) (λ p q. ne (sym (eqb-true x.reporter a p) ∙ eqb-true x.reporter b q))
-    ∙ ap suc (three_counts a b ne t)
+three_counts a b ne (x ∷ t) = search (arith, one_of_three, eqb-true, three_counts a b ne t)
 
 abbrev OfTwo : ℕ → ℕ → Entry → Type 0
 OfTwo a b e = (e.reporter ≡ a) ⊎ (e.reporter ≡ b)
@@ -71,15 +67,7 @@ module _ (a b a1 b1 d : PassView) (reading : Reading) (same : a1 ≡ a) (met : M
   }
 
   pub through : Continues b d
-  through = record {
-    sound = later.sound;
-    on = record {
-      seen = begins_through b.seen b1.seen d.seen on.on.seen later.on.seen;
-      listed = (let x = on.on.listed in let y = later.on.listed in omega arith);
-      share = later.on.share ∙ on.on.share;
-    };
-    number = later.number ∙ on.number;
-  }
+  through = search (arith, begins_through)
 
   -- what the entries that were read have of each of the two, and of others
   record Counts : Type 0 where
@@ -104,17 +92,7 @@ module _ (a b a1 b1 d : PassView) (reading : Reading) (same : a1 ≡ a) (met : M
       record { more_a = entries_by a.number q.0; more_b = entries_by b.number p.0; first = first; second = second; all = omega arith }
 
   all_theirs : IsSound a → a.number ≢ b.number → reading.version ≡ both_accepted a b → IsOfBoth a b (take reading.version d.seen)
-  all_theirs sound ne sum =
-      let c = counts sound ne in
-      let all = c.all in
-      let za : length c.more_a ≡ 0 = omega arith in
-      let zb : length c.more_b ≡ 0 = omega arith in
-      let zo : length (others a.number b.number (take reading.version d.seen)) ≡ 0 = omega arith in
-      record {
-        first = c.first ∙ (ap (λ l. a.mine ++ l) (nil_from_length c.more_a za) ∙ append-nil a.mine);
-        second = c.second ∙ (ap (λ l. b.mine ++ l) (nil_from_length c.more_b zb) ∙ append-nil b.mine);
-        no_other = no_others a.number b.number (take reading.version d.seen) zo;
-      }
+  all_theirs sound ne sum = search (arith, counts, nil_from_length, append-nil, no_others)
 
   above : IsSound a → a.number ≢ b.number → reading.version ≢ both_accepted a b → both_accepted a b < reading.version
   above sound ne other = let c = counts sound ne in let all = c.all in omega arith
@@ -122,10 +100,7 @@ module _ (a b a1 b1 d : PassView) (reading : Reading) (same : a1 ≡ a) (met : M
   -- by the numbers n and m of both afterwards, and how many events of each were accepted
   module _ (sound : IsSound a) (n m i j : ℕ) (n_is : n ≡ a1.number) (m_is : m ≡ d.number) (i_is : i ≡ length a1.mine) (j_is : j ≡ length d.mine) where
     numbers : (n ≡ m → a.number ≡ b.number) × (a.number ≡ b.number → n ≡ m)
-    numbers =
-        let first : n ≡ a.number = n_is ∙ ap (λ (k : PassView). k.number) same in
-        let second : m ≡ b.number = m_is ∙ (later.number ∙ on.number) in
-        (λ is. sym first ∙ (is ∙ second), λ is. first ∙ (is ∙ sym second))
+    numbers = search arith
 
     sum_is : i + j ≡ both_accepted a b
     sum_is = let first = i_is ∙ ap (λ (k : PassView). length k.mine) same in let second = j_is ∙ ap length (read.mine ∙ met.mine) in omega arith
@@ -137,9 +112,7 @@ module _ (a b a1 b1 d : PassView) (reading : Reading) (same : a1 ≡ a) (met : M
     alone apart sum = (λ is. apart (numbers.1 is), sum ∙ sum_is)
 
     pub not_alone : (n ≡ m) ⊎ (reading.version ≢ i + j) → AreAlone a b reading.version → ⊥
-    not_alone (inl is) are = are.0 (numbers.0 is)
-    not_alone (inr not) are = not (are.1 ∙ sym sum_is)
+    not_alone is are = search (arith, numbers, sum_is)
 
     pub strangers : (n ≡ m) ⊎ (reading.version ≢ i + j) → a.number ≢ b.number → both_accepted a b < reading.version
-    strangers (inl is) other = absurd (other (numbers.0 is))
-    strangers (inr not) other = above sound other (λ sum. not (sum ∙ sym sum_is))
+    strangers is other = search (arith, numbers, above, sum_is)

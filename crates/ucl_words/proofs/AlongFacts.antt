@@ -33,46 +33,15 @@ same_count n = omega arith
 
 module _ (v w : WordView) (game n : ℕ) where
   pub along_look : (e : EventCall) → LoadsMatch Look game v.pass n w.pass → w.doing ≡ after_look v.pass.number e n (length w.pass.seen) v.doing → GoesAlong v (calls.Event e) w
-  along_look e loads does = record {
-    steps = step_taken (Match Look game n) (length w.pass.seen) None ∷ [];
-    takes = loads.sees.takes;
-    does = does ∙ ap (λ k. after_look v.pass.number e n k v.doing) (same_count (length w.pass.seen));
-  }
+  along_look e loads does = search (arith, same_count)
 
   pub along_first : (call : Call) → LoadsMatch First game v.pass n w.pass → w.doing ≡ after_first n (length w.pass.seen) v.doing → GoesAlong v call w
-  along_first call loads does = record {
-    steps = step_taken (Match First game n) (length w.pass.seen) None ∷ [];
-    takes = loads.sees.takes;
-    does = does ∙ (ap (λ k. after_first n k v.doing) (same_count (length w.pass.seen)) ∙ first_taken call);
-  }
-    where
-      first_taken : (call : Call) → after_first n (length w.pass.seen + 0) v.doing ≡ along v.pass.number call (step_taken (Match First game n) (length w.pass.seen) None ∷ []) v.doing
-      first_taken (calls.Event e) = refl
-      first_taken calls.Reading = refl
+  along_first call loads does = search (arith, same_count)
 
   pub along_second : (call : Call) → LoadsMatch Second game v.pass n w.pass → w.doing ≡ after_second n (length w.pass.seen) v.doing → GoesAlong v call w
-  along_second call loads does = record {
-    steps = step_taken (Match Second game n) (length w.pass.seen) None ∷ [];
-    takes = loads.sees.takes;
-    does = does ∙ (ap (λ k. after_second n k v.doing) (same_count (length w.pass.seen)) ∙ second_taken call);
-  }
-    where
-      second_taken : (call : Call) → after_second n (length w.pass.seen + 0) v.doing ≡ along v.pass.number call (step_taken (Match Second game n) (length w.pass.seen) None ∷ []) v.doing
-      second_taken (calls.Event e) = refl
-      second_taken calls.Reading = refl
+  along_second call loads does = search (arith, same_count)
 
   pub along_swap : (e : EventCall) (entry : Entry) (loaded : ℕ) → entry.game ≡ game → (n ≡ loaded → ExchangeWon entry v.pass n w.pass) → (n ≢ loaded → ExchangeMissed game v.pass n w.pass)
       → w.doing ≡ after_swap n (length w.pass.seen) v.doing
       → GoesAlong v (calls.Event e) w
-  along_swap e entry loaded is won missed does = elim (cases_eq n loaded) [
-    | inl same ↦
-        let stored = won same in
-        record {
-          steps = step_taken (Match Swap entry.game n) (length stored.before) (Some entry) ∷ [];
-          takes = stored.adds.takes;
-          does = does ∙ ap (λ k. after_swap n k v.doing) (ap length stored.adds.last ∙ length_push stored.before entry);
-        }
-    | inr other ↦
-        let l = (missed other).loads in
-        record { steps = step_taken (Match Swap game n) (length w.pass.seen) None ∷ []; takes = l.sees.takes; does = does ∙ ap (λ k. after_swap n k v.doing) (same_count (length w.pass.seen)) }
-  ]
+  along_swap e entry loaded is won missed does = search (arith, cases_eq, length_push, same_count)

@@ -45,10 +45,7 @@ module _ (kind : AccessKind) (v x w : View) (words : List ℕ) (i n : ℕ) (belo
   more_walks = walks_on v x w was.accesses (new_access ∷ []) was.walks (walks_load kind (i + 1) n x w was.walks.steady loads)
 
   more_last : (m : Access) → slice_get (was.accesses ++ new_access ∷ []) 11 ≡ Some m → m.at ≡ length w.seen
-  more_last m e = elim (at_either was.accesses new_access 11 m e) [
-    | inl t ↦ (let a = t.0 in let b = was.many in absurd (omega arith))
-    | inr t ↦ ap (λ (k : Access). k.at) (sym t.1)
-  ]
+  more_last m e = search (arith, at_either)
 
   -- the word of the match after the new load
   pub collected_more : (now : List ℕ) → IsCollect kind now was.accesses → n ≡ slice_index now i → w.shown ≡ x.shown → Collected kind v now (i + 1) w
@@ -74,22 +71,7 @@ module _ (kind : AccessKind) (v x w : View) (words : List ℕ) (i n : ℕ) (belo
   collected_same is silent = collected_more words was.words_are is silent
 
   pub collected_other : n ≢ slice_index words i → kind ≡ Second → w.shown ≡ x.shown → FindsAnother v words w
-  collected_other other is silent =
-      let many = was.many in
-      record {
-        accesses = was.accesses ++ new_access ∷ [];
-        walks = more_walks;
-        broken = record {
-          equal = was.accesses;
-          last = new_access;
-          accesses = refl;
-          few = omega arith;
-          again = subst (λ (a : AccessKind). IsCollect a words was.accesses) is was.words_are;
-          kind = (is, ap (λ (k : ℕ). k + 1) (sym many));
-          differs = λ same. other (same ∙ ap (slice_index words) many);
-        };
-        shown = silent ∙ was.shown;
-      }
+  collected_other other is silent = search (arith, more_walks)
 
   -- with the twelfth
   pub finds_again : n ≡ slice_index words i → i ≡ 11 → kind ≡ Second → w.shown ≡ x.shown ++ length v.seen ∷ [] → FindsAgain v words w
@@ -180,15 +162,7 @@ module _ (x u w : View) (words : List ℕ) (long : length words ≡ 12) (collect
   clean_walks = walks_on x u w collects.accesses again.accesses collects.walks again.walks
 
   is_clean : IsClean clean_reading (collects.accesses ++ again.accesses)
-  is_clean = record {
-    firsts = collects.accesses;
-    seconds = again.accesses;
-    accesses = refl;
-    twelve = (long, collects.collect.twelve, again.twelve);
-    collected = collects.collect.words_are;
-    again = again.again;
-    version = collects.collect.last;
-  }
+  is_clean = search arith
 
   front : take (length u.seen) w.seen ≡ u.seen
   front = let p = again.walks.on.seen in ap (take (length u.seen)) (sym p.1) ∙ take-append_seam u.seen p.0
@@ -248,6 +222,4 @@ module _ (x u w : View) (words : List ℕ) (long : length words ≡ 12) (collect
         }
 
     pub reads : (reading : Reading) → reading ≡ reading_of words → Reads v reading w
-    reads reading is =
-        let same : clean_reading ≡ reading = ap (λ (k : ℕ). record { board = words; version = k }) (sym version_seen) ∙ sym is in
-        subst (λ (r : Reading). Reads v r w) same reads_clean
+    reads reading is = search (arith, version_seen, reads_clean)

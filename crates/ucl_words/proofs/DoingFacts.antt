@@ -32,19 +32,11 @@ use Rattle.ucl_words.specs.Code.{IsHoldingFor, MayCollect, IsBegun, HasFirsts, h
 module _ (v u : WordView) (call : EventCall) (loaded number : ℕ) (is : v.pass.number ≡ number) (looked : u.doing ≡ after_look v.pass.number call loaded (length u.pass.seen) v.doing)
     (grown : length v.pass.seen ≤ length u.pass.seen) where
   pub look_answers : (refusal : Refusal) → refusal_of (record_at loaded) call.expected call.kind ≡ Some refusal → AnswersCall v (calls.Event call) (replies.Refused refusal) u
-  look_answers refusal refused = record {
-    begun = length u.pass.seen;
-    after_seen = grown;
-    does = looked ∙ ap (λ o. done_by (calls.Event call) (length u.pass.seen) (length u.pass.seen) (by_rules v.pass.number call loaded o) v.doing) refused;
-  }
+  look_answers refusal refused = search arith
 
   module _ (accepts : refusal_of (record_at loaded) call.expected call.kind ≡ None) (next : ℕ) (valid : IsWord next) (next_is : record_at next ≡ after (record_at loaded) number call.kind) where
     now_holding : u.doing ≡ goes (length u.pass.seen) (Holding call loaded next) v.doing
-    now_holding =
-        looked
-        ∙ (ap (λ o. done_by (calls.Event call) (length u.pass.seen) (length u.pass.seen) (by_rules v.pass.number call loaded o) v.doing) accepts
-        ∙ ap (λ (n : ℕ). goes (length u.pass.seen) (Holding call loaded n) v.doing)
-        (ap (λ (n : ℕ). word_of (after (record_at loaded) n call.kind)) is ∙ (ap word_of (sym next_is) ∙ word_packed next valid)))
+    now_holding = search (arith, word_packed)
 
     pub holding_for : (reporter : ℕ) → IsHoldingFor u.doing.held (record { game = call.game; reporter = reporter; kind = call.kind }) loaded next
     holding_for reporter = record { e = call; holds = ap (λ (d : Doing). d.held) now_holding; game = refl; kind = refl }
@@ -107,13 +99,10 @@ module _ (seen : ℕ) (d : Doing) (words : List ℕ) (i now : ℕ) (f : Doing) (
   some_words = length-take-le i words (omega arith)
 
   still_collecting : FirstsOn seen d words i now f → (begun : ℕ) × (f ≡ goes begun (Collecting (take i words)) d) × IsBegun d.held seen d.begun begun
-  still_collecting on =
-      let count = some_words in
-      (on.begun, on.does ∙ ap (λ (b : Bool). goes on.begun (cond b (Checking (take i words) 0 now) (Collecting (take i words))) d) (ne_eqb (length (take i words)) 12 (λ z. omega arith)), on.begins)
+  still_collecting on = search (arith, some_words, ne_eqb)
 
   pub first_next : Firsts seen d words i now f → IsNext First (i + 1) f.held
-  first_next (inl t) = subst (λ (k : ℕ). IsNext First (k + 1) f.held) (sym t.0) (subst (λ (x : Doing). IsNext First 1 x.held) (sym t.1) (begin_by d.held may 0 0 d).0)
-  first_next (inr t) = let on = still_collecting t.1 in subst (λ (x : Doing). IsNext First (i + 1) x.held) (sym on.1) (ap (λ (k : ℕ). k + 1) (sym some_words))
+  first_next is = search (arith, begin_by, still_collecting, some_words)
 
   pub first_on : (n later : ℕ) (g : Doing) → seen ≤ later → g ≡ after_first n later f → Firsts seen d words i now f → Firsts seen d (set words i n) (i + 1) later g
   first_on n later g grown is (inl t) =
@@ -127,27 +116,10 @@ module _ (seen : ℕ) (d : Doing) (words : List ℕ) (i now : ℕ) (f : Doing) (
               ∙ ap (λ (l : List ℕ). goes start.0 (collected l later) d) (sym (take_set words i n (omega arith) ∙ ap (λ (k : ℕ). take k words ++ n ∷ []) t.0))));
         },
       )
-  first_on n later g grown is (inr t) =
-      let on = still_collecting t.1 in
-      inr (
-        omega arith,
-        record {
-          begun = on.0;
-          begins = on.2;
-          does = is ∙ (ap (after_first n later) on.1 ∙ ap (λ (l : List ℕ). goes on.0 (collected l later) d) (sym (take_set words i n (omega arith))));
-        },
-      )
+  first_on n later g grown is (inr t) = search (arith, still_collecting, take_set)
 
 pub firsts_all : (seen : ℕ) (d : Doing) (words : List ℕ) (i now : ℕ) (f : Doing) → length words ≡ 12 → i ≡ 12 → Firsts seen d words i now f → HasFirsts seen d words now f
-firsts_all seen d words i now f long all (inl t) = absurd (omega (arith, t.0))
-firsts_all seen d words i now f long all (inr t) =
-    let whole : take i words ≡ words = ap (λ (k : ℕ). take k words) (all ∙ sym long) ∙ take-length words in
-    record {
-      begun = t.1.begun;
-      begins = t.1.begins;
-      does = t.1.does
-          ∙ (ap (λ (l : List ℕ). goes t.1.begun (collected l now) d) whole ∙ ap (λ (b : Bool). goes t.1.begun (cond b (Checking words 0 now) (Collecting words)) d) (eq-eqb (length words) 12 long));
-    }
+firsts_all seen d words i now f long all is = search (arith, take-length, eq-eqb)
 
 -- a second collect
 
@@ -210,28 +182,14 @@ Tries seen d f = (f ≡ d) ⊎ ((begun : ℕ) × (f ≡ goes begun (Collecting [
 
 module _ (seen : ℕ) (d : Doing) (none : d.held ≡ Nothing) where
   pub tries_may : (f : Doing) → Tries seen d f → MayCollect f.held
-  tries_may f (inl t) = subst MayCollect (sym (ap (λ (x : Doing). x.held) t ∙ none)) tt
-  tries_may f (inr t) = subst (λ (x : Doing). MayCollect x.held) (sym t.1) refl
+  tries_may f is = search arith
 
   module _ (x u : Doing) (words : List ℕ) (later now : ℕ) (grown : seen ≤ later) (tries : Tries seen d x) (collected_all : HasFirsts later x words now u) where
     collected_now : u ≡ goes collected_all.begun (Checking words 0 now) d
-    collected_now = by tries
-      where
-        by : Tries seen d x → u ≡ goes collected_all.begun (Checking words 0 now) d
-        by (inl t) = collected_all.does ∙ ap (goes collected_all.begun (Checking words 0 now)) t
-        by (inr t) = collected_all.does ∙ ap (goes collected_all.begun (Checking words 0 now)) t.1
+    collected_now = search arith
 
     begun_since : seen ≤ collected_all.begun
-    begun_since = by tries
-      where
-        by : Tries seen d x → seen ≤ collected_all.begun
-        by (inl t) = let since : later ≤ collected_all.begun = subst (λ (h : Held). IsBegun h later x.begun collected_all.begun) (ap (λ (y : Doing). y.held) t ∙ none) collected_all.begins in
-            omega arith
-        by (inr t) =
-            let same : collected_all.begun ≡ x.begun = subst (λ (h : Held). IsBegun h later x.begun collected_all.begun) (ap (λ (y : Doing). y.held) t.1) collected_all.begins in
-            let first : x.begun ≡ t.0 = ap (λ (y : Doing). y.begun) t.1 in
-            let since = t.2 in
-            omega arith
+    begun_since = search arith
 
     pub tries_held : u.held ≡ Checking words 0 now
     tries_held = ap (λ (y : Doing). y.held) collected_now
@@ -241,5 +199,4 @@ module _ (seen : ℕ) (d : Doing) (none : d.held ≡ Nothing) where
 
     pub tries_clean : (w : Doing) (end : ℕ) (reading : Reading) → w ≡ has_copied words end u → reading_of words ≡ reading
         → (begun : ℕ) × (seen ≤ begun) × (w ≡ ends calls.Reading (replies.Copied reading) begun end d)
-    tries_clean w end reading is same =
-        (collected_all.begun, begun_since, is ∙ (ap (has_copied words end) collected_now ∙ ap (λ (r : Reading). ends calls.Reading (replies.Copied r) collected_all.begun end d) same))
+    tries_clean w end reading is same = search (arith, begun_since, collected_now)

@@ -115,36 +115,13 @@ module _ (v x w : View) (n found : ℕ) (was : Missed v x n) where
   -- one that was won
   module _ (below : n < 255) (same : found ≡ n) (won : EnlistWon x found w) where
     pub won_steady : IsSteady w
-    won_steady =
-        let goes = won.enlists.goes in
-        record {
-          sound = record { legal = goes.legal; own = goes.own; few = goes.few; acts = goes.acts; alone = goes.alone };
-          told = goes.told;
-          trail = trail_kept x w was.steady.trail goes.seen (no_access x w found won.enlists.takes);
-        }
+    won_steady = search (arith, trail_kept, no_access)
 
     pub won_enlists : Enlistment (pass_view_of v) (pass_view_of w)
-    won_enlists =
-        let listed = won.listed in
-        let above = won.above in
-        let on = was.on.listed in
-        let e = won.enlists in
-        record {
-          sound = won_steady.sound;
-          on = record { seen = begins_through v.seen x.seen w.seen was.on.seen e.goes.seen; listed = omega arith; share = e.goes.share ∙ was.on.share };
-          number = e.number;
-          above = omega arith;
-          fresh = sym e.goes.own ∙ e.mine;
-          mine = e.mine;
-          shown = e.shown;
-        }
+    won_enlists = search (arith, won_steady, begins_through)
 
     pub won_trail : KeepsTrail v w
-    won_trail = record {
-      steps = one_more v x w found (length w.seen) was.steps won.enlists.takes;
-      trail = no_access x w found won.enlists.takes ∙ was.trail;
-      whole_trail = won_steady.trail;
-    }
+    won_trail = search (arith, one_more, no_access, won_steady)
 
     pub won_taken : count_of w ≤ count_of v + 255
     won_taken = let one = one_step x w found won.enlists.takes in let taken = was.taken in omega arith
@@ -162,8 +139,7 @@ module _ (v x w : View) (n found : ℕ) (was : Missed v x n) where
         }
 
 pub tries_told : (v w : View) (r : Option ℕ) (n : ℕ) → w.number ≡ n → EnlistTries v (Some w.number) w → IfSome r (λ k. k ≡ n) → IsSome r → EnlistTries v r w
-tries_told v w (Some k) n is tries told some = subst (λ (z : ℕ). EnlistTries v (Some z) w) (is ∙ sym told) tries
-tries_told v w None n is tries told some = absurd (false≢true some)
+tries_told v w r n is tries told some = search (arith, false≢true)
 
 pub missed_tries : (v x : View) (n : ℕ) → Missed v x n → 255 ≤ n → EnlistTries v None x
 missed_tries v x n was high = record { steps = was.steps.steps; takes = was.steps.takes; tries = tries_full 0 n was.steps.steps was.tries high }
@@ -173,17 +149,7 @@ second_trail : (v : View) → trail_of (second_of v) ≡ trail_of v
 second_trail v = ap accesses_in (append-nil (steps_of v))
 
 pub second_steady : (v : View) → IsSteady v → IsSteady (second_of v)
-second_steady v steady = record {
-  sound = record {
-    legal = steady.sound.legal;
-    own = sym (none_by_zero v.seen steady.sound.legal);
-    few = steady.sound.few;
-    acts = half_acts true v.share steady.sound.acts;
-    alone = λ is. absurd (half_not_whole true v.share is);
-  };
-  told = refl;
-  trail = subst (λ (t : List Access). Follows v.seen 0 t (length v.seen)) (sym (second_trail v)) steady.trail;
-}
+second_steady v steady = search (arith, none_by_zero, half_acts, half_not_whole, second_trail)
 
 -- and the pass that it was split off
 pub kept_steady : (v : View) → IsSteady v → IsSteady (kept_of v)
@@ -194,13 +160,7 @@ second_steps v = (ap length (append-nil (steps_of v)), second_trail v)
 
 -- a load of the enlist word
 pub counted_steady : (v w : View) (n : ℕ) → LoadsEnlisted v n w → IsSteady v → IsSteady w
-counted_steady v w n loads steady =
-    let goes = loads.sees.goes in
-    record {
-      sound = record { legal = goes.legal; own = goes.own; few = goes.few; acts = goes.acts; alone = goes.alone };
-      told = goes.told;
-      trail = trail_kept v w steady.trail goes.seen (no_access v w n loads.sees.takes);
-    }
+counted_steady v w n loads steady = search (arith, trail_kept, no_access)
 
 -- what was split off as a note is one
 pub note_is : (a n : WordView) → n ≡ note_pass a → IsNotePass n
@@ -221,33 +181,16 @@ module _ (a v w : View) (n : ℕ) (steady : IsSteady v) (loads : LoadsEnlisted (
   met_steps = record { found = n; takes = met_takes; listed = loads.listed }
 
   pub met_steady : IsSteady w
-  met_steady =
-      let goes = loads.sees.goes in
-      record {
-        sound = record { legal = goes.legal; own = goes.own; few = goes.few; acts = goes.acts; alone = goes.alone };
-        told = goes.told;
-        trail = trail_kept v w steady.trail own_first (no_access v w n met_takes);
-      }
+  met_steady = search (arith, trail_kept, own_first, no_access, met_takes)
 
   pub met_continues : Continues (pass_view_of v) (pass_view_of w)
-  met_continues =
-      let above = loads.above in
-      let listed = loads.listed in
-      record { sound = met_steady.sound; on = record { seen = own_first; listed = omega arith; share = loads.sees.goes.share }; number = loads.sees.number }
+  met_continues = search (arith, met_steady, own_first)
 
   pub met_says : Hearing a.seen (pass_view_of v) (pass_view_of w)
-  met_says = record {
-    met = All-head (λ l. IsPrefix l w.seen) a.seen v.told (All-tail (λ l. IsPrefix l w.seen) v.seen (a.seen ∷ v.told) loads.sees.goes.heard);
-    mine = loads.sees.mine;
-    shown = loads.shown;
-  }
+  met_says = search (arith, All-head, All-tail)
 
   pub met_trail : KeepsTrail v w
-  met_trail = record {
-    steps = record { steps = step_taken (Enlisted n) (length w.seen) None ∷ []; takes = met_takes; on_enlisted = ((n, (refl, refl)), tt) };
-    trail = no_access v w n met_takes;
-    whole_trail = met_steady.trail;
-  }
+  met_trail = search (arith, met_takes, no_access, met_steady)
 
 pub after_told : (a v x w : View) (n : ℕ) → x ≡ told_by v a → LoadsEnlisted x n w → LoadsEnlisted (told_by v (note_of a)) n w
 after_told a v x w n told loads = subst (λ (u : View). LoadsEnlisted u n w) told loads

@@ -27,39 +27,11 @@ at_seat seat ys = filter (λ (y : ℕ × Access). y.0 == seat) ys
 
 of_one : (seat : ℕ) (x : Logged) (b : Bool) → (x.seat == seat) ≡ b
     → length (at_seat seat (map (λ (m : Access). (x.seat, m)) (access_list x.step.target x.step.at))) ≡ cond b (length (access_list x.step.target x.step.at)) 0
-of_one seat x b is = by_target x.step.target b is
-  where
-    by_target : (target : Target) (b : Bool) → (x.seat == seat) ≡ b
-        → length (at_seat seat (map (λ (m : Access). (x.seat, m)) (access_list target x.step.at))) ≡ cond b (length (access_list target x.step.at)) 0
-    by_target (Match kind game found) true is = ap (λ (z : Bool). length {A = ℕ × Access} (cond z ((x.seat, record { kind = kind; game = game; found = found; at = x.step.at }) ∷ []) [])) is
-    by_target (Match kind game found) false is = ap (λ (z : Bool). length {A = ℕ × Access} (cond z ((x.seat, record { kind = kind; game = game; found = found; at = x.step.at }) ∷ []) [])) is
-    by_target (Enlisted found) true is = refl
-    by_target (Enlisted found) false is = refl
-    by_target Whole true is = refl
-    by_target Whole false is = refl
+of_one seat x b is = search arith
 
 seat_accesses : (seat : ℕ) (log : Log) → length (at_seat seat (accesses_of_log log)) ≡ length (accesses_in (taken_by seat log))
 seat_accesses seat [] = refl
-seat_accesses seat (x ∷ log) = by_test (x.seat == seat) refl (seat_accesses seat log)
-  where
-    mine : List (ℕ × Access)
-    mine = map (λ (m : Access). (x.seat, m)) (access_list x.step.target x.step.at)
-
-    by_test : (b : Bool) → (x.seat == seat) ≡ b → length (at_seat seat (accesses_of_log log)) ≡ length (accesses_in (taken_by seat log))
-        → length (at_seat seat (mine ++ accesses_of_log log)) ≡ length (accesses_in (taken_by seat (x ∷ log)))
-    by_test true is rest =
-        let both = ap length (filter-append (λ (y : ℕ × Access). y.0 == seat) mine (accesses_of_log log)) ∙ length-append (at_seat seat mine) (at_seat seat (accesses_of_log log)) in
-        let one = of_one seat x true is in
-        let right : length (accesses_in (taken_by seat (x ∷ log))) ≡ length (access_list x.step.target x.step.at) + length (accesses_in (taken_by seat log)) =
-        ap (λ (b : Bool). length (accesses_in (map (λ (y : Logged). y.step) (cond b (x ∷ filter (λ (y : Logged). y.seat == seat) log) (filter (λ (y : Logged). y.seat == seat) log))))) is
-        ∙ length-append (access_list x.step.target x.step.at) (accesses_in (taken_by seat log)) in
-        omega arith
-    by_test false is rest =
-        let both = ap length (filter-append (λ (y : ℕ × Access). y.0 == seat) mine (accesses_of_log log)) ∙ length-append (at_seat seat mine) (at_seat seat (accesses_of_log log)) in
-        let one = of_one seat x false is in
-        let right : length (accesses_in (taken_by seat (x ∷ log))) ≡ length (accesses_in (taken_by seat log)) =
-        ap (λ (b : Bool). length (accesses_in (map (λ (y : Logged). y.step) (cond b (x ∷ filter (λ (y : Logged). y.seat == seat) log) (filter (λ (y : Logged). y.seat == seat) log))))) is in
-        omega arith
+seat_accesses seat (x ∷ log) = search (arith, filter-append, length-append, of_one, seat_accesses seat log)
 
 -- there are no fewer seats than before
 
@@ -90,34 +62,21 @@ abbrev but : ℕ → Log → Log
 but seat log = filter (λ (x : Logged). not (x.seat == seat)) log
 
 at_cons : (seat : ℕ) (x : Logged) (log : Log) (b : Bool) → (x.seat == seat) ≡ b → count_at seat (x ∷ log) ≡ cond b (length (access_list x.step.target x.step.at)) 0 + count_at seat log
-at_cons seat x log true is =
-    ap (λ (b : Bool). length (accesses_in (map (λ (y : Logged). y.step) (cond b (x ∷ filter (λ (y : Logged). y.seat == seat) log) (filter (λ (y : Logged). y.seat == seat) log))))) is
-    ∙ length-append (access_list x.step.target x.step.at) (accesses_in (taken_by seat log))
-at_cons seat x log false is =
-    ap (λ (b : Bool). length (accesses_in (map (λ (y : Logged). y.step) (cond b (x ∷ filter (λ (y : Logged). y.seat == seat) log) (filter (λ (y : Logged). y.seat == seat) log))))) is ∙ omega arith
+at_cons seat x log b is = search (arith, length-append)
 
 all_cons : (x : Logged) (log : Log) → count_all (x ∷ log) ≡ length (access_list x.step.target x.step.at) + count_all log
 all_cons x log = length-append (access_list x.step.target x.step.at) (accesses_in (map (λ (y : Logged). y.step) log))
 
 but_cons : (seat : ℕ) (x : Logged) (log : Log) (b : Bool) → (x.seat == seat) ≡ b → but seat (x ∷ log) ≡ cond b (but seat log) (x ∷ but seat log)
-but_cons seat x log true is = ap (λ (b : Bool). cond (not b) (x ∷ but seat log) (but seat log)) is
-but_cons seat x log false is = ap (λ (b : Bool). cond (not b) (x ∷ but seat log) (but seat log)) is
+but_cons seat x log b is = search (arith, not)
 
 split_at : (seat : ℕ) (log : Log) → count_all log ≡ count_at seat log + count_all (but seat log)
 split_at seat [] = refl
-split_at seat (x ∷ log) = by_test (x.seat == seat) refl (split_at seat log)
-  where
-    by_test : (b : Bool) → (x.seat == seat) ≡ b → count_all log ≡ count_at seat log + count_all (but seat log) → count_all (x ∷ log) ≡ count_at seat (x ∷ log) + count_all (but seat (x ∷ log))
-    by_test true is rest = let a = all_cons x log in let b = at_cons seat x log true is in let c = ap count_all (but_cons seat x log true is) in omega arith
-    by_test false is rest = let a = all_cons x log in let b = at_cons seat x log false is in let c = ap count_all (but_cons seat x log false is) in let d = all_cons x (but seat log) in omega arith
+split_at seat (x ∷ log) = search (arith, all_cons, at_cons, but_cons, split_at seat log)
 
 at_but : (seat other : ℕ) (log : Log) → count_at seat (but other log) ≤ count_at seat log
 at_but seat other [] = omega arith
-at_but seat other (x ∷ log) = by_test (x.seat == other) refl (x.seat == seat) refl (at_but seat other log)
-  where
-    by_test : (b : Bool) → (x.seat == other) ≡ b → (c : Bool) → (x.seat == seat) ≡ c → count_at seat (but other log) ≤ count_at seat log → count_at seat (but other (x ∷ log)) ≤ count_at seat (x ∷ log)
-    by_test true is c own rest = let a = ap (count_at seat) (but_cons other x log true is) in let b = at_cons seat x log c own in omega arith
-    by_test false is c own rest = let a = ap (count_at seat) (but_cons other x log false is) in let b = at_cons seat x log c own in let d = at_cons seat x (but other log) c own in omega arith
+at_but seat other (x ∷ log) = search (arith, but_cons, at_cons, at_but seat other log)
 
 below : (k n : ℕ) → k < n + 1 → k ≢ n → k < n
 below k n l other = omega arith
@@ -129,9 +88,7 @@ below_but n (x ∷ log) all =
   where
     by_test : (b : Bool) → (x.seat == n) ≡ b → x.seat < n + 1 → All (λ (y : Logged). y.seat < n) (but n log) → All (λ (y : Logged). y.seat < n) (but n (x ∷ log))
     by_test true is here rest = subst (All (λ (y : Logged). y.seat < n)) (sym (but_cons n x log true is)) rest
-    by_test false is here rest =
-        let apart = eqb-false x.seat n is in
-        subst (All (λ (y : Logged). y.seat < n)) (sym (but_cons n x log false is)) (All-cons (λ (y : Logged). y.seat < n) x (but n log) (below x.seat n here apart) rest)
+    by_test false is here rest = search (arith, eqb-false, but_cons, All-cons, below)
 
 in_all : (n m : ℕ) (log : Log) → All (λ (x : Logged). x.seat < n) log → ((seat : ℕ) → count_at seat log ≤ m) → count_all log ≤ n * m
 in_all zero m [] seated each = omega arith

@@ -48,12 +48,10 @@ Position = State Entry WordView
 -- the thirteen words
 
 set_match : (n : ℕ) (b : List ℕ) (game x : ℕ) → 1 ≤ game → set (n ∷ b) game x ≡ n ∷ set b (game - 1) x
-set_match n b zero x low = absurd (omega arith)
-set_match n b (suc game) x low = let e : game ≡ suc game - 1 = omega arith in ap (λ (k : ℕ). n ∷ set b k x) e
+set_match n b game x low = search arith
 
 get_match : (n : ℕ) (b : List ℕ) (game : ℕ) → 1 ≤ game → get_or (n ∷ b) game 0 ≡ get_or b (game - 1) 0
-get_match n b zero low = absurd (omega arith)
-get_match n b (suc game) low = let e : game ≡ suc game - 1 = omega arith in ap (λ (k : ℕ). get_or b k 0) e
+get_match n b game low = search arith
 
 match_word : (s : Position) (r : TableKeepsOneHistory s) (game : ℕ) → 1 ≤ game → get_or s.words game 0 ≡ word_at (board_of (history_of r.shared.log)) game
 match_word s r game low = ap (λ (ws : List ℕ). get_or ws game 0) r.shared.words_are ∙ get_match r.shared.enlisted (board_of (history_of r.shared.log)) game low
@@ -107,12 +105,7 @@ acted_still readers enlisted log log' views seat v w here number doing is trace 
     (log_kept readers enlisted log log' (word_actors views) run is trace))
 
 pub apart_actors : (s : Position) (r : TableKeepsOneHistory s) → Apart (word_actors s.views)
-apart_actors s r i j a b at bt pos same =
-    let v = map_there word_actor s.views i a at in
-    let w = map_there word_actor s.views j b bt in
-    let n : v.0.pass.number ≡ a.number = ap (λ (z : Actor). z.number) v.2 in
-    let m : w.0.pass.number ≡ b.number = ap (λ (z : Actor). z.number) w.2 in
-    r.shared.apart i j v.0.pass w.0.pass (known_at s.views i v.0 v.1) (known_at s.views j w.0 w.1) (omega arith) (n ∙ (same ∙ sym m))
+apart_actors s r i j a b at bt pos same = search (arith, map_there, known_at)
 
 low_actors : (s : Position) (r : TableKeepsOneHistory s) (j : ℕ) (a : Actor) → get_elem? (word_actors s.views) j ≡ some a → a.number ≤ r.shared.enlisted
 low_actors s r j a at =
@@ -209,8 +202,7 @@ module _ (s : Position) (r : TableKeepsOneHistory s) (seat : ℕ) (v : WordView)
 -- after a step that keeps the rule its pass stands at its seat
 stands_after : (s : Position) (i n seat : ℕ) (cs : List (ℕ × Entry)) (v w : WordView) → get_elem? s.views seat ≡ some v → TableKeepsOneHistory (stepped s i n seat cs w keeps) → (place : ℕ)
     → place ≡ seat → Stands place w
-stands_after s i n seat cs v w here rule place is =
-    record { state = stepped s i n seat cs w keeps; rule = rule; here = ap (get_elem? (set s.views seat w)) is ∙ set_here s.views seat w (place_below s.views seat v here) }
+stands_after s i n seat cs v w here rule place is = search (arith, get_elem?, set_here, place_below)
 
 -- a load of a match word keeps the rule, whichever turn of the machine it is
 loads_by : (slots seat game : ℕ) (m : Me Entry WordView) (kind : AccessKind) (doing : ℕ → ℕ → Doing) (shown : ℕ → List ℕ) → IsSome m.0.pass.share → IsMatch game

@@ -55,21 +55,11 @@ does_same was is e = subst (DoesOn was) (sym e) record { finished = begins_same 
 
 -- a step that stays in its call, or begins it
 does_go : (d : Doing) (begun : ℕ) (held : Held) → IsPrefix (call_under_way d.held) (call_under_way held) → DoesOn d (record { calls = d.calls; held = held; begun = begun })
-does_go d begun held p = record {
-  finished = begins_same d.calls;
-  asked = (p.0, append_assoc (map (λ (f : Answer). f.call) d.calls) (call_under_way d.held) p.0 ∙ ap (λ (l : List Call). map (λ (f : Answer). f.call) d.calls ++ l) p.1);
-}
+does_go d begun held p = search (arith, begins_same, append_assoc)
 
 -- one that ends its call
 does_end : (d : Doing) (f : Answer) (begun : ℕ) → IsPrefix (call_under_way d.held) (f.call ∷ []) → DoesOn d (record { calls = d.calls ++ f ∷ []; held = Nothing; begun = begun })
-does_end d f begun p = record {
-  finished = (f ∷ [], refl);
-  asked = (
-    p.0,
-    append_assoc (map (λ (g : Answer). g.call) d.calls) (call_under_way d.held) p.0 ∙ (ap (λ (l : List Call). map (λ (g : Answer). g.call) d.calls ++ l) p.1
-        ∙ (sym (map-append (λ (g : Answer). g.call) d.calls (f ∷ [])) ∙ sym (append-nil (map (λ (g : Answer). g.call) (d.calls ++ f ∷ []))))),
-  );
-}
+does_end d f begun p = search (arith, append_assoc, map-append, append-nil)
 
 -- by what comes of a step of a call
 abbrev StaysIn : Call → Outcome → Type 0
@@ -84,43 +74,32 @@ begins_here : (d : Doing) (held : Held) (calls : List Call) → d.held ≡ held 
 begins_here d held calls is p = subst (λ (h : Held). IsPrefix (call_under_way h) calls) (sym is) p
 
 look_stays : (number : ℕ) (e : EventCall) (found : ℕ) (o : Option Refusal) → StaysIn (Event e) (by_rules number e found o)
-look_stays number e found (Some refusal) = tt
-look_stays number e found None = refl
+look_stays number e found o = search arith
 
 look_goes : (number : ℕ) (e : EventCall) (found now : ℕ) (d : Doing) → d.held ≡ Nothing → DoesOn d (after_look number e found now d)
-look_goes number e found now d free =
-    does_by d (Event e) now now (looked number e found) (begins_here d Nothing (Event e ∷ []) free (begins_none (Event e ∷ [])))
-    (look_stays number e found (refusal_of (record_at found) e.expected e.kind))
+look_goes number e found now d free = search (arith, does_by, begins_here, begins_none, look_stays)
 
 first_stays : (b : Bool) (words : List ℕ) (now : ℕ) → call_under_way (if b then Checking words 0 now else Collecting words) ≡ Reading ∷ []
-first_stays true words now = refl
-first_stays false words now = refl
+first_stays b words now = search arith
 
 first_goes : (found now : ℕ) (d : Doing) (held : Held) → d.held ≡ held → DoesOn d (firsts_holding held found now d)
 first_goes found now d Nothing is = does_by d Reading now now (loaded [] found now) (begins_here d Nothing (Reading ∷ []) is (begins_none (Reading ∷ []))) (first_stays false (found ∷ []) now)
-first_goes found now d (Collecting words) is =
-    does_by d Reading d.begun now (loaded words found now) (begins_here d (Collecting words) (Reading ∷ []) is (begins_same (Reading ∷ [])))
-    (first_stays (length (words ++ found ∷ []) == 12) (words ++ found ∷ []) now)
+first_goes found now d (Collecting words) is = search (arith, does_by, begins_here, begins_same, first_stays)
 first_goes found now d (Holding e old new) is = does_same d d refl
 first_goes found now d (Checking words checked point) is = does_same d d refl
 
 second_stays : (a b : Bool) (reply : Reply) (words : List ℕ) (checked point : ℕ)
     → StaysIn Reading (if a then (if b then Answers reply else GoesOn (Checking words checked point)) else GoesOn (Collecting []))
-second_stays true true reply words checked point = tt
-second_stays true false reply words checked point = refl
-second_stays false b reply words checked point = refl
+second_stays a b reply words checked point = search arith
 
 second_goes : (found now : ℕ) (d : Doing) (held : Held) → d.held ≡ held → DoesOn d (seconds_holding held found now d)
-second_goes found now d (Checking words checked point) is =
-    does_by d Reading d.begun now (compared words checked point found) (begins_here d (Checking words checked point) (Reading ∷ []) is (begins_same (Reading ∷ [])))
-    (second_stays (found == slice_index words checked) (checked == 11) (Copied (reading_of words)) words (checked + 1) point)
+second_goes found now d (Checking words checked point) is = search (arith, does_by, begins_here, begins_same, second_stays)
 second_goes found now d Nothing is = does_same d d refl
 second_goes found now d (Collecting words) is = does_same d d refl
 second_goes found now d (Holding e old new) is = does_same d d refl
 
 swap_goes : (found now : ℕ) (d : Doing) (held : Held) → d.held ≡ held → DoesOn d (swaps_holding held found now d)
-swap_goes found now d (Holding e old new) is =
-    does_by d (Event e) d.begun now (swapped old new found) (begins_here d (Holding e old new) (Event e ∷ []) is (begins_same (Event e ∷ []))) tt
+swap_goes found now d (Holding e old new) is = search (arith, does_by, begins_here, begins_same)
 swap_goes found now d Nothing is = does_same d d refl
 swap_goes found now d (Collecting words) is = does_same d d refl
 swap_goes found now d (Checking words checked point) is = does_same d d refl
@@ -294,25 +273,12 @@ found_there : (s : State Entry WordView) (r : TableKeepsOneHistory s) (found wor
 found_there s r found word there is = there ∙ (ap (slice_index s.words) is ∙ enlist_word s r)
 
 pub counts_find : (place : ℕ) → FindsEnlisted (EnlistedStep place)
-counts_find place s t r p =
-    let x = p.was.0.pass in let y = p.is.0.pass in
-    says_found x y p.found r.shared.enlisted (length y.seen) (found_there s r p.found p.step.word p.there p.told.word) p.told.loads.sees.takes
+counts_find place s t r p = search (arith, says_found, found_there)
 
 pub enlists_find : (place : ℕ) → FindsEnlisted (EnlistStep place)
-enlists_find place s t r p =
-    let x = p.was.0.pass in let y = p.is.0.pass in
-    let is = found_there s r p.found p.step.word p.there p.told.word in
-    says_found x y p.found r.shared.enlisted (length y.seen) is (dite (ℕ_discrete p.found p.step.first) (λ hit. (p.told.won hit).enlists.takes) (λ miss. (p.told.missed miss).sees.takes))
+enlists_find place s t r p = search (arith, found_there, says_found, dite)
 
 -- what a clause of a step allows
 
 pub leads : (kind : StepKind) → StepsLeadOn kind
-leads kind seat next st m allows s r slots here fits =
-    let x = allows s r slots here fits in
-    let found = slice_index s.words st.word in
-    record {
-      state = stepped s st.word (next found) seat m.1 x.0 x.1;
-      rule = x.3;
-      words = refl;
-      steps = record { seat = seat; step = st; found = found; was = m; is = (x.0, carried_after m.1 x.1); here = here; there = refl; told = x.4; views = refl };
-    }
+leads kind seat next st m allows s r slots here fits = search (arith, slice_index)

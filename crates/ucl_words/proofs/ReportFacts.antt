@@ -200,8 +200,7 @@ module _ (v u : View) (call : EventCall) (loaded : ℕ) (is : IsMatch call.game)
 pub accepts_by : (word next number reporter : ℕ) (call : EventCall) → refusal_of (record_at word) call.expected call.kind ≡ None → record_at next ≡ after (record_at word) reporter call.kind
     → number ≡ (record_at next).number
     → reply_of (record_at word) call ≡ Ok (record { number = number })
-accepts_by word next number reporter call none is said =
-    sym (accepted_reply (record_at word) (record_at word) call number refl none (said ∙ (ap (λ (x : MatchRecord). x.number) is ∙ after_number (record_at word) reporter call.kind)))
+accepts_by word next number reporter call none is said = search (arith, accepted_reply, after_number)
 
 -- the entry under the number of the pass
 pub as_entry : (v u z : View) (call : EventCall) (entry : Entry) (reporter found : ℕ) → entry ≡ entry_of reporter call → v.number ≡ reporter → ExchangeWon entry u found z

@@ -31,8 +31,7 @@ trail_longer s h trail p was = follows_wider h 0 0 (length s) (length h) trail (
 
 -- the trail after some steps
 pub takes_trail : (v w : View) (steps : List Taken) → Takes v steps w → trail_of w ≡ trail_of v ++ accesses_in steps
-takes_trail v w steps t =
-    ap accesses_in ((λ i. t.copied i ++ t.own i) ∙ sym (append_assoc v.copied v.own steps)) ∙ accesses_append (v.copied ++ v.own) steps
+takes_trail v w steps t = search (arith, append_assoc, accesses_append)
 
 -- steps that add no entry
 abbrev plain : Access → Taken
@@ -47,13 +46,7 @@ pub plain_append : (ms ns : List Access) → steps_with None (ms ++ ns) ≡ step
 plain_append ms ns = all_plain (ms ++ ns) ∙ (map-append plain ms ns ∙ sym (λ i. all_plain ms i ++ all_plain ns i))
 
 pub walks_none : (v : View) → IsSteady v → Walks v [] v
-walks_none v steady = record {
-  steady = steady;
-  on = record { seen = begins_same v.seen; listed = le_refl v.listed; share = refl };
-  mine = refl;
-  number = refl;
-  leaves = record { takes = takes_none v; trail = sym (append-nil (trail_of v)); taken = omega arith; follows = le_refl (length v.seen); whole_trail = steady.trail };
-}
+walks_none v steady = search (arith, begins_same, le_refl, takes_none, append-nil)
 
 pub walks_on : (u v w : View) (ms ns : List Access) → Walks u ms v → Walks v ns w → Walks u (ms ++ ns) w
 walks_on u v w ms ns a b = record {

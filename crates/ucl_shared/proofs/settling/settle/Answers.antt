@@ -5,24 +5,10 @@ use Rattle.ucl_shared.proofs.settling.settle.Goals as goal
 use Rattle.ucl_shared.proofs.settling.settle.Goals.{else-ne-via-then-ne+else-from-accepted, else-ne-via-else-ne}
 
 pub returns-then-from-accepted-clause-always : goal.returns-then-from-accepted-clause-always
-returns-then-from-accepted-clause-always g c =
-    let k = g.B.LiveBoard.reporter in
-    let m = c.meet.ensures in
-    let r = c.read_own-reading.ensures in (
-      unchanged (k c.args.first.now) (k c.meet.new.first) m.sound m.unchanged,
-      through (k c.args.first.now) (k c.args.second.now) (k c.meet.new.first) (k c.meet.new.second) (k c.read_own-reading.new.pass) c.read_own-reading.result
-          m.unchanged m.meeting m.always r.always r.reading,
-    )
+returns-then-from-accepted-clause-always g c = search (arith, unchanged, through)
 
 pub returns-else-ne-clause-always : goal.returns-else-ne-clause-always
-returns-else-ne-clause-always g c =
-    let k = g.B.LiveBoard.reporter in
-    let m = c.meet.ensures in
-    let r = c.read_own-reading.ensures in (
-      unchanged (k c.args.first.now) (k c.meet.new.first) m.sound m.unchanged,
-      through (k c.args.first.now) (k c.args.second.now) (k c.meet.new.first) (k c.meet.new.second) (k c.read_own-reading.new.pass) c.read_own-reading.result
-          m.unchanged m.meeting m.always r.always r.reading,
-    )
+returns-else-ne-clause-always g c = search (arith, unchanged, through)
 
 pub returns-then-from-accepted-clause-of_both : goal.returns-then-from-accepted-clause-of_both
 returns-then-from-accepted-clause-of_both g c =
@@ -36,32 +22,10 @@ returns-then-from-accepted-clause-of_both g c =
     (let f1 = c.from.ensures in let f2 = c.from-2.ensures in let f3 = c.from-then-ne.ensures in let t = c.if-from-accepted.true in omega arith)
 
 pub returns-then-from-accepted-clause-exactly : goal.returns-then-from-accepted-clause-exactly
-returns-then-from-accepted-clause-exactly g c =
-    let k = g.B.LiveBoard.reporter in
-    let m = c.meet.ensures in
-    let r = c.read_own-reading.ensures in (
-      λ _. alone (k c.args.first.now) (k c.args.second.now) (k c.meet.new.first) (k c.meet.new.second) (k c.read_own-reading.new.pass) c.read_own-reading.result
-          m.unchanged m.meeting m.always r.always r.reading m.sound c.number_of.result c.number_of-2.result c.accepted_of.result c.accepted_of-2.result c.number_of.ensures c.number_of-2.ensures
-          c.accepted_of.ensures c.accepted_of-2.ensures
-          (differ c.number_of.result c.number_of-2.result c.ne.result c.ne.ensures c.if-ne.true)
-          (let f1 = c.from.ensures in let f2 = c.from-2.ensures in let f3 = c.from-then-ne.ensures in let t = c.if-from-accepted.true in omega arith),
-      λ _. refl,
-    )
+returns-then-from-accepted-clause-exactly g c = search (arith, alone, differ)
 
 pub returns-else-ne-clause-strangers : goal.returns-else-ne-clause-strangers
-returns-else-ne-clause-strangers g c ne =
-    let k = g.B.LiveBoard.reporter in
-    let m = c.meet.ensures in
-    let r = c.read_own-reading.ensures in
-    let f1 = c.from.ensures in
-    let f2 = c.from-2.ensures in
-    let why : (c.number_of.result ≡ c.number_of-2.result) ⊎ (c.read_own-reading.result.version ≢ c.accepted_of.result + c.accepted_of-2.result) = elim c.else-ne.branch [
-      | else-ne-via-then-ne+else-from-accepted w ↦ inr (λ sum. let f3 = w.from-then-ne.ensures in w.if-from-accepted.false (omega arith))
-      | else-ne-via-else-ne w ↦ inl (one_number c.number_of.result c.number_of-2.result c.ne.result c.ne.ensures w.if-ne.false)
-    ] in
-    strangers (k c.args.first.now) (k c.args.second.now) (k c.meet.new.first) (k c.meet.new.second) (k c.read_own-reading.new.pass) c.read_own-reading.result
-    m.unchanged m.meeting m.always r.always r.reading m.sound c.number_of.result c.number_of-2.result c.accepted_of.result c.accepted_of-2.result c.number_of.ensures c.number_of-2.ensures
-    c.accepted_of.ensures c.accepted_of-2.ensures why ne
+returns-else-ne-clause-strangers g c ne = search (arith, else-ne-via-then-ne+else-from-accepted, else-ne-via-else-ne, one_number, strangers)
 
 pub returns-then-from-accepted-clause-shown : goal.returns-then-from-accepted-clause-shown
 returns-then-from-accepted-clause-shown g c = let r = c.read_own-reading in r.ensures.reading.shown ∙ ap (λ (shown : List ℕ). shown ++ r.result.version ∷ []) c.meet.ensures.meeting.shown
@@ -70,17 +34,7 @@ pub returns-else-ne-clause-shown : goal.returns-else-ne-clause-shown
 returns-else-ne-clause-shown g c = let r = c.read_own-reading in r.ensures.reading.shown ∙ ap (λ (shown : List ℕ). shown ++ r.result.version ∷ []) c.meet.ensures.meeting.shown
 
 pub returns-then-from-accepted-clause-settled : goal.returns-then-from-accepted-clause-settled
-returns-then-from-accepted-clause-settled g c =
-    let k = g.B.LiveBoard.reporter in
-    let m = c.meet.ensures in
-    let r = c.read_own-reading.ensures in
-    settled (k c.args.first.now) (k c.args.second.now) (k c.meet.new.first) (k c.meet.new.second) (k c.read_own-reading.new.pass) c.read_own-reading.result
-    m.unchanged m.meeting m.always r.always r.reading
+returns-then-from-accepted-clause-settled g c = search (arith, settled)
 
 pub returns-else-ne-clause-settled : goal.returns-else-ne-clause-settled
-returns-else-ne-clause-settled g c =
-    let k = g.B.LiveBoard.reporter in
-    let m = c.meet.ensures in
-    let r = c.read_own-reading.ensures in
-    settled (k c.args.first.now) (k c.args.second.now) (k c.meet.new.first) (k c.meet.new.second) (k c.read_own-reading.new.pass) c.read_own-reading.result
-    m.unchanged m.meeting m.always r.always r.reading
+returns-else-ne-clause-settled g c = search (arith, settled)

@@ -4,12 +4,7 @@ use Rattle.ucl_words.proofs.KeptRule.{enlists}
 use Rattle.ucl_words.proofs.board.WordBoard.add_reporter.Goals as goal
 
 pub compare_exchange-requires : goal.compare_exchange-requires
-compare_exchange-requires g c = (
-  c.requires.table
-      ∙ sym c.self.view_is,
-  omega (arith, c.self.invariant.0),
-  enlists _ _ _ _ _ c.requires.place c.requires.acts c.requires.reader c.requires.next c.requires.room,
-)
+compare_exchange-requires g c = search (arith, enlists)
 
 pub returns-clause-won : goal.returns-clause-won
 returns-clause-won g c = c.compare_exchange.ensures.2.won

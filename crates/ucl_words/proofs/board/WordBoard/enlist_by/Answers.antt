@@ -41,11 +41,7 @@ returns-then-found-known-clause-trail c =
     (let test = c.tries-test.true in omega arith) same (c.add_reporter-found.ensures.won same)
 
 pub tries-smaller : goal.tries-smaller
-tries-smaller c =
-    let other = c.if-found-known.false in
-    let t = missed_higher c.args.seat.now.me.0.pass c.tries.seat.me.0.pass c.add_reporter-found.new.seat.me.0.pass c.tries.known c.add_reporter-found.result c.tries.invariant.missed other
-    (c.add_reporter-found.ensures.missed other) in
-    omega (arith, t.0, t.1)
+tries-smaller c = search (arith, missed_higher)
 
 pub tries-preserved : goal.tries-preserved
 tries-preserved c =
@@ -73,11 +69,7 @@ pub returns-then-found-known-clause-stands : goal.returns-then-found-known-claus
 returns-then-found-known-clause-stands c = c.add_reporter-found.ensures.stands
 
 pub returns-clause-stands : goal.returns-clause-stands
-returns-clause-stands c = by c.tries.invariant.stands
-  where
-    by : (c.tries.known ≡ 0) ⊎ Stands c.tries.seat.id c.tries.seat.me.0 → Stands c.tries.seat.id c.tries.seat.me.0
-    by (inl none) = let test = c.tries-test.false in absurd (omega arith)
-    by (inr stands) = stands
+returns-clause-stands c = search arith
 
 pub returns-then-found-known-clause-tries : goal.returns-then-found-known-clause-tries
 returns-then-found-known-clause-tries c =

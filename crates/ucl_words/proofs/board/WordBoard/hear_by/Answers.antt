@@ -9,14 +9,7 @@ use Rattle.ucl_words.proofs.EnlistmentFacts.{met_steady, met_continues, met_says
 use Rattle.ucl_words.proofs.board.WordBoard.hear_by.Goals as goal
 
 pub join_seat-requires : goal.join_seat-requires
-join_seat-requires c = (
-  search rules,
-  search rules,
-  c.requires.note.1,
-  omega (arith, c.self.invariant.0),
-  subst (λ (n : WordView). Joins TableKeepsOneHistory c.args.seat.now.id c.args.seat.now.me.0 c.args.note.id n (told_pass c.args.seat.now.me.0 n) new_pass) (sym c.requires.note.0)
-      (joins _ _ _ c.args.note.me.0),
-)
+join_seat-requires c = search (arith, rules, joins)
 
 pub returns-clause-steady : goal.returns-clause-steady
 returns-clause-steady c =
@@ -35,12 +28,7 @@ returns-clause-always c =
     met_continues a v w n c.requires.steady (after_told a v c.join_seat.new.seat.me.0.pass w n (ap (λ m. m.0.pass) c.join_seat.ensures.2) c.count.ensures.loads)
 
 pub returns-clause-heard : goal.returns-clause-heard
-returns-clause-heard c =
-    let a = c.args.note.me.0.pass in
-    let v = c.args.seat.now.me.0.pass in
-    let w = c.count.new.seat.me.0.pass in
-    let n : ℕ = c.count.result in
-    met_says a v w n c.requires.steady (after_told a v c.join_seat.new.seat.me.0.pass w n (ap (λ m. m.0.pass) c.join_seat.ensures.2) c.count.ensures.loads)
+returns-clause-heard c = search (arith, met_says, after_told)
 
 pub returns-clause-trail : goal.returns-clause-trail
 returns-clause-trail c =
@@ -51,12 +39,7 @@ returns-clause-trail c =
     met_trail a v w n c.requires.steady (after_told a v c.join_seat.new.seat.me.0.pass w n (ap (λ m. m.0.pass) c.join_seat.ensures.2) c.count.ensures.loads)
 
 pub returns-clause-steps : goal.returns-clause-steps
-returns-clause-steps c =
-    let a = c.args.note.me.0.pass in
-    let v = c.args.seat.now.me.0.pass in
-    let w = c.count.new.seat.me.0.pass in
-    let n : ℕ = c.count.result in
-    met_steps a v w n c.requires.steady (after_told a v c.join_seat.new.seat.me.0.pass w n (ap (λ m. m.0.pass) c.join_seat.ensures.2) c.count.ensures.loads)
+returns-clause-steps c = search (arith, met_steps, after_told)
 
 pub returns-clause-does : goal.returns-clause-does
 returns-clause-does c = c.count.ensures.does ∙ ap (λ m. m.0.doing) c.join_seat.ensures.2

@@ -4,11 +4,7 @@ use Rattle.ucl_words.proofs.KeptRule.{again}
 use Rattle.ucl_words.proofs.board.WordBoard.load_again.Goals as goal
 
 pub load-requires : goal.load-requires
-load-requires g c = (
-  c.requires.table ∙ sym c.self.view_is,
-  (let i = c.self.invariant.0 in let w = c.requires.word.1 in omega arith),
-  again _ _ _ _ _ c.requires.place c.requires.acts c.requires.word c.requires.next,
-)
+load-requires g c = search (arith, again)
 
 pub returns-clause-stands : goal.returns-clause-stands
 returns-clause-stands g c = subst (λ (k : ℕ). Stands k c.load.new.seat.me.0) (c.requires.place ∙ sym c.load.ensures.1) c.load.ensures.2.stands

@@ -41,9 +41,7 @@ tries-preserved c = record {
 }
 
 pub returns-then-is_clean-clause-steady : goal.returns-then-is_clean-clause-steady
-returns-then-is_clean-clause-steady c = (reads c.tries.seat.me.0.pass c.collect-words.new.seat.me.0.pass c.is_clean.new.seat.me.0.pass c.collect-words.result c.collect-words.ensures.long
-    c.collect-words.ensures.collects c.if-is_clean.ensures.compared c.args.seat.now.me.0.pass c.requires.steady c.tries.invariant.tried c.of.result
-    (c.of.ensures ∙ ap reading_of c.of_packed.ensures)).steady
+returns-then-is_clean-clause-steady c = search (arith, reads)
 
 pub returns-then-is_clean-clause-reading : goal.returns-then-is_clean-clause-reading
 returns-then-is_clean-clause-reading c =
@@ -64,19 +62,10 @@ pub collect-words-requires-clause-next : goal.collect-words-requires-clause-next
 collect-words-requires-clause-next c = tries_may (length c.args.seat.now.me.0.pass.seen) c.args.seat.now.me.0.doing c.requires.next c.tries.seat.me.0.doing c.tries.invariant.does
 
 pub is_clean-requires-clause-next : goal.is_clean-requires-clause-next
-is_clean-requires-clause-next c = tries_held (length c.args.seat.now.me.0.pass.seen) c.args.seat.now.me.0.doing c.requires.next c.tries.seat.me.0.doing c.collect-words.new.seat.me.0.doing
-    c.collect-words.result (length c.tries.seat.me.0.pass.seen) _ (begins_length _ _ c.tries.invariant.tried.walks.on.seen) c.tries.invariant.does c.collect-words.ensures.does
+is_clean-requires-clause-next c = search (arith, tries_held, begins_length)
 
 pub returns-then-is_clean-clause-answers : goal.returns-then-is_clean-clause-answers
-returns-then-is_clean-clause-answers c =
-    let done = tries_clean (length c.args.seat.now.me.0.pass.seen) c.args.seat.now.me.0.doing c.requires.next c.tries.seat.me.0.doing c.collect-words.new.seat.me.0.doing c.collect-words.result
-    (length c.tries.seat.me.0.pass.seen) _ (begins_length _ _ c.tries.invariant.tried.walks.on.seen) c.tries.invariant.does c.collect-words.ensures.does c.is_clean.new.seat.me.0.doing _
-    c.of.result c.if-is_clean.ensures.does
-    (sym (c.of.ensures ∙ ap reading_of c.of_packed.ensures)) in
-    record { begun = done.0; after_seen = done.1; does = done.2 }
+returns-then-is_clean-clause-answers c = search (arith, tries_clean, begins_length)
 
 pub returns-then-is_clean-clause-along : goal.returns-then-is_clean-clause-along
-returns-then-is_clean-clause-along c =
-    along_on c.args.seat.now.me.0 c.tries.seat.me.0 c.is_clean.new.seat.me.0 calls.Reading c.tries.invariant.tried.walks.number c.tries.invariant.along
-    (along_on c.tries.seat.me.0 c.collect-words.new.seat.me.0 c.is_clean.new.seat.me.0 calls.Reading c.collect-words.ensures.collects.walks.number c.collect-words.ensures.along
-    c.is_clean.ensures.along)
+returns-then-is_clean-clause-along c = search (arith, along_on)

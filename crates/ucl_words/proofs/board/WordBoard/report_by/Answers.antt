@@ -19,10 +19,7 @@ pub look-loaded-requires-clause-acts : goal.look-loaded-requires-clause-acts
 look-loaded-requires-clause-acts c = c.requires.steady.sound.acts
 
 pub next_word-requires : goal.next_word-requires
-next_word-requires c =
-    let u = c.look-loaded.new.seat.me.0.pass in
-    let said = c.look-loaded.ensures in
-    found_valid u.seen c.args.call.now.game c.look-loaded.result said.looks.loads.sees.goes.legal said.game said.looks.loads.sees.there.1
+next_word-requires c = search (arith, found_valid)
 
 pub returns-in_err-next : goal.returns-in_err-next
 returns-in_err-next c =
@@ -52,10 +49,7 @@ pub swap-found-requires-clause-acts : goal.swap-found-requires-clause-acts
 swap-found-requires-clause-acts c = c.look-loaded.ensures.looks.loads.sees.goes.acts
 
 pub swap-found-requires-clause-me : goal.swap-found-requires-clause-me
-swap-found-requires-clause-me c =
-    let me = c.requires.me in
-    let kept = c.look-loaded.ensures.looks.loads.sees.number in
-    (omega arith, ap (λ (e : Entry). e.reporter) c.of-entry.ensures ∙ (sym me.2 ∙ sym kept))
+swap-found-requires-clause-me c = search arith
 
 pub swap-found-requires-clause-word : goal.swap-found-requires-clause-word
 swap-found-requires-clause-word c =
@@ -64,12 +58,7 @@ swap-found-requires-clause-word c =
     (next_after call.game c.args.reporter call.kind c.look-loaded.result c.in_ok-next.next c.look-loaded.ensures.game c.in_ok-next.ensures.valid c.in_ok-next.ensures.counted)
 
 pub swap-found-requires-clause-next : goal.swap-found-requires-clause-next
-swap-found-requires-clause-next c =
-    let said = c.look-loaded.ensures in
-    let next = c.in_ok-next.ensures in
-    subst (λ (e : Entry). IsHoldingFor c.look-loaded.new.seat.me.0.doing.held e c.look-loaded.result c.in_ok-next.next) (sym c.of-entry.ensures)
-    (holding_for c.args.seat.now.me.0 c.look-loaded.new.seat.me.0 c.args.call.now c.look-loaded.result c.args.reporter c.requires.me.2 said.does (begins_length _ _ said.looks.loads.sees.goes.seen)
-    next.accepted.0 c.in_ok-next.next next.valid next.record c.args.reporter)
+swap-found-requires-clause-next c = search (arith, holding_for, begins_length)
 
 pub returns-then-found-loaded : goal.returns-then-found-loaded
 returns-then-found-loaded c =

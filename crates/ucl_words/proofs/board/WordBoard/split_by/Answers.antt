@@ -15,7 +15,4 @@ pub returns-clause-given : goal.returns-clause-given
 returns-clause-given c = ap (λ m. m.0) c.split_seat.ensures.4
 
 pub returns-clause-stands : goal.returns-clause-stands
-returns-clause-stands c =
-    let v = c.args.seat.now.me.0 in
-    subst (λ (u : WordView). StandAfterSplit v u c.split_seat.result.me.0) (sym (ap (λ m. m.0) c.split_seat.ensures.2))
-    (subst (λ (w : WordView). StandAfterSplit v (left_pass v) w) (sym (ap (λ m. m.0) c.split_seat.ensures.4)) (split_stands v))
+returns-clause-stands c = search (arith, split_stands)

@@ -28,8 +28,7 @@ pub returns-clause-won : goal.returns-clause-won
 returns-clause-won g c hit = c.compare_exchange_with.ensures.2.won hit
 
 pub returns-clause-missed : goal.returns-clause-missed
-returns-clause-missed g c miss = subst (λ (w : ℕ). ExchangeMissed w c.args.seat.now.me.0.pass c.compare_exchange_with.result c.compare_exchange_with.new.seat.me.0.pass)
-    (c.from-word.ensures ∙ c.get.ensures.value) (c.compare_exchange_with.ensures.2.missed miss)
+returns-clause-missed g c miss = search arith
 
 pub returns-clause-does : goal.returns-clause-does
 returns-clause-does g c = c.compare_exchange_with.ensures.2.doing
