@@ -6,12 +6,14 @@ Text is str. What programs, the library and pages give is compared with what sta
 import csv
 import io
 import json
+import re
 
 csv.field_size_limit(1 << 30)
 FIXTURES = [(2, 3), (4, 1), (1, 2), (3, 4), (3, 1), (2, 4), (1, 3), (4, 2), (3, 2), (1, 4), (2, 1), (4, 3)]
 SIDED = ["goal", "disallow", "yellow", "second-yellow", "red"]
 WORDS = ["kickoff", "fulltime", "reopen"] + [f"{kind}-{side}" for kind in SIDED for side in ("home", "away")]
 SCHEDULED, IN_PLAY, FINISHED = range(3)
+STATES = "SCHEDULED", "IN PLAY", "FINISHED"
 # The clubs of the examples.
 ROSTER = [("Alpha", 60_000), ("Bravo", 95_000), ("Charlie", 60_000), ("Delta", 81_500)]
 CLUBS = "".join(f"club,{slot},{name},{coefficient}\n" for slot, (name, coefficient) in enumerate(ROSTER, 1))
@@ -26,6 +28,11 @@ class Match:
         self.number = self.reporter = 0
         self.state = SCHEDULED
         self.goals, self.yellows, self.expulsions = [0, 0], [0, 0], [0, 0]
+
+    def members(self, game):
+        """The match with this number as it stands, in JSON."""
+        members = {"match": game, "number": self.number, "state": STATES[self.state], "reporter": self.reporter}
+        return {**members, "score": self.goals, "yellows": self.yellows, "expulsions": self.expulsions}
 
     def refusal(self, expected, word):
         """The first rule that refuses the event, as its number and name; None where none does."""
@@ -224,12 +231,22 @@ def bad_slots(roster):
     return [i for i, (name, c) in enumerate(roster, 1) if not is_name(name) or c > 999_999]
 
 
+def numbers(fields):
+    """The reporter, the match and the number that is expected of a row of four fields, each None where its field says none."""
+    return number(fields[0], 3, 1, 255), number(fields[1], 2, 1, 12), number(fields[2], 5, 0, 65_535)
+
+
 def event(fields):
     """The reporter, the match, the number that is expected and the word of the event that a row enters; None where it enters none."""
+    return None if bad_field(fields) else (*numbers(fields), fields[3])
+
+
+def bad_field(fields):
+    """The name of the first field that is none of an event; None where each is one."""
     if len(fields) != 4:
-        return None
-    found = number(fields[0], 3, 1, 255), number(fields[1], 2, 1, 12), number(fields[2], 5, 0, 65_535), fields[3]
-    return None if None in found or found[3] not in WORDS else found
+        return "fields"
+    found = *numbers(fields), fields[3] if fields[3] in WORDS else None
+    return ("reporter", "match", "expected", "event")[found.index(None)] if None in found else None
 
 
 def word(fields, game):
@@ -345,18 +362,19 @@ class Evening:
     def entered(self, row, said):
         """The reply to an event, and the screen where it follows."""
         reporter, game, expected, word = said
+        asked = {"reporter": reporter, "match": game, "expected": expected, "event": word}
         m = self.matches[game - 1]
         refusal = m.refusal(expected, word)
         if refusal:
-            return self.refused(row, refusal)
+            return self.refused(row, refusal, **asked, **({"stands": m.members(game)} if refusal.startswith("1 ") else {}))
         m.enter(reporter, word)
-        members = {"reply": "ok", "match": game, "number": m.number, **self.style.moment(self.matches, self.roster)}
+        members = {"reply": "ok", **asked, "number": m.number, **self.style.moment(self.matches, self.roster)}
         return self.told(row, members, f"{row} ok {game} {m.number} {version(self.matches)}\n") + (self.shown(row) if self.with_screens else [])
 
-    def refused(self, row, refusal):
-        """The reply to what is refused."""
+    def refused(self, row, refusal, **more):
+        """The reply to what is refused, in JSON with these members more."""
         code, name, *found = refusal.split()
-        members = {"reply": "refused", "code": int(code), "name": name, **({"number": int(found[0])} if found else {})}
+        members = {"reply": "refused", "code": int(code), "name": name, **({"number": int(found[0])} if found else {}), **more}
         return self.told(row, members, f"{row} refused {refusal}\n")
 
     def beginning(self, row, fields):
@@ -389,7 +407,8 @@ class Evening:
         if fields == ["words", "", "", ""]:
             return self.told(row, {"reply": "words", "words": [m.word() for m in self.matches]}, sheet(self.matches))
         said = event(fields)
-        return self.refused(row, "20 bad-row") if said is None else self.entered(row, said)
+        shown = re.match("[ -~]{0,64}", line)[0]
+        return self.refused(row, "20 bad-row", field=bad_field(fields), text=shown) if said is None else self.entered(row, said)
 
     def of(self, text):
         """The status, the output and the errors for a whole input."""

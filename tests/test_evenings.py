@@ -94,6 +94,18 @@ def test_cut_after_each_byte(run):
         assert run("ucl_live", input=script[:cut]) == Evening([]).of(script[:cut]), f"cut after {cut} bytes"
 
 
+@pytest.mark.parametrize("row, field, text", [
+    ("x", "fields", "x"), ("1,1,0,kickoff,", "fields", "1,1,0,kickoff,"), ('"1,1', "fields", '\\"1,1'), ("0,13,x,kick-off", "reporter", "0,13,x,kick-off"),
+    ("help,,,", "reporter", "help,,,"), ("1,13,x,kick-off", "match", "1,13,x,kick-off"), ("1,1,,kick-off", "expected", "1,1,,kick-off"),
+    ('"1",01,0,Kickoff', "event", '\\"1\\",01,0,Kickoff'), ("1,1,0,kickoff ", "event", "1,1,0,kickoff "), ("1,1,0,kick\toff", "event", "1,1,0,kick"),
+    ("1,1,0,kick\u00e9", "event", "1,1,0,kick"), ("\u00e9", "fields", ""), ("1,1,0," + "x" * 58, "event", "1,1,0," + "x" * 58), ("1,1,0," + "x" * 59, "event", "1,1,0," + "x" * 58),
+    ("9" * 257, "fields", "9" * 64), ("9" * 9000, "fields", "9" * 64)])
+def test_bad_rows_in_json(run, row, field, text):
+    """The first field that is none of an event, and the row up to its first byte that is not printable ASCII, at most 64 bytes."""
+    wanted = f'{{"code":20,"field":"{field}","name":"bad-row","reply":"refused","row":5,"text":"{text}"}}\n'
+    assert run("ucl_live", "--format", "json", input=CLUBS + row + "\r\n") == (0, wanted, "")
+
+
 def test_json(run):
     """Each answer is one line, and says what it says as text; these are written out, and others go by the rules in test_random.py."""
     rows = "1,1,0,kickoff\n1,1,0,kickoff\nx\n2,2,0,goal-home\nwords,,,\n"
@@ -103,12 +115,13 @@ def test_json(run):
     place = '{{"club":"{}","drawn":{d},"goal_difference":0,"goals_against":0,"goals_for":0,"lost":0,"mark":"","place":{},"played":{d},"points":{d},"slot":{},"won":0}}'
     clubs = [("Bravo", 1, 2, 1), ("Charlie", 2, 3, 1), ("Delta", 3, 4, 0), ('Al\\"p\\\\h/a', 4, 1, 0)]
     table = ",".join(place.format(name, at, slot, d=drawn) for name, at, slot, drawn in clubs)
+    stands = '{"expulsions":[0,0],"match":1,"number":1,"reporter":1,"score":[0,0],"state":"IN PLAY","yellows":[0,0]}'
     wanted = [
-        "{" + moment + '"match":1,"number":1,"order":"uefa","reply":"ok","row":5,"version":1,' + words + "}",
+        "{" + moment.replace(',"group"', ',"event":"kickoff","expected":0,"group"') + '"match":1,"number":1,"order":"uefa","reply":"ok","reporter":1,"row":5,"version":1,' + words + "}",
         "{" + moment + '"in_play":1,"order":"uefa","reply":"screen","row":5,"table":[' + table + '],"version":1,' + words + "}",
-        '{"code":1,"name":"stale","number":1,"reply":"refused","row":6}',
-        '{"code":20,"name":"bad-row","reply":"refused","row":7}',
-        '{"code":3,"name":"not-started","reply":"refused","row":8}',
+        '{"code":1,"event":"kickoff","expected":0,"match":1,"name":"stale","number":1,"reply":"refused","reporter":1,"row":6,"stands":' + stands + "}",
+        '{"code":20,"field":"fields","name":"bad-row","reply":"refused","row":7,"text":"x"}',
+        '{"code":3,"event":"goal-home","expected":0,"match":2,"name":"not-started","reply":"refused","reporter":2,"row":8}',
         '{"reply":"words","row":9,' + words + "}",
     ]
     text = CLUBS.replace("Alpha", '"Al""p\\h/a"') + rows

@@ -7,7 +7,6 @@ it, and one that ends before is started again after a second.
 import fcntl
 import json
 import os
-import re
 import select
 import shutil
 import subprocess
@@ -81,13 +80,6 @@ def row_of(line):
     """The number of a topic and the row that came on it, of a line `TOPIC HEX` by which a client writes what it has heard."""
     heard, _, row = line.decode().partition(" ")
     return heard.rsplit("/", 1)[1], bytes.fromhex(row)
-
-
-def fields_of(row):
-    """What a row says: its reporter, and where it is one of an event its match, its expected number and its event."""
-    event = re.fullmatch(rb"(\d{1,3}),(\d{1,2}),(\d{1,5}),([a-z-]+)\r?", row)
-    names = "reporter", "match", "expected"
-    return {**dict(zip(names, map(int, event.groups()[:3]))), "event": event[4].decode()} if event else {"reporter": int(row.split(b",")[0])}
 
 
 def locked(path):

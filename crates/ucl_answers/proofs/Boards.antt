@@ -27,6 +27,7 @@ use Rattle.ucl_command.specs.declared.options.Format.TheVariants.{Text, Json}
 use Rattle.ucl_command.specs.declared.live.LiveArgs.{LiveArgs}
 use Rattle.ucl_answers.specs.declared.request.Request.{Request}
 use Rattle.ucl_answers.specs.declared.request.Request.TheVariants.{Bad, Event, Screen, Words}
+use Rattle.ucl_answers.specs.BadRows.{bad_field, shown_text}
 use Rattle.ucl_answers.specs.Requests.{asked_by, event_or_bad, request_of}
 use Rattle.ucl_answers.specs.Rows.{Said, Nothing, Garbled, Row, said_on}
 use Rattle.ucl_answers.specs.Stages.{Stage, Open, Restoring, next_board, next_stage}
@@ -83,9 +84,9 @@ none = λ k d h. absurd (omega arith)
 one : (a : Attempt) → IsAttempt a → All IsAttempt (a ∷ [])
 one a p = λ k d h. let z : k ≡ 0 = omega arith in rw z p
 
-by-event : (o : Option NightEvent) → ((e : NightEvent) → o ≡ Some e → IsAttempt (attempt_of e)) → AreAttempts (event_or_bad o)
-by-event None p = none
-by-event (Some e) p = one (attempt_of e) (p e refl)
+by-event : (f : FourFields) (o : Option NightEvent) → ((e : NightEvent) → o ≡ Some e → IsAttempt (attempt_of e)) → AreAttempts (event_or_bad f o)
+by-event f None p = none
+by-event f (Some e) p = one (attempt_of e) (p e refl)
 
 either : (b : Bool) (x y : Request) → AreAttempts x → AreAttempts y → AreAttempts (if b then x else y)
 either true x y p q = p
@@ -94,11 +95,11 @@ either false x y p q = q
 pub asked : (f : FourFields) → AreAttempts (asked_by f)
 unfolding asked_by
 asked f =
-    let words = if bytes_eq f.first (codes "words") then Words else Bad in
+    let words = if bytes_eq f.first (codes "words") then Words else Bad (bad_field f) in
     let commands = if bytes_eq f.first (codes "screen") then Screen else words in
-    either ((length f.second == 0) && (length f.third == 0) && (length f.fourth == 0)) commands (event_or_bad (event_of f))
-    (either (bytes_eq f.first (codes "screen")) Screen words none (either (bytes_eq f.first (codes "words")) Words Bad none none))
-    (by-event (event_of f) (event-is_attempt f))
+    either ((length f.second == 0) && (length f.third == 0) && (length f.fourth == 0)) commands (event_or_bad f (event_of f))
+    (either (bytes_eq f.first (codes "screen")) Screen words none (either (bytes_eq f.first (codes "words")) Words (Bad (bad_field f)) none none))
+    (by-event f (event_of f) (event-is_attempt f))
 
 said-attempts : (r : Said) → All IsAttempt (attempts_on r)
 said-attempts Nothing = none
@@ -114,7 +115,7 @@ all-attempts row (line ∷ lines) = All-append IsAttempt (attempts_on (said_on r
 
 fold-request : (board : List ℕ) (r : Request) (more : List Attempt) → fold board_after board (attempts_of r ++ more) ≡ fold board_after (next_board board r) more
 fold-request board (Event e) more = refl
-fold-request board Bad more = refl
+fold-request board (Bad field) more = refl
 fold-request board Screen more = refl
 fold-request board Words more = refl
 
@@ -162,7 +163,7 @@ replies options clubs board history row event legal game =
     ap₂ (λ (before : ℕ) (reply : Result Accepted Refusal). line_of_reply row event.call.game before reply) (versions history legal).0 (reply_is history (board_of history) event.call legal refl game)
 
 reply-answer : (format : Format) (options : LiveArgs) (row : ℕ) (clubs : List NamedClub) (history : List Entry) (event : NightEvent)
-    → reply_in format options row clubs event.call.game (length history) (sequential_reply history event.call) (board_of (after_attempt history (attempt_of event)))
+    → reply_in format options row clubs event (length history) (sequential_reply history event.call) (board_of (after_attempt history (attempt_of event)))
     ≡ reply_by_history format options row clubs history event
 unfolding reply_line
 reply-answer Text options row clubs history event = refl
@@ -173,30 +174,30 @@ reply-answer Json options row clubs history event = refl
 first : (a : Attempt) (attempts : List Attempt) → All IsAttempt (a ∷ attempts) → IsAttempt a
 first a attempts all = All-head IsAttempt a attempts all
 
-event-answer : (options : LiveArgs) (row : ℕ) (clubs : List NamedClub) (history : List Entry) (event : NightEvent) → IsLegal history → IsAttempt (attempt_of event)
-    → answer_of options row clubs (board_of history) (Event event) ≡ answer_by_history options row clubs history (Event event)
-event-answer options row clubs history event legal is =
+event-answer : (options : LiveArgs) (row : ℕ) (clubs : List NamedClub) (history : List Entry) (event : NightEvent) (shown : List ℕ) → IsLegal history → IsAttempt (attempt_of event)
+    → answer_of options row clubs (board_of history) (Event event) shown ≡ answer_by_history options row clubs history (Event event) shown
+event-answer options row clubs history event shown legal is =
     let call = event.call in
     let reply : reply_of (game_at (board_of history) call.game) call ≡ sequential_reply history call = reply_is history (board_of history) call legal refl is.1 in
     let after = attempt_board history (attempt_of event) legal is in
-    let told = ap₂ (λ (before : ℕ) (r : Result Accepted Refusal). reply_answer options row clubs call.game before r (next_board (board_of history) (Event event))) (versions history legal).0 reply in
-    let stands = ap (λ (board : List ℕ). reply_answer options row clubs call.game (length history) (sequential_reply history call) board) after in
+    let told = ap₂ (λ (before : ℕ) (r : Result Accepted Refusal). reply_answer options row clubs event before r (next_board (board_of history) (Event event))) (versions history legal).0 reply in
+    let stands = ap (λ (board : List ℕ). reply_answer options row clubs event (length history) (sequential_reply history call) board) after in
     let line = told ∙ stands ∙ reply-answer options.format options row clubs history event in
     let screen = ap₂ (λ (r : Result Accepted Refusal) (board : List ℕ). screen_after options row clubs r board) reply after in
     ap₂ (λ (a b : List ℕ). a ++ b) line screen
 
-request-answer : (options : LiveArgs) (row : ℕ) (clubs : List NamedClub) (history : List Entry) (request : Request) → IsLegal history → All IsAttempt (attempts_of request)
-    → answer_of options row clubs (board_of history) request ≡ answer_by_history options row clubs history request
-request-answer options row clubs history (Event event) legal all = event-answer options row clubs history event legal (first (attempt_of event) [] all)
-request-answer options row clubs history Bad legal all = refl
-request-answer options row clubs history Screen legal all = refl
-request-answer options row clubs history Words legal all = refl
+request-answer : (options : LiveArgs) (row : ℕ) (clubs : List NamedClub) (history : List Entry) (request : Request) (shown : List ℕ) → IsLegal history → All IsAttempt (attempts_of request)
+    → answer_of options row clubs (board_of history) request shown ≡ answer_by_history options row clubs history request shown
+request-answer options row clubs history (Event event) shown legal all = event-answer options row clubs history event shown legal (first (attempt_of event) [] all)
+request-answer options row clubs history (Bad field) shown legal all = refl
+request-answer options row clubs history Screen shown legal all = refl
+request-answer options row clubs history Words shown legal all = refl
 
-said-answer : (e : Evening) (clubs : List NamedClub) (history : List Entry) (r : Said) → IsLegal history → e.stage ≡ Open clubs (board_of history)
-    → answer_said e r ≡ line_by_history e.options e.row clubs history r
-said-answer e clubs history Nothing legal h = refl
-said-answer e clubs history Garbled legal h = rw h refl
-said-answer e clubs history (Row f) legal h = rw h (request-answer e.options e.row clubs history (request_of (Row f)) legal (asked f))
+said-answer : (e : Evening) (clubs : List NamedClub) (history : List Entry) (r : Said) (shown : List ℕ) → IsLegal history → e.stage ≡ Open clubs (board_of history)
+    → answer_said e r shown ≡ line_by_history e.options e.row clubs history r shown
+said-answer e clubs history Nothing shown legal h = refl
+said-answer e clubs history Garbled shown legal h = rw h refl
+said-answer e clubs history (Row f) shown legal h = rw h (request-answer e.options e.row clubs history (request_of (Row f)) shown legal (asked f))
 
 -- the board that a line leaves
 said-board : (history : List Entry) (r : Said) → IsLegal history → board_on (board_of history) r ≡ board_of (fold after_attempt history (attempts_on r))
@@ -217,7 +218,7 @@ text-by-history e [] clubs history legal h = refl
 text-by-history e (line ∷ lines) clubs history legal h =
     let r = said_on e.row line in
     let later = fold after_attempt history (attempts_on r) in
-    ap₂ (λ (a b : List ℕ). a ++ b) (said-answer e clubs history r legal h)
+    ap₂ (λ (a b : List ℕ). a ++ b) (said-answer e clubs history r (shown_text line) legal h)
     (text-by-history (next e r) lines clubs later (attempts-legal history (attempts_on r) legal (said-attempts r)) (said-stage e clubs history r legal h))
 
 pub sequential : EveningsAreSequential
@@ -230,11 +231,11 @@ sequential e lines clubs history legal h =
 
 -- ---- the first row
 
-first-answer : (e : Evening) (clubs : List NamedClub) (r : Said) → e.stage ≡ Restoring clubs [] → IsOtherRow r
-    → answer_said e r ≡ answer_said (record { options = e.options; row = e.row; stage = Open clubs (board_of []) }) r
-first-answer e clubs Nothing h k = absurd k
-first-answer e clubs Garbled h k = rw h refl
-first-answer e clubs (Row f) h k = rw (h, k) refl
+first-answer : (e : Evening) (clubs : List NamedClub) (r : Said) (shown : List ℕ) → e.stage ≡ Restoring clubs [] → IsOtherRow r
+    → answer_said e r shown ≡ answer_said (record { options = e.options; row = e.row; stage = Open clubs (board_of []) }) r shown
+first-answer e clubs Nothing shown h k = absurd k
+first-answer e clubs Garbled shown h k = rw h refl
+first-answer e clubs (Row f) shown h k = rw (h, k) refl
 
 first-next : (e : Evening) (clubs : List NamedClub) (r : Said) → e.stage ≡ Restoring clubs [] → IsOtherRow r
     → next e r ≡ next (record { options = e.options; row = e.row; stage = Open clubs (board_of []) }) r
@@ -247,7 +248,7 @@ unfolding answers after_lines
 first-rows e clubs line lines h k =
     let r = said_on e.row line in
     let there = first-next e clubs r h k in record {
-      text = ap₂ (λ (a b : List ℕ). a ++ b) (first-answer e clubs r h k) (ap (λ (f : Evening). answers f lines) there);
+      text = ap₂ (λ (a b : List ℕ). a ++ b) (first-answer e clubs r (shown_text line) h k) (ap (λ (f : Evening). answers f lines) there);
       after = ap (λ (f : Evening). after_lines f lines) there;
     }
 

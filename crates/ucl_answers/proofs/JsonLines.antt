@@ -6,6 +6,7 @@ use Rattle.ucl_word.specs.declared.refusal.Refusal.{Refusal}
 use Rattle.ucl_word.specs.Rules.{reply_of}
 use Rattle.ucl_board.specs.Words.{game_at, version_of}
 use Rattle.ucl_order.specs.Roster.{NamedClub}
+use Rattle.ucl_screen.specs.declared.night.NightEvent.{NightEvent}
 use Rattle.ucl_json.specs.Lines.{AreLinesOfValues}
 use Rattle.ucl_json.specs.Values.{bad_row_value, reply_value, screen_value, words_value}
 use Rattle.ucl_json.proofs.OneLine.{line_of_value, lines_then, no_lines}
@@ -14,6 +15,7 @@ use Rattle.ucl_command.specs.declared.live.LiveArgs.{LiveArgs}
 use Rattle.ucl_answers.specs.declared.request.Request.{Request}
 use Rattle.ucl_answers.specs.declared.request.Request.TheVariants.{Bad, Event, Screen, Words}
 use Rattle.ucl_answers.specs.Rows.{Said, Nothing, Garbled, Row, said_on}
+use Rattle.ucl_answers.specs.BadRows.{field_name, shown_text}
 use Rattle.ucl_answers.specs.Requests.{request_of}
 use Rattle.ucl_answers.specs.Stages.{Stage, Naming, Restoring, Open, Refused, next_board, opened}
 use Rattle.ucl_answers.specs.Text.{Evening, answer_said, answer_at, answer_of, answers, next, reply_answer, screen_after, screen_answer}
@@ -31,33 +33,35 @@ after-line : (options : LiveArgs) (row : ℕ) (clubs : List NamedClub) (reply : 
 after-line options row clubs (Ok accepted) board h = wanted options.screens (screen_answer options row clubs board) (screen-line options row clubs board h)
 after-line options row clubs (Err refusal) board h = no_lines
 
-reply-lines : (options : LiveArgs) (row : ℕ) (clubs : List NamedClub) (game before : ℕ) (reply : Result Accepted Refusal) (board : List ℕ) → options.format ≡ Json
-    → AreLinesOfValues (reply_answer options row clubs game before reply board)
-reply-lines options row clubs game before reply board h = rw h (line_of_value (reply_value row game reply options.profile board clubs options.group))
+reply-lines : (options : LiveArgs) (row : ℕ) (clubs : List NamedClub) (event : NightEvent) (before : ℕ) (reply : Result Accepted Refusal) (board : List ℕ) → options.format ≡ Json
+    → AreLinesOfValues (reply_answer options row clubs event before reply board)
+reply-lines options row clubs event before reply board h = rw h (line_of_value (reply_value row event reply options.profile board clubs options.group))
 
-request-lines : (options : LiveArgs) (row : ℕ) (clubs : List NamedClub) (board : List ℕ) (request : Request) → options.format ≡ Json → AreLinesOfValues (answer_of options row clubs board request)
-request-lines options row clubs board (Event event) h =
+request-lines : (options : LiveArgs) (row : ℕ) (clubs : List NamedClub) (board : List ℕ) (request : Request) (shown : List ℕ) → options.format ≡ Json
+    → AreLinesOfValues (answer_of options row clubs board request shown)
+request-lines options row clubs board (Event event) shown h =
     let reply = reply_of (game_at board event.call.game) event.call in
     let after = next_board board (Event event) in
-    lines_then (reply_answer options row clubs event.call.game (version_of board) reply after) (screen_after options row clubs reply after)
-    (reply-lines options row clubs event.call.game (version_of board) reply after h) (after-line options row clubs reply after h)
-request-lines options row clubs board Bad h = rw h (line_of_value (bad_row_value row))
-request-lines options row clubs board Screen h = screen-line options row clubs board h
-request-lines options row clubs board Words h = rw h (line_of_value (words_value row board))
+    lines_then (reply_answer options row clubs event (version_of board) reply after) (screen_after options row clubs reply after)
+    (reply-lines options row clubs event (version_of board) reply after h) (after-line options row clubs reply after h)
+request-lines options row clubs board (Bad field) shown h = rw h (line_of_value (bad_row_value row (field_name field) shown))
+request-lines options row clubs board Screen shown h = screen-line options row clubs board h
+request-lines options row clubs board Words shown h = rw h (line_of_value (words_value row board))
 
-stage-lines : (options : LiveArgs) (row : ℕ) (stage : Stage) (request : Request) → options.format ≡ Json → AreLinesOfValues (answer_at options row stage request)
-stage-lines options row (Naming clubs) request h = no_lines
-stage-lines options row (Restoring clubs words) request h = no_lines
-stage-lines options row (Open clubs board) request h = request-lines options row clubs board request h
-stage-lines options row (Refused fault) request h = no_lines
+stage-lines : (options : LiveArgs) (row : ℕ) (stage : Stage) (request : Request) (shown : List ℕ) → options.format ≡ Json → AreLinesOfValues (answer_at options row stage request shown)
+stage-lines options row (Naming clubs) request shown h = no_lines
+stage-lines options row (Restoring clubs words) request shown h = no_lines
+stage-lines options row (Open clubs board) request shown h = request-lines options row clubs board request shown h
+stage-lines options row (Refused fault) request shown h = no_lines
 
-said-lines : (e : Evening) (said : Said) → e.options.format ≡ Json → AreLinesOfValues (answer_said e said)
-said-lines e Nothing h = no_lines
-said-lines e Garbled h = stage-lines e.options e.row (opened e.stage Garbled) (request_of Garbled) h
-said-lines e (Row f) h = stage-lines e.options e.row (opened e.stage (Row f)) (request_of (Row f)) h
+said-lines : (e : Evening) (said : Said) (shown : List ℕ) → e.options.format ≡ Json → AreLinesOfValues (answer_said e said shown)
+said-lines e Nothing shown h = no_lines
+said-lines e Garbled shown h = stage-lines e.options e.row (opened e.stage Garbled) (request_of Garbled) shown h
+said-lines e (Row f) shown h = stage-lines e.options e.row (opened e.stage (Row f)) (request_of (Row f)) shown h
 
 pub json-lines : JsonAnswersAreLines
 unfolding answers
 json-lines e [] h = no_lines
 json-lines e (line ∷ lines) h =
-    let said = said_on e.row line in lines_then (answer_said e said) (answers (next e said) lines) (said-lines e said h) (json-lines (next e said) lines h)
+    let said = said_on e.row line in
+    let shown = shown_text line in lines_then (answer_said e said shown) (answers (next e said) lines) (said-lines e said shown h) (json-lines (next e said) lines h)

@@ -12,6 +12,7 @@ pub mod FaultKinds
 pub mod Steps
 pub mod Boards
 pub mod JsonLines
+pub mod Shown
 pub mod Uncut
 pub mod Told
 pub mod GoodBoards

@@ -6,6 +6,7 @@ use Rattle.std.specs.Prelude.{nat_le}
 use Rattle.ucl_io.specs.Lines.{begun_line, ended_lines, longer}
 use Rattle.ucl_answers.specs.Lines.{last_lines, lines_of}
 use Rattle.ucl_answers.specs.Laws.{BeginningsAreAnswered, ended}
+use Rattle.ucl_answers.specs.BadRows.{shown_text}
 use Rattle.ucl_answers.specs.Rows.{said_on}
 use Rattle.ucl_answers.specs.Text.{Evening, after_lines, answer_said, answers, live_text, missing_after, next}
 use Rattle.ucl_answers.specs.Stepping.{Moment, answers_to, begins, ended_at, last_answers, missing_at, moment_after}
@@ -43,7 +44,7 @@ pub answers-none : (e : Evening) → answers e [] ≡ []
 unfolding answers
 answers-none e = refl
 
-pub answers-one : (e : Evening) (line : List ℕ) (lines : List (List ℕ)) → answers e (line ∷ lines) ≡ answer_said e (said_on e.row line) ++ answers (next e (said_on e.row line)) lines
+pub answers-one : (e : Evening) (line : List ℕ) (lines : List (List ℕ)) → answers e (line ∷ lines) ≡ answer_said e (said_on e.row line) (shown_text line) ++ answers (next e (said_on e.row line)) lines
 unfolding answers
 answers-one e line lines = refl
 
@@ -78,7 +79,8 @@ unfolding answers after_lines
 answers-append e [] b = refl
 answers-append e (line ∷ a) b =
     let r = said_on e.row line in
-    ap (λ (l : List ℕ). answer_said e r ++ l) (answers-append (next e r) a b) ∙ sym (append_assoc (answer_said e r) (answers (next e r) a) (answers (after_lines (next e r) a) b))
+    let said = answer_said e r (shown_text line) in
+    ap (λ (l : List ℕ). said ++ l) (answers-append (next e r) a b) ∙ sym (append_assoc said (answers (next e r) a) (answers (after_lines (next e r) a) b))
 
 pub after-append : (e : Evening) (a b : List (List ℕ)) → after_lines e (a ++ b) ≡ after_lines (after_lines e a) b
 unfolding after_lines
@@ -133,9 +135,10 @@ longer_full line b h = elim (cases_Bool (nat_le 258 (length line))) [ inl y ↦ 
 not-ten : (b : ℕ) → (b ≡ 10 → ⊥) → (b == 10) ≡ false
 not-ten b h = elim (cases_Bool (b == 10)) [ inl y ↦ absurd (h (grind (arith, nat_tests))) | inr n ↦ n ]
 
-answers-last : (e : Evening) (line : List ℕ) → answers e (line ∷ []) ≡ answer_said e (said_on e.row line)
+answers-last : (e : Evening) (line : List ℕ) → answers e (line ∷ []) ≡ answer_said e (said_on e.row line) (shown_text line)
 answers-last e line =
-    answers-one e line [] ∙ ap (λ (k : List ℕ). answer_said e (said_on e.row line) ++ k) (answers-none (next e (said_on e.row line))) ∙ append-nil (answer_said e (said_on e.row line))
+    let said = answer_said e (said_on e.row line) (shown_text line) in
+    answers-one e line [] ∙ ap (λ (k : List ℕ). said ++ k) (answers-none (next e (said_on e.row line))) ∙ append-nil said
 
 after-last : (e : Evening) (line : List ℕ) → after_lines e (line ∷ []) ≡ next e (said_on e.row line)
 after-last e line = after-one e line [] ∙ after-none (next e (said_on e.row line))
@@ -143,7 +146,7 @@ after-last e line = after-one e line [] ∙ after-none (next e (said_on e.row li
 one-line : (m : Moment) (c : ℕ) → c ≡ 10 → ended_lines 258 m.begun (c ∷ []) ≡ m.begun ∷ []
 one-line m c k = ended-end m.begun [] c k ∙ ap (λ (l : Lines). m.begun ∷ l) (ended-none [])
 
-pub end-answers : (m : Moment) (c : ℕ) → c ≡ 10 → answers_to m (c ∷ []) ≡ answer_said m.evening (said_on m.evening.row m.begun)
+pub end-answers : (m : Moment) (c : ℕ) → c ≡ 10 → answers_to m (c ∷ []) ≡ answer_said m.evening (said_on m.evening.row m.begun) (shown_text m.begun)
 end-answers m c k = ap (answers m.evening) (one-line m c k) ∙ answers-last m.evening m.begun
 
 pub end-evening : (m : Moment) (c : ℕ) → c ≡ 10 → (moment_after m (c ∷ [])).evening ≡ next m.evening (said_on m.evening.row m.begun)
@@ -157,7 +160,7 @@ same-moment m n e b = moments m.evening n.evening m.begun n.begun e b
 
 -- the last line
 
-last-some : (e : Evening) (line : List ℕ) → (line ≡ [] → ⊥) → answers e (last_lines line) ≡ answer_said e (said_on e.row line)
+last-some : (e : Evening) (line : List ℕ) → (line ≡ [] → ⊥) → answers e (last_lines line) ≡ answer_said e (said_on e.row line) (shown_text line)
 last-some e [] h = absurd (h refl)
 last-some e (b ∷ line) h = answers-last e (b ∷ line)
 
@@ -165,7 +168,7 @@ ended-some : (e : Evening) (line : List ℕ) → (line ≡ [] → ⊥) → after
 ended-some e [] h = absurd (h refl)
 ended-some e (b ∷ line) h = after-last e (b ∷ line)
 
-pub last-answer : (m : Moment) → (m.begun ≡ [] → ⊥) → last_answers m ≡ answer_said m.evening (said_on m.evening.row m.begun)
+pub last-answer : (m : Moment) → (m.begun ≡ [] → ⊥) → last_answers m ≡ answer_said m.evening (said_on m.evening.row m.begun) (shown_text m.begun)
 last-answer m h = last-some m.evening m.begun h
 
 pub last-evening : (m : Moment) → (m.begun ≡ [] → ⊥) → ended_at m ≡ next m.evening (said_on m.evening.row m.begun)

@@ -28,6 +28,7 @@ use Rattle.ucl_answers.specs.declared.request.Request.{Request}
 use Rattle.ucl_answers.specs.declared.request.Request.TheVariants.{Bad, Event, Screen, Words}
 use Rattle.ucl_answers.specs.Lines.{lines_of}
 use Rattle.ucl_answers.specs.Members.{text_told, texts_told}
+use Rattle.ucl_answers.specs.BadRows.{field_name, shown_text}
 use Rattle.ucl_answers.specs.Requests.{request_of}
 use Rattle.ucl_answers.specs.Rows.{Said, Nothing, Garbled, Row, said_on}
 use Rattle.ucl_answers.specs.Stages.{Stage, Naming, Restoring, Open, Refused}
@@ -104,35 +105,36 @@ after-line options row clubs (Ok accepted) board h =
     wanted options.screens (screen_answer (as_text options) row clubs board) (screen_answer options row clubs board) (screen-line options row clubs board h)
 after-line options row clubs (Err refusal) board h = no-lines
 
-reply-line : (options : LiveArgs) (row : ℕ) (clubs : List NamedClub) (game before : ℕ) (reply : Result Accepted Refusal) (board : List ℕ) → options.format ≡ Json
+reply-line : (options : LiveArgs) (row : ℕ) (clubs : List NamedClub) (event : NightEvent) (before : ℕ) (reply : Result Accepted Refusal) (board : List ℕ) → options.format ≡ Json
     → RaisesVersion reply before board
-    → AreLinesSaying (reply_answer (as_text options) row clubs game before reply board) (reply_answer options row clubs game before reply board)
-reply-line options row clubs game before reply board h k =
-    rw h (value-line (reply_value row game reply options.profile board clubs options.group) (line_of_reply row game before reply)
-    ((same row options.profile board clubs options.group).reply game before reply k))
+    → AreLinesSaying (reply_answer (as_text options) row clubs event before reply board) (reply_answer options row clubs event before reply board)
+reply-line options row clubs event before reply board h k =
+    rw h (value-line (reply_value row event reply options.profile board clubs options.group) (line_of_reply row event.call.game before reply)
+    ((same row options.profile board clubs options.group).reply event before reply k))
 
 raised : (reply : Result Accepted Refusal) (before : ℕ) (board : List ℕ) → (is_ok reply ≡ true → version_of board ≡ before + 1) → RaisesVersion reply before board
 raised (Ok accepted) before board h = h refl
 raised (Err refusal) before board h = tt
 
-event-lines : (options : LiveArgs) (row : ℕ) (clubs : List NamedClub) (board : List ℕ) (event : NightEvent) → options.format ≡ Json → AreWords board → IsAttempt (attempt_of event)
-    → AreLinesSaying (answer_of (as_text options) row clubs board (Event event)) (answer_of options row clubs board (Event event))
-event-lines options row clubs board event h w is =
+event-lines : (options : LiveArgs) (row : ℕ) (clubs : List NamedClub) (board : List ℕ) (event : NightEvent) (shown : List ℕ) → options.format ≡ Json → AreWords board → IsAttempt (attempt_of event)
+    → AreLinesSaying (answer_of (as_text options) row clubs board (Event event) shown) (answer_of options row clubs board (Event event) shown)
+event-lines options row clubs board event shown h w is =
     let call = event.call in
     let m = game_at board call.game in
     let reply = reply_of m call in
     let after = next_board board (Event event) in
     let raises = raised reply (version_of board) after (λ ok. version-after board (attempt_of event) w is (no_refusal m.number (refusal_of m call.expected call.kind) ok)) in
-    both-lines (reply_answer (as_text options) row clubs call.game (version_of board) reply after) (screen_after (as_text options) row clubs reply after)
-    (reply_answer options row clubs call.game (version_of board) reply after) (screen_after options row clubs reply after)
-    (reply-line options row clubs call.game (version_of board) reply after h raises) (after-line options row clubs reply after h)
+    both-lines (reply_answer (as_text options) row clubs event (version_of board) reply after) (screen_after (as_text options) row clubs reply after)
+    (reply_answer options row clubs event (version_of board) reply after) (screen_after options row clubs reply after)
+    (reply-line options row clubs event (version_of board) reply after h raises) (after-line options row clubs reply after h)
 
-request-lines : (options : LiveArgs) (row : ℕ) (clubs : List NamedClub) (board : List ℕ) (request : Request) → options.format ≡ Json → AreWords board → AreAttempts request
-    → AreLinesSaying (answer_of (as_text options) row clubs board request) (answer_of options row clubs board request)
-request-lines options row clubs board (Event event) h w all = event-lines options row clubs board event h w (All-head IsAttempt (attempt_of event) [] all)
-request-lines options row clubs board Bad h w all = rw h (value-line (bad_row_value row) (bad_line row) (same row options.profile board clubs options.group).bad)
-request-lines options row clubs board Screen h w all = screen-line options row clubs board h
-request-lines options row clubs board Words h w all = rw h (value-line (words_value row board) (word_lines 1 board) (same row options.profile board clubs options.group).words)
+request-lines : (options : LiveArgs) (row : ℕ) (clubs : List NamedClub) (board : List ℕ) (request : Request) (shown : List ℕ) → options.format ≡ Json → AreWords board → AreAttempts request
+    → AreLinesSaying (answer_of (as_text options) row clubs board request shown) (answer_of options row clubs board request shown)
+request-lines options row clubs board (Event event) shown h w all = event-lines options row clubs board event shown h w (All-head IsAttempt (attempt_of event) [] all)
+request-lines options row clubs board (Bad field) shown h w all =
+    rw h (value-line (bad_row_value row (field_name field) shown) (bad_line row) ((same row options.profile board clubs options.group).bad (field_name field) shown))
+request-lines options row clubs board Screen shown h w all = screen-line options row clubs board h
+request-lines options row clubs board Words shown h w all = rw h (value-line (words_value row board) (word_lines 1 board) (same row options.profile board clubs options.group).words)
 
 -- ---- lines of an evening
 
@@ -179,7 +181,7 @@ good-opened (Refused fault) r g = tt
 
 good-board : (board : List ℕ) (request : Request) → AreWords board → AreAttempts request → AreWords (next_board board request)
 good-board board (Event event) w all = good-after board (attempt_of event) w (All-head IsAttempt (attempt_of event) [] all)
-good-board board Bad w all = w
+good-board board (Bad field) w all = w
 good-board board Screen w all = w
 good-board board Words w all = w
 
@@ -199,28 +201,29 @@ good-next row s Nothing g = g
 good-next row s Garbled g = good-row row (opened s Garbled) Garbled (good-opened s Garbled g)
 good-next row s (Row f) g = good-row row (opened s (Row f)) (Row f) (good-opened s (Row f) g)
 
-stage-lines : (options : LiveArgs) (row : ℕ) (s : Stage) (r : Said) → options.format ≡ Json → Good s
-    → AreLinesSaying (answer_at (as_text options) row s (request_of r)) (answer_at options row s (request_of r))
-stage-lines options row (Naming clubs) r h g = no-lines
-stage-lines options row (Restoring clubs words) r h g = no-lines
-stage-lines options row (Open clubs board) r h g = request-lines options row clubs board (request_of r) h g (of-request r)
-stage-lines options row (Refused fault) r h g = no-lines
+stage-lines : (options : LiveArgs) (row : ℕ) (s : Stage) (r : Said) (shown : List ℕ) → options.format ≡ Json → Good s
+    → AreLinesSaying (answer_at (as_text options) row s (request_of r) shown) (answer_at options row s (request_of r) shown)
+stage-lines options row (Naming clubs) r shown h g = no-lines
+stage-lines options row (Restoring clubs words) r shown h g = no-lines
+stage-lines options row (Open clubs board) r shown h g = request-lines options row clubs board (request_of r) shown h g (of-request r)
+stage-lines options row (Refused fault) r shown h g = no-lines
 
 abbrev text_of : Evening → Evening
 text_of e = record { options = as_text e.options; row = e.row; stage = e.stage }
 
-said-lines : (e : Evening) (r : Said) → e.options.format ≡ Json → Good e.stage → AreLinesSaying (answer_said (text_of e) r) (answer_said e r)
-said-lines e Nothing h g = no-lines
-said-lines e Garbled h g = stage-lines e.options e.row (opened e.stage Garbled) Garbled h (good-opened e.stage Garbled g)
-said-lines e (Row f) h g = stage-lines e.options e.row (opened e.stage (Row f)) (Row f) h (good-opened e.stage (Row f) g)
+said-lines : (e : Evening) (r : Said) (shown : List ℕ) → e.options.format ≡ Json → Good e.stage → AreLinesSaying (answer_said (text_of e) r shown) (answer_said e r shown)
+said-lines e Nothing shown h g = no-lines
+said-lines e Garbled shown h g = stage-lines e.options e.row (opened e.stage Garbled) Garbled shown h (good-opened e.stage Garbled g)
+said-lines e (Row f) shown h g = stage-lines e.options e.row (opened e.stage (Row f)) (Row f) shown h (good-opened e.stage (Row f) g)
 
 all-lines : (e : Evening) (lines : List (List ℕ)) → e.options.format ≡ Json → Good e.stage → AreLinesSaying (answers (text_of e) lines) (answers e lines)
 unfolding answers
 all-lines e [] h g = no-lines
 all-lines e (line ∷ lines) h g =
     let r = said_on e.row line in
-    both-lines (answer_said (text_of e) r) (answers (text_of (next e r)) lines) (answer_said e r) (answers (next e r) lines)
-    (said-lines e r h g) (all-lines (next e r) lines h (good-next e.row e.stage r g))
+    let shown = shown_text line in
+    both-lines (answer_said (text_of e) r shown) (answers (text_of (next e r)) lines) (answer_said e r shown) (answers (next e r) lines)
+    (said-lines e r shown h g) (all-lines (next e r) lines h (good-next e.row e.stage r g))
 
 pub evenings : EveningsSayTheSame
 evenings options bytes h = all-lines (start_of options) (lines_of bytes) h tt

@@ -4,6 +4,7 @@ use Rattle.std.proofs.lemmas.Bool.{cases_Bool}
 use Rattle.ucl_screen.specs.declared.fault.InputFault.{InputFault}
 use Rattle.ucl_io.specs.Lines.{ended_lines}
 use Rattle.ucl_answers.specs.Lines.{last_lines}
+use Rattle.ucl_answers.specs.BadRows.{shown_text}
 use Rattle.ucl_answers.specs.Requests.{request_of}
 use Rattle.ucl_answers.specs.Rows.{Said, Nothing, Garbled, Row, said_on}
 use Rattle.ucl_answers.specs.Stages.{Stage, Naming, Restoring, Open, Refused, after_row, missing, next_stage, opened}
@@ -44,16 +45,16 @@ stays-open e (line ∷ lines) h = stays-open (next e (said_on e.row line)) lines
 shut-row : (row : ℕ) (s : Stage) (r : Said) → is_open (after_row row s r) ≡ false → is_open s ≡ false
 shut-row row s r h = elim (cases_Bool (is_open s)) [ inl y ↦ cc (open-row row s r y) | inr n ↦ n ]
 
-silent-at : (e : Evening) (s : Stage) (r : Said) → is_open s ≡ false → answer_at e.options e.row s (request_of r) ≡ []
-silent-at e (Naming clubs) r h = refl
-silent-at e (Restoring clubs words) r h = refl
-silent-at e (Refused fault) r h = refl
-silent-at e (Open clubs board) r h = cc
+silent-at : (e : Evening) (s : Stage) (r : Said) (shown : List ℕ) → is_open s ≡ false → answer_at e.options e.row s (request_of r) shown ≡ []
+silent-at e (Naming clubs) r shown h = refl
+silent-at e (Restoring clubs words) r shown h = refl
+silent-at e (Refused fault) r shown h = refl
+silent-at e (Open clubs board) r shown h = cc
 
-silent-answer : (e : Evening) (r : Said) → is_open (next e r).stage ≡ false → answer_said e r ≡ []
-silent-answer e Nothing h = refl
-silent-answer e Garbled h = silent-at e (opened e.stage Garbled) Garbled (shut-row e.row (opened e.stage Garbled) Garbled h)
-silent-answer e (Row f) h = silent-at e (opened e.stage (Row f)) (Row f) (shut-row e.row (opened e.stage (Row f)) (Row f) h)
+silent-answer : (e : Evening) (r : Said) (shown : List ℕ) → is_open (next e r).stage ≡ false → answer_said e r shown ≡ []
+silent-answer e Nothing shown h = refl
+silent-answer e Garbled shown h = silent-at e (opened e.stage Garbled) Garbled shown (shut-row e.row (opened e.stage Garbled) Garbled h)
+silent-answer e (Row f) shown h = silent-at e (opened e.stage (Row f)) (Row f) shown (shut-row e.row (opened e.stage (Row f)) (Row f) h)
 
 shut-lines : (e : Evening) (lines : List (List ℕ)) → is_open (after_lines e lines).stage ≡ false → is_open e.stage ≡ false
 shut-lines e lines h = elim (cases_Bool (is_open e.stage)) [ inl y ↦ cc (stays-open e lines y) | inr n ↦ n ]
@@ -63,7 +64,7 @@ unfolding answers after_lines
 silent e [] h = refl
 silent e (line ∷ lines) h =
     let r = said_on e.row line in
-    let a = silent-answer e r (shut-lines (next e r) lines h) in
+    let a = silent-answer e r (shown_text line) (shut-lines (next e r) lines h) in
     let b = silent (next e r) lines h in rw (a, b) refl
 
 -- a refused evening stays refused

@@ -8,9 +8,10 @@ use Rattle.std.proofs.lemmas.Bool.{lt-leb, ltb-false, ltb-true}
 use Rattle.serde_json.specs.Find.{as_integer, of_integer}
 use Rattle.serde_json.proofs.OnLiterals.{serde_json_on_literals}
 use Rattle.ucl_word.specs.declared.event.Accepted.{Accepted}
+use Rattle.ucl_word.specs.declared.record.MatchRecord.{MatchRecord}
 use Rattle.ucl_word.specs.declared.refusal.Refusal.{Refusal}
 use Rattle.ucl_word.specs.Names.{found_of, found_text, refusal_code, refusal_name}
-use Rattle.ucl_board.specs.Words.{version_of}
+use Rattle.ucl_board.specs.Words.{game_at, version_of}
 use Rattle.ucl_order.specs.declared.mark.Mark.{Mark}
 use Rattle.ucl_order.specs.declared.mark.Mark.TheVariants.{Plus, Minus, Blank}
 use Rattle.ucl_order.specs.declared.profile.Profile.{Profile}
@@ -21,37 +22,44 @@ use Rattle.ucl_runs.specs.Feed.{line_of_reply, word_lines}
 use Rattle.ucl_runs.specs.Lines.{accepted_line}
 use Rattle.ucl_screen.specs.Lines.{difference_text, mark_text, place_line}
 use Rattle.ucl_screen.specs.Screen.{row_line, screen_text}
-use Rattle.ucl_json.specs.Values.{accepted_value, bad_row_value, mark_name, place_items, place_value, refused_by, reply_value, screen_value, word_items, words_value}
+use Rattle.ucl_screen.specs.declared.night.NightEvent.{NightEvent}
+use Rattle.ucl_json.specs.Values.{accepted_value, bad_row_value, bad_value, mark_name, place_items, place_value, refused_by, reply_value, screen_value, word_items, words_value}
 use Rattle.ucl_answers.specs.Members.{mark_column, place_line_of, place_lines_of, signed_text, text_told, word_lines_of}
 use Rattle.ucl_answers.specs.Text.{bad_line}
 use Rattle.ucl_answers.specs.Laws.{JsonSaysTheSame, RaisesVersion}
 
 -- ---- replies
 
-accepted : (row game event_number : ℕ) (profile : Profile) (board : List ℕ) (clubs : List NamedClub) (group : ℕ)
-    → text_told (accepted_value row game event_number profile board clubs group) ≡ Some (accepted_line row game event_number (version_of board))
+accepted : (row : ℕ) (event : NightEvent) (event_number : ℕ) (profile : Profile) (board : List ℕ) (clubs : List NamedClub) (group : ℕ)
+    → text_told (accepted_value row event event_number profile board clubs group) ≡ Some (accepted_line row event.call.game event_number (version_of board))
 unfolding accepted_value text_told serde_json_on_literals
-accepted row game event_number profile board clubs group = refl
+accepted row event event_number profile board clubs group = refl
 
 -- parts that are told one by one, and together
 told-parts : (front code space name found end : List ℕ) → front ++ code ++ space ++ name ++ found ++ end ≡ front ++ (code ++ space ++ name ++ found) ++ end
 told-parts front code space name found end = simp append_assoc
 
-refused : (row code : ℕ) (name : List ℕ) (found : Option ℕ)
-    → text_told (refused_by row code name found) ≡ Some (decimal row ++ codes " refused " ++ (decimal code ++ codes " " ++ name ++ found_text found) ++ codes "\n")
+refused : (row : ℕ) (event : NightEvent) (code : ℕ) (name : List ℕ) (found : Option ℕ) (m : MatchRecord)
+    → text_told (refused_by row event code name found m) ≡ Some (decimal row ++ codes " refused " ++ (decimal code ++ codes " " ++ name ++ found_text found) ++ codes "\n")
 unfolding text_told serde_json_on_literals
-refused row code name None = ap Some (told-parts (decimal row ++ codes " refused ") (decimal code) (codes " ") name [] (codes "\n"))
-refused row code name (Some found) = ap Some (told-parts (decimal row ++ codes " refused ") (decimal code) (codes " ") name (codes " " ++ decimal found) (codes "\n"))
+refused row event code name None m = ap Some (told-parts (decimal row ++ codes " refused ") (decimal code) (codes " ") name [] (codes "\n"))
+refused row event code name (Some found) m = ap Some (told-parts (decimal row ++ codes " refused ") (decimal code) (codes " ") name (codes " " ++ decimal found) (codes "\n"))
 
-replied : (row : ℕ) (profile : Profile) (board : List ℕ) (clubs : List NamedClub) (group game before : ℕ) (reply : Result Accepted Refusal) → RaisesVersion reply before board
-    → text_told (reply_value row game reply profile board clubs group) ≡ Some (line_of_reply row game before reply)
-replied row profile board clubs group game before (Ok a) h =
-    accepted row game a.number profile board clubs group ∙ ap (λ (version : ℕ). Some (accepted_line row game a.number version)) h
-replied row profile board clubs group game before (Err refusal) h = refused row (refusal_code refusal) (refusal_name refusal) (found_of refusal)
+replied : (row : ℕ) (profile : Profile) (board : List ℕ) (clubs : List NamedClub) (group : ℕ) (event : NightEvent) (before : ℕ) (reply : Result Accepted Refusal) → RaisesVersion reply before board
+    → text_told (reply_value row event reply profile board clubs group) ≡ Some (line_of_reply row event.call.game before reply)
+replied row profile board clubs group event before (Ok a) h =
+    accepted row event a.number profile board clubs group ∙ ap (λ (version : ℕ). Some (accepted_line row event.call.game a.number version)) h
+replied row profile board clubs group event before (Err refusal) h =
+    refused row event (refusal_code refusal) (refusal_name refusal) (found_of refusal) (game_at board event.call.game)
 
-bad : (row : ℕ) → text_told (bad_row_value row) ≡ Some (bad_line row)
-bad row =
-    refused row 20 (codes "bad-row") None
+bad-told : (row code : ℕ) (name field shown : List ℕ)
+    → text_told (bad_value row code name field shown) ≡ Some (decimal row ++ codes " refused " ++ (decimal code ++ codes " " ++ name ++ []) ++ codes "\n")
+unfolding text_told serde_json_on_literals
+bad-told row code name field shown = ap Some (told-parts (decimal row ++ codes " refused ") (decimal code) (codes " ") name [] (codes "\n"))
+
+bad : (row : ℕ) (field shown : List ℕ) → text_told (bad_row_value row field shown) ≡ Some (bad_line row)
+bad row field shown =
+    bad-told row 20 (codes "bad-row") field shown
     ∙ ap (λ (number : List ℕ). Some (decimal row ++ codes " refused " ++ (number ++ codes " " ++ codes "bad-row" ++ []) ++ codes "\n")) (decimal_two 20 (omega arith) (omega arith))
     ∙ ap Some (append_assoc (decimal row ++ codes " refused ") (codes "20 bad-row") (codes "\n") ∙ append_assoc (decimal row) (codes " refused ") (codes "20 bad-row\n"))
 

@@ -1,30 +1,36 @@
 -- The lines as they are read, and as they came.
-use Rattle.std.proofs.Common.{◌≡◌, ℕ, ◌+◌, ◌-◌, ◌≤◌, ◌<◌, ◌==◌, false, List, [], ◌∷◌, ◌++◌, length, get_or, refl, ap, inl, inr, arith, length-append}
+use Rattle.std.proofs.Common.{◌≡◌, ℕ, ◌+◌, ◌-◌, ◌≤◌, ◌<◌, ◌==◌, false, List, [], ◌∷◌, ◌++◌, length, take, get_or, refl, sym, ap, ◌∙◌, inl, inr, arith, length-append}
 use Rattle.std.specs.Prelude.{⊤, ◌⊎◌, nat_le}
 use Rattle.std.proofs.lemmas.Bool.{cases_Bool, lt-leb}
 use Rattle.std.proofs.lemmas.Bool.Decides.{nat_tests}
+use Rattle.std.proofs.lemmas.List.{take-append-le}
 use Rattle.ucl_io.specs.Lines.{begun_line, ended_lines, longer}
 use Rattle.ucl_answers.specs.Lines.{last_lines, lines_of}
 use Rattle.ucl_answers.specs.UncutLines.{uncut_after, uncut_lines}
+use Rattle.ucl_answers.specs.BadRows.{printed, shown_text}
 use Rattle.ucl_answers.specs.Rows.{Garbled, fits, said_by_text, said_on}
 use Rattle.ucl_answers.specs.Text.{Evening, after_lines, answer_said, answers, next}
 use Rattle.ucl_answers.specs.Laws.{LinesAreReadWhole}
 
--- a line and what was kept of it: the same, or both too long
+-- a line and what was kept of it: the same, or both too long, and shown in the same way
 abbrev pub Alike : List ℕ → List ℕ → Type 0
-Alike line whole = (line ≡ whole) ⊎ ((258 ≤ length line) × (258 ≤ length whole))
+Alike line whole = (line ≡ whole) ⊎ ((258 ≤ length line) × (258 ≤ length whole) × (take 64 line ≡ take 64 whole))
 
 longer-by : (line : List ℕ) (b : ℕ) → length (line ++ b ∷ []) ≡ length line + 1
 longer-by line b = length-append line (b ∷ [])
 
+more-taken : (line : List ℕ) (b : ℕ) → 64 ≤ length line → take 64 line ≡ take 64 (line ++ b ∷ [])
+more-taken line b h = sym (take-append-le 64 line (b ∷ []) h)
+
 pub one-more : (line whole : List ℕ) (b : ℕ) → Alike line whole → Alike (longer 258 line b) (whole ++ b ∷ [])
 one-more line whole b (inl e) = elim (cases_Bool (nat_le 258 (length line))) [
   | inl full ↦ rw full (let h : 258 ≤ length line = grind (arith, nat_tests) in
-      let k : length line ≡ length whole = ap length e in let m = longer-by whole b in inr (h, omega (arith, h, k, m)))
+      let k : length line ≡ length whole = ap length e in
+      let m = longer-by whole b in inr (h, omega (arith, h, k, m), ap (take 64) e ∙ more-taken whole b (omega (arith, h, k))))
   | inr less ↦ rw less (inl (ap (λ (l : List ℕ). l ++ b ∷ []) e))
 ]
-one-more line whole b (inr (p, q)) = elim (cases_Bool (nat_le 258 (length line))) [
-  | inl full ↦ rw full (let m = longer-by whole b in inr (p, omega (arith, q, m)))
+one-more line whole b (inr (p, q, t)) = elim (cases_Bool (nat_le 258 (length line))) [
+  | inl full ↦ rw full (let m = longer-by whole b in inr (p, omega (arith, q, m), t ∙ more-taken whole b (omega (arith, q))))
   | inr less ↦ absurd (grind (arith, nat_tests))
 ]
 
@@ -42,7 +48,11 @@ too-long row line h = rw (no-room (line ++ 10 ∷ []) (let m = longer-by line 10
 
 pub same-said : (row : ℕ) (line whole : List ℕ) → Alike line whole → said_on row line ≡ said_on row whole
 same-said row line whole (inl e) = rw e refl
-same-said row line whole (inr (p, q)) = rw (too-long row line p, too-long row whole q) refl
+same-said row line whole (inr (p, q, t)) = rw (too-long row line p, too-long row whole q) refl
+
+pub same-shown : (line whole : List ℕ) → Alike line whole → shown_text line ≡ shown_text whole
+same-shown line whole (inl e) = ap shown_text e
+same-shown line whole (inr (p, q, t)) = ap printed t
 
 -- line by line
 
@@ -56,9 +66,9 @@ last-alike : (line whole : List ℕ) → Alike line whole → AllAlike (last_lin
 last-alike [] [] h = tt
 last-alike (b ∷ line) (c ∷ whole) h = (h, tt)
 last-alike [] (c ∷ whole) (inl e) = cc
-last-alike [] (c ∷ whole) (inr (p, q)) = absurd (omega (arith, p))
+last-alike [] (c ∷ whole) (inr (p, q, t)) = absurd (omega (arith, p))
 last-alike (b ∷ line) [] (inl e) = cc
-last-alike (b ∷ line) [] (inr (p, q)) = absurd (omega (arith, q))
+last-alike (b ∷ line) [] (inr (p, q, t)) = absurd (omega (arith, q))
 
 lines-alike : (line whole bytes : List ℕ) → Alike line whole → AllAlike (ended_lines 258 line bytes ++ last_lines (begun_line 258 line bytes)) (uncut_after whole bytes)
 unfolding ended_lines begun_line uncut_after
@@ -74,7 +84,8 @@ same-answers e [] [] h = refl
 same-answers e [] (whole ∷ wholes) h = absurd h
 same-answers e (line ∷ lines) [] h = absurd h
 same-answers e (line ∷ lines) (whole ∷ wholes) h =
-    rw (same-said e.row line whole h.0) (ap (λ (l : List ℕ). answer_said e (said_on e.row whole) ++ l) (same-answers (next e (said_on e.row whole)) lines wholes h.1))
+    rw (same-said e.row line whole h.0, same-shown line whole h.0)
+    (ap (λ (l : List ℕ). answer_said e (said_on e.row whole) (shown_text whole) ++ l) (same-answers (next e (said_on e.row whole)) lines wholes h.1))
 
 same-after : (e : Evening) (lines wholes : List (List ℕ)) → AllAlike lines wholes → after_lines e lines ≡ after_lines e wholes
 unfolding after_lines

@@ -9,13 +9,15 @@ use Rattle.ucl_io.specs.Output.{Waiting}
 use Rattle.ucl_answers.specs.Output.{FailsToPut}
 use Rattle.ucl_io.specs.Lines.{HasNoFeed, begun_line, ended_lines, longer}
 use Rattle.ucl_answers.specs.Reading.{IsFirstLine, IsLineEnd}
+use Rattle.ucl_answers.specs.BadRows.{shown_text}
 use Rattle.ucl_answers.specs.Rows.{Said, said_by_text, said_on}
 use Rattle.ucl_answers.specs.Text.{Evening, after_lines, answer_said, answers, next}
 use Rattle.ucl_answers.specs.Stepping.{AsksForMemory, EveningIsRefused, LineAsks, Moment, answers_to, moment_after}
 use Rattle.ucl_answers.specs.Taking.{FailsToTake}
 use Rattle.ucl_answers.proofs.Moments.{after-none, answers-none, answers-to-append, begun-more, begun-none, end-answers, end-begun, end-evening, ended-more, ended-none, moment-append, same-moment}
 use Rattle.ucl_answers.proofs.Puts.{put_nothing}
-use Rattle.ucl_answers.proofs.Uncut.{Alike, one-more, same-said}
+use Rattle.ucl_answers.proofs.Shown.{shown_feed}
+use Rattle.ucl_answers.proofs.Uncut.{Alike, one-more, same-said, same-shown}
 
 -- ---- bytes among which no line ends
 
@@ -69,7 +71,11 @@ rest-answers m bytes i h =
 abbrev pub said_with : Moment → List ℕ → Said
 said_with m front = said_on m.evening.row (fold (longer 258) m.begun front)
 
-pub line-answers : (m : Moment) (bytes : List ℕ) (e : IsLineEnd bytes) → answers_to m bytes ≡ answer_said m.evening (said_with m e.front)
+-- how that line is shown
+abbrev pub shown_with : Moment → List ℕ → List ℕ
+shown_with m front = shown_text (fold (longer 258) m.begun front)
+
+pub line-answers : (m : Moment) (bytes : List ℕ) (e : IsLineEnd bytes) → answers_to m bytes ≡ answer_said m.evening (said_with m e.front) (shown_with m e.front)
 line-answers m bytes e =
     let last = ap (λ (k : Moment). answers_to k (10 ∷ [])) (kept-moment m e.front e.clean) ∙ end-answers (with_bytes m e.front) 10 refl in
     ap (answers_to m) e.whole ∙ answers-to-append m e.front (10 ∷ [])
@@ -95,6 +101,11 @@ whole-said m bytes e none =
     let kept = same-said m.evening.row (fold (longer 258) [] e.front) e.front (all-alike [] [] e.front (inl refl)) in
     ap (said_by_text m.evening.row) e.whole ∙ sym kept ∙ ap (λ (l : List ℕ). said_on m.evening.row (fold (longer 258) l e.front)) (sym none)
 
+pub whole-shown : (m : Moment) (bytes : List ℕ) (e : IsLineEnd bytes) → m.begun ≡ [] → shown_text bytes ≡ shown_with m e.front
+whole-shown m bytes e none =
+    let kept = same-shown (fold (longer 258) [] e.front) e.front (all-alike [] [] e.front (inl refl)) in
+    ap shown_text e.whole ∙ shown_feed e.front ∙ sym kept ∙ ap (λ (l : List ℕ). shown_text (fold (longer 258) l e.front)) (sym none)
+
 -- without the line feed
 
 pub without-feed : (bytes : List ℕ) (e : IsLineEnd bytes) → take (length bytes - 1) bytes ≡ e.front
@@ -109,23 +120,24 @@ some-bytes bytes e =
     omega (arith, long)
 
 -- it was not answered
-pub line-fails : (m : Moment) (bytes : List ℕ) (e : IsLineEnd bytes) (s : Said) (a b : Waiting) (failed : Bool) (x y : Option (List ℕ)) (f : RunFault) → s ≡ said_with m e.front → a.out ≤ 2 ^ 64 - 1
-    → FailsToPut a b (record { failed = failed; old = x; new = y }) (answer_said m.evening s) (AsksForMemory m.evening s)
+pub line-fails : (m : Moment) (bytes : List ℕ) (e : IsLineEnd bytes) (s : Said) (t : List ℕ) (a b : Waiting) (failed : Bool) (x y : Option (List ℕ)) (f : RunFault)
+    → s ≡ said_with m e.front → t ≡ shown_with m e.front → a.out ≤ 2 ^ 64 - 1
+    → FailsToPut a b (record { failed = failed; old = x; new = y }) (answer_said m.evening s t) (AsksForMemory m.evening s)
     (EveningIsRefused (next m.evening s)) f → FailsToTake m bytes a b (record { failed = failed; old = x; new = y }) f
-line-fails m bytes e s a b failed x y (WriteFailed written) k bound p = rw (line-answers m bytes e, ← k) p
-line-fails m bytes e s a b failed x y OutOfMemory k bound p = record {
+line-fails m bytes e s t a b failed x y (WriteFailed written) k j bound p = rw (line-answers m bytes e, ← k, ← j) p
+line-fails m bytes e s t a b failed x y OutOfMemory k j bound p = record {
   front = e.front;
   more = [];
   parts = e.whole;
   put = rw (p.0, p.1, kept-answers m e.front e.clean) (put_nothing a x bound);
   asks = subst LineAsks (sym (kept-moment m e.front e.clean)) (subst (AsksForMemory m.evening) k p.2);
 }
-line-fails m bytes e s a b failed x y (Input fault) k bound p =
+line-fails m bytes e s t a b failed x y (Input fault) k j bound p =
     (rw (p.0, p.1) (put_nothing a x bound), ap (λ (e : Evening). e.stage) (line-evening m bytes e) ∙ subst (λ (t : Said). EveningIsRefused (next m.evening t) fault) k p.2)
-line-fails m bytes e s a b failed x y (NotOnDuty row) k bound p = absurd p
-line-fails m bytes e s a b failed x y NoThread k bound p = absurd p
-line-fails m bytes e s a b failed x y TooManyReporters k bound p = absurd p
-line-fails m bytes e s a b failed x y (Strangers version) k bound p = absurd p
+line-fails m bytes e s t a b failed x y (NotOnDuty row) k j bound p = absurd p
+line-fails m bytes e s t a b failed x y NoThread k j bound p = absurd p
+line-fails m bytes e s t a b failed x y TooManyReporters k j bound p = absurd p
+line-fails m bytes e s t a b failed x y (Strangers version) k j bound p = absurd p
 
 -- ---- the first line of a text
 

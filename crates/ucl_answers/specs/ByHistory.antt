@@ -14,6 +14,7 @@ use Rattle.ucl_command.specs.declared.live.LiveArgs.{LiveArgs}
 use Rattle.ucl_answers.specs.declared.request.Request.{Request}
 use Rattle.ucl_answers.specs.declared.request.Request.TheVariants.{Bad, Event, Screen, Words}
 use Rattle.ucl_answers.specs.Rows.{Said, Nothing, Garbled, Row, said_on}
+use Rattle.ucl_answers.specs.BadRows.{shown_text}
 use Rattle.ucl_answers.specs.Requests.{request_of}
 use Rattle.ucl_answers.specs.Text.{bad_answer, screen_after, screen_answer, words_answer}
 
@@ -21,7 +22,7 @@ use Rattle.ucl_answers.specs.Text.{bad_answer, screen_after, screen_answer, word
 
 abbrev pub attempts_of : Request → List Attempt
 attempts_of (Event event) = attempt_of event ∷ []
-attempts_of Bad = []
+attempts_of (Bad field) = []
 attempts_of Screen = []
 attempts_of Words = []
 
@@ -40,26 +41,26 @@ attempts_in row (line ∷ lines) = attempts_on (said_on row line) ++ attempts_in
 abbrev pub reply_by_history : Format → LiveArgs → ℕ → List NamedClub → List Entry → NightEvent → List ℕ
 reply_by_history Text options row clubs history event = reply_line row history event.call
 reply_by_history Json options row clubs history event =
-    json_line (reply_value row event.call.game (sequential_reply history event.call) options.profile (board_of (after_attempt history (attempt_of event))) clubs options.group)
+    json_line (reply_value row event (sequential_reply history event.call) options.profile (board_of (after_attempt history (attempt_of event))) clubs options.group)
 
 -- the answer to a request: of an event its reply, and the screen of the board with it; the screen, or the words, of the board before
-abbrev pub answer_by_history : LiveArgs → ℕ → List NamedClub → List Entry → Request → List ℕ
-answer_by_history options row clubs history (Event event) =
+abbrev pub answer_by_history : LiveArgs → ℕ → List NamedClub → List Entry → Request → List ℕ → List ℕ
+answer_by_history options row clubs history (Event event) shown =
     reply_by_history options.format options row clubs history event
     ++ screen_after options row clubs (sequential_reply history event.call) (board_of (after_attempt history (attempt_of event)))
-answer_by_history options row clubs history Bad = bad_answer options.format row
-answer_by_history options row clubs history Screen = screen_answer options row clubs (board_of history)
-answer_by_history options row clubs history Words = words_answer options.format row (board_of history)
+answer_by_history options row clubs history (Bad field) shown = bad_answer options.format row field shown
+answer_by_history options row clubs history Screen shown = screen_answer options row clubs (board_of history)
+answer_by_history options row clubs history Words shown = words_answer options.format row (board_of history)
 
--- the answer to what a line says
-abbrev pub line_by_history : LiveArgs → ℕ → List NamedClub → List Entry → Said → List ℕ
-line_by_history options row clubs history Nothing = []
-line_by_history options row clubs history Garbled = answer_by_history options row clubs history Bad
-line_by_history options row clubs history (Row f) = answer_by_history options row clubs history (request_of (Row f))
+-- the answer to what a line says that is shown so
+abbrev pub line_by_history : LiveArgs → ℕ → List NamedClub → List Entry → Said → List ℕ → List ℕ
+line_by_history options row clubs history Nothing shown = []
+line_by_history options row clubs history Garbled shown = answer_by_history options row clubs history (request_of Garbled) shown
+line_by_history options row clubs history (Row f) shown = answer_by_history options row clubs history (request_of (Row f)) shown
 
 -- the answers to lines, each after the history of the events that were accepted before it
 unfoldable pub answers_by_history : LiveArgs → ℕ → List NamedClub → List Entry → List (List ℕ) → List ℕ
 answers_by_history options row clubs history [] = []
 answers_by_history options row clubs history (line ∷ lines) =
-    line_by_history options row clubs history (said_on row line)
+    line_by_history options row clubs history (said_on row line) (shown_text line)
     ++ answers_by_history options (row + 1) clubs (fold after_attempt history (attempts_on (said_on row line))) lines

@@ -72,7 +72,7 @@ FirstRowsOpenTheBoard = (e : Evening) (clubs : List NamedClub) (line : List ℕ)
 abbrev pub RepliesAreThoseOfFeed : Type 0
 RepliesAreThoseOfFeed = (options : LiveArgs) (clubs : List NamedClub) (board : List ℕ) (history : List Entry) (row : ℕ) (event : NightEvent)
     → IsLegal history → IsMatch event.call.game
-    → reply_in Text options row clubs event.call.game (version_of (board_of history)) (reply_of (game_at (board_of history) event.call.game) event.call) board ≡ reply_line row history event.call
+    → reply_in Text options row clubs event (version_of (board_of history)) (reply_of (game_at (board_of history) event.call.game) event.call) board ≡ reply_line row history event.call
 
 -- in JSON each answer is a value on one line, and nothing else goes out
 abbrev pub JsonAnswersAreLines : Type 0
@@ -97,9 +97,9 @@ RaisesVersion (Err refusal) before board = ⊤
 
 -- the members of each answer in JSON say just what the answer says as text: its numbers, the name of a refusal, and all columns of the screen
 pub record SaysTheSame (row : ℕ) (profile : Profile) (board : List ℕ) (clubs : List NamedClub) (group : ℕ) : Type 0 where
-  pub reply : (game before : ℕ) (reply : Result Accepted Refusal) → RaisesVersion reply before board
-      → text_told (reply_value row game reply profile board clubs group) ≡ Some (line_of_reply row game before reply)
-  pub bad : text_told (bad_row_value row) ≡ Some (bad_line row)
+  pub reply : (event : NightEvent) (before : ℕ) (reply : Result Accepted Refusal) → RaisesVersion reply before board
+      → text_told (reply_value row event reply profile board clubs group) ≡ Some (line_of_reply row event.call.game before reply)
+  pub bad : (field shown : List ℕ) → text_told (bad_row_value row field shown) ≡ Some (bad_line row)
   pub words : text_told (words_value row board) ≡ Some (word_lines 1 board)
   pub screen : text_told (screen_value row profile board clubs group) ≡ Some (screen_text profile board clubs group)
 

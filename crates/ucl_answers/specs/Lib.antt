@@ -1,5 +1,6 @@
 pub mod Lines
 pub mod Rows
+pub mod BadRows
 pub mod Requests
 pub mod Stages
 pub mod Text

@@ -5,21 +5,23 @@ use Rattle.ucl_screen.specs.declared.night.NightEvent.{NightEvent}
 use Rattle.ucl_screen.specs.Rows.{FourFields}
 use Rattle.ucl_screen.specs.Events.{event_of}
 use Rattle.ucl_answers.specs.Rows.{Said, Nothing, Garbled, Row}
+use Rattle.ucl_answers.specs.BadRows.{bad_field}
+use Rattle.ucl_answers.specs.declared.bad_row.BadField.TheVariants.{Count}
 use Rattle.ucl_answers.specs.declared.request.Request.{Request}
 use Rattle.ucl_answers.specs.declared.request.Request.TheVariants.{Bad, Event, Screen, Words}
 
-abbrev pub event_or_bad : Option NightEvent → Request
-event_or_bad None = Bad
-event_or_bad (Some event) = Event event
+abbrev pub event_or_bad : FourFields → Option NightEvent → Request
+event_or_bad f None = Bad (bad_field f)
+event_or_bad f (Some event) = Event event
 
 -- `screen,,,` and `words,,,`, or else an event
 unfoldable pub asked_by : FourFields → Request
 asked_by f =
     if (length f.second == 0) && (length f.third == 0) && (length f.fourth == 0)
-    then (if bytes_eq f.first (codes "screen") then Screen else (if bytes_eq f.first (codes "words") then Words else Bad))
-    else event_or_bad (event_of f)
+    then (if bytes_eq f.first (codes "screen") then Screen else (if bytes_eq f.first (codes "words") then Words else Bad (bad_field f)))
+    else event_or_bad f (event_of f)
 
 abbrev pub request_of : Said → Request
-request_of Nothing = Bad
-request_of Garbled = Bad
+request_of Nothing = Bad Count
+request_of Garbled = Bad Count
 request_of (Row f) = asked_by f

@@ -76,7 +76,7 @@ is_word_row Nothing = false
 -- the board after a request
 abbrev pub next_board : List ℕ → Request → List ℕ
 next_board board (Event event) = board_after board (attempt_of event)
-next_board board Bad = board
+next_board board (Bad field) = board
 next_board board Screen = board
 next_board board Words = board
 

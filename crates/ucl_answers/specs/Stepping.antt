@@ -59,7 +59,7 @@ missing_at m = missing (ended_at m).row (ended_at m).stage
 abbrev pub AsksOf : LiveArgs → List ℕ → Request → Type 0
 AsksOf options board (Event event) =
     (options.format ≡ Json) ⊎ ((options.screens ≡ true) × (is_ok (reply_of (game_at board event.call.game) event.call) ≡ true))
-AsksOf options board Bad = options.format ≡ Json
+AsksOf options board (Bad field) = options.format ≡ Json
 AsksOf options board Screen = ⊤
 AsksOf options board Words = options.format ≡ Json
 

@@ -18,7 +18,9 @@ use Rattle.ucl_answers.specs.declared.request.Request.{Request}
 use Rattle.ucl_answers.specs.declared.request.Request.TheVariants.{Bad, Event, Screen, Words}
 use Rattle.ucl_answers.specs.Lines.{lines_of}
 use Rattle.ucl_answers.specs.Rows.{Said, Nothing, Garbled, Row, said_on}
+use Rattle.ucl_answers.specs.BadRows.{field_name, shown_text}
 use Rattle.ucl_answers.specs.Requests.{request_of}
+use Rattle.ucl_answers.specs.declared.bad_row.BadField.{BadField}
 use Rattle.ucl_answers.specs.Stages.{Stage, Naming, Restoring, Open, Refused, missing, next_board, next_stage, opened}
 
 -- between two lines: how it answers, which line comes next, counted from 1, and how far it is
@@ -33,21 +35,21 @@ start_of options = record { options = options; row = 1; stage = Naming [] }
 
 -- ---- single answers, each in its format
 
--- the reply to an event of a match, where so many events were accepted before; in JSON an accepted event's has the board after it
-abbrev pub reply_in : Format → LiveArgs → ℕ → List NamedClub → ℕ → ℕ → Result Accepted Refusal → List ℕ → List ℕ
-reply_in Text options row clubs game before reply board = line_of_reply row game before reply
-reply_in Json options row clubs game before reply board = json_line (reply_value row game reply options.profile board clubs options.group)
+-- the reply to an event, where so many events were accepted before, with the board after it
+abbrev pub reply_in : Format → LiveArgs → ℕ → List NamedClub → NightEvent → ℕ → Result Accepted Refusal → List ℕ → List ℕ
+reply_in Text options row clubs event before reply board = line_of_reply row event.call.game before reply
+reply_in Json options row clubs event before reply board = json_line (reply_value row event reply options.profile board clubs options.group)
 
-abbrev pub reply_answer : LiveArgs → ℕ → List NamedClub → ℕ → ℕ → Result Accepted Refusal → List ℕ → List ℕ
-reply_answer options row clubs game before reply board = reply_in options.format options row clubs game before reply board
+abbrev pub reply_answer : LiveArgs → ℕ → List NamedClub → NightEvent → ℕ → Result Accepted Refusal → List ℕ → List ℕ
+reply_answer options row clubs event before reply board = reply_in options.format options row clubs event before reply board
 
 abbrev pub bad_line : ℕ → List ℕ
 bad_line row = decimal row ++ codes " refused 20 bad-row\n"
 
--- the answer to a row that asks for nothing that there is
-abbrev pub bad_answer : Format → ℕ → List ℕ
-bad_answer Text row = bad_line row
-bad_answer Json row = json_line (bad_row_value row)
+-- the answer to a row that asks for nothing that there is, for this field, and is shown so
+abbrev pub bad_answer : Format → ℕ → BadField → List ℕ → List ℕ
+bad_answer Text row field shown = bad_line row
+bad_answer Json row field shown = json_line (bad_row_value row (field_name field) shown)
 
 -- the screen of a board
 abbrev pub screen_in : Format → LiveArgs → ℕ → List NamedClub → List ℕ → List ℕ
@@ -74,26 +76,27 @@ abbrev pub event_answer : LiveArgs → ℕ → List NamedClub → List ℕ → N
 event_answer options row clubs board event =
     let reply = reply_of (game_at board event.call.game) event.call in
     let after = next_board board (Event event) in
-    reply_answer options row clubs event.call.game (version_of board) reply after ++ screen_after options row clubs reply after
+    reply_answer options row clubs event (version_of board) reply after ++ screen_after options row clubs reply after
 
-abbrev pub answer_of : LiveArgs → ℕ → List NamedClub → List ℕ → Request → List ℕ
-answer_of options row clubs board (Event event) = event_answer options row clubs board event
-answer_of options row clubs board Bad = bad_answer options.format row
-answer_of options row clubs board Screen = screen_answer options row clubs board
-answer_of options row clubs board Words = words_answer options.format row board
+-- the answer to what a row asks that is shown so
+abbrev pub answer_of : LiveArgs → ℕ → List NamedClub → List ℕ → Request → List ℕ → List ℕ
+answer_of options row clubs board (Event event) shown = event_answer options row clubs board event
+answer_of options row clubs board (Bad field) shown = bad_answer options.format row field shown
+answer_of options row clubs board Screen shown = screen_answer options row clubs board
+answer_of options row clubs board Words shown = words_answer options.format row board
 
 -- nothing is answered before the board is open
-abbrev pub answer_at : LiveArgs → ℕ → Stage → Request → List ℕ
-answer_at options row (Open clubs board) request = answer_of options row clubs board request
-answer_at options row (Naming clubs) request = []
-answer_at options row (Restoring clubs words) request = []
-answer_at options row (Refused fault) request = []
+abbrev pub answer_at : LiveArgs → ℕ → Stage → Request → List ℕ → List ℕ
+answer_at options row (Open clubs board) request shown = answer_of options row clubs board request shown
+answer_at options row (Naming clubs) request shown = []
+answer_at options row (Restoring clubs words) request shown = []
+answer_at options row (Refused fault) request shown = []
 
--- the answer to what a line says
-abbrev pub answer_said : Evening → Said → List ℕ
-answer_said e Nothing = []
-answer_said e Garbled = answer_at e.options e.row (opened e.stage Garbled) (request_of Garbled)
-answer_said e (Row f) = answer_at e.options e.row (opened e.stage (Row f)) (request_of (Row f))
+-- the answer to what a line says that is shown so
+abbrev pub answer_said : Evening → Said → List ℕ → List ℕ
+answer_said e Nothing shown = []
+answer_said e Garbled shown = answer_at e.options e.row (opened e.stage Garbled) (request_of Garbled) shown
+answer_said e (Row f) shown = answer_at e.options e.row (opened e.stage (Row f)) (request_of (Row f)) shown
 
 abbrev pub next : Evening → Said → Evening
 next e said = record { options = e.options; row = e.row + 1; stage = next_stage e.row e.stage said }
@@ -102,7 +105,7 @@ next e said = record { options = e.options; row = e.row + 1; stage = next_stage 
 
 unfoldable pub answers : Evening → List (List ℕ) → List ℕ
 answers e [] = []
-answers e (line ∷ lines) = answer_said e (said_on e.row line) ++ answers (next e (said_on e.row line)) lines
+answers e (line ∷ lines) = answer_said e (said_on e.row line) (shown_text line) ++ answers (next e (said_on e.row line)) lines
 
 -- the evening after lines
 unfoldable pub after_lines : Evening → List (List ℕ) → Evening

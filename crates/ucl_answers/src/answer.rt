@@ -6,9 +6,11 @@ ghost use Rattle.ucl_word.specs.Names.{refusal_text};
 ghost use Rattle.ucl_screen.specs.Screen.{IsGroup};
 ghost use Rattle.ucl_runs.specs.Feed.{line_of_reply};
 ghost use Rattle.ucl_runs.specs.Lines.{accepted_line, refused_line};
+ghost use Rattle.ucl_answers.specs.BadRows.{shown_text};
 ghost use Rattle.ucl_answers.specs.Seen.{bytes_of};
 ghost use Rattle.ucl_answers.specs.Text.{bad_answer, bad_line, reply_answer, screen_answer};
 
+use crate::bad_row::{BadField, shown_text};
 use crate::stage::Table;
 use arrayvec::ArrayString;
 use itoa::Buffer;
@@ -16,7 +18,7 @@ use std::alloc::{AllocError, Global};
 use ucl_command::{Format, LiveArgs};
 use ucl_json::{bad_row_json, reply_json, screen_json};
 use ucl_runs::RunFault;
-use ucl_screen::screen;
+use ucl_screen::{NightEvent, screen};
 use ucl_word::{Accepted, Refusal};
 
 /// The line of a reply, which takes no memory.
@@ -107,27 +109,27 @@ fn reply_line(row: u64, game: u8, before: u16, reply: Result<Accepted, Refusal>)
     }
 }
 
-/// The reply to an event of a match, where so many events were accepted before, and the table is that after it.
+/// The reply to an event, where so many events were accepted before, and the table is that after it.
 pub(crate) fn reply_answer(
     alloc: Global,
     options: &LiveArgs,
     row: u64,
-    game: u8,
+    event: &NightEvent,
     before: u16,
     reply: Result<Accepted, Refusal>,
     after: &Table,
 ) -> Result<Answer, AllocError>
     requires { before < 2 ^ 16 - 1 }
     ensures text { IfOk result (λ answer. bytes_of answer
-        ≡ reply_answer options.now row after.now.roster game before reply after.now.board) }
+        ≡ reply_answer options.now row after.now.roster event.now before reply after.now.board) }
     ensures memory { IfErr result (λ _. options.now.format ≡ Format.Json) }
 {
     match options.format {
-        Format::Text => Ok(Answer::Short(reply_line(row, game, before, reply))),
+        Format::Text => Ok(Answer::Short(reply_line(row, event.call.game.get(), before, reply))),
         Format::Json => Ok(Answer::Long(reply_json(
             alloc,
             row,
-            game,
+            event,
             reply,
             &after.board,
             &after.roster,
@@ -137,14 +139,21 @@ pub(crate) fn reply_answer(
     }
 }
 
-/// The answer to a row that asks for nothing that there is.
-pub(crate) fn bad_answer(alloc: Global, format: Format, row: u64) -> Result<Answer, AllocError>
-    ensures text { IfOk result (λ answer. bytes_of answer ≡ bad_answer format row) }
+/// The answer to a row that asks for nothing that there is, for this field.
+pub(crate) fn bad_answer(
+    alloc: Global,
+    format: Format,
+    row: u64,
+    field: BadField,
+    text: &[u8],
+) -> Result<Answer, AllocError>
+    ensures text { IfOk result
+        (λ answer. bytes_of answer ≡ bad_answer format row field (shown_text text.now)) }
     ensures memory { IfErr result (λ _. format ≡ Format.Json) }
 {
     match format {
         Format::Text => Ok(Answer::Short(bad_line(row))),
-        Format::Json => Ok(Answer::Long(bad_row_json(alloc, row)?)),
+        Format::Json => Ok(Answer::Long(bad_row_json(alloc, row, field.name(), shown_text(text))?)),
     }
 }
 

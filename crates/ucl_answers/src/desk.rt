@@ -8,6 +8,7 @@ ghost use Rattle.ucl_runs.specs.Run.{SinkFails};
 ghost use Rattle.ucl_io.specs.Output.{HasPut};
 ghost use Rattle.ucl_answers.specs.Output.{FailsToPut, sink_change};
 ghost use Rattle.ucl_answers.specs.Reading.{IsLineEnd, fields_in, said_in};
+ghost use Rattle.ucl_answers.specs.BadRows.{shown_text};
 ghost use Rattle.ucl_answers.specs.Rows.{Row, fits, said_by_text, said_on};
 ghost use Rattle.ucl_answers.specs.Seen.{evening_seen};
 ghost use Rattle.ucl_answers.specs.Stepping.{AsksForMemory, EveningIsRefused, answers_to, moment_after};
@@ -90,18 +91,20 @@ fn answer_text<W: Sink>(
     ensures next { OnOk result (evening_seen evening.new
         ≡ next (evening_seen evening.old) (said_by_text evening.old.row text.now)) }
     ensures put { OnOk result (HasPut page.old page.new (W.taken sink.old) (W.taken sink.new)
-        (answer_said (evening_seen evening.old) (said_by_text evening.old.row text.now))) }
+        (answer_said (evening_seen evening.old) (said_by_text evening.old.row text.now)
+        (shown_text text.now))) }
     ensures sound { OnOk result (W.failed sink.new ≡ W.failed sink.old) }
     ensures fails { IfErr result (FailsToPut page.old page.new
         (sink_change W.Sink sink.old sink.new)
-        (answer_said (evening_seen evening.old) (said_by_text evening.old.row text.now))
+        (answer_said (evening_seen evening.old) (said_by_text evening.old.row text.now)
+        (shown_text text.now))
         (AsksForMemory (evening_seen evening.old) (said_by_text evening.old.row text.now))
         (EveningIsRefused
         (next (evening_seen evening.old) (said_by_text evening.old.row text.now)))) }
     ensures sink_fails { IfErr result (SinkFails (W.failed sink.old) (W.failed sink.new)) }
 {
     if let Some(four) = plain_row(evening.row, text) {
-        return evening.answer(alloc, &Some(four), page, sink);
+        return evening.answer(alloc, &Some(four), text, page, sink);
     }
     let _written = page.written();
     match read(fields, evening.row, text) {
@@ -109,10 +112,10 @@ fn answer_text<W: Sink>(
             evening.pass();
             Ok(())
         }
-        Found::More => evening.answer(alloc, &None, page, sink),
+        Found::More => evening.answer(alloc, &None, text, page, sink),
         Found::One => {
             let said = fields.four();
-            evening.answer(alloc, &said, page, sink)
+            evening.answer(alloc, &said, text, page, sink)
         }
     }
 }
@@ -170,11 +173,12 @@ impl Desk {
         ensures put { OnOk result (HasPut self.old.page self.new.page
             (W.taken sink.old) (W.taken sink.new)
             (answer_said (evening_seen evening.old)
-            (said_on evening.old.row self.old.line.items))) }
+            (said_on evening.old.row self.old.line.items) (shown_text self.old.line.items))) }
         ensures sound { OnOk result (W.failed sink.new ≡ W.failed sink.old) }
         ensures fails { IfErr result (FailsToPut self.old.page self.new.page
             (sink_change W.Sink sink.old sink.new)
-            (answer_said (evening_seen evening.old) (said_on evening.old.row self.old.line.items))
+            (answer_said (evening_seen evening.old) (said_on evening.old.row self.old.line.items)
+            (shown_text self.old.line.items))
             (AsksForMemory (evening_seen evening.old) (said_on evening.old.row self.old.line.items))
             (EveningIsRefused
             (next (evening_seen evening.old) (said_on evening.old.row self.old.line.items)))) }

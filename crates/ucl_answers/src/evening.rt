@@ -5,6 +5,7 @@ ghost use Rattle.ucl_screen.specs.Rows.{four_seen};
 ghost use Rattle.ucl_runs.specs.Run.{SinkFails};
 ghost use Rattle.ucl_io.specs.Output.{HasPut};
 ghost use Rattle.ucl_answers.specs.Output.{FailsToPut, sink_change};
+ghost use Rattle.ucl_answers.specs.BadRows.{shown_text};
 ghost use Rattle.ucl_answers.specs.Rows.{Nothing, of_row};
 ghost use Rattle.ucl_answers.specs.Requests.{request_of};
 ghost use Rattle.ucl_answers.specs.Seen.{evening_seen, stage_seen};
@@ -29,7 +30,7 @@ pub(crate) struct Evening {
     pub(crate) stage: Stage,
 }
 
-/// Answers a row, which has four fields or is garbled, and gives the stage after it.
+/// Answers a row, which has four fields or is garbled, and whose text is this, and gives the stage after it.
 #[tactic(auto, using(crate::proofs::Puts::put_nothing))]
 fn after_row<W: Sink>(
     alloc: Global,
@@ -37,6 +38,7 @@ fn after_row<W: Sink>(
     row: u64,
     stage: Stage,
     said: &Option<Four<'_>>,
+    text: &[u8],
     page: &mut Page,
     sink: &mut W,
 ) -> Result<Stage, RunFault>
@@ -44,12 +46,12 @@ fn after_row<W: Sink>(
         ≡ after_row row (stage_seen stage) (of_row (option_map four_seen said.now))) }
     ensures put { OnOk result (HasPut page.old page.new (W.taken sink.old) (W.taken sink.new)
         (answer_at options.now row (stage_seen stage)
-        (request_of (of_row (option_map four_seen said.now))))) }
+        (request_of (of_row (option_map four_seen said.now))) (shown_text text.now))) }
     ensures sound { OnOk result (W.failed sink.new ≡ W.failed sink.old) }
     ensures fails { IfErr result (FailsToPut page.old page.new
         (sink_change W.Sink sink.old sink.new)
         (answer_at options.now row (stage_seen stage)
-        (request_of (of_row (option_map four_seen said.now))))
+        (request_of (of_row (option_map four_seen said.now))) (shown_text text.now))
         (AsksAt options.now (stage_seen stage)
         (request_of (of_row (option_map four_seen said.now))))
         (StageIsRefused
@@ -63,7 +65,7 @@ fn after_row<W: Sink>(
         Stage::Open(table) => {
             let request = request_of(said);
             let mut table = table;
-            table.answered(alloc, options, row, &request, page, sink)?;
+            table.answered(alloc, options, row, &request, text, page, sink)?;
             Ok(Stage::Open(table))
         }
     }
@@ -78,11 +80,12 @@ impl Evening {
         self.row += 1;
     }
 
-    /// Answers a row, which has four fields or is garbled.
+    /// Answers a row, which has four fields or is garbled, and whose text is this.
     pub(crate) fn answer<W: Sink>(
         &mut self,
         alloc: Global,
         said: &Option<Four<'_>>,
+        text: &[u8],
         page: &mut Page,
         sink: &mut W,
     ) -> Result<(), RunFault>
@@ -90,11 +93,13 @@ impl Evening {
         ensures next { OnOk result (evening_seen self.new
             ≡ next (evening_seen self.old) (of_row (option_map four_seen said.now))) }
         ensures put { OnOk result (HasPut page.old page.new (W.taken sink.old) (W.taken sink.new)
-            (answer_said (evening_seen self.old) (of_row (option_map four_seen said.now)))) }
+            (answer_said (evening_seen self.old) (of_row (option_map four_seen said.now))
+            (shown_text text.now))) }
         ensures sound { OnOk result (W.failed sink.new ≡ W.failed sink.old) }
         ensures fails { IfErr result (FailsToPut page.old page.new
             (sink_change W.Sink sink.old sink.new)
-            (answer_said (evening_seen self.old) (of_row (option_map four_seen said.now)))
+            (answer_said (evening_seen self.old) (of_row (option_map four_seen said.now))
+            (shown_text text.now))
             (AsksForMemory (evening_seen self.old) (of_row (option_map four_seen said.now)))
             (EveningIsRefused
             (next (evening_seen self.old) (of_row (option_map four_seen said.now))))) }
@@ -103,7 +108,7 @@ impl Evening {
         match &mut self.stage {
             Stage::Open(table) => {
                 let request = request_of(said);
-                table.answered(alloc, &self.options, self.row, &request, page, sink)?;
+                table.answered(alloc, &self.options, self.row, &request, text, page, sink)?;
             }
             _ => {
                 let stage = mem::replace(&mut self.stage, Stage::Naming(Clubs::NoClub));
@@ -113,6 +118,7 @@ impl Evening {
                     self.row,
                     stage.opened(said),
                     said,
+                    text,
                     page,
                     sink,
                 )?;

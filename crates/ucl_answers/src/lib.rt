@@ -3,6 +3,7 @@
 #![tactic(auto)]
 
 mod answer;
+mod bad_row;
 mod desk;
 mod evening;
 mod laws;

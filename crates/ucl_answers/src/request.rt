@@ -5,13 +5,14 @@ ghost use Rattle.ucl_screen.specs.Rows.{four_seen};
 ghost use Rattle.ucl_answers.specs.Requests.{asked_by, request_of};
 ghost use Rattle.ucl_answers.specs.Rows.{of_row};
 
+use crate::bad_row::{BadField, bad_field};
 use ucl_screen::{Four, NightEvent, event_of_fields};
 
 /// What a row asks for, once there is a board.
 #[derive(Clone, Copy, Debug, PartialEq, Eq)]
 pub enum Request {
-    /// Nothing that there is.
-    Bad,
+    /// Nothing that there is, for this field.
+    Bad(BadField),
     /// That a reporter's event be entered.
     Event(NightEvent),
     /// The screen of the board as it stands.
@@ -31,11 +32,11 @@ fn asked_by(four: &Four<'_>) -> Request
         } else if four.first == b"words".as_slice() {
             Request::Words
         } else {
-            Request::Bad
+            Request::Bad(bad_field(four))
         }
     } else {
         match event_of_fields(four) {
-            None => Request::Bad,
+            None => Request::Bad(bad_field(four)),
             Some(event) => Request::Event(event),
         }
     }
@@ -46,7 +47,7 @@ pub(crate) fn request_of(row: &Option<Four<'_>>) -> Request
     ensures { result ≡ request_of (of_row (option_map four_seen row.now)) }
 {
     match row {
-        None => Request::Bad,
+        None => Request::Bad(BadField::Count),
         Some(four) => asked_by(four),
     }
 }

@@ -4,6 +4,7 @@ ghost use Rattle.std.specs.Prelude.{◌≡◌, IfErr, OnOk};
 ghost use Rattle.ucl_runs.specs.Run.{SinkFails};
 ghost use Rattle.ucl_io.specs.Output.{HasPut};
 ghost use Rattle.ucl_answers.specs.Output.{FailsToPut, sink_change};
+ghost use Rattle.ucl_answers.specs.BadRows.{shown_text};
 ghost use Rattle.ucl_answers.specs.Stages.{next_board};
 ghost use Rattle.ucl_answers.specs.Stepping.{AsksOf, NeverRefused};
 ghost use Rattle.ucl_answers.specs.Text.{answer_of, event_answer, words_answer};
@@ -71,8 +72,7 @@ impl Table {
     {
         let before = self.board.version();
         let reply = self.board.report(event.reporter, &event.call);
-        let game = event.call.game.get();
-        let line = reply_answer(alloc, options, row, game, before, reply, self)?;
+        let line = reply_answer(alloc, options, row, event, before, reply, self)?;
         if options.screens && reply.is_ok() {
             let screen = screen_answer(alloc, options, row, self)?;
             page.put_both(sink, line.bytes(), screen.bytes())
@@ -81,7 +81,7 @@ impl Table {
         }
     }
 
-    /// Does what a row asks for, and answers it.
+    /// Does what a row asks for, whose text is this, and answers it.
     #[tactic(auto, using(crate::proofs::Puts::put_fails, crate::proofs::Puts::stopped_fails))]
     pub(crate) fn answered<W: Sink>(
         &mut self,
@@ -89,17 +89,20 @@ impl Table {
         options: &LiveArgs,
         row: u64,
         request: &Request,
+        text: &[u8],
         page: &mut Page,
         sink: &mut W,
     ) -> Result<(), RunFault>
         ensures roster { OnOk result (self.new.roster ≡ self.old.roster) }
         ensures board { OnOk result (self.new.board ≡ next_board self.old.board request.now) }
         ensures put { OnOk result (HasPut page.old page.new (W.taken sink.old) (W.taken sink.new)
-            (answer_of options.now row self.old.roster self.old.board request.now)) }
+            (answer_of options.now row self.old.roster self.old.board request.now
+            (shown_text text.now))) }
         ensures sound { OnOk result (W.failed sink.new ≡ W.failed sink.old) }
         ensures fails { IfErr result (FailsToPut page.old page.new
             (sink_change W.Sink sink.old sink.new)
-            (answer_of options.now row self.old.roster self.old.board request.now)
+            (answer_of options.now row self.old.roster self.old.board request.now
+            (shown_text text.now))
             (AsksOf options.now self.old.board request.now) NeverRefused) }
         ensures sink_fails { IfErr result (SinkFails (W.failed sink.old) (W.failed sink.new)) }
     {
@@ -107,7 +110,7 @@ impl Table {
             Request::Event(event) => {
                 return self.entered(alloc, options, row, event, page, sink);
             }
-            Request::Bad => bad_answer(alloc, options.format, row)?,
+            Request::Bad(field) => bad_answer(alloc, options.format, row, *field, text)?,
             Request::Screen => screen_answer(alloc, options, row, self)?,
             Request::Words => {
                 return put_words(alloc, options.format, row, &self.board, page, sink);

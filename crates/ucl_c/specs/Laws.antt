@@ -12,7 +12,7 @@ use Rattle.ucl_screen.specs.WordsRead.{is_word, read_words}
 use Rattle.ucl_runs.specs.declared.fault.RunFault.TheVariants.{TooManyReporters}
 use Rattle.ucl_runs.specs.Faults.{fault_text}
 use Rattle.ucl_json.specs.Lines.{json_line}
-use Rattle.ucl_json.specs.Values.{bad_row_value, coded_value, screen_value}
+use Rattle.ucl_json.specs.Values.{bad_row_value, bad_value, screen_value}
 use Rattle.ucl_c.specs.declared.fault.Fault.{Fault}
 use Rattle.ucl_c.specs.declared.fault.Fault.TheVariants.{BadWord, BadRow, BadRoster, OutOfMemory, TooLong, FullBoard}
 use Rattle.ucl_c.specs.Codes.{name_of_status}
@@ -50,7 +50,7 @@ IsWrittenAs None fault = Unit {0}
 pub record IsAnsweredByName (row : ℕ) : Type 0 where
   pub name : List ℕ
   pub named : name_of_status (fault_code (BadRow row)) ≡ Some name
-  pub answered : bad_row_value row ≡ coded_value row (fault_code (BadRow row)) name
+  pub answered : (field text : List ℕ) → bad_row_value row field text ≡ bad_value row (fault_code (BadRow row)) name field text
 
 -- the programs write each fault that calls tell too by its number
 pub record FaultsAreWrittenByNumber : Type 0 where

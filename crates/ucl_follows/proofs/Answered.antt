@@ -15,6 +15,7 @@ use Rattle.ucl_order.specs.Names.{profile_name, profile_named}
 use Rattle.ucl_order.specs.Roster.{IsClub, IsRoster, NamedClub, bad_slot, bad_slot_from, is_club, is_name}
 use Rattle.ucl_screen.specs.Numbers.{hex_digits}
 use Rattle.ucl_screen.specs.Numbers.{hex_after, hex_digit, hex_word}
+use Rattle.ucl_screen.specs.declared.night.NightEvent.{NightEvent}
 use Rattle.ucl_screen.specs.Screen.{IsGroup}
 use Rattle.ucl_screen.specs.WordsRead.{read_words}
 use Rattle.ucl_screen.proofs.ReadWords.{all-read}
@@ -157,16 +158,16 @@ tells value m is (group, order, clubs, words) = told-by value m
     (ap (option_and_then roster_told) clubs ∙ clubs-told m.roster is.clubs)
     (rw words (board-told m.board is.words is.bits))
 
-reply-has : (row game event : ℕ) (m : Moment) → Has (accepted_value row game event m.profile m.board m.roster m.group) m
+reply-has : (row : ℕ) (event : NightEvent) (event_number : ℕ) (m : Moment) → Has (accepted_value row event event_number m.profile m.board m.roster m.group) m
 unfolding accepted_value serde_json_on_literals
-reply-has row game event m = (refl, refl, refl, refl)
+reply-has row event event_number m = (refl, refl, refl, refl)
 
 screen-has : (row : ℕ) (m : Moment) → Has (screen_value row m.profile m.board m.roster m.group) m
 unfolding screen_value serde_json_on_literals
 screen-has row m = (refl, refl, refl, refl)
 
 pub answered : AnswersTellTheirMoment
-answered row game event m is = record {
-  reply = tells (accepted_value row game event m.profile m.board m.roster m.group) m is (reply-has row game event m);
+answered row event event_number m is = record {
+  reply = tells (accepted_value row event event_number m.profile m.board m.roster m.group) m is (reply-has row event event_number m);
   screen = tells (screen_value row m.profile m.board m.roster m.group) m is (screen-has row m);
 }

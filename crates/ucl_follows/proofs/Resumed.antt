@@ -13,13 +13,13 @@ use Rattle.ucl_command.specs.declared.live.LiveArgs.{LiveArgs}
 use Rattle.ucl_io.specs.Lines.{begun_line, ended_lines}
 use Rattle.ucl_answers.specs.Lines.{last_lines, lines_of}
 use Rattle.ucl_answers.specs.Requests.{request_of}
-use Rattle.ucl_answers.specs.Rows.{Row}
+use Rattle.ucl_answers.specs.Rows.{Row, Said}
 use Rattle.ucl_answers.specs.Stages.{Stage, Naming, Open, Restoring, after_club, after_row, after_word, next_stage, opened, with_clubs, with_roster, with_words}
 use Rattle.ucl_answers.specs.Stepping.{Moment as Point, answers_to, begins, moment_after}
 use Rattle.ucl_answers.specs.Text.{Evening, after_lines, answer_at, answer_said, answers, live_text, next, start_of}
 use Rattle.ucl_answers.proofs.Boards.{sequential}
 use Rattle.ucl_answers.proofs.Moments.{answers-append, answers-to-append, begun-append, ended-append, moment-append, same-moment}
-use Rattle.ucl_answers.proofs.WholeLines.{line-answers, line-begun, line-evening, said_with, whole-said}
+use Rattle.ucl_answers.proofs.WholeLines.{line-answers, line-begun, line-evening, said_with, shown_with, whole-said}
 use Rattle.ucl_follows.specs.declared.moment.Moment.{Moment}
 use Rattle.ucl_follows.specs.Follow.{club_row, resuming_rows}
 use Rattle.ucl_follows.specs.Resuming.{ResumedRowsOpenTheBoard, opened_at}
@@ -40,12 +40,12 @@ passes-both e f g a b p q = record {
 passes-same : (e f g : Evening) (a b : List ℕ) → Passes e a f → a ≡ b → f ≡ g → Passes e b g
 passes-same e f g a b p text end = subst (λ (h : Evening). Passes e b h) end (subst (λ (t : List ℕ). Passes e t f) text p)
 
-row-passes : (e : Evening) (text : List ℕ) (f : FourFields) → SaysRow text f → answer_said e (Row f) ≡ [] → Passes e text (next e (Row f))
+row-passes : (e : Evening) (text : List ℕ) (f : FourFields) → SaysRow text f → ((shown : List ℕ) → answer_said e (Row f) shown ≡ []) → Passes e text (next e (Row f))
 row-passes e text f says none =
     let line = says.line in
     let row : said_with (begins e) line.front ≡ Row f = sym (whole-said (begins e) text line refl) ∙ says.said e.row in
     record {
-      silent = line-answers (begins e) text line ∙ (ap (answer_said e) row ∙ none);
+      silent = line-answers (begins e) text line ∙ (ap (λ (r : Said). answer_said e r (shown_with (begins e) line.front)) row ∙ none (shown_with (begins e) line.front));
       after = same-moment (moment_after (begins e) text) (begins (next e (Row f))) (line-evening (begins e) text line ∙ ap (next e) row) (line-begun (begins e) text line);
     }
 
@@ -60,7 +60,7 @@ at-same options a b s t p q = rw (p, q) refl
 club-passes : (options : LiveArgs) (row slot : ℕ) (clubs : List NamedClub) (text : List ℕ) (club : NamedClub) → length clubs + 1 ≡ slot → SaysClub slot text club
     → Passes (at options row (Naming clubs)) text (at options (row + 1) (with_clubs (clubs ++ club ∷ [])))
 club-passes options row slot clubs text club here says =
-    let one = row-passes (at options row (Naming clubs)) text says.fields says.says refl in
+    let one = row-passes (at options row (Naming clubs)) text says.fields says.says (λ shown. refl) in
     let is : club_of (length clubs + 1) says.fields ≡ Some club = ap (λ (n : ℕ). club_of n says.fields) here ∙ says.club_is in
     subst (λ (o : Option NamedClub). Passes (at options row (Naming clubs)) text (at options (row + 1) (after_club row clubs o))) is one
 
@@ -109,7 +109,7 @@ word-passes options row index clubs words text word here says =
     let f = says.fields in
     let e = at options row (Restoring clubs words) in
     let still = opened-same clubs words f says.first in
-    let one = row-passes e text f says.says (ap (λ (s : Stage). answer_at options row s (request_of (Row f))) still) in
+    let one = row-passes e text f says.says (λ shown. ap (λ (s : Stage). answer_at options row s (request_of (Row f)) shown) still) in
     let is : word_of_row (length words + 1) f ≡ Some word = ap (λ (n : ℕ). word_of_row n f) here ∙ says.word_is in
     let stage : next_stage row (Restoring clubs words) (Row f) ≡ with_words clubs (words ++ word ∷ []) =
     ap (λ (s : Stage). after_row row s (Row f)) still ∙ ap (λ (o : Option ℕ). after_word row clubs words o) is in

@@ -2,6 +2,7 @@
 use Rattle.std.specs.Prelude.{◌≡◌, ◌<◌, ◌^◌, ℕ, All, Some}
 use Rattle.ucl_board.specs.Words.{AreWords}
 use Rattle.ucl_order.specs.Roster.{IsRoster}
+use Rattle.ucl_screen.specs.declared.night.NightEvent.{NightEvent}
 use Rattle.ucl_screen.specs.Screen.{IsGroup}
 use Rattle.ucl_json.specs.Values.{accepted_value, screen_value}
 use Rattle.ucl_follows.specs.declared.moment.Moment.{Moment}
@@ -15,9 +16,9 @@ pub record IsMoment (m : Moment) : Type 0 where
   pub bits : All (λ word. word < 2 ^ 64) m.board
 
 -- the value of the answer to an accepted event, and that of a screen, tell just their moment
-pub record TellsItsMoment (row game number : ℕ) (m : Moment) : Type 0 where
-  pub reply : moment_told (accepted_value row game number m.profile m.board m.roster m.group) ≡ Some m
+pub record TellsItsMoment (row : ℕ) (event : NightEvent) (number : ℕ) (m : Moment) : Type 0 where
+  pub reply : moment_told (accepted_value row event number m.profile m.board m.roster m.group) ≡ Some m
   pub screen : moment_told (screen_value row m.profile m.board m.roster m.group) ≡ Some m
 
 abbrev pub AnswersTellTheirMoment : Type 0
-AnswersTellTheirMoment = (row game number : ℕ) (m : Moment) → IsMoment m → TellsItsMoment row game number m
+AnswersTellTheirMoment = (row : ℕ) (event : NightEvent) (number : ℕ) (m : Moment) → IsMoment m → TellsItsMoment row event number m

@@ -10,8 +10,11 @@ use Rattle.serde_json.specs.declared.value.Value.{Value}
 use Rattle.serde_json.proofs.OnLiterals.{serde_json_on_literals}
 use Rattle.std.specs.Prelude.{Option, None, Some, Result, Ok, Err}
 use Rattle.ucl_word.specs.declared.event.Accepted.{Accepted}
+use Rattle.ucl_word.specs.declared.record.MatchRecord.{MatchRecord}
 use Rattle.ucl_word.specs.declared.refusal.Refusal.{Refusal}
 use Rattle.ucl_word.specs.Names.{found_of, refusal_code, refusal_name}
+use Rattle.ucl_board.specs.Words.{game_at}
+use Rattle.ucl_screen.specs.declared.night.NightEvent.{NightEvent}
 use Rattle.ucl_order.specs.declared.profile.Profile.{Profile}
 use Rattle.ucl_order.specs.declared.table.Row.{Row}
 use Rattle.ucl_order.specs.Rows.{rows_of}
@@ -101,22 +104,24 @@ unfolding screen_value
 screen-shallow row profile board roster group = let k = places-flat roster (rows_of profile board roster) in rw (words-flat board) (omega (arith, k))
 
 -- a reply
-refused-whole : (row code : ℕ) (name : List ℕ) (found : Option ℕ) → has_float (refused_by row code name found) ≡ false
-refused-whole row code name None = refl
-refused-whole row code name (Some found) = refl
+refused-whole : (row : ℕ) (event : NightEvent) (code : ℕ) (name : List ℕ) (found : Option ℕ) (m : MatchRecord) → has_float (refused_by row event code name found m) ≡ false
+refused-whole row event code name None m = refl
+refused-whole row event code name (Some found) m = refl
 
-refused-shallow : (row code : ℕ) (name : List ℕ) (found : Option ℕ) → depth (refused_by row code name found) ≤ max_depth
-refused-shallow row code name None = omega arith
-refused-shallow row code name (Some found) = omega arith
+refused-shallow : (row : ℕ) (event : NightEvent) (code : ℕ) (name : List ℕ) (found : Option ℕ) (m : MatchRecord) → depth (refused_by row event code name found m) ≤ max_depth
+refused-shallow row event code name None m = omega arith
+refused-shallow row event code name (Some found) m = omega arith
 
-pub reply-whole : (row game : ℕ) (reply : Result Accepted Refusal) (profile : Profile) (board : List ℕ) (roster : List NamedClub) (group : ℕ)
-    → has_float (reply_value row game reply profile board roster group) ≡ false
+pub reply-whole : (row : ℕ) (event : NightEvent) (reply : Result Accepted Refusal) (profile : Profile) (board : List ℕ) (roster : List NamedClub) (group : ℕ)
+    → has_float (reply_value row event reply profile board roster group) ≡ false
 unfolding accepted_value
-reply-whole row game (Ok accepted) profile board roster group = rw (words-items board) refl
-reply-whole row game (Err refusal) profile board roster group = refused-whole row (refusal_code refusal) (refusal_name refusal) (found_of refusal)
+reply-whole row event (Ok accepted) profile board roster group = rw (words-items board) refl
+reply-whole row event (Err refusal) profile board roster group =
+    refused-whole row event (refusal_code refusal) (refusal_name refusal) (found_of refusal) (game_at board event.call.game)
 
-pub reply-shallow : (row game : ℕ) (reply : Result Accepted Refusal) (profile : Profile) (board : List ℕ) (roster : List NamedClub) (group : ℕ)
-    → depth (reply_value row game reply profile board roster group) ≤ max_depth
+pub reply-shallow : (row : ℕ) (event : NightEvent) (reply : Result Accepted Refusal) (profile : Profile) (board : List ℕ) (roster : List NamedClub) (group : ℕ)
+    → depth (reply_value row event reply profile board roster group) ≤ max_depth
 unfolding accepted_value
-reply-shallow row game (Ok accepted) profile board roster group = rw (words-flat board) (omega arith)
-reply-shallow row game (Err refusal) profile board roster group = refused-shallow row (refusal_code refusal) (refusal_name refusal) (found_of refusal)
+reply-shallow row event (Ok accepted) profile board roster group = rw (words-flat board) (omega arith)
+reply-shallow row event (Err refusal) profile board roster group =
+    refused-shallow row event (refusal_code refusal) (refusal_name refusal) (found_of refusal) (game_at board event.call.game)

@@ -4,9 +4,15 @@ use Rattle.std.specs.Prelude.{ℕ, pos, ◌-ℤ◌, List, [], ◌∷◌, codes, 
 use Rattle.serde_json.specs.Data.{Data, Items, item, no_items, Members, member, no_members, array, number, object, put, string, unsigned}
 use Rattle.serde_json.specs.Find.{of_integer}
 use Rattle.ucl_word.specs.declared.event.Accepted.{Accepted}
+use Rattle.ucl_word.specs.declared.event.Kind.{Kind}
+use Rattle.ucl_word.specs.declared.event.Kind.TheVariants.{KickOff, Goal, Disallow, Yellow, SecondYellow, Red, FullTime, Reopen}
+use Rattle.ucl_word.specs.declared.event.Side.TheVariants.{Home, Away}
+use Rattle.ucl_word.specs.declared.record.MatchRecord.{MatchRecord}
+use Rattle.ucl_word.specs.declared.record.State.{State}
+use Rattle.ucl_word.specs.declared.record.State.TheVariants.{Scheduled, InPlay, Finished}
 use Rattle.ucl_word.specs.declared.refusal.Refusal.{Refusal}
 use Rattle.ucl_word.specs.Names.{found_of, refusal_code, refusal_name}
-use Rattle.ucl_board.specs.Words.{version_of}
+use Rattle.ucl_board.specs.Words.{game_at, version_of}
 use Rattle.ucl_order.specs.declared.mark.Mark.{Mark}
 use Rattle.ucl_order.specs.declared.mark.Mark.TheVariants.{Plus, Minus, Blank}
 use Rattle.ucl_order.specs.declared.profile.Profile.{Profile}
@@ -14,6 +20,7 @@ use Rattle.ucl_order.specs.declared.table.Row.{Row}
 use Rattle.ucl_order.specs.Names.{profile_name}
 use Rattle.ucl_order.specs.Roster.{NamedClub, coefficient_of, name_of}
 use Rattle.ucl_order.specs.Rows.{rows_of}
+use Rattle.ucl_screen.specs.declared.night.NightEvent.{NightEvent}
 use Rattle.ucl_screen.specs.Screen.{in_play}
 use Rattle.ucl_screen.specs.Numbers.{hex_digits}
 
@@ -37,54 +44,114 @@ club_value roster slot = object (
 abbrev pub club_items : List NamedClub → Items
 club_items roster = item (club_value roster 1) (item (club_value roster 2) (item (club_value roster 3) (item (club_value roster 4) no_items)))
 
+-- ---- a match as it stands
+
+abbrev pub state_name : State → List ℕ
+state_name Scheduled = codes "SCHEDULED"
+state_name InPlay = codes "IN PLAY"
+state_name Finished = codes "FINISHED"
+
+-- a number of the home side and one of the visiting side
+abbrev pub sides_value : ℕ → ℕ → Data
+sides_value home away = array (item (number_value home) (item (number_value away) no_items))
+
+-- the match with this number; its reporter is that of its last event, 0 where it has none
+abbrev pub match_value : ℕ → MatchRecord → Data
+match_value game m = object (
+    member (codes "expulsions") (sides_value m.home_expulsions m.away_expulsions) (
+    member (codes "match") (number_value game) (
+    member (codes "number") (number_value m.number) (
+    member (codes "reporter") (number_value m.reporter) (
+    member (codes "score") (sides_value m.home_goals m.away_goals) (
+    member (codes "state") (string (state_name m.state)) (
+    member (codes "yellows") (sides_value m.home_yellows m.away_yellows) no_members)))))))
+
 -- ---- replies
 
--- the reply to an event that was entered, with the group, its order and clubs, and the board after the event
-unfoldable pub accepted_value : ℕ → ℕ → ℕ → Profile → List ℕ → List NamedClub → ℕ → Data
-accepted_value row game event_number profile board roster group = object (
+-- the name by which a row asks for an event of this kind
+abbrev pub kind_name : Kind → List ℕ
+kind_name KickOff = codes "kickoff"
+kind_name (Goal Home) = codes "goal-home"
+kind_name (Goal Away) = codes "goal-away"
+kind_name (Disallow Home) = codes "disallow-home"
+kind_name (Disallow Away) = codes "disallow-away"
+kind_name (Yellow Home) = codes "yellow-home"
+kind_name (Yellow Away) = codes "yellow-away"
+kind_name (SecondYellow Home) = codes "second-yellow-home"
+kind_name (SecondYellow Away) = codes "second-yellow-away"
+kind_name (Red Home) = codes "red-home"
+kind_name (Red Away) = codes "red-away"
+kind_name FullTime = codes "fulltime"
+kind_name Reopen = codes "reopen"
+
+-- the reply to an event that was entered, with the row as it was read, the group, its order and clubs, and the board after the event
+unfoldable pub accepted_value : ℕ → NightEvent → ℕ → Profile → List ℕ → List NamedClub → ℕ → Data
+accepted_value row event event_number profile board roster group = object (
     member (codes "clubs") (array (club_items roster)) (
+    member (codes "event") (string (kind_name event.call.kind)) (
+    member (codes "expected") (number_value event.call.expected) (
     member (codes "group") (string (group ∷ [])) (
-    member (codes "match") (number_value game) (
+    member (codes "match") (number_value event.call.game) (
     member (codes "number") (number_value event_number) (
     member (codes "order") (string (profile_name profile)) (
     member (codes "reply") (string (codes "ok")) (
+    member (codes "reporter") (number_value event.reporter) (
     member (codes "row") (number_value row) (
     member (codes "version") (number_value (version_of board)) (
-    member (codes "words") (array (word_items board)) no_members)))))))))
+    member (codes "words") (array (word_items board)) no_members))))))))))))
 
--- the reply to a row that is refused
-abbrev pub coded_value : ℕ → ℕ → List ℕ → Data
-coded_value row code name = object (
+-- the reply to an event that is refused, with the row as it was read
+abbrev pub coded_value : ℕ → NightEvent → ℕ → List ℕ → Data
+coded_value row event code name = object (
     member (codes "code") (number_value code) (
+    member (codes "event") (string (kind_name event.call.kind)) (
+    member (codes "expected") (number_value event.call.expected) (
+    member (codes "match") (number_value event.call.game) (
     member (codes "name") (string name) (
     member (codes "reply") (string (codes "refused")) (
-    member (codes "row") (number_value row) no_members))))
+    member (codes "reporter") (number_value event.reporter) (
+    member (codes "row") (number_value row) no_members))))))))
 
--- the same with the number that was found
-abbrev pub numbered_value : ℕ → ℕ → List ℕ → ℕ → Data
-numbered_value row code name found = object (
+-- the same with the number that was found, and the match as it stands
+abbrev pub numbered_value : ℕ → NightEvent → ℕ → List ℕ → ℕ → MatchRecord → Data
+numbered_value row event code name found m = object (
     member (codes "code") (number_value code) (
+    member (codes "event") (string (kind_name event.call.kind)) (
+    member (codes "expected") (number_value event.call.expected) (
+    member (codes "match") (number_value event.call.game) (
     member (codes "name") (string name) (
     member (codes "number") (number_value found) (
     member (codes "reply") (string (codes "refused")) (
-    member (codes "row") (number_value row) no_members)))))
+    member (codes "reporter") (number_value event.reporter) (
+    member (codes "row") (number_value row) (
+    member (codes "stands") (match_value event.call.game m) no_members))))))))))
 
-abbrev pub refused_by : ℕ → ℕ → List ℕ → Option ℕ → Data
-refused_by row code name None = coded_value row code name
-refused_by row code name (Some found) = numbered_value row code name found
+abbrev pub refused_by : ℕ → NightEvent → ℕ → List ℕ → Option ℕ → MatchRecord → Data
+refused_by row event code name None m = coded_value row event code name
+refused_by row event code name (Some found) m = numbered_value row event code name found m
 
--- the reply to an event that is refused
-abbrev pub refused_value : ℕ → Refusal → Data
-refused_value row refusal = refused_by row (refusal_code refusal) (refusal_name refusal) (found_of refusal)
+-- the reply to an event that is refused, where its match stands so
+abbrev pub refused_value : ℕ → NightEvent → Refusal → MatchRecord → Data
+refused_value row event refusal m = refused_by row event (refusal_code refusal) (refusal_name refusal) (found_of refusal) m
 
 -- the reply to an event, with the board after it
-abbrev pub reply_value : ℕ → ℕ → Result Accepted Refusal → Profile → List ℕ → List NamedClub → ℕ → Data
-reply_value row game (Ok accepted) profile board roster group = accepted_value row game accepted.number profile board roster group
-reply_value row game (Err refusal) profile board roster group = refused_value row refusal
+abbrev pub reply_value : ℕ → NightEvent → Result Accepted Refusal → Profile → List ℕ → List NamedClub → ℕ → Data
+reply_value row event (Ok accepted) profile board roster group = accepted_value row event accepted.number profile board roster group
+reply_value row event (Err refusal) profile board roster group = refused_value row event refusal (game_at board event.call.game)
+
+-- a refusal of a row for one of its fields, with the text that came
+abbrev pub bad_value : ℕ → ℕ → List ℕ → List ℕ → List ℕ → Data
+bad_value row code name field text = object (
+    member (codes "code") (number_value code) (
+    member (codes "field") (string field) (
+    member (codes "name") (string name) (
+    member (codes "reply") (string (codes "refused")) (
+    member (codes "row") (number_value row) (
+    member (codes "text") (string text) no_members))))))
 
 -- the reply to a row that asks for nothing that there is
-abbrev pub bad_row_value : ℕ → Data
-bad_row_value row = coded_value row 20 (codes "bad-row")
+abbrev pub bad_row_value : ℕ → List ℕ → List ℕ → Data
+bad_row_value row field text = bad_value row 20 (codes "bad-row") field text
 
 -- ---- words
 

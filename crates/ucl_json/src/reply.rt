@@ -1,10 +1,11 @@
-//! Replies to events.
+//! Replies to rows.
 
-ghost use Rattle.std.specs.Prelude.{◌≡◌, ◌≤◌, [], ◌∷◌, IfOk, length, string_bytes};
+ghost use Rattle.std.specs.Prelude.{◌≡◌, ◌≤◌, [], ◌∷◌, IfOk, Some, length, string_bytes};
 ghost use Rattle.serde_json.specs.View.{view};
+ghost use Rattle.ucl_word.specs.Names.{kind_named};
 ghost use Rattle.ucl_screen.specs.Screen.{IsGroup};
 ghost use Rattle.ucl_json.specs.Lines.{IsLineOf};
-ghost use Rattle.ucl_json.specs.Values.{accepted_value, bad_row_value, coded_value, numbered_value, refused_value, reply_value};
+ghost use Rattle.ucl_json.specs.Values.{accepted_value, bad_row_value, bad_value, coded_value, kind_name, match_value, numbered_value, refused_value, reply_value, state_name};
 
 use crate::clubs::club_values;
 use crate::line::line_of;
@@ -14,14 +15,64 @@ use serde_json::{Value, json};
 use std::alloc::{AllocError, Global};
 use ucl_board::Board;
 use ucl_order::{Profile, Roster};
-use ucl_word::{Accepted, Refusal};
+use ucl_screen::NightEvent;
+use ucl_word::{Accepted, Kind, MatchNo, MatchRecord, Refusal, Side, State};
+
+/// The name of a state.
+fn state_name(state: State) -> &'static str
+    ensures { result.now ≡ state_name state }
+{
+    match state {
+        State::Scheduled => "SCHEDULED",
+        State::InPlay => "IN PLAY",
+        State::Finished => "FINISHED",
+    }
+}
+
+/// The name by which a row asks for an event of this kind.
+#[tactic(auto, unfolding(ucl_word::specs::Names::kind_named))]
+fn kind_name(kind: Kind) -> &'static str
+    ensures name { result.now ≡ kind_name kind }
+    ensures named { kind_named result.now ≡ Some kind }
+{
+    match kind {
+        Kind::KickOff => "kickoff",
+        Kind::Goal(Side::Home) => "goal-home",
+        Kind::Goal(Side::Away) => "goal-away",
+        Kind::Disallow(Side::Home) => "disallow-home",
+        Kind::Disallow(Side::Away) => "disallow-away",
+        Kind::Yellow(Side::Home) => "yellow-home",
+        Kind::Yellow(Side::Away) => "yellow-away",
+        Kind::SecondYellow(Side::Home) => "second-yellow-home",
+        Kind::SecondYellow(Side::Away) => "second-yellow-away",
+        Kind::Red(Side::Home) => "red-home",
+        Kind::Red(Side::Away) => "red-away",
+        Kind::FullTime => "fulltime",
+        Kind::Reopen => "reopen",
+    }
+}
+
+/// A match as it stands.
+fn match_value(alloc: Global, game: MatchNo, m: &MatchRecord) -> Result<Value, AllocError>
+    ensures { IfOk result (λ value. view value ≡ match_value game m.now) }
+{
+    json!(in alloc; {
+        "match": game.get(),
+        "number": m.number,
+        "state": state_name(m.state),
+        "score": [m.home_goals, m.away_goals],
+        "yellows": [m.home_yellows, m.away_yellows],
+        "expulsions": [m.home_expulsions, m.away_expulsions],
+        "reporter": m.reporter
+    })
+}
 
 /// The reply to an event that was entered, with the board after it.
 #[tactic(auto, unfolding(crate::specs::Values::accepted_value))]
 fn accepted_value(
     alloc: Global,
     row: u64,
-    game: u8,
+    event: &NightEvent,
     number: u16,
     board: &Board,
     roster: &Roster,
@@ -30,14 +81,17 @@ fn accepted_value(
 ) -> Result<Value, AllocError>
     requires { IsGroup group }
     ensures { IfOk result (λ value. view value
-        ≡ accepted_value row game number profile board.now roster.now group) }
+        ≡ accepted_value row event.now number profile board.now roster.now group) }
 {
     let clubs = club_values(alloc, roster)?;
     let words = word_values(alloc, board.words().as_slice())?;
     json!(in alloc; {
         "row": row,
         "reply": "ok",
-        "match": game,
+        "reporter": event.reporter.get(),
+        "match": event.call.game.get(),
+        "expected": event.call.expected,
+        "event": kind_name(event.call.kind),
         "number": number,
         "version": board.version(),
         "group": letter_of(group),
@@ -47,46 +101,76 @@ fn accepted_value(
     })
 }
 
-/// The reply to a row that is refused.
-fn coded_value(alloc: Global, row: u64, code: u8, name: &str) -> Result<Value, AllocError>
-    ensures { IfOk result (λ value. view value ≡ coded_value row code name.now) }
-{
-    json!(in alloc; {"row": row, "reply": "refused", "code": code, "name": name})
-}
-
-/// The reply to an event that is refused for its number, with the number that was found.
-fn numbered_value(
+/// The reply to an event that is refused.
+fn coded_value(
     alloc: Global,
     row: u64,
+    event: &NightEvent,
     code: u8,
     name: &str,
-    found: u16,
 ) -> Result<Value, AllocError>
-    ensures { IfOk result (λ value. view value ≡ numbered_value row code name.now found) }
+    ensures { IfOk result (λ value. view value ≡ coded_value row event.now code name.now) }
 {
     json!(in alloc; {
         "row": row,
         "reply": "refused",
+        "reporter": event.reporter.get(),
+        "match": event.call.game.get(),
+        "expected": event.call.expected,
+        "event": kind_name(event.call.kind),
         "code": code,
-        "name": name,
-        "number": found
+        "name": name
     })
 }
 
-/// The reply to an event that is refused.
-fn refused_value(alloc: Global, row: u64, refusal: Refusal) -> Result<Value, AllocError>
-    ensures { IfOk result (λ value. view value ≡ refused_value row refusal) }
+/// The reply to an event that is refused for its number, with the number that was found and the match as it stands.
+fn numbered_value(
+    alloc: Global,
+    row: u64,
+    event: &NightEvent,
+    code: u8,
+    name: &str,
+    found: u16,
+    m: &MatchRecord,
+) -> Result<Value, AllocError>
+    ensures { IfOk result (λ value. view value
+        ≡ numbered_value row event.now code name.now found m.now) }
+{
+    let stands = match_value(alloc, event.call.game, m)?;
+    json!(in alloc; {
+        "row": row,
+        "reply": "refused",
+        "reporter": event.reporter.get(),
+        "match": event.call.game.get(),
+        "expected": event.call.expected,
+        "event": kind_name(event.call.kind),
+        "code": code,
+        "name": name,
+        "number": found,
+        "stands": stands
+    })
+}
+
+/// The reply to an event that is refused, where its match stands so.
+fn refused_value(
+    alloc: Global,
+    row: u64,
+    event: &NightEvent,
+    refusal: Refusal,
+    m: &MatchRecord,
+) -> Result<Value, AllocError>
+    ensures { IfOk result (λ value. view value ≡ refused_value row event.now refusal m.now) }
 {
     let code = refusal.code();
     let name = refusal.name();
     match refusal.found() {
-        Some(found) => numbered_value(alloc, row, code, name, found),
-        None => coded_value(alloc, row, code, name),
+        Some(found) => numbered_value(alloc, row, event, code, name, found, m),
+        None => coded_value(alloc, row, event, code, name),
     }
 }
 
-/// The line of the reply to an event of a match, with the board after the event. Where the event was entered, the line stands for itself:
-/// the group, its order, the clubs and the words of that board are in it.
+/// The line of the reply to an event, with the row as it was read, and the board after the event. Where the event was entered, the line stands
+/// for itself: the group, its order, the clubs and the words of that board are in it. Where it is stale, its match as it stands is in it.
 ///
 /// # Errors
 ///
@@ -94,7 +178,7 @@ fn refused_value(alloc: Global, row: u64, refusal: Refusal) -> Result<Value, All
 pub fn reply_json(
     alloc: Global,
     row: u64,
-    game: u8,
+    event: &NightEvent,
     reply: Result<Accepted, Refusal>,
     board: &Board,
     roster: &Roster,
@@ -103,33 +187,55 @@ pub fn reply_json(
 ) -> Result<String, AllocError>
     requires { IsGroup group }
     ensures { IfOk result (λ line.
-        IsLineOf (reply_value row game reply profile board.now roster.now group)
+        IsLineOf (reply_value row event.now reply profile board.now roster.now group)
         (string_bytes line)) }
 {
     let value = match reply {
         Ok(accepted) => accepted_value(
             alloc,
             row,
-            game,
+            event,
             accepted.number,
             board,
             roster,
             group,
             profile,
         )?,
-        Err(refusal) => refused_value(alloc, row, refusal)?,
+        Err(refusal) => refused_value(alloc, row, event, refusal, &board.game(event.call.game))?,
     };
     line_of(alloc, &value)
 }
 
-/// The line of the reply to a row that asks for nothing that there is.
+/// The refusal of a row for one of its fields, with the text that came.
+fn bad_value(
+    alloc: Global,
+    row: u64,
+    code: u8,
+    name: &str,
+    field: &str,
+    text: &str,
+) -> Result<Value, AllocError>
+    ensures { IfOk result (λ value. view value ≡ bad_value row code name.now field.now text.now) }
+{
+    json!(in alloc; {
+        "row": row,
+        "reply": "refused",
+        "code": code,
+        "name": name,
+        "field": field,
+        "text": text
+    })
+}
+
+/// The line of the reply to a row that asks for nothing that there is: which field is none, and the text that came.
 ///
 /// # Errors
 ///
 /// Where there is no memory.
-pub fn bad_row_json(alloc: Global, row: u64) -> Result<String, AllocError>
-    ensures { IfOk result (λ line. IsLineOf (bad_row_value row) (string_bytes line)) }
+pub fn bad_row_json(alloc: Global, row: u64, field: &str, text: &str) -> Result<String, AllocError>
+    ensures { IfOk result (λ line. IsLineOf (bad_row_value row field.now text.now)
+        (string_bytes line)) }
 {
-    let value = coded_value(alloc, row, 20, "bad-row")?;
+    let value = bad_value(alloc, row, 20, "bad-row", field, text)?;
     line_of(alloc, &value)
 }

@@ -146,7 +146,7 @@ const ROWS: &str = "1,1,0,kickoff\n1,1,0,kickoff\n";
 const TEXT: &str = "5 ok 1 1 1\n6 refused 1 stale 1\n";
 
 const STALE: &str =
-    "{\"code\":1,\"name\":\"stale\",\"number\":1,\"reply\":\"refused\",\"row\":6}\n";
+    "{\"code\":1,\"event\":\"kickoff\",\"expected\":0,\"match\":1,\"name\":\"stale\",\"number\":1,\"reply\":\"refused\",\"reporter\":1,\"row\":6,\"stands\":{\"expulsions\":[0,0],\"match\":1,\"number\":1,\"reporter\":1,\"score\":[0,0],\"state\":\"IN PLAY\",\"yellows\":[0,0]}}\n";
 
 #[test]
 fn evenings_end_well(rt: HostRuntime) -> Result<(), Fail> {

@@ -79,11 +79,11 @@ fn in_json(rt: HostRuntime) -> Result<(), Fail> {
         ("1,1,0,kickoff\n", first.as_str()),
         (
             "1,1,0,kickoff\n",
-            "{\"code\":1,\"name\":\"stale\",\"number\":1,\"reply\":\"refused\",\"row\":6}\n",
+            "{\"code\":1,\"event\":\"kickoff\",\"expected\":0,\"match\":1,\"name\":\"stale\",\"number\":1,\"reply\":\"refused\",\"reporter\":1,\"row\":6,\"stands\":{\"expulsions\":[0,0],\"match\":1,\"number\":1,\"reporter\":1,\"score\":[0,0],\"state\":\"IN PLAY\",\"yellows\":[0,0]}}\n",
         ),
         (
             "1,1,0\n",
-            "{\"code\":20,\"name\":\"bad-row\",\"reply\":\"refused\",\"row\":7}\n",
+            "{\"code\":20,\"field\":\"fields\",\"name\":\"bad-row\",\"reply\":\"refused\",\"row\":7,\"text\":\"1,1,0\"}\n",
         ),
         ("1,1,1,goal-home\n", second.as_str()),
         ("screen,,,\n", screen.as_str()),

@@ -13,12 +13,13 @@ const ROWS: &str =
 
 /// The answers to these rows, but those that tell a moment.
 const REFUSALS: &str = "\
-{\"code\":1,\"name\":\"stale\",\"number\":1,\"reply\":\"refused\",\"row\":6}
-{\"code\":20,\"name\":\"bad-row\",\"reply\":\"refused\",\"row\":7}
-{\"code\":3,\"name\":\"not-started\",\"reply\":\"refused\",\"row\":8}
+{\"code\":1,\"event\":\"kickoff\",\"expected\":0,\"match\":1,\"name\":\"stale\",\"number\":1,\"reply\":\"refused\",\"reporter\":1,\"row\":6,\"stands\":{\"expulsions\":[0,0],\"match\":1,\"number\":1,\"reporter\":1,\"score\":[0,0],\"state\":\"IN PLAY\",\"yellows\":[0,0]}}
+{\"code\":20,\"field\":\"fields\",\"name\":\"bad-row\",\"reply\":\"refused\",\"row\":7,\"text\":\"1,1,0\"}
+{\"code\":3,\"event\":\"goal-home\",\"expected\":0,\"match\":2,\"name\":\"not-started\",\"reply\":\"refused\",\"reporter\":2,\"row\":8}
 ";
 
-const NO_GOAL: &str = "{\"code\":6,\"name\":\"no-goal\",\"reply\":\"refused\",\"row\":11}\n";
+const NO_GOAL: &str =
+    "{\"code\":6,\"event\":\"disallow-away\",\"expected\":2,\"match\":1,\"name\":\"no-goal\",\"reply\":\"refused\",\"reporter\":1,\"row\":11}\n";
 
 /// The words of all matches but the first, and the end of their array.
 const OTHER_WORDS: &str =
@@ -29,9 +30,15 @@ pub(crate) const KICKED_OFF: &str = "2001000000001001";
 
 pub(crate) const ONE_GOAL: &str = "2001000000005002";
 
-/// The clubs, from the name of the second on, and the group.
+/// The clubs, from the name of the second on.
 const OTHER_CLUBS: &str =
-    ",\"coefficient\":60000},{\"club\":\"Bravo\",\"coefficient\":95000},{\"club\":\"Charlie\",\"coefficient\":60000},{\"club\":\"Delta\",\"coefficient\":81500}],\"group\":\"A\"";
+    ",\"coefficient\":60000},{\"club\":\"Bravo\",\"coefficient\":95000},{\"club\":\"Charlie\",\"coefficient\":60000},{\"club\":\"Delta\",\"coefficient\":81500}]";
+
+/// What is asked for, where a match kicks off that has no event, and where the home side has a goal in a match that has one.
+const ASKED: [&str; 2] = [
+    ",\"event\":\"kickoff\",\"expected\":0",
+    ",\"event\":\"goal-home\",\"expected\":1",
+];
 
 /// The places of the table after them, in two parts.
 const FIRST_PLACES: &str =
@@ -48,7 +55,7 @@ pub(crate) fn screen_at(alloc: Global, row: &str, name: &str) -> Result<String, 
             "{\"clubs\":[{\"club\":",
             name,
             OTHER_CLUBS,
-            ",\"in_play\":1,\"order\":\"uefa\",\"reply\":\"screen\",\"row\":",
+            ",\"group\":\"A\",\"in_play\":1,\"order\":\"uefa\",\"reply\":\"screen\",\"row\":",
             row,
             ",\"table\":[",
             FIRST_PLACES,
@@ -64,7 +71,7 @@ pub(crate) fn screen_at(alloc: Global, row: &str, name: &str) -> Result<String, 
     Ok(text)
 }
 
-/// The reply to an accepted event of match 1 at a row, which is its event of this number, and the word after it.
+/// The reply to an accepted event of match 1 at a row, which is its event of this number, 1 or 2, and the word after it.
 pub(crate) fn accepted(
     alloc: Global,
     row: &str,
@@ -78,9 +85,10 @@ pub(crate) fn accepted(
             "{\"clubs\":[{\"club\":",
             name,
             OTHER_CLUBS,
-            ",\"match\":1,\"number\":",
+            ASKED[usize::from(number == "2")],
+            ",\"group\":\"A\",\"match\":1,\"number\":",
             number,
-            ",\"order\":\"uefa\",\"reply\":\"ok\",\"row\":",
+            ",\"order\":\"uefa\",\"reply\":\"ok\",\"reporter\":1,\"row\":",
             row,
             ",\"version\":",
             number,

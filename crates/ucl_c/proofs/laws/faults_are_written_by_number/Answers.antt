@@ -21,7 +21,7 @@ faults = record {
   inputs = by_number;
   memory = refl;
   full = refl;
-  rows = λ row. record { name = codes "bad-row"; named = refl; answered = refl };
+  rows = λ row. record { name = codes "bad-row"; named = refl; answered = λ field text. refl };
 }
 
 pub returns : goal.returns
