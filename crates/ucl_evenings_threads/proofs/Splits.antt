@@ -1,5 +1,5 @@
 -- Shares that are split off, one after the other.
-use Rattle.std.proofs.Common.{◌≡◌, List, [], ◌∷◌, ◌++◌, map, refl, sym, ap, ◌∙◌, subst}
+use Rattle.std.proofs.Common.{◌≡◌, List, [], ◌∷◌, ◌++◌, ℕ, zero, suc, map, get_or, set, refl, sym, ap, ◌∙◌, subst}
 use Rattle.std.specs.List.{AllZip}
 use Rattle.ucl_shared.specs.Passes.{PassView}
 use Rattle.ucl_shared.specs.Shares.{Share, first_half, second_half}
@@ -41,3 +41,8 @@ maps_same P f g same [] (y ∷ ys) h = absurd h
 maps_same P f g same (x ∷ xs) [] h = absurd h
 maps_same P f g same (x ∷ xs) (y ∷ ys) h =
     ap (λ (s : Share). s ∷ map g ys) (same x y h.0) ∙ ap (λ (l : List Share). f x ∷ l) (maps_same P f g same xs ys h.1)
+
+pub map_set_same : {X : Type 0} (f : X → Share) (xs : List X) (i : ℕ) (d y : X) → f y ≡ f (get_or xs i d) → map f (set xs i y) ≡ map f xs
+map_set_same f [] i d y same = refl
+map_set_same f (x ∷ xs) zero d y same = ap (λ (s : Share). s ∷ map f xs) same
+map_set_same f (x ∷ xs) (suc i) d y same = ap (λ (l : List Share). f x ∷ l) (map_set_same f xs i d y same)

@@ -74,6 +74,9 @@ unfoldable pub WereSplitOff : Share → List Share → Share → Type 0
 WereSplitOff share [] left = left ≡ share
 WereSplitOff share (part ∷ parts) left = (part ≡ second_half share) × WereSplitOff (first_half share) parts left
 
+abbrev pub shares_of : {B R P N : Type 0} → boards.Ghosts B R P N → List P → List Share
+shares_of {B} {R} {P} {N} live passes = map (λ (pass : P). (live.reporter pass).share) passes
+
 abbrev pub shares_enlisted : {B R P N S W : Type 0} → boards.Ghosts B R P N → List (Enlisted P S W) → List Share
 shares_enlisted {B} {R} {P} {N} {S} {W} live all = map (λ (enlisted : Enlisted P S W). (live.reporter enlisted.pass).share) all
 
