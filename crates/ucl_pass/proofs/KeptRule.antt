@@ -1,7 +1,7 @@
 -- Each kind of step on the cell keeps the rule, and tells its pass what it says.
-use Rattle.std.proofs.Common.{◌≡◌, ◌≢◌, inl, inr, ⊎_elim, ℕ, zero, suc, ◌+◌, ◌-◌, ◌<◌, ◌≤◌, Bool, true, false, Option, Some, None, List, [], ◌∷◌, ◌++◌, length, set, take, nat_eq, get_or}
+use Rattle.std.proofs.Common.{◌≡◌, ◌≢◌, inl, inr, ℕ, zero, suc, ◌+◌, ◌-◌, ◌<◌, ◌≤◌, true, false, Option, Some, None, List, ◌∷◌, ◌++◌, length, set, take, nat_eq, get_or, []}
 use Rattle.std.proofs.Common.{if◌then◌else◌, refl, sym, ap, ◌∙◌, subst, arith, le_refl, append-nil, length-append, length-set, true≢false}
-use Rattle.std.specs.Prelude.{slice_index, Result, Ok, Err, MatchResult, IsSome}
+use Rattle.std.specs.Prelude.{slice_index, Result, MatchResult, IsSome}
 use mathlib.Core.Option.{some}
 use lib.ListN.{get_elem?}
 use lib.Pointwise.{pointwise, bytes_decides}
@@ -21,7 +21,7 @@ use Rattle.ucl_board.proofs.Histories.{board_length, word_after}
 use Rattle.ucl_board.proofs.HistoryLaws.{one_word}
 use Rattle.ucl_board.proofs.Beginnings.{begins_length}
 use Rattle.ucl_shared.specs.declared.view.View.{View}
-use Rattle.ucl_shared.specs.Views.{newcomer, opener}
+use Rattle.ucl_shared.specs.Views.{opener}
 use Rattle.ucl_shared.specs.OneHistory.{KeepsOneHistory}
 use Rattle.ucl_shared.specs.Steps.{Enlists}
 use Rattle.ucl_steps.specs.declared.step.Caller.{Caller}
@@ -43,7 +43,7 @@ use Rattle.ucl_shared.proofs.KeptRule.{looked, look_keeps, look_tells, same_hist
 use Rattle.ucl_shared.proofs.KeptRule.{second_added, note_added, note_joined, opens, look_same, add_same, enlist_same, second_same, note_same, joined_same, opens_same}
 use Rattle.ucl_shared.proofs.KeptBoards.{apart, low, Kept, kept, one_more, joined}
 use Rattle.ucl_pass.proofs.Bursts.{reading_at_once, refused_at_once, accepted_at_once}
-use Rattle.ucl_steps.proofs.Seats.{map_at, map_there, map_set, map_more, map_long, set_same, place_below}
+use Rattle.ucl_steps.proofs.Seats.{map_at, map_set, set_same, place_below}
 use Rattle.ucl_steps.proofs.ActorRuns.{Burst, Apart, run_burst, run_enlisted, run_more, run_begins}
 
 -- the thirteen words
@@ -59,9 +59,6 @@ last_word h n = refl
 more_words : (h : List Entry) (n : ℕ) → with_one_more (words_after h n) ≡ words_after h (n + 1)
 unfolding board_of
 more_words h n = refl
-
-pub one_more_last : (h : List Entry) (n : ℕ) → slice_index (with_one_more (words_after h n)) 12 ≡ n + 1
-one_more_last h n = ap (λ (ws : List ℕ). slice_index ws 12) (more_words h n) ∙ last_word h (n + 1)
 
 -- a match word among the thirteen
 
@@ -164,11 +161,7 @@ module _ (x : List ℕ) (views : List CellView) (r : CellKeepsOneHistory x views
     load_tells shown =
         let f = r.shared.fits seat v.pass at_seat in
         record {
-          seen_all = record {
-            words_are = r.shared.words_are ∙ ap (λ (h : List Entry). words_after h r.shared.enlisted) (sym (load_same shown));
-            listed = f.listed;
-            up_to_date = refl;
-          };
+          seen_all = search (arith, load_same);
           sees = look_tells words_after x (views_known views) r.shared seat v.pass at_seat acts target there r.shared.enlisted shown (le_refl r.shared.enlisted);
           shown_is = refl;
         }
@@ -359,11 +352,7 @@ module _ (x next : List ℕ) (views : List CellView) (r : CellKeepsOneHistory x 
   store_tells =
       let f = r.shared.fits seat v.pass known_here in
       record {
-        seen_all = record {
-          words_are = next_is.0 ∙ ap (λ (h : List Entry). words_after h r.shared.enlisted) (sym longer);
-          listed = f.listed;
-          up_to_date = refl;
-        };
+        seen_all = search (arith, next_is, longer);
         adds = add_tells words_after x (views_known views) r.shared seat v.pass known_here acts entry (word_at x e.game) there_now pos refl next_is.1 r.shared.enlisted (le_refl r.shared.enlisted);
         before = history_of r.shared.log;
         legal = r.shared.legal;

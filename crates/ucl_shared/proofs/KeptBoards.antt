@@ -1,5 +1,5 @@
 -- What the rules of both boards share: the rule of every shared board beside a run of the actors of its passes, whatever views, actors and runs are.
-use Rattle.std.proofs.Common.{◌≡◌, ℕ, zero, suc, ◌+◌, ◌<◌, ◌≤◌, List, [], ◌∷◌, ◌++◌, length, map, set, refl, sym, ap, ◌∙◌, subst, arith, length-append, length-set}
+use Rattle.std.proofs.Common.{◌≡◌, ℕ, zero, suc, ◌+◌, ◌<◌, ◌≤◌, List, ◌∷◌, ◌++◌, length, map, set, refl, sym, ap, ◌∙◌, subst, arith, length-append, length-set, []}
 use Rattle.std.proofs.lemmas.List.{map-set, map-append, length-map}
 use mathlib.Core.Option.{some, some-ne-none, some-injective}
 use lib.ListN.{get_elem?}
@@ -66,8 +66,7 @@ module _ (words_after : List Entry → ℕ → List ℕ) {V A : Type 0} (pass : 
           let long = length-append (set views seat u) (w ∷ []) in
           let wide = length-set views seat u in
           let actors = length-map views actor in
-          let are : map actor (set views seat u ++ w ∷ []) ≡ map actor views ++ none ∷ [] =
-          map-append actor (set views seat u) (w ∷ []) ∙ (ap (λ (l : List A). l ++ actor w ∷ []) (still u same) ∙ ap (λ (a : A). map actor views ++ a ∷ []) is) in
+          let are : map actor (set views seat u ++ w ∷ []) ≡ map actor views ++ none ∷ [] = search (arith, map-append, still) in
           subst (Run readers r.enlisted r.log) (sym are) (more readers (map actor views) (runs readers (omega arith)) (omega arith)))
 
       -- one pass took another in, which is then another one: both with the same actors
@@ -79,6 +78,5 @@ module _ (words_after : List Entry → ℕ → List ℕ) {V A : Type 0} (pass : 
           (λ readers all.
           let wide = length-set views seat u in
           let wider = length-set (set views seat u) other w in
-          let are : map actor (set (set views seat u) other w) ≡ map actor views =
-          map-set actor (set views seat u) other w ∙ (set_again (map actor (set views seat u)) other (actor w) (at_map actor (set views seat u) other z there ∙ ap some (sym is)) ∙ still u same) in
+          let are : map actor (set (set views seat u) other w) ≡ map actor views = search (arith, map-set, set_again, at_map, still) in
           subst (Run readers r.enlisted r.log) (sym are) (runs readers (omega arith)))

@@ -1,5 +1,5 @@
 -- Each kind of atomic step on the table keeps the rule, and tells its pass what it says.
-use Rattle.std.proofs.Common.{◌≡◌, Some, ℕ, zero, suc, ◌+◌, ◌-◌, ◌==◌, ◌<◌, ◌≤◌, List, [], ◌∷◌, ◌++◌, length, set, get_or, refl, sym, ap, ◌∙◌, subst, arith, append-nil, length-append, length-set}
+use Rattle.std.proofs.Common.{◌≡◌, Some, ℕ, ◌+◌, ◌-◌, ◌==◌, ◌<◌, ◌≤◌, List, ◌∷◌, ◌++◌, length, set, get_or, refl, sym, ap, ◌∙◌, subst, arith, append-nil, length-append, length-set, []}
 use Rattle.std.specs.Prelude.{IsSome}
 use Rattle.std.proofs.lemmas.List.{set-get_or}
 use mathlib.Core.Option.{none, some}
@@ -18,7 +18,7 @@ use Rattle.ucl_board.specs.History.{match_after, board_of, IsLegal, followed_by,
 use Rattle.ucl_board.specs.Log.{AccessKind, Look, First, Second, Swap, Target, Match, Enlisted, history_of, Access, access, Taken, Log, IsThere}
 use Rattle.ucl_board.proofs.Histories.{word_after, board_with}
 use Rattle.ucl_shared.specs.declared.view.View.{View}
-use Rattle.ucl_shared.specs.Views.{newcomer, opener}
+use Rattle.ucl_shared.specs.Views.{opener}
 use Rattle.ucl_shared.specs.OneHistory.{KeepsOneHistory}
 use Rattle.ucl_shared.specs.Steps.{Enlists}
 use Rattle.ucl_shared.proofs.KeptRule.{logged, look, looked, same_history, look_keeps, look_same, look_tells, add, entered, longer_history, add_keeps, add_same, add_tells, count, enlisted_as}
@@ -35,7 +35,7 @@ use Rattle.ucl_steps.specs.PassRuns.{cast_for, FitsRun, steps_of_moves}
 use Rattle.ucl_steps.specs.Actors.{Actor, IsTakenBy, accesses_of_log, IsRunOfLog}
 use Rattle.ucl_steps.proofs.OneStep.{IsNow}
 use Rattle.ucl_steps.proofs.PassSteps.{Turn, turn_look, turn_firsts, turn_seconds, turn_swapped, turn_kept_out}
-use Rattle.ucl_steps.proofs.Seats.{map_at, map_there, map_set, map_more, map_long, set_same, place_below}
+use Rattle.ucl_steps.proofs.Seats.{map_at, map_set, set_same, place_below}
 use Rattle.ucl_steps.proofs.ActorRuns.{Apart, logged_accesses, log_kept, log_stepped, log_enlisted, log_more, log_begins}
 use Rattle.ucl_words.specs.declared.view.WordView.{WordView}
 use Rattle.ucl_words.specs.WordViews.{new_pass, first_pass, left_pass, second_pass, note_pass, told_pass}
@@ -106,8 +106,6 @@ low_actors : (s : Position) (r : TableKeepsOneHistory s) (j : ℕ) (a : Actor) �
 low_actors s r = low words_after pass_of word_actor (λ a. a.number) (λ v. refl) s.words s.views r.shared
 
 module _ (s : Position) (r : TableKeepsOneHistory s) (seat : ℕ) (v : WordView) (here : get_elem? s.views seat ≡ some v) (acts : IsSome v.pass.share) where
-  abbrev base : KeepsOneHistory words_after s.words (known s.views)
-  base = r.shared
 
   abbrev there_is : get_elem? (known s.views) seat ≡ some v.pass
   there_is = known_at s.views seat v here
@@ -214,12 +212,7 @@ loads_by slots seat game m kind doing shown acts is turn tells tell s r _ here _
     (λ readers one now. turn (cast_for readers) (steps_of_moves one.of_actors.moves) one.of_actors.state one.of_actors.run
     (one.of_actors.each seat (word_actor v) (map_at word_actor s.views seat v here)) (here_access s r seat v here acts kind game is (shown n)) now refl refl)
     m.1 in
-    let loads : LoadsMatch kind game v.pass n w =
-    record {
-      sees = look_tells words_after s.words (known s.views) r.shared seat v.pass (known_at s.views seat v here) acts (Match kind game n) (there_now s r kind game is) v.pass.listed (shown n)
-          f.listed;
-      listed = refl;
-    } in
+    let loads : LoadsMatch kind game v.pass n w = search (arith, look_tells, known_at, there_now) in
     (then, keeps, tt, kept, tell n w loads refl (λ place is_seat. stands_after s game n seat m.1 v then here kept place is_seat))
 
 pub looks : (slots seat game place : ℕ) (m : Me Entry WordView) (e : EventCall) → place ≡ seat → IsSome m.0.pass.share → IsMatch game → e.game ≡ game → IsReporter m.0.pass.number
@@ -313,8 +306,7 @@ module _ (s : Position) (r : TableKeepsOneHistory s) (seat : ℕ) (v : WordView)
   swap_keeps cs =
       let history = history_of r.shared.log in
       let f = r.shared.fits seat v.pass at_pass in
-      let are : set s.words e.game new ≡ words_after (followed_by history e) r.shared.enlisted =
-      ap (λ (ws : List ℕ). set ws e.game new) r.shared.words_are ∙ (set_match r.shared.enlisted (board_of history) e.game new is.0 ∙ ap (λ (b : List ℕ). r.shared.enlisted ∷ b) next_is.0) in
+      let are : set s.words e.game new ≡ words_after (followed_by history e) r.shared.enlisted = search (arith, set_match, next_is) in
       let there = there_now s r Swap e.game is in
       let same = add_same words_after s.words (known s.views) r.shared seat v.pass at_pass acts e (get_or s.words e.game 0) there pos me next_is.1 v.pass.listed f.listed (set s.words e.game new)
       are in
@@ -389,10 +381,7 @@ swaps slots seat place m e old new is_seat acts is pos me next holds s r _ here 
       kept,
       record {
         won = λ hit. absurd (miss hit);
-        missed = λ _. record {
-          loads = record { sees = look_tells words_after s.words (known s.views) r.shared seat v.pass at acts target there v.pass.listed v.pass.shown f.listed; listed = refl };
-          shown = refl;
-        };
+        missed = search (arith, look_tells);
         doing = refl;
         stands = stands_after s e.game n seat m.1 v (record { pass = w; doing = after_swap n (length w.seen) v.doing }) here kept place is_seat;
       },
@@ -415,8 +404,7 @@ enlists slots seat place m old is_seat acts reader nothing room s r _ here _ =
     let same : old + 1 ≡ r.shared.enlisted + 1 = omega arith in
     let w : WordView = record { pass = enlisted_as words_after s.words (known s.views) r.shared seat v.pass at acts reader left; doing = v.doing } in
     let taken : Taken = count words_after s.words (known s.views) r.shared seat v.pass at acts reader left in
-    let are : set s.words 0 (old + 1) ≡ words_after (history_of r.shared.log) (r.shared.enlisted + 1) =
-    ap (λ (ws : List ℕ). set ws 0 (old + 1)) r.shared.words_are ∙ ap (λ (k : ℕ). k ∷ board_of (history_of r.shared.log)) same in
+    let are : set s.words 0 (old + 1) ≡ words_after (history_of r.shared.log) (r.shared.enlisted + 1) = search arith in
     let kept = enlist_same words_after s.words (known s.views) r.shared seat v.pass at acts reader left (set s.words 0 (old + 1)) are in
     let rule = both (stepped s 0 (old + 1) seat m.1 w keeps) (set s.words 0 (old + 1)) (set (known s.views) seat w.pass)
     (enlist_keeps words_after s.words (known s.views) r.shared seat v.pass at acts reader left (set s.words 0 (old + 1)) are)
@@ -500,8 +488,7 @@ joins seat v other a s r here apart there =
     let at = known_at s.views seat v here in
     let told = told_pass v (note_pass a) in
     let note = note_pass a in
-    let theirs : get_elem? (set (known s.views) seat told.pass) other ≡ some note.pass =
-    subst (λ (l : List View). get_elem? l other ≡ some note.pass) (known_set s.views seat told) (known_at (set s.views seat told) other note there) in
+    let theirs : get_elem? (set (known s.views) seat told.pass) other ≡ some note.pass = search (arith, get_elem?, known_set, known_at) in
     let same = joined_same words_after s.words (known s.views) r.shared seat v.pass at other note.pass apart theirs refl refl in
     of_kept (record { words = s.words; homes = s.homes; views = set (set s.views seat told) other new_pass })
     (joined words_after pass_of word_actor IsRunOfLog s.words s.views r.shared r.one_run seat v here told other note new_pass there refl refl
