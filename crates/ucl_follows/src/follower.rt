@@ -34,6 +34,10 @@ impl Text for Sight {
 
     ghost front = { sight_bytes };
 
+    fn new() -> Sight {
+        Sight::Nothing
+    }
+
     fn front(&self) -> &[u8] {
         match self {
             Sight::Nothing => b"".as_slice(),
@@ -112,28 +116,29 @@ impl LineMachine for Follower {
 
     ghost stops_at_end = { λ _ _ _ fault. fault ≡ OutOfMemory };
 
-    fn answer(&mut self, _row: u64, line: &[u8]) -> Result<Sight, RunFault> {
+    fn answer(&mut self, _row: u64, line: &[u8], text: &mut Sight) -> Result<(), RunFault> {
         let told = moment_on(self.alloc, line)?;
         let row = self.following.lines.saturating_add(1);
         match told {
             Some(moment) if is_newer(&self.following.newest, &moment) => {
-                let sight = show(self.alloc, self.shape, row, &moment)?;
+                *text = show(self.alloc, self.shape, row, &moment)?;
                 self.following.newest = Some(moment);
                 self.following.lines = row;
                 self.following.shown = self.following.shown.saturating_add(1);
-                Ok(sight)
             }
             _ => {
+                *text = Sight::Nothing;
                 self.following.lines = row;
-                Ok(Sight::Nothing)
             }
         }
+        Ok(())
     }
 
-    fn end(&mut self, _row: u64, _begun: &[u8]) -> Result<Sight, RunFault> {
-        match (self.shape, &self.following.newest) {
-            (FollowArgs::Rows, Some(moment)) => Ok(Sight::Rows(resuming_rows(self.alloc, moment)?)),
-            _ => Ok(Sight::Nothing),
-        }
+    fn end(&mut self, _row: u64, _begun: &[u8], text: &mut Sight) -> Result<(), RunFault> {
+        *text = match (self.shape, &self.following.newest) {
+            (FollowArgs::Rows, Some(moment)) => Sight::Rows(resuming_rows(self.alloc, moment)?),
+            _ => Sight::Nothing,
+        };
+        Ok(())
     }
 }
