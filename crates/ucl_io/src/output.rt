@@ -114,7 +114,7 @@ impl Output {
         Ok(())
     }
 
-    /// Puts two texts, one after the other.
+    /// Puts two texts, one after the other. The second, which most answers do not have, may be empty.
     #[tactic(auto, using(crate::proofs::Puts::put_then, crate::proofs::Puts::put_stopped, crate::proofs::Puts::stopped_before))]
     pub(crate) fn put_both<W: Sink>(
         &mut self,
@@ -132,6 +132,9 @@ impl Output {
         ensures sound { OnOk result (W.failed sink.new ≡ W.failed sink.old) }
     {
         self.put(page, sink, text)?;
+        if more.is_empty() {
+            return Ok(());
+        }
         self.put(page, sink, more)
     }
 }
