@@ -1,11 +1,12 @@
 -- What an evening answers, as a follower takes it.
 use Rattle.std.specs.Prelude.{◌≡◌, ◌<◌, ◌^◌, ℕ, All, Some}
+use Rattle.serde_json.specs.Written.{compact_text}
 use Rattle.ucl_board.specs.Words.{AreWords}
 use Rattle.ucl_order.specs.Roster.{IsRoster}
 use Rattle.ucl_screen.specs.Screen.{IsGroup}
 use Rattle.ucl_json.specs.Values.{accepted_value, screen_value}
 use Rattle.ucl_follows.specs.declared.moment.Moment.{Moment}
-use Rattle.ucl_follows.specs.Told.{moment_told}
+use Rattle.ucl_follows.specs.Told.{moment_on, moment_told}
 
 -- a moment of a group of good clubs and a board, whose words have 64 bits
 pub record IsMoment (m : Moment) : Type 0 where
@@ -21,3 +22,11 @@ pub record TellsItsMoment (row game number : ℕ) (m : Moment) : Type 0 where
 
 abbrev pub AnswersTellTheirMoment : Type 0
 AnswersTellTheirMoment = (row game number : ℕ) (m : Moment) → IsMoment m → TellsItsMoment row game number m
+
+-- the same of the lines of these answers, with the row, the match and the event number of an evening: each is short enough for a follower
+pub record TellsOnItsLine (row game number : ℕ) (m : Moment) : Type 0 where
+  pub reply : moment_on (compact_text (accepted_value row game number m.profile m.board m.roster m.group)) ≡ Some m
+  pub screen : moment_on (compact_text (screen_value row m.profile m.board m.roster m.group)) ≡ Some m
+
+abbrev pub LinesTellTheirMoment : Type 0
+LinesTellTheirMoment = (row game number : ℕ) (m : Moment) → IsMoment m → row < 2 ^ 64 → game < 2 ^ 64 → number < 2 ^ 64 → TellsOnItsLine row game number m
