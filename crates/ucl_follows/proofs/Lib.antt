@@ -7,3 +7,6 @@ pub mod PlainAnswers
 pub mod Repeats
 pub mod RowTexts
 pub mod Resumed
+pub mod JournalLines
+pub mod JournalAnswers
+pub mod Journals

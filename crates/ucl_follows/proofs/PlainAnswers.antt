@@ -216,8 +216,8 @@ screen-plain row m is r =
 
 -- ---- their lines
 
-pub lines : LinesTellTheirMoment
-lines row game number m is r g n =
+pub told-lines : LinesTellTheirMoment
+told-lines row game number m is r g n =
     let reply = accepted-plain row game number m is r g n in
     let screen = screen-plain row m is r in
     let told = answered row game number m is in record {
