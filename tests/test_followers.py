@@ -15,6 +15,7 @@ LINES = JOURNAL.splitlines(True)
 FIRST, SECOND = journal_of(CLUBS + "1,1,0,kickoff\n1,1,1,goal-home\n").splitlines(True)
 SCREEN, BOTH = ("".join(screens_of(CLUBS + f"1,1,0,kickoff\n{more}")) for more in ("", "1,1,1,goal-home\n"))
 told = lambda lines, shown: f"{lines} lines, {shown} shown, {lines - shown} passed over\n"
+vain = lambda lines: f"no moment in {lines} lines: there is nothing to go on from\n"
 count = SCREENS.count("GROUP")
 
 test_journals = tabled({
@@ -28,7 +29,9 @@ test_journals = tabled({
     "a line without an end": ("ucl_follow", FIRST + SECOND[:-1], SCREEN, 0, told(1, 1)),
     "nothing": ("ucl_follow", "", "", 0, told(0, 0)),
     "rows of the newest, not of the last": ("ucl_follow --resume", LINES[-1] + "".join(LINES[:-1]), followed(["--resume"], LINES[-1])[1], 0, told(len(LINES), 1)),
-    "rows of no moment": ("ucl_follow --resume", "{}\n", "", 0, told(1, 0)),
+    "rows of no moment": ("ucl_follow --resume", "{}\n", "", 3, vain(1)),
+    "rows of nothing": ("ucl_follow --resume --format json", "", "", 3, vain(0)),
+    "rows of a line that is cut": ("ucl_follow --resume", FIRST[:-1], "", 3, vain(0)),
 })
 
 VALUE = json.loads(SECOND)

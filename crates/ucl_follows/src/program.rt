@@ -2,7 +2,7 @@
 
 ghost use Rattle.std.specs.Prelude.{◌≡◌};
 ghost use Rattle.ucl_runs.specs.Telling.{Tells};
-ghost use Rattle.ucl_follows.specs.Program.{EndsFollowing, RunsFollowing, counts_line};
+ghost use Rattle.ucl_follows.specs.Program.{EndsFollowing, RunsFollowing, counts_line, end_line, end_status, is_in_vain, vain_line};
 
 use crate::follower::Follower;
 use crate::run::{Followed, follow_run};
@@ -29,23 +29,63 @@ fn counts_line(followed: Followed) -> ArrayString<128>
     line
 }
 
-/// Tells how many lines came, were shown and were passed over, or the fault, and gives the exit status.
-fn told<E: Sink>(errors: &mut E, done: Result<Followed, RunFault>) -> u8
-    ensures { EndsFollowing done result
+/// How many lines came, where none of them told a moment.
+fn vain_line(followed: Followed) -> ArrayString<128>
+    ensures { result.bytes ≡ vain_line followed }
+{
+    let mut line = ArrayString::new();
+    line.push_str("no moment in ");
+    line.push_str(Buffer::new().format(followed.lines));
+    line.push_str(" lines: there is nothing to go on from\n");
+    line
+}
+
+/// Whether rows were wanted, and no line told a moment.
+fn is_in_vain(shape: FollowArgs, followed: Followed) -> bool
+    ensures { result ≡ is_in_vain shape followed }
+{
+    match shape {
+        FollowArgs::Rows => followed.shown == 0,
+        FollowArgs::Text | FollowArgs::Json => false,
+    }
+}
+
+/// What is told where the input has ended.
+fn end_line(shape: FollowArgs, followed: Followed) -> ArrayString<128>
+    ensures { result.bytes ≡ end_line shape followed }
+{
+    if is_in_vain(shape, followed) {
+        vain_line(followed)
+    } else {
+        counts_line(followed)
+    }
+}
+
+/// The exit status where the input has ended.
+fn end_status(shape: FollowArgs, followed: Followed) -> u8
+    ensures { result ≡ end_status shape followed }
+{
+    if is_in_vain(shape, followed) { 3 } else { 0 }
+}
+
+/// Tells how the lines were followed, or the fault, and gives the exit status.
+fn told<E: Sink>(errors: &mut E, shape: FollowArgs, done: Result<Followed, RunFault>) -> u8
+    ensures { EndsFollowing shape done result
         (E.failed errors.new) (E.taken errors.old) (E.taken errors.new) }
 {
     match done {
         Ok(followed) => {
-            let _ = put_text(errors, counts_line(followed).as_str());
-            0
+            let _ = put_text(errors, end_line(shape, followed).as_str());
+            end_status(shape, followed)
         }
         Err(fault) => tell(errors, fault),
     }
 }
 
 /// Follows the lines as the arguments asked, as `follow_args` answered it, and gives the exit status: 0 where the input has ended, and the error
-/// sink is told how many lines came, were shown and were passed over; 2 where the arguments are refused, by the text of `clap`; and else that of
-/// the fault, which is told by its line: 4 where a device has failed, and 5 where there was no memory. Help goes to the output.
+/// sink is told how many lines came, were shown and were passed over; 3 where rows were wanted and no line told a moment, which a line tells; 2
+/// where the arguments are refused, by the text of `clap`; and else that of the fault, which is told by its line: 4 where a device has failed, and 5
+/// where there was no memory. Help goes to the output.
 pub fn run_following<S: Source, W: Sink, E: Sink>(
     alloc: Global,
     asked: Result<FollowArgs, LineFault>,
@@ -58,7 +98,7 @@ pub fn run_following<S: Source, W: Sink, E: Sink>(
     match asked {
         Ok(shape) => {
             let done = follow_run(alloc, shape, duplex);
-            told(errors, done)
+            told(errors, shape, done)
         }
         Err(fault) => ended_unasked(&mut duplex.sink, errors, fault),
     }
