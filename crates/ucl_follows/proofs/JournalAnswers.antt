@@ -325,7 +325,7 @@ later e line lines (Some m) (first, rest, parts, is) = (line ∷ first, rest, ap
 abbrev pub AllTold : (Option Moment → Type 0) → Lines → Type 0
 AllTold P lines = All (λ line. P (moment_on line)) lines
 
-weaken : (P Q : Option Moment → Type 0) → ((told : Option Moment) → P told → Q told) → (lines : Lines) → AllTold P lines → AllTold Q lines
+pub weaken : (P Q : Option Moment → Type 0) → ((told : Option Moment) → P told → Q told) → (lines : Lines) → AllTold P lines → AllTold Q lines
 weaken P Q f [] h = All-nil (λ line. Q (moment_on line))
 weaken P Q f (line ∷ lines) h =
     All-cons (λ line. Q (moment_on line)) line lines (f (moment_on line) (All-head (λ line. P (moment_on line)) line lines h))

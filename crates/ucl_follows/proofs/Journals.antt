@@ -37,7 +37,7 @@ use Rattle.ucl_follows.proofs.Resumed.{resumed}
 
 -- ---- the newest of lines is the greatest
 
-abbrev AtMost : Option Moment → Option Moment → Type 0
+abbrev pub AtMost : Option Moment → Option Moment → Type 0
 AtMost None o = ⊤
 AtMost (Some m) None = ⊥
 AtMost (Some m) (Some n) = version_at m ≤ version_at n
@@ -85,15 +85,15 @@ one-step f (Some m) = elim (cases_Bool (is_newer f.newest m)) [
       }
 ]
 
-record Greatest (f : Following) (lines : Lines) (newest : Option Moment) : Type 0 where
-  before : AtMost f.newest newest
-  each : AllTold (λ told. AtMost told newest) lines
-  from : (newest ≡ f.newest) ⊎ ((m : Moment) × (newest ≡ Some m) × IsToldIn lines m)
+pub record Greatest (f : Following) (lines : Lines) (newest : Option Moment) : Type 0 where
+  pub before : AtMost f.newest newest
+  pub each : AllTold (λ told. AtMost told newest) lines
+  pub from : (newest ≡ f.newest) ⊎ ((m : Moment) × (newest ≡ Some m) × IsToldIn lines m)
 
 told-later : (line : List ℕ) (lines : Lines) (m : Moment) → IsToldIn lines m → IsToldIn (line ∷ lines) m
 told-later line lines m (l, (before, after, e), k) = (l, (line ∷ before, after, ap (λ (ls : Lines). line ∷ ls) e), k)
 
-greatest : (f : Following) (lines : Lines) → Greatest f lines (followed f lines).newest
+pub greatest : (f : Following) (lines : Lines) → Greatest f lines (followed f lines).newest
 unfolding followed
 greatest f [] = record { before = at-most-same f.newest; each = All-nil (λ line. AtMost (moment_on line) f.newest); from = inl refl }
 greatest f (line ∷ lines) =
@@ -152,51 +152,64 @@ told-at : (P : Option Moment → Type 0) (before : Lines) (line : List ℕ) (aft
 told-at P [] line after h = All-head (λ l. P (moment_on l)) line after h
 told-at P (b ∷ before) line after h = told-at P before line after (All-tail (λ l. P (moment_on l)) b (before ++ line ∷ after) h)
 
-told-in : (P : Option Moment → Type 0) (lines : Lines) (m : Moment) → AllTold P lines → IsToldIn lines m → P (Some m)
+pub told-in : (P : Option Moment → Type 0) (lines : Lines) (m : Moment) → AllTold P lines → IsToldIn lines m → P (Some m)
 told-in P lines m h (line, (before, after, e), k) = subst P k (told-at P before line after (subst (AllTold P) e h))
 
 -- ---- versions rise along lines
 
-one-rises : (board : List ℕ) (a : Attempt) (w : AreWords board) (is : IsAttempt a) (o : Option Refusal) → refusal_of (game_at board a.call.game) a.call.expected a.call.kind ≡ o
-    → version_of board ≤ version_of (board_after board a)
-one-rises board a w is None e = let v = version-after board a w is e in omega (arith, v)
-one-rises board a w is (Some refusal) e = rw e (omega arith)
+abbrev pub Rises : List ℕ → List ℕ → Type 0
+Rises board now = (board ≡ now) ⊎ (version_of board < version_of now)
 
-all-rise : (board : List ℕ) (attempts : List Attempt) → AreWords board → All IsAttempt attempts → version_of board ≤ version_of (fold board_after board attempts)
-all-rise board [] w all = omega arith
+rises-then : (a b c : List ℕ) → Rises a b → Rises b c → Rises a c
+rises-then a b c (inl e) k = subst (λ (x : List ℕ). Rises x c) (sym e) k
+rises-then a b c (inr h) (inl e) = inr (subst (λ (x : List ℕ). version_of a < version_of x) e h)
+rises-then a b c (inr h) (inr k) = inr (omega arith)
+
+no-lower : (a b : List ℕ) → Rises a b → version_of a ≤ version_of b
+no-lower a b (inl e) = let v : version_of a ≡ version_of b = ap version_of e in omega (arith, v)
+no-lower a b (inr h) = omega arith
+
+one-rises : (board : List ℕ) (a : Attempt) (w : AreWords board) (is : IsAttempt a) (o : Option Refusal)
+    → refusal_of (game_at board a.call.game) a.call.expected a.call.kind ≡ o → Rises board (board_after board a)
+one-rises board a w is None e = inr (let v = version-after board a w is e in omega (arith, v))
+one-rises board a w is (Some refusal) e = rw e (inl refl)
+
+all-rise : (board : List ℕ) (attempts : List Attempt) → AreWords board → All IsAttempt attempts → Rises board (fold board_after board attempts)
+all-rise board [] w all = inl refl
 all-rise board (a ∷ attempts) w all =
     let is = All-head IsAttempt a attempts all in
-    let one = one-rises board a w is (refusal_of (game_at board a.call.game) a.call.expected a.call.kind) refl in
-    let more = all-rise (board_after board a) attempts (good-after board a w is) (All-tail IsAttempt a attempts all) in omega arith
+    rises-then board (board_after board a) (fold board_after board (a ∷ attempts))
+    (one-rises board a w is (refusal_of (game_at board a.call.game) a.call.expected a.call.kind) refl)
+    (all-rise (board_after board a) attempts (good-after board a w is) (All-tail IsAttempt a attempts all))
 
 said-attempts : (r : Said) → All IsAttempt (attempts_on r)
 said-attempts Nothing = All-nil IsAttempt
 said-attempts Garbled = All-nil IsAttempt
 said-attempts (Row f) = asked f
 
-lines-attempts : (row : ℕ) (lines : Lines) → All IsAttempt (attempts_in row lines)
+pub lines-attempts : (row : ℕ) (lines : Lines) → All IsAttempt (attempts_in row lines)
 unfolding attempts_in
 lines-attempts row [] = All-nil IsAttempt
 lines-attempts row (line ∷ lines) =
     All-append IsAttempt (attempts_on (said_on row line)) (attempts_in (row + 1) lines) (said-attempts (said_on row line)) (lines-attempts (row + 1) lines)
 
-boards-rise : (e : Evening) (lines : Lines) (clubs : List NamedClub) (board : List ℕ) → e.stage ≡ Open clubs board → AreWords board
-    → (now : List ℕ) × ((after_lines e lines).stage ≡ Open clubs now) × (version_of board ≤ version_of now)
+pub boards-rise : (e : Evening) (lines : Lines) (clubs : List NamedClub) (board : List ℕ) → e.stage ≡ Open clubs board → AreWords board
+    → (now : List ℕ) × ((after_lines e lines).stage ≡ Open clubs now) × Rises board now
 boards-rise e lines clubs board stands w =
     (fold board_after board (attempts_in e.row lines), boards e lines clubs board stands, all-rise board (attempts_in e.row lines) w (lines-attempts e.row lines))
 
-row-after : (e : Evening) (lines : Lines) → (after_lines e lines).row ≡ e.row + length lines
+pub row-after : (e : Evening) (lines : Lines) → (after_lines e lines).row ≡ e.row + length lines
 unfolding after_lines
 row-after e [] = omega arith
 row-after e (line ∷ lines) = let more = row-after (next e (said_on e.row line)) lines in omega (arith, more)
 
-options-after : (e : Evening) (lines : Lines) → (after_lines e lines).options ≡ e.options
+pub options-after : (e : Evening) (lines : Lines) → (after_lines e lines).options ≡ e.options
 unfolding after_lines
 options-after e [] = refl
 options-after e (line ∷ lines) = options-after (next e (said_on e.row line)) lines
 
 -- a stage with a moment is open
-open-with : (options : LiveArgs) (s : Stage) (m : Moment) → moment_at options s ≡ Some m → (clubs : List NamedClub) × (board : List ℕ) × (s ≡ Open clubs board) × (m.board ≡ board)
+pub open-with : (options : LiveArgs) (s : Stage) (m : Moment) → moment_at options s ≡ Some m → (clubs : List NamedClub) × (board : List ℕ) × (s ≡ Open clubs board) × (m.board ≡ board)
 open-with options (Open clubs board) m e = (clubs, board, refl, cc)
 open-with options (Naming clubs) m e = cc
 open-with options (Restoring clubs words) m e = cc
@@ -208,7 +221,7 @@ module _ (e : Evening) (lines : Lines) (left lost : List ℕ) (json : e.options.
   split : lines_in (answers e lines) ≡ whole_lines left ++ ended_lines 4097 (begun-of left) lost
   split = ap lines_in cut ∙ ended_append 4097 [] left lost
 
-  way : AllTold (IsOnTheWay e lines) (whole_lines left)
+  pub way : AllTold (IsOnTheWay e lines) (whole_lines left)
   way =
       front-told (IsOnTheWay e lines) (whole_lines left) (ended_lines 4097 (begun-of left) lost)
       (subst (AllTold (IsOnTheWay e lines)) split (on-the-way e lines json fits g).each)
@@ -217,7 +230,7 @@ module _ (e : Evening) (lines : Lines) (left lost : List ℕ) (json : e.options.
     long : length lines ≡ length before + (1 + length after)
     long = ap (λ (ls : Lines). length ls) parts ∙ length-append before (line ∷ after) ∙ omega arith
 
-    first-answer : AnswersFirst (after_lines e before) (said_on (after_lines e before).row line) (shown_text line) accepted.board
+    pub first-answer : AnswersFirst (after_lines e before) (said_on (after_lines e before).row line) (shown_text line) accepted.board
     first-answer =
         answers-first (after_lines e before) (said_on (after_lines e before).row line) (shown_text line) accepted.clubs accepted.board accepted.attempt
         (ap (λ (o : LiveArgs). o.format) (options-after e before) ∙ json) (let n = row-after e before in let l = long in omega (arith, n, l))
@@ -230,7 +243,7 @@ module _ (e : Evening) (lines : Lines) (left lost : List ℕ) (json : e.options.
         ∙ ap (λ (l : List ℕ). answers e before ++ l)
         (answers-one (after_lines e before) line after ∙ ap (λ (l : List ℕ). l ++ rest) first-answer.parts ∙ append_assoc first-answer.reply first-answer.more rest)
 
-    in-lines : lines_in (answers e lines) ≡ lines_in (answers e before) ++ first-answer.line_is.line
+    pub in-lines : lines_in (answers e lines) ≡ lines_in (answers e before) ++ first-answer.line_is.line
         ∷ lines_in (first-answer.more ++ answers (next (after_lines e before) (said_on (after_lines e before).row line)) after)
     in-lines =
         let l = first-answer.line_is in
@@ -239,7 +252,7 @@ module _ (e : Evening) (lines : Lines) (left lost : List ℕ) (json : e.options.
         ap lines_in text ∙ lines-then (answers e before) (first-answer.reply ++ rest) begun
         ∙ ap (λ (ls : Lines). lines_in (answers e before) ++ ls) (lines-then first-answer.reply rest l.begun ∙ ap (λ (ls : Lines). ls ++ lines_in rest) l.lines_are)
 
-    told-in-left : IsAnsweredIn e before left → IsToldIn (whole_lines left) first-answer.told
+    pub told-in-left : IsAnsweredIn e before left → IsToldIn (whole_lines left) first-answer.told
     told-in-left answered =
         let l = first-answer.line_is in
         let rest = lines_in (first-answer.more ++ answers (next (after_lines e before) (said_on (after_lines e before).row line)) after) in
@@ -247,7 +260,7 @@ module _ (e : Evening) (lines : Lines) (left lost : List ℕ) (json : e.options.
         (l.line, (lines_in (answers e before), k.0, k.1), l.told)
 
     -- the board after so many lines has the event, where its version is that of the event's moment, or higher
-    among : (first rest : Lines) (m : Moment) → lines ≡ first ++ rest → moment_now (after_lines e first) ≡ Some m → version_at first-answer.told ≤ version_at m → length before < length first
+    pub among : (first rest : Lines) (m : Moment) → lines ≡ first ++ rest → moment_now (after_lines e first) ≡ Some m → version_at first-answer.told ≤ version_at m → length before < length first
     among first rest m whole is most = elim (cases_lt (length before) (length first)) [
       | inl less ↦ less
       | inr no_less ↦
@@ -262,7 +275,7 @@ module _ (e : Evening) (lines : Lines) (left lost : List ℕ) (json : e.options.
           let b = boards-rise (after_lines e first) between clubs board o.2 good.1 in
           let now : List ℕ = b.0 in
           let then : (after_lines (after_lines e first) between).stage ≡ Open clubs now = b.1 in
-          let rise : version_of board ≤ version_of now = b.2 in
+          let rise = no-lower board now b.2 in
           let there : (after_lines e before).stage ≡ Open clubs now = ap (λ (ls : Lines). (after_lines e ls).stage) place ∙ ap (λ (f : Evening). f.stage) (after-append e first between) ∙ then in
           let one : ◌≡◌ {A = Stage} (Open clubs now) (Open accepted.clubs accepted.board) =
           sym (ap (λ (s : Stage). opened s (said_on (after_lines e before).row line)) there) ∙ accepted.stands in
@@ -324,7 +337,7 @@ last-few : (line : List ℕ) → length (last_lines line) ≤ 1
 last-few [] = omega arith
 last-few (b ∷ line) = omega arith
 
-lines-few : (bytes : List ℕ) → length (lines_of bytes) ≤ length bytes + 1
+pub lines-few : (bytes : List ℕ) → length (lines_of bytes) ≤ length bytes + 1
 lines-few bytes =
     let ended = ended_lines 258 [] bytes in
     let begun = begun_line 258 [] bytes in

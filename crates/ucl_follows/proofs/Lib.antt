@@ -10,3 +10,4 @@ pub mod Resumed
 pub mod JournalLines
 pub mod JournalAnswers
 pub mod Journals
+pub mod JournalEnds

@@ -1,21 +1,24 @@
 -- A journal: the output of an evening in JSON, of which a crash left so many bytes. What `--resume` makes of it.
-use Rattle.std.specs.Prelude.{◌≡◌, ◌<◌, ◌≤◌, ◌^◌, true, ℕ, List, [], ◌∷◌, ◌++◌, length, Option, Some, None, IfSome}
+use Rattle.std.specs.Prelude.{◌≡◌, ◌<◌, ◌≤◌, ◌^◌, true, ℕ, List, [], ◌∷◌, ◌++◌, length, Option, Some, None, IfSome, ◌+◌}
 use Rattle.std.specs.Result.{is_ok}
 use Rattle.ucl_word.specs.Rules.{reply_of}
-use Rattle.ucl_board.specs.History.{Attempt}
+use Rattle.ucl_board.specs.declared.entry.Entry.{Entry}
+use Rattle.ucl_board.specs.History.{Attempt, IsLegal, board_of}
 use Rattle.ucl_board.specs.Words.{game_at}
 use Rattle.ucl_order.specs.Roster.{NamedClub}
 use Rattle.ucl_command.specs.declared.follow.FollowArgs.TheVariants.{Rows}
 use Rattle.ucl_command.specs.declared.live.LiveArgs.{LiveArgs}
 use Rattle.ucl_command.specs.declared.options.Format.TheVariants.{Json}
-use Rattle.ucl_answers.specs.ByHistory.{attempts_on}
+use Rattle.ucl_answers.specs.ByHistory.{attempts_in, attempts_on}
 use Rattle.ucl_answers.specs.Lines.{lines_of}
 use Rattle.ucl_answers.specs.Rows.{said_on}
 use Rattle.ucl_answers.specs.Stages.{Stage, Naming, Open, Refused, Restoring, opened}
 use Rattle.ucl_answers.specs.Text.{Evening, after_lines, answers, live_text, start_of}
 use Rattle.ucl_follows.specs.declared.moment.Moment.{Moment}
 use Rattle.ucl_follows.specs.Follow.{follow_text, resuming_text, whole_lines}
-use Rattle.ucl_follows.specs.Resuming.{OpensTheBoard}
+use Rattle.ucl_follows.specs.Latest.{IsLatest, IsToldIn}
+use Rattle.ucl_follows.specs.Repeats.{HasRepeats}
+use Rattle.ucl_follows.specs.Resuming.{OpensTheBoard, opened_at}
 
 -- the moment of an evening whose board is open
 abbrev pub moment_with : LiveArgs → List NamedClub → List ℕ → Moment
@@ -58,3 +61,17 @@ pub record ResumesTheBoard (e : Evening) (again : LiveArgs) (lines : List (List 
 abbrev pub CutJournalsResume : Type 0
 CutJournalsResume = (options again : LiveArgs) (input left lost : List ℕ) → options.format ≡ Json → length input ≤ 2 ^ 62
     → live_text (start_of options) input ≡ left ++ lost → ResumesTheBoard (start_of options) again (lines_of input) left
+
+-- an output that was not cut: where it tells a moment, the board after all lines is the latest that it tells
+abbrev pub JournalsEndWithTheBoard : Type 0
+JournalsEndWithTheBoard = (options : LiveArgs) (input : List ℕ) (m other : Moment) → options.format ≡ Json → length input ≤ 2 ^ 62
+    → moment_now (after_lines (start_of options) (lines_of input)) ≡ Some m → IsToldIn (whole_lines (live_text (start_of options) input)) other
+    → IsLatest m (whole_lines (live_text (start_of options) input))
+
+-- an evening on the board of a legal history had these first lines and then the rest. One that was opened at the board after the first had other
+-- lines since: their events are those of the rest, and between them events again that had been accepted by then. It has the same board
+abbrev pub CrashesChangeNothing : Type 0
+CrashesChangeNothing = (e : Evening) (again : LiveArgs) (clubs : List NamedClub) (history : List Entry) (first rest since : List (List ℕ)) (m : Moment)
+    → IsLegal history → e.stage ≡ Open clubs (board_of history) → moment_now (after_lines e first) ≡ Some m
+    → HasRepeats history (attempts_in e.row first) (attempts_in 17 since) (attempts_in (e.row + length first) rest)
+    → (after_lines (opened_at again m) since).stage ≡ (after_lines e (first ++ rest)).stage

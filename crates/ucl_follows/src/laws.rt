@@ -1,7 +1,7 @@
 //! What holds of all that is followed. The functions do nothing: they are there for their contracts.
 
 ghost use Rattle.ucl_follows.specs.Answered.{AnswersTellTheirMoment, LinesTellTheirMoment};
-ghost use Rattle.ucl_follows.specs.Journals.{CutJournalsResume};
+ghost use Rattle.ucl_follows.specs.Journals.{CrashesChangeNothing, CutJournalsResume, JournalsEndWithTheBoard};
 ghost use Rattle.ucl_follows.specs.Latest.{LatestIsShownLast, OthersDoNotMatter, ShownVersionsRise};
 ghost use Rattle.ucl_follows.specs.Repeats.{RepeatedRowsChangeNothing};
 ghost use Rattle.ucl_follows.specs.Resuming.{ResumedRowsOpenTheBoard};
@@ -50,4 +50,15 @@ pub fn resumed_rows_open_the_board()
 /// writes nothing.
 pub fn cut_journals_resume()
     ensures { CutJournalsResume }
+{}
+
+/// The moments of an evening's lines rise: where its output was not cut, and tells a moment, the latest is its board. So a follower shows that last.
+pub fn journals_end_with_the_board()
+    ensures { JournalsEndWithTheBoard }
+{}
+
+/// After a crash: entered on the board that was resumed, the events of the lines after it, and in any places events again that had been accepted,
+/// leave the board of the evening without a crash.
+pub fn crashes_change_nothing()
+    ensures { CrashesChangeNothing }
 {}
