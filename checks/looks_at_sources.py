@@ -75,8 +75,8 @@ TWICE = {"taken_by", "club_at", "rows_of", "words_after", "IsTheRule", "LogsOneS
 TYPE = re.compile(r"^(?:pub(?:\(crate\))? )?(?:struct|enum) (\w+)(?:<[^>]*>)? \{\n(.*?)^\}", re.M | re.S)
 PART = re.compile(r"^ *(?:pub(?:\(crate\))? )?\w+: (.*),$|^ *\w+\((.*)\),$", re.M)
 FIXED = {"u8", "u16", "u32", "u64", "usize", "bool", "ArrayVec", "Board", "Club", "FollowArgs", "Global", "LiveArgs", "Option", "Profile", "Roster"}
-# What is kept from one step to the next: the crate, the type, and types that have to be found among its parts.
-KEPT = [("ucl_answers", "Live", {"Desk", "Page", "Stage", "Table"}), ("ucl_follows", "Follower", {"Following", "Moment"}), ("ucl_io", "Lines", {"Output"})]
+# What is kept from one line to the next: the crate, the type, and types that have to be found among its parts.
+KEPT = [("ucl_answers", "Evening", {"LineReader", "Stage", "Table"}), ("ucl_follows", "Follower", {"Following", "Moment"}), ("ucl_io", "Lines", {"Output"})]
 # Where a lemma begins, or a module with parameters, in which lemmas stand two columns further in.
 LEMMA = re.compile(r"( *)(?:(module _)\b|(?:pub )?([^\s:(){}]+) :(?: |$))")
 

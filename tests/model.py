@@ -397,9 +397,9 @@ class Evening:
         """The answers to a line."""
         line = line[:-1] if line.endswith("\r") else line
         fits = len(line.encode(errors="surrogateescape")) <= LONGEST_LINE
-        found = records((line.removeprefix("\ufeff") if row == 1 else line) + "\nend") if fits else []
-        fields = found[0] if len(found) == 2 and found[1] == ["end"] else []
-        if found == [["end"]] or self.beginning(row, fields):
+        found = records((line.removeprefix("\ufeff") if row == 1 else line) + "\n") if fits else [[]]
+        fields = found[0] if len(found) == 1 else []
+        if not found or self.beginning(row, fields):
             return []
         self.matches = self.matches or fresh()
         if fields == ["screen", "", "", ""]:

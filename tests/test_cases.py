@@ -142,15 +142,18 @@ SUBCOMMANDS = ["\n  feed ", "\n  show ", "\n  night ", "\n  -V, --version "]
 WAYS = ["\n      --reporter <IN=OUT> ", "\n      --screen <OUT> ", "\n      --json <OUT> ", "\n  mkfifo north.rows north.replies\n"]
 WAYS += [EVENT_ROW, "\n  MATCH,EXPECTED,EVENT ", "\n  LINE ok MATCH NUMBER VERSION "]
 
+# What a good name and a good coefficient are, and where the codes are.
+RULES = ["club,1,", "printable", "up to 999,999", "docs/ROWS.md has"]
+
 test_helps = tabled({line: (line, "", Has("", *parts)) for line, parts in {
-    "ucl_night --help": ["Usage: ucl_night <COMMAND>\n", *SUBCOMMANDS, CLUB_ROW, EVENT_ROW, WORD_ROW, *STATUSES, *STARTS],
+    "ucl_night --help": ["Usage: ucl_night <COMMAND>\n", *SUBCOMMANDS, CLUB_ROW, EVENT_ROW, WORD_ROW, *RULES, "1,1,0,kickoff", *STATUSES, *STARTS],
     "ucl_night help": ["\nUsage: ucl_night"],
-    "ucl_night feed --help": ["Usage: ucl_night feed\n", CLUB_ROW, EVENT_ROW, WORD_ROW, *REPLIES, STARTS[0]],
+    "ucl_night feed --help": ["Usage: ucl_night feed\n", CLUB_ROW, EVENT_ROW, WORD_ROW, *RULES[:3], "1,1,0,kickoff", *REPLIES, STARTS[0]],
     "ucl_night show --help": ["Usage: ucl_night show [OPTIONS]\n", *GROUP, *ORDER, CLUB_ROW, WORD_ROW, STARTS[1]],
     "ucl_night night --help": ["Usage: ucl_night night [OPTIONS]\n", *GROUP, *ORDER, *READINGS, STARTS[2]],
-    "ucl_live --help": ["Usage: ucl_live [OPTIONS]", *GROUP, *ORDER, "--screens", "--format <FORMAT>"],
-    "ucl_follow --help": ["Usage: ucl_follow [OPTIONS]", "--resume", "--format <FORMAT>"],
-    "ucl_evening --help": ["Usage: ucl_evening ", *WAYS, *GROUP, *ORDER, STATUSES[1]],
+    "ucl_live --help": ["Usage: ucl_live [OPTIONS]", *RULES, "1,1,0,kickoff", *GROUP, *ORDER, "--screens", "--format <FORMAT>"],
+    "ucl_follow --help": ["Usage: ucl_follow [OPTIONS]", *RULES, "--resume", "--format <FORMAT>"],
+    "ucl_evening --help": ["Usage: ucl_evening ", *RULES, "1,0,kickoff", *WAYS, *GROUP, *ORDER, STATUSES[1]],
 }.items()})
 
 SEVENTEEN = " ".join(f"--reporter {number}.rows={number}.replies" for number in range(17))

@@ -97,7 +97,7 @@ def test_cut_after_each_byte(run):
 @pytest.mark.parametrize("row, field, text", [
     ("x", "fields", "x"), ("1,1,0,kickoff,", "fields", "1,1,0,kickoff,"), ('"1,1', "fields", '\\"1,1'), ("0,13,x,kick-off", "reporter", "0,13,x,kick-off"),
     ("help,,,", "reporter", "help,,,"), ("1,13,x,kick-off", "match", "1,13,x,kick-off"), ("1,1,,kick-off", "expected", "1,1,,kick-off"),
-    ('"1",01,0,Kickoff', "event", '\\"1\\",01,0,Kickoff'), ("1,1,0,kickoff ", "event", "1,1,0,kickoff "), ("1,1,0,kick\toff", "event", "1,1,0,kick"),
+    ('"1",01,0,Kickoff', "event", '\\"1\\",01,0,Kickoff'), ("1,1,0,kickoff ", "event", "1,1,0,kickoff "), ('1,1,0,"kickoff', "event", '1,1,0,\\"kickoff'), ("1,1,0,kick\toff", "event", "1,1,0,kick"),
     ("1,1,0,kick\u00e9", "event", "1,1,0,kick"), ("\u00e9", "fields", ""), ("1,1,0," + "x" * 58, "event", "1,1,0," + "x" * 58), ("1,1,0," + "x" * 59, "event", "1,1,0," + "x" * 58),
     ("9" * 257, "fields", "9" * 64), ("9" * 9000, "fields", "9" * 64)])
 def test_bad_rows_in_json(run, row, field, text):

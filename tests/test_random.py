@@ -117,7 +117,7 @@ def test_scripts_and_sheets(program, data):
     assert fed(program("ucl_night"), [word, *words], text, draw(PIECES)) == night(word, words, text)
 
 
-ODD_ROWS = ["screen,,,", "words,,,", "", "\r", "x", "1,1,0", "screen,1,,", "y" * 257, "z" * 700, "word,1,,", '1,1,0,"kickoff', "\ufeff1,1,0,kickoff"]
+ODD_ROWS = ["screen,,,", "words,,,", "", "\r", "x", "1,1,0", "screen,1,,", "y" * 257, "z" * 700, "word,1,,", '1,1,0,"kickoff', 'word,1,2000000000000000,"', "1,13,0,goal", '1,1,"0', "\ufeff1,1,0,kickoff"]
 
 
 @given(st.data())

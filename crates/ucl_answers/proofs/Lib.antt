@@ -2,14 +2,10 @@ pub mod WordDigits
 pub mod RowBytes
 pub mod RowEnds
 pub mod PlainRows
-pub mod Puts
-pub mod Moments
-pub mod WholeLines
+pub mod OneByOne
 pub mod Silence
+pub mod LiveRuns
 pub mod ReadWords
-pub mod Failures
-pub mod FaultKinds
-pub mod Steps
 pub mod Boards
 pub mod JsonLines
 pub mod Shown

@@ -1,5 +1,6 @@
 -- Rows of fields that are not in quotes.
-use Rattle.std.proofs.Common.{◌≡◌, ℕ, ◌+◌, ◌<◌, ◌==◌, ◌||◌, true, false, List, [], ◌∷◌, ◌++◌, length, take, drop, get_or, Option, Some, None, IfSome, refl, sym, ap, ◌∙◌, subst, inl, inr, arith}
+use Rattle.std.proofs.Common.{◌≡◌, ℕ, ◌+◌, ◌<◌, ◌==◌, ◌||◌, true, false, List, [], ◌∷◌, ◌++◌, length, take, drop, get_or, Option, Some, None, IfSome}
+use Rattle.std.proofs.Common.{refl, sym, ap, ◌∙◌, subst, inl, inr, append_assoc, arith}
 use Rattle.std.proofs.lemmas.Bool.Decides.{nat_tests}
 use Rattle.std.proofs.lemmas.Bool.{cases_Bool}
 use Rattle.std.proofs.lemmas.List.{drop_more, take-append-drop, take_more}
@@ -11,7 +12,7 @@ use Rattle.csv.specs.declared.parser.State.TheVariants as st
 use Rattle.csv.specs.declared.parser.Terminator.TheVariants as term
 use Rattle.ucl_screen.specs.Rows.{Fields as Rows, four_seen}
 use Rattle.ucl_screen.specs.declared.rows.Four.{Four}
-use Rattle.ucl_answers.specs.Rows.{Row, fits, of_rows, said_by_text}
+use Rattle.ucl_answers.specs.Rows.{Row, fits, of_rows, said_by_text, said_on}
 use Rattle.ucl_answers.specs.declared.row.Deed.TheVariants.{EndRecord}
 use Rattle.ucl_answers.specs.declared.row.Stand.{Stand}
 use Rattle.ucl_answers.specs.declared.row.Stand.TheVariants.{StartField, InField}
@@ -77,16 +78,19 @@ begins-joining : (xs rest : List ℕ) → AreJoining xs → begins_row (xs ++ 44
 begins-joining [] rest h = refl
 begins-joining (b ∷ xs) rest h = let p = apart b h.0 in rw p.end refl
 
-before-comma : (xs rest : List ℕ) → AreJoining xs → IsFieldBefore (xs ++ 44 ∷ rest) xs rest
+pub before-comma : (xs rest : List ℕ) → AreJoining xs → IsFieldBefore (xs ++ 44 ∷ rest) xs rest
 before-comma xs rest h = record {
   begins = begins-joining xs rest h;
   reads = λ fields. field-read xs (44 ∷ rest) fields h ∙ comma-ends xs rest fields;
 }
 
-pub field-before : (text : List ℕ) (at : ℕ) → at < length text → AreJoining (take at text) → get_or text at 0 ≡ 44 → IsFieldBefore text (take at text) (drop (at + 1) text)
+-- the same with the line feed, which is not with the text
+pub field-before : (text : List ℕ) (at : ℕ) → at < length text → AreJoining (take at text) → get_or text at 0 ≡ 44
+    → IsFieldBefore (text ++ 10 ∷ []) (take at text) (drop (at + 1) text ++ 10 ∷ [])
 field-before text at h all is =
     let parts = ap (λ (l : List ℕ). take at text ++ l) (sym (ap (λ (b : ℕ). b ∷ drop (at + 1) text) is) ∙ sym (drop_more text at 0 h)) ∙ take-append-drop at text in
-    subst (λ (l : List ℕ). IsFieldBefore l (take at text) (drop (at + 1) text)) parts (before-comma (take at text) (drop (at + 1) text) all)
+    let fed = sym (append_assoc (take at text) (44 ∷ drop (at + 1) text) (10 ∷ [])) ∙ ap (λ (l : List ℕ). l ++ 10 ∷ []) parts in
+    subst (λ (l : List ℕ). IsFieldBefore l (take at text) (drop (at + 1) text ++ 10 ∷ [])) fed (before-comma (take at text) (drop (at + 1) text ++ 10 ∷ []) all)
 
 -- ---- ends of lines behind them
 
@@ -107,7 +111,7 @@ first-ends b tail e = elim (cases_Bool ((b == 13) || (b == 10))) [
       let some = sym (e.same st.StartRecord refl ∙ no-record) ∙ begins-field (b ∷ tail) (rw n refl) ∙ p.1 in cc some
 ]
 
-at-ends : (xs tail : List ℕ) → AreJoining xs → IsBehindEnds tail [] → EndsRow (xs ++ tail) xs
+pub at-ends : (xs tail : List ℕ) → AreJoining xs → IsBehindEnds tail [] → EndsRow (xs ++ tail) xs
 at-ends xs [] h e = record {
   state = st.StartRecord;
   rest = [];
@@ -122,8 +126,21 @@ at-ends xs (b ∷ tail) h e =
       behind = record { same = λ s hs. between-same s tail hs ∙ sym (skip-one b tail y) ∙ e.same st.StartRecord refl; begins = inl refl };
     }
 
-pub row-ends : (text : List ℕ) (at : ℕ) → AreJoining (take at text) → IsBehindEnds (drop at text) [] → EndsRow text (take at text)
-row-ends text at h e = subst (λ (l : List ℕ). EndsRow l (take at text)) (take-append-drop at text) (at-ends (take at text) (drop at text) h e)
+-- and one more
+ends-then : (tail : List ℕ) → IsBehindEnds tail [] → IsBehindEnds (tail ++ 10 ∷ []) []
+ends-then [] e = record { same = λ s hs. between-same s (10 ∷ []) hs ∙ skip-one 10 [] refl; begins = inl refl }
+ends-then (b ∷ tail) e =
+    let y = first-ends b tail e in
+    let rest : IsBehindEnds tail [] = record { same = λ s hs. between-same s tail hs ∙ sym (skip-one b tail y) ∙ e.same st.StartRecord refl; begins = inl refl } in
+    record {
+      same = λ s hs. between-same s (b ∷ (tail ++ 10 ∷ [])) hs ∙ skip-one b (tail ++ 10 ∷ []) y ∙ (ends-then tail rest).same st.StartRecord refl;
+      begins = inl refl;
+    }
+
+pub row-ends : (text : List ℕ) (at : ℕ) → AreJoining (take at text) → IsBehindEnds (drop at text) [] → EndsRow (text ++ 10 ∷ []) (take at text)
+row-ends text at h e =
+    let parts = sym (append_assoc (take at text) (drop at text) (10 ∷ [])) ∙ ap (λ (l : List ℕ). l ++ 10 ∷ []) (take-append-drop at text) in
+    subst (λ (l : List ℕ). EndsRow l (take at text)) parts (at-ends (take at text) (drop at text ++ 10 ∷ []) h (ends-then (drop at text) e))
 
 -- ---- four fields
 
@@ -143,8 +160,8 @@ plain_row text rest rest2 rest3 first second third fourth a b c d =
 not-first : (row : ℕ) → 1 < row → (row == 1) ≡ false
 not-first row h = elim (cases_Bool (row == 1)) [ inl y ↦ absurd (grind (arith, nat_tests)) | inr n ↦ n ]
 
-pub said_plain : (row : ℕ) (text : List ℕ) (o : Option Four) → 1 < row → fits text ≡ true → IfSome o (λ four. of_rows (records default_config text) ≡ Row (four_seen four))
-    → IfSome o (λ four. said_by_text row text ≡ Row (four_seen four))
+pub said_plain : (row : ℕ) (line : List ℕ) (o : Option Four) → 1 < row → fits (line ++ 10 ∷ []) ≡ true
+    → IfSome o (λ four. of_rows (records default_config (line ++ 10 ∷ [])) ≡ Row (four_seen four)) → IfSome o (λ four. said_on row line ≡ Row (four_seen four))
 unfolding said_by_text
-said_plain row text None h k p = tt
-said_plain row text (Some four) h k p = rw (k, not-first row h) p
+said_plain row line None h k p = tt
+said_plain row line (Some four) h k p = rw (k, not-first row h) p

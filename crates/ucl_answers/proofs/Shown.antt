@@ -1,9 +1,8 @@
 -- How rows are shown.
-use Rattle.std.proofs.Common.{◌≡◌, ℕ, zero, suc, ◌+◌, ◌<◌, ◌≤◌, ◌==◌, ◌&&◌, Bool, true, false, List, [], ◌∷◌, ◌++◌, length, take, get_or, refl, sym, ap, ◌∙◌, inl, inr, ◌⊎◌, arith}
+use Rattle.std.proofs.Common.{◌≡◌, ℕ, zero, suc, ◌+◌, ◌<◌, ◌≤◌, ◌&&◌, Bool, true, false, List, [], ◌∷◌, length, take, get_or, refl, sym, ap, ◌∙◌, inl, inr, ◌⊎◌, arith}
 use Rattle.std.specs.Prelude.{nat_le}
 use Rattle.std.specs.List.{list_all}
 use Rattle.std.specs.Str.{IsAscii, IsUtf8}
-use Rattle.std.proofs.lemmas.Bool.{cases_Bool}
 use Rattle.std.proofs.lemmas.Bool.Decides.{nat_tests}
 use Rattle.std.proofs.lemmas.List.{take_all}
 use Rattle.std.proofs.lemmas.List.Folds.{list_all_more}
@@ -11,19 +10,6 @@ use Rattle.std.proofs.lemmas.Str.{IsUtf8-from_ascii}
 use Rattle.std.proofs.lemmas.Str.Ascii.{IsAscii-nil, IsAscii-cons}
 use Rattle.ucl_order.specs.Roster.{is_printed}
 use Rattle.ucl_answers.specs.BadRows.{printed, shown_text}
-
--- a line feed is not printed
-before-feed : (n : ℕ) (line : List ℕ) → printed (take n (line ++ 10 ∷ [])) ≡ printed (take n line)
-unfolding printed
-before-feed zero line = refl
-before-feed (suc n) [] = refl
-before-feed (suc n) (b ∷ line) = elim (cases_Bool (is_printed b)) [
-  | inl y ↦ rw y (ap (λ (l : List ℕ). b ∷ l) (before-feed n line))
-  | inr n2 ↦ rw n2 refl
-]
-
-pub shown_feed : (line : List ℕ) → shown_text (line ++ 10 ∷ []) ≡ shown_text line
-shown_feed line = before-feed 64 line
 
 both : (a b : Bool) → (a && b) ≡ true → (a ≡ true) × (b ≡ true)
 both true b h = (refl, h)

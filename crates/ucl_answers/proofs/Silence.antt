@@ -2,14 +2,11 @@
 use Rattle.std.proofs.Common.{◌≡◌, ℕ, Bool, true, false, List, [], ◌∷◌, Some, refl, ap, ◌∙◌, inl, inr}
 use Rattle.std.proofs.lemmas.Bool.{cases_Bool}
 use Rattle.ucl_screen.specs.declared.fault.InputFault.{InputFault}
-use Rattle.ucl_io.specs.Lines.{ended_lines}
-use Rattle.ucl_answers.specs.Lines.{last_lines}
 use Rattle.ucl_answers.specs.BadRows.{shown_text}
 use Rattle.ucl_answers.specs.Requests.{request_of}
 use Rattle.ucl_answers.specs.Rows.{Said, Nothing, Garbled, Row, said_on}
 use Rattle.ucl_answers.specs.Stages.{Stage, Naming, Restoring, Open, Refused, after_row, missing, next_stage, opened}
 use Rattle.ucl_answers.specs.Text.{Evening, after_lines, answer_said, answer_at, answers, next}
-use Rattle.ucl_answers.specs.Stepping.{EveningIsRefused, Moment, answers_to, ended_at, last_answers, missing_at, moment_after}
 
 abbrev pub is_open : Stage → Bool
 is_open (Open clubs board) = true
@@ -56,7 +53,7 @@ silent-answer e Nothing shown h = refl
 silent-answer e Garbled shown h = silent-at e (opened e.stage Garbled) Garbled shown (shut-row e.row (opened e.stage Garbled) Garbled h)
 silent-answer e (Row f) shown h = silent-at e (opened e.stage (Row f)) (Row f) shown (shut-row e.row (opened e.stage (Row f)) (Row f) h)
 
-shut-lines : (e : Evening) (lines : List (List ℕ)) → is_open (after_lines e lines).stage ≡ false → is_open e.stage ≡ false
+pub shut-lines : (e : Evening) (lines : List (List ℕ)) → is_open (after_lines e lines).stage ≡ false → is_open e.stage ≡ false
 shut-lines e lines h = elim (cases_Bool (is_open e.stage)) [ inl y ↦ cc (stays-open e lines y) | inr n ↦ n ]
 
 pub silent : (e : Evening) (lines : List (List ℕ)) → is_open (after_lines e lines).stage ≡ false → answers e lines ≡ []
@@ -74,7 +71,7 @@ refused-next row Nothing fault = refl
 refused-next row Garbled fault = refl
 refused-next row (Row f) fault = refl
 
-pub stays-refused : (e : Evening) (lines : List (List ℕ)) (fault : InputFault) → EveningIsRefused e fault → EveningIsRefused (after_lines e lines) fault
+pub stays-refused : (e : Evening) (lines : List (List ℕ)) (fault : InputFault) → e.stage ≡ Refused fault → (after_lines e lines).stage ≡ Refused fault
 unfolding after_lines
 stays-refused e [] fault h = h
 stays-refused e (line ∷ lines) fault h =
@@ -84,27 +81,11 @@ stays-refused e (line ∷ lines) fault h =
 pub refused-shut : (s : Stage) (fault : InputFault) → s ≡ Refused fault → is_open s ≡ false
 refused-shut s fault h = rw h refl
 
--- nor was anything answered before
-pub shut-before : (m : Moment) (xs ys : List ℕ) (fault : InputFault) → EveningIsRefused (moment_after (moment_after m xs) ys).evening fault → answers_to m xs ≡ []
-shut-before m xs ys fault h =
-    let n = moment_after m xs in silent m.evening (ended_lines 258 m.begun xs) (shut-lines n.evening (ended_lines 258 n.begun ys) (refused-shut _ fault h))
+pub refused-missing : (row : ℕ) (s : Stage) (fault : InputFault) → s ≡ Refused fault → missing row s ≡ Some fault
+refused-missing row s fault h = rw h refl
 
-pub refused-missing : (e : Evening) (fault : InputFault) → EveningIsRefused e fault → missing e.row e.stage ≡ Some fault
-refused-missing e fault h = rw h refl
-
-missing-shut : (row : ℕ) (s : Stage) (fault : InputFault) → missing row s ≡ Some fault → is_open s ≡ false
+pub missing-shut : (row : ℕ) (s : Stage) (fault : InputFault) → missing row s ≡ Some fault → is_open s ≡ false
 missing-shut row (Open clubs board) fault h = cc
 missing-shut row (Naming clubs) fault h = refl
 missing-shut row (Restoring clubs words) fault h = refl
 missing-shut row (Refused f) fault h = refl
-
--- where something is missing at the end, nothing was answered before
-pub missing-before : (m : Moment) (xs ys : List ℕ) (fault : InputFault) → missing_at (moment_after (moment_after m xs) ys) ≡ Some fault → answers_to m xs ≡ []
-missing-before m xs ys fault h =
-    let n = moment_after m xs in
-    let k = moment_after n ys in
-    let shut = shut-lines k.evening (last_lines k.begun) (missing-shut (ended_at k).row (ended_at k).stage fault h) in
-    silent m.evening (ended_lines 258 m.begun xs) (shut-lines n.evening (ended_lines 258 n.begun ys) shut)
-
-pub missing-last : (m : Moment) (fault : InputFault) → missing_at m ≡ Some fault → last_answers m ≡ []
-missing-last m fault h = silent m.evening (last_lines m.begun) (missing-shut (ended_at m).row (ended_at m).stage fault h)

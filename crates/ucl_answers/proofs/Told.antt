@@ -1,9 +1,9 @@
 -- The members of an answer in JSON say what it says as text.
-use Rattle.std.proofs.Common.{◌≡◌, ℕ, zero, suc, ◌+◌, ◌-◌, ◌≤◌, ◌<◌, ℤ, pos, negsuc, ◌-ℤ◌, Bool, true, false, List, [], ◌∷◌, ◌++◌, codes, Option, None, Some}
-use Rattle.std.proofs.Common.{refl, sym, ap, ◌∙◌, append-nil, arith, cond, le-leb, ltb}
+use Rattle.std.proofs.Common.{◌≡◌, ℕ, zero, suc, ◌+◌, ◌-◌, ◌<◌, ℤ, pos, negsuc, ◌-ℤ◌, Bool, true, false, List, [], ◌∷◌, ◌++◌, codes, Option, None, Some}
+use Rattle.std.proofs.Common.{refl, ap, ◌∙◌, arith, cond, le-leb, ltb}
 use Rattle.std.specs.Prelude.{Result, Ok, Err, decimal, flat_map}
 use Rattle.std.proofs.lemmas.List.{append_assoc}
-use Rattle.itoa.proofs.Decimal.{decimal_two, pair}
+use Rattle.itoa.proofs.Decimal.{decimal_two}
 use Rattle.std.proofs.lemmas.Bool.{lt-leb, ltb-false, ltb-true}
 use Rattle.serde_json.specs.Find.{as_integer, of_integer}
 use Rattle.serde_json.proofs.OnLiterals.{serde_json_on_literals}

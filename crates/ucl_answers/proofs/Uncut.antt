@@ -13,7 +13,7 @@ use Rattle.ucl_answers.specs.Text.{Evening, after_lines, answer_said, answers, n
 use Rattle.ucl_answers.specs.Laws.{LinesAreReadWhole}
 
 -- a line and what was kept of it: the same, or both too long, and shown in the same way
-abbrev pub Alike : List ℕ → List ℕ → Type 0
+abbrev Alike : List ℕ → List ℕ → Type 0
 Alike line whole = (line ≡ whole) ⊎ ((258 ≤ length line) × (258 ≤ length whole) × (take 64 line ≡ take 64 whole))
 
 longer-by : (line : List ℕ) (b : ℕ) → length (line ++ b ∷ []) ≡ length line + 1
@@ -22,7 +22,7 @@ longer-by line b = length-append line (b ∷ [])
 more-taken : (line : List ℕ) (b : ℕ) → 64 ≤ length line → take 64 line ≡ take 64 (line ++ b ∷ [])
 more-taken line b h = sym (take-append-le 64 line (b ∷ []) h)
 
-pub one-more : (line whole : List ℕ) (b : ℕ) → Alike line whole → Alike (longer 258 line b) (whole ++ b ∷ [])
+one-more : (line whole : List ℕ) (b : ℕ) → Alike line whole → Alike (longer 258 line b) (whole ++ b ∷ [])
 one-more line whole b (inl e) = elim (cases_Bool (nat_le 258 (length line))) [
   | inl full ↦ rw full (let h : 258 ≤ length line = grind (arith, nat_tests) in
       let k : length line ≡ length whole = ap length e in
@@ -46,11 +46,11 @@ too-long : (row : ℕ) (line : List ℕ) → 258 ≤ length line → said_on row
 unfolding said_by_text
 too-long row line h = rw (no-room (line ++ 10 ∷ []) (let m = longer-by line 10 in omega (arith, h, m))) refl
 
-pub same-said : (row : ℕ) (line whole : List ℕ) → Alike line whole → said_on row line ≡ said_on row whole
+same-said : (row : ℕ) (line whole : List ℕ) → Alike line whole → said_on row line ≡ said_on row whole
 same-said row line whole (inl e) = rw e refl
 same-said row line whole (inr (p, q, t)) = rw (too-long row line p, too-long row whole q) refl
 
-pub same-shown : (line whole : List ℕ) → Alike line whole → shown_text line ≡ shown_text whole
+same-shown : (line whole : List ℕ) → Alike line whole → shown_text line ≡ shown_text whole
 same-shown line whole (inl e) = ap shown_text e
 same-shown line whole (inr (p, q, t)) = ap printed t
 

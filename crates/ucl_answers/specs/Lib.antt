@@ -5,11 +5,9 @@ pub mod Requests
 pub mod Stages
 pub mod Text
 pub mod Reading
-pub mod Output
+pub mod Faults
 pub mod Seen
-pub mod Stepping
-pub mod Taking
-pub mod Wires
+pub mod Holding
 pub mod ByHistory
 pub mod UncutLines
 pub mod Members

@@ -1,4 +1,4 @@
--- How lines and rows are read: the lines of bytes as they come; of a row the rules of scripts, at the states that the reading of one row can have.
+-- How rows are read: the rules of scripts, at the states that the reading of one row can have.
 use Rattle.std.specs.Prelude.{◌≡◌, ◌⊎◌, ⊤, if◌then◌else◌, Bool, true, false, not, ◌==◌, ◌&&◌, ℕ, List, [], ◌∷◌, ◌++◌, drop, Option, Some, None}
 use Rattle.csv.specs.Machine.{after_end, ends_with}
 use Rattle.csv.specs.Machine.{Read, next_record, ends_at_end}
@@ -10,7 +10,6 @@ use Rattle.csv.specs.declared.parser.State.TheVariants as st
 use Rattle.csv.specs.declared.parser.Action.{Action}
 use Rattle.csv.specs.declared.parser.Action.TheVariants as act
 use Rattle.ucl_screen.specs.Rows.{Fields as Row, four_of}
-use Rattle.ucl_io.specs.Lines.{HasNoFeed}
 use Rattle.ucl_answers.specs.Rows.{Said, of_row}
 use Rattle.ucl_answers.specs.Rows as said
 use Rattle.ucl_answers.specs.declared.row.Stand.{Stand}
@@ -20,18 +19,6 @@ use Rattle.ucl_answers.specs.declared.row.Deed.TheVariants.{Copy, Skip, EndField
 use Rattle.ucl_answers.specs.declared.row.Found.{Found}
 use Rattle.ucl_answers.specs.declared.row.Found.TheVariants.{Nothing, One, More}
 use Rattle.ucl_answers.specs.declared.row.Fields.{Fields}
-
--- bytes with which a line ends: their last is a line feed, and no other
-pub record IsLineEnd (bytes : List ℕ) : Type 0 where
-  pub front : List ℕ
-  pub clean : HasNoFeed front
-  pub whole : bytes ≡ front ++ 10 ∷ []
-
--- a text begins with this line, which has ended
-pub record IsFirstLine (text line : List ℕ) : Type 0 where
-  pub rest : List ℕ
-  pub parts : text ≡ line ++ rest
-  pub ends : IsLineEnd line
 
 abbrev pub csv_state_of : Stand → State
 csv_state_of StartField = st.StartField

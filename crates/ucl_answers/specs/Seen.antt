@@ -1,17 +1,17 @@
 -- What the code's values stand for.
 use Rattle.std.specs.Prelude.{◌≡◌, ⊤, ℕ, List, [], ◌∷◌, string_bytes, Result, Ok, Err}
 use Rattle.ucl_order.specs.Roster.{NamedClub, club_seen}
-use Rattle.ucl_runs.specs.declared.fault.RunFault.{RunFault}
-use Rattle.ucl_runs.specs.declared.fault.RunFault.TheVariants.{Input, OutOfMemory}
 use Rattle.ucl_answers.specs.declared.answer.Answer.{Answer}
 use Rattle.ucl_answers.specs.declared.answer.Answer.TheVariants.{Short, Long}
-use Rattle.ucl_answers.specs.declared.evening.Evening.{Evening as Held}
+use Rattle.ucl_answers.specs.declared.fault.BeginningFault.{BeginningFault}
+use Rattle.ucl_answers.specs.declared.fault.LiveFault.{LiveFault}
+use Rattle.ucl_answers.specs.declared.fault.LiveFault.TheVariants.{Beginning, OutOfMemory}
 use Rattle.ucl_answers.specs.declared.stage.Clubs.{Clubs}
 use Rattle.ucl_answers.specs.declared.stage.Clubs.TheVariants.{NoClub, One, Two, Three}
 use Rattle.ucl_answers.specs.declared.stage.Stage.{Stage as Reached}
 use Rattle.ucl_answers.specs.declared.stage.Stage.TheVariants as reached
+use Rattle.ucl_answers.specs.Faults.{input_fault}
 use Rattle.ucl_answers.specs.Stages.{Stage, Naming, Restoring, Open, Refused}
-use Rattle.ucl_answers.specs.Text.{Evening}
 
 abbrev pub clubs_seen : Clubs → List NamedClub
 clubs_seen NoClub = []
@@ -24,21 +24,16 @@ stage_seen (reached.Naming clubs) = Naming (clubs_seen clubs)
 stage_seen (reached.Restoring some) = Restoring some.roster some.words.items
 stage_seen (reached.Open table) = Open table.roster table.board
 
-abbrev pub evening_seen : Held → Evening
-evening_seen e = record { options = e.options; row = e.row; stage = stage_seen e.stage }
-
 -- what became of a stage is this one
-abbrev pub Becomes : Stage → Result Reached RunFault → Type 0
+abbrev pub Becomes : Stage → Result Reached BeginningFault → Type 0
 Becomes stage (Ok s) = stage_seen s ≡ stage
-Becomes stage (Err (Input fault)) = stage ≡ Refused fault
-Becomes stage (Err _) = ⊥
+Becomes stage (Err fault) = stage ≡ Refused (input_fault fault)
 
 -- or there was no memory
-abbrev pub BecomesIfMemory : Stage → Result Reached RunFault → Type 0
+abbrev pub BecomesIfMemory : Stage → Result Reached LiveFault → Type 0
 BecomesIfMemory stage (Ok s) = stage_seen s ≡ stage
-BecomesIfMemory stage (Err (Input fault)) = stage ≡ Refused fault
+BecomesIfMemory stage (Err (Beginning fault)) = stage ≡ Refused (input_fault fault)
 BecomesIfMemory stage (Err OutOfMemory) = ⊤
-BecomesIfMemory stage (Err _) = ⊥
 
 -- the bytes of an answer
 abbrev pub bytes_of : Answer → List ℕ

@@ -17,16 +17,15 @@ use itoa::Buffer;
 use std::alloc::{AllocError, Global};
 use ucl_command::{Format, LiveArgs};
 use ucl_json::{bad_row_json, reply_json, screen_json};
-use ucl_runs::RunFault;
 use ucl_screen::{NightEvent, screen};
-use ucl_word::{Accepted, Refusal};
+use ucl_word::{Accepted, OutOfMemory, Refusal};
 
 /// The line of a reply, which takes no memory.
 pub type ReplyLine = ArrayString<64>;
 
 /// An answer.
 #[derive(Drop)]
-pub(crate) enum Answer {
+pub enum Answer {
     /// The line of a reply.
     Short(ReplyLine),
     /// Any text.
@@ -163,10 +162,9 @@ pub(crate) fn screen_answer(
     options: &LiveArgs,
     row: u64,
     table: &Table,
-) -> Result<Answer, RunFault>
-    ensures text { IfOk result (λ answer.
+) -> Result<Answer, OutOfMemory>
+    ensures { IfOk result (λ answer.
         bytes_of answer ≡ screen_answer options.now row table.now.roster table.now.board) }
-    ensures memory { IfErr result (λ f. f ≡ RunFault.OutOfMemory) }
 {
     let text = match options.format {
         Format::Text => screen(

@@ -1,130 +1,162 @@
-//! An evening between two lines.
+//! An evening, which answers lines.
 
-ghost use Rattle.std.specs.Prelude.{◌≡◌, ◌+◌, ◌-◌, ◌^◌, ◌<◌, IfErr, IfOk, OnOk, option_map};
+ghost use Rattle.std.specs.Prelude.{◌≡◌, ◌+◌, ⊤, IfErr, IfOk, OnOk, option_map};
 ghost use Rattle.ucl_screen.specs.Rows.{four_seen};
-ghost use Rattle.ucl_runs.specs.Run.{SinkFails};
-ghost use Rattle.ucl_io.specs.Output.{HasPut};
-ghost use Rattle.ucl_answers.specs.Output.{FailsToPut, sink_change};
 ghost use Rattle.ucl_answers.specs.BadRows.{shown_text};
-ghost use Rattle.ucl_answers.specs.Rows.{Nothing, of_row};
+ghost use Rattle.ucl_answers.specs.Holding.{AsksAt, Closes, HasNoAnswer, HasNoEnd, StopsAt, evening_at, evening_of, parts_bytes};
 ghost use Rattle.ucl_answers.specs.Requests.{request_of};
-ghost use Rattle.ucl_answers.specs.Seen.{evening_seen, stage_seen};
-ghost use Rattle.ucl_answers.specs.Stages.{after_row};
-ghost use Rattle.ucl_answers.specs.Stepping.{AsksAt, AsksForMemory, EveningIsRefused, StageIsRefused};
-ghost use Rattle.ucl_answers.specs.Text.{answer_said, answer_at, next};
+ghost use Rattle.ucl_answers.specs.Rows.{of_row, said_on};
+ghost use Rattle.ucl_answers.specs.Seen.{stage_seen};
+ghost use Rattle.ucl_answers.specs.Stages.{after_row, next_stage};
+ghost use Rattle.ucl_answers.specs.Text.{answer_at, answer_said, next, start_of};
 
-use crate::page::Page;
+use crate::fault::LiveFault;
+use crate::line::{LineReader, plain_row};
+use crate::parts::Parts;
 use crate::request::request_of;
+use crate::row::Found;
 use crate::stage::{Clubs, Stage, with_club};
 use std::alloc::Global;
 use std::mem;
 use ucl_command::LiveArgs;
-use ucl_runs::RunFault;
-use ucl_screen::{Four, Sink};
+use ucl_io::LineMachine;
+use ucl_screen::Four;
 
-/// An evening between two lines: how it answers, which line comes next, counted from 1, and how far it is.
+/// An evening between two lines: how it answers, how far it is, and what it reads lines by.
 #[derive(Drop)]
-pub(crate) struct Evening {
-    pub(crate) options: LiveArgs,
-    pub(crate) row: u64,
-    pub(crate) stage: Stage,
+pub struct Evening {
+    alloc: Global,
+    options: LiveArgs,
+    stage: Stage,
+    reader: LineReader,
 }
 
-/// Answers a row, which has four fields or is garbled, and whose text is this, and gives the stage after it.
-#[tactic(auto, using(crate::proofs::Puts::put_nothing))]
-fn after_row<W: Sink>(
+/// Answers a row, whose text is this, at the stage in which it is read, and gives the stage after it.
+fn after_row(
     alloc: Global,
     options: &LiveArgs,
     row: u64,
     stage: Stage,
     said: &Option<Four<'_>>,
     text: &[u8],
-    page: &mut Page,
-    sink: &mut W,
-) -> Result<Stage, RunFault>
+    parts: &mut Parts,
+) -> Result<Stage, LiveFault>
     ensures next { IfOk result (λ after. stage_seen after
         ≡ after_row row (stage_seen stage) (of_row (option_map four_seen said.now))) }
-    ensures put { OnOk result (HasPut page.old page.new (W.taken sink.old) (W.taken sink.new)
-        (answer_at options.now row (stage_seen stage)
-        (request_of (of_row (option_map four_seen said.now))) (shown_text text.now))) }
-    ensures sound { OnOk result (W.failed sink.new ≡ W.failed sink.old) }
-    ensures fails { IfErr result (FailsToPut page.old page.new
-        (sink_change W.Sink sink.old sink.new)
-        (answer_at options.now row (stage_seen stage)
-        (request_of (of_row (option_map four_seen said.now))) (shown_text text.now))
+    ensures text { OnOk result (parts_bytes parts.new ≡ answer_at options.now row (stage_seen stage)
+        (request_of (of_row (option_map four_seen said.now))) (shown_text text.now)) }
+    ensures stops { IfErr result (StopsAt
         (AsksAt options.now (stage_seen stage)
         (request_of (of_row (option_map four_seen said.now))))
-        (StageIsRefused
-        (after_row row (stage_seen stage) (of_row (option_map four_seen said.now))))) }
-    ensures sink_fails { IfErr result (SinkFails (W.failed sink.old) (W.failed sink.new)) }
+        (after_row row (stage_seen stage) (of_row (option_map four_seen said.now)))) }
 {
-    let _written = page.written();
+    parts.put_nothing();
     match stage {
         Stage::Naming(clubs) => with_club(alloc, row, clubs, said),
-        Stage::Restoring(some) => some.with_row(row, said),
+        Stage::Restoring(some) => Ok(some.with_row(row, said)?),
         Stage::Open(table) => {
-            let request = request_of(said);
             let mut table = table;
-            table.answered(alloc, options, row, &request, text, page, sink)?;
+            table.answered(alloc, options, row, &request_of(said), text, parts)?;
             Ok(Stage::Open(table))
         }
     }
 }
 
-impl Evening {
-    /// Passes over a line with nothing on it.
-    pub(crate) fn pass(&mut self)
-        requires { self.old.row < 2 ^ 64 - 1 }
-        ensures { evening_seen self.new ≡ next (evening_seen self.old) Nothing }
-    {
-        self.row += 1;
-    }
-
-    /// Answers a row, which has four fields or is garbled, and whose text is this.
-    pub(crate) fn answer<W: Sink>(
+impl Stage {
+    /// Answers a row of this number, which has four fields or is garbled, and whose text is this.
+    fn answered(
         &mut self,
         alloc: Global,
+        options: &LiveArgs,
+        row: u64,
         said: &Option<Four<'_>>,
         text: &[u8],
-        page: &mut Page,
-        sink: &mut W,
-    ) -> Result<(), RunFault>
-        requires { self.old.row < 2 ^ 64 - 1 }
-        ensures next { OnOk result (evening_seen self.new
-            ≡ next (evening_seen self.old) (of_row (option_map four_seen said.now))) }
-        ensures put { OnOk result (HasPut page.old page.new (W.taken sink.old) (W.taken sink.new)
-            (answer_said (evening_seen self.old) (of_row (option_map four_seen said.now))
-            (shown_text text.now))) }
-        ensures sound { OnOk result (W.failed sink.new ≡ W.failed sink.old) }
-        ensures fails { IfErr result (FailsToPut page.old page.new
-            (sink_change W.Sink sink.old sink.new)
-            (answer_said (evening_seen self.old) (of_row (option_map four_seen said.now))
-            (shown_text text.now))
-            (AsksForMemory (evening_seen self.old) (of_row (option_map four_seen said.now)))
-            (EveningIsRefused
-            (next (evening_seen self.old) (of_row (option_map four_seen said.now))))) }
-        ensures sink_fails { IfErr result (SinkFails (W.failed sink.old) (W.failed sink.new)) }
+        parts: &mut Parts,
+    ) -> Result<(), LiveFault>
+        ensures next { OnOk result (stage_seen self.new
+            ≡ next_stage row (stage_seen self.old) (of_row (option_map four_seen said.now))) }
+        ensures text { OnOk result (parts_bytes parts.new
+            ≡ answer_said (evening_at options.now row (stage_seen self.old))
+            (of_row (option_map four_seen said.now)) (shown_text text.now)) }
+        ensures stops { IfErr result
+            (HasNoAnswer (evening_at options.now row (stage_seen self.old))
+            (of_row (option_map four_seen said.now))) }
     {
-        match &mut self.stage {
-            Stage::Open(table) => {
-                let request = request_of(said);
-                table.answered(alloc, &self.options, self.row, &request, text, page, sink)?;
+        if let Stage::Open(table) = self {
+            table.answered(alloc, options, row, &request_of(said), text, parts)?;
+            return Ok(());
+        }
+        let stage = mem::replace(self, Stage::Naming(Clubs::NoClub)).opened(said);
+        *self = after_row(alloc, options, row, stage, said, text, parts)?;
+        Ok(())
+    }
+}
+
+impl Evening {
+    /// Before the first line.
+    pub(crate) fn new(alloc: Global, options: LiveArgs) -> Evening
+        ensures { evening_of result 1 ≡ start_of options }
+    {
+        Evening {
+            alloc,
+            options,
+            stage: Stage::Naming(Clubs::NoClub),
+            reader: LineReader::new(),
+        }
+    }
+}
+
+impl LineMachine for Evening {
+    type Answer = Parts;
+
+    type Fault = LiveFault;
+
+    ghost ready = { λ _. ⊤ };
+
+    ghost answers = { λ m row line n text.
+        (evening_of n (row + 1) ≡ next (evening_of m row) (said_on row line))
+        × (text ≡ answer_said (evening_of m row) (said_on row line) (shown_text line)) };
+
+    ghost stops = { λ m row line fault. HasNoAnswer (evening_of m row) (said_on row line) fault };
+
+    ghost ends = { λ m row begun _ text. Closes (evening_of m row) begun text };
+
+    ghost stops_at_end = { λ m row begun fault. HasNoEnd (evening_of m row) begun fault };
+
+    fn answer(&mut self, row: u64, line: &[u8], text: &mut Parts) -> Result<(), LiveFault> {
+        if let Some(four) = plain_row(row, line) {
+            return self
+                .stage
+                .answered(self.alloc, &self.options, row, &Some(four), line, text);
+        }
+        match self.reader.read(row, line) {
+            Found::Nothing => {
+                text.put_nothing();
+                Ok(())
             }
-            _ => {
-                let stage = mem::replace(&mut self.stage, Stage::Naming(Clubs::NoClub));
-                self.stage = after_row(
-                    alloc,
-                    &self.options,
-                    self.row,
-                    stage.opened(said),
-                    said,
-                    text,
-                    page,
-                    sink,
-                )?;
+            Found::More => self
+                .stage
+                .answered(self.alloc, &self.options, row, &None, line, text),
+            Found::One => {
+                let four = self.reader.four();
+                self.stage
+                    .answered(self.alloc, &self.options, row, &four, line, text)
             }
         }
-        self.row += 1;
-        Ok(())
+    }
+
+    fn end(&mut self, row: u64, begun: &[u8], text: &mut Parts) -> Result<(), LiveFault> {
+        if begun.is_empty() {
+            text.put_nothing();
+            return match self.stage.missing(row) {
+                Some(fault) => Err(LiveFault::Beginning(fault)),
+                None => Ok(()),
+            };
+        }
+        self.answer(row, begun, text)?;
+        match self.stage.missing(row.saturating_add(1)) {
+            Some(fault) => Err(LiveFault::Beginning(fault)),
+            None => Ok(()),
+        }
     }
 }

@@ -4,12 +4,12 @@
 
 mod answer;
 mod bad_row;
-mod desk;
 mod evening;
+mod fault;
 mod laws;
-mod lines;
+mod line;
 mod live;
-mod page;
+mod parts;
 mod plain;
 mod program;
 mod request;
@@ -19,13 +19,15 @@ mod stage;
 mod table;
 mod words;
 
-pub use answer::{ReplyLine, accepted_line, bad_line, refused_line};
+pub use answer::{Answer, ReplyLine, accepted_line, bad_line, refused_line};
+pub use evening::Evening;
+pub use fault::{BeginningFault, LiveFault};
 pub use laws::{
     beginnings_are_answered, boards_take_events, evenings_are_sequential, evenings_say_the_same,
     first_rows_open_the_board, json_answers_are_lines, json_says_the_same, lines_are_read_whole,
     refused_evenings_are_silent, replies_are_those_of_feed,
 };
-pub use live::{Live, Progress, live_run};
+pub use live::live_run;
+pub use parts::Parts;
 pub use program::run_evening;
-pub use row::MOST_LINE_BYTES;
 pub use words::{Lines, word_lines};

@@ -1,6 +1,6 @@
 //! The fields of a row that has no quotes, read where they lie.
 
-ghost use Rattle.std.specs.Prelude.{◌≡◌, ◌≤◌, IfSome, length, take};
+ghost use Rattle.std.specs.Prelude.{◌≡◌, ◌≤◌, ◌++◌, [], ◌∷◌, IfSome, length, take};
 ghost use Rattle.csv.specs.Reading.{default_config, records};
 ghost use Rattle.ucl_screen.specs.Rows.{four_seen};
 ghost use Rattle.ucl_answers.specs.Rows.{Row, of_rows};
@@ -29,9 +29,10 @@ fn field_length(text: &[u8]) -> usize
     text.len()
 }
 
-/// The first field of a text, which ends at a comma and is not in quotes, and what comes after the comma.
+/// The first field of a line, which ends at a comma and is not in quotes, and what comes after the comma.
 fn halves(text: &[u8]) -> Option<(&[u8], &[u8])>
-    ensures { IfSome result (λ p. IsFieldBefore text.now p.0.now p.1.now) }
+    ensures { IfSome result
+        (λ p. IsFieldBefore (text.now ++ 10 ∷ []) p.0.now (p.1.now ++ 10 ∷ [])) }
 {
     let at = field_length(text);
     if at < text.len() && text[at] == b',' {
@@ -43,7 +44,7 @@ fn halves(text: &[u8]) -> Option<(&[u8], &[u8])>
 
 /// The last field of a row, which is not in quotes and has nothing but ends of lines behind it.
 fn last_field(text: &[u8]) -> Option<&[u8]>
-    ensures { IfSome result (λ field. EndsRow text.now field.now) }
+    ensures { IfSome result (λ field. EndsRow (text.now ++ 10 ∷ []) field.now) }
 {
     let at = field_length(text);
     if without_ends(&text[at..]).is_empty() {
@@ -53,10 +54,10 @@ fn last_field(text: &[u8]) -> Option<&[u8]>
     }
 }
 
-/// The fields of a text that is one row of four fields of which none is in quotes.
+/// The fields of a line that is one row of four fields of which none is in quotes. Its line feed is not with it.
 pub(crate) fn plain_four(text: &[u8]) -> Option<Four<'_>>
-    ensures { IfSome result
-        (λ four. of_rows (records default_config text.now) ≡ Row (four_seen four)) }
+    ensures { IfSome result (λ four.
+        of_rows (records default_config (text.now ++ 10 ∷ [])) ≡ Row (four_seen four)) }
 {
     let (first, rest) = halves(text)?;
     let (second, rest) = halves(rest)?;

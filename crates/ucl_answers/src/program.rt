@@ -2,6 +2,8 @@
 
 ghost use Rattle.ucl_answers.specs.Program.{RunsEvening};
 
+use crate::evening::Evening;
+use crate::fault::run_fault;
 use crate::live::live_run;
 use std::alloc::Global;
 use ucl_command::{LineFault, LiveArgs};
@@ -15,7 +17,7 @@ use ucl_screen::{Sink, Source};
 pub fn run_evening<S: Source, W: Sink, E: Sink>(
     alloc: Global,
     asked: Result<LiveArgs, LineFault>,
-    duplex: &mut Duplex<S, W, ()>,
+    duplex: &mut Duplex<S, W, Evening>,
     errors: &mut E,
 ) -> u8
     ensures { RunsEvening S.Source W.Sink asked duplex.old duplex.new result
@@ -23,7 +25,10 @@ pub fn run_evening<S: Source, W: Sink, E: Sink>(
 {
     match asked {
         Ok(options) => {
-            let done = live_run(alloc, options, duplex);
+            let done = match live_run(alloc, options, duplex) {
+                Ok(()) => Ok(()),
+                Err(fault) => Err(run_fault(fault)),
+            };
             ended(errors, done)
         }
         Err(fault) => ended_unasked(&mut duplex.sink, errors, fault),

@@ -3,17 +3,18 @@
 ghost use Rattle.std.specs.Prelude.{◌≡◌, ◌+◌, ◌-◌, ◌^◌, ◌<◌, ◌≤◌, ◌++◌, [], ◌∷◌, IfOk, length, map, option_map};
 ghost use Rattle.ucl_order.specs.Roster.{bad_slot, club_seen};
 ghost use Rattle.ucl_screen.specs.Rows.{four_seen};
+ghost use Rattle.ucl_answers.specs.Faults.{input_fault};
 ghost use Rattle.ucl_answers.specs.Rows.{of_row};
 ghost use Rattle.ucl_answers.specs.Stages.{Restoring, club_said, is_word_row, missing, opened, told_row, after_club, with_clubs, with_roster, after_word, with_words, word_said};
 ghost use Rattle.ucl_answers.specs.Seen.{Becomes, BecomesIfMemory, clubs_seen, stage_seen};
 
+use crate::fault::{BeginningFault, LiveFault};
 use crate::some_words::SomeWords;
 use arrayvec::ArrayVec;
 use std::alloc::{AllocError, Global};
 use ucl_board::Board;
 use ucl_order::{Club, Roster};
-use ucl_runs::RunFault;
-use ucl_screen::{Four, InputFault, club_of_fields, word_of_fields};
+use ucl_screen::{Four, club_of_fields, word_of_fields};
 
 /// The clubs that are named so far, fewer than four.
 #[derive(Drop)]
@@ -54,10 +55,10 @@ fn told_row(row: u64) -> u32
 }
 
 /// A row that is missing, or is not as its place demands.
-pub(crate) fn bad_row(row: u64) -> InputFault
-    ensures { result ≡ InputFault.BadRow (told_row row) }
+fn bad_row(row: u64) -> BeginningFault
+    ensures { result ≡ BeginningFault.BadRow (told_row row) }
 {
-    InputFault::BadRow { row: told_row(row) }
+    BeginningFault::BadRow { row: told_row(row) }
 }
 
 /// The club that a row says.
@@ -107,7 +108,7 @@ impl Clubs {
     }
 
     /// The stage with one club more.
-    fn with(self, club: Club) -> Result<Stage, RunFault>
+    fn with(self, club: Club) -> Result<Stage, BeginningFault>
         ensures { Becomes (with_clubs (clubs_seen self ++ club_seen club ∷ [])) result }
     {
         let clubs = match self {
@@ -121,7 +122,7 @@ impl Clubs {
 }
 
 /// The stage after four clubs.
-fn named(clubs: [Club; 4]) -> Result<Stage, RunFault>
+fn named(clubs: [Club; 4]) -> Result<Stage, BeginningFault>
     ensures { Becomes (with_roster (map club_seen clubs) (bad_slot (map club_seen clubs))) result }
 {
     match Roster::new(clubs) {
@@ -129,7 +130,7 @@ fn named(clubs: [Club; 4]) -> Result<Stage, RunFault>
             roster,
             words: ArrayVec::new(),
         })),
-        Err(bad) => Err(RunFault::Input(InputFault::BadRoster { slot: bad.slot })),
+        Err(bad) => Err(BeginningFault::BadRoster { slot: bad.slot }),
     }
 }
 
@@ -139,21 +140,21 @@ pub(crate) fn with_club(
     row: u64,
     clubs: Clubs,
     said: &Option<Four<'_>>,
-) -> Result<Stage, RunFault>
+) -> Result<Stage, LiveFault>
     ensures { BecomesIfMemory (after_club row (clubs_seen clubs)
         (club_said (length (clubs_seen clubs) + 1) (of_row (option_map four_seen said.now))))
         result }
 {
     match club_said(alloc, clubs.next_slot(), said)? {
-        None => Err(RunFault::Input(bad_row(row))),
-        Some(club) => clubs.with(club),
+        None => Err(LiveFault::Beginning(bad_row(row))),
+        Some(club) => Ok(clubs.with(club)?),
     }
 }
 
 impl SomeWords {
     /// The stage with one word more.
     #[tactic(auto, using(crate::proofs::ReadWords::words_read, crate::proofs::ReadWords::words_bad))]
-    fn with(self, word: u64) -> Result<Stage, RunFault>
+    fn with(self, word: u64) -> Result<Stage, BeginningFault>
         ensures { Becomes (with_words self.roster (self.words.items ++ word ∷ [])) result }
     {
         let SomeWords { roster, words } = self;
@@ -162,21 +163,21 @@ impl SomeWords {
         match words.into_inner() {
             Ok(twelve) => match Board::of_words(&twelve) {
                 Ok(board) => Ok(Stage::Open(Table { roster, board })),
-                Err(bad) => Err(RunFault::Input(InputFault::BadWordAt { index: bad.index })),
+                Err(bad) => Err(BeginningFault::BadWordAt { index: bad.index }),
             },
             Err(words) => Ok(Stage::Restoring(SomeWords { roster, words })),
         }
     }
 
     /// The stage after a row with this number that has to give a word.
-    pub(crate) fn with_row(self, row: u64, said: &Option<Four<'_>>) -> Result<Stage, RunFault>
+    pub(crate) fn with_row(self, row: u64, said: &Option<Four<'_>>) -> Result<Stage, BeginningFault>
         ensures { Becomes (after_word row self.roster self.words.items
             (word_said (length self.words.items + 1) (of_row (option_map four_seen said.now))))
             result }
     {
         let game = self.words.len() as u8 + 1;
         match word_said(game, said) {
-            None => Err(RunFault::Input(bad_row(row))),
+            None => Err(bad_row(row)),
             Some(word) => self.with(word),
         }
     }
@@ -211,8 +212,8 @@ impl Stage {
     }
 
     /// Why an evening is refused that ends here, before a line with this number.
-    pub(crate) fn missing(&self, row: u64) -> Option<InputFault>
-        ensures { result ≡ missing row (stage_seen self.now) }
+    pub(crate) fn missing(&self, row: u64) -> Option<BeginningFault>
+        ensures { option_map input_fault result ≡ missing row (stage_seen self.now) }
     {
         match self {
             Stage::Naming(_) => Some(bad_row(row)),

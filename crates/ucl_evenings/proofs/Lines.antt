@@ -1,5 +1,5 @@
 -- Lines whose events a reporter's pass has reported, one after the other.
-use Rattle.std.proofs.Common.{◌≡◌, ℕ, ◌+◌, List, [], ◌∷◌, ◌++◌, length, refl, sym, ap, ap₂, ◌∙◌, subst, arith, length-append}
+use Rattle.std.proofs.Common.{◌≡◌, ℕ, ◌+◌, List, [], ◌∷◌, ◌++◌, length, sym, ap, ap₂, ◌∙◌, subst, arith, length-append}
 use Rattle.ucl_word.specs.declared.event.EventCall.{EventCall}
 use Rattle.ucl_shared.specs.Passes.{PassView, IsSound, ReportsMore}
 use Rattle.ucl_evenings.specs.declared.typed.Typed.{Typed}

@@ -1,5 +1,5 @@
 -- What a reporter's run comes to, from what the driver says of it.
-use Rattle.std.proofs.Common.{◌≡◌, ◌⊎◌, ℕ, ◌+◌, ◌≤◌, Bool, List, [], ◌∷◌, ◌++◌, length, Option, refl, sym, ap, ap₂, ◌∙◌, subst, inl, inr, append_assoc, append-nil, arith, length-append}
+use Rattle.std.proofs.Common.{◌≡◌, ◌⊎◌, ℕ, ◌+◌, ◌≤◌, Bool, List, [], ◌∷◌, ◌++◌, length, refl, sym, ap, ap₂, ◌∙◌, subst, inl, inr, append_assoc, append-nil, arith, length-append}
 use Rattle.std.specs.Prelude.{⊤, Result, Ok, Err}
 use Rattle.std.specs.Io.KnownBytes.{Appends, Consumes}
 use mathlib.Core.List.{IsPrefix}
@@ -8,7 +8,7 @@ use Rattle.ucl_io.specs.declared.fault.PumpFault.{PumpFault}
 use Rattle.ucl_io.specs.declared.fault.PumpFault.TheVariants.{Machine, ReadFailed, TooLong, WriteFailed}
 use Rattle.ucl_io.specs.Calls.{Device, LogsCalls}
 use Rattle.ucl_io.specs.Output.{SinkEnds, StoppedAt}
-use Rattle.ucl_io.specs.Turns.{AreGiven, AreTurns, IsLeft, KeptBack, StopsNext, Turn, lines_in, state_after, text_in}
+use Rattle.ucl_io.specs.Turns.{AreGiven, AreTurns, KeptBack, StopsNext, Turn, lines_in, state_after, text_in}
 use Rattle.ucl_io.specs.Pumping.{LineRules, HasClosed, HasMade, IsPromptAt, Pumped, Seen, StopsLast, is_source_failed, rules_of}
 use Rattle.ucl_io.proofs.Calls.{logs-as}
 use Rattle.ucl_io.proofs.Turns.{lines_count as turns_count}

@@ -1,15 +1,13 @@
 -- The screens of a reader's pass, one after the other.
 use Rattle.std.proofs.Common.{◌≡◌, ◌⊎◌, inl, inr, ℕ, ◌+◌, ◌-◌, ◌^◌, ◌<◌, ◌≤◌, min, Bool, List, [], ◌∷◌, ◌++◌, length, take, Option, refl, sym, ap, ◌∙◌, subst, append-nil, arith}
 use Rattle.std.proofs.Common.{append_assoc, length-append}
-use Rattle.std.specs.Prelude.{Some, None, IfSome}
 use Rattle.std.specs.Io.KnownBytes.{Appends}
-use Rattle.std.proofs.lemmas.List.Elements.{All-append, All-nil, All-push}
 use mathlib.Core.List.{IsPrefix}
 use Rattle.ucl_board.specs.declared.entry.Entry.{Entry}
 use Rattle.ucl_board.specs.declared.reading.Reading.{Reading}
 use Rattle.ucl_board.specs.History.{board_of}
 use Rattle.ucl_board.proofs.HistoryLaws.{versions as versions_are}
-use Rattle.ucl_board.proofs.Beginnings.{begins_length, begins_same, begins_take, begins_through, take_beginning}
+use Rattle.ucl_board.proofs.Beginnings.{begins_length, begins_same, take_beginning}
 use Rattle.ucl_order.specs.Roster.{NamedClub}
 use Rattle.ucl_io.proofs.MovedBytes.{appends-none, appends-then}
 use Rattle.ucl_runs.specs.declared.fault.RunFault.TheVariants.{WriteFailed}
@@ -19,7 +17,7 @@ use Rattle.ucl_runs.proofs.Parts.{stopped_second}
 use Rattle.ucl_shared.specs.Passes.{PassView, Continues, SharedReading}
 use Rattle.ucl_command.specs.declared.live.LiveArgs.{LiveArgs}
 use Rattle.ucl_answers.specs.Text.{screen_answer}
-use Rattle.ucl_evenings.specs.Showing.{AreFew, EndsWithLatest, GaveNotes, GoesOnOrStays, HasRisen, HasShownReading, IsLastBefore, RiseWithin, Screening, SoFar, no_screen, notes_and, screens_shown}
+use Rattle.ucl_evenings.specs.Showing.{AreFew, EndsWithLatest, GoesOnOrStays, HasRisen, HasShownReading, IsLastBefore, RiseWithin, Screening, SoFar, no_screen, screens_shown}
 
 rise_more : (low high version : ℕ) (versions : List ℕ) → RiseWithin low high versions → high ≤ version → RiseWithin low (version + 1) (versions ++ version ∷ [])
 unfolding RiseWithin
@@ -193,56 +191,25 @@ pub stays_prefix : (m z : PassView) → GoesOnOrStays m z → IsPrefix m.seen z.
 stays_prefix m z (inl on) = on.on.seen
 stays_prefix m z (inr same) = subst (λ (x : PassView). IsPrefix m.seen x.seen) (sym same) (begins_same m.seen)
 
--- ---- notes
+-- ---- the last version
 
-module _ {N : Type 0} (noted : N → List Entry) where
-  abbrev pub Heard : List Entry → N → Type 0
-  Heard seen note = IsPrefix (noted note) seen
-
-  pub gave_none : (old : List N) (seen : List Entry) → GaveNotes old old (Heard seen)
-  gave_none old seen = record { notes = []; more = sym (append-nil old); each = All-nil (Heard seen) }
-
-  pub gave_one : (old : List N) (note : N) (seen : List Entry) → IsPrefix (noted note) seen → GaveNotes old (old ++ note ∷ []) (Heard seen)
-  gave_one old note seen h = record { notes = note ∷ []; more = refl; each = All-push (Heard seen) [] note (All-nil (Heard seen)) h }
-
-  pub gave_given : (old : List N) (given : Option N) (seen : List Entry) → IfSome given (λ note. IsPrefix (noted note) seen) → GaveNotes old (notes_and old (Some given)) (Heard seen)
-  gave_given old (Some note) seen h = gave_one old note seen h
-  gave_given old None seen h = gave_none old seen
-
-  pub gave_on : (old new : List N) (s h : List Entry) → IsPrefix s h → GaveNotes old new (Heard s) → GaveNotes old new (Heard h)
-  gave_on old new s h on g = record { notes = g.notes; more = g.more; each = λ i d below. begins_through (noted _) s h (g.each i d below) on }
-
-  pub gave_then : (old mid new : List N) (seen : List Entry) → GaveNotes old mid (Heard seen) → GaveNotes mid new (Heard seen) → GaveNotes old new (Heard seen)
-  gave_then old mid new seen a b = record {
-    notes = a.notes ++ b.notes;
-    more = b.more ∙ ap (λ (l : List N). l ++ b.notes) a.more ∙ append_assoc old a.notes b.notes;
-    each = All-append (Heard seen) a.notes b.notes a.each b.each;
-  }
-
-  gave_by : (old new : List N) (s h : List Entry) (version : ℕ) → IsPrefix s h → length s ≤ version → GaveNotes old new (Heard s) → GaveNotes old new (Heard (take version h))
-  gave_by old new s h version on le g = record {
-    notes = g.notes;
-    more = g.more;
-    each = λ i d below. begins_take (noted _) h version (begins_through (noted _) s h (g.each i d below) on) (let n = begins_length (noted _) s (g.each i d below) in omega arith);
-  }
-
+module _ (least : ℕ) (m z : PassView) where
   -- the last reading was shown
-  pub ends_shown : (old new : List N) (m z : PassView) (reading : Reading) (versions : List ℕ) → Continues m z → SharedReading m reading z → GaveNotes old new (Heard m.seen)
-      → EndsWithLatest noted old new z (versions ++ reading.version ∷ [])
-  ends_shown old new m z reading versions on read all = record {
+  pub ends_shown : (reading : Reading) (versions : List ℕ) → SharedReading m reading z → least ≤ length m.seen → EndsWithLatest least z (versions ++ reading.version ∷ [])
+  ends_shown reading versions read low = record {
     version = reading.version;
     read_before = m.shown;
     shown_before = versions;
     read_last = read.shown;
     shown_last = refl;
-    has_all = gave_by old new m.seen z.seen reading.version on.on.seen read.low all;
+    least_is = (let at = read.low in omega arith);
   }
 
   -- the last reading has the version that was shown last
-  pub ends_same : (old new : List N) (m z : PassView) (next : ℕ) (reading : Reading) (versions : List ℕ) → Continues m z → SharedReading m reading z → GaveNotes old new (Heard m.seen)
-      → next ≤ length m.seen + 1 → (next ≡ 0) ⊎ IsLastBefore next versions → reading.version < next → EndsWithLatest noted old new z versions
-  ends_same old new m z next reading versions on read all low (inl none) less = absurd (omega arith)
-  ends_same old new m z next reading versions on read all low (inr l) less =
+  pub ends_same : (next : ℕ) (reading : Reading) (versions : List ℕ) → SharedReading m reading z → least ≤ length m.seen → next ≤ length m.seen + 1
+      → (next ≡ 0) ⊎ IsLastBefore next versions → reading.version < next → EndsWithLatest least z versions
+  ends_same next reading versions read low below (inl none) less = absurd (omega arith)
+  ends_same next reading versions read low below (inr l) less =
       let is = l.next_is in
       let at_least = read.low in
       let same : l.version ≡ reading.version = omega arith in record {
@@ -251,10 +218,5 @@ module _ {N : Type 0} (noted : N → List Entry) where
         shown_before = l.before;
         read_last = read.shown;
         shown_last = l.last ∙ ap (λ (v : ℕ). l.before ++ v ∷ []) same;
-        has_all = gave_by old new m.seen z.seen reading.version on.on.seen read.low all;
+        least_is = omega arith;
       }
-
--- a fact of what is given
-pub given_too : {N : Type 0} (P Q : N → Type 0) (given : Option N) → ((note : N) → P note → Q note) → IfSome given P → IfSome given Q
-given_too P Q (Some note) f h = f note h
-given_too P Q None f h = tt

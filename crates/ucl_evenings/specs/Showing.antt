@@ -1,10 +1,9 @@
 -- What a screen of an evening has shown: boards of ever higher versions, of one history.
-use Rattle.std.specs.Prelude.{◌≡◌, ◌⊎◌, ⊤, ℕ, ◌+◌, ◌-◌, ◌^◌, ◌≤◌, min, Bool, true, false, List, [], ◌∷◌, ◌++◌, All, length, take, Option, Some, None, Result, Ok, Err, OnOk}
+use Rattle.std.specs.Prelude.{◌≡◌, ◌⊎◌, ⊤, ℕ, ◌+◌, ◌-◌, ◌^◌, ◌<◌, ◌≤◌, min, Bool, true, false, List, [], ◌∷◌, ◌++◌, length, take, Option, Some, None, Result, Ok, Err, OnOk}
 use Rattle.std.specs.Io.KnownBytes.{Appends}
-use mathlib.Core.List.{IsPrefix}
 use Rattle.ucl_board.specs.declared.entry.Entry.{Entry}
 use Rattle.ucl_board.specs.declared.reading.Reading.{Reading}
-use Rattle.ucl_board.specs.History.{board_of}
+use Rattle.ucl_board.specs.History.{board_of, snapshot_at}
 use Rattle.ucl_order.specs.Roster.{NamedClub}
 use Rattle.ucl_runs.specs.declared.fault.RunFault.{RunFault}
 use Rattle.ucl_runs.specs.declared.fault.RunFault.TheVariants.{OutOfMemory, WriteFailed}
@@ -12,6 +11,7 @@ use Rattle.ucl_io.specs.Output.{StoppedShort}
 use Rattle.ucl_shared.specs.Passes.{PassView, Continues}
 use Rattle.ucl_command.specs.declared.live.LiveArgs.{LiveArgs}
 use Rattle.ucl_answers.specs.Text.{screen_answer}
+use Rattle.ucl_evenings.specs.declared.screen.Screen.{Screen}
 
 -- versions rise strictly, from one that is no lower than the first bound to one that is lower than the second
 unfoldable pub RiseWithin : ℕ → ℕ → List ℕ → Type 0
@@ -30,47 +30,37 @@ pub record HasRisen (k m : PassView) (versions : List ℕ) : Type 0 where
   pub always : Continues k m
   pub rise : RiseWithin (length k.seen) (length m.seen + 1) versions
 
--- a bell gave these notes more, and P holds of each
-pub record GaveNotes {N : Type 0} (old new : List N) (P : N → Type 0) : Type 0 where
-  pub notes : List N
-  pub more : new ≡ old ++ notes
-  pub each : All P notes
-
--- the notes that a bell has given, once it gave one more, or rang without one, or told the end
-abbrev pub notes_and : {N : Type 0} → List N → Option (Option N) → List N
-notes_and notes None = notes
-notes_and notes (Some None) = notes
-notes_and notes (Some (Some note)) = notes ++ note ∷ []
-
--- the passes to which a bell has told the end, once it told something to this one
-abbrev pub ends_and : {N P : Type 0} → List P → P → Option (Option N) → List P
-ends_and ends pass None = ends ++ pass ∷ []
-ends_and ends pass (Some given) = ends
-
--- the same, by whether the evening goes on
+-- the passes to which a bell has told the end, once it said to this one whether the evening goes on
 abbrev pub ends_by : {P : Type 0} → List P → P → Bool → List P
 ends_by ends pass true = ends
 ends_by ends pass false = ends ++ pass ∷ []
 
--- whatever is given is one of these
-abbrev pub OnlyGives : {N : Type 0} → (N → Type 0) → (N → Type 0) → Type 0
-OnlyGives {N} Gives P = (note : N) → Gives note → P note
+-- what is shown is the last reading of a pass, after which the least version that is shown is this
+pub record HasShownLast (m : PassView) (next : ℕ) : Type 0 where
+  pub version : ℕ
+  pub read_before : List ℕ
+  pub read_last : m.shown ≡ read_before ++ version ∷ []
+  pub next_is : next ≡ version + 1
 
--- the last version that was shown is that of the last reading, and it has all that the notes of a bell tell
-pub record EndsWithLatest {N : Type 0} (noted : N → List Entry) (told told2 : List N) (m : PassView) (versions : List ℕ) : Type 0 where
+-- a pass has taken a reading since it was waited with before
+abbrev pub HasReadSince : Option PassView → PassView → Type 0
+HasReadSince None m = ⊤
+HasReadSince (Some k) m = length k.shown < length m.shown
+
+-- the last version that was shown is that of the last reading, and is no lower than this
+pub record EndsWithLatest (least : ℕ) (m : PassView) (versions : List ℕ) : Type 0 where
   pub version : ℕ
   pub read_before : List ℕ
   pub shown_before : List ℕ
   pub read_last : m.shown ≡ read_before ++ version ∷ []
   pub shown_last : versions ≡ shown_before ++ version ∷ []
-  pub has_all : GaveNotes told told2 (λ note. IsPrefix (noted note) (take version m.seen))
+  pub least_is : least ≤ version
 
--- a bell told the end once, to the pass as it was then: after all its notes, which that had heard; and one reading came after it, the last
-pub record EndWasTold {N P : Type 0} (noted : N → List Entry) (known : P → PassView) (told told2 : List N) (ends ends2 : List P) (m : PassView) : Type 0 where
+-- a bell told the end once, to the pass as it was then; and one reading came after it, the last
+pub record EndWasTold {P : Type 0} (known : P → PassView) (ends ends2 : List P) (m : PassView) : Type 0 where
   pub pass : P
   pub version : ℕ
   pub once : ends2 ≡ ends ++ pass ∷ []
-  pub heard : GaveNotes told told2 (λ note. IsPrefix (noted note) (known pass).seen)
   pub read_after : m.shown ≡ (known pass).shown ++ version ∷ []
 
 -- what is out where a screen ends whose text this is, or would have been
@@ -80,12 +70,6 @@ ScreensEnd failed old new text Latest (Err OutOfMemory) = Appends old new text
 ScreensEnd failed old new text Latest (Err (WriteFailed count)) = StoppedShort 0 failed old new text count
 ScreensEnd failed old new text Latest (Err _) = ⊥
 
--- a screen's run, whatever it came to: which versions it showed, and how it ended
-pub record ShowsBoards {N : Type 0} (noted : N → List Entry) (options : LiveArgs) (clubs : List NamedClub) (k m : PassView) (told told2 : List N) (failed : Bool) (old new : Option (List ℕ)) (result : Result ⊤ RunFault) : Type 0 where
-  pub versions : List ℕ
-  pub risen : HasRisen k m versions
-  pub ends : ScreensEnd failed old new (screens_shown options clubs m.seen 1 versions) (EndsWithLatest noted told told2 m versions) result
-
 -- ---- one reading
 
 -- a screen between two readings: the least version that it shows, the number of the next screen, and how many bytes are out
@@ -94,12 +78,42 @@ pub record Screening : Type 0 where
   pub number : ℕ
   pub written : ℕ
 
+abbrev pub no_screen : Screening
+no_screen = record { next = 0; number = 1; written = 0 }
+
+-- ---- screens
+
+abbrev pub standing : {B V : Type 0} → Screen B V → Screening
+standing screen = record { next = screen.next; number = screen.number; written = screen.written }
+
+-- it is of this board and these clubs
+pub record IsScreenOn {B V : Type 0} (board : B) (clubs : List NamedClub) (screen : Screen B V) : Type 0 where
+  pub board_is : screen.board.value ≡ board
+  pub clubs_are : screen.roster.value ≡ clubs
+
+-- and has shown nothing yet
+pub record IsNewScreen {B V : Type 0} (board : B) (clubs : List NamedClub) (screen : Screen B V) : Type 0 where
+  pub of : IsScreenOn board clubs screen
+  pub stands : standing screen ≡ no_screen
+
+-- it is the same as before, but for what it has shown
+pub record StaysScreen {B V : Type 0} (old new : Screen B V) : Type 0 where
+  pub board : new.board ≡ old.board
+  pub roster : new.roster ≡ old.roster
+  pub options : new.options ≡ old.options
+
+-- a reading is the last of a pass, and the board after so many first entries of what that has seen
+pub record IsReadingOf (m : PassView) (reading : Reading) : Type 0 where
+  pub before : List ℕ
+  pub last : m.shown ≡ before ++ reading.version ∷ []
+  pub high : reading.version ≤ length m.seen
+  pub snapshot : reading ≡ snapshot_at m.seen reading.version
+
+-- ---- what was shown
+
 -- a pass went on, or is as it was
 abbrev pub GoesOnOrStays : PassView → PassView → Type 0
 GoesOnOrStays k m = Continues k m ⊎ (m ≡ k)
-
-abbrev pub no_screen : Screening
-no_screen = record { next = 0; number = 1; written = 0 }
 
 -- it has shown no more screens than there are versions
 abbrev pub AreFew : Screening → Type 0
@@ -126,17 +140,17 @@ pub record SoFar (options : LiveArgs) (clubs : List NamedClub) (k m : PassView) 
   pub last : (s.next ≡ 0) ⊎ IsLastBefore s.next versions
 
 -- what a further run of a screen comes to, that has begun with the pass k: all versions that it showed, before and in it, and how it ended
-pub record ShowsSince {N : Type 0} (noted : N → List Entry) (options : LiveArgs) (clubs : List NamedClub) (k m : PassView) (s : Screening) (told told2 : List N) (failed : Bool) (old new : Option (List ℕ)) (result : Result ⊤ RunFault) : Type 0 where
+pub record ShowsSince (options : LiveArgs) (clubs : List NamedClub) (least : ℕ) (k m : PassView) (s : Screening) (failed : Bool) (old new : Option (List ℕ)) (result : Result ⊤ RunFault) : Type 0 where
   pub versions : List ℕ
   pub risen : HasRisen k m versions
-  pub ends : ScreensEnd failed old new (screens_shown options clubs m.seen 1 versions) (EndsWithLatest noted told told2 m versions) result
+  pub ends : ScreensEnd failed old new (screens_shown options clubs m.seen 1 versions) (EndsWithLatest least m versions) result
   pub stands : OnOk result (SoFar options clubs k m s old new versions)
 
 -- a further run, wherever the screen began
-abbrev pub ShowsFurther : {N : Type 0} (noted : N → List Entry) (options : LiveArgs) (clubs : List NamedClub) (m m2 : PassView) (s s2 : Screening) (told told2 : List N) (failed : Bool) (mid new : Option (List ℕ)) (result : Result ⊤ RunFault) → Type 0
-ShowsFurther noted options clubs m m2 s s2 told told2 failed mid new result =
+abbrev pub ShowsFurther : (options : LiveArgs) (clubs : List NamedClub) (least : ℕ) (m m2 : PassView) (s s2 : Screening) (failed : Bool) (mid new : Option (List ℕ)) (result : Result ⊤ RunFault) → Type 0
+ShowsFurther options clubs least m m2 s s2 failed mid new result =
     (k : PassView) (old : Option (List ℕ)) (versions : List ℕ) → SoFar options clubs k m s old mid versions
-    → ShowsSince noted options clubs k m2 s2 told told2 failed old new result
+    → ShowsSince options clubs least k m2 s2 failed old new result
 
 -- a reading was shown
 pub record HasShownReading (options : LiveArgs) (clubs : List NamedClub) (reading : Reading) (before after : Screening) (old new : Option (List ℕ)) : Type 0 where

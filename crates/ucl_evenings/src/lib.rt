@@ -5,6 +5,7 @@
 mod answer;
 mod reporter;
 mod ring;
+mod screen;
 mod show;
 mod take;
 mod typed;
@@ -12,6 +13,7 @@ mod went;
 
 pub use reporter::{Reporter, Said};
 pub use ring::Ring;
-pub use show::{Bell, Screens, show_boards, show_noted, show_on};
+pub use screen::Screen;
+pub use show::{Bell, show_boards, show_noted};
 pub use take::take_rows;
 pub use went::Went;

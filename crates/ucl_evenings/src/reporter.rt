@@ -29,6 +29,10 @@ impl Text for Said {
 
     ghost front = { said_bytes };
 
+    fn new() -> Said {
+        Said::Nothing
+    }
+
     fn front(&self) -> &[u8] {
         match self {
             Said::Nothing => b"".as_slice(),
@@ -76,10 +80,16 @@ impl<'a, B: LiveBoard, V: Ring, R: Wait> LineMachine for Reporter<'a, B, V, R> {
 
     ghost stops_at_end = { λ _ _ _ _. ⊥ };
 
-    fn answer(&mut self, row: u64, line: &[u8]) -> Result<Said, RunFault> {
+    fn answer(&mut self, row: u64, line: &[u8], text: &mut Said) -> Result<(), RunFault> {
         match typed_on(line) {
-            Typed::Nothing => Ok(Said::Nothing),
-            Typed::Bad => Ok(Said::Line(bad_line(row))),
+            Typed::Nothing => {
+                *text = Said::Nothing;
+                Ok(())
+            }
+            Typed::Bad => {
+                *text = Said::Line(bad_line(row));
+                Ok(())
+            }
             Typed::Event(call) => match self.board.report(self.rt, &mut self.pass, &call) {
                 Ok(accepted) => {
                     self.bells.ring();
@@ -88,20 +98,23 @@ impl<'a, B: LiveBoard, V: Ring, R: Wait> LineMachine for Reporter<'a, B, V, R> {
                         number: accepted.number,
                         version: reading.version,
                     };
-                    Ok(Said::Line(went_line(row, call.game.get(), went)))
+                    *text = Said::Line(went_line(row, call.game.get(), went));
+                    Ok(())
                 }
                 Err(refusal) => {
                     let went = Went::Refused(refusal);
-                    Ok(Said::Line(went_line(row, call.game.get(), went)))
+                    *text = Said::Line(went_line(row, call.game.get(), went));
+                    Ok(())
                 }
             },
         }
     }
 
-    fn end(&mut self, row: u64, begun: &[u8]) -> Result<Said, RunFault> {
+    fn end(&mut self, row: u64, begun: &[u8], text: &mut Said) -> Result<(), RunFault> {
         if begun.is_empty() {
-            return Ok(Said::Nothing);
+            *text = Said::Nothing;
+            return Ok(());
         }
-        self.answer(row, begun)
+        self.answer(row, begun, text)
     }
 }

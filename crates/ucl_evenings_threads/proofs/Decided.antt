@@ -25,7 +25,7 @@ use Rattle.ucl_evenings.specs.Rows.{RunEnds}
 use Rattle.ucl_evenings_threads.specs.declared.evening.EveningEnd.{EveningEnd}
 use Rattle.ucl_evenings_threads.specs.declared.workers.Reporter.{Reporter}
 use Rattle.ucl_evenings_threads.specs.declared.workers.ReporterEnd.{ReporterEnd}
-use Rattle.ucl_evenings_threads.specs.declared.workers.Screen.{Screen}
+use Rattle.ucl_evenings.specs.declared.screen.Screen.{Screen}
 use Rattle.ucl_evenings_threads.specs.Runs.{HasAnsweredRows, IsHandedBack, views_of}
 use Rattle.ucl_evenings_threads.specs.Whole.{IsOneOf, NumbersRise}
 use Rattle.ucl_evenings_threads.specs.Held.{HasHeld, history_of_end}
@@ -181,7 +181,7 @@ module _ {B R P N S W : Type 0} (live : boards.Ghosts B R P N) (board : B) (sour
 -- ---- an evening
 
 module _ {B R P N S W V : Type 0} (live : boards.Ghosts B R P N) (board : B) (source : sources.Ghosts S) (replies : sinks.Ghosts W) (sink : sinks.Ghosts V) (clubs : List NamedClub)
-    (before : List Entry) (entered : List P) (reporters : List (Reporter S W)) (screens : List (Screen V)) (end : EveningEnd R P S W V)
+    (before : List Entry) (entered : List P) (reporters : List (Reporter S W)) (screens : List (Screen B V)) (end : EveningEnd R P S W (Screen B V))
     (held : HasHeld live board source replies sink clubs before entered reporters screens end) where
   abbrev history : List Entry
   history = history_of_end live end

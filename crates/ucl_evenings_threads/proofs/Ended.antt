@@ -1,8 +1,7 @@
 -- What reporters and screens hand back.
-use Rattle.std.proofs.Common.{◌≡◌, inl, inr, ℕ, ◌+◌, ◌<◌, ◌≤◌, Bool, List, [], ◌∷◌, ◌++◌, length, take, Option, refl, sym, ap, ◌∙◌, subst, arith}
+use Rattle.std.proofs.Common.{◌≡◌, inl, inr, ℕ, ◌+◌, ◌<◌, ◌≤◌, Bool, List, [], ◌∷◌, ◌++◌, length, Option, refl, sym, ap, ◌∙◌, subst, arith}
 use Rattle.std.specs.Prelude.{⊤, All, Result, Ok, Err, OnOk, IfErr}
-use Rattle.std.proofs.lemmas.List.{length-take}
-use Rattle.std.proofs.lemmas.List.Elements.{All-head, All-push}
+use Rattle.std.proofs.lemmas.List.Elements.{All-push}
 use mathlib.Core.List.{IsPrefix}
 use Rattle.ucl_board.specs.declared.entry.Entry.{Entry}
 use Rattle.ucl_board.proofs.Beginnings.{begins_length, begins_through}
@@ -17,11 +16,11 @@ use Rattle.ucl_evenings.specs.declared.went.Went.{Went}
 use Rattle.ucl_evenings.specs.Answering.{calls_typed}
 use Rattle.ucl_evenings.specs.Reporting.{HasReportedRows}
 use Rattle.ucl_evenings.specs.Rows.{TookRows}
-use Rattle.ucl_evenings.specs.Showing.{EndsWithLatest, RiseWithin, ScreensEnd, Screening, ShowsSince, SoFar, AreFew, GoesOnOrStays, screens_shown}
+use Rattle.ucl_evenings.specs.Showing.{RiseWithin, ScreensEnd, Screening, ShowsSince, SoFar, AreFew, GoesOnOrStays, screens_shown}
 use Rattle.ucl_evenings.proofs.ShownScreens.{goes_next, rise_count, rise_lower, rise_upper, screens_on}
 use Rattle.ucl_io.specs.declared.stream.Sink as sinks
 use Rattle.ucl_shared.specs.declared.live_board.LiveBoard as boards
-use Rattle.ucl_evenings_threads.specs.declared.workers.Screen.{Screen}
+use Rattle.ucl_evenings.specs.declared.screen.Screen.{Screen}
 use Rattle.ucl_evenings_threads.specs.declared.workers.ScreenEnd.{ScreenEnd}
 use Rattle.ucl_evenings_threads.specs.Runs.{LastIsAtLeast, LastIs, HasShownOf, SinkServed}
 use Rattle.ucl_evenings_threads.specs.Whole.{IsSeenIn}
@@ -68,7 +67,8 @@ failed_end failed old new text P Q (Strangers version) e = absurd e
 
 -- what a screen has shown of a beginning it has shown of the whole
 module _ {B R P N V : Type 0} (live : boards.Ghosts B R P N) (board : B) (sink : sinks.Ghosts V) (clubs : List NamedClub) where
-  pub shown_on : (before s h : List Entry) (Ends More : List ℕ → Type 0) (screen : Screen V) (end : ScreenEnd R V) → IsPrefix s h → ((versions : List ℕ) → Ends versions → More versions)
+  pub shown_on : (before s h : List Entry) (Ends More : List ℕ → Type 0) (screen : Screen B V) (end : ScreenEnd R (Screen B V)) → IsPrefix s h
+      → ((versions : List ℕ) → Ends versions → More versions)
       → HasShownOf live board sink clubs before s Ends screen end → HasShownOf live board sink clubs before h More screen end
   shown_on before s h Ends More screen end on f p =
       let le = begins_length s h on in record {
@@ -86,7 +86,8 @@ module _ {B R P N V : Type 0} (live : boards.Ghosts B R P N) (board : B) (sink :
 
 -- what was shown since more had been seen was shown since less had been
 pub shown_since : {B R P N V : Type 0} (live : boards.Ghosts B R P N) (board : B) (sink : sinks.Ghosts V) (clubs : List NamedClub) (first before h : List Entry) (Ends : List ℕ → Type 0)
-    (screen : Screen V) (end : ScreenEnd R V) → IsPrefix first before → HasShownOf live board sink clubs before h Ends screen end → HasShownOf live board sink clubs first h Ends screen end
+    (screen : Screen B V) (end : ScreenEnd R (Screen B V)) → IsPrefix first before → HasShownOf live board sink clubs before h Ends screen end
+    → HasShownOf live board sink clubs first h Ends screen end
 shown_since live board sink clubs first before h Ends screen end on p =
     let le = begins_length first before on in record {
       own = p.own;
@@ -97,16 +98,6 @@ shown_since live board sink clubs first before h Ends screen end on p =
       ends = p.ends;
       served = p.served;
     }
-
--- the last version has what a note tells
-pub above_note : {N : Type 0} (noted : N → List Entry) (m : PassView) (news : N) (versions : List ℕ) (least : ℕ) → length (noted news) ≡ least → EndsWithLatest noted [] (news ∷ []) m versions
-    → LastIsAtLeast least versions
-above_note {N} noted m news versions least is e =
-    let Has : N → Type 0 = λ note. IsPrefix (noted note) (take e.version m.seen) in
-    let told = All-head Has news [] (subst (All Has) (sym e.has_all.more) e.has_all.each) in
-    let le = begins_length (noted news) (take e.version m.seen) told in
-    let most = length-take e.version m.seen in
-    record { version = e.version; before = e.shown_before; last = e.shown_last; least_is = omega arith }
 
 pub above_less : (least less : ℕ) (versions : List ℕ) → less ≤ least → LastIsAtLeast least versions → LastIsAtLeast less versions
 above_less least less versions le e = let at = e.least_is in record { version = e.version; before = e.before; last = e.last; least_is = omega arith }
@@ -130,10 +121,10 @@ stands_few options clubs k m s old new versions p =
     let few = p.few in (elim p.high_is [ inl e ↦ omega arith | inr e ↦ omega arith ], omega arith)
 
 -- a screen whose thread ended well
-pub looked_few : {N : Type 0} (noted : N → List Entry) (options : LiveArgs) (clubs : List NamedClub) (k m : PassView) (s : Screening) (told told2 : List N) (failed : Bool) (old new : Option (List ℕ))
-    (r : Result ⊤ RunFault) → ShowsSince noted options clubs k m s told told2 failed old new r → OnOk r (AreFew s)
-looked_few noted options clubs k m s told told2 failed old new (Ok done) p = stands_few options clubs k m s old new p.versions p.stands
-looked_few noted options clubs k m s told told2 failed old new (Err f) p = tt
+pub looked_few : (options : LiveArgs) (clubs : List NamedClub) (least : ℕ) (k m : PassView) (s : Screening) (failed : Bool) (old new : Option (List ℕ)) (r : Result ⊤ RunFault)
+    → ShowsSince options clubs least k m s failed old new r → OnOk r (AreFew s)
+looked_few options clubs least k m s failed old new (Ok done) p = stands_few options clubs k m s old new p.versions p.stands
+looked_few options clubs least k m s failed old new (Err f) p = tt
 
 -- ---- a sink
 

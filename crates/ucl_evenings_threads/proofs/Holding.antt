@@ -23,7 +23,7 @@ use Rattle.ucl_evenings_threads.specs.declared.tally.Tally.{Tally}
 use Rattle.ucl_evenings_threads.specs.declared.workers.Reporter.{Reporter}
 use Rattle.ucl_evenings_threads.specs.declared.workers.ReporterEnd.{ReporterEnd}
 use Rattle.ucl_evenings_threads.specs.declared.workers.Enlisted.{Enlisted}
-use Rattle.ucl_evenings_threads.specs.declared.workers.Screen.{Screen}
+use Rattle.ucl_evenings.specs.declared.screen.Screen.{Screen}
 use Rattle.ucl_evenings_threads.specs.declared.workers.ScreenEnd.{ScreenEnd}
 use Rattle.ucl_evenings_threads.specs.declared.workers.Looking.{Looking}
 use Rattle.ucl_evenings_threads.specs.Runs.{LastIsAtLeast, LastIs, HasAnsweredRows, HasRun, HasShownAbove, HasShownOf, HasTakenRows, WasEnlisted, IsLooking, views_of}
@@ -51,7 +51,7 @@ module _ (p z : PassView) (last : Reading) (on : Continues p z) (read : SharedRe
       (whole_long ∙ same)
 
 module _ {B R P N V : Type 0} (live : boards.Ghosts B R P N) (board : B) (sink : sinks.Ghosts V) (clubs : List NamedClub) where
-  shown_whole : (before s h : List Entry) (version : ℕ) (screen : Screen V) (end : ScreenEnd R V) → IsPrefix s h → length h ≡ version
+  shown_whole : (before s h : List Entry) (version : ℕ) (screen : Screen B V) (end : ScreenEnd R (Screen B V)) → IsPrefix s h → length h ≡ version
       → HasShownOf live board sink clubs before s (LastIsAtLeast version) screen end → HasShownOf live board sink clubs before h (LastIs version) screen end
   shown_whole before s h version screen end on long p =
       let q = shown_on live board sink clubs before s h (LastIsAtLeast version) (LastIsAtLeast version) screen end on (λ versions e. e) p in record {
@@ -66,7 +66,8 @@ module _ {B R P N V : Type 0} (live : boards.Ghosts B R P N) (board : B) (sink :
         served = q.served;
       }
 
-  pub shown_at_end : (first before s h : List Entry) (version least : ℕ) (screens : List (Screen V)) (lookings : List (Looking R V)) (ends : List (ScreenEnd R V)) → IsPrefix first before
+  pub shown_at_end : (first before s h : List Entry) (version least : ℕ) (screens : List (Screen B V)) (lookings : List (Looking R (Screen B V)))
+      (ends : List (ScreenEnd R (Screen B V))) → IsPrefix first before
       → IsPrefix s h → length h ≡ version → version ≡ least → AllZip (IsLooking live board before) screens lookings
       → AllZip (HasShownAbove live board sink clubs s least) lookings ends → AllZip (HasShownOf live board sink clubs first h (LastIs version)) screens ends
   shown_at_end first before s h version least screens lookings ends early on long same looking shown =
@@ -76,7 +77,7 @@ module _ {B R P N V : Type 0} (live : boards.Ghosts B R P N) (board : B) (sink :
       shown_since live board sink clubs first seen h (LastIs version) screen end (begins_through first before seen early l.since)
       (shown_whole seen s h version screen end on long
       (subst (λ (n : ℕ). HasShownOf live board sink clubs seen s (LastIsAtLeast n) screen end) (sym same)
-      (subst (λ (x : Screen V). HasShownOf live board sink clubs seen s (LastIsAtLeast least) x end) l.same p))))
+      (subst (λ (x : Screen B V). HasShownOf live board sink clubs seen s (LastIsAtLeast least) x end) l.same p))))
       screens lookings ends looking shown
 
 module _ (reporter : ℕ) (s h : List Entry) (on : IsPrefix s h) where

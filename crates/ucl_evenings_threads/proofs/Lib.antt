@@ -1,5 +1,6 @@
 pub mod Counting
 pub mod Zips
+pub mod Splits
 pub mod Ended
 pub mod Closing
 pub mod Holding

@@ -10,6 +10,7 @@ use Rattle.ucl_runs.specs.Run.{IsCutShort}
 use Rattle.ucl_runs.specs.Telling.{Tells}
 use Rattle.ucl_runs.specs.Faults.{status}
 use Rattle.ucl_runs.specs.declared.fault.RunFault.{RunFault}
+use Rattle.ucl_evenings.specs.declared.screen.Screen.{Screen}
 use Rattle.ucl_evenings_threads.specs.declared.ending.Part.{Part}
 use Rattle.ucl_evenings_threads.specs.declared.ending.Worker.{Worker}
 use Rattle.ucl_evenings_threads.specs.declared.ending.Worker.TheVariants.{Reporter}
@@ -126,17 +127,18 @@ pub reporters_done : {P S W : Type 0} (i number : ℕ) (ends : List (ReporterEnd
 unfolding reporter_parts
 reporters_done {P} {S} {W} i number ends more h = ap (λ (l : List (ReporterEnd P S W)). reporter_parts number l ++ more) (past_end i ends h)
 
-pub screens_left : {R V : Type 0} (i text json : ℕ) (ends : List (ScreenEnd R V)) (end : ScreenEnd R V) (form : Format) (worker : Worker) (number text2 json2 : ℕ) → i < length ends
+pub screens_left : {B R V : Type 0} (i text json : ℕ) (ends : List (ScreenEnd R (Screen B V))) (end : ScreenEnd R (Screen B V)) (form : Format) (worker : Worker)
+    (number text2 json2 : ℕ) → i < length ends
     → end ≡ get_or ends i end → end.screen.options.format ≡ form → worker ≡ worker_for form → number ≡ number_for form text json
     → text2 ≡ text + one_of forms.Text form → json2 ≡ json + one_of forms.Json form
     → screen_parts text json (drop i ends) ≡ record { worker = worker; number = number; result = end.result } ∷ screen_parts text2 json2 (drop (i + 1) ends)
 unfolding screen_parts
-screens_left {R} {V} i text json ends end form worker number text2 json2 h at is w n t j =
+screens_left {B} {R} {V} i text json ends end form worker number text2 json2 h at is w n t j =
     rw (w, n, t, j)
-    (ap (screen_parts text json) (first_left i ends end h ∙ ap (λ (x : ScreenEnd R V). x ∷ drop (i + 1) ends) (sym at))
+    (ap (screen_parts text json) (first_left i ends end h ∙ ap (λ (x : ScreenEnd R (Screen B V)). x ∷ drop (i + 1) ends) (sym at))
     ∙ ap (λ (f : Format). record { worker = worker_for f; number = number_for f text json; result = end.result }
     ∷ screen_parts (text + one_of forms.Text f) (json + one_of forms.Json f) (drop (i + 1) ends)) is)
 
-pub screens_done : {R V : Type 0} (i text json : ℕ) (ends : List (ScreenEnd R V)) → length ends ≤ i → screen_parts text json (drop i ends) ≡ []
+pub screens_done : {B R V : Type 0} (i text json : ℕ) (ends : List (ScreenEnd R (Screen B V))) → length ends ≤ i → screen_parts text json (drop i ends) ≡ []
 unfolding screen_parts
 screens_done i text json ends h = ap (screen_parts text json) (past_end i ends h)

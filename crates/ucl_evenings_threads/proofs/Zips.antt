@@ -45,6 +45,13 @@ zip_right P Q f [] (y ∷ ys) h = absurd h
 zip_right P Q f (x ∷ xs) [] h = absurd h
 zip_right P Q f (x ∷ xs) (y ∷ ys) h = All-cons Q y ys (f x y h.0) (zip_right P Q f xs ys h.1)
 
+-- with what holds of each of the first
+pub zip_right_of : {X Y : Type 0} (P : X → Y → Type 0) (A : X → Type 0) (Q : Y → Type 0) → ((x : X) (y : Y) → P x y → A x → Q y) → (xs : List X) (ys : List Y) → AllZip P xs ys → All A xs → All Q ys
+zip_right_of P A Q f [] [] h a = All-nil Q
+zip_right_of P A Q f [] (y ∷ ys) h a = absurd h
+zip_right_of P A Q f (x ∷ xs) [] h a = absurd h
+zip_right_of P A Q f (x ∷ xs) (y ∷ ys) h a = All-cons Q y ys (f x y h.0 (All-head A x xs a)) (zip_right_of P A Q f xs ys h.1 (All-tail A x xs a))
+
 pub all_pop : {X : Type 0} (P : X → Type 0) (xs ys : List X) (x : X) → xs ≡ ys ++ x ∷ [] → All P xs → All P ys × P x
 all_pop P xs ys x e h = All-pop P xs ys (Some x) e h
 

@@ -5,6 +5,7 @@ use Rattle.ucl_runs.specs.Faults.{status}
 use Rattle.ucl_runs.specs.Telling.{Tells, fault_line}
 use Rattle.ucl_command.specs.declared.options.Format.{Format}
 use Rattle.ucl_command.specs.declared.options.Format.TheVariants as forms
+use Rattle.ucl_evenings.specs.declared.screen.Screen as shown
 use Rattle.ucl_evenings_threads.specs.declared.evening.EveningEnd.{EveningEnd}
 use Rattle.ucl_evenings_threads.specs.declared.workers.ReporterEnd.{ReporterEnd}
 use Rattle.ucl_evenings_threads.specs.declared.workers.ScreenEnd.{ScreenEnd}
@@ -61,7 +62,7 @@ one_of forms.Json forms.Json = 1
 one_of _ _ = 0
 
 -- screens: those of text and those in JSON are counted each for themselves, from these numbers on
-unfoldable pub screen_parts : {R V : Type 0} → ℕ → ℕ → List (ScreenEnd R V) → List Part
+unfoldable pub screen_parts : {B R V : Type 0} → ℕ → ℕ → List (ScreenEnd R (shown.Screen B V)) → List Part
 screen_parts text json [] = []
 screen_parts text json (end ∷ ends) =
     let form = end.screen.options.format in
@@ -69,7 +70,7 @@ screen_parts text json (end ∷ ends) =
     ∷ screen_parts (text + one_of forms.Text form) (json + one_of forms.Json form) ends
 
 -- all of an evening, in the order in which they were given
-abbrev pub parts_of : {Q P S W V : Type 0} → EveningEnd Q P S W V → List Part
+abbrev pub parts_of : {B R P S W V : Type 0} → EveningEnd R P S W (shown.Screen B V) → List Part
 parts_of end = reporter_parts 1 end.reporters.items ++ screen_parts 1 1 end.screens.items
 
 -- the status of a fault, where there is one

@@ -9,10 +9,11 @@ use Rattle.ucl_io.specs.declared.stream.Source as sources
 use Rattle.ucl_io.specs.declared.stream.Sink as sinks
 use Rattle.ucl_shared.specs.declared.live_board.LiveBoard as boards
 use Rattle.ucl_shared.specs.Passes.{PassView, IsSound}
+use Rattle.ucl_shared.specs.Shares.{Share}
 use Rattle.ucl_evenings_threads.specs.declared.workers.Reporter.{Reporter}
-use Rattle.ucl_evenings_threads.specs.declared.workers.Screen.{Screen}
+use Rattle.ucl_evenings.specs.declared.screen.Screen.{Screen}
 use Rattle.ucl_evenings_threads.specs.declared.evening.EveningEnd.{EveningEnd}
-use Rattle.ucl_evenings_threads.specs.Runs.{LastIs, HasAnsweredRows, HasShownOf, IsHandedBack, views_of}
+use Rattle.ucl_evenings_threads.specs.Runs.{LastIs, HasAnsweredRows, HasShownOf, IsHandedBack, shares_of_reporters, shares_of_screens, views_of}
 use Rattle.ucl_evenings_threads.specs.Whole.{IsTheirs}
 
 -- the passes of all who entered events: of those before the evening, and then of its reporters
@@ -23,11 +24,15 @@ all_views live end = map live.reporter end.entered.items ++ views_of live end.re
 abbrev pub history_of_end : {B R P N S W V : Type 0} → boards.Ghosts B R P N → EveningEnd R P S W V → List Entry
 history_of_end live end = take end.last.version (live.reader end.pass).seen
 
+-- the shares of a board that the screens and the reporters hand back, in the order in which they were lent
+abbrev pub shares_of_end : {B R P N S W X : Type 0} → boards.Ghosts B R P N → EveningEnd R P S W X → List Share
+shares_of_end live end = shares_of_screens live end.screens.items ++ shares_of_reporters live end.reporters.items
+
 -- there is one history, which goes on from what had been seen before: it is that of the accepted events of the reporters and of those who
 -- entered events before, and of no others; each reporter has answered its own rows, each by its place in it, whatever became of the others;
 -- each screen has shown boards of it, and ends with the last where it ended well; and the last reading is of all of it
 pub record HasHeld {B R P N S W V : Type 0} (live : boards.Ghosts B R P N) (board : B) (source : sources.Ghosts S) (replies : sinks.Ghosts W) (sink : sinks.Ghosts V)
-    (clubs : List NamedClub) (before : List Entry) (entered : List P) (reporters : List (Reporter S W)) (screens : List (Screen V)) (end : EveningEnd R P S W V) : Type 0 where
+    (clubs : List NamedClub) (before : List Entry) (entered : List P) (reporters : List (Reporter S W)) (screens : List (Screen B V)) (end : EveningEnd R P S W (Screen B V)) : Type 0 where
   pub own : live.is_reader board end.pass
   pub sound : IsSound (live.reader end.pass)
   pub high : end.last.version ≤ length (live.reader end.pass).seen

@@ -3,6 +3,8 @@ use Rattle.std.specs.Prelude.{◌≡◌, ◌⊎◌, ◌==◌, ℕ, ⊤, Bool, Li
 use Rattle.std.specs.List.{AllZip}
 use Rattle.ucl_board.specs.declared.entry.Entry.{Entry}
 use Rattle.ucl_command.specs.declared.files.EveningArgs.{EveningArgs}
+use Rattle.ucl_order.specs.Roster.{NamedClub}
+use Rattle.ucl_evenings.specs.Showing.{IsNewScreen}
 use Rattle.ucl_io.specs.declared.stream.Source as sources
 use Rattle.ucl_io.specs.declared.stream.Sink as sinks
 use Rattle.ucl_runs.specs.declared.fault.RunFault.{RunFault}
@@ -14,15 +16,16 @@ use Rattle.ucl_evenings_threads.specs.declared.earlier.Earlier.{Earlier}
 use Rattle.ucl_evenings_threads.specs.declared.evening.EveningEnd.{EveningEnd}
 use Rattle.ucl_evenings_threads.specs.declared.program.Place.{Place}
 use Rattle.ucl_evenings_threads.specs.declared.workers.Reporter.{Reporter}
-use Rattle.ucl_evenings_threads.specs.declared.workers.Screen.{Screen}
+use Rattle.ucl_evenings.specs.declared.screen.Screen.{Screen}
 use Rattle.ucl_evenings_threads.specs.Earlier.{IsWhyNotEntered, WereEntered}
 use Rattle.ucl_evenings_threads.specs.Ending.{TellsAll, first_status, parts_of}
-use Rattle.ucl_evenings_threads.specs.Held.{HasHeld}
+use Rattle.ucl_evenings_threads.specs.Held.{HasHeld, shares_of_end}
 use Rattle.ucl_evenings_threads.specs.OneReporter.{RowsDecide}
-use Rattle.ucl_evenings_threads.specs.Runs.{IsOfThreads}
+use Rattle.ucl_evenings_threads.specs.Runs.{IsOfThreads, WereSplitOff}
 
--- a screen goes to this place, in the group, the order and the form that were asked for
-pub record IsAskedFor {V : Type 0} (asked : EveningArgs) (place : Place V) (screen : Screen V) : Type 0 where
+-- a screen that has shown nothing yet goes to this place, with these clubs, in the group, the order and the form that were asked for
+pub record IsAskedFor {B V : Type 0} (board : B) (clubs : List NamedClub) (asked : EveningArgs) (place : Place V) (screen : Screen B V) : Type 0 where
+  pub new : IsNewScreen board clubs screen
   pub sink : screen.sink ≡ place.sink
   pub group : screen.options.group ≡ asked.group
   pub profile : screen.options.profile ≡ asked.profile
@@ -31,13 +34,14 @@ pub record IsAskedFor {V : Type 0} (asked : EveningArgs) (place : Place V) (scre
 -- the events of the script were entered on a board, on which this had been seen before, and then an evening was held there, with the
 -- script's clubs, of these reporters and of a screen at each place
 pub record IsEveningOf {B R P N S W V : Type 0} (live : boards.Ghosts B R P N) (board : B) (source : sources.Ghosts S) (replies : sinks.Ghosts W) (sink : sinks.Ghosts V)
-    (asked : EveningArgs) (night : Night) (before : List Entry) (reporters : List (Reporter S W)) (places : List (Place V)) (end : EveningEnd R P S W V) : Type 0 where
+    (asked : EveningArgs) (night : Night) (before : List Entry) (reporters : List (Reporter S W)) (places : List (Place V)) (end : EveningEnd R P S W (Screen B V)) : Type 0 where
   pub earlier : Earlier R P
   pub entered : WereEntered live before night.events.items earlier.pass earlier.reporters.items
-  pub screens : List (Screen V)
-  pub asked_for : AllZip (IsAskedFor asked) places screens
+  pub screens : List (Screen B V)
+  pub asked_for : AllZip (IsAskedFor board night.roster asked) places screens
   pub held : HasHeld live board source replies sink night.roster (live.reader earlier.pass).seen earlier.reporters.items reporters screens end
   pub decided : RowsDecide live source (live.reader earlier.pass).seen earlier.reporters.items reporters end
+  pub shares : WereSplitOff (live.reader earlier.pass).share (shares_of_end live end) (live.reader end.pass).share
 
 -- the evening was not held: an event of the script was not entered, or there was no memory, no thread or no number for a part of it, or the
 -- board has events of others
@@ -50,7 +54,8 @@ status_of_two first last = if first == 0 then last else first
 
 -- an evening was concluded: how each part ended was told, the words of the last board went out, or that they did not was told, and this is the
 -- exit status
-pub record Concludes {Q P S W V : Type 0} (end : EveningEnd Q P S W V) (status : ℕ) (failed : Bool) (old new : Option (List ℕ)) (errors_failed : Bool) (errors_old errors_new : Option (List ℕ)) : Type 0 where
+pub record Concludes {B R P S W V : Type 0} (end : EveningEnd R P S W (Screen B V)) (status : ℕ) (failed : Bool) (old new : Option (List ℕ))
+    (errors_failed : Bool) (errors_old errors_new : Option (List ℕ)) : Type 0 where
   pub between : Option (List ℕ)
   pub told : TellsAll (parts_of end) errors_failed errors_old between
   pub done : Result ⊤ RunFault
@@ -60,6 +65,7 @@ pub record Concludes {Q P S W V : Type 0} (end : EveningEnd Q P S W V) (status :
   pub status_is : status ≡ status_of_two (first_status (parts_of end)) last
 
 -- the same, or an evening was not held: nothing went out, the fault was told, and this is its status
-abbrev pub EndsEvening : {Q P S W V : Type 0} → Result (EveningEnd Q P S W V) RunFault → ℕ → Bool → Option (List ℕ) → Option (List ℕ) → Bool → Option (List ℕ) → Option (List ℕ) → Type 0
+abbrev pub EndsEvening : {B R P S W V : Type 0} → Result (EveningEnd R P S W (Screen B V)) RunFault → ℕ → Bool → Option (List ℕ) → Option (List ℕ)
+    → Bool → Option (List ℕ) → Option (List ℕ) → Type 0
 EndsEvening (Ok end) status failed old new errors_failed errors_old errors_new = Concludes end status failed old new errors_failed errors_old errors_new
 EndsEvening (Err fault) status failed old new errors_failed errors_old errors_new = (new ≡ old) × Ends (Err fault) status errors_failed errors_old errors_new

@@ -8,6 +8,7 @@ use Rattle.ucl_io.specs.declared.stream.Source as sources
 use Rattle.ucl_io.specs.declared.stream.Sink as sinks
 use Rattle.ucl_shared.specs.declared.live_board.LiveBoard as boards
 use Rattle.ucl_shared.specs.Passes.{PassView, IsSound, ReportsMore}
+use Rattle.ucl_shared.specs.Shares.{Share, first_half, second_half}
 use Rattle.ucl_runs.specs.declared.fault.RunFault.{RunFault}
 use Rattle.ucl_runs.specs.declared.fault.RunFault.TheVariants.{OutOfMemory, NoThread, TooManyReporters, Strangers}
 use Rattle.ucl_runs.specs.Run.{SinkFails, is_read_failed}
@@ -15,11 +16,11 @@ use Rattle.ucl_io.specs.Calls.{Device}
 use Rattle.ucl_evenings.specs.Answering.{calls_typed}
 use Rattle.ucl_evenings.specs.Reporting.{GoThrough}
 use Rattle.ucl_evenings.specs.Rows.{TookRows}
-use Rattle.ucl_evenings.specs.Showing.{RiseWithin, ScreensEnd, ShowsSince, screens_shown}
+use Rattle.ucl_evenings.specs.Showing.{IsNewScreen, IsScreenOn, RiseWithin, ScreensEnd, ShowsSince, StaysScreen, screens_shown, standing}
 use Rattle.ucl_evenings_threads.specs.declared.workers.Reporter.{Reporter}
 use Rattle.ucl_evenings_threads.specs.declared.workers.ReporterEnd.{ReporterEnd}
 use Rattle.ucl_evenings_threads.specs.declared.workers.Enlisted.{Enlisted}
-use Rattle.ucl_evenings_threads.specs.declared.workers.Screen.{Screen}
+use Rattle.ucl_evenings.specs.declared.screen.Screen.{Screen}
 use Rattle.ucl_evenings_threads.specs.declared.workers.ScreenEnd.{ScreenEnd}
 use Rattle.ucl_evenings_threads.specs.declared.workers.Looking.{Looking}
 use Rattle.ucl_evenings_threads.specs.declared.workers.Looked.{Looked}
@@ -66,6 +67,28 @@ pub record IsHandedBack {B R P N : Type 0} (live : boards.Ghosts B R P N) (board
   pub unchanged : live.reporter new ≡ live.reporter old
   pub reported : ReportsMore (live.has_reported old) 0 (live.has_reported new)
 
+-- ---- who can act on a board
+
+-- these parts were split off a share of a board, one after the other, and this is left of it
+unfoldable pub WereSplitOff : Share → List Share → Share → Type 0
+WereSplitOff share [] left = left ≡ share
+WereSplitOff share (part ∷ parts) left = (part ≡ second_half share) × WereSplitOff (first_half share) parts left
+
+abbrev pub shares_of : {B R P N : Type 0} → boards.Ghosts B R P N → List P → List Share
+shares_of {B} {R} {P} {N} live passes = map (λ (pass : P). (live.reporter pass).share) passes
+
+abbrev pub shares_enlisted : {B R P N S W : Type 0} → boards.Ghosts B R P N → List (Enlisted P S W) → List Share
+shares_enlisted {B} {R} {P} {N} {S} {W} live all = map (λ (enlisted : Enlisted P S W). (live.reporter enlisted.pass).share) all
+
+abbrev pub shares_looking : {B R P N X : Type 0} → boards.Ghosts B R P N → List (Looking R X) → List Share
+shares_looking {B} {R} {P} {N} {X} live all = map (λ (looking : Looking R X). (live.reader looking.pass).share) all
+
+abbrev pub shares_of_reporters : {B R P N S W : Type 0} → boards.Ghosts B R P N → List (ReporterEnd P S W) → List Share
+shares_of_reporters {B} {R} {P} {N} {S} {W} live ends = map (λ (end : ReporterEnd P S W). (live.reporter end.pass).share) ends
+
+abbrev pub shares_of_screens : {B R P N X : Type 0} → boards.Ghosts B R P N → List (ScreenEnd R X) → List Share
+shares_of_screens {B} {R} {P} {N} {X} live ends = map (λ (end : ScreenEnd R X). (live.reader end.pass).share) ends
+
 -- ---- reporters
 
 -- a reporter's pass of the board that has reported nothing yet
@@ -109,27 +132,30 @@ pub record HasAnsweredRows {B R P N S W : Type 0} (live : boards.Ghosts B R P N)
 
 -- ---- screens
 
--- a screen with a pass of the board
-abbrev pub IsReadyToLook : {B R P N V : Type 0} → boards.Ghosts B R P N → B → Looking R V → Type 0
-IsReadyToLook live board looking = live.is_reader board looking.pass
+-- a screen of the board that has shown nothing yet, with a pass of the board
+pub record IsReadyToLook {B R P N V : Type 0} (live : boards.Ghosts B R P N) (board : B) (clubs : List NamedClub) (looking : Looking R (Screen B V)) : Type 0 where
+  pub own : live.is_reader board looking.pass
+  pub new : IsNewScreen board clubs looking.screen
 
 -- a screen was lent a pass, which has seen all that had been seen before
-pub record IsLooking {B R P N V : Type 0} (live : boards.Ghosts B R P N) (board : B) (before : List Entry) (screen : Screen V) (looking : Looking R V) : Type 0 where
+pub record IsLooking {B R P N X : Type 0} (live : boards.Ghosts B R P N) (board : B) (before : List Entry) (screen : X) (looking : Looking R X) : Type 0 where
   pub same : looking.screen ≡ screen
   pub own : live.is_reader board looking.pass
   pub since : IsPrefix before (live.reader looking.pass).seen
 
 -- a screen has shown boards, and its thread has ended
-pub record HasLookedOn {B R P N V : Type 0} (live : boards.Ghosts B R P N) (board : B) (sink : sinks.Ghosts V) (clubs : List NamedClub) (looking : Looking R V) (end : Looked R V) : Type 0 where
+pub record HasLookedOn {B R P N V : Type 0} (live : boards.Ghosts B R P N) (board : B) (sink : sinks.Ghosts V) (clubs : List NamedClub) (looking : Looking R (Screen B V))
+    (end : Looked R (Screen B V)) : Type 0 where
   pub own : live.is_reader board end.pass
-  pub options : end.screen.options ≡ looking.screen.options
-  pub shows : ShowsSince live.noted end.screen.options clubs (live.reader looking.pass) (live.reader end.pass) end.screens [] []
+  pub of : IsScreenOn board clubs end.screen
+  pub same : StaysScreen looking.screen end.screen
+  pub shows : ShowsSince looking.screen.options clubs (length (live.reader looking.pass).seen) (live.reader looking.pass) (live.reader end.pass) (standing end.screen)
       (sink.failed end.screen.sink) (sink.taken looking.screen.sink) (sink.taken end.screen.sink) end.result
   pub served : SinkServed sink looking.screen.sink end.screen.sink end.result
 
 -- a screen has shown boards of a history, of versions that rise, none below what had been seen before; they end so, where it ended well
 pub record HasShownOf {B R P N V : Type 0} (live : boards.Ghosts B R P N) (board : B) (sink : sinks.Ghosts V) (clubs : List NamedClub) (before history : List Entry)
-    (Ends : List ℕ → Type 0) (screen : Screen V) (end : ScreenEnd R V) : Type 0 where
+    (Ends : List ℕ → Type 0) (screen : Screen B V) (end : ScreenEnd R (Screen B V)) : Type 0 where
   pub own : live.is_reader board end.pass
   pub options : end.screen.options ≡ screen.options
   pub seen : IsPrefix (live.reader end.pass).seen history
@@ -140,25 +166,31 @@ pub record HasShownOf {B R P N V : Type 0} (live : boards.Ghosts B R P N) (board
   pub served : SinkServed sink screen.sink end.screen.sink end.result
 
 -- a screen with a lent pass has shown boards of a history, and the last of them is no lower than this, where it ended well
-abbrev pub HasShownAbove : {B R P N V : Type 0} → boards.Ghosts B R P N → B → sinks.Ghosts V → List NamedClub → List Entry → ℕ → Looking R V → ScreenEnd R V → Type 0
+abbrev pub HasShownAbove : {B R P N V : Type 0} → boards.Ghosts B R P N → B → sinks.Ghosts V → List NamedClub → List Entry → ℕ → Looking R (Screen B V) → ScreenEnd R (Screen B V) → Type 0
 HasShownAbove live board sink clubs history least looking end =
     HasShownOf live board sink clubs (live.reader looking.pass).seen history (LastIsAtLeast least) looking.screen end
+
+-- a screen handed its share back
+abbrev pub KeepsShare : {B R P N X : Type 0} → boards.Ghosts B R P N → Looking R X → ScreenEnd R X → Type 0
+KeepsShare live looking end = (live.reader end.pass).share ≡ (live.reader looking.pass).share
 
 -- ---- all of them
 
 -- what the threads begin with: main's pass, and what is lent; main's pass has seen what those have who entered events before
-pub record AreLent {B R P N S W V : Type 0} (live : boards.Ghosts B R P N) (board : B) (pass : R) (screens : List (Looking R V)) (all : List (Enlisted P S W)) (tally : Tally) : Type 0 where
+pub record AreLent {B R P N S W V : Type 0} (live : boards.Ghosts B R P N) (board : B) (clubs : List NamedClub) (pass : R) (screens : List (Looking R (Screen B V)))
+    (all : List (Enlisted P S W)) (tally : Tally) : Type 0 where
   pub own : live.is_reader board pass
-  pub looking : All (IsReadyToLook live board) screens
+  pub looking : All (IsReadyToLook live board clubs) screens
   pub ready : All (IsReadyToRun live board) all
   pub tallied : AreAllHeard (live.reader pass).seen tally
 
 -- all threads have run: the reporters are counted after those that were counted before, what they have seen is in a history, and so is what
 -- each screen has shown, up to all that was accepted
 pub record HaveRun {B R P N S W V : Type 0} (live : boards.Ghosts B R P N) (board : B) (source : sources.Ghosts S) (replies : sinks.Ghosts W) (sink : sinks.Ghosts V)
-    (clubs : List NamedClub) (history : List Entry) (tally : Tally) (screens : List (Looking R V)) (all : List (Enlisted P S W)) (ran : Ran R P S W V) : Type 0 where
+    (clubs : List NamedClub) (history : List Entry) (tally : Tally) (screens : List (Looking R (Screen B V))) (all : List (Enlisted P S W)) (ran : Ran R P S W (Screen B V)) : Type 0 where
   pub run : AllZip (HasRun live board source replies) all ran.reporters.items
   pub heard : All (IsSeenIn history) (views_of live ran.reporters.items)
   pub tallied : (views : List PassView) → AreTallied views tally → AreTallied (views ++ views_of live ran.reporters.items) ran.tally
   pub enough : ran.tally.accepted ≤ length history
   pub shown : AllZip (HasShownAbove live board sink clubs history ran.tally.accepted) screens ran.screens.items
+  pub kept : AllZip (KeepsShare live) screens ran.screens.items

@@ -1,6 +1,6 @@
 //! Bells: reporters ring them, and screens sleep until they ring.
 
-ghost use Rattle.std.specs.Prelude.{◌≡◌, IfErr, IfOk, vec_len};
+ghost use Rattle.std.specs.Prelude.{◌≡◌, None, IfErr, IfOk, vec_len};
 ghost use Rattle.ucl_evenings_threads.specs.Runs.{IsOfThreads};
 
 use crate::lists::put;
@@ -9,8 +9,9 @@ use std::snapshot::Snapshot;
 use std::sync::Wait;
 use std::sync::atomic::{AtomicBool, Ordering};
 use std::thread::Parker;
-use ucl_evenings::{Bell, Ring};
+use ucl_evenings::{Bell, Ring, Screen};
 use ucl_runs::RunFault;
+use ucl_shared::LiveBoard;
 
 /// What wakes one screen. A wake that comes while the screen is awake is kept for its next sleep, and several are one.
 #[derive(Drop)]
@@ -84,36 +85,42 @@ impl Ring for Bells<'_> {
     }
 }
 
-/// The bell of one screen, at the ear of its thread. It gives no notes, and tells the end once.
+/// The bell of one screen, at the ear of its thread. It tells the end once.
 #[derive(Drop)]
 pub struct Ear<'w, P> {
     wake: &'w Wake,
+    waited: Option<Snapshot<P>>,
     told: Option<Snapshot<P>>,
 }
 
 impl<'w, P> Ear<'w, P> {
-    /// The ear at a bell, before the end was told.
-    pub fn at(wake: &'w Wake) -> Ear<'w, P> {
-        Ear { wake, told: None }
+    /// The ear at a bell that nobody has waited for, before the end was told.
+    pub fn at(wake: &'w Wake) -> Ear<'w, P>
+        ensures unused { result.waited ≡ None }
+    {
+        Ear {
+            wake,
+            waited: None,
+            told: None,
+        }
     }
 }
 
-impl<N, P> Bell<N, P> for Ear<'_, P> {
-    ghost use Rattle.std.specs.Prelude.{[], option_map};
+impl<B: LiveBoard, V> Bell<B, V> for Ear<'_, B::ReaderPass> {
+    ghost use Rattle.std.specs.Prelude.{option_map};
     ghost use Rattle.std.specs.Option.{option_to_list};
 
-    ghost told = { λ _. [] };
+    ghost waited = { λ ear. option_map (λ pass. pass.value) ear.waited };
 
-    ghost ends = { λ ear. option_to_list (option_map (λ told. told.value) ear.told) };
+    ghost ends = { λ ear. option_to_list (option_map (λ pass. pass.value) ear.told) };
 
-    ghost gives = { λ _ _. ⊥ };
-
-    fn next<R: Wait>(&mut self, rt: &R, pass: &P) -> Option<Option<N>> {
+    fn next<R: Wait>(&mut self, rt: &R, pass: &B::ReaderPass, _screen: &Screen<B, V>) -> bool {
         self.wake.sleep.park(rt);
+        self.waited = Some(Snapshot::of(pass));
         if self.told.is_none() && self.wake.is_over.load(Ordering::SeqCst) {
             self.told = Some(Snapshot::of(pass));
-            return None;
+            return false;
         }
-        Some(None)
+        true
     }
 }

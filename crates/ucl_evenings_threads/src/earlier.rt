@@ -4,8 +4,10 @@ ghost use Rattle.std.specs.Prelude.{◌≡◌, ◌≤◌, [], All, IfErr, IfOk, 
 ghost use Rattle.ucl_screen.specs.Input.{most_bytes};
 ghost use Rattle.ucl_screen.specs.Script.{first_event_row};
 ghost use Rattle.ucl_evenings_threads.specs.Earlier.{WereEntered, WasEntered, WasNotEntered, TellsRefused, StopsEntering, IsWhyNotEntered, IsOfEnlisting, entered_from};
+ghost use Rattle.ucl_evenings_threads.specs.Runs.{WereSplitOff, shares_of};
 
 use crate::judging::judge;
+use crate::lists::put;
 use std::alloc::Global;
 use std::sync::Wait;
 use ucl_runs::RunFault;
@@ -48,6 +50,8 @@ fn enlist_up_to<B: LiveBoard, R: Wait>(
     ensures nothing { IfOk result (λ enlisted.
         All (λ k. k.mine ≡ []) (map B.reporter enlisted.items)) }
     ensures enough { IfOk result (λ enlisted. count ≤ vec_len enlisted) }
+    ensures split { IfOk result (λ enlisted. WereSplitOff (B.reader pass.old).share
+        (shares_of B.LiveBoard enlisted.items) (B.reader pass.new).share) }
     ensures stopped { IfErr result (λ fault. (1 ≤ count)
         × IsOfEnlisting B.LiveBoard board.entry.now fault) }
 {
@@ -55,9 +59,7 @@ fn enlist_up_to<B: LiveBoard, R: Wait>(
     'enlisted: while reporters.len() < count {
         let part = board.split(rt, pass);
         let enlisted = board.enlist(rt, part)?;
-        if reporters.push(enlisted).is_err() {
-            return Err(RunFault::OutOfMemory);
-        }
+        put(&mut reporters, enlisted)?;
     }
     Ok(reporters)
 }
@@ -76,6 +78,8 @@ fn enter_one<B: LiveBoard, R: Wait>(
         event.now (B.reporter reporter.new) (B.reader pass.new) }
     ensures refused { IsFalse result → WasNotEntered (B.reader pass.old) (B.reporter reporter.old)
         event.now (B.reporter reporter.new) }
+    ensures shares { ((B.reader pass.new).share ≡ (B.reader pass.old).share)
+        × ((B.reporter reporter.new).share ≡ (B.reporter reporter.old).share) }
 {
     let before = board.note(rt, pass);
     board.hear_own(rt, reporter, before);
@@ -105,6 +109,8 @@ fn enter_each<B: LiveBoard, R: Wait>(
     ensures reporters { All (B.is_reporter board.now) reporters.new.items }
     ensures entered { OnOk result (WereEntered B.LiveBoard (B.reader pass.old).seen events.now
         pass.new reporters.new.items) }
+    ensures shares { OnOk result (((B.reader pass.new).share ≡ (B.reader pass.old).share)
+        × (shares_of B.LiveBoard reporters.new.items ≡ shares_of B.LiveBoard reporters.old.items)) }
     ensures stopped { IfErr result (StopsEntering B.LiveBoard board.entry.now
         (B.reader pass.old).seen events.now) }
 {
@@ -152,6 +158,11 @@ pub fn enter_earlier<B: LiveBoard, R: Wait>(
     // The events were entered, in their order, each by the reporter that stands for its own, and these have entered nothing else.
     ensures entered { IfOk result (λ earlier. WereEntered B.LiveBoard (B.reader pass).seen
         events.now earlier.pass earlier.reporters.items) }
+
+    // Who can act on the board: each of these reporters had a part that was split off the lent pass's share, one after the other, and
+    // the pass has what is left.
+    ensures shares { IfOk result (λ earlier. WereSplitOff (B.reader pass).share
+        (shares_of B.LiveBoard earlier.reporters.items) (B.reader earlier.pass).share) }
 
     // Where they were not, the fault says why: a row whose event is refused, on a board of one thread or on this one; that no number
     // is left, or no memory, and neither where there is no event.

@@ -15,8 +15,10 @@ use itoa::Buffer;
 use ucl_answers::word_lines;
 use ucl_board::Board;
 use ucl_command::Format;
+use ucl_evenings::Screen;
 use ucl_runs::{RunFault, put_text, status_of, tell};
 use ucl_screen::{Sink, give_all};
+use ucl_shared::LiveBoard;
 
 /// What a worker of an evening is.
 #[derive(Clone, Copy, Debug, PartialEq, Eq)]
@@ -92,7 +94,10 @@ fn tell_end<E: Sink>(errors: &mut E, part: Part, first: Option<u8>) -> Option<u8
 
 /// Tells of the faults of all workers of an evening, in their order, and gives the exit status: that of the first fault, or 0 where there is
 /// none. Reporters come first, and then screens; reporters, screens of text and those in JSON are counted each for themselves.
-pub fn tell_faults<Q, P, S, W, V, E: Sink>(errors: &mut E, end: &EveningEnd<Q, P, S, W, V>) -> u8
+pub fn tell_faults<Q, P, S, W, B: LiveBoard, V: Sink, E: Sink>(
+    errors: &mut E,
+    end: &EveningEnd<Q, P, S, W, Screen<B, V>>,
+) -> u8
     ensures status { result ≡ first_status (parts_of end.now) }
     ensures told { TellsAll (parts_of end.now) (E.failed errors.new) (E.taken errors.old)
         (E.taken errors.new) }
@@ -112,7 +117,7 @@ pub fn tell_faults<Q, P, S, W, V, E: Sink>(errors: &mut E, end: &EveningEnd<Q, P
     let mut texts: usize = 0;
     let mut jsons: usize = 0;
     for screen in end.screens.iter() {
-        let (worker, number) = match screen.screen.options.format {
+        let (worker, number) = match screen.screen.options().format {
             Format::Text => {
                 texts += 1;
                 (Worker::Screen, texts)

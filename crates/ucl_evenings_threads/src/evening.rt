@@ -3,33 +3,34 @@
 ghost use Rattle.std.specs.Prelude.{◌≡◌, ◌++◌, ◌≤◌, All, IfErr, IfOk, length, map, take, vec_len};
 ghost use Rattle.std.specs.List.{AllZip};
 ghost use Rattle.ucl_board.specs.History.{snapshot_at};
-ghost use Rattle.ucl_evenings.specs.Showing.{GoesOnOrStays};
-ghost use Rattle.ucl_evenings_threads.specs.Runs.{AreLent, HaveRun, IsOfThreads};
-ghost use Rattle.ucl_evenings_threads.specs.Held.{HasHeld};
+ghost use Rattle.ucl_evenings.specs.Showing.{GoesOnOrStays, IsNewScreen};
+ghost use Rattle.ucl_evenings_threads.specs.Runs.{AreLent, HaveRun, IsOfThreads, WereSplitOff};
+ghost use Rattle.ucl_evenings_threads.specs.Held.{HasHeld, shares_of_end};
 ghost use Rattle.ucl_evenings_threads.specs.OneReporter.{RowsDecide};
 
 use crate::bells::{Wake, hang_bells};
 use crate::lend::{enlist_all, look_all};
 use crate::screens::{Ran, run_screens};
 use crate::tally::{Tally, hear_all};
-use crate::workers::{Enlisted, Looking, Reporter, ReporterEnd, Screen, ScreenEnd};
+use crate::workers::{Enlisted, Looking, Reporter, ReporterEnd, ScreenEnd};
 use std::alloc::Global;
 use std::sync::Wait;
 use std::thread;
 use std::thread::Threads;
 use ucl_board::Reading;
+use ucl_evenings::Screen;
 use ucl_order::Roster;
 use ucl_runs::RunFault;
 use ucl_screen::{Sink, Source};
 use ucl_shared::LiveBoard;
 
-/// How an evening ended: `Q` is a reader's pass and `P` a reporter's, all of the board that was lent.
+/// How an evening ended: `Q` is a reader's pass, `P` a reporter's, and `X` a screen, all of the board that was lent.
 #[derive(Drop)]
-pub struct EveningEnd<Q, P, S, W, V> {
+pub struct EveningEnd<Q, P, S, W, X> {
     /// How each reporter ended, in the order in which they were given.
     pub reporters: Vec<ReporterEnd<P, S, W>>,
     /// How each screen ended, in the order in which they were given.
-    pub screens: Vec<ScreenEnd<Q, V>>,
+    pub screens: Vec<ScreenEnd<Q, X>>,
     /// The passes that entered events before, as they were given.
     pub entered: Vec<P>,
     /// The last reading, of all that was entered.
@@ -52,12 +53,18 @@ fn run_threads<
     wakes: &[Wake],
     roster: &Roster,
     pass: B::ReaderPass,
-    screens: Vec<Looking<B::ReaderPass, V>>,
+    screens: Vec<Looking<B::ReaderPass, Screen<B, V>>>,
     all: Vec<Enlisted<B::ReporterPass, S, W>>,
     tally: Tally,
-) -> Result<(B::ReaderPass, Ran<B::ReaderPass, B::ReporterPass, S, W, V>), RunFault>
+) -> Result<
+    (
+        B::ReaderPass,
+        Ran<B::ReaderPass, B::ReporterPass, S, W, Screen<B, V>>,
+    ),
+    RunFault,
+>
     requires bells { vec_len screens ≤ length wakes.now }
-    requires lent { AreLent B.LiveBoard board.now pass screens.items all.items tally }
+    requires lent { AreLent B.LiveBoard board.now roster.now pass screens.items all.items tally }
     ensures own { IfOk result (λ r. B.is_reader board.entry.now r.0) }
     ensures always { IfOk result (λ r. GoesOnOrStays (B.reader pass) (B.reader r.0)) }
     ensures ran { IfOk result (λ r. HaveRun B.LiveBoard board.entry.now S.Source W.Sink V.Sink
@@ -68,11 +75,14 @@ fn run_threads<
         thread::scope_env(),
         rt,
         move |scope| -> Result<
-            (B::ReaderPass, Ran<B::ReaderPass, B::ReporterPass, S, W, V>),
+            (
+                B::ReaderPass,
+                Ran<B::ReaderPass, B::ReporterPass, S, W, Screen<B, V>>,
+            ),
             RunFault,
         >
             requires bells { vec_len screens ≤ length wakes.now }
-            requires lent { AreLent B.LiveBoard board.now pass screens.items all.items tally }
+            requires lent { AreLent B.LiveBoard board.now roster.now pass screens.items all.items tally }
             ensures own { IfOk result (λ r. B.is_reader board.entry.now r.0) }
             ensures always { IfOk result (λ r. GoesOnOrStays (B.reader pass) (B.reader r.0)) }
             ensures ran { IfOk result (λ r. HaveRun B.LiveBoard board.entry.now S.Source W.Sink
@@ -89,7 +99,7 @@ fn run_threads<
 }
 
 /// Holds an evening on a live board: each reporter takes rows from a source of its own and answers them, and each screen shows the
-/// board to a sink of its own, all in threads of their own. When all reporters have ended, the screens show the last board, and end.
+/// board on its own, all in threads of their own. When all reporters have ended, the screens show the last board, and end.
 ///
 /// `pass` is a reader's pass of the board: it is split once for each of them, and the reporters are enlisted in their order, before any
 /// thread starts. `entered` are reporters' passes that have entered events before, in the order in which they were enlisted. An accepted
@@ -119,15 +129,21 @@ pub fn hold_evening<
     mut pass: B::ReaderPass,
     entered: Vec<B::ReporterPass>,
     reporters: Vec<Reporter<S, W>>,
-    screens: Vec<Screen<V>>,
+    screens: Vec<Screen<B, V>>,
     roster: &Roster,
-) -> Result<EveningEnd<B::ReaderPass, B::ReporterPass, S, W, V>, RunFault>
+) -> Result<EveningEnd<B::ReaderPass, B::ReporterPass, S, W, Screen<B, V>>, RunFault>
     requires own { B.is_reader board.now pass }
     requires entered { All (B.is_reporter board.now) entered.items }
+    requires screens { All (IsNewScreen board.now roster.now) screens.items }
     ensures held { IfOk result (HasHeld B.LiveBoard board.entry.now S.Source W.Sink V.Sink
         roster.entry.now (B.reader pass).seen entered.items reporters.items screens.items) }
     ensures decided { IfOk result (RowsDecide B.LiveBoard S.Source (B.reader pass).seen
         entered.items reporters.items) }
+
+    // Who can act on the board: each screen and each reporter had a part that was split off the lent pass's share, one after the other,
+    // and the pass that is handed back has what is left. Nobody else was given a part.
+    ensures shares { IfOk result (λ end. WereSplitOff (B.reader pass).share
+        (shares_of_end B.LiveBoard end) (B.reader end.pass).share) }
     ensures kinds { IfErr result IsOfThreads }
 {
     let (entered, tally) = hear_all(rt, alloc, board, &mut pass, entered)?;

@@ -3,10 +3,11 @@
 ghost use Rattle.std.specs.Prelude.{◌≡◌, IfErr, IfOk};
 ghost use mathlib.Core.List.{IsPrefix};
 ghost use Rattle.std.specs.List.{AllZip};
-ghost use Rattle.ucl_evenings_threads.specs.Runs.{WasEnlisted, IsLooking, IsOfThreads, IsReady};
+ghost use Rattle.ucl_shared.specs.Shares.{first_half, second_half};
+ghost use Rattle.ucl_evenings_threads.specs.Runs.{WasEnlisted, WereSplitOff, IsLooking, IsOfThreads, IsReady, shares_enlisted, shares_looking};
 
 use crate::lists::{put, take_last};
-use crate::workers::{Enlisted, Looking, Reporter, Screen};
+use crate::workers::{Enlisted, Looking, Reporter};
 use std::alloc::Global;
 use std::sync::Wait;
 use ucl_runs::RunFault;
@@ -24,6 +25,9 @@ fn enlist_one<B: LiveBoard, R: Wait>(
     ensures ready { IfOk result (IsReady B.LiveBoard board.now) }
     ensures since { IfOk result (λ enlisted.
         IsPrefix (B.reader pass.old).seen (B.reporter enlisted).seen) }
+    ensures kept { (B.reader pass.new).share ≡ first_half (B.reader pass.old).share }
+    ensures given { IfOk result (λ enlisted.
+        (B.reporter enlisted).share ≡ second_half (B.reader pass.old).share) }
     ensures kinds { IfErr result IsOfThreads }
 {
     let second = board.split(rt, pass);
@@ -44,6 +48,8 @@ pub fn enlist_all<B: LiveBoard, S: Drop, W: Drop, R: Wait>(
     ensures enlisted { IfOk result (λ all.
         AllZip (WasEnlisted B.LiveBoard board.now (B.reader pass.old).seen)
         reporters.items all.items) }
+    ensures split { IfOk result (λ all. WereSplitOff (B.reader pass.old).share
+        (shares_enlisted B.LiveBoard all.items) (B.reader pass.new).share) }
     ensures kinds { IfErr result IsOfThreads }
 {
     let Some(Reporter { rows, replies }) = take_last(&mut reporters) else {
@@ -61,19 +67,21 @@ pub fn enlist_all<B: LiveBoard, S: Drop, W: Drop, R: Wait>(
 }
 
 /// Splits a pass off for each screen.
-pub fn look_all<B: LiveBoard, V: Drop, R: Wait>(
+pub fn look_all<B: LiveBoard, X: Drop, R: Wait>(
     rt: &R,
     alloc: Global,
     board: &B,
     pass: &mut B::ReaderPass,
-    mut screens: Vec<Screen<V>>,
-) -> Result<Vec<Looking<B::ReaderPass, V>>, RunFault>
+    mut screens: Vec<X>,
+) -> Result<Vec<Looking<B::ReaderPass, X>>, RunFault>
     requires own { B.is_reader board.now pass.old }
     ensures own { B.is_reader board.now pass.new }
     ensures seen { (B.reader pass.new).seen ≡ (B.reader pass.old).seen }
     ensures looking { IfOk result (λ all.
         AllZip (IsLooking B.LiveBoard board.now (B.reader pass.old).seen)
         screens.items all.items) }
+    ensures split { IfOk result (λ all. WereSplitOff (B.reader pass.old).share
+        (shares_looking B.LiveBoard all.items) (B.reader pass.new).share) }
     ensures kinds { IfErr result IsOfThreads }
 {
     let Some(screen) = take_last(&mut screens) else {

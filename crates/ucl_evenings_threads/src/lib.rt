@@ -23,4 +23,5 @@ pub use ending::{Part, Worker, put_words, tell_faults, tell_part};
 pub use evening::{EveningEnd, hold_evening};
 pub use laws::rows_decide_the_board;
 pub use program::{EveningRun, Place, run_evening_of};
-pub use workers::{Reporter, ReporterEnd, Screen, ScreenEnd};
+pub use ucl_evenings::Screen;
+pub use workers::{Reporter, ReporterEnd, ScreenEnd};

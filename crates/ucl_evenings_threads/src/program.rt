@@ -12,11 +12,13 @@ use crate::earlier::enter_earlier;
 use crate::ending::{put_words, tell_faults};
 use crate::evening::{EveningEnd, hold_evening};
 use crate::lists::{put, take_last};
-use crate::workers::{Reporter, Screen};
+use crate::workers::Reporter;
 use std::alloc::Global;
 use std::sync::Wait;
 use std::thread::Threads;
 use ucl_command::{EveningArgs, Format, LiveArgs};
+use ucl_evenings::Screen;
+use ucl_order::Roster;
 use ucl_runs::{RunFault, tell};
 use ucl_screen::{Night, Sink, Source};
 use ucl_shared::LiveBoard;
@@ -32,9 +34,9 @@ pub struct Place<V> {
 
 /// What a run of `ucl_evening` came to.
 #[derive(Drop)]
-pub struct EveningRun<Q, P, S, W, V> {
+pub struct EveningRun<Q, P, S, W, X> {
     /// How the evening ended, or why it was not held.
-    pub end: Result<EveningEnd<Q, P, S, W, V>, RunFault>,
+    pub end: Result<EveningEnd<Q, P, S, W, X>, RunFault>,
     /// The exit status.
     pub status: u8,
 }
@@ -55,21 +57,23 @@ fn options_for(asked: &EveningArgs, format: Format) -> LiveArgs
 }
 
 /// The screens at these places, as they were asked for.
-fn screens_at<V: Drop>(
+fn screens_at<B: LiveBoard, V: Sink + Drop>(
     alloc: Global,
+    board: &B,
+    roster: &Roster,
     asked: &EveningArgs,
     mut places: Vec<Place<V>>,
-) -> Result<Vec<Screen<V>>, RunFault>
-    ensures asked { IfOk result
-        (λ screens. AllZip (IsAskedFor asked.now) places.items screens.items) }
+) -> Result<Vec<Screen<B, V>>, RunFault>
+    ensures asked { IfOk result (λ screens.
+        AllZip (IsAskedFor board.now roster.now asked.now) places.items screens.items) }
     ensures memory { IfErr result (λ fault. fault ≡ RunFault.OutOfMemory) }
 {
     let Some(Place { sink, format }) = take_last(&mut places) else {
         return Ok(Vec::new(alloc));
     };
-    let mut screens = screens_at(alloc, asked, places)?;
+    let mut screens = screens_at(alloc, board, roster, asked, places)?;
     let options = options_for(asked, format);
-    put(&mut screens, Screen { sink, options })?;
+    put(&mut screens, Screen::new(board, roster, options, sink))?;
     Ok(screens)
 }
 
@@ -89,7 +93,7 @@ fn held<
     night: &Night,
     reporters: Vec<Reporter<S, W>>,
     places: Vec<Place<V>>,
-) -> Result<EveningEnd<B::ReaderPass, B::ReporterPass, S, W, V>, RunFault>
+) -> Result<EveningEnd<B::ReaderPass, B::ReporterPass, S, W, Screen<B, V>>, RunFault>
     requires own { B.is_reader board.now pass }
     requires few { length night.now.events.items ≤ most_bytes }
     ensures held { IfOk result (IsEveningOf B.LiveBoard board.entry.now S.Source W.Sink V.Sink
@@ -97,7 +101,7 @@ fn held<
     ensures faults { IfErr result (IsWhyNotHeld B.LiveBoard board.entry.now night.entry.now
         (B.reader pass).seen) }
 {
-    let screens = screens_at(alloc, asked, places)?;
+    let screens = screens_at(alloc, board, &night.roster, asked, places)?;
     let earlier = enter_earlier(rt, alloc, board, pass, &night.events)?;
     hold_evening(
         rt,
@@ -130,8 +134,8 @@ fn status_of_two(first: u8, last: u8) -> u8
 }
 
 /// Tells of the faults of an evening, and writes its last words; gives the exit status.
-fn conclude<Q, P, S, W, V, O: Sink, E: Sink>(
-    end: &EveningEnd<Q, P, S, W, V>,
+fn conclude<Q, P, S, W, B: LiveBoard, V: Sink, O: Sink, E: Sink>(
+    end: &EveningEnd<Q, P, S, W, Screen<B, V>>,
     output: &mut O,
     errors: &mut E,
 ) -> u8
@@ -167,7 +171,7 @@ pub fn run_evening_of<
     places: Vec<Place<V>>,
     output: &mut O,
     errors: &mut E,
-) -> EveningRun<B::ReaderPass, B::ReporterPass, S, W, V>
+) -> EveningRun<B::ReaderPass, B::ReporterPass, S, W, Screen<B, V>>
     requires own { B.is_reader board.now pass }
     requires fresh { B.reader pass ≡ opening_pass }
     requires few { length night.now.events.items ≤ most_bytes }

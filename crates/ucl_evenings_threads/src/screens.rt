@@ -3,7 +3,7 @@
 ghost use Rattle.std.specs.Prelude.{◌≡◌, ◌≤◌, All, IfErr, IfOk, OnOk, length, vec_len};
 ghost use Rattle.std.specs.List.{AllZip};
 ghost use mathlib.Core.List.{IsPrefix};
-ghost use Rattle.ucl_evenings.specs.Showing.{AreFew, GoesOnOrStays};
+ghost use Rattle.ucl_evenings.specs.Showing.{AreFew, GoesOnOrStays, IsScreenOn, standing};
 ghost use Rattle.ucl_evenings_threads.specs.Runs.{HasLookedOn, HasShownAbove, HaveRun, IsOfThreads, IsReadyToLook, IsReadyToRun};
 ghost use Rattle.ucl_evenings_threads.specs.Whole.{AreAllHeard};
 
@@ -16,7 +16,7 @@ use std::alloc::Global;
 use std::snapshot::Snapshot;
 use std::sync::Wait;
 use std::thread::{Promise, PromisedHandle, Scope, Threads};
-use ucl_evenings::{Screens, show_noted, show_on};
+use ucl_evenings::{Screen, show_boards, show_noted};
 use ucl_order::Roster;
 use ucl_runs::RunFault;
 use ucl_screen::{Sink, Source};
@@ -29,32 +29,20 @@ fn look<B: LiveBoard, V: Sink, R: Wait>(
     board: &B,
     wake: &Wake,
     roster: &Roster,
-    looking: Looking<B::ReaderPass, V>,
-) -> Looked<B::ReaderPass, V>
-    requires ready { IsReadyToLook B.LiveBoard board.now looking }
+    looking: Looking<B::ReaderPass, Screen<B, V>>,
+) -> Looked<B::ReaderPass, Screen<B, V>>
+    requires ready { IsReadyToLook B.LiveBoard board.now roster.now looking }
     ensures { HasLookedOn B.LiveBoard board.entry.now V.Sink roster.entry.now looking result }
 {
     let Looking {
         mut pass,
         mut screen,
     } = looking;
-    let mut screens = Screens::new();
     let mut ear = Ear::at(wake);
-    let result = show_on(
-        rt,
-        alloc,
-        board,
-        &mut pass,
-        &mut ear,
-        &screen.options,
-        roster,
-        &mut screens,
-        &mut screen.sink,
-    );
+    let result = show_boards(rt, alloc, board, &mut pass, &mut ear, roster, &mut screen);
     Looked {
         pass,
         screen,
-        screens,
         result,
     }
 }
@@ -64,10 +52,10 @@ fn look<B: LiveBoard, V: Sink, R: Wait>(
 pub struct LookingOn<B: LiveBoard, V> {
     board: Snapshot<B>,
     roster: Snapshot<Roster>,
-    looking: Snapshot<Looking<B::ReaderPass, V>>,
+    looking: Snapshot<Looking<B::ReaderPass, Screen<B, V>>>,
 }
 
-impl<B: LiveBoard, V: Sink> Promise<Looked<B::ReaderPass, V>> for LookingOn<B, V> {
+impl<B: LiveBoard, V: Sink> Promise<Looked<B::ReaderPass, Screen<B, V>>> for LookingOn<B, V> {
     ghost kept_by = { λ p end.
         HasLookedOn B.LiveBoard p.board.value V.Sink p.roster.value p.looking.value end };
 }
@@ -80,11 +68,11 @@ fn start_screen<'s, E, B: LiveBoard, V: Sink + Send + Drop + 's, R: Wait + Sync>
     board: &'s B,
     wake: &'s Wake,
     roster: &'s Roster,
-    looking: Looking<B::ReaderPass, V>,
-) -> Result<PromisedHandle<Looked<B::ReaderPass, V>, LookingOn<B, V>>, RunFault>
+    looking: Looking<B::ReaderPass, Screen<B, V>>,
+) -> Result<PromisedHandle<Looked<B::ReaderPass, Screen<B, V>>, LookingOn<B, V>>, RunFault>
 where
     B::ReaderPass: 's,
-    requires ready { IsReadyToLook B.LiveBoard board.now looking }
+    requires ready { IsReadyToLook B.LiveBoard board.now roster.now looking }
     ensures board { IfOk result (λ worker. worker.promise.board.value ≡ board.now) }
     ensures roster { IfOk result (λ worker. worker.promise.roster.value ≡ roster.now) }
     ensures looking { IfOk result (λ worker. worker.promise.looking.value ≡ looking) }
@@ -97,8 +85,8 @@ where
     };
     let started = scope.spawn_with(
         promise,
-        move || -> Looked<B::ReaderPass, V>
-            requires { IsReadyToLook B.LiveBoard board.now looking }
+        move || -> Looked<B::ReaderPass, Screen<B, V>>
+            requires { IsReadyToLook B.LiveBoard board.now roster.now looking }
             ensures { HasLookedOn B.LiveBoard board.entry.now V.Sink roster.entry.now looking
                 result }
         { look(rt, alloc, board, wake, roster, looking) },
@@ -113,12 +101,14 @@ fn finish<B: LiveBoard, V: Sink, R: Wait>(
     board: &B,
     pass: &mut B::ReaderPass,
     roster: &Roster,
-    looked: Looked<B::ReaderPass, V>,
-) -> ScreenEnd<B::ReaderPass, V>
+    looked: Looked<B::ReaderPass, Screen<B, V>>,
+) -> ScreenEnd<B::ReaderPass, Screen<B, V>>
     requires own { B.is_reader board.now pass.old × B.is_reader board.now looked.pass }
-    requires few { OnOk looked.result (AreFew looked.screens) }
+    requires screen { IsScreenOn board.now roster.now looked.screen }
+    requires few { OnOk looked.result (AreFew (standing looked.screen)) }
     ensures own { B.is_reader board.now pass.new × B.is_reader board.now result.pass }
     ensures unchanged { B.reader pass.new ≡ B.reader pass.old }
+    ensures share { (B.reader result.pass).share ≡ (B.reader looked.pass).share }
     ensures shown { (looking : _)
         → HasLookedOn B.LiveBoard board.now V.Sink roster.now looking looked
         → HasShownAbove B.LiveBoard board.now V.Sink roster.now
@@ -127,7 +117,6 @@ fn finish<B: LiveBoard, V: Sink, R: Wait>(
     let Looked {
         pass: mut theirs,
         mut screen,
-        mut screens,
         result,
     } = looked;
     if let Err(fault) = result {
@@ -138,17 +127,7 @@ fn finish<B: LiveBoard, V: Sink, R: Wait>(
         };
     }
     let news = board.note(rt, pass);
-    let result = show_noted(
-        rt,
-        alloc,
-        board,
-        &mut theirs,
-        news,
-        &screen.options,
-        roster,
-        &mut screens,
-        &mut screen.sink,
-    );
+    let result = show_noted(rt, alloc, board, &mut theirs, news, roster, &mut screen);
     ScreenEnd {
         pass: theirs,
         screen,
@@ -158,8 +137,8 @@ fn finish<B: LiveBoard, V: Sink, R: Wait>(
 
 /// What all threads of an evening handed back.
 #[derive(Drop)]
-pub struct Ran<Q, P, S, W, V> {
-    pub screens: Vec<ScreenEnd<Q, V>>,
+pub struct Ran<Q, P, S, W, X> {
+    pub screens: Vec<ScreenEnd<Q, X>>,
     pub reporters: Vec<ReporterEnd<P, S, W>>,
     pub tally: Tally,
 }
@@ -181,16 +160,16 @@ pub fn run_screens<
     wakes: &'s [Wake],
     roster: &'s Roster,
     pass: &mut B::ReaderPass,
-    mut screens: Vec<Looking<B::ReaderPass, V>>,
+    mut screens: Vec<Looking<B::ReaderPass, Screen<B, V>>>,
     all: Vec<Enlisted<B::ReporterPass, S, W>>,
     tally: Tally,
-) -> Result<Ran<B::ReaderPass, B::ReporterPass, S, W, V>, RunFault>
+) -> Result<Ran<B::ReaderPass, B::ReporterPass, S, W, Screen<B, V>>, RunFault>
 where
     B::ReaderPass: 's,
     B::ReporterPass: 's,
     requires own { B.is_reader board.now pass.old }
     requires bells { vec_len screens ≤ length wakes.now }
-    requires looking { All (IsReadyToLook B.LiveBoard board.now) screens.items }
+    requires looking { All (IsReadyToLook B.LiveBoard board.now roster.now) screens.items }
     requires ready { All (IsReadyToRun B.LiveBoard board.now) all.items }
     requires tallied { AreAllHeard (B.reader pass.old).seen tally }
     ensures own { B.is_reader board.now pass.new }

@@ -1,7 +1,5 @@
 //! Who takes part in an evening, and how each ended.
 
-use ucl_command::LiveArgs;
-use ucl_evenings::Screens;
 use ucl_runs::RunFault;
 
 /// A reporter of an evening.
@@ -11,15 +9,6 @@ pub struct Reporter<S, W> {
     pub rows: S,
     /// Where the answers go.
     pub replies: W,
-}
-
-/// A screen of an evening.
-#[derive(Drop)]
-pub struct Screen<V> {
-    /// Where the screens go.
-    pub sink: V,
-    /// How they are written. Whether screens are shown is not looked at: they are.
-    pub options: LiveArgs,
 }
 
 /// How a reporter ended.
@@ -37,11 +26,11 @@ pub struct ReporterEnd<P, S, W> {
 
 /// How a screen ended.
 #[derive(Drop)]
-pub struct ScreenEnd<P, V> {
+pub struct ScreenEnd<P, X> {
     /// The pass that read the board.
     pub pass: P,
     /// The screen, as it was given.
-    pub screen: Screen<V>,
+    pub screen: X,
     /// How its run ended.
     pub result: Result<(), RunFault>,
 }
@@ -56,16 +45,15 @@ pub struct Enlisted<P, S, W> {
 
 /// A screen with the pass that it is lent.
 #[derive(Drop)]
-pub struct Looking<P, V> {
+pub struct Looking<P, X> {
     pub pass: P,
-    pub screen: Screen<V>,
+    pub screen: X,
 }
 
 /// A screen whose thread has ended.
 #[derive(Drop)]
-pub struct Looked<P, V> {
+pub struct Looked<P, X> {
     pub pass: P,
-    pub screen: Screen<V>,
-    pub screens: Screens,
+    pub screen: X,
     pub result: Result<(), RunFault>,
 }

@@ -42,7 +42,7 @@ use Rattle.ucl_answers.specs.Stages.{club_said, is_word_row, next_board, next_st
 use Rattle.ucl_answers.specs.Text.{Evening, after_lines, answer_at, answer_of, answer_said, answers, next, reply_answer, screen_after, screen_answer}
 use Rattle.ucl_answers.proofs.Boards.{AreAttempts, asked, event-is_attempt}
 use Rattle.ucl_answers.proofs.GoodBoards.{fresh-good, good-after, read-good, version-after}
-use Rattle.ucl_answers.proofs.Moments.{after-none, after-one, answers-none, answers-one}
+use Rattle.ucl_answers.proofs.OneByOne.{after-none, after-one, answers-none, answers-one}
 use Rattle.ucl_follows.specs.declared.moment.Moment.{Moment}
 use Rattle.ucl_follows.specs.Answered.{HasNumbers, IsMoment}
 use Rattle.ucl_follows.specs.Told.{moment_on}

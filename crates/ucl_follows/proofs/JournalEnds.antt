@@ -21,7 +21,7 @@ use Rattle.ucl_answers.specs.Rows.{Said, Nothing, Garbled, Row, said_on}
 use Rattle.ucl_answers.specs.Stages.{Stage, Open, next_board, next_stage, opened}
 use Rattle.ucl_answers.specs.Text.{Evening, after_lines, answers, next, start_of}
 use Rattle.ucl_answers.proofs.Boards.{boards}
-use Rattle.ucl_answers.proofs.Moments.{after-append, after-none, after-one}
+use Rattle.ucl_answers.proofs.OneByOne.{after-append, after-none, after-one}
 use Rattle.ucl_follows.specs.declared.moment.Moment.{Moment}
 use Rattle.ucl_follows.specs.Follow.{followed, unseen, version_at, whole_lines}
 use Rattle.ucl_follows.specs.Journals.{CrashesChangeNothing, IsAnsweredIn, TakesEvent, JournalsEndWithTheBoard, moment_at, moment_now, moment_with}

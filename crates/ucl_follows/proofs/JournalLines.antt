@@ -1,6 +1,6 @@
 -- The lines that an evening in JSON answers, and what each tells.
 use Rattle.std.proofs.Common.{◌≡◌, ◌∙◌, ◌⊎◌, ℕ, ◌/◌, ◌^◌, ◌<◌, ◌≤◌, Bool, true, false, refl, sym, ap, subst, arith, List, [], ◌∷◌, ◌++◌, length, take, Option, Some, None, inl, inr}
-use Rattle.std.specs.Prelude.{◌≢◌, All, IfSome, codes, if◌then◌else◌}
+use Rattle.std.specs.Prelude.{◌≢◌, All, IfSome, if◌then◌else◌}
 use Rattle.std.specs.List.{list_all}
 use Rattle.std.proofs.lemmas.Bool.{and_from, cases_Bool, cases_lt}
 use Rattle.std.proofs.lemmas.List.{append_cancel_right, length-take, length-take-le, take_all}

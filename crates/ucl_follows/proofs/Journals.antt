@@ -23,7 +23,7 @@ use Rattle.ucl_answers.specs.Stages.{Stage, Naming, Open, Refused, Restoring, op
 use Rattle.ucl_answers.specs.Text.{Evening, after_lines, answers, next, start_of}
 use Rattle.ucl_answers.proofs.Boards.{asked, boards}
 use Rattle.ucl_answers.proofs.GoodBoards.{good-after, version-after}
-use Rattle.ucl_answers.proofs.Moments.{after-append, after-none, answers-append, answers-one}
+use Rattle.ucl_answers.proofs.OneByOne.{after-append, after-none, answers-append, answers-one}
 use Rattle.ucl_follows.specs.declared.moment.Moment.{Moment}
 use Rattle.ucl_follows.specs.declared.following.Following.{Following}
 use Rattle.ucl_follows.specs.Told.{moment_on}

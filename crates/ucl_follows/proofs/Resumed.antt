@@ -1,7 +1,8 @@
 -- An evening that reads the rows by which it goes on from a moment.
-use Rattle.std.proofs.Common.{◌≡◌, ◌∙◌, ℕ, ◌+◌, ◌^◌, ◌<◌, refl, sym, ap, subst, arith, List, [], ◌∷◌, ◌++◌, codes, length, append_assoc, append-nil, length-append, ne_eqb}
+use Rattle.std.proofs.Common.{◌≡◌, ◌∙◌, ℕ, ◌+◌, ◌^◌, ◌<◌, refl, sym, ap, ap₂, subst, arith, List, [], ◌∷◌, ◌++◌, codes, length, append_assoc, append-nil, length-append, ne_eqb}
 use Rattle.std.proofs.Common.{Option, Some, None}
 use Rattle.std.specs.Prelude.{All}
+use Rattle.std.proofs.lemmas.List.{take_all}
 use Rattle.std.proofs.lemmas.List.Elements.{All-head, All-tail}
 use Rattle.ucl_board.specs.Words.{AreWords}
 use Rattle.ucl_order.specs.Roster.{IsRoster, NamedClub, bad_slot}
@@ -11,15 +12,16 @@ use Rattle.ucl_screen.specs.Rows.{FourFields}
 use Rattle.ucl_screen.specs.Script.{club_of, word_of_row}
 use Rattle.ucl_command.specs.declared.live.LiveArgs.{LiveArgs}
 use Rattle.ucl_io.specs.Lines.{begun_line, ended_lines}
+use Rattle.ucl_io.proofs.Cuts.{begun_append, begun_ended, ended_append, ended_line}
 use Rattle.ucl_answers.specs.Lines.{last_lines, lines_of}
 use Rattle.ucl_answers.specs.Requests.{request_of}
-use Rattle.ucl_answers.specs.Rows.{Row, Said}
+use Rattle.ucl_answers.specs.BadRows.{shown_text}
+use Rattle.ucl_answers.specs.Rows.{Row, Said, said_by_text, said_on}
 use Rattle.ucl_answers.specs.Stages.{Stage, Naming, Open, Restoring, after_club, after_row, after_word, next_stage, opened, with_clubs, with_roster, with_words}
-use Rattle.ucl_answers.specs.Stepping.{Moment as Point, answers_to, begins, moment_after}
+use Rattle.ucl_answers.specs.Holding.{after_bytes, answers_to}
 use Rattle.ucl_answers.specs.Text.{Evening, after_lines, answer_at, answer_said, answers, live_text, next, start_of}
 use Rattle.ucl_answers.proofs.Boards.{sequential}
-use Rattle.ucl_answers.proofs.Moments.{answers-append, answers-to-append, begun-append, ended-append, moment-append, same-moment}
-use Rattle.ucl_answers.proofs.WholeLines.{line-answers, line-begun, line-evening, said_with, shown_with, whole-said}
+use Rattle.ucl_answers.proofs.OneByOne.{after-append, after-last, answers-append, answers-last, text-append}
 use Rattle.ucl_follows.specs.declared.moment.Moment.{Moment}
 use Rattle.ucl_follows.specs.Follow.{club_row, resuming_rows}
 use Rattle.ucl_follows.specs.Resuming.{ResumedRowsOpenTheBoard, opened_at}
@@ -28,25 +30,34 @@ use Rattle.ucl_follows.proofs.RowTexts.{SaysClub, SaysRow, SaysWord, club_row_sa
 
 -- a text of whole lines, to which an evening answers nothing, and after which it is another
 record Passes (e : Evening) (text : List ℕ) (f : Evening) : Type 0 where
-  silent : answers_to (begins e) text ≡ []
-  after : moment_after (begins e) text ≡ begins f
+  whole : begun_line 258 [] text ≡ []
+  silent : answers_to e text ≡ []
+  after : after_bytes e text ≡ f
 
 passes-both : (e f g : Evening) (a b : List ℕ) → Passes e a f → Passes f b g → Passes e (a ++ b) g
-passes-both e f g a b p q = record {
-  silent = answers-to-append (begins e) a b ∙ (ap (λ (l : List ℕ). l ++ answers_to (moment_after (begins e) a) b) p.silent ∙ (ap (λ (m : Point). answers_to m b) p.after ∙ q.silent));
-  after = moment-append (begins e) a b ∙ (ap (λ (m : Point). moment_after m b) p.after ∙ q.after);
-}
+passes-both e f g a b p q =
+    let lines : ended_lines 258 [] (a ++ b) ≡ ended_lines 258 [] a ++ ended_lines 258 [] b =
+    ended_append 258 [] a b ∙ ap (λ (l : List ℕ). ended_lines 258 [] a ++ ended_lines 258 l b) p.whole in
+    record {
+      whole = begun_append 258 [] a b ∙ ap (λ (l : List ℕ). begun_line 258 l b) p.whole ∙ q.whole;
+      silent = ap (answers e) lines ∙ answers-append e (ended_lines 258 [] a) (ended_lines 258 [] b)
+          ∙ ap₂ (λ (x y : List ℕ). x ++ y) p.silent (ap (λ (h : Evening). answers h (ended_lines 258 [] b)) p.after ∙ q.silent);
+      after = ap (after_lines e) lines ∙ after-append e (ended_lines 258 [] a) (ended_lines 258 [] b)
+          ∙ ap (λ (h : Evening). after_lines h (ended_lines 258 [] b)) p.after ∙ q.after;
+    }
 
 passes-same : (e f g : Evening) (a b : List ℕ) → Passes e a f → a ≡ b → f ≡ g → Passes e b g
 passes-same e f g a b p text end = subst (λ (h : Evening). Passes e b h) end (subst (λ (t : List ℕ). Passes e t f) text p)
 
 row-passes : (e : Evening) (text : List ℕ) (f : FourFields) → SaysRow text f → ((shown : List ℕ) → answer_said e (Row f) shown ≡ []) → Passes e text (next e (Row f))
 row-passes e text f says none =
-    let line = says.line in
-    let row : said_with (begins e) line.front ≡ Row f = sym (whole-said (begins e) text line refl) ∙ says.said e.row in
+    let line : ended_lines 258 [] text ≡ says.front ∷ [] =
+    ap (ended_lines 258 []) says.line ∙ ended_line 258 [] says.front says.clean (omega arith) ∙ ap (λ (l : List ℕ). l ∷ []) (take_all 258 says.front (omega (arith, says.short))) in
+    let row : said_on e.row says.front ≡ Row f = ap (said_by_text e.row) (sym says.line) ∙ says.said e.row in
     record {
-      silent = line-answers (begins e) text line ∙ (ap (λ (r : Said). answer_said e r (shown_with (begins e) line.front)) row ∙ none (shown_with (begins e) line.front));
-      after = same-moment (moment_after (begins e) text) (begins (next e (Row f))) (line-evening (begins e) text line ∙ ap (next e) row) (line-begun (begins e) text line);
+      whole = ap (begun_line 258 []) says.line ∙ begun_ended 258 [] says.front;
+      silent = ap (answers e) line ∙ answers-last e says.front ∙ ap (λ (r : Said). answer_said e r (shown_text says.front)) row ∙ none (shown_text says.front);
+      after = ap (after_lines e) line ∙ after-last e says.front ∙ ap (next e) row;
     }
 
 abbrev at : LiveArgs → ℕ → Stage → Evening
@@ -162,16 +173,9 @@ whole-lines text none = ap (λ (l : List ℕ). ended_lines 258 [] text ++ last_l
 
 goes-on : (e f : Evening) (text bytes : List ℕ) → Passes e text f → live_text e (text ++ bytes) ≡ live_text f bytes
 goes-on e f text bytes p =
-    let none : begun_line 258 [] text ≡ [] = ap (λ (m : Point). m.begun) p.after in
-    let after : after_lines e (ended_lines 258 [] text) ≡ f = ap (λ (m : Point). m.evening) p.after in
-    let ended : ended_lines 258 [] (text ++ bytes) ≡ ended_lines 258 [] text ++ ended_lines 258 [] bytes =
-    ended-append [] text bytes ∙ ap (λ (l : List ℕ). ended_lines 258 [] text ++ ended_lines 258 l bytes) none in
-    let begun : begun_line 258 [] (text ++ bytes) ≡ begun_line 258 [] bytes = begun-append [] text bytes ∙ ap (λ (l : List ℕ). begun_line 258 l bytes) none in
-    let lines : lines_of (text ++ bytes) ≡ ended_lines 258 [] text ++ lines_of bytes =
-    ap (λ (ls : List (List ℕ)). ls ++ last_lines (begun_line 258 [] (text ++ bytes))) ended ∙ ap (λ (l : List ℕ). (ended_lines 258 [] text ++ ended_lines 258 [] bytes) ++ last_lines l) begun
-    ∙ append_assoc (ended_lines 258 [] text) (ended_lines 258 [] bytes) (last_lines (begun_line 258 [] bytes)) in
-    ap (answers e) lines ∙ (answers-append e (ended_lines 258 [] text) (lines_of bytes)
-    ∙ (ap (λ (l : List ℕ). l ++ answers (after_lines e (ended_lines 258 [] text)) (lines_of bytes)) p.silent ∙ ap (λ (g : Evening). answers g (lines_of bytes)) after))
+    let lines = whole-lines text p.whole in
+    text-append e text bytes p.whole
+    ∙ ap₂ (λ (x y : List ℕ). x ++ y) (ap (answers e) lines ∙ p.silent) (ap (λ (g : Evening). live_text g bytes) (ap (after_lines e) lines ∙ p.after))
 
 moment-passes : (options : LiveArgs) (m : Moment) → IsRoster m.roster → AreWords m.board → All (λ w. w < 2 ^ 64) m.board → Passes (start_of options) (resuming_rows m) (opened_at options m)
 moment-passes options m clubs words bits =
@@ -181,9 +185,9 @@ moment-passes options m clubs words bits =
 pub resumed : ResumedRowsOpenTheBoard
 resumed options m is =
     let p = moment-passes options m is.clubs is.words is.bits in
-    let whole = whole-lines (resuming_rows m) (ap (λ (k : Point). k.begun) p.after) in record {
+    let whole = whole-lines (resuming_rows m) p.whole in record {
       silent = ap (answers (start_of options)) whole ∙ p.silent;
-      opens = ap (after_lines (start_of options)) whole ∙ ap (λ (k : Point). k.evening) p.after;
+      opens = ap (after_lines (start_of options)) whole ∙ p.after;
       goes_on = λ bytes. goes-on (start_of options) (opened_at options m) (resuming_rows m) bytes p;
       sequential = λ h lines legal same. sequential (opened_at options m) lines m.roster h legal (ap (Open m.roster) same);
     }

@@ -5,7 +5,6 @@ use Rattle.std.specs.Prelude.{decimal, flat_map, nat_le, nat_lt, not}
 use Rattle.std.specs.Fmt.{digit_glyph}
 use Rattle.std.specs.List.{list_all}
 use Rattle.std.specs.Str.{bytes_eq}
-use Rattle.std.proofs.Math.Seq.{take-append_seam}
 use Rattle.std.proofs.lemmas.Bool.{cases_Bool, eqb-true}
 use Rattle.std.proofs.lemmas.Bool.Decides.{nat_tests}
 use Rattle.std.proofs.lemmas.Fmt.{decimal_by_steps, decimal_digit, decimal_nonempty, length-decimal-le}
@@ -23,9 +22,9 @@ use Rattle.ucl_screen.specs.Rows.{FourFields}
 use Rattle.ucl_screen.specs.Script.{club_of, word_of_row}
 use Rattle.ucl_screen.proofs.Digits.{number-is}
 use Rattle.ucl_io.specs.Lines.{HasNoFeed}
-use Rattle.ucl_answers.specs.Reading.{AreJoining, EndsRow, IsBehindEnds, IsFieldBefore, IsLineEnd, is_joining}
+use Rattle.ucl_answers.specs.Reading.{AreJoining, EndsRow, IsBehindEnds, IsFieldBefore, is_joining}
 use Rattle.ucl_answers.specs.Rows.{Row, fits, of_rows, said_by_text}
-use Rattle.ucl_answers.proofs.PlainRows.{field-before, plain_row, row-ends}
+use Rattle.ucl_answers.proofs.PlainRows.{at-ends, before-comma, plain_row}
 use Rattle.ucl_answers.proofs.RowBytes.{between-same, skip-one}
 use Rattle.ucl_answers.proofs.WordDigits.{low, word-digits}
 use Rattle.ucl_follows.specs.Follow.{club_row, in_quotes}
@@ -100,29 +99,6 @@ hex-long word h = ap (λ (l : List ℕ). length l) (word-digits word h) ∙ long
 
 -- ---- fields
 
-drop-behind : (xs rest : List ℕ) (b : ℕ) → drop (length xs + 1) (xs ++ b ∷ rest) ≡ rest
-drop-behind [] rest b = refl
-drop-behind (x ∷ xs) rest b =
-    let n : suc (length xs) + 1 ≡ suc (length xs + 1) = omega arith in
-    ap (λ (k : ℕ). drop k (x ∷ (xs ++ b ∷ rest))) n ∙ drop-behind xs rest b
-
-drop-at : (xs rest : List ℕ) → drop (length xs) (xs ++ rest) ≡ rest
-drop-at [] rest = refl
-drop-at (x ∷ xs) rest = drop-at xs rest
-
-get-behind : (xs rest : List ℕ) (b : ℕ) → get_or (xs ++ b ∷ rest) (length xs) 0 ≡ b
-get-behind [] rest b = refl
-get-behind (x ∷ xs) rest b = get-behind xs rest b
-
-before-comma : (xs rest : List ℕ) → AreJoining xs → IsFieldBefore (xs ++ 44 ∷ rest) xs rest
-before-comma xs rest h =
-    let text = xs ++ 44 ∷ rest in
-    let front = take-append_seam xs (44 ∷ rest) in
-    let long : length xs < length text = omega (arith, length-append xs (44 ∷ rest)) in
-    let field = field-before text (length xs) long (subst AreJoining (sym front) h) (get-behind xs rest 44) in
-    let named = subst (λ (l : List ℕ). IsFieldBefore text l (drop (length xs + 1) text)) front field in
-    subst (λ (l : List ℕ). IsFieldBefore text xs l) (drop-behind xs rest 44) named
-
 club-before : (rest : List ℕ) → IsFieldBefore (codes "club," ++ rest) (codes "club") rest
 unfolding next_record
 club-before rest = record { begins = refl; reads = λ fields. refl }
@@ -158,10 +134,7 @@ behind-feed : IsBehindEnds (10 ∷ []) []
 behind-feed = record { same = λ s h. between-same s (10 ∷ []) h ∙ skip-one 10 [] refl; begins = inl refl }
 
 at-end : (xs : List ℕ) → AreJoining xs → EndsRow (xs ++ 10 ∷ []) xs
-at-end xs h =
-    let front = take-append_seam xs (10 ∷ []) in
-    let ends = row-ends (xs ++ 10 ∷ []) (length xs) (subst AreJoining (sym front) h) (subst (λ (l : List ℕ). IsBehindEnds l []) (sym (drop-at xs (10 ∷ []))) behind-feed) in
-    subst (EndsRow (xs ++ 10 ∷ [])) front ends
+at-end xs h = at-ends xs (10 ∷ []) h behind-feed
 
 -- ---- line feeds
 
@@ -218,7 +191,10 @@ said-short row text f few unmarked is = rw (fits-short text few) (elim (cases_Bo
 -- ---- a row: it is one line, and what it says
 
 pub record SaysRow (text : List ℕ) (f : FourFields) : Type 0 where
-  pub line : IsLineEnd text
+  pub front : List ℕ
+  pub clean : HasNoFeed front
+  pub line : text ≡ front ++ 10 ∷ []
+  pub short : length front ≤ 256
   pub said : (row : ℕ) → said_by_text row text ≡ Row f
 
 -- the texts of the two kinds of rows
@@ -236,28 +212,37 @@ word_fields index hex = record { first = codes "word"; second = index; third = h
 
 -- they are lines
 
-club-line : (slot name coefficient : List ℕ) → AreJoining slot → AreJoining coefficient → list_all is_printed name ≡ true → IsLineEnd (club_text slot name coefficient)
-club-line slot name coefficient s c n =
+abbrev club_front : List ℕ → List ℕ → List ℕ → List ℕ
+club_front slot name coefficient = codes "club," ++ (slot ++ 44 ∷ 34 ∷ (flat_map in_quotes name ++ 34 ∷ 44 ∷ coefficient))
+
+abbrev word_front : List ℕ → List ℕ → List ℕ
+word_front index hex = codes "word," ++ (index ++ 44 ∷ (hex ++ 44 ∷ []))
+
+club-clean : (slot name coefficient : List ℕ) → AreJoining slot → AreJoining coefficient → list_all is_printed name ≡ true → HasNoFeed (club_front slot name coefficient)
+club-clean slot name coefficient s c n =
     let last = no-feed-then (34 ∷ 44 ∷ []) coefficient (test-clear (34 ∷ 44 ∷ []) refl) (joining-clear coefficient c) in
     let names = no-feed-then (flat_map in_quotes name) (34 ∷ 44 ∷ coefficient) (name-clear name n) last in
     let quoted = no-feed-then (44 ∷ 34 ∷ []) (flat_map in_quotes name ++ 34 ∷ 44 ∷ coefficient) (test-clear (44 ∷ 34 ∷ []) refl) names in
     let slots = no-feed-then slot (44 ∷ 34 ∷ (flat_map in_quotes name ++ 34 ∷ 44 ∷ coefficient)) (joining-clear slot s) quoted in
-    record {
-      front = codes "club," ++ (slot ++ 44 ∷ 34 ∷ (flat_map in_quotes name ++ 34 ∷ 44 ∷ coefficient));
-      clean = no-feed-then (codes "club,") (slot ++ 44 ∷ 34 ∷ (flat_map in_quotes name ++ 34 ∷ 44 ∷ coefficient)) (test-clear (codes "club,") refl) slots;
-      whole = simp append_assoc;
-    }
+    no-feed-then (codes "club,") (slot ++ 44 ∷ 34 ∷ (flat_map in_quotes name ++ 34 ∷ 44 ∷ coefficient)) (test-clear (codes "club,") refl) slots
 
-word-line : (index hex : List ℕ) → AreJoining index → AreJoining hex → IsLineEnd (word_text index hex)
-word-line index hex i h =
+club-line : (slot name coefficient : List ℕ) → club_text slot name coefficient ≡ club_front slot name coefficient ++ 10 ∷ []
+club-line slot name coefficient = simp append_assoc
+
+word-clean : (index hex : List ℕ) → AreJoining index → AreJoining hex → HasNoFeed (word_front index hex)
+word-clean index hex i h =
     let last = no-feed-then hex (44 ∷ []) (joining-clear hex h) (test-clear (44 ∷ []) refl) in
     let behind = no-feed-then (44 ∷ []) (hex ++ 44 ∷ []) (test-clear (44 ∷ []) refl) last in
-    record {
-      front = codes "word," ++ (index ++ 44 ∷ (hex ++ 44 ∷ []));
-      clean = no-feed-then (codes "word,") (index ++ 44 ∷ (hex ++ 44 ∷ [])) (test-clear (codes "word,") refl)
-          (no-feed-then index (44 ∷ (hex ++ 44 ∷ [])) (joining-clear index i) behind);
-      whole = simp append_assoc;
-    }
+    no-feed-then (codes "word,") (index ++ 44 ∷ (hex ++ 44 ∷ [])) (test-clear (codes "word,") refl)
+    (no-feed-then index (44 ∷ (hex ++ 44 ∷ [])) (joining-clear index i) behind)
+
+word-line : (index hex : List ℕ) → word_text index hex ≡ word_front index hex ++ 10 ∷ []
+word-line index hex = simp append_assoc
+
+-- so the line is one byte shorter
+less-one : (text front : List ℕ) → text ≡ front ++ 10 ∷ [] → length text ≤ 257 → length front ≤ 256
+less-one text front e h =
+    let long : length text ≡ length front + 1 = ap (λ (l : List ℕ). length l) e ∙ length-append front (10 ∷ []) in omega (arith, long, h)
 
 -- they are short
 
@@ -303,14 +288,20 @@ word-reads index hex i h =
 club-says : (slot name coefficient : List ℕ) → AreJoining slot → AreJoining coefficient → length slot ≤ 1 → length coefficient ≤ 6 → length name ≤ 20 → list_all is_printed name ≡ true
     → SaysRow (club_text slot name coefficient) (club_fields slot name coefficient)
 club-says slot name coefficient s c a b d n = record {
-  line = club-line slot name coefficient s c n;
+  front = club_front slot name coefficient;
+  clean = club-clean slot name coefficient s c n;
+  line = club-line slot name coefficient;
+  short = less-one (club_text slot name coefficient) (club_front slot name coefficient) (club-line slot name coefficient) (club-short slot name coefficient a b d);
   said = λ row. said-short row (club_text slot name coefficient) (club_fields slot name coefficient) (club-short slot name coefficient a b d)
       (club-unmarked (slot ++ 44 ∷ 34 ∷ (flat_map in_quotes name ++ 34 ∷ 44 ∷ (coefficient ++ 10 ∷ [])))) (club-reads slot name coefficient s c);
 }
 
 word-says : (index hex : List ℕ) → AreJoining index → AreJoining hex → length index ≤ 2 → length hex ≡ 16 → SaysRow (word_text index hex) (word_fields index hex)
 word-says index hex i h a b = record {
-  line = word-line index hex i h;
+  front = word_front index hex;
+  clean = word-clean index hex i h;
+  line = word-line index hex;
+  short = less-one (word_text index hex) (word_front index hex) (word-line index hex) (word-short index hex a b);
   said = λ row. said-short row (word_text index hex) (word_fields index hex) (word-short index hex a b)
       (word-unmarked (index ++ 44 ∷ (hex ++ 44 ∷ 10 ∷ []))) (word-reads index hex i h);
 }

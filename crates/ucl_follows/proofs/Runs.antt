@@ -1,21 +1,18 @@
 -- Whole runs of a follower, from what the driver says of them.
 use Rattle.std.proofs.Common.{◌≡◌, ◌⊎◌, ℕ, ◌+◌, Bool, List, [], ◌∷◌, ◌++◌, Option, Some, None, refl, sym, ap, ap₂, ◌∙◌, inl, inr, append_assoc, append-nil, subst}
-use Rattle.std.specs.Prelude.{Result, Ok, Err, IfSome}
+use Rattle.std.specs.Prelude.{⊤, Result, Ok, Err, IfSome}
 use Rattle.std.specs.Io.KnownBytes.{Appends}
 use Rattle.ucl_io.specs.declared.fault.PumpFault.{PumpFault}
 use Rattle.ucl_io.specs.declared.fault.PumpFault.TheVariants.{Machine, ReadFailed, TooLong, WriteFailed}
 use Rattle.ucl_io.specs.Calls.{Device}
-use Rattle.ucl_io.specs.Output.{SinkEnds, StoppedShort}
+use Rattle.ucl_io.specs.Output.{StoppedShort}
 use Rattle.ucl_io.specs.Turns.{AreGiven, AreTurns, StopsNext, Turn, lines_in, state_after, text_in}
-use Rattle.ucl_io.specs.Pumping.{HasClosed, HasMade, IsPromptAt, Pumped, Seen, StopsLast, rules_of, is_source_failed}
+use Rattle.ucl_io.specs.Pumping.{HasClosed, HasMade, IsPromptAt, Pumped, Seen, StopsLast, rules_of}
 use Rattle.ucl_io.proofs.Calls.{whole}
 use Rattle.ucl_io.proofs.Cuts.{cut_at}
 use Rattle.ucl_io.proofs.Puts.{stopped_first, stopped_short}
 use Rattle.ucl_io.proofs.Turns.{turns_front}
-use Rattle.ucl_runs.specs.declared.fault.RunFault.{RunFault}
-use Rattle.ucl_runs.specs.declared.fault.RunFault.TheVariants.{OutOfMemory}
-use Rattle.ucl_runs.specs.Run.{SinkFails, fault_of, is_read_failed}
-use Rattle.ucl_runs.proofs.Driven.{IfMachine, IsOwn, reads, sinks}
+use Rattle.ucl_word.specs.declared.refusal.OutOfMemory.{OutOfMemory}
 use Rattle.ucl_command.specs.declared.follow.FollowArgs.{FollowArgs}
 use Rattle.ucl_follows.specs.declared.follower.Follower.{Follower}
 use Rattle.ucl_follows.specs.declared.following.Following.{Following}
@@ -30,8 +27,8 @@ Answers m row line n text = (n ≡ heard m (moment_on line)) × (text ≡ told_t
 abbrev Ends : Follower → ℕ → List ℕ → Follower → List ℕ → Type 0
 Ends m row begun n text = (n ≡ m) × (text ≡ resuming_text m.shape m.following.newest)
 
-abbrev RanOut : Follower → ℕ → List ℕ → RunFault → Type 0
-RanOut m row line fault = fault ≡ OutOfMemory
+abbrev RanOut : Follower → ℕ → List ℕ → OutOfMemory → Type 0
+RanOut m row line fault = ⊤
 
 -- ---- what turns come to
 
@@ -92,7 +89,7 @@ module _ (old new : Seen Follower) (fresh : old.machine.following ≡ unseen) wh
         (e.last.1 ∙ ap (λ (k : Follower). resuming_text k.shape k.following.newest) (turns_are 1 old.machine turns p.turned).0
         ∙ ap (λ (f : Following). resuming_text shape f.newest) (sym (ap (λ (k : Follower). k.following) (turns_are 1 old.machine turns p.turned).0) ∙ reaches e.all))
 
-    heard_first : (fault : RunFault) → StopsNext RanOut 1 old.machine turns rest fault → Appends old.taken new.taken (text_in turns) → HeardFirst shape bytes old.taken new.taken
+    heard_first : (fault : OutOfMemory) → StopsNext RanOut 1 old.machine turns rest fault → Appends old.taken new.taken (text_in turns) → HeardFirst shape bytes old.taken new.taken
     heard_first fault s out =
         let at = cut_at 4097 [] bytes (lines_in turns) s.line s.later (p.lines_are ∙ ap (λ (l : List (List ℕ)). lines_in turns ++ l) s.next) in record {
           front = at.front;
@@ -101,13 +98,13 @@ module _ (old new : Seen Follower) (fresh : old.machine.following ≡ unseen) wh
           out = subst (Appends old.taken new.taken) (shows turns p.turned ∙ ap (sights shape unseen) (sym at.before)) out;
         }
 
-    runs_out : (fault : RunFault) → (StopsNext RanOut 1 old.machine turns rest fault ⊎ StopsLast (rules_of Answers RanOut Ends RanOut) 4097 old new bytes turns rest fault)
+    runs_out : (fault : OutOfMemory) → (StopsNext RanOut 1 old.machine turns rest fault ⊎ StopsLast (rules_of Answers RanOut Ends RanOut) 4097 old new bytes turns rest fault)
         → Appends old.taken new.taken (text_in turns) → HeardFirst shape bytes old.taken new.taken
     runs_out fault (inl s) out = heard_first fault s out
     runs_out fault (inr e) out = record { front = bytes; rest = []; parts = sym (append-nil bytes); out = subst (Appends old.taken new.taken) (all_text e.all) out }
 
   module _ (sink_failed : Bool) (Prompt : List (Turn Follower) → Type 0) where
-    abbrev Run : Result ℕ (PumpFault RunFault) → Type 0
+    abbrev Run : Result ℕ (PumpFault OutOfMemory) → Type 0
     Run result = Pumped (rules_of Answers RanOut Ends RanOut) 4097 4096 old new sink_failed result Prompt
 
     pub run_text : (count : ℕ) → Run (Ok count) → IfSome old.left (λ input. Appends old.taken new.taken (follow_text shape input))
@@ -121,21 +118,6 @@ module _ (old new : Seen Follower) (fresh : old.machine.following ≡ unseen) wh
         let e = p.ends.1.1 in
         whole (λ input. new.machine.following ≡ follow_end input) old.left new.left p.bytes e.ended p.consumed
         (ap (λ (k : Follower). k.following) e.last.0 ∙ reaches p.bytes p.turns p.rest p.given e.all)
-
-    out_of_memory : (fault : RunFault) → Run (Err (Machine fault)) → fault ≡ OutOfMemory
-    out_of_memory fault p = elim p.ends.0 [ inl next ↦ next.stops | inr last ↦ last.stops ]
-
-    own : (f : PumpFault RunFault) → Run (Err f) → IfMachine IsOwn f
-    own (ReadFailed n) p = tt
-    own TooLong p = tt
-    own (WriteFailed n) p = tt
-    own (Machine fault) p = subst IsOwn (sym (out_of_memory fault p)) (record { not_read = refl; sink = λ failed failed2 h. h })
-
-    pub run_reads : (f : PumpFault RunFault) (failed : Bool) → Run (Err f) → failed ≡ is_source_failed {V = ℕ} (Err f) → failed ≡ is_read_failed {U = Followed} (Err (fault_of f))
-    run_reads f failed p e = reads ℕ Followed f failed (own f p) e
-
-    pub run_sinks : (f : PumpFault RunFault) (failed failed2 : Bool) → Run (Err f) → SinkEnds {V = ℕ} failed failed2 (Err f) → SinkFails failed failed2 (fault_of f)
-    run_sinks f failed failed2 p e = sinks ℕ f failed failed2 (own f p) e
 
     module _ (x y z : Bool) where
       abbrev before : Device
@@ -160,21 +142,19 @@ module _ (old new : Seen Follower) (fresh : old.machine.following ≡ unseen) wh
         stopped = subst (λ (l : List ℕ). StoppedShort 0 sink_failed old.taken new.taken l written) (e.1 ∙ whole_text bytes turns rest p e.0 e.2) s;
       }
 
-      pub run_fails : (f : PumpFault RunFault) → z ≡ is_source_failed {V = ℕ} (Err f) → Run (Err f) → FollowFails shape before after (fault_of f)
-      run_fails (ReadFailed n) is p =
+      pub run_fails : (f : PumpFault OutOfMemory) → Run (Err f) → FollowFails shape before after f
+      run_fails (ReadFailed n) p =
           let e = p.ends.1 in
-          record { bytes = p.bytes; consumed = p.consumed; why = (is, p.ends.0, subst (Appends old.taken new.taken) (all_text p.bytes p.turns p.rest p.given e.all) e.out) }
-      run_fails TooLong is p =
+          record { bytes = p.bytes; consumed = p.consumed; why = (p.ends.0, subst (Appends old.taken new.taken) (all_text p.bytes p.turns p.rest p.given e.all) e.out) }
+      run_fails TooLong p =
           let e = p.ends.1 in record { bytes = p.bytes; consumed = p.consumed; why = (p.ends.0, subst (Appends old.taken new.taken) (all_text p.bytes p.turns p.rest p.given e.all) e.out) }
-      run_fails (WriteFailed written) is p = record {
+      run_fails (WriteFailed written) p = record {
         bytes = p.bytes;
         consumed = p.consumed;
         why = stops written p.bytes p.turns p.rest p.given p.ends.0 p.ends.1 p.ends.2
             (stopped_short 0 sink_failed old.taken new.taken p.ends.0 written p.ends.1 p.ends.3);
       }
-      run_fails (Machine fault) is p =
-          subst (FollowFails shape before after) (sym (out_of_memory fault p))
-          (record { bytes = p.bytes; consumed = p.consumed; why = runs_out p.bytes p.turns p.rest p.given fault p.ends.0 p.ends.1 })
+      run_fails (Machine fault) p = record { bytes = p.bytes; consumed = p.consumed; why = runs_out p.bytes p.turns p.rest p.given fault p.ends.0 p.ends.1 }
 
 pub counted : (left : Option (List ℕ)) (f : Following) → IfSome left (λ input. f ≡ follow_end input) → IfSome left (λ input. counts_of f ≡ counts_of (follow_end input))
 counted None f h = tt

@@ -1,11 +1,11 @@
 -- A follower as a machine, and what is left of it where a run fails.
-use Rattle.std.specs.Prelude.{◌≡◌, ◌⊎◌, ℕ, ◌^◌, ◌<◌, true, List, [], ◌++◌, length, Option, string_bytes}
+use Rattle.std.specs.Prelude.{◌≡◌, ◌⊎◌, ℕ, ◌^◌, ◌<◌, List, [], ◌++◌, length, Option, string_bytes}
 use Rattle.std.specs.Io.KnownBytes.{Appends, Consumes}
 use Rattle.ucl_io.specs.Calls.{Device, HasEnded}
 use Rattle.ucl_io.specs.Output.{StoppedShort}
-use Rattle.ucl_screen.specs.declared.fault.InputFault.TheVariants.{ReadFailed, TooLong}
-use Rattle.ucl_runs.specs.declared.fault.RunFault.{RunFault}
-use Rattle.ucl_runs.specs.declared.fault.RunFault.TheVariants.{Input, OutOfMemory, WriteFailed}
+use Rattle.ucl_io.specs.declared.fault.PumpFault.{PumpFault}
+use Rattle.ucl_io.specs.declared.fault.PumpFault.TheVariants.{Machine, ReadFailed, TooLong, WriteFailed}
+use Rattle.ucl_word.specs.declared.refusal.OutOfMemory.{OutOfMemory}
 use Rattle.ucl_follows.specs.declared.follower.Follower.{Follower}
 use Rattle.ucl_follows.specs.declared.follower.Sight.{Sight}
 use Rattle.ucl_follows.specs.declared.follower.Sight.TheVariants.{Nothing, Screen, Rows}
@@ -62,15 +62,13 @@ pub record HeardFirst (shape : FollowArgs) (bytes : List ℕ) (old new : Option 
 
 -- why a follower fails that has taken these bytes: the source failed after them, they are more than any input has, the sink failed, or
 -- there was no memory for a line, or for the rows of the end
-abbrev pub FollowFailsAfter : FollowArgs → List ℕ → Device → Device → RunFault → Type 0
-FollowFailsAfter shape bytes old new (Input (ReadFailed count)) =
-    (new.source_failed ≡ true) × (count ≡ length bytes) × Appends old.taken new.taken (heard_text shape bytes)
-FollowFailsAfter shape bytes old new (Input TooLong) = (2 ^ 62 < length bytes) × Appends old.taken new.taken (heard_text shape bytes)
+abbrev pub FollowFailsAfter : FollowArgs → List ℕ → Device → Device → PumpFault OutOfMemory → Type 0
+FollowFailsAfter shape bytes old new (ReadFailed count) = (count ≡ length bytes) × Appends old.taken new.taken (heard_text shape bytes)
+FollowFailsAfter shape bytes old new TooLong = (2 ^ 62 < length bytes) × Appends old.taken new.taken (heard_text shape bytes)
 FollowFailsAfter shape bytes old new (WriteFailed written) = FollowStops shape bytes old new written
-FollowFailsAfter shape bytes old new OutOfMemory = HeardFirst shape bytes old.taken new.taken
-FollowFailsAfter shape bytes old new _ = ⊥
+FollowFailsAfter shape bytes old new (Machine fault) = HeardFirst shape bytes old.taken new.taken
 
-pub record FollowFails (shape : FollowArgs) (old new : Device) (fault : RunFault) : Type 0 where
+pub record FollowFails (shape : FollowArgs) (old new : Device) (fault : PumpFault OutOfMemory) : Type 0 where
   pub bytes : List ℕ
   pub consumed : Consumes old.left new.left bytes
   pub why : FollowFailsAfter shape bytes old new fault

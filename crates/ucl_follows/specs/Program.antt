@@ -5,7 +5,13 @@ use Rattle.ucl_io.specs.declared.stream.Source as reads
 use Rattle.ucl_io.specs.declared.stream.Sink as writes
 use Rattle.ucl_runs.specs.declared.fault.RunFault.{RunFault}
 use Rattle.ucl_runs.specs.Faults.{status}
-use Rattle.ucl_runs.specs.Run.{SinkFails, is_read_failed}
+use Rattle.ucl_runs.specs.declared.fault.RunFault.TheVariants as run
+use Rattle.ucl_screen.specs.declared.fault.InputFault.TheVariants as input
+use Rattle.ucl_word.specs.declared.refusal.OutOfMemory.{OutOfMemory}
+use Rattle.ucl_io.specs.declared.fault.PumpFault.{PumpFault}
+use Rattle.ucl_io.specs.declared.fault.PumpFault.TheVariants.{Machine, ReadFailed, TooLong, WriteFailed}
+use Rattle.ucl_io.specs.Output.{SinkEnds}
+use Rattle.ucl_io.specs.Pumping.{is_source_failed}
 use Rattle.ucl_runs.specs.Telling.{Tells, fault_line}
 use Rattle.ucl_io.specs.declared.duplex.Duplex.{Duplex}
 use Rattle.ucl_io.specs.Calls.{LogsCalls, device}
@@ -18,14 +24,13 @@ use Rattle.ucl_follows.specs.Follow.{follow_end, follow_text}
 use Rattle.ucl_follows.specs.Hearing.{FollowFails, IsFollowedSoFar, counts_of}
 
 -- lines were followed over a device for both ways, or that has the fault r: what `follow_run` says
-pub record FollowsLines {S W M : Type 0} (source : reads.Ghosts S) (sink : writes.Ghosts W) (shape : FollowArgs) (before after : Duplex S W M) (r : Result Followed RunFault) : Type 0 where
+pub record FollowsLines {S W M : Type 0} (source : reads.Ghosts S) (sink : writes.Ghosts W) (shape : FollowArgs) (before after : Duplex S W M) (r : Result Followed (PumpFault OutOfMemory)) : Type 0 where
   pub text : OnOk r (IfSome (source.left before.source) (λ bytes. Appends (sink.taken before.sink) (sink.taken after.sink) (follow_text shape bytes)))
   pub counts : IfOk r (λ followed. IfSome (source.left before.source) (λ bytes. followed ≡ counts_of (follow_end bytes)))
-  pub read_failed : source.failed after.source ≡ is_read_failed r
+  pub read_failed : source.failed after.source ≡ is_source_failed r
   pub prompt : LogsCalls (λ time. source.calls time.0) before.log.times after.log.times (source.calls before.source) (source.calls after.source)
       (λ time. IsFollowedSoFar shape (source.left before.source) (source.left time.0) (sink.taken before.sink) (sink.taken time.1))
-  pub sink_sound : OnOk r (sink.failed after.sink ≡ sink.failed before.sink)
-  pub sink_fails : IfErr r (SinkFails (sink.failed before.sink) (sink.failed after.sink))
+  pub sink_ends : SinkEnds (sink.failed before.sink) (sink.failed after.sink) r
   pub fails : IfErr r (FollowFails shape (device source.left source.failed sink.taken sink.failed before) (device source.left source.failed sink.taken sink.failed after))
 
 -- how many lines came, how many were shown, and how many were passed over
@@ -50,15 +55,22 @@ end_line shape followed = if is_in_vain shape followed then vain_line followed e
 abbrev pub end_status : FollowArgs → Followed → ℕ
 end_status shape followed = if is_in_vain shape followed then 3 else 0
 
+-- the fault of a program that follows
+abbrev pub told_fault : PumpFault OutOfMemory → RunFault
+told_fault (ReadFailed bytes) = run.Input (input.ReadFailed bytes)
+told_fault TooLong = run.Input input.TooLong
+told_fault (WriteFailed written) = run.WriteFailed written
+told_fault (Machine fault) = run.OutOfMemory
+
 -- the input has ended; or the line of the fault is told, and its status
-abbrev pub EndsFollowing : FollowArgs → Result Followed RunFault → ℕ → Bool → Option (List ℕ) → Option (List ℕ) → Type 0
+abbrev pub EndsFollowing : FollowArgs → Result Followed (PumpFault OutOfMemory) → ℕ → Bool → Option (List ℕ) → Option (List ℕ) → Type 0
 EndsFollowing shape (Ok followed) code failed old new = (code ≡ end_status shape followed) × Tells failed old new (end_line shape followed)
-EndsFollowing shape (Err fault) code failed old new = (code ≡ status fault) × Tells failed old new (fault_line fault)
+EndsFollowing shape (Err fault) code failed old new = (code ≡ status (told_fault fault)) × Tells failed old new (fault_line (told_fault fault))
 
 -- what the program does where its words ask it to follow, ask for help, are refused, or could not be read for want of memory; and its
 -- exit status, and what it tells on the error sink
 abbrev pub RunsFollowing : {S W M : Type 0} → reads.Ghosts S → writes.Ghosts W → Result FollowArgs LineFault → Duplex S W M → Duplex S W M
     → ℕ → Bool → Option (List ℕ) → Option (List ℕ) → Type 0
 RunsFollowing source sink (Ok shape) before after code failed old new =
-    (r : Result Followed RunFault) × FollowsLines source sink shape before after r × EndsFollowing shape r code failed old new
+    (r : Result Followed (PumpFault OutOfMemory)) × FollowsLines source sink shape before after r × EndsFollowing shape r code failed old new
 RunsFollowing source sink (Err fault) before after code failed old new = AnsweredAlone sink fault before after code failed old new

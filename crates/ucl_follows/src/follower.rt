@@ -1,11 +1,10 @@
 //! A follower, which answers lines with screens.
 
-ghost use Rattle.std.specs.Prelude.{◌≡◌, ⊤, IfErr, IfOk};
+ghost use Rattle.std.specs.Prelude.{◌≡◌, ⊤, IfOk};
 ghost use Rattle.ucl_screen.specs.Screen.{IsGroup};
 ghost use Rattle.ucl_follows.specs.Follow.{resuming_text, sight_text, told_text, unseen};
 ghost use Rattle.ucl_follows.specs.Hearing.{following_of, heard, shape_of, sight_bytes};
 ghost use Rattle.ucl_follows.specs.Told.{moment_on};
-ghost use Rattle.ucl_runs.specs.declared.fault.RunFault.TheVariants.{OutOfMemory};
 
 use crate::following::{Following, is_newer};
 use crate::moment::Moment;
@@ -15,8 +14,8 @@ use std::alloc::Global;
 use ucl_command::FollowArgs;
 use ucl_io::{LineMachine, Text};
 use ucl_json::screen_json;
-use ucl_runs::RunFault;
 use ucl_screen::screen;
+use ucl_word::OutOfMemory;
 
 /// What a line is answered.
 #[derive(Drop)]
@@ -34,6 +33,10 @@ impl Text for Sight {
 
     ghost front = { sight_bytes };
 
+    fn new() -> Sight {
+        Sight::Nothing
+    }
+
     fn front(&self) -> &[u8] {
         match self {
             Sight::Nothing => b"".as_slice(),
@@ -48,10 +51,9 @@ impl Text for Sight {
 }
 
 /// The screen of a moment that the line of this number told.
-fn show(alloc: Global, shape: FollowArgs, row: u64, moment: &Moment) -> Result<Sight, RunFault>
+fn show(alloc: Global, shape: FollowArgs, row: u64, moment: &Moment) -> Result<Sight, OutOfMemory>
     requires { IsGroup moment.now.group }
-    ensures text { IfOk result (λ sight. sight_bytes sight ≡ sight_text shape row moment.now) }
-    ensures memory { IfErr result (λ fault. fault ≡ OutOfMemory) }
+    ensures { IfOk result (λ sight. sight_bytes sight ≡ sight_text shape row moment.now) }
 {
     match shape {
         FollowArgs::Text => Ok(Sight::Screen(screen(
@@ -98,42 +100,43 @@ impl Follower {
 impl LineMachine for Follower {
     type Answer = Sight;
 
-    type Fault = RunFault;
+    type Fault = OutOfMemory;
 
     ghost ready = { λ _. ⊤ };
 
     ghost answers = { λ m row line n text. (n ≡ heard m (moment_on line))
         × (text ≡ told_text m.shape m.following (moment_on line)) };
 
-    ghost stops = { λ _ _ _ fault. fault ≡ OutOfMemory };
+    ghost stops = { λ _ _ _ _. ⊤ };
 
     ghost ends = { λ m row begun n text. (n ≡ m)
         × (text ≡ resuming_text m.shape m.following.newest) };
 
-    ghost stops_at_end = { λ _ _ _ fault. fault ≡ OutOfMemory };
+    ghost stops_at_end = { λ _ _ _ _. ⊤ };
 
-    fn answer(&mut self, _row: u64, line: &[u8]) -> Result<Sight, RunFault> {
+    fn answer(&mut self, _row: u64, line: &[u8], text: &mut Sight) -> Result<(), OutOfMemory> {
         let told = moment_on(self.alloc, line)?;
         let row = self.following.lines.saturating_add(1);
         match told {
             Some(moment) if is_newer(&self.following.newest, &moment) => {
-                let sight = show(self.alloc, self.shape, row, &moment)?;
+                *text = show(self.alloc, self.shape, row, &moment)?;
                 self.following.newest = Some(moment);
                 self.following.lines = row;
                 self.following.shown = self.following.shown.saturating_add(1);
-                Ok(sight)
             }
             _ => {
+                *text = Sight::Nothing;
                 self.following.lines = row;
-                Ok(Sight::Nothing)
             }
         }
+        Ok(())
     }
 
-    fn end(&mut self, _row: u64, _begun: &[u8]) -> Result<Sight, RunFault> {
-        match (self.shape, &self.following.newest) {
-            (FollowArgs::Rows, Some(moment)) => Ok(Sight::Rows(resuming_rows(self.alloc, moment)?)),
-            _ => Ok(Sight::Nothing),
-        }
+    fn end(&mut self, _row: u64, _begun: &[u8], text: &mut Sight) -> Result<(), OutOfMemory> {
+        *text = match (self.shape, &self.following.newest) {
+            (FollowArgs::Rows, Some(moment)) => Sight::Rows(resuming_rows(self.alloc, moment)?),
+            _ => Sight::Nothing,
+        };
+        Ok(())
     }
 }

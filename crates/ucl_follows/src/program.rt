@@ -2,7 +2,7 @@
 
 ghost use Rattle.std.specs.Prelude.{◌≡◌};
 ghost use Rattle.ucl_runs.specs.Telling.{Tells};
-ghost use Rattle.ucl_follows.specs.Program.{EndsFollowing, RunsFollowing, counts_line, end_line, end_status, is_in_vain, vain_line};
+ghost use Rattle.ucl_follows.specs.Program.{EndsFollowing, RunsFollowing, counts_line, end_line, end_status, is_in_vain, told_fault, vain_line};
 
 use crate::follower::Follower;
 use crate::run::{Followed, follow_run};
@@ -10,9 +10,10 @@ use arrayvec::ArrayString;
 use itoa::Buffer;
 use std::alloc::Global;
 use ucl_command::{FollowArgs, LineFault};
-use ucl_io::Duplex;
+use ucl_io::{Duplex, PumpFault};
 use ucl_runs::{RunFault, ended_unasked, put_text, tell};
-use ucl_screen::{Sink, Source};
+use ucl_screen::{InputFault, Sink, Source};
+use ucl_word::OutOfMemory;
 
 /// How many lines came, how many were shown, and how many were passed over.
 fn counts_line(followed: Followed) -> ArrayString<128>
@@ -68,8 +69,24 @@ fn end_status(shape: FollowArgs, followed: Followed) -> u8
     if is_in_vain(shape, followed) { 3 } else { 0 }
 }
 
+/// The fault of a program that follows.
+fn told_fault(fault: PumpFault<OutOfMemory>) -> RunFault
+    ensures { result ≡ told_fault fault }
+{
+    match fault {
+        PumpFault::ReadFailed { bytes } => RunFault::Input(InputFault::ReadFailed { bytes }),
+        PumpFault::TooLong => RunFault::Input(InputFault::TooLong),
+        PumpFault::WriteFailed { written } => RunFault::WriteFailed { written },
+        PumpFault::Machine(_) => RunFault::OutOfMemory,
+    }
+}
+
 /// Tells how the lines were followed, or the fault, and gives the exit status.
-fn told<E: Sink>(errors: &mut E, shape: FollowArgs, done: Result<Followed, RunFault>) -> u8
+fn told<E: Sink>(
+    errors: &mut E,
+    shape: FollowArgs,
+    done: Result<Followed, PumpFault<OutOfMemory>>,
+) -> u8
     ensures { EndsFollowing shape done result
         (E.failed errors.new) (E.taken errors.old) (E.taken errors.new) }
 {
@@ -78,7 +95,7 @@ fn told<E: Sink>(errors: &mut E, shape: FollowArgs, done: Result<Followed, RunFa
             let _ = put_text(errors, end_line(shape, followed).as_str());
             end_status(shape, followed)
         }
-        Err(fault) => tell(errors, fault),
+        Err(fault) => tell(errors, told_fault(fault)),
     }
 }
 

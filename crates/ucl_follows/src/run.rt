@@ -3,16 +3,17 @@
 ghost use Rattle.std.specs.Prelude.{◌≡◌, IfErr, IfOk, IfSome, OnOk};
 ghost use Rattle.std.specs.Io.KnownBytes.{Appends};
 ghost use Rattle.ucl_io.specs.Calls.{LogsCalls, device};
-ghost use Rattle.ucl_runs.specs.Run.{SinkFails, is_read_failed};
+ghost use Rattle.ucl_io.specs.Output.{SinkEnds};
+ghost use Rattle.ucl_io.specs.Pumping.{is_source_failed};
 ghost use Rattle.ucl_follows.specs.Follow.{follow_end, follow_text};
 ghost use Rattle.ucl_follows.specs.Hearing.{FollowFails, IsFollowedSoFar, counts_of};
 
 use crate::follower::Follower;
 use std::alloc::Global;
 use ucl_command::FollowArgs;
-use ucl_io::{Duplex, pump};
-use ucl_runs::RunFault;
+use ucl_io::{Duplex, PumpFault, pump};
 use ucl_screen::{Sink, Source};
+use ucl_word::OutOfMemory;
 
 /// The most bytes of a line that are kept: one more than a line may have.
 const LINE: usize = 4097;
@@ -44,15 +45,12 @@ pub fn follow_run<S: Source, W: Sink>(
     alloc: Global,
     shape: FollowArgs,
     duplex: &mut Duplex<S, W, Follower>,
-) -> Result<Followed, RunFault>
+) -> Result<Followed, PumpFault<OutOfMemory>>
     ensures text { OnOk result (IfSome (S.left duplex.old.source)
         (λ bytes. Appends (W.taken duplex.old.sink) (W.taken duplex.new.sink)
         (follow_text shape bytes))) }
     ensures counts { IfOk result (λ followed. IfSome (S.left duplex.old.source)
         (λ bytes. followed ≡ counts_of (follow_end bytes))) }
-
-    // A failed read is answered exactly where the source has failed.
-    ensures read_failed { S.failed duplex.new.source ≡ is_read_failed result }
 
     // Just before each call for bytes, also in a run that failed, the screens of all lines that had an end by then were out.
     ensures prompt { LogsCalls (λ time. S.calls time.0)
@@ -61,9 +59,9 @@ pub fn follow_run<S: Source, W: Sink>(
         (λ time. IsFollowedSoFar shape
         (S.left duplex.old.source) (S.left time.0) (W.taken duplex.old.sink) (W.taken time.1)) }
 
-    // A failed write is answered exactly where the sink has failed.
-    ensures sink_sound { OnOk result (W.failed duplex.new.sink ≡ W.failed duplex.old.sink) }
-    ensures sink_fails { IfErr result (SinkFails (W.failed duplex.old.sink) (W.failed duplex.new.sink)) }
+    // A failed read is answered exactly where the source has failed, and a failed write where the sink has.
+    ensures read_failed { S.failed duplex.new.source ≡ is_source_failed result }
+    ensures sink { SinkEnds (W.failed duplex.old.sink) (W.failed duplex.new.sink) result }
 
     // Why it fails, and what is out then.
     ensures fails { IfErr result (FollowFails shape

@@ -8,7 +8,7 @@ ghost use Rattle.ucl_io.specs.Pumping.{IsPromptAt, Pumped, rules_of, is_source_f
 use crate::duplex::Duplex;
 use crate::fault::PumpFault;
 use crate::lines::Lines;
-use crate::machine::LineMachine;
+use crate::machine::{LineMachine, Text};
 use crate::stream::{Sink, Source};
 
 /// How many bytes are asked for at a time.
@@ -55,6 +55,7 @@ pub fn pump<S: Source, W: Sink, M: LineMachine>(
     ensures sink { SinkEnds (W.failed duplex.old.sink) (W.failed duplex.new.sink) result }
 {
     let mut lines = Lines::new();
+    let mut text = M::Answer::new();
     let mut piece = [0; PIECE];
     let mut read: usize = 0;
     'pieces: loop {
@@ -64,11 +65,11 @@ pub fn pump<S: Source, W: Sink, M: LineMachine>(
         match duplex.take(machine, &mut piece) {
             None => return Err(PumpFault::ReadFailed { bytes: read }),
             Some(0) => {
-                lines.end(machine, page, &mut duplex.sink)?;
+                lines.end(machine, page, &mut text, &mut duplex.sink)?;
                 return Ok(lines.row - 1);
             }
             Some(n) => {
-                lines.enter(machine, cap, page, &piece[..n], &mut duplex.sink)?;
+                lines.enter(machine, cap, page, &piece[..n], &mut text, &mut duplex.sink)?;
                 read += n;
             }
         }

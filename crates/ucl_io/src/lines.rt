@@ -46,6 +46,7 @@ fn answer_line<W: Sink, M: LineMachine>(
     machine: &mut M,
     row: u64,
     line: &[u8],
+    text: &mut M::Answer,
     output: &mut Output,
     page: usize,
     sink: &mut W,
@@ -63,8 +64,8 @@ fn answer_line<W: Sink, M: LineMachine>(
     ensures sink { SinkEnds (W.failed sink.old) (W.failed sink.new) result }
 {
     let _written = output.written();
-    match machine.answer(row, line) {
-        Ok(answer) => put_answer(sink, output, page, &answer),
+    match machine.answer(row, line, text) {
+        Ok(()) => put_answer(sink, output, page, text),
         Err(fault) => Err(PumpFault::Machine(fault)),
     }
 }
@@ -90,6 +91,7 @@ impl Lines {
         cap: usize,
         page: usize,
         end: &[u8],
+        text: &mut M::Answer,
         sink: &mut W,
     ) -> Result<(), PumpFault<M::Fault>>
         requires ready { M.ready machine.old }
@@ -114,11 +116,11 @@ impl Lines {
     {
         if self.begun.is_empty() {
             let line = at_most(end, cap);
-            answer_line(machine, self.row, line, &mut self.output, page, sink)?;
+            answer_line(machine, self.row, line, text, &mut self.output, page, sink)?;
         } else {
             keep(&mut self.begun, cap, end);
             let line = self.begun.as_slice();
-            answer_line(machine, self.row, line, &mut self.output, page, sink)?;
+            answer_line(machine, self.row, line, text, &mut self.output, page, sink)?;
             self.begun.clear();
         }
         self.row += 1;
@@ -132,6 +134,7 @@ impl Lines {
         cap: usize,
         page: usize,
         bytes: &[u8],
+        text: &mut M::Answer,
         sink: &mut W,
     ) -> Result<(), PumpFault<M::Fault>>
         requires ready { M.ready machine.old }
@@ -162,7 +165,7 @@ impl Lines {
         'lines: loop {
             match first_line(&bytes[start..]) {
                 Some(end) => {
-                    self.end_line(machine, cap, page, end, sink)?;
+                    self.end_line(machine, cap, page, end, text, sink)?;
                     start += end.len() + 1;
                 }
                 None => {
@@ -197,6 +200,7 @@ impl Lines {
         cap: usize,
         page: usize,
         bytes: &[u8],
+        text: &mut M::Answer,
         sink: &mut W,
     ) -> Result<(), PumpFault<M::Fault>>
         requires ready { M.ready machine.old }
@@ -221,7 +225,7 @@ impl Lines {
             self.old.output.out (W.failed sink.new) (W.taken sink.old) (W.taken sink.new)) }
         ensures sink { SinkEnds (W.failed sink.old) (W.failed sink.new) result }
     {
-        match self.enter_lines(machine, cap, page, bytes, sink) {
+        match self.enter_lines(machine, cap, page, bytes, text, sink) {
             Ok(()) => self.flush(sink),
             Err(PumpFault::Machine(fault)) => {
                 self.flush(sink)?;
@@ -236,6 +240,7 @@ impl Lines {
         &mut self,
         machine: &mut M,
         page: usize,
+        text: &mut M::Answer,
         sink: &mut W,
     ) -> Result<(), PumpFault<M::Fault>>
         requires ready { M.ready machine.old }
@@ -250,9 +255,9 @@ impl Lines {
             self.old.output.out (W.failed sink.new) (W.taken sink.old) (W.taken sink.new)) }
         ensures sink { SinkEnds (W.failed sink.old) (W.failed sink.new) result }
     {
-        match machine.end(self.row, self.begun.as_slice()) {
-            Ok(answer) => {
-                put_answer(sink, &mut self.output, page, &answer)?;
+        match machine.end(self.row, self.begun.as_slice(), text) {
+            Ok(()) => {
+                put_answer(sink, &mut self.output, page, text)?;
                 self.flush(sink)
             }
             Err(fault) => Err(PumpFault::Machine(fault)),

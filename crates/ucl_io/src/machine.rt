@@ -1,14 +1,18 @@
 //! What answers lines.
 
-ghost use Rattle.std.specs.Prelude.{◌≡◌, ◌++◌, ℕ, List, IfErr, IfOk};
+ghost use Rattle.std.specs.Prelude.{◌≡◌, ◌++◌, ℕ, List, IfErr, OnOk};
 
-/// What can be written: a text in two parts, so that two that were made apart need not be copied together.
+/// What can be written: a text in two parts, so that two that were made apart need not be copied together. There is one for a whole run, into
+/// which each answer is put.
 pub trait Text {
     // Its bytes.
     ghost bytes: { Self → List ℕ };
 
     // The first of them.
     ghost front: { Self → List ℕ };
+
+    /// Room for the answers of a run.
+    fn new() -> Self;
 
     /// The first part of its bytes, which may be all.
     fn front(&self) -> &[u8]
@@ -43,19 +47,19 @@ pub trait LineMachine {
 
     ghost stops_at_end: { Self → ℕ → List ℕ → Self.Fault → Type 0 };
 
-    /// Answers the line of this number, which comes without its line feed.
-    fn answer(&mut self, row: u64, line: &[u8]) -> Result<Self::Answer, Self::Fault>
+    /// Answers the line of this number, which comes without its line feed. The answer takes the place of the one before.
+    fn answer(&mut self, row: u64, line: &[u8], text: &mut Self::Answer) -> Result<(), Self::Fault>
         requires { ready self.old }
         ensures ready { ready self.new }
-        ensures answers { IfOk result
-            (λ text. answers self.old row line.now self.new (Self.Answer.bytes text)) }
+        ensures answers { OnOk result
+            (answers self.old row line.now self.new (Self.Answer.bytes text.new)) }
         ensures stops { IfErr result (stops self.old row line.now) };
 
     /// Answers what has begun of a last line, which has no end.
-    fn end(&mut self, row: u64, begun: &[u8]) -> Result<Self::Answer, Self::Fault>
+    fn end(&mut self, row: u64, begun: &[u8], text: &mut Self::Answer) -> Result<(), Self::Fault>
         requires { ready self.old }
         ensures ready { ready self.new }
-        ensures answers { IfOk result
-            (λ text. ends self.old row begun.now self.new (Self.Answer.bytes text)) }
+        ensures answers { OnOk result
+            (ends self.old row begun.now self.new (Self.Answer.bytes text.new)) }
         ensures stops { IfErr result (stops_at_end self.old row begun.now) };
 }

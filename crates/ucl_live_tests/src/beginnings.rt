@@ -3,53 +3,56 @@
 use crate::held::{has_refused, has_written, held};
 use crate::{CLUBS, joined};
 use std::test::Fail;
+use ucl_answers::BeginningFault;
 use ucl_command::Format;
-use ucl_screen::InputFault;
 
 /// Beginnings that are refused, and why.
-static REFUSED_CLUBS: [(&str, InputFault); 16] = [
-    ("", InputFault::BadRow { row: 1 }),
-    ("\n\r\n", InputFault::BadRow { row: 3 }),
-    ("club,1,Alpha,60000", InputFault::BadRow { row: 2 }),
+static REFUSED_CLUBS: [(&str, BeginningFault); 16] = [
+    ("", BeginningFault::BadRow { row: 1 }),
+    ("\n\r\n", BeginningFault::BadRow { row: 3 }),
+    ("club,1,Alpha,60000", BeginningFault::BadRow { row: 2 }),
     (
         "club,1,Alpha,60000\nclub,2,Bravo,95000\nclub,3,Charlie,60000\n",
-        InputFault::BadRow { row: 4 },
+        BeginningFault::BadRow { row: 4 },
     ),
     (
         "club,1,Alpha,60000\n\nclub,3,Charlie,60000\n",
-        InputFault::BadRow { row: 3 },
+        BeginningFault::BadRow { row: 3 },
     ),
     (
         "club,1,Alpha,60000\nclub,1,Alpha,60000\n",
-        InputFault::BadRow { row: 2 },
+        BeginningFault::BadRow { row: 2 },
     ),
     (
         "club,1,Alpha,60000\nclub,2,Bravo,95000\nclub,3,Charlie,60000\n1,1,0,kickoff\n",
-        InputFault::BadRow { row: 4 },
+        BeginningFault::BadRow { row: 4 },
     ),
-    ("club,01,Alpha,60000\n", InputFault::BadRow { row: 1 }),
-    ("club,1,Alpha,0000000001\n", InputFault::BadRow { row: 1 }),
-    ("club,1,Alpha,-1\n", InputFault::BadRow { row: 1 }),
-    ("club,1,\"Alp", InputFault::BadRow { row: 1 }),
+    ("club,01,Alpha,60000\n", BeginningFault::BadRow { row: 1 }),
+    (
+        "club,1,Alpha,0000000001\n",
+        BeginningFault::BadRow { row: 1 },
+    ),
+    ("club,1,Alpha,-1\n", BeginningFault::BadRow { row: 1 }),
+    ("club,1,\"Alp", BeginningFault::BadRow { row: 1 }),
     (
         "row,slot,name,coefficient\nclub,1,Alpha,60000\n",
-        InputFault::BadRow { row: 1 },
+        BeginningFault::BadRow { row: 1 },
     ),
     (
         "club;1;Alpha;60000\nclub;2;Bravo;95000\n",
-        InputFault::BadRow { row: 1 },
+        BeginningFault::BadRow { row: 1 },
     ),
     (
         "5 ok 1 1 1\nword,1,2001000000000001,\n",
-        InputFault::BadRow { row: 1 },
+        BeginningFault::BadRow { row: 1 },
     ),
     (
         "club,1,Alpha,60000\nclub,2,Bravo Bravo Bravo Bra,95000\nclub,3,Charlie,1000000\nclub,4,Delta,81500\n",
-        InputFault::BadRoster { slot: 2 },
+        BeginningFault::BadRoster { slot: 2 },
     ),
     (
         "club,1,Alpha,60000\nclub,2,Bravo,95000\nclub,3,Charlie,60000\nclub,4,,81500\n",
-        InputFault::BadRoster { slot: 4 },
+        BeginningFault::BadRoster { slot: 4 },
     ),
 ];
 
@@ -65,24 +68,30 @@ fn clubs_that_are_refused(rt: HostRuntime) -> Result<(), Fail> {
 }
 
 /// Word rows that are refused after the clubs, and why.
-static REFUSED_WORDS: [(&str, InputFault); 6] = [
-    ("word,2,2000000000000000,\n", InputFault::BadRow { row: 5 }),
-    ("word,1,2000000000000000,\n", InputFault::BadRow { row: 6 }),
+static REFUSED_WORDS: [(&str, BeginningFault); 6] = [
+    (
+        "word,2,2000000000000000,\n",
+        BeginningFault::BadRow { row: 5 },
+    ),
+    (
+        "word,1,2000000000000000,\n",
+        BeginningFault::BadRow { row: 6 },
+    ),
     (
         "word,1,2000000000000000,\nword,1,2000000000000000,\n",
-        InputFault::BadRow { row: 6 },
+        BeginningFault::BadRow { row: 6 },
     ),
     (
         "word,1,2000000000000000,\n1,1,0,kickoff\n",
-        InputFault::BadRow { row: 6 },
+        BeginningFault::BadRow { row: 6 },
     ),
     (
         "word,1,2000000000000000,\nword,2,200000000000000,\n",
-        InputFault::BadRow { row: 6 },
+        BeginningFault::BadRow { row: 6 },
     ),
     (
         "word,1,2000000000000000,\nword,2,2000000000000000,0\n",
-        InputFault::BadRow { row: 6 },
+        BeginningFault::BadRow { row: 6 },
     ),
 ];
 
@@ -100,10 +109,10 @@ fn words_that_are_refused(rt: HostRuntime) -> Result<(), Fail> {
     }
     let text = joined(alloc, &[CLUBS, NO_WORDS])?;
     let evening = held(alloc, Format::Text, text.as_bytes(), usize::MAX);
-    assert!(rt; has_refused(&evening, InputFault::BadRow { row: 16 }));
+    assert!(rt; has_refused(&evening, BeginningFault::BadRow { row: 16 }));
     let text = text.replace(alloc, "zzzz", "2000")?;
     let evening = held(alloc, Format::Text, text.as_bytes(), usize::MAX);
-    assert!(rt; has_refused(&evening, InputFault::BadWordAt { index: 3 }));
+    assert!(rt; has_refused(&evening, BeginningFault::BadWordAt { index: 3 }));
     Ok(())
 }
 

@@ -2,16 +2,15 @@
 
 use std::alloc::Global;
 use std::io;
-use ucl_answers::live_run;
+use ucl_answers::{BeginningFault, LiveFault, live_run};
 use ucl_command::{Format, LiveArgs};
 use ucl_devices::{Cut, Full, Out};
-use ucl_io::Duplex;
+use ucl_io::{Duplex, PumpFault};
 use ucl_order::Profile;
-use ucl_runs::RunFault;
-use ucl_screen::{FromRead, InputFault, ToWrite};
+use ucl_screen::{FromRead, ToWrite};
 
 /// How an evening ended, and what it wrote.
-pub type Held = (Result<(), RunFault>, Vec<u8>);
+pub type Held = (Result<(), PumpFault<LiveFault>>, Vec<u8>);
 
 /// The options of group A in the UEFA order.
 fn options_of(format: Format, screens: bool) -> LiveArgs {
@@ -65,19 +64,20 @@ pub fn has_written(held: &Held, text: &str) -> bool {
 /// Whether an evening wrote just the first `room` bytes of a text, and told then that its output had failed.
 pub fn has_stopped(held: &Held, text: &str, room: usize) -> bool {
     let (answer, out) = held;
-    *answer == Err(RunFault::WriteFailed { written: room })
+    matches!(answer, Err(PumpFault::WriteFailed { written }) if *written == room)
         && Some(out.as_slice()) == text.as_bytes().get(..room)
 }
 
 /// Whether an evening failed in reading after so many bytes, and wrote just the first `written` bytes of a text.
 pub fn has_broken_off(held: &Held, text: &str, bytes: usize, written: usize) -> bool {
     let (answer, out) = held;
-    let fault = InputFault::ReadFailed { bytes };
-    *answer == Err(RunFault::Input(fault)) && Some(out.as_slice()) == text.as_bytes().get(..written)
+    matches!(answer, Err(PumpFault::ReadFailed { bytes: read }) if *read == bytes)
+        && Some(out.as_slice()) == text.as_bytes().get(..written)
 }
 
 /// Whether the clubs or the words of an evening were refused by this fault, and nothing was written.
-pub fn has_refused(held: &Held, fault: InputFault) -> bool {
+pub fn has_refused(held: &Held, fault: BeginningFault) -> bool {
     let (answer, out) = held;
-    *answer == Err(RunFault::Input(fault)) && out.is_empty()
+    matches!(answer, Err(PumpFault::Machine(LiveFault::Beginning(found))) if *found == fault)
+        && out.is_empty()
 }

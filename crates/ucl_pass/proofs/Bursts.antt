@@ -1,5 +1,5 @@
 -- Steps of one caller with none of another between them: a reading of all words at once is one, and so is a report.
-use Rattle.std.proofs.Common.{◌≡◌, ℕ, zero, suc, ◌+◌, ◌-◌, ◌<◌, Bool, cond, List, [], ◌∷◌, ◌++◌, length, take, Option, Some, None, refl, sym, ap, ◌∙◌, subst, arith, append-nil, eq-eqb, ne_eqb}
+use Rattle.std.proofs.Common.{◌≡◌, ℕ, zero, suc, ◌+◌, ◌-◌, ◌<◌, Bool, cond, List, ◌∷◌, ◌++◌, length, take, Option, Some, None, refl, sym, ap, ◌∙◌, subst, arith, append-nil, eq-eqb, ne_eqb, []}
 use Rattle.std.specs.Prelude.{slice_index}
 use Rattle.std.proofs.lemmas.List.{length-take-le}
 use Rattle.std.proofs.Math.Seq.{take-length}
@@ -103,8 +103,7 @@ module _ (cast : Cast) (seat number : ℕ) (words : List ℕ) (now : ℕ) (twelv
       let same = t.history ∙ append-nil w.history in
       let twelfth : k + 1 ≡ length words = omega (arith, twelve) in
       let all : take (k + 1) words ≡ words = ap (λ (j : ℕ). take j words) twelfth ∙ take-length words in
-      let held' : collected (take (k + 1) words) now ≡ Checking words 0 now =
-      ap (λ (l : List ℕ). collected l now) all ∙ ap (λ (b : Bool). cond b (Checking words 0 now) (Collecting words)) (eq-eqb (length words) 12 twelve) in
+      let held' : collected (take (k + 1) words) now ≡ Checking words 0 now = search (arith, eq-eqb) in
       turns_on seat number w (Reader (seat + 1)) (next_first steps w run d f k less held is place) e (copied_at words now d) [] t
       (seconds_all cast seat number words now now 11 (steps ++ steps_of_move t.move) t.last (steps_append steps (steps_of_move t.move) (initial_state cast) w run ∙ t.run) e t.fits 0 refl held'
       (is ∙ ap board_of (sym same)) (ap length same ∙ place))
@@ -114,8 +113,7 @@ module _ (cast : Cast) (seat number : ℕ) (words : List ℕ) (now : ℕ) (twelv
       let t = one_first steps w run d f k less held is place in
       let same = t.history ∙ append-nil w.history in
       let long' : length (take (k + 1) words) ≡ k + 1 = length-take-le (k + 1) words (omega (arith, twelve)) in
-      let held' : collected (take (k + 1) words) now ≡ Collecting (take (k + 1) words) =
-      ap (λ (b : Bool). cond b (Checking (take (k + 1) words) 0 now) (Collecting (take (k + 1) words))) (ne_eqb (length (take (k + 1) words)) 12 (λ z. omega arith)) in
+      let held' : collected (take (k + 1) words) now ≡ Collecting (take (k + 1) words) = search (arith, ne_eqb) in
       turns_on seat number w (Reader (seat + 1)) (next_first steps w run d f k less held is place) e (copied_at words now d) [] t
       (firsts_all n (steps ++ steps_of_move t.move) t.last (steps_append steps (steps_of_move t.move) (initial_state cast) w run ∙ t.run) e t.fits (k + 1) (omega arith) held'
       (is ∙ ap board_of (sym same)) (ap length same ∙ place))

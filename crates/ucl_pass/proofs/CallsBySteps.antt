@@ -1,7 +1,7 @@
 -- From what steps on the cell tell to what a call says of its pass.
-use Rattle.std.proofs.Common.{◌≡◌, ◌≢◌, ℕ, suc, ◌+◌, ◌==◌, ◌<◌, ◌≤◌, Bool, cond, List, [], ◌∷◌, ◌++◌, length, take, refl, sym, ap, ◌∙◌, subst, arith, true≢false, true, false, length-append}
+use Rattle.std.proofs.Common.{◌≡◌, ◌≢◌, ℕ, suc, ◌+◌, ◌==◌, ◌<◌, ◌≤◌, List, ◌∷◌, ◌++◌, length, take, refl, sym, ap, ◌∙◌, subst, arith, true≢false, true, false, length-append, []}
 use Rattle.std.proofs.Common.{append-nil, append_assoc, ne_eqb}
-use Rattle.std.specs.Prelude.{filter, slice_index, Result, Ok, Err, IsOk, MatchResult, is_ok, Option, Some, None}
+use Rattle.std.specs.Prelude.{slice_index, Result, Ok, Err, IsOk, MatchResult, is_ok, Option, Some, None}
 use Rattle.std.specs.List.{AllByRecursion, flat_map}
 use Rattle.std.proofs.lemmas.Grind.{flat_map-append}
 use Rattle.std.proofs.lemmas.List.{take_all, nil_from_length}
@@ -32,10 +32,10 @@ use Rattle.ucl_steps.specs.declared.trace.Reply.TheVariants as replies
 use Rattle.ucl_steps.specs.Protocol.{Answer}
 use Rattle.ucl_pass.specs.declared.view.CellView.{CellView}
 use Rattle.ucl_pass.specs.CellRule.{words_after}
-use Rattle.ucl_pass.specs.CellSteps.{IsNextBoard, word_looked_at, HasSeenAll, StoresEntry, StoresReporter, LooksOnly, LooksAtMatch, LooksAtEnlisted, LooksAndShows, finished_too}
+use Rattle.ucl_pass.specs.CellSteps.{IsNextBoard, word_looked_at, HasSeenAll, StoresEntry, StoresReporter, LooksOnly, LooksAtMatch, LooksAtEnlisted, LooksAndShows}
 use Rattle.ucl_pass.specs.CellSteps.{after_load, HasAccepted, AreAccepting, LookOfCell, ReadOfCell}
-use Rattle.ucl_shared.specs.CallSteps.{steps_with, entry_made, MeetingSteps}
-use Rattle.ucl_pass.specs.CellCalls.{CellMissed, no_event_between, WereLost, CellReport, CellEnlistMissed, CellEnlistment, CellReading, FinishesReport, FinishesReading}
+use Rattle.ucl_shared.specs.CallSteps.{MeetingSteps}
+use Rattle.ucl_pass.specs.CellCalls.{CellMissed, no_event_between, WereLost, CellReport, CellEnlistMissed, CellReading, FinishesReport, FinishesReading}
 use Rattle.ucl_shared.proofs.CallsBySteps.{takes_none, takes_on, takes_count, Stays, stays_none, stays_more, all_more}
 use Rattle.ucl_pass.proofs.KeptRule.{match_words, match_word, last_word}
 
@@ -147,8 +147,7 @@ module _ (call : EventCall) (v w u : View) (x : List ℕ) (tried : TriedReport c
       record {
         stays = looked_stays v u z (word_looked_at Swap call.game y) y look_stays lost;
         tries = tried.tries ++ one ∷ [];
-        takes = subst (λ (l : List Taken). Takes v l z) (sym all) (subst (λ (l : List Taken). Takes v l z) (append_assoc (flat_map (λ t. t) tried.tries) (look_step ∷ []) (swap_step ∷ []))
-            (takes_on v u z (flat_map (λ t. t) tried.tries ++ look_step ∷ []) (swap_step ∷ []) look_takes lost.sees.takes));
+        takes = search (arith, append_assoc, takes_on, look_takes);
         missed = all_more (CellMissed call) tried.tries one tried.missed (record {
           looked = word_at x call.game;
           found = word_at y call.game;
@@ -189,30 +188,18 @@ module _ (call : EventCall) (v w u : View) (x : List ℕ) (tried : TriedReport c
         record {
           tries = tried.tries;
           last = look_step ∷ swap_step ∷ [];
-          takes = subst (λ (l : List Taken). Takes v l z) (append_assoc (flat_map (λ t. t) tried.tries) (look_step ∷ []) (swap_step ∷ []))
-              (takes_on v u z (flat_map (λ t. t) tried.tries ++ look_step ∷ []) (swap_step ∷ []) look_takes stored.adds.takes);
+          takes = search (arith, append_assoc, takes_on, look_takes);
           missed = tried.missed;
           lost = (let a = tried.lost in let b = looked.seen_all.listed in let d = stored.seen_all.listed in omega arith);
           answered = record {
             accesses = access Look call.game (word_at x call.game) (length u.seen) ∷ access Swap call.game (word_at x call.game) (length stored.before) ∷ [];
             steps_are = refl;
-            deciding = record {
-              looked = word_at x call.game;
-              at = length u.seen;
-              before = length stored.before;
-              accesses = refl;
-              answer = answer;
-              last = sym (ap length stored.adds.last ∙ length-append stored.before (entry_of v.number call ∷ []));
-            };
+            deciding = search (arith, length-append);
           };
         }
 
--- a report takes a step at least
-some_steps : (n : ℕ) (call : EventCall) (r : Result Accepted Refusal) (now : ℕ) (steps : List Taken) → Rattle.ucl_pass.specs.CellCalls.CellAnswered n call r now steps → 0 < length steps
-some_steps n call r now steps a = search arith
-
 pub report_counts : (v w : View) (call : EventCall) (r : Result Accepted Refusal) → CellReport v call r w → count_of v < count_of w
-report_counts v w call r s = search (arith, some_steps, takes_count, length-append)
+report_counts v w call r s = search (arith, takes_count, length-append)
 
 -- the words of the next board, with the number of the enlisted
 pub next_words : (x board next : List ℕ) (e : Entry)
@@ -276,8 +263,7 @@ module _ (v w u : View) (x : List ℕ) (tried : TriedEnlist v w) (looked : Looks
       record {
         stays = looked_stays v u z (Enlisted (slice_index y 12)) y count_stays missed;
         tries = tried.tries ++ one ∷ [];
-        takes = subst (λ (l : List Taken). Takes v l z) (sym all) (subst (λ (l : List Taken). Takes v l z) (append_assoc (flat_map (λ t. t) tried.tries) (count_step ∷ []) (swap_step ∷ []))
-            (takes_on v u z (flat_map (λ t. t) tried.tries ++ count_step ∷ []) (swap_step ∷ []) count_takes missed.sees.takes));
+        takes = search (arith, append_assoc, takes_on, count_takes);
         missed = all_more CellEnlistMissed tried.tries one tried.missed (record { loaded = slice_index x 12; found = slice_index y 12; at = length u.seen; later = length z.seen; steps_are = refl });
         lost = lost_more v.listed tried.tries one w.listed z.listed tried.lost (let a = looked.seen_all.listed in let b = missed.seen_all.listed in omega arith)
             (λ is.
@@ -290,12 +276,6 @@ module _ (v w u : View) (x : List ℕ) (tried : TriedEnlist v w) (looked : Looks
   module _ (z : View) (next : List ℕ) (stored : StoresReporter u x next z) where
     pub enlisted_says : Enlistment (pass_view_of v) (pass_view_of z)
     enlisted_says = search (arith, sound, begins_through, count_stays)
-
-    pub enlisted_steps : CellEnlistment v true z
-    enlisted_steps = search (arith, append_assoc, takes_on, count_takes)
-
-    pub enlisted_counts : count_of v < count_of z
-    enlisted_counts = let before = look_counts in omega (arith, before, takes_count u z (step_taken (Enlisted (slice_index x 12)) (length z.seen) None ∷ []) stored.enlists.takes)
 
     pub new_number : z.number ≡ slice_index x 12 + 1
     new_number = stored.enlists.number ∙ stored.enlists.next
@@ -328,19 +308,12 @@ abbrev ok_or : Accepted → Result Accepted Refusal → Accepted
 ok_or other (Ok reply) = reply
 ok_or other (Err refusal) = other
 
-abbrev err_or : Refusal → Result Accepted Refusal → Refusal
-err_or other (Ok reply) = other
-err_or other (Err refusal) = refusal
-
 accepts_none : (n : ℕ) (o : Option Refusal) (reply : Accepted) → answer n o ≡ Ok reply → o ≡ None
 accepts_none n o reply is = search (arith, true≢false)
 
 accepts_number : (n : ℕ) (o : Option Refusal) (reply : Accepted) → answer n o ≡ Ok reply → reply ≡ record { number = n + 1 }
 accepts_number n None reply is = sym (ap (ok_or reply) is)
 accepts_number n (Some refusal) reply is = absurd (true≢false (sym (ap is_ok is)))
-
-refuses_some : (n : ℕ) (o : Option Refusal) (refusal : Refusal) → answer n o ≡ Err refusal → o ≡ Some refusal
-refuses_some n o refusal is = search (arith, true≢false)
 
 module _ (e : EventCall) (v w u : CellView) (x : List ℕ) (tried : TriedReport e v.pass w.pass) (same : w.calls ≡ v.calls) (looked : LookOfCell e w x x u) where
   abbrev found : ℕ
@@ -356,7 +329,7 @@ module _ (e : EventCall) (v w u : CellView) (x : List ℕ) (tried : TriedReport 
   looked_number = looked.looks.sees.number ∙ tried.stays.number
 
   pub finishes_refused : (refusal : Refusal) → reply_of (record_at found) e ≡ Err refusal → FinishesReport v e (Err refusal) u
-  finishes_refused refusal is = search (arith, looked_on, refuses_some)
+  finishes_refused refusal is = search (arith, looked_on, true≢false)
 
   module _ (reply : Accepted) (is : reply_of (record_at found) e ≡ Ok reply) where
     pub are_accepting : AreAccepting x e
@@ -373,9 +346,7 @@ module _ (e : EventCall) (v w u : CellView) (x : List ℕ) (tried : TriedReport 
       begun = h.begun;
       after_seen = (let a = looked_on in let b = h.since in omega arith);
       at_once = h.last;
-      does = h.calls ∙ (ap (λ (a : Accepted). finished_too (calls.Event e) (replies.Accepted a) h.begun (length z.pass.seen) u.calls)
-          (sym (accepts_number (record_at found).number (refusal_of (record_at found) e.expected e.kind) reply is))
-          ∙ ap (finished_too (calls.Event e) (replies.Accepted reply) h.begun (length z.pass.seen)) none_finished);
+      does = search (arith, accepts_number, none_finished);
     }
 
 -- and after a reading

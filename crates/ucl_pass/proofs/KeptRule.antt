@@ -1,7 +1,7 @@
 -- Each kind of step on the cell keeps the rule, and tells its pass what it says.
-use Rattle.std.proofs.Common.{◌≡◌, ◌≢◌, inl, inr, ⊎_elim, ℕ, zero, suc, ◌+◌, ◌-◌, ◌<◌, ◌≤◌, Bool, true, false, Option, Some, None, List, [], ◌∷◌, ◌++◌, length, set, take, nat_eq, get_or}
+use Rattle.std.proofs.Common.{◌≡◌, ◌≢◌, inl, inr, ℕ, zero, suc, ◌+◌, ◌-◌, ◌<◌, ◌≤◌, true, false, Option, Some, None, List, ◌∷◌, ◌++◌, length, set, take, nat_eq, get_or, []}
 use Rattle.std.proofs.Common.{if◌then◌else◌, refl, sym, ap, ◌∙◌, subst, arith, le_refl, append-nil, length-append, length-set, true≢false}
-use Rattle.std.specs.Prelude.{slice_index, Result, Ok, Err, MatchResult, IsSome}
+use Rattle.std.specs.Prelude.{slice_index, Result, MatchResult, IsSome}
 use mathlib.Core.Option.{some}
 use lib.ListN.{get_elem?}
 use lib.Pointwise.{pointwise, bytes_decides}
@@ -16,12 +16,12 @@ use Rattle.ucl_board.specs.declared.entry.Entry.{Entry}
 use Rattle.ucl_board.specs.Fixtures.{IsMatch}
 use Rattle.ucl_board.specs.Words.{word_at}
 use Rattle.ucl_board.specs.History.{match_after, board_of, IsLegal, followed_by, entry_of, reading_of}
-use Rattle.ucl_board.specs.Log.{AccessKind, Look, Swap, Target, Enlisted, Whole, history_of, IsThere}
+use Rattle.ucl_board.specs.Log.{AccessKind, Look, Swap, Target, Enlisted, Whole, history_of, IsThere, Log}
 use Rattle.ucl_board.proofs.Histories.{board_length, word_after}
 use Rattle.ucl_board.proofs.HistoryLaws.{one_word}
 use Rattle.ucl_board.proofs.Beginnings.{begins_length}
 use Rattle.ucl_shared.specs.declared.view.View.{View}
-use Rattle.ucl_shared.specs.Views.{newcomer, opener}
+use Rattle.ucl_shared.specs.Views.{opener}
 use Rattle.ucl_shared.specs.OneHistory.{KeepsOneHistory}
 use Rattle.ucl_shared.specs.Steps.{Enlists}
 use Rattle.ucl_steps.specs.declared.step.Caller.{Caller}
@@ -41,8 +41,9 @@ use Rattle.ucl_pass.specs.CellSteps.{IsNextBoard, with_one_more, word_looked_at,
 use Rattle.ucl_pass.specs.CellSteps.{HasAccepted, DecidesReport, AreAccepting, LookOfCell, AddOfCell, ReadOfCell, CountOfCell, EnlistOfCell, TellsAndStands}
 use Rattle.ucl_shared.proofs.KeptRule.{looked, look_keeps, look_tells, same_history, entered, add_keeps, add_tells, longer_history, enlisted_as, enlist_keeps, enlist_tells, unchanged_history}
 use Rattle.ucl_shared.proofs.KeptRule.{second_added, note_added, note_joined, opens, look_same, add_same, enlist_same, second_same, note_same, joined_same, opens_same}
+use Rattle.ucl_shared.proofs.KeptBoards.{apart, low, Kept, kept, one_more, joined}
 use Rattle.ucl_pass.proofs.Bursts.{reading_at_once, refused_at_once, accepted_at_once}
-use Rattle.ucl_steps.proofs.Seats.{map_at, map_there, map_set, map_more, map_long, set_same, place_below}
+use Rattle.ucl_steps.proofs.Seats.{map_at, map_set, set_same, place_below}
 use Rattle.ucl_steps.proofs.ActorRuns.{Burst, Apart, run_burst, run_enlisted, run_more, run_begins}
 
 -- the thirteen words
@@ -58,9 +59,6 @@ last_word h n = refl
 more_words : (h : List Entry) (n : ℕ) → with_one_more (words_after h n) ≡ words_after h (n + 1)
 unfolding board_of
 more_words h n = refl
-
-pub one_more_last : (h : List Entry) (n : ℕ) → slice_index (with_one_more (words_after h n)) 12 ≡ n + 1
-one_more_last h n = ap (λ (ws : List ℕ). slice_index ws 12) (more_words h n) ∙ last_word h (n + 1)
 
 -- a match word among the thirteen
 
@@ -85,38 +83,27 @@ reporter_differs h n same = let e : n ≡ n + 1 = sym (last_word h n) ∙ (ap (�
 
 -- views and actors
 
+abbrev pass_of : CellView → View
+pass_of v = v.pass
+
+abbrev RunOf : ℕ → ℕ → Log → List Actor → Type 0
+RunOf readers n log actors = IsRunOfActors readers n (history_of log) actors
+
 apart_actors : (x : List ℕ) (views : List CellView) (r : CellKeepsOneHistory x views) → Apart (actors_of views)
-apart_actors x views r i j a b at bt pos same = by_views (map_there actor_of views i a at) (map_there actor_of views j b bt)
-  where
-    by_views : (v : CellView) × (get_elem? views i ≡ some v) × (actor_of v ≡ a) → (w : CellView) × (get_elem? views j ≡ some w) × (actor_of w ≡ b) → i ≡ j
-    by_views v w =
-        let n : v.0.pass.number ≡ a.number = ap (λ (z : Actor). z.number) v.2 in
-        let m : w.0.pass.number ≡ b.number = ap (λ (z : Actor). z.number) w.2 in
-        r.shared.apart i j v.0.pass w.0.pass (map_at (λ (z : CellView). z.pass) views i v.0 v.1) (map_at (λ (z : CellView). z.pass) views j w.0 w.1) (omega arith) (n ∙ (same ∙ sym m))
+apart_actors x views r = apart words_after pass_of actor_of (λ a. a.number) (λ v. refl) x views r.shared
 
 low_actors : (x : List ℕ) (views : List CellView) (r : CellKeepsOneHistory x views) (j : ℕ) (a : Actor) → get_elem? (actors_of views) j ≡ some a → a.number ≤ r.shared.enlisted
-low_actors x views r j a at = by_view (map_there actor_of views j a at)
-  where
-    by_view : (v : CellView) × (get_elem? views j ≡ some v) × (actor_of v ≡ a) → a.number ≤ r.shared.enlisted
-    by_view v =
-        let n : v.0.pass.number ≡ a.number = ap (λ (z : Actor). z.number) v.2 in
-        let low = (r.shared.fits j v.0.pass (map_at (λ (z : CellView). z.pass) views j v.0 v.1)).number in
-        omega arith
-
--- the same rule of the same views
-moved : (words : List ℕ) (ps ps' : List View) (q : KeepsOneHistory words_after words ps) → ps ≡ ps' → (q' : KeepsOneHistory words_after words ps') × (q'.enlisted ≡ q.enlisted) × (q'.log ≡ q.log)
-moved words ps ps' q e = subst (λ (vs : List View). (q' : KeepsOneHistory words_after words vs) × (q'.enlisted ≡ q.enlisted) × (q'.log ≡ q.log)) e (q, refl, refl)
+low_actors x views r = low words_after pass_of actor_of (λ a. a.number) (λ v. refl) x views r.shared
 
 -- the rule of the cell from its two parts
+of_kept : (words : List ℕ) (views : List CellView) → Kept words_after pass_of actor_of RunOf words views → CellKeepsOneHistory words views
+of_kept words views k = record { shared = k.rule; one_run = k.runs }
+
 both : (words : List ℕ) (views : List CellView) (ps : List View) (q : KeepsOneHistory words_after words ps) (n : ℕ) (h : List Entry) → ps ≡ views_known views → q.enlisted ≡ n → history_of q.log ≡ h
     → ((readers : ℕ) → length views ≤ readers → IsRunOfActors readers n h (actors_of views)) → CellKeepsOneHistory words views
 both words views ps q n h e enlisted is run =
-    let t = moved words ps (views_known views) q e in
-    record {
-      shared = t.0;
-      one_run = λ readers all. subst (λ (z : List Entry). IsRunOfActors readers t.0.enlisted z (actors_of views)) (sym (ap history_of t.2 ∙ is))
-          (subst (λ (k : ℕ). IsRunOfActors readers k h (actors_of views)) (sym (t.1 ∙ enlisted)) (run readers all));
-    }
+    of_kept words views (kept words_after pass_of actor_of RunOf words views ps q n q.log e enlisted refl
+    (λ readers all. subst (λ (z : List Entry). IsRunOfActors readers n z (actors_of views)) (sym is) (run readers all)))
 
 -- after a step that keeps the rule its pass stands at its seat
 pub stands_too : (seat : ℕ) (v : CellView) (f : List ℕ → List ℕ) (tells : CellView → List ℕ → List ℕ → CellView → Type 0) (place : ℕ) → place ≡ seat → Turns CellKeepsOneHistory seat v f tells
@@ -174,11 +161,7 @@ module _ (x : List ℕ) (views : List CellView) (r : CellKeepsOneHistory x views
     load_tells shown =
         let f = r.shared.fits seat v.pass at_seat in
         record {
-          seen_all = record {
-            words_are = r.shared.words_are ∙ ap (λ (h : List Entry). words_after h r.shared.enlisted) (sym (load_same shown));
-            listed = f.listed;
-            up_to_date = refl;
-          };
+          seen_all = search (arith, load_same);
           sees = look_tells words_after x (views_known views) r.shared seat v.pass at_seat acts target there r.shared.enlisted shown (le_refl r.shared.enlisted);
           shown_is = refl;
         }
@@ -369,11 +352,7 @@ module _ (x next : List ℕ) (views : List CellView) (r : CellKeepsOneHistory x 
   store_tells =
       let f = r.shared.fits seat v.pass known_here in
       record {
-        seen_all = record {
-          words_are = next_is.0 ∙ ap (λ (h : List Entry). words_after h r.shared.enlisted) (sym longer);
-          listed = f.listed;
-          up_to_date = refl;
-        };
+        seen_all = search (arith, next_is, longer);
         adds = add_tells words_after x (views_known views) r.shared seat v.pass known_here acts entry (word_at x e.game) there_now pos refl next_is.1 r.shared.enlisted (le_refl r.shared.enlisted);
         before = history_of r.shared.log;
         legal = r.shared.legal;
@@ -488,17 +467,9 @@ split_keeps : (x : List ℕ) (views : List CellView) (r : CellKeepsOneHistory x 
     → actor_of w ≡ record { number = 0; doing = nothing_done }
     → (q : KeepsOneHistory words_after x (set (views_known views) seat u.pass ++ w.pass ∷ [])) → q.enlisted ≡ r.shared.enlisted → q.log ≡ r.shared.log
     → CellKeepsOneHistory x (set views seat u ++ w ∷ [])
-split_keeps x views r seat v here u w same none q enlisted log =
-    both x (set views seat u ++ w ∷ []) (set (views_known views) seat u.pass ++ w.pass ∷ []) q r.shared.enlisted (history_of r.shared.log)
-    (sym (map_more (λ (z : CellView). z.pass) (set views seat u) w ∙ ap (λ (l : List View). l ++ w.pass ∷ []) (map_set (λ (z : CellView). z.pass) views seat u))) enlisted (ap history_of log)
-    (λ readers all.
-    let long = length-append (set views seat u) (w ∷ []) in
-    let wide = length-set views seat u in
-    let actors = map_long actor_of (set views seat u) in
-    let one = same_run x views r seat v here u same readers r.shared.enlisted (history_of r.shared.log) (r.one_run readers (omega arith)) in
-    subst (λ (l : List Actor). IsRunOfActors readers r.shared.enlisted (history_of r.shared.log) l)
-    (sym (map_more actor_of (set views seat u) w ∙ ap (λ (a : Actor). actors_of (set views seat u) ++ a ∷ []) none))
-    (run_more readers r.shared.enlisted (history_of r.shared.log) (actors_of (set views seat u)) one (omega arith)))
+split_keeps x views r seat v here u w same none q enlisted log = of_kept x (set views seat u ++ w ∷ [])
+    (one_more words_after pass_of actor_of RunOf x views r.shared r.one_run seat v here (record { number = 0; doing = nothing_done })
+    (λ readers actors one less. run_more readers r.shared.enlisted (history_of r.shared.log) actors one less) u w same none q enlisted log)
 
 pub seconds : (seat : ℕ) (v : CellView) → Forks CellKeepsOneHistory seat v (left_cell_pass v) (second_cell_pass v)
 seconds seat v x views r here =
@@ -532,21 +503,12 @@ joins seat v other a x views r here apart there =
     let at = at_seat x views r seat v here in
     let told = told_cell_pass v (note_cell_pass a) in
     let note = note_cell_pass a in
-    let told_views = set views seat told in
-    let is : views_known told_views ≡ set (views_known views) seat told.pass = map_set (λ (z : CellView). z.pass) views seat told in
     let theirs : get_elem? (set (views_known views) seat told.pass) other ≡ some note.pass =
-    subst (λ (l : List View). get_elem? l other ≡ some note.pass) is (map_at (λ (z : CellView). z.pass) told_views other note there) in
+    subst (λ (l : List View). get_elem? l other ≡ some note.pass) (map_set pass_of views seat told) (map_at pass_of (set views seat told) other note there) in
     let same = joined_same words_after x (views_known views) r.shared seat v.pass at other note.pass apart theirs refl refl in
-    both x (set told_views other new_cell_pass) (set (set (views_known views) seat told.pass) other newcomer)
-    (note_joined words_after x (views_known views) r.shared seat v.pass at other note.pass apart theirs refl refl) r.shared.enlisted (history_of r.shared.log)
-    (sym (map_set (λ (z : CellView). z.pass) told_views other new_cell_pass ∙ ap (λ (l : List View). set l other newcomer) is)) same.0 (ap history_of same.1)
-    (λ readers all.
-    let wide = length-set views seat told in
-    let wider = length-set told_views other new_cell_pass in
-    let one = same_run x views r seat v here told refl readers r.shared.enlisted (history_of r.shared.log) (r.one_run readers (omega arith)) in
-    let here' : get_elem? (actors_of told_views) other ≡ some (actor_of new_cell_pass) = map_at actor_of told_views other note there in
-    subst (λ (l : List Actor). IsRunOfActors readers r.shared.enlisted (history_of r.shared.log) l)
-    (sym (map_set actor_of told_views other new_cell_pass ∙ set_same (actors_of told_views) other (actor_of new_cell_pass) here')) one)
+    of_kept x (set (set views seat told) other new_cell_pass)
+    (joined words_after pass_of actor_of RunOf x views r.shared r.one_run seat v here told other note new_cell_pass there refl refl
+    (note_joined words_after x (views_known views) r.shared seat v.pass at other note.pass apart theirs refl refl) same.0 same.1)
 
 other_words : (x current : List ℕ) → pointwise nat_eq x current ≡ false → x ≢ current
 other_words x current not is = true≢false (sym ((bytes_decides x current).1 is) ∙ not)

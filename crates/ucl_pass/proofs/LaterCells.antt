@@ -1,5 +1,5 @@
 -- Each step on the cell lets its pass go on, so a later state of a cell board goes on from an earlier one.
-use Rattle.std.proofs.Common.{◌≡◌, ⊎_elim, ℕ, ◌<◌, Option, Some, None, List, [], ◌∷◌, ◌++◌, length, map, set, refl, sym, ap, ◌∙◌, subst, arith, append-nil}
+use Rattle.std.proofs.Common.{◌≡◌, ⊎_elim, ℕ, ◌<◌, Option, Some, None, List, ◌∷◌, ◌++◌, length, map, set, refl, sym, ap, ◌∙◌, subst, arith, append-nil, []}
 use Rattle.std.proofs.lemmas.List.{map-append}
 use mathlib.Core.List.{IsPrefix}
 use mathlib.Core.Option.{some}
@@ -7,9 +7,6 @@ use lib.ListN.{get_elem?}
 use Rattle.atomic_table.proofs.Lists.{set_here, set_else, at_longer}
 use Rattle.ucl_word.specs.declared.event.EventCall.{EventCall}
 use Rattle.ucl_word.specs.declared.refusal.Refusal.{Refusal}
-use Rattle.ucl_word.specs.Rules.{refusal_of}
-use Rattle.ucl_word.specs.Layout.{record_at}
-use Rattle.ucl_board.specs.Words.{word_at}
 use Rattle.ucl_board.specs.Log.{Log}
 use Rattle.ucl_board.proofs.Beginnings.{begins_same, begins_through}
 use Rattle.ucl_steps.specs.declared.step.Call.{Call}
@@ -25,7 +22,7 @@ use Rattle.std.specs.Prelude.{slice_index}
 use Rattle.ucl_shared.proofs.LaterLogs.{says_found, log_after, one_log, given_after}
 use Rattle.ucl_shared.proofs.KeptRule.{second_added, second_same, note_added, note_same, note_joined, joined_same}
 use Rattle.ucl_pass.specs.declared.view.CellView.{CellView}
-use Rattle.ucl_pass.specs.CellViews.{actor_of, actors_of, views_known, left_cell_pass, second_cell_pass, note_cell_pass, told_cell_pass, new_cell_pass}
+use Rattle.ucl_pass.specs.CellViews.{actor_of, views_known, left_cell_pass, second_cell_pass, note_cell_pass, told_cell_pass, new_cell_pass}
 use Rattle.ucl_pass.specs.CellRule.{words_after, CellState, CellMeetsItsRule}
 use Rattle.ucl_pass.specs.CellSteps.{LogsOneStep, after_load, LookOfCell, AddOfCell, ReadOfCell, CountOfCell, EnlistOfCell, TellsAndStands}
 use Rattle.ucl_pass.specs.CellLater.{CellKind, LetsPassGoOn, CellStepped, CellSplit, CellHeard, CellStepsTo, CellLeadsTo, CellStepsLeadOn, CellFindsEnlisted}
@@ -134,8 +131,7 @@ module _ (s t : CellState) (r : CellMeetsItsRule s) (q : CellMeetsItsRule t) whe
       let number : p.note.pass.number ≡ 0 = ap (λ (z : CellView). z.pass.number) p.is_note in
       let own : p.note.pass.own ≡ [] = ap (λ (z : CellView). z.pass.own) p.is_note in
       let calls : p.note.calls ≡ [] = ap (λ (z : CellView). z.calls) p.is_note in
-      let theirs : get_elem? (set (views_known s.views) p.seat told.pass) p.other ≡ some p.note.pass =
-      set_else (views_known s.views) p.seat p.other told.pass p.apart ∙ known_at s.views p.other p.note p.there in
+      let theirs : get_elem? (set (views_known s.views) p.seat told.pass) p.other ≡ some p.note.pass = search (arith, set_else, known_at) in
       let r2 = note_joined words_after s.words (views_known s.views) r.shared p.seat p.was.pass at p.other p.note.pass p.apart theirs number own in
       let same = joined_same words_after s.words (views_known s.views) r.shared p.seat p.was.pass at p.other p.note.pass p.apart theirs number own in
       let views = set s.views p.seat told in
@@ -173,10 +169,7 @@ leads_on s [] t r q steps = one_step s t r q steps
 leads_on s (u ∷ us) t r q steps =
     let a = one_step s u r steps.1 steps.0 in
     let b = leads_on u us t steps.1 q steps.2 in
-    record {
-      log = begins_through r.shared.log steps.1.shared.log q.shared.log a.log b.log;
-      passes = actors_through (actors_of s.views) (actors_of u.views) (actors_of t.views) a.passes b.passes;
-    }
+    search (arith, one_step, begins_through, actors_through)
 
 pub later_go_on : LaterCellsGoOn
 later_go_on s t r q later = leads_on s later.between t r q later.steps

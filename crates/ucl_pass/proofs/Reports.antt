@@ -1,5 +1,5 @@
 -- How many events a pass of the cell board has reported.
-use Rattle.std.proofs.Common.{None, ◌≡◌, ℕ, ◌+◌, Bool, true, false, List, [], ◌∷◌, ◌++◌, length, filter, Result, Ok, Err, refl, sym, ap, ◌∙◌, subst, arith, length-append}
+use Rattle.std.proofs.Common.{None, ◌≡◌, ℕ, ◌+◌, Bool, List, ◌∷◌, ◌++◌, length, filter, Result, refl, sym, ap, ◌∙◌, subst, arith, length-append, []}
 use Rattle.std.specs.List.{AllByRecursion, flat_map}
 use Rattle.std.proofs.lemmas.List.Elements.{filter-append}
 use Rattle.ucl_word.specs.declared.event.EventCall.{EventCall}
@@ -9,11 +9,8 @@ use Rattle.ucl_board.specs.Log.{Taken}
 use Rattle.ucl_shared.specs.declared.view.View.{View}
 use Rattle.ucl_shared.specs.Passes.{ReportsMore}
 use Rattle.ucl_shared.specs.Views.{Takes}
-use Rattle.ucl_shared.specs.CallSteps.{steps_with, entry_made}
-use Rattle.ucl_pass.specs.CellCalls.{CellAnswered, CellEnlistAnswered, CellEnlistMissed, CellEnlistment, CellHasReported, CellMissed, CellReport, looks_for_report, was_missed}
-
-looks : List Taken → ℕ
-looks steps = length (filter (λ x. looks_for_report x.target) steps)
+use Rattle.ucl_shared.specs.CallSteps.{steps_with}
+use Rattle.ucl_pass.specs.CellCalls.{CellAnswered, CellEnlistAnswered, CellEnlistMissed, CellEnlistment, CellHasReported, CellMissed, CellReport}
 
 count_more : (p : Taken → Bool) (xs ys : List Taken) → length (filter p (xs ++ ys)) ≡ length (filter p xs) + length (filter p ys)
 count_more p xs ys = ap length (filter-append p xs ys) ∙ length-append (filter p xs) (filter p ys)

@@ -10,8 +10,9 @@ mod view;
 
 pub use cell_board::CellBoard;
 pub use laws::{
-    cell_boards_are_runs, cell_numbers_are_there, cell_numbers_rise_in_time, cell_runs_grow,
-    each_cell_step_goes_on, each_cell_step_is_logged, each_cell_step_leads_on, later_cells_go_on,
+    cell_boards_are_runs, cell_numbers_are_there, cell_numbers_rise_in_time,
+    cell_reports_are_counted, cell_runs_grow, each_cell_step_goes_on, each_cell_step_is_logged,
+    each_cell_step_leads_on, later_cells_go_on,
 };
 pub use passes::{CellNote, CellReaderPass, CellReporterPass};
 pub use ucl_shared::{

@@ -1,6 +1,6 @@
 -- Whose steps a log has; and what the rule says of a pass that has the whole board.
-use Rattle.std.proofs.Common.{◌≡◌, ◌≢◌, ℕ, zero, suc, ◌<◌, ◌≤◌, ◌==◌, Bool, cond, List, [], ◌∷◌, ◌++◌, length, map, refl, sym, ap, ◌∙◌, subst, arith, eq-eqb, ne_eqb}
-use Rattle.std.specs.Prelude.{All, filter, Some, None}
+use Rattle.std.proofs.Common.{◌≡◌, ◌≢◌, ℕ, zero, suc, ◌<◌, ◌≤◌, List, ◌∷◌, ◌++◌, length, map, refl, sym, ap, ◌∙◌, subst, arith, eq-eqb, ne_eqb, []}
+use Rattle.std.specs.Prelude.{All, Some, None}
 use mathlib.Core.Logic.{dite}
 use mathlib.Core.Option.{some, some-injective}
 use lib.ListN.{get_elem?}

@@ -1,5 +1,5 @@
 -- What a split does to a share: its halves overlap with nothing that it did not overlap with, and not with one another.
-use Rattle.std.proofs.Common.{◌≡◌, ◌⊎◌, inl, inr, ⊎_elim, Bool, true, false, List, [], ◌∷◌, ◌++◌, refl, sym, ap, ◌∙◌, subst, true≢false, append-nil, append_assoc, length, length-append, arith}
+use Rattle.std.proofs.Common.{◌≡◌, ◌⊎◌, inl, inr, ⊎_elim, Bool, true, false, List, ◌∷◌, ◌++◌, refl, sym, ap, ◌∙◌, subst, true≢false, append-nil, append_assoc, length, length-append, arith, []}
 use Rattle.std.specs.Prelude.{drop, Some, None, IsSome}
 use mathlib.Core.List.{IsPrefix}
 use Rattle.ucl_board.proofs.Beginnings.{begins_none, begins_more, begins_through}

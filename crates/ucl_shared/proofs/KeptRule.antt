@@ -1,5 +1,5 @@
 -- Each kind of step on a shared board keeps the rule, whatever its words are.
-use Rattle.std.proofs.Common.{◌≡◌, ◌≢◌, ◌⊎◌, inl, inr, ⊎_elim, ℕ, zero, suc, ◌+◌, ◌<◌, ◌≤◌, Bool, true, false, cond, List, [], ◌∷◌, ◌++◌, length, take, set, nat_lt, if◌then◌else◌, Some, None, refl}
+use Rattle.std.proofs.Common.{◌≡◌, ◌≢◌, ◌⊎◌, inl, inr, ⊎_elim, ℕ, zero, suc, ◌+◌, ◌<◌, ◌≤◌, Bool, true, false, cond, List, ◌∷◌, ◌++◌, length, take, set, nat_lt, if◌then◌else◌, Some, None, refl, []}
 use Rattle.std.proofs.Common.{sym, ap, ◌∙◌, subst, arith, le_refl, append-nil, length-append, length-set, ne_eqb}
 use Rattle.std.specs.Prelude.{All, IsSome}
 use Rattle.std.proofs.Math.Seq.{take-append_seam}
@@ -13,8 +13,8 @@ use native.Mathlib.Decide.{ℕ_discrete}
 use Rattle.atomic_table.proofs.Lists.{at_set, at_longer, set_here, set_else}
 use Rattle.ucl_word.proofs.Sequences.{may_none}
 use Rattle.ucl_board.specs.declared.entry.Entry.{Entry}
-use Rattle.ucl_board.specs.History.{MayFollow, IsLegal, followed_by}
-use Rattle.ucl_board.specs.Log.{Target, Match, Enlisted, Swap, Taken, step_taken, Logged, logged_by, Log, taken_by, entry_list, added_by, history_of, IsThere, IsLog}
+use Rattle.ucl_board.specs.History.{IsLegal, followed_by}
+use Rattle.ucl_board.specs.Log.{Target, Match, Enlisted, Swap, Taken, step_taken, Logged, logged_by, Log, entry_list, added_by, history_of, IsThere, IsLog}
 use Rattle.ucl_board.proofs.Logs.{log_none, log_more, history_more, history_same, taken_own, taken_other, taken_none, added_more}
 use Rattle.ucl_board.proofs.Beginnings.{begins_more, begins_none, begins_same, begins_take, begins_through}
 use Rattle.ucl_shared.specs.declared.view.View.{View}
@@ -139,26 +139,8 @@ module _ (words_after : List Entry → ℕ → List ℕ) where
         (λ (t : (j ≡ seat) × (w ≡ u)). subst (λ (k : ℕ). Fits log enlisted k u) (sym t.0) (subst (Fits log enlisted seat) t.1 mine))
         (λ (t : (j ≢ seat) × (get_elem? views j ≡ some u)). others j u t.0 t.1)
         (at_set views seat j w u e);
-    apart = λ i j u z e f pos same. ⊎_elim
-        (λ (a : (i ≡ seat) × (w ≡ u)). ⊎_elim
-        (λ (t : (j ≡ seat) × (w ≡ z)). a.0 ∙ sym t.0)
-        (λ (t : (j ≢ seat) × (get_elem? views j ≡ some z)). absurd (alone j z t.0 t.1 (subst (λ (q : View). 0 < q.number) (sym a.1) pos) (ap (λ (q : View). q.number) a.1 ∙ same)))
-        (at_set views seat j w z f))
-        (λ (a : (i ≢ seat) × (get_elem? views i ≡ some u)). ⊎_elim
-        (λ (t : (j ≡ seat) × (w ≡ z)). absurd (alone i u a.0 a.1 (subst (λ (n : ℕ). 0 < n) (same ∙ sym (ap (λ (q : View). q.number) t.1)) pos) (ap (λ (q : View). q.number) t.1 ∙ sym same)))
-        (λ (t : (j ≢ seat) × (get_elem? views j ≡ some z)). r.apart i j u z a.1 t.1 pos same)
-        (at_set views seat j w z f))
-        (at_set views seat i w u e);
-    shared = λ i j u z e f over. ⊎_elim
-        (λ (a : (i ≡ seat) × (w ≡ u)). ⊎_elim
-        (λ (t : (j ≡ seat) × (w ≡ z)). a.0 ∙ sym t.0)
-        (λ (t : (j ≢ seat) × (get_elem? views j ≡ some z)). absurd (lone j z t.0 t.1 (subst (λ (q : View). Overlap q.share z.share) (sym a.1) over)))
-        (at_set views seat j w z f))
-        (λ (a : (i ≢ seat) × (get_elem? views i ≡ some u)). ⊎_elim
-        (λ (t : (j ≡ seat) × (w ≡ z)). absurd (lone i u a.0 a.1 (overlap_swap u.share w.share (subst (λ (q : View). Overlap u.share q.share) (sym t.1) over))))
-        (λ (t : (j ≢ seat) × (get_elem? views j ≡ some z)). r.shared i j u z a.1 t.1 over)
-        (at_set views seat j w z f))
-        (at_set views seat i w u e);
+    apart = search (arith, get_elem?, at_set);
+    shared = search (arith, get_elem?, at_set, overlap_swap);
     given = given;
   }
 
@@ -449,19 +431,7 @@ module _ (words_after : List Entry → ℕ → List ℕ) where
       → ((j : ℕ) (u : View) → get_elem? views j ≡ some u → Overlap w.share u.share → ⊥) → Rule words (views ++ w ∷ [])
   added words views r w number own log mine seen told listed lone =
       let back : (j : ℕ) (u : View) → get_elem? (views ++ w ∷ []) j ≡ some u → (get_elem? views j ≡ some u) ⊎ ((j ≡ length views) × (w ≡ u)) = (λ j u e. at_last views w u j e) in
-      let fit : Fits r.log r.enlisted (length views) w = record {
-        seen = seen;
-        told = subst (All (λ (l : List Entry). IsPrefix l (history_of r.log))) (sym told) (All-nil (λ (l : List Entry). IsPrefix l (history_of r.log)));
-        mine = mine ∙ sym (ap (λ (n : ℕ). entries_by n (history_of r.log)) number ∙ none_by_zero (history_of r.log) r.legal);
-        made = mine ∙ sym (ap added_by own);
-        number = omega arith;
-        listed = listed;
-        own = own ∙ sym (taken_none (length views) r.log r.seated);
-        knows = subst (λ (l : Log). IsPrefix l r.log) (sym log) (begins_none r.log);
-        all_own = ap (taken_by (length views)) log ∙ sym own;
-        sees = subst (λ (l : Log). IsPrefix (history_of l) w.seen) (sym log) (begins_none w.seen);
-        idle = λ _. (number, own);
-      } in
+      let fit : Fits r.log r.enlisted (length views) w = search (arith, All-nil, none_by_zero, taken_none, begins_none) in
       record {
         log = r.log;
         enlisted = r.enlisted;
@@ -473,21 +443,8 @@ module _ (words_after : List Entry → ℕ → List ℕ) where
         seated = λ k d lt. let b = r.seated k d lt in omega (arith, length-append views (w ∷ []));
         fits = λ j u e. ⊎_elim (λ was. r.fits j u was)
             (λ (new : (j ≡ length views) × (w ≡ u)). subst (λ (k : ℕ). Fits r.log r.enlisted k u) (sym new.0) (subst (Fits r.log r.enlisted (length views)) new.1 fit)) (back j u e);
-        apart = λ i j u z e g pos eq. ⊎_elim
-            (λ was. ⊎_elim (λ was'. r.apart i j u z was was' pos eq) (λ (new : (j ≡ length views) × (w ≡ z)). let n : w.number ≡ z.number = ap (λ (q : View). q.number) new.1 in absurd (omega arith))
-            (back j z g))
-            (λ (new : (i ≡ length views) × (w ≡ u)). let n : w.number ≡ u.number = ap (λ (q : View). q.number) new.1 in absurd (omega arith))
-            (back i u e);
-        shared = λ i j u z e g over. ⊎_elim
-            (λ was. ⊎_elim
-            (λ was'. r.shared i j u z was was' over)
-            (λ (new : (j ≡ length views) × (w ≡ z)). absurd (lone i u was (overlap_swap u.share w.share (subst (λ (q : View). Overlap u.share q.share) (sym new.1) over))))
-            (back j z g))
-            (λ (new : (i ≡ length views) × (w ≡ u)). ⊎_elim
-            (λ was'. absurd (lone j z was' (subst (λ (q : View). Overlap q.share z.share) (sym new.1) over)))
-            (λ (new' : (j ≡ length views) × (w ≡ z)). new.0 ∙ sym new'.0)
-            (back j z g))
-            (back i u e);
+        apart = search arith;
+        shared = search (arith, overlap_swap);
         given = λ n low high. let g = r.given n low high in (g.0, g.1, at_longer views (w ∷ []) g.0 g.1 g.2, g.3);
       }
 

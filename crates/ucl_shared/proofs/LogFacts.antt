@@ -1,5 +1,5 @@
 -- What the rule says of a log: a board opens with none, each step is its end, and the last one has seen the whole history.
-use Rattle.std.proofs.Common.{◌≡◌, ◌≢◌, ◌⊎◌, inl, inr, ⊎_elim, ℕ, zero, suc, ◌<◌, ◌≤◌, Bool, true, false, List, [], ◌∷◌, ◌++◌, length, map, set, refl, sym, ap, ◌∙◌, subst, arith, append-nil}
+use Rattle.std.proofs.Common.{◌≡◌, ◌≢◌, ◌⊎◌, inl, inr, ⊎_elim, ℕ, zero, suc, ◌<◌, ◌≤◌, Bool, true, false, List, ◌∷◌, ◌++◌, length, map, set, refl, sym, ap, ◌∙◌, subst, arith, append-nil, []}
 use Rattle.std.proofs.Common.{length-append}
 use Rattle.std.specs.Prelude.{All, drop, Some, None, IsTrue}
 use Rattle.std.proofs.lemmas.List.{length-set, nil_from_length}
@@ -101,8 +101,7 @@ module _ (seat j : ℕ) (t : Taken) (steps : List Taken) (old new : Log)
       go [] empty = let l = ap length (sym (ap (taken_by seat) empty) ∙ mine) in absurd (omega arith)
       go (y ∷ rest) full = dite (ℕ_discrete y.seat seat)
           (λ own_too.
-          let same : y.step ≡ t = head_same y.step t (taken_by seat rest) (taken_by seat old ++ steps)
-          (sym (ap (taken_by seat) full ∙ (ap (λ (k : ℕ). taken_by seat (logged_by k y.step ∷ rest)) own_too ∙ taken_here seat y.step rest)) ∙ mine) in
+          let same : y.step ≡ t = search (arith, head_same, taken_here, mine) in
           onward rest (full ∙ (λ z. logged_by ((own_too ∙ sym is) z) (same z) ∷ rest)))
           (λ not.
           let k = knows y.seat not in
@@ -179,11 +178,7 @@ opens_fresh words_after words r =
     let f = r.fits 0 opener refl in
     let none : r.log ≡ [] = no_steps r.log r.seated (sym f.own) in
     let nobody : r.enlisted ≡ 0 = dite (ℕ_discrete r.enlisted 0) (λ is. is) (λ not. let g = r.given 1 (omega arith) (omega arith) in absurd (numberless g.0 g.1 1 g.2 g.3 (omega arith))) in
-    record {
-      words_are = r.words_are ∙ (λ i. words_after (history_of (none i)) (nobody i));
-      no_step = none;
-      no_reporter = nobody;
-    }
+    search (arith, no_steps, dite, numberless)
 
 -- who holds the whole did all
 

@@ -1,5 +1,5 @@
 -- Two passes that met, and a reading by the second: the counts decide whether there was a third reporter.
-use Rattle.std.proofs.Common.{◌≡◌, ◌≢◌, ◌⊎◌, inl, inr, ⊎_elim, ℕ, suc, ◌+◌, ◌<◌, Bool, true, false, cond, ◌==◌, List, [], ◌∷◌, ◌++◌, length, take, refl, sym, ap, ◌∙◌, arith, append-nil, length-append}
+use Rattle.std.proofs.Common.{◌≡◌, ◌≢◌, ◌⊎◌, inl, inr, ⊎_elim, ℕ, suc, ◌+◌, ◌<◌, Bool, true, false, cond, ◌==◌, List, ◌∷◌, ◌++◌, length, take, refl, sym, ap, ◌∙◌, arith, append-nil, length-append, []}
 use Rattle.std.proofs.Common.{length-take-le, eq-eqb, true≢false}
 use Rattle.std.specs.Prelude.{All, filter, not, ◌&&◌}
 use Rattle.std.proofs.lemmas.Bool.{eqb-true}
@@ -45,9 +45,7 @@ no_others a b (x ∷ t) none = ⊎_elim
     (no_others a b t (sym (ap (λ (c : Bool). length (cond (not c && not (x.reporter == b)) (x ∷ others a b t) (others a b t))) p.0
     ∙ ap (λ (c : Bool). length (cond (not c) (x ∷ others a b t) (others a b t))) q.0) ∙ none)))
     (λ (q : ((x.reporter == b) ≡ false) × (x.reporter ≢ b)).
-    let s : suc (length (others a b t)) ≡ 0 =
-    sym (ap (λ (c : Bool). length (cond (not c && not (x.reporter == b)) (x ∷ others a b t) (others a b t))) p.0 ∙ ap (λ (c : Bool). length (cond (not c) (x ∷ others a b t) (others a b t))) q.0)
-    ∙ none in
+    let s : suc (length (others a b t)) ≡ 0 = search arith in
     absurd (omega arith))
     (eqb_tells x.reporter b))
     (eqb_tells x.reporter a)
@@ -110,9 +108,6 @@ module _ (a b a1 b1 d : PassView) (reading : Reading) (same : a1 ≡ a) (met : M
 
     pub alone : n ≢ m → reading.version ≡ i + j → AreAlone a b reading.version
     alone apart sum = (λ is. apart (numbers.1 is), sum ∙ sum_is)
-
-    pub not_alone : (n ≡ m) ⊎ (reading.version ≢ i + j) → AreAlone a b reading.version → ⊥
-    not_alone is are = search (arith, numbers, sum_is)
 
     pub strangers : (n ≡ m) ⊎ (reading.version ≢ i + j) → a.number ≢ b.number → both_accepted a b < reading.version
     strangers is other = search (arith, numbers, above, sum_is)

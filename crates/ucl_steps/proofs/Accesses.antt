@@ -1,5 +1,5 @@
 -- Accesses along a history, and what clean and unclean tries show.
-use Rattle.std.proofs.Common.{◌≡◌, ◌≢◌, ℕ, zero, suc, ◌+◌, ◌-◌, ◌*◌, ◌<◌, ◌≤◌, List, [], ◌∷◌, ◌++◌, take, length, Option, Some, None, Ok, Err, inl, inr, refl, sym, ap, ◌∙◌, subst, arith}
+use Rattle.std.proofs.Common.{◌≡◌, ◌≢◌, ℕ, zero, suc, ◌+◌, ◌-◌, ◌*◌, ◌<◌, ◌≤◌, List, ◌∷◌, ◌++◌, take, length, Option, Some, None, Ok, Err, inl, inr, refl, sym, ap, ◌∙◌, subst, arith, []}
 use Rattle.std.proofs.Common.{length-append, le_refl, get_or, get_or-set_other}
 use Rattle.std.specs.Prelude.{slice_get, slice_index, slice_set, IsOk}
 use Rattle.std.specs.List.{AllByRecursion}
@@ -10,7 +10,7 @@ use mathlib.Core.List.{IsPrefix}
 use Rattle.ucl_word.specs.declared.record.MatchRecord.{MatchRecord}
 use Rattle.ucl_word.specs.declared.refusal.Refusal.{Refusal}
 use Rattle.ucl_word.specs.declared.refusal.Refusal.TheVariants.{Stale}
-use Rattle.ucl_word.specs.Rules.{refusal_of, answer, reply_of}
+use Rattle.ucl_word.specs.Rules.{answer, reply_of}
 use Rattle.ucl_word.specs.Layout.{word_of, record_at}
 use Rattle.ucl_word.proofs.Sequences.{at_below, at_longer, at_end, at_either}
 use Rattle.ucl_board.specs.declared.entry.Entry.{Entry}
@@ -92,8 +92,7 @@ broken_later h low high ms f try first at =
     let c = try.collected k first at in
     let same_game : last.game ≡ first.game = try.broken.kind.1 ∙ sym c.0.1 in
     let x1 = x.1 in let y0 = y.0 in
-    let apart : first.at ≢ last.at = λ same. try.broken.differs (y.2 ∙ (ap (λ (z : ℕ). word_of (match_after (take last.at h) z)) same_game
-    ∙ (ap (λ (z : ℕ). word_of (match_after (take z h) first.game)) (sym same) ∙ (sym x.2 ∙ c.1)))) in
+    let apart : first.at ≢ last.at = search arith in
     omega arith
 
 -- an unclean try has at most 24 accesses, and was overtaken by an entry
@@ -170,13 +169,7 @@ reading_whole h low high reading ms legal le f accesses =
     let long = (versions h legal).1 in
     let last = shows.accesses in
     let whole : length ms ≡ length (accesses_of accesses.tries) + 24 = omega (arith, ap length accesses.accesses, length-append (accesses_of accesses.tries) accesses.last) in
-    record {
-      snapshot = ap (λ (z : List ℕ). record { board = z; version = reading.version }) shows.board;
-      within = (omega arith, s1);
-      tries = omega arith;
-      steps = (omega arith, omega arith);
-      bound = (omega arith, omega arith);
-    }
+    search (arith, follows_parts, tries_bound, clean_shows, versions, length-append)
 
 -- reports
 
@@ -206,9 +199,7 @@ report_whole h low high now call (Err refusal) ms legal f (inr missed) =
     let g = call.game in
     let old = found_record h a g legal t.1 refl in
     let new = found_record h b g legal t.2.1 refl in
-    let expected : call.expected ≡ (match_after (take a.at h) g).number =
-    number_expected (record_at a.found) call.expected call.kind (none_of_ok (record_at a.found).number (refusal_of (record_at a.found) call.expected call.kind) missed.missed.may)
-    ∙ ap (λ (z : MatchRecord). z.number) old in
+    let expected : call.expected ≡ (match_after (take a.at h) g).number = search (arith, number_expected, none_of_ok) in
     let stale : call.expected ≡ (match_after (take now h) g).number → ⊥ = λ is. missed.other (t.2.1 ∙ (sym (same_number h a.at now g (sym expected ∙ is)).1 ∙ sym t.1)) in
     ap (answer (match_after (take now h) g).number) (is_stale (match_after (take now h) g) call.expected call.kind stale)
     ∙ (ap (λ (z : MatchRecord). Err (Stale z.number)) (sym new) ∙ ap Err (sym missed.answer))

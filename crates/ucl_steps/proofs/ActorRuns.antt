@@ -1,5 +1,5 @@
 -- What bursts of actors, splits and enlistments do to the run of the machine that a board's rule says there is.
-use Rattle.std.proofs.Common.{◌≡◌, ◌≢◌, inl, inr, ⊎_elim, ℕ, zero, suc, ◌+◌, ◌<◌, ◌≤◌, Bool, false, cond, List, [], ◌∷◌, ◌++◌, length, set, map, Option, Some, refl, sym, ap, ◌∙◌, subst, arith}
+use Rattle.std.proofs.Common.{◌≡◌, ◌≢◌, inl, inr, ⊎_elim, ℕ, zero, suc, ◌+◌, ◌<◌, ◌≤◌, Bool, false, cond, List, ◌∷◌, ◌++◌, length, set, map, Option, Some, refl, sym, ap, ◌∙◌, subst, arith, []}
 use Rattle.std.proofs.Common.{le_refl, append-nil, length-append, length-set, ne_eqb}
 use Rattle.std.specs.Prelude.{All, filter}
 use mathlib.Core.Logic.{dite}
@@ -24,10 +24,6 @@ use Rattle.ucl_steps.proofs.PassSteps.{fits_else, Turn, left_append}
 use Rattle.ucl_steps.proofs.Seats.{place_below, at_last, at_set, set_here, set_else, at_longer}
 
 -- the callers of two passes are not the same
-
-abbrev number_of : Caller → ℕ
-number_of (Reporter k) = k
-number_of (Reader k) = k
 
 apart_callers : (i j n m : ℕ) (c d : Caller) → i ≢ j → (0 < n → n ≡ m → i ≡ j) → IsOf i n d → IsOf j m c → d ≢ c
 apart_callers i j n m c d not numbers x8 x9 is = search arith
@@ -167,10 +163,7 @@ module _ (readers enlisted : ℕ) (history : List Entry) (actors : List Actor) (
         state = r.state;
         run = r.run;
         history_is = r.history_is;
-        each = λ j u at. ⊎_elim
-            (λ (k : (j ≡ seat) × (b ≡ u)). subst (λ (i : ℕ). FitsRun r.state i u.number u.doing) (sym k.0) (subst (λ (x : Actor). FitsRun r.state seat x.number x.doing) k.1 mine))
-            (λ (k : (j ≢ seat) × (get_elem? actors j ≡ some u)). r.each j u k.1)
-            (at_set actors seat j b u at);
+        each = search (arith, get_elem?, at_set);
         only = all_then (IsOfActor actors) (IsOfActor (set actors seat b)) (some_still b reader_still) (calls_told r.state) r.only;
         unseated = λ j over below. let long = length-set actors seat b in r.unseated j (omega arith) below;
         unnumbered = λ n above few. r.unnumbered n (omega arith) few;
@@ -201,22 +194,13 @@ module _ (readers enlisted : ℕ) (history : List Entry) (actors : List Actor) (
   pub run_more : IsRunOfActors readers enlisted history (actors ++ record { number = 0; doing = nothing_done } ∷ [])
   run_more =
       let b : Actor = record { number = 0; doing = nothing_done } in
-      let mine : FitsRun r.state (length actors) 0 nothing_done =
-      record {
-        high = 0;
-        recorded = le_refl 0;
-        held = (omega arith, newcomer_idle);
-        whole = ap (map told_call) (filter_none (λ (x : Told). is_of (length actors) 0 x.0) (calls_told r.state) newcomer_none);
-      } in
+      let mine : FitsRun r.state (length actors) 0 nothing_done = search (arith, le_refl, newcomer_idle, filter_none, newcomer_none) in
       record {
         moves = r.moves;
         state = r.state;
         run = r.run;
         history_is = r.history_is;
-        each = λ j u at. ⊎_elim
-            (λ was. r.each j u was)
-            (λ (k : (j ≡ length actors) × (b ≡ u)). subst (λ (i : ℕ). FitsRun r.state i u.number u.doing) (sym k.0) (subst (λ (x : Actor). FitsRun r.state (length actors) x.number x.doing) k.1 mine))
-            (at_last actors b u j at);
+        each = search (arith, at_last);
         only = λ k d lt. let t = r.only k d lt in (t.0, t.1, at_longer actors (b ∷ []) t.0 t.1 t.2, t.3);
         unseated = λ j over below. let long = length-append actors (b ∷ []) in r.unseated j (omega arith) below;
         unnumbered = r.unnumbered;
@@ -312,17 +296,13 @@ module _ (readers enlisted : ℕ) (log : Log) (actors : List Actor) (r : IsRunOf
       let one = r.of_actors in
       let init : Option MachineState = Some (initial_state (cast_for readers)) in
       let left : left_by (steps_of_moves (one.moves ++ t.move ∷ [])) init ≡ left_by (steps_of_moves one.moves) init ++ (c, m) ∷ [] =
-      ap (λ (l : List Step). left_by l init) (flat_map-append steps_of_move one.moves (t.move ∷ []))
-      ∙ (left_append (steps_of_moves one.moves) (steps_of_moves (t.move ∷ [])) (initial_state (cast_for readers)) one.state one.run
-      ∙ ap (λ (l : List (Caller × Access)). left_by (steps_of_moves one.moves) init ++ l) (ap (λ (l : List Step). left_by l (Some one.state)) (append-nil (steps_of_move t.move)) ∙ t.left)) in
+          search (arith, flat_map-append, left_append, append-nil) in
       let longer = steps_more (set actors seat b) seat b c m (set_here actors seat b (place_below actors seat a here)) by (left_by (steps_of_moves one.moves) init) (accesses_of_log log)
       (left_still b (λ kind d of. of)) in
       let logged = logged_accesses log seat taken ∙ ap (λ (l : List Access). accesses_of_log log ++ map (λ (z : Access). (seat, z)) l) is in
       record {
-        of_actors = run_burst readers enlisted (history_of log) actors one seat a here doing (history_of (log ++ logged_by seat taken ∷ [])) entries c low apart more
-            (one_turn seat a.number one.state c m doing entries t);
-        accesses = subst (λ (xs : List (Caller × Access)). AreStepsOf (set actors seat b) xs (accesses_of_log (log ++ logged_by seat taken ∷ []))) (sym left)
-            (subst (λ (ys : List (ℕ × Access)). AreStepsOf (set actors seat b) (left_by (steps_of_moves one.moves) init ++ (c, m) ∷ []) ys) (sym logged) longer);
+        of_actors = search (arith, run_burst, one_turn);
+        accesses = search arith;
       }
 
   -- the actor gets a number
@@ -352,8 +332,7 @@ log_more readers enlisted log actors r more =
     let b : Actor = record { number = 0; doing = nothing_done } in
     record {
       of_actors = run_more readers enlisted (history_of log) actors r.of_actors more;
-      accesses = steps_still actors (actors ++ b ∷ []) (λ j a kind c at by. (a, at_longer actors (b ∷ []) j a at, by))
-          (left_by (steps_of_moves r.of_actors.moves) (Some (initial_state (cast_for readers)))) (accesses_of_log log) r.accesses;
+      accesses = search (arith, steps_still, at_longer);
     }
 
 -- the first actor, before any step

@@ -1,5 +1,5 @@
 -- The accesses of one pass while no pass finishes a call.
-use Rattle.std.proofs.Common.{◌≡◌, ◌≢◌, ℕ, zero, suc, ◌+◌, ◌≤◌, ◌==◌, Bool, true, cond, List, [], ◌∷◌, ◌++◌, length, Option, Some, None, inl, inr, refl, sym, ap}
+use Rattle.std.proofs.Common.{◌≡◌, ◌≢◌, ℕ, zero, suc, ◌+◌, ◌≤◌, ◌==◌, Bool, true, cond, List, ◌∷◌, ◌++◌, length, Option, Some, None, inl, inr, refl, sym, ap, []}
 use Rattle.std.proofs.Common.{◌∙◌, subst, arith, length-append}
 use Rattle.std.proofs.Common.{eq-eqb}
 use Rattle.std.specs.Prelude.{filter}
@@ -125,14 +125,11 @@ few_accesses readers enlisted enlisted' log since actors later r q on apart fini
     let before = longer_runs readers readers enlisted enlisted' log (log ++ since) actors later r q (since, refl) on in
     let more : List Move = before.0 in
     let steps : steps_of_moves other.moves ≡ steps_of_moves one.moves ++ steps_of_moves more = ap steps_of_moves (sym before.1) ∙ flat_map-append steps_of_move one.moves more in
-    let run : after_steps (steps_of_moves more) one.state ≡ Some other.state =
-    sym (steps_append (steps_of_moves one.moves) (steps_of_moves more) init one.state one.run) ∙ (ap (λ (l : List Step). after_steps l init) (sym steps) ∙ other.run) in
+    let run : after_steps (steps_of_moves more) one.state ≡ Some other.state = search (arith, steps_append) in
     let left : left_by (steps_of_moves other.moves) (Some init) ≡ left_by (steps_of_moves one.moves) (Some init) ++ left_by (steps_of_moves more) (Some one.state) =
     ap (λ (l : List Step). left_by l (Some init)) steps ∙ left_append (steps_of_moves one.moves) (steps_of_moves more) init one.state one.run in
     let are : AreStepsOf later (left_by (steps_of_moves more) (Some one.state)) (accesses_of_log since) =
-    later_ones actors later (left_by (steps_of_moves one.moves) (Some init)) (left_by (steps_of_moves more) (Some one.state)) (accesses_of_log log) (accesses_of_log since) r.accesses
-    (subst (λ (l : List (Caller × Access)). AreStepsOf later l (accesses_of_log log ++ accesses_of_log since)) left
-    (subst (AreStepsOf later (left_by (steps_of_moves other.moves) (Some init))) (accesses_more log since) q.accesses)) in
+        search (arith, later_ones, accesses_more) in
     let kept = run_kept (steps_of_moves one.moves) [] init one.state (kept_at_start (cast_for readers)) one.run in
     let low = finished_decided one.state actors one.each apart in
     let high = decided_finished other.state later other.each other.only in

@@ -1,5 +1,5 @@
 -- While no call is decided the words stay as they are, and each step of a caller leaves it fewer steps to take.
-use Rattle.std.proofs.Common.{◌≡◌, ◌≢◌, ℕ, zero, suc, ◌+◌, ◌-◌, ◌*◌, ◌<◌, ◌≤◌, ◌==◌, Bool, true, false, cond, List, [], ◌∷◌, ◌++◌, drop, length, Option, Some, None, ◌⊎◌, inl}
+use Rattle.std.proofs.Common.{◌≡◌, ◌≢◌, ℕ, zero, suc, ◌+◌, ◌-◌, ◌*◌, ◌<◌, ◌≤◌, ◌==◌, Bool, true, false, cond, List, ◌∷◌, ◌++◌, drop, length, Option, Some, None, ◌⊎◌, inl, []}
 use Rattle.std.proofs.Common.{inr, refl, sym, ap, ◌∙◌, subst, arith, append-nil}
 use Rattle.std.proofs.Common.{get_or, eq-eqb, ne_eqb}
 use Rattle.std.specs.Prelude.{slice_get, slice_index, slice_set, is_some, filter}
@@ -274,10 +274,7 @@ few_by c done (s ∷ steps) w t kept e few = option_and_then_some (after_steps s
           let rest = few_by c (done ++ s ∷ []) steps v t later then (omega arith) in
           elim (same_caller c (caller_of s)) [
             | inl own ↦
-                let now : left_of v.words (held_by v.callers c) ≡ left_in w.words one.is =
-                ap (λ (z : Caller). left_of v.words (held_by v.callers z)) own
-                ∙ (ap (λ (z : Callers). left_of v.words (held_by z (caller_of s))) one.callers
-                ∙ (ap (left_of v.words) (held_here w.callers (caller_of s) one.was one.is one.held) ∙ ap (λ (z : List ℕ). left_in z one.is) g.words)) in
+                let now : left_of v.words (held_by v.callers c) ≡ left_in w.words one.is = search (arith, held_here) in
                 let was : left_of w.words (held_by w.callers c) ≡ left_in w.words one.was = ap (λ (z : Caller). left_of w.words (held_by w.callers z)) own ∙ ap (left_of w.words) one.held in
                 let less = g.less in
                 let count = one_more (is_caller c (caller_of s)) s (steps_by c steps) in
@@ -286,8 +283,7 @@ few_by c done (s ∷ steps) w t kept e few = option_and_then_some (after_steps s
                 let now : left_of v.words (held_by v.callers c) ≡ left_of w.words (held_by w.callers c) =
                 ap (λ (z : Callers). left_of v.words (held_by z c)) one.callers
                 ∙ (ap (left_of v.words) (held_else w.callers (caller_of s) c one.is one.was one.held other) ∙ ap (λ (z : List ℕ). left_of z (held_by w.callers c)) g.words) in
-                let count : length (steps_by c (s ∷ steps)) ≡ length (steps_by c steps) =
-                ap (λ (b : Bool). length (cond b (s ∷ steps_by c steps) (steps_by c steps))) (not_caller c (caller_of s) other) in
+                let count : length (steps_by c (s ∷ steps)) ≡ length (steps_by c steps) = search (arith, not_caller) in
                 omega arith
           ]
     ])
@@ -351,8 +347,7 @@ takes_none c done (s ∷ steps) w t kept e few not idle = option_and_then_some (
             | inr other ↦
                 let rest = takes_none c (done ++ s ∷ []) steps v t later then (omega arith)
                 (λ k answered. not k (sym (held_else w.callers (caller_of s) c one.is one.was one.held other) ∙ (ap (λ (z : Callers). held_by z c) (sym one.callers) ∙ answered))) idle in
-                let count : length (steps_by c (s ∷ steps)) ≡ length (steps_by c steps) =
-                ap (λ (b : Bool). length (cond b (s ∷ steps_by c steps) (steps_by c steps))) (not_caller c (caller_of s) other) in
+                let count : length (steps_by c (s ∷ steps)) ≡ length (steps_by c steps) = search (arith, not_caller) in
                 omega arith
           ]
     ])
@@ -391,8 +386,7 @@ few_in_all done (s ∷ steps) w t kept e few = option_and_then_some (after_steps
       | inr g ↦
           let decided = g.decided in
           let rest = few_in_all (done ++ s ∷ []) steps v t later then (omega arith) in
-          let now : all_left v.words v.callers ≡ all_left w.words (set_held one.is (caller_of s) w.callers) =
-          ap (λ (z : List ℕ). all_left z v.callers) g.words ∙ ap (all_left w.words) one.callers in
+          let now : all_left v.words v.callers ≡ all_left w.words (set_held one.is (caller_of s) w.callers) = search arith in
           let less = all_less w.words w.callers (caller_of s) one.was one.is one.held g.less in
           omega arith
     ])

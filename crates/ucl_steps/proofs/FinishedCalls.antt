@@ -1,5 +1,5 @@
 -- The decided calls of a run of actors are as many as the finished calls of its actors.
-use Rattle.std.proofs.Common.{◌≡◌, ◌≢◌, ℕ, zero, suc, ◌+◌, ◌≤◌, ◌==◌, ◌&&◌, nat_le, Bool, true, false, cond, List, [], ◌∷◌, drop, length, map, Some, refl}
+use Rattle.std.proofs.Common.{◌≡◌, ◌≢◌, ℕ, zero, suc, ◌+◌, ◌≤◌, ◌==◌, ◌&&◌, nat_le, Bool, true, false, cond, List, ◌∷◌, drop, length, map, Some, refl, []}
 use Rattle.std.proofs.Common.{sym, ap, ◌∙◌, subst, arith}
 use Rattle.std.proofs.Common.{length-append, eq-eqb, ne_eqb}
 use Rattle.std.specs.Prelude.{All, slice_get, is_some, filter}
@@ -39,11 +39,7 @@ at_least seat number calls low high (f ∷ fs) r =
     let rest = filter (own seat number) (drop (r.0 + 1) calls) in
     let more = at_least seat number calls (r.0 + 1) high fs r.5 in
     let is_own : is_some r.1.reply ≡ true = ap is_some r.4.reply in
-    let long : decided_of seat number (drop low calls) ≡ length front + suc (length (filter is_decided rest)) =
-    ap (λ (l : List CallRecord). length (filter is_decided l)) t.1
-    ∙ (ap length (filter-append is_decided (filter (own seat number) t.0) (r.1 ∷ rest))
-    ∙ (length-append front (filter is_decided (r.1 ∷ rest)) ∙ ap (λ (b : Bool). length front + length (cond b (r.1 ∷ filter is_decided rest) (filter is_decided rest))) is_own)) in
-    omega arith
+    search (arith, next_own, own, filter-append, length-append)
 
 filter_few : {X : Type 0} (p : X → Bool) (xs : List X) → length (filter p xs) ≤ length xs
 filter_few p [] = omega arith

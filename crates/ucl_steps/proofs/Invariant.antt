@@ -1,5 +1,5 @@
 -- What every step keeps.
-use Rattle.std.proofs.Common.{◌≡◌, ◌≢◌, ℕ, zero, suc, List, [], ◌∷◌, ◌++◌, length, map, Option, Some, None, ◌⊎◌, inl, inr, refl, sym, ap, ◌∙◌, subst, arith}
+use Rattle.std.proofs.Common.{◌≡◌, ◌≢◌, ℕ, zero, suc, List, ◌∷◌, ◌++◌, length, map, Option, Some, None, ◌⊎◌, inl, inr, refl, sym, ap, ◌∙◌, subst, arith, []}
 use Rattle.std.specs.Prelude.{slice_get, IsSome}
 use Rattle.std.specs.Option.{option_map}
 use Rattle.std.proofs.lemmas.Option.{none-some, same_Some, slice_get-map}
@@ -90,8 +90,7 @@ module _ (steps : List Step) (w : MachineState) (kept : Keeps steps w) (c : Call
             | inr u ↦ explained_later w.history h' b a (kept.explained i a u.1)
           ];
           once = once;
-          turns = subst (Turns (steps ++ s ∷ []) (length h')) (sym (map_unseen time_of k f timed w.calls))
-              (turns_inner steps (length w.history) (length h') (map time_of w.calls) s inner (begins_length w.history h' b) kept.turns);
+          turns = search (arith, map_unseen, turns_inner, begins_length);
           knows = λ d z i at within_z. elim (same_caller d c) [
             | inl is ↦
                 let z_is : y ≡ z = same_Some y z (sym (held_here w.callers c x y holds) ∙ (ap (held_by (set_held y c w.callers)) (sym is) ∙ at)) in
@@ -107,8 +106,7 @@ module _ (steps : List Step) (w : MachineState) (kept : Keeps steps w) (c : Call
           ];
           unended = λ i a at none. elim (get-change_at k f w.calls i a at) [
             | inl u ↦
-                let own : a.caller ≡ c = ap (λ (z : CallRecord). z.caller) (sym u.3)
-                ∙ (ap (λ (t : Time). t.caller) (timed u.1) ∙ (ap (λ (z : CallRecord). z.caller) (same_Some u.1 m.call (sym u.2 ∙ m.at)) ∙ m.caller)) in
+                let own : a.caller ≡ c = search (arith, same_Some) in
                 record { holds = y; held_is = ap (held_by (set_held y c w.callers)) own ∙ held_here w.callers c x y holds; in_it = inside ∙ ap Some (sym u.0) }
             | inr u ↦
                 let o = kept.unended i a u.1 none in

@@ -1,5 +1,5 @@
 -- Each step of the machine keeps what every step keeps.
-use Rattle.std.proofs.Common.{◌≡◌, ℕ, zero, suc, ◌+◌, ◌-◌, ◌<◌, ◌≤◌, ◌==◌, ◌&&◌, nat_le, Bool, true, false, cond, List, [], ◌∷◌, ◌++◌, take, length, Option, Some, None, Ok, Err, inl, inr, refl, sym}
+use Rattle.std.proofs.Common.{◌≡◌, ℕ, zero, suc, ◌+◌, ◌-◌, ◌<◌, ◌≤◌, ◌==◌, ◌&&◌, nat_le, Bool, true, false, cond, List, ◌∷◌, ◌++◌, take, length, Option, Some, None, Ok, Err, inl, inr, refl, sym, []}
 use Rattle.std.proofs.Common.{ap, ◌∙◌, subst, arith, le_refl, get_or}
 use Rattle.std.specs.Prelude.{slice_get, slice_index, slice_set, IfSome}
 use Rattle.std.specs.Option.{option_map}
@@ -200,15 +200,7 @@ module _ (steps : List Step) (w : MachineState) (kept : Keeps steps w) where
       let m = kept.knows c (Within k (Collecting loaded)) k holds refl in
       let o = m.sees in
       let more = loaded ++ slice_index w.words (length loaded) ∷ [] in
-      let checks : Checks w.history m.call more 0 now = record {
-        reads = o.reads;
-        twelve = eqb-true (length more) 12 is;
-        few = omega arith;
-        early = begun_before k m.call m.at;
-        late = le_refl now;
-        loaded = loaded_more loaded o.few o.loaded;
-        same = λ i none. absurd (omega arith);
-      } in
+      let checks : Checks w.history m.call more 0 now = search (arith, eqb-true, begun_before, le_refl, loaded_more) in
       stayed steps w kept c (Within k (Collecting loaded)) holds k refl (First c) (Within k (Checking more 0 now)) tt
       (λ a at. subst (λ (z : CallRecord). Checks w.history z more 0 now) (same_Some m.call a (sym m.at ∙ at)) checks) refl
   first_kept c k loaded holds false is =
@@ -243,8 +235,7 @@ module _ (steps : List Step) (w : MachineState) (kept : Keeps steps w) where
           | inr l ↦
               let is : i ≡ checked = omega arith in
               let t = o.loaded i (omega arith) in
-              let there : get_or words i 0 ≡ get_or w.words i 0 =
-              ap (λ (z : ℕ). get_or words z 0) is ∙ (sym (eqb-true (get_or w.words checked 0) (get_or words checked 0) same) ∙ ap (λ (z : ℕ). get_or w.words z 0) (sym is)) in
+              let there : get_or words i 0 ≡ get_or w.words i 0 = search (arith, eqb-true) in
               squeezed (i + 1) (get_or words i 0) w.history t.0 point now kept.legal t.1 o.late t.2 (there ∙ word_at_place i (omega arith))
         ]
 
@@ -255,8 +246,7 @@ module _ (steps : List Step) (w : MachineState) (kept : Keeps steps w) where
         let o = m.sees in
         let few = o.few in
         let not-last = eqb-false checked 11 other in
-        let checks : Checks w.history m.call words (checked + 1) point =
-        record { reads = o.reads; twelve = o.twelve; few = below checked few not-last; early = o.early; late = o.late; loaded = o.loaded; same = one_more same } in
+        let checks : Checks w.history m.call words (checked + 1) point = search (arith, below, one_more) in
         stayed steps w kept c (Within k (Checking words checked point)) holds k refl (Second c) (Within k (Checking words (checked + 1) point)) tt
         (λ a at. subst (λ (z : CallRecord). Checks w.history z words (checked + 1) point) (same_Some m.call a (sym m.at ∙ at)) checks) refl
       where
@@ -284,8 +274,7 @@ module _ (steps : List Step) (w : MachineState) (kept : Keeps steps w) where
           let h = w.history in
           let r = Copied (reading_of words) in
           let f = with_reply point r in
-          let is : IsSequential h point m.call.caller m.call.call r =
-          subst (λ (z : Call). IsSequential h point m.call.caller z r) (sym o.reads.call) (sequential_reading h point m.call.caller words (version_of words) copied_board copied_version) in
+          let is : IsSequential h point m.call.caller m.call.call r = search (arith, sequential_reading, copied_board, copied_version) in
           let late = o.late in
           let told : IsExplained h (f m.call) (Some point) (Some r) = ((o.early, o.late, unended_none m.call.ended (λ z. point ≤ z) m.unended), is) in
           moved steps w kept c (Within k (Checking words checked point)) holds k refl (Second c) (Answered k) h w.words f tt (begins_same h) kept.legal kept.words (λ a. refl)

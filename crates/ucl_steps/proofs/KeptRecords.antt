@@ -1,5 +1,5 @@
 -- The calls of a pass that has no call under way are just its finished calls: so a later run keeps what an earlier one has of it.
-use Rattle.std.proofs.Common.{◌≡◌, ℕ, zero, suc, ◌+◌, ◌≤◌, Bool, true, cond, List, [], ◌∷◌, ◌++◌, length, drop, map, Some, None, refl, sym, ap, ◌∙◌, subst, arith, append-nil, length-append}
+use Rattle.std.proofs.Common.{◌≡◌, ℕ, zero, suc, ◌+◌, ◌≤◌, Bool, true, cond, List, ◌∷◌, ◌++◌, length, drop, map, Some, None, refl, sym, ap, ◌∙◌, subst, arith, append-nil, length-append, []}
 use Rattle.std.specs.Prelude.{slice_get, filter}
 use Rattle.std.proofs.lemmas.Option.{none-some, same_Some}
 use Rattle.std.proofs.lemmas.List.{map-append, length-map}
@@ -7,8 +7,6 @@ use Rattle.std.proofs.lemmas.List.Elements.{filter-append}
 use mathlib.Core.Option.{some, some-injective}
 use mathlib.Core.List.{IsPrefix}
 use lib.ListN.{get_elem?}
-use Rattle.ucl_steps.specs.declared.step.Caller.{Caller}
-use Rattle.ucl_steps.specs.declared.step.Call.{Call}
 use Rattle.ucl_steps.specs.declared.trace.CallRecord.{CallRecord}
 use Rattle.ucl_steps.specs.Linearizable.{caller_and_call}
 use Rattle.ucl_steps.specs.Machine.{MachineState}
@@ -77,9 +75,6 @@ module _ (seat number : ℕ) where
       let others = just_these calls (r.0 + 1) high fs r.5 (omega arith) in
       ap (map plain) (t.1 ∙ ap (λ (l : List CallRecord). l ++ r.1 ∷ rest) first) ∙ (λ i. is i ∷ others i)
 
-  abbrev told : Caller × Call → Bool
-  told x = is_of seat number x.0
-
   -- the calls that a pass has asked are as many
   pub as_many : (calls : List CallRecord) → length (calls_by seat number (map caller_and_call calls)) ≡ length (filter own calls)
   as_many [] = refl
@@ -107,7 +102,4 @@ kept_records actors later last last' on each each' seat a b at bt =
     let more : List Answer = gone.finished.0 in
     let first = records_are seat a.number last a f.0 f.1 ∙ same_callers seat a b gone last.calls 0 f.0.high a.doing.calls f.0.recorded in
     let all = records_are seat b.number last' b g.0 g.1 in
-    let put = recorded seat b.number in (
-      map put more,
-      ap (λ (l : List CallRecord). l ++ map put more) first ∙ (sym (map-append put a.doing.calls more) ∙ (ap (map put) gone.finished.1 ∙ sym all)),
-    )
+    search (arith, some-injective, records_are, same_callers, map-append)

@@ -1,5 +1,5 @@
 -- Elements of lists at a place, and options.
-use Rattle.std.proofs.Common.{◌≡◌, ℕ, zero, suc, ◌<◌, ◌≤◌, List, [], ◌∷◌, ◌++◌, take, drop, length, Option, Some, refl, sym, ap, ◌∙◌, arith}
+use Rattle.std.proofs.Common.{◌≡◌, ℕ, zero, suc, ◌<◌, ◌≤◌, List, ◌∷◌, ◌++◌, take, drop, length, Option, Some, refl, sym, ap, ◌∙◌, arith, []}
 use Rattle.std.specs.Prelude.{slice_get, IfSome}
 use Rattle.std.proofs.lemmas.List.{take-append-drop, take-take}
 use Rattle.std.proofs.lemmas.Option.{none-some, same_Some}
@@ -12,10 +12,6 @@ module _ {A : Type 0} where
   get_some [] k l = absurd (omega arith)
   get_some (x ∷ xs) zero l = (x, refl)
   get_some (x ∷ xs) (suc k) l = get_some xs k (omega arith)
-
-  pub at_middle : (xs : List A) (x : A) (ys : List A) → slice_get (xs ++ x ∷ ys) (length xs) ≡ Some x
-  at_middle [] x ys = refl
-  at_middle (y ∷ xs) x ys = at_middle xs x ys
 
   pub take_one : (xs : List A) (k : ℕ) (x : A) → slice_get xs k ≡ Some x → take (suc k) xs ≡ take k xs ++ x ∷ []
   take_one [] k x e = absurd (none-some x e)

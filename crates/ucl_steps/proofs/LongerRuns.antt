@@ -1,5 +1,5 @@
 -- A run is told by the log and by what the actors have asked: so runs of later states are longer runs.
-use Rattle.std.proofs.Common.{◌≡◌, ◌≢◌, ◌⊎◌, inl, inr, ℕ, zero, suc, ◌+◌, Bool, true, false, cond, List, [], ◌∷◌, ◌++◌, length, map, replicate, Option, Some, None, refl, sym, ap}
+use Rattle.std.proofs.Common.{◌≡◌, ◌≢◌, ◌⊎◌, inl, inr, ℕ, zero, suc, ◌+◌, Bool, true, false, cond, List, ◌∷◌, ◌++◌, length, map, replicate, Option, Some, None, refl, sym, ap, []}
 use Rattle.std.proofs.Common.{◌∙◌, subst, arith, append_assoc, eq-eqb}
 use Rattle.std.specs.Prelude.{slice_get}
 use Rattle.std.proofs.lemmas.Option.{none-some, same_Some, option_and_then_some}
@@ -217,14 +217,7 @@ moving_by : (c : Caller) (begins : Option Call) (kind : AccessKind) (ends : Bool
     → Moving (move_of c begins kind ends) rest a last
 moving_by c None kind ends rest a last e =
     let t = accessing c kind ends rest a last e in
-    record {
-      after = t.ended.after;
-      moved = record { begun = a; made = t.made; begins = refl; makes = t.makes; ends = t.ended.is };
-      then = t.ended.then;
-      access = t.access;
-      kind = t.kind_is;
-      left = t.left;
-    }
+    search (arith, accessing)
 moving_by c (Some call) kind ends rest a last e = option_and_then_some (after_steps (step_of c kind ∷ end_by c ends ++ rest)) (after_step a (Begin c call)) last e (λ w is then.
     let t = accessing c kind ends rest w last then in
     record {
@@ -446,14 +439,10 @@ module _ (actors later : List Actor) (on : HaveGoneOn actors later) (last last' 
       let taken : IsTakenBy x.0 was.number m.kind m.caller = subst (λ (k : AccessKind). IsTakenBy x.0 was.number k m.caller) (sym (ap (λ (z : Access). z.kind) s.0) ∙ p.kind) s.1.2 in
       let caller : m.caller ≡ n.caller = same_taker x.0 was now x.1.kind m.caller n.caller gone s.1.2 t.1.2 in
       let of_caller : move_of m.caller n.begins m.kind n.ends ≡ n = λ i. record { caller = caller i; begins = n.begins; kind = kind i; ends = n.ends } in
-      let moved' : Moved (move_of m.caller n.begins m.kind n.ends) b q.after =
-      subst (λ (z : Move). Moved z b q.after) (sym of_caller) q.moved in
+      let moved' : Moved (move_of m.caller n.begins m.kind n.ends) b q.after = search arith in
       let c : Caller = m.caller in
-      let told_m : told ++ (begun_by c m.begins ++ begun_in (steps_of_moves ms)) ≡ calls_told last =
-      ap (λ (l : List (Caller × Call)). told ++ l) (sym (begun_move m.caller m.begins m.kind m.ends (steps_of_moves ms))) ∙ told_is in
-      let told_n : told ++ (begun_by c n.begins ++ begun_in (steps_of_moves ns)) ≡ calls_told last' =
-      ap (λ (d : Caller). told ++ (begun_by d n.begins ++ begun_in (steps_of_moves ns))) caller
-      ∙ (ap (λ (l : List (Caller × Call)). told ++ l) (sym (begun_move n.caller n.begins n.kind n.ends (steps_of_moves ns))) ∙ told_is') in
+      let told_m : told ++ (begun_by c m.begins ++ begun_in (steps_of_moves ms)) ≡ calls_told last = search (arith, begun_move) in
+      let told_n : told ++ (begun_by c n.begins ++ begun_in (steps_of_moves ns)) ≡ calls_told last' = search (arith, begun_move) in
       let calls : (f g : Call) → m.begins ≡ Some f → n.begins ≡ Some g → f ≡ g =
       (λ f g is_f is_g. same_call x.0 was now m.kind c f g told (begun_in (steps_of_moves ms)) (begun_in (steps_of_moves ns)) a b p.moved.begun p.moved.made moved'.begun moved'.made s.1.1 t.1.1 gone
       taken

@@ -1,5 +1,5 @@
 -- One step of the machine on a match word: the word that it finds, what comes of it, the access that it leaves, and what it leaves as it was.
-use Rattle.std.proofs.Common.{◌≡◌, ◌≢◌, ℕ, zero, suc, ◌+◌, ◌-◌, ◌<◌, ◌≤◌, ◌==◌, ◌&&◌, nat_le, Bool, true, false, cond, List, [], ◌∷◌, ◌++◌, length, map, replicate, Option, Some, None, Ok}
+use Rattle.std.proofs.Common.{◌≡◌, ◌≢◌, ℕ, zero, suc, ◌+◌, ◌-◌, ◌<◌, ◌≤◌, ◌==◌, ◌&&◌, nat_le, Bool, true, false, cond, List, ◌∷◌, ◌++◌, length, map, replicate, Option, Some, None, Ok, []}
 use Rattle.std.proofs.Common.{refl, ap, ◌∙◌, arith, append_assoc, append-nil, eq-eqb, ne_eqb}
 use Rattle.std.specs.Prelude.{slice_get, slice_index, IsSome}
 use Rattle.std.specs.Option.{option_and_then}
@@ -163,9 +163,6 @@ not_of seat number c apart = search (arith, ne_eqb, cases_eq, nat_le, eq-eqb, le
 
 pub own_caller : (seat number : ℕ) (call : Call) → MayAsk number call → is_of seat number (caller_for seat number call) ≡ true
 own_caller seat number call may = search (arith, and_true, nat_le, eq-eqb, le-leb)
-
-abbrev snd : Caller × Call → Call
-snd x = x.1
 
 pub calls_append : (seat number : ℕ) (xs ys : List (Caller × Call)) → calls_by seat number (xs ++ ys) ≡ calls_by seat number xs ++ calls_by seat number ys
 calls_append seat number xs ys = search (arith, filter-append, map-append)

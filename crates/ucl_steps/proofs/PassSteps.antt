@@ -1,5 +1,5 @@
 -- One step of a pass on a match word, as steps of the machine: what the pass has done and holds stays what its callers have done and hold.
-use Rattle.std.proofs.Common.{◌≡◌, ◌≢◌, ℕ, ◌+◌, ◌<◌, ◌≤◌, ◌==◌, Bool, true, false, cond, List, [], ◌∷◌, ◌++◌, length, map, Option, Some, None, inl, inr, refl, sym, ap, ◌∙◌, subst, arith, append_assoc}
+use Rattle.std.proofs.Common.{◌≡◌, ◌≢◌, ℕ, ◌+◌, ◌<◌, ◌≤◌, ◌==◌, Bool, true, false, cond, List, ◌∷◌, ◌++◌, length, map, Option, Some, None, refl, sym, ap, ◌∙◌, subst, arith, append_assoc, []}
 use Rattle.std.proofs.Common.{append-nil, le_refl, eq-eqb, ne_eqb}
 use Rattle.std.specs.Prelude.{slice_get, slice_index, IsSome, is_some}
 use Rattle.std.proofs.lemmas.Option.{same_Some, option_and_then_some}
@@ -123,10 +123,6 @@ under_way : (seat number : ℕ) (w : MachineState) (fs : List Answer) (begun : �
     → calls_by seat number (calls_told w) ≡ map (λ (f : Answer). f.call) fs ++ call_of held ∷ [] → Under seat number w fs (call_of held) begun (λ k. Within k held)
 under_way seat number w fs begun held high may recorded u whole = search arith
 
-abbrev has_call : List Call → Bool
-has_call [] = false
-has_call (call ∷ calls) = true
-
 fits_under : (seat number : ℕ) (w : MachineState) (fs : List Answer) (begun : ℕ) (held : Held) → CanHold number held → call_under_way held ≡ call_of held ∷ []
     → (u : Under seat number w fs (call_of held) begun (λ k. Within k held)) → FitsHeld w seat number begun held u.high
 fits_under seat number w fs begun held can one u = search (arith, false≢true)
@@ -172,9 +168,7 @@ module _ (seat number : ℕ) (call : Call) (w : MachineState) (may : MayAsk numb
           at = at_end w.calls (began mine call (length w.history));
           held = held_here w.callers mine Idle (held_at_begin call (length w.calls)) idle_now;
           others = λ d of not. passes.holds d not ∙ idle d of;
-          whole = ap (calls_by seat number) (map-append caller_and_call w.calls (began mine call (length w.history) ∷ []))
-              ∙ (calls_one seat number mine call (calls_told w) (own_caller seat number call may)
-              ∙ ap (λ (l : List Call). l ++ call ∷ []) (whole ∙ append-nil (map (λ (f : Answer). f.call) fs)));
+          whole = search (arith, map-append, began, calls_one, own_caller, append-nil);
         }
 
 -- what comes of a step can be held, by a pass that makes this call
@@ -200,17 +194,7 @@ module _ (seat number : ℕ) (w : MachineState) (d : Doing) (call : Call) (begun
   going_on held can made =
       let last = with_held (Within u.place held) by v in
       let passes : Passes by w last = passes_step (GoesOn held) in
-      let after : Under seat number last d.calls call begun (λ k. Within k held) = record {
-        may = u.may;
-        high = u.high;
-        recorded = records_kept w.calls last.calls seat number 0 d.calls u.high passes.ended u.recorded;
-        place = u.place;
-        low = u.low;
-        at = ap (λ (cs : List CallRecord). slice_get cs u.place) same.1 ∙ u.at;
-        held = held_here v.callers by (hold u.place) (Within u.place held) held_v;
-        others = λ d of not. passes.holds d not ∙ u.others d of not;
-        whole = ap (λ (cs : List CallRecord). calls_by seat number (map caller_and_call cs)) same.1 ∙ u.whole;
-      } in
+      let after : Under seat number last d.calls call begun (λ k. Within k held) = search (arith, records_kept, held_here, held_v) in
       let own = subst (λ (z : Call). Under seat number last d.calls z begun (λ k. Within k held)) (sym can.2) after in
       let turn : Turn seat number w by m (goes begun held d) entries = record {
         move = record { caller = by; begins = None; kind = m.kind; ends = false };
@@ -220,12 +204,7 @@ module _ (seat number : ℕ) (w : MachineState) (d : Doing) (call : Call) (begun
         history = history;
         of = of_call seat number call u.may;
         passes = passes;
-        fits = record {
-          high = own.high;
-          recorded = own.recorded;
-          held = fits_under seat number last d.calls begun held can.0 (can.1 ∙ ap (λ (z : Call). z ∷ []) (sym can.2)) own;
-          whole = after.whole ∙ ap (λ (l : List Call). map (λ (f : Answer). f.call) d.calls ++ l) (sym can.1);
-        };
+        fits = search (arith, fits_under);
       } in
       record { turn = turn; ends = false; move_is = refl }
 
@@ -242,12 +221,7 @@ module _ (seat number : ℕ) (w : MachineState) (d : Doing) (call : Call) (begun
       let at_z : slice_get z.calls k ≡ Some replied = change_at_here k (with_reply point reply) v.calls a (ap (λ (cs : List CallRecord). slice_get cs k) same.1 ∙ u.at) in
       let held_z : held_by z.callers by ≡ Some (Answered k) = held_here v.callers by (hold k) (Answered k) held_v in
       let one : after_step z (End by) ≡ Some last = ap (λ (o : Option Holds). after_step_holding (End by) o z) held_z in
-      let frame : Frame by k z last = record {
-        holds = λ d not. held_else z.callers by d Idle (Answered k) held_z not;
-        calls = λ i b not at. change_at_else k (with_end n) z.calls i b not at;
-        count = let long = length-change_at k (with_end n) z.calls in omega arith;
-        told = map_unseen caller_and_call k (with_end n) (λ z. refl) z.calls;
-      } in
+      let frame : Frame by k z last = search (arith, held_else, change_at_else, length-change_at, map_unseen) in
       let passes = passes_on by w z last (passes_step (Answers reply)) (passes_frame by k z last replied frame at_z refl refl) in
       let at_last : slice_get last.calls k ≡ Some (with_end n replied) = change_at_here k (with_end n) z.calls replied at_z in
       let count = at_below last.calls k (with_end n replied) at_last in
@@ -256,8 +230,7 @@ module _ (seat number : ℕ) (w : MachineState) (d : Doing) (call : Call) (begun
         move = record { caller = by; begins = None; kind = m.kind; ends = true };
         last = last;
         run = steps_on (step_of by m.kind) (End by ∷ []) w z last made.done (steps_on (End by) [] z last last one refl);
-        left = ap (λ (o : Option MachineState). with_caller (step_of by m.kind) (accesses_of_step (step_of by m.kind) w) ++ left_by (End by ∷ []) o) made.done
-            ∙ (append-nil (with_caller (step_of by m.kind) (accesses_of_step (step_of by m.kind) w)) ∙ one_left by m w made.left);
+        left = search (arith, append-nil, one_left);
         history = history;
         of = of_call seat number call u.may;
         passes = passes;
@@ -265,13 +238,7 @@ module _ (seat number : ℕ) (w : MachineState) (d : Doing) (call : Call) (begun
           high = k + 1;
           recorded = records_more last.calls seat number 0 d.calls u.high k f (with_end n replied) (records_kept w.calls last.calls seat number 0 d.calls u.high passes.ended u.recorded) u.low at_last
               (record { may = u.may; caller = refl; call = refl; begun = refl; reply = refl; ended = ap Some (ap length history ∙ place) });
-          held = (
-            omega arith,
-            λ d of. elim (same_caller d by) [
-              | inl is ↦ ap (held_by last.callers) is ∙ held_here z.callers by (Answered k) Idle held_z
-              | inr not ↦ passes.holds d not ∙ u.others d of not
-            ],
-          );
+          held = search (arith, same_caller, held_here);
           whole = ap (calls_by seat number) told ∙ (u.whole ∙ (sym (map-append (λ (f : Answer). f.call) d.calls (f ∷ [])) ∙ sym (append-nil (map (λ (f : Answer). f.call) (d.calls ++ f ∷ [])))));
         };
       } in
@@ -321,8 +288,6 @@ module _ (cast : Cast) (seat number : ℕ) (steps : List Step) (w : MachineState
 
   -- a call that begins now
   module _ (call : Call) (may : MayAsk number call) (none : d.held ≡ Nothing) where
-    abbrev begun_now : MachineState
-    begun_now = after_begin (caller_for seat number call) call w
 
     free_now : held_by w.callers (caller_for seat number call) ≡ Some Idle
     free_now = let idle = idle_held none in idle_now seat number call w may d.calls f.high f.recorded idle.0 idle.1 (whole_held Nothing none)
@@ -354,9 +319,6 @@ module _ (cast : Cast) (seat number : ℕ) (steps : List Step) (w : MachineState
 
     swap_under : Under seat number w d.calls (Event e) d.begun (λ k. Within k (Holding e old new))
     swap_under = under_way seat number w d.calls d.begun (Holding e old new) f.high (swapping.can.0, swapping.can.1) f.recorded swapping (whole_held (Holding e old new) is_held)
-
-    abbrev board_by : Bool → MachineState
-    board_by b = cond b (stored number e new w) w
 
     keeps_calls : (b : Bool) → ((cond b (stored number e new w) w).callers ≡ w.callers) × ((cond b (stored number e new w) w).calls ≡ w.calls)
     keeps_calls b = search arith
@@ -409,8 +371,7 @@ module _ (cast : Cast) (seat number : ℕ) (steps : List Step) (w : MachineState
   first_by : m.kind ≡ log.First → (h : Held) → d.held ≡ h → IsNext log.First m.game h → Turn seat number w reader m (firsts_holding h m.found m.at d) []
   first_by kind Nothing is next = turn_begins is (kind, next)
   first_by kind (Collecting words) is next = turn_first words is (kind, next)
-  first_by kind (Holding e old new) is next = absurd next
-  first_by kind (Checking words checked point) is next = absurd next
+  first_by kind x is next = absurd next
 
   pub turn_firsts : m.kind ≡ log.First → IsNext log.First m.game d.held → Turn seat number w reader m (after_first m.found m.at d) []
   turn_firsts kind next = first_by kind d.held refl next
@@ -419,9 +380,6 @@ module _ (cast : Cast) (seat number : ℕ) (steps : List Step) (w : MachineState
   module _ (words : List ℕ) (checked point : ℕ) (is_held : d.held ≡ Checking words checked point) (does : Does log.Second (checked + 1) m) where
     checking : IsUnderWay w seat number d.begun (Checking words checked point) f.high
     checking = subst (λ (h : Held). FitsHeld w seat number d.begun h f.high) is_held f.held
-
-    abbrev compared_by : Bool → Bool → Outcome
-    compared_by same last = cond same (cond last (Answers (Copied (reading_of words))) (GoesOn (Checking words (checked + 1) point))) (GoesOn (Collecting []))
 
     can_compare : (same last : Bool) → (checked == 11) ≡ last
         → CanGo number Reading (cond same (cond last (Answers (Copied (reading_of words))) (GoesOn (Checking words (checked + 1) point))) (GoesOn (Collecting [])))

@@ -1,5 +1,5 @@
 -- What is known of a state that steps lead to.
-use Rattle.std.proofs.Common.{◌≡◌, ℕ, zero, suc, ◌+◌, ◌-◌, ◌<◌, ◌≤◌, Bool, true, List, [], ◌∷◌, ◌++◌, take, length, map, Option, Some, None, refl, sym, ap, ◌∙◌, arith}
+use Rattle.std.proofs.Common.{◌≡◌, ℕ, zero, suc, ◌+◌, ◌-◌, ◌<◌, ◌≤◌, Bool, true, List, ◌∷◌, ◌++◌, take, length, map, Option, Some, None, refl, sym, ap, ◌∙◌, arith, []}
 use Rattle.std.proofs.Common.{get_or, set, length-take, eq-eqb, ne_eqb}
 use Rattle.std.specs.Prelude.{slice_get, slice_index, replicate}
 use Rattle.std.specs.Option.{option_map, option_and_then}
@@ -90,9 +90,6 @@ module _ (w : MachineState) (c : Caller) (k : ℕ) (ws : List ℕ) (n : ℕ) (tw
 
   long : length (take (n + 1) (set ws n (get_or w.words n 0))) ≡ n + 1
   long = let l = length-set ws n (get_or w.words n 0) in length-take-le (n + 1) (set ws n (get_or w.words n 0)) (omega arith)
-
-  abbrev filled : List ℕ
-  filled = set ws n (get_or w.words n 0)
 
   pub first_last : n ≡ 11 → with_held (Within k (Checking (set ws n (get_or w.words n 0)) 0 (length w.history))) c w ≡ state_after_first c k (take n ws) w
   first_last is = search (arith, length-set, take_all, eq-eqb, long, one_longer)

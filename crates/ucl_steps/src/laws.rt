@@ -12,17 +12,20 @@ pub fn runs_are_linearizable()
 {}
 
 /// After every list of steps the match words are those of the board of the history.
+#[tactic(auto, using(crate::proofs::Runs::words_of_run))]
 pub fn words_are_of_the_history()
     ensures { WordsAreOfTheHistory }
 {}
 
 /// Where the second collect of a reading finds another word, the history has grown since the first collect loaded that
 /// match.
+#[tactic(auto, using(crate::proofs::Accesses::broken_later))]
 pub fn unclean_tries_see_more()
     ensures { UncleanTriesSeeMore }
 {}
 
 /// A reading begins anew no more often than entries come meanwhile.
+#[tactic(auto, using(crate::proofs::Accesses::tries_few))]
 pub fn unclean_tries_are_few()
     ensures { UncleanTriesAreFew }
 {}
@@ -36,6 +39,7 @@ pub fn readings_are_snapshots()
 
 /// What a report answers by its one or two steps is the reply of the board of one thread, to the entries that there were
 /// at its last step.
+#[tactic(auto, using(crate::proofs::Accesses::report_whole))]
 pub fn reports_are_sequential()
     ensures { ReportsAreSequential }
 {}

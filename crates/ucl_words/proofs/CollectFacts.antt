@@ -1,5 +1,5 @@
 -- The clean double collect: loads of all words, twice, and anew where a word was another.
-use Rattle.std.proofs.Common.{◌≡◌, ◌≢◌, inl, inr, ℕ, ◌+◌, ◌<◌, ◌≤◌, List, [], ◌∷◌, ◌++◌, length, take, set, Option, Some, None, refl, sym, ap, ◌∙◌, subst, arith, le_refl}
+use Rattle.std.proofs.Common.{◌≡◌, ◌≢◌, ℕ, ◌+◌, ◌<◌, ◌≤◌, List, ◌∷◌, ◌++◌, length, take, set, Option, Some, None, refl, sym, ap, ◌∙◌, subst, arith, le_refl, []}
 use Rattle.std.proofs.Common.{append_assoc, append-nil, length-append, get_or-set_same}
 use Rattle.std.specs.Prelude.{slice_get, slice_index}
 use Rattle.std.specs.List.{AllByRecursion}
@@ -129,8 +129,7 @@ module _ (x u w : View) (words : List ℕ) (collects : Collects x words u) (anot
   pub tried_again : (v : View) → Tried v x → Tried v w
   tried_again v tried = record {
     tries = tried.tries ++ (collects.accesses ++ another.accesses) ∷ [];
-    walks = subst (λ (l : List Access). Walks v l w) (sym (accesses_next tried.tries (collects.accesses ++ another.accesses)))
-        (walks_on v x w (accesses_of tried.tries) (collects.accesses ++ another.accesses) tried.walks both_walks);
+    walks = search (arith, accesses_next, walks_on, both_walks);
     unclean = unclean_next tried.tries (collects.accesses ++ another.accesses) tried.unclean is_unclean;
     shown = another.shown ∙ (collects.shown ∙ tried.shown);
   }
@@ -200,13 +199,7 @@ module _ (x u w : View) (words : List ℕ) (long : length words ≡ 12) (collect
         record {
           steady = all_walks.steady;
           always = walks_continue v w all_accesses all_walks;
-          shared = record {
-            low = whole.within.0;
-            high = whole.within.1;
-            snapshot = whole.snapshot;
-            mine = all_walks.mine;
-            shown = again.shown ∙ ap (λ (l : List ℕ). l ++ length u.seen ∷ []) (collects.shown ∙ tried.shown);
-          };
+          shared = search (arith, whole, all_walks);
           steps = record {
             accesses = all_accesses;
             leaves = all_walks.leaves;

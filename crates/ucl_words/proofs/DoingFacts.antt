@@ -1,5 +1,5 @@
 -- What the steps of a call leave as done and as held.
-use Rattle.std.proofs.Common.{◌≡◌, ◌≢◌, ◌⊎◌, inl, inr, ℕ, zero, suc, ◌+◌, ◌<◌, ◌≤◌, ◌==◌, Bool, true, cond, List, [], ◌∷◌, ◌++◌, take, length, set, Some, None, Ok, refl, sym, ap, ◌∙◌, subst, arith}
+use Rattle.std.proofs.Common.{◌≡◌, ◌≢◌, ◌⊎◌, inl, inr, ℕ, zero, suc, ◌+◌, ◌<◌, ◌≤◌, ◌==◌, Bool, true, cond, List, ◌∷◌, ◌++◌, take, length, set, Some, None, Ok, refl, sym, ap, ◌∙◌, subst, arith, []}
 use Rattle.std.proofs.Common.{eq-eqb, ne_eqb}
 use Rattle.std.specs.Prelude.{slice_index}
 use Rattle.std.proofs.lemmas.List.{length-take-le}
@@ -10,7 +10,7 @@ use Rattle.ucl_word.specs.declared.event.Accepted.{Accepted}
 use Rattle.ucl_word.specs.declared.refusal.Refusal.{Refusal}
 use Rattle.ucl_word.specs.declared.refusal.Refusal.TheVariants.{Stale}
 use Rattle.ucl_word.specs.Rules.{refusal_of, after, reply_of}
-use Rattle.ucl_word.specs.Layout.{word_of, record_at, IsWord}
+use Rattle.ucl_word.specs.Layout.{record_at, IsWord}
 use Rattle.ucl_word.proofs.AcceptedEvents.{after_number}
 use Rattle.ucl_word.proofs.Words.{word_packed}
 use Rattle.ucl_board.specs.declared.reading.Reading.{Reading}
@@ -19,7 +19,7 @@ use Rattle.ucl_board.specs.Log.{First, Second}
 use Rattle.ucl_steps.specs.declared.step.Call.TheVariants as calls
 use Rattle.ucl_steps.specs.declared.trace.Reply.{Reply}
 use Rattle.ucl_steps.specs.declared.trace.Reply.TheVariants as replies
-use Rattle.ucl_steps.specs.Protocol.{Held, Nothing, Holding, Collecting, Checking, Outcome, GoesOn, Answers, by_rules, Doing, goes, ends, done_by, IsNext, after_look, after_swap, collected}
+use Rattle.ucl_steps.specs.Protocol.{Held, Nothing, Holding, Collecting, Checking, Outcome, GoesOn, Answers, Doing, goes, ends, done_by, IsNext, after_look, after_swap, collected}
 use Rattle.ucl_steps.specs.Protocol.{firsts_holding, after_first, after_second}
 use Rattle.ucl_steps.proofs.OneStep.{none_of}
 use Rattle.ucl_words.specs.declared.view.WordView.{WordView}
@@ -91,8 +91,7 @@ begin_by : (h : Held) → MayCollect h → (n now : ℕ) (d : Doing)
     → IsNext First 1 h × ((begun : ℕ) × (firsts_holding h n now d ≡ goes begun (collected (n ∷ []) now) d) × ((seen : ℕ) → seen ≤ now → IsBegun h seen d.begun begun))
 begin_by Nothing may n now d = (refl, (now, refl, λ seen le. le))
 begin_by (Collecting words) may n now d = (ap (λ (l : List ℕ). length l + 1) (sym may), (d.begun, ap (λ (l : List ℕ). goes d.begun (collected (l ++ n ∷ []) now) d) may, λ seen le. refl))
-begin_by (Holding e old new) may n now d = absurd may
-begin_by (Checking words checked point) may n now d = absurd may
+begin_by x may n now d = absurd may
 
 module _ (seen : ℕ) (d : Doing) (words : List ℕ) (i now : ℕ) (f : Doing) (less : i < 12) (long : length words ≡ 12) (may : MayCollect d.held) where
   some_words : length (take i words) ≡ i
@@ -107,15 +106,7 @@ module _ (seen : ℕ) (d : Doing) (words : List ℕ) (i now : ℕ) (f : Doing) (
   pub first_on : (n later : ℕ) (g : Doing) → seen ≤ later → g ≡ after_first n later f → Firsts seen d words i now f → Firsts seen d (set words i n) (i + 1) later g
   first_on n later g grown is (inl t) =
       let start = (begin_by d.held may n later d).1 in
-      inr (
-        omega arith,
-        record {
-          begun = start.0;
-          begins = start.2 seen grown;
-          does = is ∙ (ap (after_first n later) t.1 ∙ (start.1
-              ∙ ap (λ (l : List ℕ). goes start.0 (collected l later) d) (sym (take_set words i n (omega arith) ∙ ap (λ (k : ℕ). take k words ++ n ∷ []) t.0))));
-        },
-      )
+      search (arith, begin_by, take_set)
   first_on n later g grown is (inr t) = search (arith, still_collecting, take_set)
 
 pub firsts_all : (seen : ℕ) (d : Doing) (words : List ℕ) (i now : ℕ) (f : Doing) → length words ≡ 12 → i ≡ 12 → Firsts seen d words i now f → HasFirsts seen d words now f

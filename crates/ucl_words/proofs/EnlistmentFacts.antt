@@ -1,5 +1,5 @@
 -- What an enlistment and a meeting leave a pass with.
-use Rattle.std.proofs.Common.{◌≡◌, ◌≢◌, ℕ, ◌+◌, ◌<◌, ◌≤◌, true, ◌∷◌, ◌++◌, [], length, List, Some, None, inl, inr, refl, sym, ap, ◌∙◌, subst, arith, le_refl, append-nil}
+use Rattle.std.proofs.Common.{◌≡◌, ◌≢◌, ℕ, ◌+◌, ◌<◌, ◌≤◌, ◌∷◌, ◌++◌, length, List, Some, None, inl, inr, refl, sym, ap, ◌∙◌, subst, arith, le_refl, append-nil, []}
 use Rattle.std.proofs.lemmas.List.Elements.{All-head, All-tail}
 use Rattle.std.specs.Prelude.{Option, IfSome, IsSome}
 use Rattle.std.proofs.lemmas.Bool.{false≢true}
@@ -92,11 +92,7 @@ module _ (v x w : View) (n found : ℕ) (was : Missed v x n) where
         let next : Taken = step_taken (Enlisted found) (length w.seen) None in
         let goes = missed.sees.goes in
         record {
-          steady = record {
-            sound = record { legal = goes.legal; own = goes.own; few = goes.few; acts = goes.acts; alone = goes.alone };
-            told = goes.told;
-            trail = trail_kept x w was.steady.trail goes.seen (no_access x w found missed.sees.takes);
-          };
+          steady = search (arith, trail_kept, no_access);
           on = record { seen = begins_through v.seen x.seen w.seen was.on.seen goes.seen; listed = omega arith; share = goes.share ∙ was.on.share };
           mine = missed.sees.mine ∙ was.mine;
           number = missed.sees.number ∙ was.number;
@@ -122,9 +118,6 @@ module _ (v x w : View) (n found : ℕ) (was : Missed v x n) where
 
     pub won_trail : KeepsTrail v w
     won_trail = search (arith, one_more, no_access, won_steady)
-
-    pub won_taken : count_of w ≤ count_of v + 255
-    won_taken = let one = one_step x w found won.enlists.takes in let taken = was.taken in omega arith
 
     pub won_number : w.number ≡ n + 1
     won_number = won.enlists.number ∙ (won.listed ∙ ap (λ (k : ℕ). k + 1) same)

@@ -1,5 +1,5 @@
 -- The steps of one pass while no pass finishes a call.
-use Rattle.std.proofs.Common.{◌≡◌, ℕ, zero, suc, ◌+◌, ◌<◌, ◌≤◌, ◌==◌, Bool, true, false, cond, List, [], ◌∷◌, ◌++◌, length, map, inl, inr, refl, sym, ap, ◌∙◌, subst, arith}
+use Rattle.std.proofs.Common.{◌≡◌, ℕ, zero, suc, ◌+◌, ◌<◌, ◌≤◌, ◌==◌, Bool, true, false, cond, List, ◌∷◌, ◌++◌, length, map, inl, inr, refl, sym, subst, arith, []}
 use Rattle.std.proofs.Common.{le_refl, length-append, ne_eqb}
 use Rattle.std.specs.Prelude.{◌≢◌, ◌*◌, All, filter}
 use mathlib.Core.Bool.{not}
@@ -9,7 +9,7 @@ use mathlib.Core.Option.{some}
 use lib.ListN.{get_elem?}
 use Rattle.atomic_table.specs.Table.{State}
 use Rattle.ucl_board.specs.declared.entry.Entry.{Entry}
-use Rattle.ucl_board.specs.Log.{Access, Target, Match, Enlisted, Whole, Logged, Log, taken_by, access_list, accesses_in}
+use Rattle.ucl_board.specs.Log.{Access, Logged, Log, taken_by, access_list, accesses_in}
 use Rattle.ucl_steps.specs.Actors.{Actor, accesses_of_log, IsRunOfLog}
 use Rattle.ucl_steps.specs.Growing.{HaveGoneOn}
 use Rattle.ucl_steps.proofs.Seats.{map_at, map_long, place_below}

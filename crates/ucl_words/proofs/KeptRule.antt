@@ -1,5 +1,5 @@
 -- Each kind of atomic step on the table keeps the rule, and tells its pass what it says.
-use Rattle.std.proofs.Common.{◌≡◌, Some, ℕ, zero, suc, ◌+◌, ◌-◌, ◌==◌, ◌<◌, ◌≤◌, List, [], ◌∷◌, ◌++◌, length, set, get_or, refl, sym, ap, ◌∙◌, subst, arith, append-nil, length-append, length-set}
+use Rattle.std.proofs.Common.{◌≡◌, Some, ℕ, ◌+◌, ◌-◌, ◌==◌, ◌<◌, ◌≤◌, List, ◌∷◌, ◌++◌, length, set, get_or, refl, sym, ap, ◌∙◌, subst, arith, append-nil, length-append, length-set, []}
 use Rattle.std.specs.Prelude.{IsSome}
 use Rattle.std.proofs.lemmas.List.{set-get_or}
 use mathlib.Core.Option.{none, some}
@@ -18,12 +18,13 @@ use Rattle.ucl_board.specs.History.{match_after, board_of, IsLegal, followed_by,
 use Rattle.ucl_board.specs.Log.{AccessKind, Look, First, Second, Swap, Target, Match, Enlisted, history_of, Access, access, Taken, Log, IsThere}
 use Rattle.ucl_board.proofs.Histories.{word_after, board_with}
 use Rattle.ucl_shared.specs.declared.view.View.{View}
-use Rattle.ucl_shared.specs.Views.{newcomer, opener}
+use Rattle.ucl_shared.specs.Views.{opener}
 use Rattle.ucl_shared.specs.OneHistory.{KeepsOneHistory}
 use Rattle.ucl_shared.specs.Steps.{Enlists}
 use Rattle.ucl_shared.proofs.KeptRule.{logged, look, looked, same_history, look_keeps, look_same, look_tells, add, entered, longer_history, add_keeps, add_same, add_tells, count, enlisted_as}
 use Rattle.ucl_shared.proofs.KeptRule.{unchanged_history, enlist_keeps, enlist_same, enlist_tells, second_added, second_same, note_added, note_same, note_joined, joined_same}
 use Rattle.ucl_shared.proofs.KeptRule as moves
+use Rattle.ucl_shared.proofs.KeptBoards.{apart, low, Kept, kept, one_more, joined}
 use Rattle.ucl_steps.specs.declared.step.Caller.{Caller}
 use Rattle.ucl_steps.specs.declared.step.Caller.TheVariants.{Reporter, Reader}
 use Rattle.ucl_steps.specs.declared.step.Cast.{Cast}
@@ -34,7 +35,7 @@ use Rattle.ucl_steps.specs.PassRuns.{cast_for, FitsRun, steps_of_moves}
 use Rattle.ucl_steps.specs.Actors.{Actor, IsTakenBy, accesses_of_log, IsRunOfLog}
 use Rattle.ucl_steps.proofs.OneStep.{IsNow}
 use Rattle.ucl_steps.proofs.PassSteps.{Turn, turn_look, turn_firsts, turn_seconds, turn_swapped, turn_kept_out}
-use Rattle.ucl_steps.proofs.Seats.{map_at, map_there, map_set, map_more, map_long, set_same, place_below}
+use Rattle.ucl_steps.proofs.Seats.{map_at, map_set, set_same, place_below}
 use Rattle.ucl_steps.proofs.ActorRuns.{Apart, logged_accesses, log_kept, log_stepped, log_enlisted, log_more, log_begins}
 use Rattle.ucl_words.specs.declared.view.WordView.{WordView}
 use Rattle.ucl_words.specs.WordViews.{new_pass, first_pass, left_pass, second_pass, note_pass, told_pass}
@@ -63,23 +64,17 @@ enlist_word s r = ap (λ (ws : List ℕ). get_or ws 0 0) r.shared.words_are
 there_now : (s : Position) (r : TableKeepsOneHistory s) (kind : AccessKind) (game : ℕ) → IsMatch game → IsThere (history_of r.shared.log) (Match kind game (get_or s.words game 0))
 there_now s r kind game is = (is, match_word s r game is.0 ∙ word_after (history_of r.shared.log) game is)
 
--- the same rule of the same words and views
-moved : (words words' : List ℕ) (views views' : List View) (r : KeepsOneHistory words_after words views) → words ≡ words' → views ≡ views'
-    → (q : KeepsOneHistory words_after words' views') × (q.enlisted ≡ r.enlisted) × (q.log ≡ r.log)
-moved words words' views views' r a b =
-    subst (λ (vs : List View). (q : KeepsOneHistory words_after words' vs) × (q.enlisted ≡ r.enlisted) × (q.log ≡ r.log)) b
-    (subst (λ (ws : List ℕ). (q : KeepsOneHistory words_after ws views) × (q.enlisted ≡ r.enlisted) × (q.log ≡ r.log)) a (r, refl, refl))
+abbrev pass_of : WordView → View
+pass_of v = v.pass
 
 -- the rule of the table from its two parts
+of_kept : (s : Position) → Kept words_after pass_of word_actor IsRunOfLog s.words s.views → TableKeepsOneHistory s
+of_kept s k = record { shared = k.rule; one_run = k.runs }
+
 both : (s : Position) (words : List ℕ) (views : List View) (q : KeepsOneHistory words_after words views) (n : ℕ) (l : Log) → words ≡ s.words → views ≡ known s.views → q.enlisted ≡ n → q.log ≡ l
     → ((readers : ℕ) → length s.views ≤ readers → IsRunOfLog readers n l (word_actors s.views)) → TableKeepsOneHistory s
-both s words views q n l a b c d run =
-    let t = moved words s.words views (known s.views) q a b in
-    record {
-      shared = t.0;
-      one_run = λ readers all. subst (λ (z : Log). IsRunOfLog readers t.0.enlisted z (word_actors s.views)) (sym (t.2 ∙ d))
-          (subst (λ (k : ℕ). IsRunOfLog readers k l (word_actors s.views)) (sym (t.1 ∙ c)) (run readers all));
-    }
+both s words views q n l a b c d run = of_kept s
+    (subst (λ (ws : List ℕ). Kept words_after pass_of word_actor IsRunOfLog ws s.views) a (kept words_after pass_of word_actor IsRunOfLog words s.views views q n l b c d run))
 
 -- views and actors
 
@@ -105,18 +100,12 @@ acted_still readers enlisted log log' views seat v w here number doing is trace 
     (log_kept readers enlisted log log' (word_actors views) run is trace))
 
 pub apart_actors : (s : Position) (r : TableKeepsOneHistory s) → Apart (word_actors s.views)
-apart_actors s r i j a b at bt pos same = search (arith, map_there, known_at)
+apart_actors s r = apart words_after pass_of word_actor (λ a. a.number) (λ v. refl) s.words s.views r.shared
 
 low_actors : (s : Position) (r : TableKeepsOneHistory s) (j : ℕ) (a : Actor) → get_elem? (word_actors s.views) j ≡ some a → a.number ≤ r.shared.enlisted
-low_actors s r j a at =
-    let v = map_there word_actor s.views j a at in
-    let n : v.0.pass.number ≡ a.number = ap (λ (z : Actor). z.number) v.2 in
-    let low = (r.shared.fits j v.0.pass (known_at s.views j v.0 v.1)).number in
-    omega arith
+low_actors s r = low words_after pass_of word_actor (λ a. a.number) (λ v. refl) s.words s.views r.shared
 
 module _ (s : Position) (r : TableKeepsOneHistory s) (seat : ℕ) (v : WordView) (here : get_elem? s.views seat ≡ some v) (acts : IsSome v.pass.share) where
-  abbrev base : KeepsOneHistory words_after s.words (known s.views)
-  base = r.shared
 
   abbrev there_is : get_elem? (known s.views) seat ≡ some v.pass
   there_is = known_at s.views seat v here
@@ -223,12 +212,7 @@ loads_by slots seat game m kind doing shown acts is turn tells tell s r _ here _
     (λ readers one now. turn (cast_for readers) (steps_of_moves one.of_actors.moves) one.of_actors.state one.of_actors.run
     (one.of_actors.each seat (word_actor v) (map_at word_actor s.views seat v here)) (here_access s r seat v here acts kind game is (shown n)) now refl refl)
     m.1 in
-    let loads : LoadsMatch kind game v.pass n w =
-    record {
-      sees = look_tells words_after s.words (known s.views) r.shared seat v.pass (known_at s.views seat v here) acts (Match kind game n) (there_now s r kind game is) v.pass.listed (shown n)
-          f.listed;
-      listed = refl;
-    } in
+    let loads : LoadsMatch kind game v.pass n w = search (arith, look_tells, known_at, there_now) in
     (then, keeps, tt, kept, tell n w loads refl (λ place is_seat. stands_after s game n seat m.1 v then here kept place is_seat))
 
 pub looks : (slots seat game place : ℕ) (m : Me Entry WordView) (e : EventCall) → place ≡ seat → IsSome m.0.pass.share → IsMatch game → e.game ≡ game → IsReporter m.0.pass.number
@@ -322,8 +306,7 @@ module _ (s : Position) (r : TableKeepsOneHistory s) (seat : ℕ) (v : WordView)
   swap_keeps cs =
       let history = history_of r.shared.log in
       let f = r.shared.fits seat v.pass at_pass in
-      let are : set s.words e.game new ≡ words_after (followed_by history e) r.shared.enlisted =
-      ap (λ (ws : List ℕ). set ws e.game new) r.shared.words_are ∙ (set_match r.shared.enlisted (board_of history) e.game new is.0 ∙ ap (λ (b : List ℕ). r.shared.enlisted ∷ b) next_is.0) in
+      let are : set s.words e.game new ≡ words_after (followed_by history e) r.shared.enlisted = search (arith, set_match, next_is) in
       let there = there_now s r Swap e.game is in
       let same = add_same words_after s.words (known s.views) r.shared seat v.pass at_pass acts e (get_or s.words e.game 0) there pos me next_is.1 v.pass.listed f.listed (set s.words e.game new)
       are in
@@ -398,10 +381,7 @@ swaps slots seat place m e old new is_seat acts is pos me next holds s r _ here 
       kept,
       record {
         won = λ hit. absurd (miss hit);
-        missed = λ _. record {
-          loads = record { sees = look_tells words_after s.words (known s.views) r.shared seat v.pass at acts target there v.pass.listed v.pass.shown f.listed; listed = refl };
-          shown = refl;
-        };
+        missed = search (arith, look_tells);
         doing = refl;
         stands = stands_after s e.game n seat m.1 v (record { pass = w; doing = after_swap n (length w.seen) v.doing }) here kept place is_seat;
       },
@@ -424,8 +404,7 @@ enlists slots seat place m old is_seat acts reader nothing room s r _ here _ =
     let same : old + 1 ≡ r.shared.enlisted + 1 = omega arith in
     let w : WordView = record { pass = enlisted_as words_after s.words (known s.views) r.shared seat v.pass at acts reader left; doing = v.doing } in
     let taken : Taken = count words_after s.words (known s.views) r.shared seat v.pass at acts reader left in
-    let are : set s.words 0 (old + 1) ≡ words_after (history_of r.shared.log) (r.shared.enlisted + 1) =
-    ap (λ (ws : List ℕ). set ws 0 (old + 1)) r.shared.words_are ∙ ap (λ (k : ℕ). k ∷ board_of (history_of r.shared.log)) same in
+    let are : set s.words 0 (old + 1) ≡ words_after (history_of r.shared.log) (r.shared.enlisted + 1) = search arith in
     let kept = enlist_same words_after s.words (known s.views) r.shared seat v.pass at acts reader left (set s.words 0 (old + 1)) are in
     let rule = both (stepped s 0 (old + 1) seat m.1 w keeps) (set s.words 0 (old + 1)) (set (known s.views) seat w.pass)
     (enlist_keeps words_after s.words (known s.views) r.shared seat v.pass at acts reader left (set s.words 0 (old + 1)) are)
@@ -470,28 +449,19 @@ enlists slots seat place m old is_seat acts reader nothing room s r _ here _ =
     ))
 
 -- one pass more, that has done nothing, beside one that has done what it had done
-module _ (seat : ℕ) (v : WordView) (s : Position) (r : TableKeepsOneHistory s) (here : get_elem? s.views seat ≡ some v) (u w : WordView) (same : u.pass.number ≡ v.pass.number)
-    (done : u.doing ≡ v.doing) (none : w.doing ≡ nothing_done) (number : w.pass.number ≡ 0) where
-  split_keeps : (q : KeepsOneHistory words_after s.words (set (known s.views) seat u.pass ++ w.pass ∷ [])) → q.enlisted ≡ r.shared.enlisted → q.log ≡ r.shared.log
-      → TableKeepsOneHistory record { words = s.words; homes = s.homes; views = set s.views seat u ++ w ∷ [] }
-  split_keeps q enlisted log =
-      both record { words = s.words; homes = s.homes; views = set s.views seat u ++ w ∷ [] } s.words (set (known s.views) seat u.pass ++ w.pass ∷ []) q r.shared.enlisted r.shared.log refl
-      (sym (map_more (λ (z : WordView). z.pass) (set s.views seat u) w ∙ ap (λ (l : List View). l ++ w.pass ∷ []) (known_set s.views seat u))) enlisted log
-      (λ readers all.
-      let long = length-append (set s.views seat u) (w ∷ []) in
-      let wide = length-set s.views seat u in
-      let actors = map_long word_actor (set s.views seat u) in
-      let is : word_actor w ≡ record { number = 0; doing = nothing_done } = (λ i. record { number = number i; doing = none i }) in
-      subst (λ (l : List Actor). IsRunOfLog readers r.shared.enlisted r.shared.log l)
-      (sym (map_more word_actor (set s.views seat u) w ∙ ap (λ (a : Actor). word_actors (set s.views seat u) ++ a ∷ []) is))
-      (log_more readers r.shared.enlisted r.shared.log (word_actors (set s.views seat u))
-      (acted_still readers r.shared.enlisted r.shared.log r.shared.log s.views seat v u here same done refl refl (r.one_run readers (omega arith))) (omega arith)))
+split_keeps : (seat : ℕ) (v : WordView) (s : Position) (r : TableKeepsOneHistory s) (here : get_elem? s.views seat ≡ some v) (u w : WordView) → word_actor u ≡ word_actor v
+    → word_actor w ≡ record { number = 0; doing = nothing_done }
+    → (q : KeepsOneHistory words_after s.words (set (known s.views) seat u.pass ++ w.pass ∷ [])) → q.enlisted ≡ r.shared.enlisted → q.log ≡ r.shared.log
+    → TableKeepsOneHistory record { words = s.words; homes = s.homes; views = set s.views seat u ++ w ∷ [] }
+split_keeps seat v s r here u w same is q enlisted log = of_kept (record { words = s.words; homes = s.homes; views = set s.views seat u ++ w ∷ [] })
+    (one_more words_after pass_of word_actor IsRunOfLog s.words s.views r.shared r.one_run seat v here (record { number = 0; doing = nothing_done })
+    (λ readers actors one less. log_more readers r.shared.enlisted r.shared.log actors one less) u w same is q enlisted log)
 
 pub seconds : (seat : ℕ) (v : WordView) → Splits TableKeepsOneHistory seat v (left_pass v) (second_pass v)
 seconds seat v s r here =
     let at = known_at s.views seat v here in
     let same = second_same words_after s.words (known s.views) r.shared seat v.pass at in
-    split_keeps seat v s r here (left_pass v) (second_pass v) refl refl refl refl (second_added words_after s.words (known s.views) r.shared seat v.pass at) same.0 same.1
+    split_keeps seat v s r here (left_pass v) (second_pass v) refl refl (second_added words_after s.words (known s.views) r.shared seat v.pass at) same.0 same.1
 
 -- a pass that another was split off still stands, beside that one
 pub split_stands : (v : WordView) → StandAfterSplit v (left_pass v) (second_pass v)
@@ -511,25 +481,18 @@ pub notes : (seat : ℕ) (v : WordView) → Splits TableKeepsOneHistory seat v v
 notes seat v s r here =
     let at = known_at s.views seat v here in
     let same = note_same words_after s.words (known s.views) r.shared seat v.pass at in
-    split_keeps seat v s r here v (note_pass v) refl refl refl refl (note_added words_after s.words (known s.views) r.shared seat v.pass at) same.0 same.1
+    split_keeps seat v s r here v (note_pass v) refl refl (note_added words_after s.words (known s.views) r.shared seat v.pass at) same.0 same.1
 
 pub joins : (seat : ℕ) (v : WordView) (other : ℕ) (a : WordView) → Joins TableKeepsOneHistory seat v other (note_pass a) (told_pass v (note_pass a)) new_pass
 joins seat v other a s r here apart there =
     let at = known_at s.views seat v here in
     let told = told_pass v (note_pass a) in
     let note = note_pass a in
-    let views = set s.views seat told in
-    let is : known views ≡ set (known s.views) seat told.pass = known_set s.views seat told in
-    let theirs : get_elem? (set (known s.views) seat told.pass) other ≡ some note.pass = subst (λ (l : List View). get_elem? l other ≡ some note.pass) is (known_at views other note there) in
+    let theirs : get_elem? (set (known s.views) seat told.pass) other ≡ some note.pass = search (arith, get_elem?, known_set, known_at) in
     let same = joined_same words_after s.words (known s.views) r.shared seat v.pass at other note.pass apart theirs refl refl in
-    both record { words = s.words; homes = s.homes; views = set views other new_pass } s.words (set (set (known s.views) seat told.pass) other newcomer)
-    (note_joined words_after s.words (known s.views) r.shared seat v.pass at other note.pass apart theirs refl refl) r.shared.enlisted r.shared.log refl
-    (sym (known_set views other new_pass ∙ ap (λ (l : List View). set l other newcomer) is)) same.0 same.1
-    (λ readers all.
-    let wide = length-set s.views seat told in
-    let wider = length-set views other new_pass in
-    let one = acted_still readers r.shared.enlisted r.shared.log r.shared.log s.views seat v told here refl refl refl refl (r.one_run readers (omega arith)) in
-    acted_still readers r.shared.enlisted r.shared.log r.shared.log views other note new_pass there refl refl refl refl one)
+    of_kept (record { words = s.words; homes = s.homes; views = set (set s.views seat told) other new_pass })
+    (joined words_after pass_of word_actor IsRunOfLog s.words s.views r.shared r.one_run seat v here told other note new_pass there refl refl
+    (note_joined words_after s.words (known s.views) r.shared seat v.pass at other note.pass apart theirs refl refl) same.0 same.1)
 
 -- a board may open with the words of no event and no reporter
 pub opens : (words : List ℕ) → words ≡ words_after [] 0 → TableKeepsOneHistory (opening words [] first_pass)

@@ -1,31 +1,27 @@
 -- Each step on the table lets its pass go on, so a later state of a board goes on from an earlier one.
-use Rattle.std.proofs.Common.{◌≡◌, ℕ, ◌+◌, ◌==◌, ◌<◌, Bool, true, false, if◌then◌else◌, Option, Some, None, List, [], ◌∷◌, ◌++◌, length, map, set}
+use Rattle.std.proofs.Common.{◌≡◌, ℕ, ◌+◌, ◌<◌, Bool, false, if◌then◌else◌, Option, List, ◌∷◌, ◌++◌, length, set, []}
 use Rattle.std.proofs.Common.{slice_index, refl, sym, ap, ◌∙◌, subst, arith, append-nil, append_assoc}
 use Rattle.std.proofs.lemmas.List.{map-append}
 use mathlib.Core.List.{IsPrefix}
 use mathlib.Core.Logic.{dite}
-use mathlib.Core.Option.{some, none, some-injective}
+use mathlib.Core.Option.{some, none}
 use mathlib.Core.Option as library
 use lib.ListN.{get_elem?}
 use native.Mathlib.Decide.{ℕ_discrete}
-use Rattle.atomic_table.specs.Table.{State, stepped, carried_after}
+use Rattle.atomic_table.specs.Table.{State}
 use Rattle.atomic_table.proofs.Lists.{set_here, set_else, at_longer}
 use Rattle.ucl_word.specs.declared.event.EventCall.{EventCall}
 use Rattle.ucl_word.specs.declared.refusal.Refusal.{Refusal}
-use Rattle.ucl_word.specs.Rules.{refusal_of}
-use Rattle.ucl_word.specs.Layout.{record_at}
 use Rattle.ucl_board.specs.declared.entry.Entry.{Entry}
-use Rattle.ucl_board.specs.History.{reading_of}
 use Rattle.ucl_board.specs.Log.{Taken, Log}
 use Rattle.ucl_board.proofs.Beginnings.{begins_same, begins_none, begins_through}
 use Rattle.ucl_steps.specs.declared.step.Call.{Call}
 use Rattle.ucl_steps.specs.declared.step.Call.TheVariants.{Event, Reading}
 use Rattle.ucl_steps.specs.declared.trace.Reply.{Reply}
-use Rattle.ucl_steps.specs.declared.trace.Reply.TheVariants.{Copied}
 use Rattle.ucl_steps.specs.Actors.{Actor}
 use Rattle.ucl_steps.specs.Growing.{HasGoneOn}
 use Rattle.ucl_steps.specs.PassRuns.{calls_asked, call_under_way}
-use Rattle.ucl_steps.specs.Protocol.{Held, Nothing, Holding, Collecting, Checking, Answer, Doing, nothing_done, Outcome, GoesOn, Answers, looked, by_rules, loaded, compared, swapped}
+use Rattle.ucl_steps.specs.Protocol.{Held, Nothing, Holding, Collecting, Checking, Answer, Doing, nothing_done, Outcome, GoesOn, Answers, by_rules, loaded}
 use Rattle.ucl_steps.specs.Protocol.{done_by, after_look, swaps_holding, firsts_holding, seconds_holding}
 use Rattle.ucl_steps.proofs.GoneOn.{actors_through, PassesGoOn, passes_through, one_goes_on, one_comes, actors_go}
 use Rattle.ucl_steps.proofs.Seats.{map_at, map_there, map_set, map_more, place_below}
@@ -36,7 +32,7 @@ use Rattle.ucl_shared.proofs.LaterLogs.{says_found, log_after, one_log, given_af
 use Rattle.ucl_shared.proofs.KeptRule.{second_added, second_same, note_added, note_same, note_joined, joined_same}
 use Rattle.ucl_words.specs.declared.view.WordView.{WordView}
 use Rattle.ucl_words.specs.WordViews.{left_pass, second_pass, note_pass, told_pass, new_pass}
-use Rattle.ucl_words.specs.WordRule.{words_after, known, word_actor, word_actors, TableKeepsOneHistory}
+use Rattle.ucl_words.specs.WordRule.{words_after, known, word_actor, TableKeepsOneHistory}
 use Rattle.ucl_words.specs.WordSteps.{LogsOneStep, WonFor, LookStep, FirstStep, SecondStep, EnlistedStep, ExchangeStep, EnlistStep}
 use Rattle.ucl_words.specs.Later.{StepKind, LetsGoOn, PassSteps, PassSplits, PassHears, StepsTo, LeadsTo, StepsLeadOn, FindsEnlisted}
 use Rattle.ucl_words.specs.Later.{ByLook, ByFirst, BySecond, ByCount, BySwap, ByEnlist, BySplit, ByNote, ByHearing}
@@ -85,8 +81,7 @@ first_stays b words now = search arith
 first_goes : (found now : ℕ) (d : Doing) (held : Held) → d.held ≡ held → DoesOn d (firsts_holding held found now d)
 first_goes found now d Nothing is = does_by d Reading now now (loaded [] found now) (begins_here d Nothing (Reading ∷ []) is (begins_none (Reading ∷ []))) (first_stays false (found ∷ []) now)
 first_goes found now d (Collecting words) is = search (arith, does_by, begins_here, begins_same, first_stays)
-first_goes found now d (Holding e old new) is = does_same d d refl
-first_goes found now d (Checking words checked point) is = does_same d d refl
+first_goes found now d x is = does_same d d refl
 
 second_stays : (a b : Bool) (reply : Reply) (words : List ℕ) (checked point : ℕ)
     → StaysIn Reading (if a then (if b then Answers reply else GoesOn (Checking words checked point)) else GoesOn (Collecting []))
@@ -94,15 +89,11 @@ second_stays a b reply words checked point = search arith
 
 second_goes : (found now : ℕ) (d : Doing) (held : Held) → d.held ≡ held → DoesOn d (seconds_holding held found now d)
 second_goes found now d (Checking words checked point) is = search (arith, does_by, begins_here, begins_same, second_stays)
-second_goes found now d Nothing is = does_same d d refl
-second_goes found now d (Collecting words) is = does_same d d refl
-second_goes found now d (Holding e old new) is = does_same d d refl
+second_goes found now d x is = does_same d d refl
 
 swap_goes : (found now : ℕ) (d : Doing) (held : Held) → d.held ≡ held → DoesOn d (swaps_holding held found now d)
 swap_goes found now d (Holding e old new) is = search (arith, does_by, begins_here, begins_same)
-swap_goes found now d Nothing is = does_same d d refl
-swap_goes found now d (Collecting words) is = does_same d d refl
-swap_goes found now d (Checking words checked point) is = does_same d d refl
+swap_goes found now d x is = does_same d d refl
 
 -- passes as actors
 
@@ -198,8 +189,7 @@ module _ (s t : State Entry WordView) (r : TableKeepsOneHistory s) (q : TableKee
       let number : p.note.pass.number ≡ 0 = ap (λ (z : WordView). z.pass.number) p.is_note in
       let own : p.note.pass.own ≡ [] = ap (λ (z : WordView). z.pass.own) p.is_note in
       let doing : p.note.doing ≡ nothing_done = ap (λ (z : WordView). z.doing) p.is_note in
-      let theirs : get_elem? (set (known s.views) p.seat told.pass) p.other ≡ some p.note.pass =
-      set_else (known s.views) p.seat p.other told.pass p.apart ∙ known_at s.views p.other p.note p.there in
+      let theirs : get_elem? (set (known s.views) p.seat told.pass) p.other ≡ some p.note.pass = search (arith, set_else, known_at) in
       let r2 = note_joined words_after s.words (known s.views) r.shared p.seat p.was.pass at p.other p.note.pass p.apart theirs number own in
       let same = joined_same words_after s.words (known s.views) r.shared p.seat p.was.pass at p.other p.note.pass p.apart theirs number own in
       let views = set s.views p.seat told in
@@ -238,10 +228,7 @@ leads_on s [] t r q steps = one_step s t r q steps
 leads_on s (u ∷ us) t r q steps =
     let a = one_step s u r steps.1 steps.0 in
     let b = leads_on u us t steps.1 q steps.2 in
-    record {
-      log = begins_through r.shared.log steps.1.shared.log q.shared.log a.log b.log;
-      passes = actors_through (word_actors s.views) (word_actors u.views) (word_actors t.views) a.passes b.passes;
-    }
+    search (arith, one_step, begins_through, actors_through)
 
 pub later_go_on : LaterBoardsGoOn
 later_go_on s t r q later = leads_on s later.between t r q later.steps

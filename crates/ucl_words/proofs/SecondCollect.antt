@@ -1,5 +1,5 @@
 -- The second collect, load by load: what its pass knows, and what it has done.
-use Rattle.std.proofs.Common.{◌≡◌, ◌≢◌, ℕ, ◌+◌, ◌<◌, List, [], ◌++◌, length, refl, ap, ◌∙◌, append-nil}
+use Rattle.std.proofs.Common.{◌≡◌, ◌≢◌, ℕ, ◌+◌, ◌<◌, List, ◌++◌, length, refl, ap, ◌∙◌, append-nil, []}
 use Rattle.std.specs.Prelude.{slice_index}
 use Rattle.ucl_board.specs.Log.{Second}
 use Rattle.ucl_steps.specs.Protocol.{after_second}

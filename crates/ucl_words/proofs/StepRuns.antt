@@ -1,5 +1,5 @@
 -- Steps on match words, one after another.
-use Rattle.std.proofs.Common.{◌≡◌, ℕ, ◌+◌, List, [], ◌∷◌, ◌++◌, length, map, None, refl, sym, ap, ◌∙◌, subst, arith, le_refl, append_assoc, append-nil, length-append}
+use Rattle.std.proofs.Common.{◌≡◌, ℕ, ◌+◌, List, ◌∷◌, ◌++◌, length, map, None, refl, sym, ap, ◌∙◌, subst, arith, le_refl, append_assoc, append-nil, length-append, []}
 use Rattle.std.proofs.lemmas.List.{map-append}
 use mathlib.Core.List.{IsPrefix}
 use Rattle.ucl_word.specs.Layout.{word_of, IsWord}
@@ -58,8 +58,7 @@ walks_on u v w ms ns a b = record {
     takes = subst (λ (l : List Taken). Takes u l w) (sym (plain_append ms ns)) (takes_on u v w (steps_with None ms) (steps_with None ns) a.leaves.takes b.leaves.takes);
     trail = b.leaves.trail ∙ (ap (λ (x : List Access). x ++ ns) a.leaves.trail ∙ append_assoc (trail_of u) ms ns);
     taken = (let s = a.leaves.taken in let t = b.leaves.taken in omega (arith, length-append ms ns));
-    follows = follows_append w.seen (length u.seen) (length v.seen) (length w.seen) ms ns
-        (follows_longer v.seen w.seen (length u.seen) (length v.seen) ms b.on.seen (le_refl (length v.seen)) a.leaves.follows) b.leaves.follows;
+    follows = search (arith, follows_append, follows_longer, le_refl);
     whole_trail = b.leaves.whole_trail;
   };
 }

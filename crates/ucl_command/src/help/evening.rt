@@ -8,8 +8,10 @@ threads: each reporter and each screen has a file or pipe of its own.";
 /// What goes in and out, how the program ends, and examples.
 pub(crate) const PROGRAM_MORE: &str = "\
 Clubs: rows of four fields separated by commas, one a line
-  club,SLOT,NAME,COEFFICIENT     the first four: the clubs of slots 1 to 4, each
-                                 with its coefficient in thousandths
+  club,SLOT,NAME,COEFFICIENT     the first four: the clubs of slots 1 to 4, as
+                                 club,1,Alpha,60000; a name is 1 to 20 printable
+                                 ASCII characters, and a coefficient in
+                                 thousandths 1 to 9 digits, up to 999,999
   word,MATCH,WORD,               then the words of the twelve matches, if the
                                  evening begins from them: reporter 1 enters
                                  events that lead there
@@ -19,7 +21,8 @@ Clubs: rows of four fields separated by commas, one a line
 Reporters: each line of IN is answered on OUT before the next is read; a line has
 at most 256 bytes, and one with nothing on it is passed over and counted
   MATCH,EXPECTED,EVENT           the match, 1 to 12; the event number last seen of
-                                 it; the event
+                                 it; the event; as 1,0,kickoff where nothing was
+                                 seen of match 1
 
   LINE ok MATCH NUMBER VERSION   the event of this line is accepted
   LINE refused CODE NAME         it is refused, for the reason of this name
@@ -57,7 +60,7 @@ Examples, each line in a terminal of its own:
   cat north.replies
   cat > north.rows                          to type rows, up to Ctrl-D
 
-docs/RULES.md has the rules of the board, of its input and of its answers.";
+docs/ROWS.md has rows, answers and all codes; docs/RULES.md has the rules.";
 
 /// What the script is.
 pub(crate) const CLUBS: &str = "\

@@ -16,7 +16,10 @@ those of one board.
 Output: the screen of each moment that is newer than all before, worked out
 from its words, by its order; each other line is passed over. No text of a line
 is handed on. With --resume no screen, but at the end of the input the rows from
-which ucl_live goes on at the newest moment: four clubs and twelve words.
+which ucl_live goes on at the newest moment: four clubs, as
+club,1,\"Alpha\",60000, and twelve words, as word,1,2001000000001001,
+A name is 1 to 20 printable ASCII characters, and a coefficient in thousandths 1
+to 9 digits, up to 999,999.
 
 At the end of the input standard error tells how many lines came, were shown
 and were passed over; with --resume that no line told a moment, if none did.
@@ -34,7 +37,7 @@ Examples:
   ucl_follow --resume < evening.jsonl > start &&
     cat start rows | ucl_live --format json
 
-docs/RULES.md has the rules of what is followed.";
+docs/ROWS.md has rows, answers and all codes; docs/RULES.md has the rules.";
 
 /// What `--resume` does.
 pub(crate) const RESUME: &str = "\

@@ -9,13 +9,16 @@ Answers each row of standard input as it comes, on standard output.";
 pub(crate) const PROGRAM_MORE: &str = "\
 Input: rows of four fields separated by commas, one a line, of at most 256
 bytes; a line with nothing on it is passed over and counted
-  club,SLOT,NAME,COEFFICIENT     the first four: the clubs of slots 1 to 4, each
-                                 with its coefficient in thousandths
+  club,SLOT,NAME,COEFFICIENT     the first four: the clubs of slots 1 to 4, as
+                                 club,1,Alpha,60000; a name is 1 to 20 printable
+                                 ASCII characters, and a coefficient in
+                                 thousandths 1 to 9 digits, up to 999,999
   word,MATCH,WORD,               then, where a board was written down, the word
                                  of each match, 1 to 12; the board goes on there
   REPORTER,MATCH,EXPECTED,EVENT  then, in any order and without an end: who
                                  enters the event, 1 to 255; the match, 1 to 12;
-                                 the event number last seen of it; the event
+                                 the event number last seen of it; the event; as
+                                 1,1,0,kickoff where nothing was seen of match 1
   screen,,,                      the table as it stands
   words,,,                       the twelve words as they stand; the club rows
                                  and these begin the next evening
@@ -46,7 +49,7 @@ Examples:
   mkfifo rows; ucl_live --screens < rows    in one terminal, and in another
   cat > rows                                to type rows, up to Ctrl-D
 
-docs/RULES.md has the rules of the board, of its input and of its answers.";
+docs/ROWS.md has rows, answers and all codes; docs/RULES.md has the rules.";
 
 /// What `--screens` does.
 pub(crate) const SCREENS: &str = "Writes the screen after each accepted event";

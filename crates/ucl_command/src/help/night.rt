@@ -8,9 +8,14 @@ Reads standard input and writes standard output.";
 /// What goes in, how the program ends, and an example of each subcommand.
 pub(crate) const PROGRAM_MORE: &str = "\
 Input: rows of four fields separated by commas, with no header row
-  club,SLOT,NAME,COEFFICIENT     rows 1 to 4: the clubs of slots 1 to 4
-  REPORTER,MATCH,EXPECTED,EVENT  then, in a script: an event in each row
+  club,SLOT,NAME,COEFFICIENT     rows 1 to 4: the clubs of slots 1 to 4, as
+                                 club,1,Alpha,60000; a name is 1 to 20 printable
+                                 ASCII characters, and a coefficient in
+                                 thousandths 1 to 9 digits, up to 999,999
+  REPORTER,MATCH,EXPECTED,EVENT  then, in a script: an event in each row, as
+                                 1,1,0,kickoff
   word,MATCH,WORD,               or, in a sheet: the word of each match, 1 to 12
+                                 (word,1,2001000000001001,)
 
 Exit status, with a text on standard error where it is not 0:
   0  done, or help or the version was asked for
@@ -25,7 +30,7 @@ Examples:
   ucl_night show --group B < examples/two_matches_sheet.csv
   ucl_night night --readings 3 < examples/group_a_2021_night.csv
 
-docs/RULES.md has the rules of the board, of its input and of its faults.";
+docs/ROWS.md has rows, answers and all codes; docs/RULES.md has the rules.";
 
 /// What `feed` does.
 pub(crate) const FEED: &str = "Enters a script, and writes a reply for each event";
@@ -33,11 +38,14 @@ pub(crate) const FEED: &str = "Enters a script, and writes a reply for each even
 /// What `feed` takes and writes.
 pub(crate) const FEED_MORE: &str = "\
 Input, a script: rows of four fields separated by commas, with no header row
-  club,SLOT,NAME,COEFFICIENT     rows 1 to 4: the clubs of slots 1 to 4, each
-                                 with its coefficient in thousandths
+  club,SLOT,NAME,COEFFICIENT     rows 1 to 4: the clubs of slots 1 to 4, as
+                                 club,1,Alpha,60000; a name is 1 to 20 printable
+                                 ASCII characters, and a coefficient in
+                                 thousandths 1 to 9 digits, up to 999,999
   REPORTER,MATCH,EXPECTED,EVENT  each further row: who enters the event, 1 to
                                  255; the match, 1 to 12; the event number that
-                                 was last seen of the match; and the event
+                                 was last seen of the match; and the event; as
+                                 1,1,0,kickoff, where nothing was seen of it
 
 Events:
   kickoff, goal-home, goal-away, disallow-home, disallow-away, yellow-home,

@@ -9,46 +9,49 @@ use std::sync::Wait;
 use std::test::Fail;
 use ucl_command::{Format, LiveArgs};
 use ucl_devices::{Full, Out};
-use ucl_evenings::{Bell, show_boards};
+use ucl_evenings::{Bell, Screen, show_boards};
 use ucl_order::{Club, Profile, Roster};
 use ucl_runs::RunFault;
 use ucl_screen::ToWrite;
 use ucl_word::{EventCall, Kind, MatchNo};
-use ucl_words::{WordBoard, WordNote, WordReaderPass, WordReporterPass};
+use ucl_words::{WordBoard, WordReaderPass, WordReporterPass};
 
 /// How a run ended, and what it wrote.
 type Told = (Result<(), RunFault>, Vec<u8>);
 
-/// A bell that rings once: it enters a kick-off, and gives a note of it; and then it tells the end.
+/// A bell that rings once: it enters a kick-off; and then it tells the end.
 #[derive(Drop)]
 struct KickOff<'a> {
     board: &'a WordBoard,
     reporter: WordReporterPass,
     kick_off: EventCall,
-    told: Option<Snapshot<WordNote>>,
+    waited: Option<Snapshot<WordReaderPass>>,
     over: Option<Snapshot<WordReaderPass>>,
     ghost own: { reporter.board ≡ board.now },
 }
 
-impl Bell<WordNote, WordReaderPass> for KickOff<'_> {
-    ghost told = { λ bell. option_to_list (option_map (λ noted. noted.value) bell.told) };
+impl<V> Bell<WordBoard, V> for KickOff<'_> {
+    ghost waited = { λ bell. option_map (λ pass. pass.value) bell.waited };
 
     ghost ends = { λ bell. option_to_list (option_map (λ pass. pass.value) bell.over) };
 
-    ghost gives = { λ bell note. note.board ≡ bell.board.now };
-
-    fn next<R: Wait>(&mut self, _rt: &R, pass: &WordReaderPass) -> Option<Option<WordNote>> {
-        if self.over.is_some() {
-            return Some(None);
+    fn next<R: Wait>(
+        &mut self,
+        _rt: &R,
+        pass: &WordReaderPass,
+        _screen: &Screen<WordBoard, V>,
+    ) -> bool {
+        let is_first = self.waited.is_none();
+        self.waited = Some(Snapshot::of(pass));
+        if is_first {
+            let _reply = self.board.report_now(&mut self.reporter, &self.kick_off);
+            return true;
         }
-        if self.told.is_some() {
+        if self.over.is_none() {
             self.over = Some(Snapshot::of(pass));
-            return None;
+            return false;
         }
-        let _reply = self.board.report_now(&mut self.reporter, &self.kick_off);
-        let note = self.board.note_own_now(&mut self.reporter);
-        self.told = Some(Snapshot::of(&note));
-        Some(Some(note))
+        true
     }
 }
 
@@ -103,26 +106,26 @@ fn shown<R: Wait>(rt: &R, alloc: Global, roster: &Roster, room: usize) -> Result
             expected: 0,
             kind: Kind::KickOff,
         },
-        told: None,
+        waited: None,
         over: None,
     };
     let mut out = Vec::new(alloc);
     let answer = {
-        let mut sink = ToWrite::new(Out {
+        let sink = ToWrite::new(Out {
             taken: &mut out,
             piece: 7,
             room,
             full: Full::Fails,
         });
+        let mut screen = Screen::new(&board, roster, options, sink);
         show_boards(
             rt,
             alloc,
             &board,
             &mut reader,
             &mut bell,
-            &options,
             roster,
-            &mut sink,
+            &mut screen,
         )
     };
     Ok((answer, out))

@@ -1,4 +1,4 @@
-use Rattle.ucl_answers.proofs.Moments.{beginnings}
+use Rattle.ucl_answers.proofs.OneByOne.{beginnings}
 use Rattle.ucl_answers.proofs.laws.beginnings_are_answered.Goals as goal
 
 pub returns : goal.returns

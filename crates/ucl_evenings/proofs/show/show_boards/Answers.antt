@@ -1,12 +1,88 @@
-use Rattle.std.proofs.Common.{arith}
-use Rattle.ucl_evenings.proofs.ScreenRuns.{shows_from_start}
+use Rattle.std.proofs.Common.{refl, ap, length, ◌∙◌, arith, le_refl}
+use Rattle.std.proofs.lemmas.Result.{err_from_is_err_and}
+use Rattle.ucl_board.proofs.Beginnings.{begins_length}
+use Rattle.ucl_evenings.specs.Showing.{standing}
+use Rattle.ucl_evenings.proofs.ScreenRuns.{after_reading, ended_by, few_after, low_after, run_failed, run_over}
 use Rattle.ucl_evenings.proofs.show.show_boards.Goals as goal
 
-pub show_on-requires-clause-few : goal.show_on-requires-clause-few
-show_on-requires-clause-few g c κs within = rw c.new-screens.ensures (omega arith, omega arith)
+pub loop-init : goal.loop-init
+loop-init g c = record {
+  own = c.requires.own;
+  same = record { board = refl; roster = refl; options = refl };
+  few = c.requires.few;
+  low = c.requires.low;
+  long = le_refl _;
+  waited = rw c.requires.unused tt;
+  so_far = λ k old versions p. record { versions = versions; so_far = p };
+  ended = refl;
+  sink_sound = refl;
+}
 
-pub returns-clause-shows : goal.returns-clause-shows
-returns-clause-shows g c =
-    shows_from_start g.B.LiveBoard.noted c.args.options.now c.args.roster.now (g.B.LiveBoard.reader c.args.pass.now) (g.B.LiveBoard.reader c.show_on.new.pass) _
-    (g.Q.Bell.told c.args.bell.now) (g.Q.Bell.told c.show_on.new.bell) (g.W.Sink.failed c.show_on.new.sink) (g.W.Sink.taken c.args.sink.now) (g.W.Sink.taken c.show_on.new.sink)
-    c.show_on.result (rw c.new-screens.ensures at c.show_on.ensures.shows)
+pub show-requires-clause-own : goal.show-requires-clause-own
+show-requires-clause-own g c κs within = rw (ap (λ b. b.value) c.loop.invariant.same.board ∙ c.requires.screen.board_is) c.read-reading.ensures.own
+
+pub show-requires-clause-roster : goal.show-requires-clause-roster
+show-requires-clause-roster g c κs within = ap (λ r. r.value) c.loop.invariant.same.roster ∙ c.requires.screen.clubs_are
+
+pub show-requires-clause-read : goal.show-requires-clause-read
+show-requires-clause-read g c κs within =
+    let read = c.read-reading.ensures.reading in record { before = _; last = read.shown; high = read.high; snapshot = read.snapshot }
+
+pub show-requires-clause-few : goal.show-requires-clause-few
+show-requires-clause-few g c κs within = let few = c.loop.invariant.few in let a = few.0 in let b = few.1 in omega arith
+
+pub returns-then-is_over-clause-shows : goal.returns-then-is_over-clause-shows
+returns-then-is_over-clause-shows g c k old versions p =
+    let known = g.B.LiveBoard.reader in
+    let taken = g.V.Sink.taken in
+    let so_far = c.loop.invariant.so_far k old versions p in
+    let read = c.read-reading.ensures in
+    run_over c.args.screen.now.options c.args.roster.now (length (known c.args.pass.now).seen) k (known c.loop.pass) (known c.read-reading.new.pass) (standing c.loop.screen) old
+    (taken c.loop.screen.sink) so_far.versions so_far.so_far read.always c.read-reading.result read.reading c.loop.invariant.long
+    (standing c.show.new.self) (taken c.show.new.self.sink) _
+    (after_reading c.args.screen.now.options c.args.roster.now (length (known c.args.pass.now).seen) k (known c.loop.pass) (known c.read-reading.new.pass) (standing c.loop.screen) old
+    (taken c.loop.screen.sink) so_far.versions so_far.so_far read.always c.read-reading.result read.reading c.loop.invariant.long
+    (standing c.show.new.self) (taken c.show.new.self.sink) (rw c.loop.invariant.same.options at c.in_ok-show.ensures.shown) c.in_ok-show.ensures.kept)
+
+pub returns-in_err-show-clause-shows : goal.returns-in_err-show-clause-shows
+returns-in_err-show-clause-shows g c k old versions p =
+    let e = err_from_is_err_and c.from_residual.result c.from_residual.ensures.1 in
+    let known = g.B.LiveBoard.reader in
+    let taken = g.V.Sink.taken in
+    let so_far = c.loop.invariant.so_far k old versions p in
+    let read = c.read-reading.ensures in
+    rw (e.1, e.2) (run_failed c.args.screen.now.options c.args.roster.now (length (known c.args.pass.now).seen) k (known c.loop.pass) (known c.read-reading.new.pass)
+    (standing c.loop.screen) old (taken c.loop.screen.sink) so_far.versions so_far.so_far read.always c.read-reading.result read.reading c.loop.invariant.long
+    (standing c.show.new.self) (taken c.show.new.self.sink) (g.V.Sink.failed c.show.new.self.sink) _ c.in_err-show.ensures.rises
+    (rw c.loop.invariant.same.options at c.in_err-show.ensures.fails))
+
+pub loop-preserved : goal.loop-preserved
+loop-preserved g c =
+    let known = g.B.LiveBoard.reader in
+    let taken = g.V.Sink.taken in
+    let inv = c.loop.invariant in
+    let m = known c.loop.pass in
+    let z = known c.read-reading.new.pass in
+    let s = standing c.loop.screen in
+    let t = standing c.show.new.self in
+    let new = taken c.loop.screen.sink in
+    let new2 = taken c.show.new.self.sink in
+    let read = c.read-reading.ensures in
+    let least = length (known c.args.pass.now).seen in
+    let options = c.args.screen.now.options in
+    let show = c.in_ok-show.ensures in
+    record {
+      own = read.own;
+      same = record { board = show.same.board ∙ inv.same.board; roster = show.same.roster ∙ inv.same.roster; options = show.same.options ∙ inv.same.options };
+      few = few_after c.loop.screen.options c.args.roster.now m z s new read.always c.read-reading.result read.reading t new2 inv.few show.shown show.kept;
+      low = low_after m z s t c.read-reading.result read.reading inv.low (λ le. (show.shown le).next_is) (λ less. (show.kept less).0);
+      long = (let on = begins_length m.seen z.seen read.always.on.seen in let l = inv.long in omega arith);
+      waited = rw c.next-is_over.ensures.waited (le_refl (length z.shown));
+      so_far = λ k old versions p.
+          let so_far = inv.so_far k old versions p in
+          let after = after_reading options c.args.roster.now least k m z s old new so_far.versions so_far.so_far read.always c.read-reading.result read.reading inv.long t new2
+          (rw inv.same.options at show.shown) show.kept in
+          record { versions = after.versions2; so_far = after.so_far };
+      ended = ended_by _ _ _ _ c.next-is_over.result _ (rw c.if-is_over.false at inv.ended) c.next-is_over.ensures.ends refl;
+      sink_sound = show.sink_sound ∙ inv.sink_sound;
+    }

@@ -1,11 +1,19 @@
-use Rattle.std.proofs.Common.{[], arith}
+use Rattle.std.proofs.Common.{arith}
+use Rattle.ucl_board.proofs.Beginnings.{begins_length}
 use Rattle.ucl_runs.proofs.EnteredRows.{goes_on}
+use Rattle.ucl_evenings.specs.Showing.{standing}
 use Rattle.ucl_evenings.proofs.ScreenRuns.{shown_noted}
-use Rattle.ucl_evenings.proofs.ShownScreens.{gave_one}
 use Rattle.ucl_evenings.proofs.show.show_noted.Goals as goal
 
-pub show-requires : goal.show-requires
-show-requires g c = let a = c.requires.few.0 in let b = c.requires.few.1 in omega arith
+pub show-requires-clause-own : goal.show-requires-clause-own
+show-requires-clause-own g c κs within = rw c.requires.screen.board_is c.read-reading.ensures.own
+
+pub show-requires-clause-read : goal.show-requires-clause-read
+show-requires-clause-read g c κs within =
+    let read = c.read-reading.ensures.reading in record { before = _; last = read.shown; high = read.high; snapshot = read.snapshot }
+
+pub show-requires-clause-few : goal.show-requires-clause-few
+show-requires-clause-few g c κs within = let a = c.requires.few.0 in let b = c.requires.few.1 in omega arith
 
 pub returns-clause-always : goal.returns-clause-always
 returns-clause-always g c =
@@ -15,10 +23,10 @@ returns-clause-always g c =
 pub returns-clause-shows : goal.returns-clause-shows
 returns-clause-shows g c k old versions p =
     let known = g.B.LiveBoard.reader in
-    let taken = g.W.Sink.taken in
+    let taken = g.V.Sink.taken in
     let read = c.read-reading.ensures in
     let m = known c.hear.new.pass in
-    shown_noted g.B.LiveBoard.noted c.args.options.now c.args.roster.now k (known c.args.pass.now) m (known c.read-reading.new.pass)
-    c.args.screens.now old (taken c.args.sink.now) versions c.hear.ensures.always read.always c.read-reading.result read.reading
-    (gave_one g.B.LiveBoard.noted [] c.args.news m.seen c.hear.ensures.heard.met) p
-    c.show.new.self (taken c.show.new.sink) (g.W.Sink.failed c.show.new.sink) c.show.result c.show.ensures.shown c.show.ensures.kept c.show.ensures.rises c.show.ensures.fails
+    shown_noted c.args.screen.now.options c.args.roster.now _ k (known c.args.pass.now) m (known c.read-reading.new.pass)
+    (standing c.args.screen.now) old (taken c.args.screen.now.sink) versions c.hear.ensures.always read.always c.read-reading.result read.reading
+    (begins_length _ m.seen c.hear.ensures.heard.met) p
+    (standing c.show.new.self) (taken c.show.new.self.sink) (g.V.Sink.failed c.show.new.self.sink) c.show.result c.show.ensures.shown c.show.ensures.kept c.show.ensures.rises c.show.ensures.fails

@@ -8,11 +8,15 @@ use Rattle.ucl_shared.specs.Passes.{PassView}
 use Rattle.ucl_screen.specs.declared.night.NightEvent.{NightEvent}
 use Rattle.ucl_evenings_threads.specs.Earlier.{WereEntered, HasJustItsOwn}
 use Rattle.ucl_evenings_threads.proofs.Entering.{HaveSoFar, so_far_none, so_far_next, so_far_heard, told_next, written_back}
+use Rattle.ucl_evenings_threads.specs.Runs.{shares_of}
+use Rattle.ucl_evenings_threads.proofs.Splits.{map_set_same}
 use Rattle.ucl_evenings_threads.proofs.Stopped.{refused_there}
 use Rattle.ucl_evenings_threads.proofs.earlier.enter_each.Goals as goal
 
 pub loop-event-init : goal.loop-event-init
 loop-event-init g c = record {
+  kept = refl;
+  shares = refl;
   row_is = search rules;
   own = c.requires.own;
   reporters = c.requires.reporters;
@@ -36,6 +40,9 @@ loop-event-preserved g c =
     let place : e.reporter ≡ 1 + at = omega arith in
     let long : at < length passes = omega arith in
     record {
+      kept = c.enter_one.ensures.shares.0 ∙ known.kept;
+      shares = map_set_same (λ pass. (view pass).share) passes at c.index_mut.result.now c.enter_one.new.reporter
+          (c.enter_one.ensures.shares.1 ∙ ap (λ pass. (view pass).share) c.index_mut.ensures.value) ∙ known.shares;
       row_is = (let row = known.row_is in omega arith);
       own = c.enter_one.ensures.own.0;
       reporters = All-set (g.B.LiveBoard.is_reporter c.args.board.now) passes at _ c.enter_one.ensures.own.1 known.reporters;
@@ -70,6 +77,8 @@ loop-reporter-init g c =
     let same = sym c.deref_mut-reporter-items.ensures.value in
     let events = c.args.events.now in
     record {
+      kept = known.kept;
+      shares = subst (λ (passes : List _). shares_of g.B.LiveBoard passes ≡ shares_of g.B.LiveBoard c.args.reporters.now.items) same known.shares;
       own = known.own;
       reporters = subst (All (g.B.LiveBoard.is_reporter c.args.board.now)) same known.reporters;
       as_many = c.deref_mut-reporter-items.ensures.len ∙ known.as_many;
@@ -96,6 +105,9 @@ loop-reporter-preserved g c =
     let mine = c.hear_own.ensures.heard.mine in
     let met = subst (λ (h : List Entry). IsPrefix h (view new).seen) c.note-all.ensures.seen c.hear_own.ensures.heard.met in
     record {
+      kept = ap (λ (k : PassView). k.share) c.note-all.ensures.unchanged ∙ known.kept;
+      shares = map_set_same (λ pass. (view pass).share) passes at c.reporter-item.result new
+          c.hear_own.ensures.always.on.share ∙ known.shares;
       own = c.note-all.ensures.own.0;
       reporters = All-set (g.B.LiveBoard.is_reporter c.args.board.now) passes at new c.hear_own.ensures.own known.reporters;
       as_many = length-set passes at new ∙ known.as_many;
@@ -104,6 +116,13 @@ loop-reporter-preserved g c =
       told = subst (λ (p : PassView). All (HasJustItsOwn p.seen) (take (at + 1) (map view (set passes at new)))) same
           (told_next view start events passes history at old new long there c.hear_own.ensures.always.sound number mine met known.so_far known.told);
     }
+
+pub returns-clause-shares : goal.returns-clause-shares
+returns-clause-shares g c =
+    let known = c.loop-reporter.invariant in
+    let passes = c.loop-reporter.reporter-items in
+    let back = written_back c.loop-event.reporters.len passes c.loop-event.reporters.items (known.as_many ∙ sym c.loop-event.invariant.as_many) in
+    (known.kept, ap (λ (all : List _). shares_of g.B.LiveBoard all) back ∙ known.shares)
 
 pub returns-clause-reporters : goal.returns-clause-reporters
 returns-clause-reporters g c =

@@ -1,11 +1,14 @@
 use Rattle.std.proofs.Common.{◌≡◌, ◌+◌, length, map, take, vec_len}
 use Rattle.std.specs.Prelude.{All}
 use Rattle.ucl_evenings_threads.specs.Earlier.{HasJustItsOwn}
+use Rattle.ucl_evenings_threads.specs.Runs.{shares_of}
 use Rattle.ucl_evenings_threads.proofs.Entering.{HaveSoFar}
 use Rattle.ucl_evenings_threads.proofs.earlier.enter_each.Given as goal
 
 abbrev pub invariant-loop-event : goal.invariant-loop-event
 invariant-loop-event g l = record {
+  kept : (g.B.LiveBoard.reader l.pass).share ≡ (g.B.LiveBoard.reader l.fn.pass).share;
+  shares : shares_of g.B.LiveBoard l.reporters.items ≡ shares_of g.B.LiveBoard l.fn.reporters.items;
   row_is : l.row ≡ 5 + l.event-index;
   own : g.B.LiveBoard.is_reader l.board l.pass;
   reporters : All (g.B.LiveBoard.is_reporter l.board) l.reporters.items;
@@ -15,6 +18,8 @@ invariant-loop-event g l = record {
 
 abbrev pub invariant-loop-reporter : goal.invariant-loop-reporter
 invariant-loop-reporter g l = record {
+  kept : (g.B.LiveBoard.reader l.pass).share ≡ (g.B.LiveBoard.reader l.fn.pass).share;
+  shares : shares_of g.B.LiveBoard l.reporter-items ≡ shares_of g.B.LiveBoard l.fn.reporters.items;
   own : g.B.LiveBoard.is_reader l.board l.pass;
   reporters : All (g.B.LiveBoard.is_reporter l.board) l.reporter-items;
   as_many : length l.reporter-items ≡ vec_len l.fn.reporters;

@@ -1,3 +1,5 @@
+use Rattle.std.proofs.Common.{ap, ◌∙◌}
+use Rattle.ucl_shared.specs.Passes.{PassView}
 use Rattle.ucl_evenings_threads.proofs.Entering.{entered_by_calls}
 use Rattle.ucl_evenings_threads.proofs.earlier.enter_one.Goals as goal
 
@@ -8,3 +10,15 @@ returns-clause-entered g c accepted =
     entered_by_calls (reader c.args.pass.now) (reporter c.args.reporter.now) (reporter c.hear_own.new.pass) (reporter c.report.new.pass) (reporter c.note_own-after.new.pass)
     (reader c.hear.new.pass) _ _ c.args.event.now _ c.note-before.ensures.seen c.hear_own.ensures.heard c.hear_own.ensures.always.number c.in-Ok.ensures.accepted
     c.in-Ok.ensures.always.number c.in-Ok.ensures.always.sound c.note_own-after.ensures.unchanged c.note_own-after.ensures.seen c.hear.ensures.heard.met
+
+pub returns-clause-shares : goal.returns-clause-shares
+returns-clause-shares g c = (
+  c.hear.ensures.always.on.share ∙ ap (λ (k : PassView). k.share) c.note-before.ensures.unchanged,
+  ap (λ (k : PassView). k.share) c.note_own-after.ensures.unchanged ∙ (c.report.ensures.always.on.share ∙ c.hear_own.ensures.always.on.share),
+)
+
+pub returns-in_default-clause-shares : goal.returns-in_default-clause-shares
+returns-in_default-clause-shares g c = (
+  ap (λ (k : PassView). k.share) c.note-before.ensures.unchanged,
+  c.report.ensures.always.on.share ∙ c.hear_own.ensures.always.on.share,
+)

@@ -39,15 +39,15 @@ loop-screen-preserved g c =
     let left = screens_left c.loop-screen.screen-index (c.loop-screen.texts + 1) (c.loop-screen.jsons + 1) c.args.end.now.screens.items c.screen-item.result in
     record {
       stays = λ e. told.stays (inv.stays e);
-      counted = elim c.match-screen.branch [
+      counted = elim c.match-options.branch [
         | in-Text w ↦ (let t = w.texts-is in let j = w.jsons-is in omega arith)
         | in-Json w ↦ (let t = w.texts-is in let j = w.jsons-is in omega arith)
       ];
       stands = stands_next _ _ _ _ _ _ _ _ _ _ _
-          (elim c.match-screen.branch [
-            | in-Text w ↦ (let t = w.texts-is in let j = w.jsons-is in left forms.Text _ _ _ _ (rw same at c.loop-screen-test.true) (rw same at c.screen-item.is) w.in-Text.is
+          (elim c.match-options.branch [
+            | in-Text w ↦ (let t = w.texts-is in let j = w.jsons-is in left forms.Text _ _ _ _ (rw same at c.loop-screen-test.true) (rw same at c.screen-item.is) (rw c.options.ensures at w.in-Text.is)
                 (ap (λ p. p.0) w.worker-is) (ap (λ p. p.1) w.worker-is) (omega arith) (omega arith))
-            | in-Json w ↦ (let t = w.texts-is in let j = w.jsons-is in left forms.Json _ _ _ _ (rw same at c.loop-screen-test.true) (rw same at c.screen-item.is) w.in-Json.is
+            | in-Json w ↦ (let t = w.texts-is in let j = w.jsons-is in left forms.Json _ _ _ _ (rw same at c.loop-screen-test.true) (rw same at c.screen-item.is) (rw c.options.ensures at w.in-Json.is)
                 (ap (λ p. p.0) w.worker-is) (ap (λ p. p.1) w.worker-is) (omega arith) (omega arith))
           ])
           told.told told.stays told.first inv.stands;

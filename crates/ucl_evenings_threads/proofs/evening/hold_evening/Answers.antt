@@ -2,17 +2,20 @@ use Rattle.std.proofs.Common.{List, arith, subst, sym, ◌∙◌}
 use mathlib.Core.List.{IsPrefix}
 use Rattle.ucl_board.specs.declared.entry.Entry.{Entry}
 use Rattle.ucl_board.proofs.Beginnings.{begins_through}
+use Rattle.ucl_evenings.specs.Showing.{IsNewScreen}
 use Rattle.ucl_evenings.proofs.ShownScreens.{stays_prefix}
-use Rattle.ucl_evenings_threads.specs.Runs.{IsLooking, IsReadyToLook, IsReadyToRun, WasEnlisted}
+use Rattle.ucl_evenings_threads.specs.Runs.{HasRun, IsLooking, IsReadyToLook, IsReadyToRun, KeepsShare, WasEnlisted}
 use Rattle.ucl_evenings_threads.proofs.Decided.{is_decided}
 use Rattle.ucl_evenings_threads.proofs.Holding.{begins_whole, reported_at_end, shown_at_end, theirs_at_end, whole, whole_long}
-use Rattle.ucl_evenings_threads.proofs.Zips.{zip_right}
+use Rattle.ucl_evenings_threads.proofs.Splits.{maps_same, split_both, stays_share}
+use Rattle.ucl_evenings_threads.proofs.Zips.{zip_right, zip_right_of}
 use Rattle.ucl_evenings_threads.proofs.evening.hold_evening.Goals as goal
 
 pub run_threads-requires-clause-lent : goal.run_threads-requires-clause-lent
 run_threads-requires-clause-lent g c κs within = record {
   own = c.enlist_all.ensures.own;
-  looking = zip_right (IsLooking g.B.LiveBoard c.args.board.now _) (IsReadyToLook g.B.LiveBoard c.args.board.now) (λ screen looking l. l.own) _ _ c.in_ok-screens.ensures.looking;
+  looking = zip_right_of (IsLooking g.B.LiveBoard c.args.board.now _) (IsNewScreen c.args.board.now c.args.roster.now) (IsReadyToLook g.B.LiveBoard c.args.board.now c.args.roster.now)
+      (λ screen looking l new. record { own = l.own; new = subst (IsNewScreen c.args.board.now c.args.roster.now) (sym l.same) new }) _ _ c.in_ok-screens.ensures.looking c.requires.screens;
   ready = zip_right (WasEnlisted g.B.LiveBoard c.args.board.now _) (IsReadyToRun g.B.LiveBoard c.args.board.now) (λ reporter enlisted l. l.ready) _ _ c.in_ok-all.ensures.enlisted;
   tallied = rw (c.enlist_all.ensures.seen, c.look_all.ensures.seen) (record { views = _; tallied = c.in_ok-entered.ensures.tallied; heard = c.in_ok-entered.ensures.heard });
 }
@@ -51,3 +54,13 @@ returns-clause-held g c =
 pub returns-clause-decided : goal.returns-clause-decided
 returns-clause-decided g c =
     is_decided g.B.LiveBoard c.args.board.now g.S.Source g.W.Sink g.V.Sink c.args.roster.now _ c.args.entered.items c.args.reporters.items c.args.screens.items _ (returns-clause-held g c)
+
+pub returns-clause-shares : goal.returns-clause-shares
+returns-clause-shares g c =
+    let known = g.B.LiveBoard.reader in
+    let ran = c.in_ok-pass.ensures.ran in
+    split_both (known c.args.pass).share (known c.hear_all.new.pass).share _ (known c.enlist_all.new.pass).share (known c.read-last.new.pass).share _ _ _ _
+    (stays_share _ _ c.hear_all.ensures.always) c.in_ok-screens.ensures.split c.in_ok-all.ensures.split
+    (maps_same (KeepsShare g.B.LiveBoard) _ _ (λ looking end same. same) _ _ ran.kept)
+    (maps_same (HasRun g.B.LiveBoard c.args.board.now g.S.Source g.W.Sink) _ _ (λ enlisted end h. h.took.reported.rows.always.on.share) _ _ ran.run)
+    (c.read-last.ensures.always.on.share ∙ stays_share _ _ c.in_ok-pass.ensures.always)

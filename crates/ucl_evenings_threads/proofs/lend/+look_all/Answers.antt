@@ -4,10 +4,19 @@ use Rattle.ucl_board.proofs.Beginnings.{begins_same}
 use Rattle.ucl_shared.specs.Passes.{PassView}
 use Rattle.ucl_evenings_threads.specs.Runs.{IsLooking}
 use Rattle.ucl_evenings_threads.proofs.Zips.{zip_none, zip_push}
+use Rattle.ucl_evenings_threads.proofs.Splits.{split_none, split_push}
 use Rattle.ucl_evenings_threads.proofs.lend.+look_all.Goals as goal
 
 pub returns-in_default-clause-looking : goal.returns-in_default-clause-looking
 returns-in_default-clause-looking g t c = zip_none (IsLooking g.B.LiveBoard c.args.board.now (g.B.LiveBoard.reader c.args.pass.now).seen) _ _ c.in_default.ensures.none c.new.ensures.items
+
+pub returns-in_default-clause-split : goal.returns-in_default-clause-split
+returns-in_default-clause-split g t c = split_none _ _ _ _ c.new.ensures.items refl
+
+pub returns-clause-split : goal.returns-clause-split
+returns-clause-split g t c =
+    split_push _ _ _ _ _ _ _ c.in_ok-put.ensures.items c.in_ok-all.ensures.split (ap (λ (k : PassView). k.share) c.split-second.ensures.given)
+    (ap (λ (k : PassView). k.share) c.split-second.ensures.kept)
 
 pub returns-clause-looking : goal.returns-clause-looking
 returns-clause-looking g t c =

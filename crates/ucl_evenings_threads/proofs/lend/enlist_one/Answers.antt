@@ -1,3 +1,5 @@
+use Rattle.std.proofs.Common.{ap, ◌∙◌}
+use Rattle.ucl_shared.specs.Passes.{PassView}
 use Rattle.ucl_evenings_threads.proofs.lend.enlist_one.Goals as goal
 
 pub returns-clause-ready : goal.returns-clause-ready
@@ -7,6 +9,9 @@ returns-clause-ready g c = record {
   nothing = c.in_ok-enlist.ensures.enlisted.mine;
   reported = c.in_ok-enlist.ensures.reported;
 }
+
+pub returns-clause-given : goal.returns-clause-given
+returns-clause-given g c = c.in_ok-enlist.ensures.enlisted.on.share ∙ ap (λ (k : PassView). k.share) c.split-second.ensures.given
 
 pub returns-clause-since : goal.returns-clause-since
 returns-clause-since g c =

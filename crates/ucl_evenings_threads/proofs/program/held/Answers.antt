@@ -1,19 +1,28 @@
 use Rattle.std.specs.Prelude.{Result, Ok, Err, IfOk}
+use Rattle.ucl_evenings.specs.Showing.{IsNewScreen}
+use Rattle.ucl_evenings_threads.specs.Program.{IsAskedFor}
+use Rattle.ucl_evenings_threads.proofs.Zips.{zip_right}
 use Rattle.ucl_evenings_threads.proofs.program.held.Goals as goal
 
-if_both : {A E : Type 0} (P Q T : A → Type 0) → ((a : A) → P a → Q a → T a) → (r : Result A E) → IfOk r P → IfOk r Q → IfOk r T
-if_both P Q T f (Ok a) p q = f a p q
-if_both P Q T f (Err e) p q = tt
+if_all : {A E : Type 0} (P Q S T : A → Type 0) → ((a : A) → P a → Q a → S a → T a) → (r : Result A E) → IfOk r P → IfOk r Q → IfOk r S → IfOk r T
+if_all P Q S T f (Ok a) p q s = f a p q s
+if_all P Q S T f (Err e) p q s = tt
+
+pub hold_evening-requires-clause-screens : goal.hold_evening-requires-clause-screens
+hold_evening-requires-clause-screens g c κs within =
+    zip_right (IsAskedFor c.args.board.now c.args.night.now.roster c.args.asked.now) (IsNewScreen c.args.board.now c.args.night.now.roster) (λ place screen a. a.new)
+    _ _ c.in_ok-screens.ensures.asked
 
 pub returns-clause-held : goal.returns-clause-held
 returns-clause-held g c =
-    if_both _ _ _
-    (λ end held decided. record {
+    if_all _ _ _ _
+    (λ end held decided shares. record {
       earlier = c.in_ok-earlier.earlier;
       entered = rw c.deref.ensures.value at c.in_ok-earlier.ensures.entered;
       screens = c.in_ok-screens.screens.items;
       asked_for = c.in_ok-screens.ensures.asked;
       held = held;
       decided = decided;
+      shares = shares;
     })
-    c.hold_evening.result c.hold_evening.ensures.held c.hold_evening.ensures.decided
+    c.hold_evening.result c.hold_evening.ensures.held c.hold_evening.ensures.decided c.hold_evening.ensures.shares

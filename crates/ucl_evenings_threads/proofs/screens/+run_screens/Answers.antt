@@ -1,9 +1,11 @@
-use Rattle.std.proofs.Common.{refl, inl, length, le_refl}
+use Rattle.std.proofs.Common.{refl, ap, ◌∙◌, inl, length, le_refl}
+use Rattle.ucl_shared.specs.Passes.{PassView}
 use Rattle.ucl_evenings.proofs.ShownScreens.{stays_prefix}
-use Rattle.ucl_evenings_threads.specs.Runs.{HasLookedOn}
+use Rattle.ucl_evenings_threads.specs.Runs.{HasLookedOn, IsReadyToLook}
 use Rattle.ucl_evenings_threads.proofs.Closing.{closed_on, closed_told, heard_on}
 use Rattle.ucl_evenings_threads.proofs.Ended.{goes_then, looked_few}
 use Rattle.ucl_evenings_threads.proofs.Running.{ran_first, ran_more}
+use Rattle.ucl_evenings_threads.proofs.Zips.{all_pop}
 use Rattle.ucl_evenings_threads.proofs.screens.+run_screens.Goals as goal
 
 pub returns-in_default-clause-ran : goal.returns-in_default-clause-ran
@@ -14,11 +16,25 @@ returns-in_default-clause-ran g t c =
     c.args.screens.items c.args.all.items _ c.in_default.ensures.none c.new.ensures.items (stays_prefix _ _ c.run_reporters-run.ensures.always) c.requires.tallied
     run.run run.heard run.tallied
 
+pub start_screen-requires-clause-ready : goal.start_screen-requires-clause-ready
+start_screen-requires-clause-ready g t c κs within =
+    (all_pop (IsReadyToLook g.B.LiveBoard c.args.board.now c.args.roster.now) c.args.screens.items _ _ c.in-Some.ensures.some c.requires.looking).1
+
+pub run_screens-requires-clause-looking : goal.run_screens-requires-clause-looking
+run_screens-requires-clause-looking g t c κs within =
+    (all_pop (IsReadyToLook g.B.LiveBoard c.args.board.now c.args.roster.now) c.args.screens.items _ _ c.in-Some.ensures.some c.requires.looking).0
+
 pub finish-end-requires-clause-few : goal.finish-end-requires-clause-few
 finish-end-requires-clause-few g t c κs within =
     let looked : HasLookedOn g.B.LiveBoard c.args.board.now g.V.Sink c.args.roster.now c.in-Some.looking c.join-looked.result =
     rw (c.in-Ok.ensures.board, c.in-Ok.ensures.roster, c.in-Ok.ensures.looking) at c.join-looked.ensures in
-    looked_few _ _ _ _ _ _ _ _ _ _ _ _ looked.shows
+    looked_few _ _ _ _ _ _ _ _ _ _ looked.shows
+
+pub finish-end-requires-clause-screen : goal.finish-end-requires-clause-screen
+finish-end-requires-clause-screen g t c κs within =
+    let looked : HasLookedOn g.B.LiveBoard c.args.board.now g.V.Sink c.args.roster.now c.in-Some.looking c.join-looked.result =
+    rw (c.in-Ok.ensures.board, c.in-Ok.ensures.roster, c.in-Ok.ensures.looking) at c.join-looked.ensures in
+    looked.of
 
 pub returns-in_err-put-clause-always : goal.returns-in_err-put-clause-always
 returns-in_err-put-clause-always g t c =
@@ -41,3 +57,4 @@ returns-clause-ran g t c =
     (rw c.note-note.ensures.seen at c.hear.ensures.heard.met) (le_refl least)
     (closed_told g.B.LiveBoard c.args.board.now g.V.Sink c.args.roster.now (known c.finish-end.result.pass).seen least c.in-Some.looking c.finish-end.result _
     c.note-note.ensures.own.0 c.note-note.ensures.unchanged (c.finish-end.ensures.shown c.in-Some.looking looked)))
+    (ap (λ (k : PassView). k.share) c.note-note.ensures.unchanged ∙ (c.finish-end.ensures.share ∙ looked.shows.risen.always.on.share))

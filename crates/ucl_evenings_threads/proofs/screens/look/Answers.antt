@@ -1,22 +1,30 @@
-use Rattle.std.proofs.Common.{[], refl, arith}
+use Rattle.std.proofs.Common.{[], ap, sym, subst, ◌∙◌, length, arith}
+use Rattle.ucl_evenings.specs.Showing.{AreFew, Screening, ShowsFurther, standing}
 use Rattle.ucl_evenings.proofs.ShownScreens.{so_far_none}
 use Rattle.ucl_evenings_threads.proofs.Ended.{served_by}
 use Rattle.ucl_evenings_threads.proofs.screens.look.Goals as goal
 
-pub show_on-result-requires-clause-notes : goal.show_on-result-requires-clause-notes
-show_on-result-requires-clause-notes g c κs within = λ note h. absurd h
+pub show_boards-result-requires-clause-screen : goal.show_boards-result-requires-clause-screen
+show_boards-result-requires-clause-screen g c κs within = c.requires.ready.new.of
 
-pub show_on-result-requires-clause-few : goal.show_on-result-requires-clause-few
-show_on-result-requires-clause-few g c κs within = rw c.new-screens.ensures (omega arith, omega arith)
+pub show_boards-result-requires-clause-few : goal.show_boards-result-requires-clause-few
+show_boards-result-requires-clause-few g c κs within = subst AreFew (sym c.requires.ready.new.stands) (omega arith, omega arith)
+
+pub show_boards-result-requires-clause-low : goal.show_boards-result-requires-clause-low
+show_boards-result-requires-clause-low g c κs within = let none = ap (λ (s : Screening). s.next) c.requires.ready.new.stands in omega arith
 
 pub returns : goal.returns
 returns g c =
     let k = g.B.LiveBoard.reader c.args.looking.pass in
     let old = g.V.Sink.taken c.args.looking.screen.sink in
+    let run = c.show_boards-result.ensures in
+    let new = c.requires.ready.new in
     record {
-      own = c.show_on-result.ensures.own;
-      options = refl;
-      shows = (rw c.new-screens.ensures at c.show_on-result.ensures.shows) k old [] (so_far_none c.args.looking.screen.options c.args.roster.now k old);
-      served = served_by g.V.Sink c.args.looking.screen.sink c.show_on-result.new.sink c.show_on-result.result c.show_on-result.ensures.sink_sound
-          c.show_on-result.ensures.sink_fails;
+      own = run.own;
+      of = record { board_is = ap (λ b. b.value) run.same.board ∙ new.of.board_is; clubs_are = ap (λ r. r.value) run.same.roster ∙ new.of.clubs_are };
+      same = run.same;
+      shows = (subst (λ (s : Screening). ShowsFurther c.args.looking.screen.options c.args.roster.now (length k.seen) k (g.B.LiveBoard.reader c.show_boards-result.new.pass) s
+          (standing c.show_boards-result.new.screen) (g.V.Sink.failed c.show_boards-result.new.screen.sink) old (g.V.Sink.taken c.show_boards-result.new.screen.sink) c.show_boards-result.result)
+          new.stands run.shows) k old [] (so_far_none c.args.looking.screen.options c.args.roster.now k old);
+      served = served_by g.V.Sink c.args.looking.screen.sink c.show_boards-result.new.screen.sink c.show_boards-result.result run.sink_sound run.sink_fails;
     }

@@ -1,4 +1,4 @@
-use Rattle.std.proofs.Common.{◌≡◌, ◌≢◌, ◌⊎◌, inl, inr, ◌+◌, List, [], ◌∷◌, ◌++◌, ℕ, refl, ap, ◌∙◌, arith}
+use Rattle.std.proofs.Common.{◌+◌, List, ◌∷◌, ◌++◌, ℕ, ap, ◌∙◌, arith, []}
 use Rattle.ucl_shared.proofs.Lists.{unchanged}
 use Rattle.ucl_shared.proofs.SettledPasses.{through, settled, alone, of_both, strangers, differ, one_number}
 use Rattle.ucl_shared.proofs.settling.settle.Goals as goal

@@ -1,4 +1,4 @@
-use Rattle.std.proofs.Common.{rules, List, ℕ, [], ◌∷◌, ◌++◌, sym, subst, ap, ◌∙◌}
+use Rattle.std.proofs.Common.{rules, List, ℕ, ◌∷◌, ◌++◌, sym, subst, ap, ◌∙◌, []}
 use Rattle.ucl_pass.specs.CellRule.{words_after, CellStands}
 use Rattle.ucl_shared.proofs.LogFacts.{opens_fresh}
 use Rattle.ucl_pass.proofs.KeptRule.{begins, begins_stands}

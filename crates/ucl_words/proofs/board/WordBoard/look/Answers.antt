@@ -1,7 +1,5 @@
-use Rattle.std.proofs.Common.{◌≡◌, ℕ, ap, length, sym, ◌∙◌, subst, arith}
-use Rattle.ucl_word.specs.declared.event.EventCall.{EventCall}
+use Rattle.std.proofs.Common.{ℕ, sym, ◌∙◌, subst, arith}
 use Rattle.ucl_board.specs.Log as trails
-use Rattle.ucl_steps.specs.Protocol.{after_look}
 use Rattle.ucl_words.specs.WordSteps.{Loads}
 use Rattle.ucl_words.specs.WordRule.{Stands}
 use Rattle.ucl_words.proofs.KeptRule.{looks}

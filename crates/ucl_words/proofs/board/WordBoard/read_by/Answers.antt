@@ -1,4 +1,4 @@
-use Rattle.std.proofs.Common.{length, inl, ◌∙◌, refl, sym, ap, arith}
+use Rattle.std.proofs.Common.{length, inl, ◌∙◌, refl, ap, arith}
 use Rattle.ucl_board.specs.History.{reading_of}
 use Rattle.ucl_board.proofs.Beginnings.{begins_length}
 use Rattle.ucl_words.proofs.CollectFacts.{tried_none, tried_longer, tried_again, are_words, reads}
@@ -35,9 +35,7 @@ tries-preserved c = record {
   does = tries_again (length c.args.seat.now.me.0.pass.seen) c.args.seat.now.me.0.doing c.requires.next c.tries.seat.me.0.doing c.collect-words.new.seat.me.0.doing c.collect-words.result
       (length c.tries.seat.me.0.pass.seen) _ (begins_length _ _ c.tries.invariant.tried.walks.on.seen) c.tries.invariant.does c.collect-words.ensures.does c.is_clean.new.seat.me.0.doing
       c.if-is_clean.ensures.does;
-  along = along_on c.args.seat.now.me.0 c.tries.seat.me.0 c.is_clean.new.seat.me.0 calls.Reading c.tries.invariant.tried.walks.number c.tries.invariant.along
-      (along_on c.tries.seat.me.0 c.collect-words.new.seat.me.0 c.is_clean.new.seat.me.0 calls.Reading c.collect-words.ensures.collects.walks.number c.collect-words.ensures.along
-      c.is_clean.ensures.along);
+  along = search (arith, along_on);
 }
 
 pub returns-then-is_clean-clause-steady : goal.returns-then-is_clean-clause-steady

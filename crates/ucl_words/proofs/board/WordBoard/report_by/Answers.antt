@@ -1,11 +1,10 @@
-use Rattle.std.proofs.Common.{◌≡◌, Err, sym, ap, ◌∙◌, subst, arith, rules}
+use Rattle.std.proofs.Common.{◌≡◌, Err, sym, ◌∙◌, subst, arith, rules}
 use Rattle.std.specs.Prelude.{Result}
 use Rattle.ucl_word.specs.declared.event.Accepted.{Accepted}
 use Rattle.ucl_word.specs.declared.refusal.Refusal.{Refusal}
 use Rattle.ucl_board.specs.declared.entry.Entry.{Entry}
 use Rattle.ucl_board.proofs.Beginnings.{begins_length}
 use Rattle.ucl_words.specs.WordSteps.{IsNextWord}
-use Rattle.ucl_words.specs.Code.{IsHoldingFor}
 use Rattle.ucl_words.proofs.StepRuns.{found_valid}
 use Rattle.ucl_words.proofs.ReportFacts.{next_after, me_in}
 use Rattle.ucl_words.proofs.DoingFacts.{holding_for}

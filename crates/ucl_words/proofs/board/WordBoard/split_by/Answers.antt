@@ -1,7 +1,4 @@
-use Rattle.std.proofs.Common.{ap, sym, ◌∙◌, subst, arith}
-use Rattle.ucl_words.specs.declared.view.WordView.{WordView}
-use Rattle.ucl_words.specs.WordRule.{StandAfterSplit}
-use Rattle.ucl_words.specs.WordViews.{left_pass}
+use Rattle.std.proofs.Common.{ap, sym, ◌∙◌, arith}
 use Rattle.ucl_words.proofs.KeptRule.{seconds, split_stands}
 use Rattle.ucl_words.proofs.board.WordBoard.split_by.Goals as goal
 

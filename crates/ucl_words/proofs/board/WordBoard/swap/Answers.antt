@@ -4,7 +4,7 @@ use prog.Atomic.{either}
 use Rattle.atomic_table.specs.Table.{step, Allows}
 use Rattle.ucl_board.specs.declared.entry.Entry.{Entry}
 use Rattle.ucl_words.specs.WordRule.{TableKeepsOneHistory, Stands}
-use Rattle.ucl_words.specs.WordSteps.{ExchangeStep, ExchangeMissed}
+use Rattle.ucl_words.specs.WordSteps.{ExchangeStep}
 use Rattle.ucl_words.proofs.KeptRule.{swaps}
 use Rattle.ucl_words.proofs.board.WordBoard.swap.Goals as goal
 

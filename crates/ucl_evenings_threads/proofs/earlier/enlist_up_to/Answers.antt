@@ -1,0 +1,29 @@
+use Rattle.std.proofs.Common.{[], refl, ap, rules, ◌≡◌, ◌∙◌}
+use Rattle.std.proofs.lemmas.List.Elements.{All-push}
+use Rattle.ucl_shared.specs.Passes.{PassView}
+use Rattle.ucl_evenings_threads.proofs.Splits.{split_none, split_push}
+use Rattle.ucl_evenings_threads.proofs.Zips.{map_push}
+use Rattle.ucl_evenings_threads.proofs.earlier.enlist_up_to.Goals as goal
+
+pub enlisted-init : goal.enlisted-init
+enlisted-init g c = record {
+  own = c.requires.own;
+  seen = refl;
+  reporters = search rules;
+  split = split_none _ _ _ _ c.new-reporters.ensures.items refl;
+  nothing = search rules;
+}
+
+pub enlisted-preserved : goal.enlisted-preserved
+enlisted-preserved g c =
+    let known = c.enlisted.invariant in
+    let more = c.in_ok-put.ensures.items in
+    let one = c.in_ok-enlisted.ensures in
+    record {
+      own = c.split-part.ensures.own.0;
+      seen = ap (λ (k : PassView). k.seen) c.split-part.ensures.kept ∙ known.seen;
+      reporters = rw more (All-push (g.B.LiveBoard.is_reporter c.args.board.now) _ _ known.reporters one.own);
+      split = split_push _ _ _ _ _ _ _ more known.split (one.enlisted.on.share ∙ ap (λ (k : PassView). k.share) c.split-part.ensures.given)
+          (ap (λ (k : PassView). k.share) c.split-part.ensures.kept);
+      nothing = rw (more, map_push g.B.LiveBoard.reporter _ _) (All-push (λ (k : PassView). k.mine ≡ []) _ _ known.nothing one.enlisted.mine);
+    }
