@@ -452,5 +452,7 @@ def followed(words, text):
             output += line_of(style.json(matches, roster, row)) if "json" in words else style.screen(matches, roster)
     if "--resume" in words:
         quoted = lambda name: '"' + name.replace('"', '""') + '"'
-        output = "".join(f"club,{slot},{quoted(name)},{c}\n" for slot, (name, c) in enumerate(newest[2], 1)) + sheet(newest[3]) if newest else ""
+        if newest is None:
+            return 3, "", f"no moment in {len(lines)} lines: there is nothing to go on from\n"
+        output = "".join(f"club,{slot},{quoted(name)},{c}\n" for slot, (name, c) in enumerate(newest[2], 1)) + sheet(newest[3])
     return 0, output, f"{len(lines)} lines, {shown} shown, {len(lines) - shown} passed over\n"

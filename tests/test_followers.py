@@ -1,6 +1,7 @@
 """`ucl_follow`: a journal of an evening is followed, whatever becomes of its lines."""
 
 import json
+import random
 
 import pytest
 from conftest import EXAMPLES, tabled, text_of
@@ -15,6 +16,7 @@ LINES = JOURNAL.splitlines(True)
 FIRST, SECOND = journal_of(CLUBS + "1,1,0,kickoff\n1,1,1,goal-home\n").splitlines(True)
 SCREEN, BOTH = ("".join(screens_of(CLUBS + f"1,1,0,kickoff\n{more}")) for more in ("", "1,1,1,goal-home\n"))
 told = lambda lines, shown: f"{lines} lines, {shown} shown, {lines - shown} passed over\n"
+vain = lambda lines: f"no moment in {lines} lines: there is nothing to go on from\n"
 count = SCREENS.count("GROUP")
 
 test_journals = tabled({
@@ -28,7 +30,9 @@ test_journals = tabled({
     "a line without an end": ("ucl_follow", FIRST + SECOND[:-1], SCREEN, 0, told(1, 1)),
     "nothing": ("ucl_follow", "", "", 0, told(0, 0)),
     "rows of the newest, not of the last": ("ucl_follow --resume", LINES[-1] + "".join(LINES[:-1]), followed(["--resume"], LINES[-1])[1], 0, told(len(LINES), 1)),
-    "rows of no moment": ("ucl_follow --resume", "{}\n", "", 0, told(1, 0)),
+    "rows of no moment": ("ucl_follow --resume", "{}\n", "", 3, vain(1)),
+    "rows of nothing": ("ucl_follow --resume --format json", "", "", 3, vain(0)),
+    "rows of a line that is cut": ("ucl_follow --resume", FIRST[:-1], "", 3, vain(0)),
 })
 
 VALUE = json.loads(SECOND)
@@ -65,6 +69,27 @@ def test_evening_that_goes_on_from_its_journal(run, cut):
     assert start.startswith('club,1,"""A,b""",7\n') and start.count("\n") == 16
     last = lambda text: run("ucl_live", input=text + "screen,,,\nwords,,,\n").output.splitlines()[-18:]
     assert last(start + "".join(ROWS[cut:])) == last(clubs + "".join(ROWS))
+
+
+@pytest.mark.parametrize("seed", range(12))
+def test_evening_killed_again_and_again(run, seed):
+    """Each start goes on from what the crash before left, of which the last line gets its end. No answer that was whole is taken back."""
+    chance, words = random.Random(seed), ["--format", "json", *["--screens"] * (seed % 2)]
+    journal, pending, version = run("ucl_live", *words, input=CLUBS + "screen,,,\n").output, list(ROWS), 0
+    while pending:
+        start = run("ucl_follow", "--resume", input=journal)
+        assert start.status == 0
+        again = chance.sample(ROWS[: len(ROWS) - len(pending)], min(2, len(ROWS) - len(pending)))
+        output = run("ucl_live", *words, input=start.output + "screen,,,\n" + "".join(again + pending)).output
+        left = output[: chance.randint(0, 4000)]
+        journal += left + "\n"
+        answers = [json.loads(line) for line in left.split("\n")[:-1]]
+        assert all(answer["version"] >= version for answer in answers if "version" in answer)
+        version = max([version, *(answer["version"] for answer in answers if "version" in answer)])
+        replies = sum(answer["reply"] != "screen" for answer in answers)
+        pending = pending[max(0, replies - len(again)) :]
+    last = lambda text: run("ucl_live", input=text + "screen,,,\nwords,,,\n").output.splitlines()[-18:]
+    assert last(run("ucl_follow", "--resume", input=journal).output) == last(CLUBS + "".join(ROWS))
 
 
 @pytest.mark.limit(30)

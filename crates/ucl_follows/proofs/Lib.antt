@@ -2,6 +2,12 @@ pub mod Members
 pub mod Shown
 pub mod Runs
 pub mod Answered
+pub mod ReadBack
+pub mod PlainAnswers
 pub mod Repeats
 pub mod RowTexts
 pub mod Resumed
+pub mod JournalLines
+pub mod JournalAnswers
+pub mod Journals
+pub mod JournalEnds

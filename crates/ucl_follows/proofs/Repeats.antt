@@ -52,7 +52,7 @@ LeaveAfter h made longer shorter = LeaveTheSame (fold after_attempt h made) long
 one-more : (h : List Entry) (made : List Attempt) (a : Attempt) → fold after_attempt h (made ++ a ∷ []) ≡ after_attempt (fold after_attempt h made) a
 one-more h made a = fold-append after_attempt h made (a ∷ [])
 
-all-same : (h : List Entry) (made longer shorter : List Attempt) → IsLegal h → All IsAttempt made → All IsAttempt longer → HasRepeats h made longer shorter → LeaveAfter h made longer shorter
+pub all-same : (h : List Entry) (made longer shorter : List Attempt) → IsLegal h → All IsAttempt made → All IsAttempt longer → HasRepeats h made longer shorter → LeaveAfter h made longer shorter
 unfolding HasRepeats
 all-same h made [] shorter legal before all none = rw none (record { history_is = refl; board_is = refl })
 all-same h made (a ∷ longer) shorter legal before all (inl next) =

@@ -5,4 +5,5 @@ pub mod Latest
 pub mod Answered
 pub mod Repeats
 pub mod Resuming
+pub mod Journals
 pub mod Program

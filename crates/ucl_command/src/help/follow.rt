@@ -22,18 +22,20 @@ A name is 1 to 20 printable ASCII characters, and a coefficient in thousandths 1
 to 9 digits, up to 999,999.
 
 At the end of the input standard error tells how many lines came, were shown
-and were passed over.
+and were passed over; with --resume that no line told a moment, if none did.
 
 Exit status:
   0  the input has ended, or help or the version was asked for
   2  the words of the command line are refused
+  3  with --resume: no line told a moment, and nothing was written
   4  reading or writing failed
   5  there is no memory
 
 Examples:
   ucl_live --format json < rows >> evening.jsonl
   tail -n +1 -F evening.jsonl | ucl_follow
-  (ucl_follow --resume < evening.jsonl; cat rows) | ucl_live --format json
+  ucl_follow --resume < evening.jsonl > start &&
+    cat start rows | ucl_live --format json
 
 docs/ROWS.md has rows, answers and all codes; docs/RULES.md has the rules.";
 
