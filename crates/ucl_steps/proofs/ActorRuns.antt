@@ -296,7 +296,7 @@ module _ (readers enlisted : ℕ) (log : Log) (actors : List Actor) (r : IsRunOf
       let one = r.of_actors in
       let init : Option MachineState = Some (initial_state (cast_for readers)) in
       let left : left_by (steps_of_moves (one.moves ++ t.move ∷ [])) init ≡ left_by (steps_of_moves one.moves) init ++ (c, m) ∷ [] =
-          search (arith, flat_map-append, left_append, append-nil) in
+      search (arith, flat_map-append, left_append, append-nil) in
       let longer = steps_more (set actors seat b) seat b c m (set_here actors seat b (place_below actors seat a here)) by (left_by (steps_of_moves one.moves) init) (accesses_of_log log)
       (left_still b (λ kind d of. of)) in
       let logged = logged_accesses log seat taken ∙ ap (λ (l : List Access). accesses_of_log log ++ map (λ (z : Access). (seat, z)) l) is in

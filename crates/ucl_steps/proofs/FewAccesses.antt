@@ -129,7 +129,7 @@ few_accesses readers enlisted enlisted' log since actors later r q on apart fini
     let left : left_by (steps_of_moves other.moves) (Some init) ≡ left_by (steps_of_moves one.moves) (Some init) ++ left_by (steps_of_moves more) (Some one.state) =
     ap (λ (l : List Step). left_by l (Some init)) steps ∙ left_append (steps_of_moves one.moves) (steps_of_moves more) init one.state one.run in
     let are : AreStepsOf later (left_by (steps_of_moves more) (Some one.state)) (accesses_of_log since) =
-        search (arith, later_ones, accesses_more) in
+    search (arith, later_ones, accesses_more) in
     let kept = run_kept (steps_of_moves one.moves) [] init one.state (kept_at_start (cast_for readers)) one.run in
     let low = finished_decided one.state actors one.each apart in
     let high = decided_finished other.state later other.each other.only in

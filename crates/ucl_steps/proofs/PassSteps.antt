@@ -288,7 +288,6 @@ module _ (cast : Cast) (seat number : ℕ) (steps : List Step) (w : MachineState
 
   -- a call that begins now
   module _ (call : Call) (may : MayAsk number call) (none : d.held ≡ Nothing) where
-
     free_now : held_by w.callers (caller_for seat number call) ≡ Some Idle
     free_now = let idle = idle_held none in idle_now seat number call w may d.calls f.high f.recorded idle.0 idle.1 (whole_held Nothing none)
 

@@ -106,7 +106,6 @@ low_actors : (s : Position) (r : TableKeepsOneHistory s) (j : ℕ) (a : Actor) �
 low_actors s r = low words_after pass_of word_actor (λ a. a.number) (λ v. refl) s.words s.views r.shared
 
 module _ (s : Position) (r : TableKeepsOneHistory s) (seat : ℕ) (v : WordView) (here : get_elem? s.views seat ≡ some v) (acts : IsSome v.pass.share) where
-
   abbrev there_is : get_elem? (known s.views) seat ≡ some v.pass
   there_is = known_at s.views seat v here
 
