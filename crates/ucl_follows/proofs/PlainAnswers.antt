@@ -17,7 +17,8 @@ use Rattle.ucl_word.specs.declared.event.Side.TheVariants.{Home, Away}
 use Rattle.ucl_word.specs.Layout.{record_at}
 use Rattle.ucl_word.specs.Names.{kind_name}
 use Rattle.ucl_word.specs.Rules.{is_in_play}
-use Rattle.ucl_word.proofs.Words.{number_valid, word_valid}
+use Rattle.ucl_word.proofs.ValidRecords.{number_valid}
+use Rattle.ucl_word.proofs.Words.{word_valid}
 use Rattle.ucl_board.specs.Fixtures.{IsSlot}
 use Rattle.ucl_board.specs.Words.{AreWords, version_of}
 use Rattle.ucl_order.specs.declared.profile.Profile.{Profile}

@@ -1,0 +1,79 @@
+-- What is known of a valid record.
+use Rattle.std.proofs.Common.{◌≡◌, ℕ, ◌<◌, ◌≤◌, ◌==◌, ◌&&◌, Bool, true, refl, arith}
+use Rattle.std.specs.Prelude.{nat_le}
+use Rattle.std.proofs.lemmas.Bool.{and_from, and_parts}
+use Rattle.std.proofs.lemmas.Bool.Decides.{nat_tests}
+use Rattle.ucl_word.specs.declared.record.MatchRecord.{MatchRecord}
+use Rattle.ucl_word.specs.declared.record.State.{State}
+use Rattle.ucl_word.specs.declared.record.State.TheVariants.{Scheduled, InPlay, Finished}
+use Rattle.ucl_word.specs.Record.{is_untouched, is_valid, is_within_limits, last_in_play, last_number, scheduled, suits_state, IsReporter, IsValid}
+
+pub parts : (m : MatchRecord) → IsValid m → (is_within_limits m ≡ true) × (suits_state m.state m ≡ true)
+unfolding is_valid
+parts m v = and_parts (is_within_limits m) (suits_state m.state m) v
+
+pub whole : (m : MatchRecord) → is_within_limits m ≡ true → suits_state m.state m ≡ true → IsValid m
+unfolding is_valid
+whole m w s = and_from (is_within_limits m) (suits_state m.state m) w s
+
+-- ---- its numbers
+
+module _ (m : MatchRecord) (v : IsValid m) where
+  within : is_within_limits m ≡ true
+  within = (parts m v).0
+
+  pub home_goals_valid : m.home_goals ≤ 63
+  home_goals_valid = let w = within in grind (arith, nat_tests)
+
+  pub away_goals_valid : m.away_goals ≤ 63
+  away_goals_valid = let w = within in grind (arith, nat_tests)
+
+  pub home_yellows_valid : m.home_yellows ≤ 63
+  home_yellows_valid = let w = within in grind (arith, nat_tests)
+
+  pub away_yellows_valid : m.away_yellows ≤ 63
+  away_yellows_valid = let w = within in grind (arith, nat_tests)
+
+  pub home_expulsions_valid : m.home_expulsions ≤ 31
+  home_expulsions_valid = let w = within in grind (arith, nat_tests)
+
+  pub away_expulsions_valid : m.away_expulsions ≤ 31
+  away_expulsions_valid = let w = within in grind (arith, nat_tests)
+
+number_within : (s : State) (m : MatchRecord) → suits_state s m ≡ true → (m.number ≤ last_number) × (m.reporter ≤ 255)
+number_within Scheduled m h = (grind (arith, nat_tests), grind (arith, nat_tests))
+number_within InPlay m h = (grind (arith, nat_tests), grind (arith, nat_tests))
+number_within Finished m h = (grind (arith, nat_tests), grind (arith, nat_tests))
+
+pub number_valid : (m : MatchRecord) → IsValid m → m.number ≤ last_number
+number_valid m v = (number_within m.state m (parts m v).1).0
+
+pub reporter_valid : (m : MatchRecord) → IsValid m → m.reporter ≤ 255
+reporter_valid m v = (number_within m.state m (parts m v).1).1
+
+pub ruleset limits = (home_goals_valid, away_goals_valid, home_yellows_valid, away_yellows_valid, home_expulsions_valid, away_expulsions_valid, number_valid)
+
+reporter_within : (s : State) (m : MatchRecord) → suits_state s m ≡ true → (s ≡ Scheduled → ⊥) → IsReporter m.reporter
+reporter_within Scheduled m h b = absurd (b refl)
+reporter_within InPlay m h b = (grind (arith, nat_tests), grind (arith, nat_tests))
+reporter_within Finished m h b = (grind (arith, nat_tests), grind (arith, nat_tests))
+
+pub reported : (m : MatchRecord) → IsValid m → (m.state ≡ Scheduled → ⊥) → IsReporter m.reporter
+reported m v b = reporter_within m.state m (parts m v).1 b
+
+-- ---- before kick-off
+
+pub scheduled_valid : IsValid scheduled
+unfolding is_valid
+scheduled_valid = refl
+
+zeros : (s : State) (n hg ag hy ay he ae r : ℕ) → s ≡ Scheduled → n ≡ 0 → hg ≡ 0 → ag ≡ 0 → hy ≡ 0 → ay ≡ 0 → he ≡ 0 → ae ≡ 0 → r ≡ 0
+    → record { number = n; state = s; home_goals = hg; away_goals = ag; home_yellows = hy; away_yellows = ay; home_expulsions = he; away_expulsions = ae; reporter = r } ≡ scheduled
+zeros s n hg ag hy ay he ae r e0 e1 e2 e3 e4 e5 e6 e7 e8 = cc
+
+pub untouched : (m : MatchRecord) → m.state ≡ Scheduled → IsValid m → m ≡ scheduled
+untouched m s v =
+    let h : is_untouched m ≡ true = rw s at (parts m v).1 in
+    zeros m.state m.number m.home_goals m.away_goals m.home_yellows m.away_yellows m.home_expulsions m.away_expulsions m.reporter s
+    (grind (arith, nat_tests)) (grind (arith, nat_tests)) (grind (arith, nat_tests)) (grind (arith, nat_tests))
+    (grind (arith, nat_tests)) (grind (arith, nat_tests)) (grind (arith, nat_tests)) (grind (arith, nat_tests))
