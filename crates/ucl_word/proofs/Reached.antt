@@ -19,7 +19,6 @@ use Rattle.ucl_word.specs.Ways.{Leads, IsLed, IsReached, entries_under, turns, f
 use Rattle.ucl_word.specs.Code.Going.{apart, side_apart, after_sides, least_apart, OnWay}
 use Rattle.ucl_word.proofs.ValidRecords.{reported, scheduled_valid, untouched}
 use Rattle.ucl_word.proofs.Sequences.{may_none, may_induction}
-use Rattle.ucl_word.proofs.WayEvents.{same}
 use Rattle.ucl_word.proofs.WayGoes.{zero_or_one}
 use Rattle.ucl_word.proofs.WayLed.{on_led}
 use Rattle.ucl_word.proofs.EntryCounts.{count_next, legal_balanced, legal_case, legal_valid, counted, entered}
@@ -185,21 +184,6 @@ way_led m v on = on_led scheduled m scheduled_valid v on
 -- what is reached is valid and led to, and the other way round
 pub reached_led : (m : MatchRecord) → (m.state ≡ Scheduled → ⊥) → IsReached m → IsLed scheduled m
 reached_led m begun r = way_led m (reached_valid m r) (reached_way m r begun)
-
-pub default_is : (m : MatchRecord) → (m.number ≡ 0) × ((m.state ≡ Scheduled) × ((m.home_goals ≡ 0) × ((m.away_goals ≡ 0) ×
-    ((m.home_yellows ≡ 0) × ((m.away_yellows ≡ 0) × ((m.home_expulsions ≡ 0) × ((m.away_expulsions ≡ 0) × (m.reporter ≡ 0))))))))
-    → m ≡ scheduled
-default_is m d = same m scheduled (record {
-  number = d.0;
-  state = d.1.0;
-  home_goals = d.1.1.0;
-  away_goals = d.1.1.1.0;
-  home_yellows = d.1.1.1.1.0;
-  away_yellows = d.1.1.1.1.1.0;
-  home_expulsions = d.1.1.1.1.1.1.0;
-  away_expulsions = d.1.1.1.1.1.1.1.0;
-  reporter = d.1.1.1.1.1.1.1.1;
-})
 
 -- the number beside the fewest events, as it is counted
 pub over_is : (s m : MatchRecord) (h a f : ℕ) → s ≡ scheduled → h ≡ side_apart Home s m → a ≡ side_apart Away s m

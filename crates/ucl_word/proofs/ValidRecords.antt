@@ -1,12 +1,11 @@
 -- What is known of a valid record.
-use Rattle.std.proofs.Common.{◌≡◌, ℕ, ◌<◌, ◌≤◌, ◌==◌, ◌&&◌, Bool, true, refl, arith}
-use Rattle.std.specs.Prelude.{nat_le}
+use Rattle.std.proofs.Common.{◌≡◌, ◌<◌, ◌≤◌, true, refl, arith}
 use Rattle.std.proofs.lemmas.Bool.{and_from, and_parts}
 use Rattle.std.proofs.lemmas.Bool.Decides.{nat_tests}
 use Rattle.ucl_word.specs.declared.record.MatchRecord.{MatchRecord}
 use Rattle.ucl_word.specs.declared.record.State.{State}
 use Rattle.ucl_word.specs.declared.record.State.TheVariants.{Scheduled, InPlay, Finished}
-use Rattle.ucl_word.specs.Record.{is_untouched, is_valid, is_within_limits, last_in_play, last_number, scheduled, suits_state, IsReporter, IsValid}
+use Rattle.ucl_word.specs.Record.{is_untouched, is_valid, is_within_limits, last_number, scheduled, suits_state, IsReporter, IsValid}
 
 pub parts : (m : MatchRecord) → IsValid m → (is_within_limits m ≡ true) × (suits_state m.state m ≡ true)
 unfolding is_valid
@@ -61,19 +60,56 @@ reporter_within Finished m h b = (grind (arith, nat_tests), grind (arith, nat_te
 pub reported : (m : MatchRecord) → IsValid m → (m.state ≡ Scheduled → ⊥) → IsReporter m.reporter
 reported m v b = reporter_within m.state m (parts m v).1 b
 
+-- with an event there is a reporter
+numbered : (s : State) (m : MatchRecord) → suits_state s m ≡ true → 0 < m.number → 1 ≤ m.reporter
+numbered Scheduled m h some = grind (arith, nat_tests)
+numbered InPlay m h some = grind (arith, nat_tests)
+numbered Finished m h some = grind (arith, nat_tests)
+
+pub begun_reported : (m : MatchRecord) → IsValid m → 0 < m.number → 1 ≤ m.reporter
+begun_reported m v some = numbered m.state m (parts m v).1 some
+
 -- ---- before kick-off
 
 pub scheduled_valid : IsValid scheduled
 unfolding is_valid
 scheduled_valid = refl
 
-zeros : (s : State) (n hg ag hy ay he ae r : ℕ) → s ≡ Scheduled → n ≡ 0 → hg ≡ 0 → ag ≡ 0 → hy ≡ 0 → ay ≡ 0 → he ≡ 0 → ae ≡ 0 → r ≡ 0
-    → record { number = n; state = s; home_goals = hg; away_goals = ag; home_yellows = hy; away_yellows = ay; home_expulsions = he; away_expulsions = ae; reporter = r } ≡ scheduled
-zeros s n hg ag hy ay he ae r e0 e1 e2 e3 e4 e5 e6 e7 e8 = cc
+-- what the code's default record ensures
+pub default_is : (m : MatchRecord) → (m.number ≡ 0) × ((m.state ≡ Scheduled) × ((m.home_goals ≡ 0) × ((m.away_goals ≡ 0) ×
+    ((m.home_yellows ≡ 0) × ((m.away_yellows ≡ 0) × ((m.home_expulsions ≡ 0) × ((m.away_expulsions ≡ 0) × (m.reporter ≡ 0))))))))
+    → m ≡ scheduled
+default_is m d = λ i. record {
+  number = d.0 i;
+  state = d.1.0 i;
+  home_goals = d.1.1.0 i;
+  away_goals = d.1.1.1.0 i;
+  home_yellows = d.1.1.1.1.0 i;
+  away_yellows = d.1.1.1.1.1.0 i;
+  home_expulsions = d.1.1.1.1.1.1.0 i;
+  away_expulsions = d.1.1.1.1.1.1.1.0 i;
+  reporter = d.1.1.1.1.1.1.1.1 i;
+}
 
 pub untouched : (m : MatchRecord) → m.state ≡ Scheduled → IsValid m → m ≡ scheduled
 untouched m s v =
     let h : is_untouched m ≡ true = rw s at (parts m v).1 in
-    zeros m.state m.number m.home_goals m.away_goals m.home_yellows m.away_yellows m.home_expulsions m.away_expulsions m.reporter s
-    (grind (arith, nat_tests)) (grind (arith, nat_tests)) (grind (arith, nat_tests)) (grind (arith, nat_tests))
-    (grind (arith, nat_tests)) (grind (arith, nat_tests)) (grind (arith, nat_tests)) (grind (arith, nat_tests))
+    default_is m (
+      grind (arith, nat_tests),
+      (
+        s,
+        (
+          grind (arith, nat_tests),
+          (
+            grind (arith, nat_tests),
+            (
+              grind (arith, nat_tests),
+              (
+                grind (arith, nat_tests),
+                (grind (arith, nat_tests), (grind (arith, nat_tests), grind (arith, nat_tests))),
+              ),
+            ),
+          ),
+        ),
+      ),
+    )
