@@ -3,7 +3,6 @@ use Rattle.std.proofs.Common.{◌≡◌, ℕ, zero, suc, ◌+◌, ◌-◌, ◌<�
 use Rattle.std.specs.Prelude.{nat_le, Result, Ok, Err}
 use Rattle.std.proofs.lemmas.Bool.{cases_Bool}
 use Rattle.std.proofs.lemmas.Bool.Decides.{nat_tests}
-use Rattle.ucl_word.specs.declared.record.MatchRecord.{MatchRecord}
 use Rattle.ucl_word.specs.Record.{is_valid}
 use Rattle.ucl_word.specs.Layout.{IsWord, first_layout, record_at, word_of}
 use Rattle.ucl_word.specs.Migration.{IsFirstWord, IsReadAs, IsReadable, first_word_of, most_in_first}
