@@ -10,7 +10,7 @@ use mathlib.Core.Logic.{dite}
 use native.Mathlib.Decide.{ℕ_discrete}
 use Rattle.ucl_word.specs.declared.record.MatchRecord.{MatchRecord}
 use Rattle.ucl_word.specs.declared.refusal.Refusal.{Refusal}
-use Rattle.ucl_word.specs.Record.{IsValid}
+use Rattle.ucl_word.specs.Record.{is_valid, IsValid}
 use Rattle.ucl_word.specs.Layout.{IsWord, record_at, word_of}
 use Rattle.ucl_word.specs.Rules.{after, refusal_of}
 use Rattle.ucl_word.proofs.AcceptedEvents.{accepts, after_number, after_valid}
@@ -19,8 +19,7 @@ use Rattle.ucl_word.proofs.Words.{record_back, word_valid}
 use Rattle.ucl_board.specs.Words.{AreWords, game_at, version_of}
 use Rattle.ucl_board.specs.History.{Attempt, IsAttempt, MayFollow, board_after, board_of}
 use Rattle.ucl_board.proofs.Histories.{board_words}
-use Rattle.ucl_screen.specs.WordsRead.{before_words, first_record_at, is_first_word, is_valid, is_word, read_word, read_words}
-use Rattle.ucl_screen.proofs.ReadWords.{valid-is}
+use Rattle.ucl_screen.specs.WordsRead.{before_words, first_record_at, is_first_word, is_word, read_word, read_words}
 use Rattle.ucl_word.specs.Migration.{first_word_of, most_in_first}
 use Rattle.std.specs.Prelude.{nat_le}
 
@@ -84,13 +83,13 @@ unfolding read_word
 of-either word new true q e f h =
     let same : word ≡ new = same-some word new (rw e at h) in
     let p = both (is_valid (record_at word)) (word_of (record_at word) == word) e in
-    subst IsWord same (record { of = record_at word; valid = valid-is (record_at word) p.0; packed = same-test (word_of (record_at word)) word p.1 })
+    subst IsWord same (record { of = record_at word; valid = p.0; packed = same-test (word_of (record_at word)) word p.1 })
 of-either word new false true e f h =
     let same : word_of (first_record_at word) ≡ new = same-some (word_of (first_record_at word)) new (rw (e, f) at h) in
     let m = first_record_at word in
     let p = both (is_valid m && nat_le m.number (most_in_first m.state)) (first_word_of m == word) f in
     let q = both (is_valid m) (nat_le m.number (most_in_first m.state)) p.0 in
-    subst IsWord same (packed m (valid-is m q.0))
+    subst IsWord same (packed m q.0)
 of-either word new false false e f h = cc (rw (e, f) at h)
 
 one-read : (word new : ℕ) → read_word word ≡ Some new → IsWord new

@@ -7,7 +7,6 @@ use Rattle.std.proofs.lemmas.Grind.{same_number_lists}
 use mathlib.Core.Logic.{dite}
 use native.Mathlib.Decide.{ℕ_discrete}
 use Rattle.ucl_word.specs.declared.record.MatchRecord.{MatchRecord}
-use Rattle.ucl_word.specs.declared.record.State.TheVariants.{Scheduled}
 use Rattle.ucl_word.specs.declared.event.Kind.{Kind}
 use Rattle.ucl_word.specs.declared.event.EventCall.{EventCall}
 use Rattle.ucl_word.specs.declared.refusal.Refusal.{Refusal}
@@ -55,23 +54,6 @@ each_match P a b c d e f g h i j k l n is =
 
 number_listed : (g d : ℕ) → IsMatch g → get_or match_numbers (g - 1) d ≡ g
 number_listed g d is = each_match (λ g. get_or match_numbers (g - 1) d ≡ g) refl refl refl refl refl refl refl refl refl refl refl refl g is
-
--- a record with these fields is that of a match that has not kicked off
-pub is_scheduled : (m : MatchRecord) → m.number ≡ 0 → m.state ≡ Scheduled → m.home_goals ≡ 0 → m.away_goals ≡ 0 → m.home_yellows ≡ 0 → m.away_yellows ≡ 0 → m.home_expulsions ≡ 0
-    → m.away_expulsions ≡ 0 → m.reporter ≡ 0 → m ≡ scheduled
-is_scheduled m a b c d e f g h i =
-    let same : record {
-      number = m.number;
-      state = m.state;
-      home_goals = m.home_goals;
-      away_goals = m.away_goals;
-      home_yellows = m.home_yellows;
-      away_yellows = m.away_yellows;
-      home_expulsions = m.home_expulsions;
-      away_expulsions = m.away_expulsions;
-      reporter = m.reporter;
-    } ≡ scheduled = cc in
-    same
 
 -- the board of no event
 pub board_none : replicate 12 (word_of scheduled) ≡ board_of []

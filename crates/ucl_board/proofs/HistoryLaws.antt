@@ -19,7 +19,8 @@ use Rattle.ucl_word.proofs.Sequences.{may_none, may_next, may_begin, may_last, m
 use Rattle.ucl_word.proofs.EntryCounts.{number_of_count, counted}
 use Rattle.ucl_word.proofs.AcceptedEvents.{Accepts, accepts}
 use Rattle.ucl_word.proofs.EventsApart.{events_apart}
-use Rattle.ucl_word.proofs.Words.{record_back, number_valid, words_apart}
+use Rattle.ucl_word.proofs.ValidRecords.{number_valid}
+use Rattle.ucl_word.proofs.Words.{record_back, words_apart}
 use Rattle.ucl_board.specs.declared.entry.Entry.{Entry}
 use Rattle.ucl_board.specs.Fixtures.{Fixture, at, fixture_of, IsMatch, IsSlot}
 use Rattle.ucl_board.specs.Words.{version_of, word_at}

@@ -1,5 +1,5 @@
 -- Histories: which are legal, the board after one, and the reply of the board of one thread.
-use Rattle.std.specs.Prelude.{◌≡◌, ℕ, ◌-◌, ◌==◌, List, [], ◌∷◌, ◌++◌, map, filter, take, slice_set, if◌then◌else◌, Result}
+use Rattle.std.specs.Prelude.{ℕ, ◌-◌, ◌==◌, List, [], ◌∷◌, ◌++◌, map, filter, take, slice_set, if◌then◌else◌, Result}
 use Rattle.std.specs.List.{fold}
 use Rattle.std.specs.Result.{is_ok}
 use Rattle.ucl_word.specs.declared.record.MatchRecord.{MatchRecord}

@@ -161,6 +161,7 @@ impl Board {
         None
     }
 
+    #[tactic(auto, using(ucl_word::proofs::ValidRecords::begun_reported))]
     fn next_in_match(&self, target: &Board, game: MatchNo) -> Option<(ReporterNo, EventCall)>
         requires { AreLed self.now target.now }
         ensures there { IfNone result (game_at self.now game ≡ game_at target.now game) }

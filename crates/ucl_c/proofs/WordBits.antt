@@ -1,44 +1,37 @@
 -- Which words are those of valid records, by what they hold.
-use Rattle.std.proofs.Common.{◌≡◌, ℕ, zero, suc, ◌<◌, ◌≤◌, ◌==◌, ◌&&◌, ◌||◌, ◌⊎◌, Bool, true, false, refl, sym, ap, ◌∙◌, subst, inl, inr, arith}
+use Rattle.std.proofs.Common.{◌≡◌, ℕ, zero, suc, ◌<◌, ◌≤◌, ◌==◌, ◌&&◌, ◌||◌, ◌⊎◌, Bool, true, false, refl, sym, ap, ◌∙◌, inl, inr, arith}
 use Rattle.std.proofs.lemmas.Bool.{cases_Bool}
 use Rattle.std.proofs.lemmas.Bool.Decides.{nat_tests}
-use Rattle.ucl_word.specs.Record.{IsValid, IsWithinLimits, SuitsState, scheduled}
+use Rattle.ucl_word.specs.Record.{is_valid, is_within_limits, scheduled, suits_state, IsValid}
 use Rattle.ucl_word.specs.Layout.{IsWord, layout, held_at, record_at, state_at, word_of}
 use Rattle.ucl_word.specs.Code.Reading.{HoldsRecord}
+use Rattle.ucl_word.proofs.ValidRecords.{parts, scheduled_valid, untouched as untouched_is, whole}
 use Rattle.ucl_word.proofs.Words.{held_word, word_holds, word_packed, word_valid}
-use Rattle.ucl_screen.specs.WordsRead.{is_valid, is_word}
-use Rattle.ucl_screen.proofs.ReadWords.{is-valid, valid-is}
+use Rattle.ucl_screen.specs.WordsRead.{is_word}
 use Rattle.ucl_c.specs.Inputs.{HasBegun}
 
 -- the word of a match before its kick-off
 abbrev pub untouched : ℕ
 untouched = 2305843009213693952
 
-fields_within : (word : ℕ) → IsWithinLimits (record_at word)
+fields_within : (word : ℕ) → is_within_limits (record_at word) ≡ true
 unfolding record_at
-fields_within word = record {
-  home_goals = grind arith;
-  away_goals = grind arith;
-  home_yellows = grind arith;
-  away_yellows = grind arith;
-  home_expulsions = grind arith;
-  away_expulsions = grind arith;
-}
+fields_within word = grind (arith, nat_tests)
 
 byte_low : (word : ℕ) → (record_at word).reporter ≤ 255
 unfolding record_at
 byte_low word = grind arith
 
-suited : (word code : ℕ) → held_at word layout.state ≡ code → HasBegun word → SuitsState (state_at code) (record_at word)
+suited : (word code : ℕ) → held_at word layout.state ≡ code → HasBegun word → suits_state (state_at code) (record_at word) ≡ true
 unfolding record_at
 suited word zero is h = absurd (let c = h.not_scheduled in omega arith)
-suited word (suc zero) is h = let l = h.low in let u = h.high in (omega arith, omega arith, (h.reporter, byte_low word))
-suited word (suc (suc zero)) is h = let l = h.low in let u = h.high in (omega arith, omega arith, (h.reporter, byte_low word))
+suited word (suc zero) is h = let l = h.low in let u = h.high in let r = h.reporter in let b = byte_low word in grind (arith, nat_tests)
+suited word (suc (suc zero)) is h = let l = h.low in let u = h.high in let r = h.reporter in let b = byte_low word in grind (arith, nat_tests)
 suited word (suc (suc (suc n))) is h = absurd (let k = h.known in omega arith)
 
 begun_valid : (word : ℕ) → HasBegun word → IsValid (record_at word)
 unfolding record_at
-begun_valid word h = record { within = fields_within word; suits = suited word (held_at word layout.state) refl h }
+begun_valid word h = whole (record_at word) (fields_within word) (suited word (held_at word layout.state) refl h)
 
 begun_word : (word : ℕ) → HasBegun word → IsWord word
 begun_word word h =
@@ -50,32 +43,23 @@ scheduled_packed : word_of scheduled ≡ untouched
 unfolding word_of
 scheduled_packed = refl
 
-scheduled_valid : IsValid scheduled
-scheduled_valid = record {
-  within = record { home_goals = omega arith; away_goals = omega arith; home_yellows = omega arith; away_yellows = omega arith; home_expulsions = omega arith; away_expulsions = omega arith };
-  suits = refl;
-}
-
 untouched_word : (word : ℕ) → word ≡ untouched → IsWord word
 untouched_word word is = record { of = scheduled; valid = scheduled_valid; packed = scheduled_packed ∙ sym is }
 
-suits_at : (word code : ℕ) → held_at word layout.state ≡ code → IsValid (record_at word) → SuitsState (state_at code) (record_at word)
+told_by : (word code : ℕ) → held_at word layout.state ≡ code → HoldsRecord word → suits_state (state_at code) (record_at word) ≡ true → HasBegun word ⊎ (word ≡ untouched)
 unfolding record_at
-suits_at word code is v = subst (λ (k : ℕ). SuitsState (state_at k) (record_at word)) is v.suits
-
-told_by : (word code : ℕ) → held_at word layout.state ≡ code → HoldsRecord word → SuitsState (state_at code) (record_at word) → HasBegun word ⊎ (word ≡ untouched)
-unfolding record_at
-told_by word zero is holds s = inr (sym (held_word word holds) ∙ (ap word_of s ∙ scheduled_packed))
-told_by word (suc zero) is holds s = let low = s.0 in let high = s.1 in
-    inl (record { marked = holds.marked; reporter = s.2.0; not_scheduled = omega arith; known = omega arith; low = omega arith; high = omega arith })
-told_by word (suc (suc zero)) is holds s = let low = s.0 in let high = s.1 in
-    inl (record { marked = holds.marked; reporter = s.2.0; not_scheduled = omega arith; known = omega arith; low = omega arith; high = omega arith })
+told_by word zero is holds s = inr (sym (held_word word holds) ∙ (ap word_of (untouched_is (record_at word) (ap state_at is) holds.valid) ∙ scheduled_packed))
+told_by word (suc zero) is holds s =
+    inl (record { marked = holds.marked; reporter = grind (arith, nat_tests); not_scheduled = omega arith; known = omega arith; low = grind (arith, nat_tests); high = grind (arith, nat_tests) })
+told_by word (suc (suc zero)) is holds s =
+    inl (record { marked = holds.marked; reporter = grind (arith, nat_tests); not_scheduled = omega arith; known = omega arith; low = grind (arith, nat_tests); high = grind (arith, nat_tests) })
 told_by word (suc (suc (suc n))) is holds s = absurd (let k = holds.state in omega arith)
 
 word_begun : (word : ℕ) → IsWord word → HasBegun word ⊎ (word ≡ untouched)
+unfolding record_at
 word_begun word is =
     let holds = word_holds word is in
-    told_by word (held_at word layout.state) refl holds (suits_at word (held_at word layout.state) refl holds.valid)
+    told_by word (held_at word layout.state) refl holds (parts (record_at word) holds.valid).1
 
 same_test : (a b : ℕ) → a ≡ b → (a == b) ≡ true
 same_test a b e = grind (arith, nat_tests)
@@ -100,10 +84,10 @@ both false b h = cc
 pub word_is : (word : ℕ) → is_word word ≡ true → IsWord word
 word_is word h =
     let p = both (is_valid (record_at word)) (word_of (record_at word) == word) h in
-    record { of = record_at word; valid = valid-is (record_at word) p.0; packed = test_same (word_of (record_at word)) word p.1 }
+    record { of = record_at word; valid = p.0; packed = test_same (word_of (record_at word)) word p.1 }
 
 pub is_of_word : (word : ℕ) → IsWord word → is_word word ≡ true
-is_of_word word w = rw (is-valid (record_at word) (word_valid word w), same_test (word_of (record_at word)) word (word_packed word w)) refl
+is_of_word word w = rw (word_valid word w, same_test (word_of (record_at word)) word (word_packed word w)) refl
 
 pub same_as_test : (word : ℕ) (found : Bool) → (found ≡ true → IsWord word) → (IsWord word → found ≡ true) → found ≡ is_word word
 same_as_test word true a b = sym (is_of_word word (a refl))

@@ -16,7 +16,8 @@ use Rattle.ucl_word.specs.Layout.{IsWord}
 use Rattle.ucl_word.specs.Names.{kind_named}
 use Rattle.ucl_word.specs.Record.{IsValid}
 use Rattle.ucl_word.specs.Rules.{answer, refusal_of, reply_of}
-use Rattle.ucl_word.proofs.Words.{number_valid, word_valid}
+use Rattle.ucl_word.proofs.ValidRecords.{number_valid}
+use Rattle.ucl_word.proofs.Words.{word_valid}
 use Rattle.ucl_board.specs.History.{Attempt, IsAttempt, board_after, board_of}
 use Rattle.ucl_board.specs.Words.{AreWords, game_at, version_of, word_at}
 use Rattle.ucl_board.proofs.Repeats.{no_refusal}

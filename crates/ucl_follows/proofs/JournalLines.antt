@@ -20,7 +20,8 @@ use Rattle.ucl_word.specs.Layout.{IsWord, record_at}
 use Rattle.ucl_word.specs.Record.{IsValid}
 use Rattle.ucl_word.specs.Names.{found_of, refusal_code, refusal_name}
 use Rattle.ucl_word.specs.Rules.{refusal_of}
-use Rattle.ucl_word.proofs.Words.{number_valid, reporter_valid, word_high, word_valid}
+use Rattle.ucl_word.proofs.ValidRecords.{number_valid, home_goals_valid, away_goals_valid, home_yellows_valid, away_yellows_valid, home_expulsions_valid, away_expulsions_valid, reporter_valid}
+use Rattle.ucl_word.proofs.Words.{word_high, word_valid}
 use Rattle.ucl_order.specs.Roster.{is_printed}
 use Rattle.ucl_screen.specs.declared.night.NightEvent.{NightEvent}
 use Rattle.ucl_json.specs.Lines.{json_line}
@@ -143,13 +144,12 @@ unfolding serde_json_on_literals
 match-plain game m g v =
     let state = state-text m.state in
     let short = state.1 in
-    let w = v.within in
-    let home_goals : m.home_goals < 2 ^ 64 = let n = w.home_goals in omega arith in
-    let away_goals : m.away_goals < 2 ^ 64 = let n = w.away_goals in omega arith in
-    let home_yellows : m.home_yellows < 2 ^ 64 = let n = w.home_yellows in omega arith in
-    let away_yellows : m.away_yellows < 2 ^ 64 = let n = w.away_yellows in omega arith in
-    let home_expulsions : m.home_expulsions < 2 ^ 64 = let n = w.home_expulsions in omega arith in
-    let away_expulsions : m.away_expulsions < 2 ^ 64 = let n = w.away_expulsions in omega arith in
+    let home_goals : m.home_goals < 2 ^ 64 = let n = home_goals_valid m v in omega arith in
+    let away_goals : m.away_goals < 2 ^ 64 = let n = away_goals_valid m v in omega arith in
+    let home_yellows : m.home_yellows < 2 ^ 64 = let n = home_yellows_valid m v in omega arith in
+    let away_yellows : m.away_yellows < 2 ^ 64 = let n = away_yellows_valid m v in omega arith in
+    let home_expulsions : m.home_expulsions < 2 ^ 64 = let n = home_expulsions_valid m v in omega arith in
+    let away_expulsions : m.away_expulsions < 2 ^ 64 = let n = away_expulsions_valid m v in omega arith in
     let number : m.number < 2 ^ 64 = let n = number_valid m v in omega arith in
     let reporter : m.reporter < 2 ^ 64 = let n = reporter_valid m v in omega arith in (
       ((refl, refl), ((home_expulsions, (away_expulsions, tt)), (g, (number, (reporter, ((home_goals, (away_goals, tt)), (state.0, ((home_yellows, (away_yellows, tt)), tt)))))))),

@@ -15,8 +15,10 @@ use Rattle.ucl_word.specs.declared.event.Kind.{Kind}
 use Rattle.ucl_word.specs.declared.event.Kind.TheVariants.{KickOff, Goal, Disallow, Yellow, SecondYellow, Red, FullTime, Reopen}
 use Rattle.ucl_word.specs.declared.event.Side.TheVariants.{Home, Away}
 use Rattle.ucl_word.specs.Layout.{record_at}
+use Rattle.ucl_word.specs.Names.{kind_name}
 use Rattle.ucl_word.specs.Rules.{is_in_play}
-use Rattle.ucl_word.proofs.Words.{number_valid, word_valid}
+use Rattle.ucl_word.proofs.ValidRecords.{number_valid}
+use Rattle.ucl_word.proofs.Words.{word_valid}
 use Rattle.ucl_board.specs.Fixtures.{IsSlot}
 use Rattle.ucl_board.specs.Words.{AreWords, version_of}
 use Rattle.ucl_order.specs.declared.profile.Profile.{Profile}
@@ -32,7 +34,7 @@ use Rattle.ucl_order.specs.Roster.{IsClub, IsRoster, NamedClub, club_in, is_club
 use Rattle.ucl_screen.specs.declared.night.NightEvent.{NightEvent}
 use Rattle.ucl_screen.specs.Numbers.{hex_digits}
 use Rattle.ucl_screen.specs.Screen.{IsGroup, in_play}
-use Rattle.ucl_json.specs.Values.{accepted_value, club_items, club_value, kind_name, mark_name, place_items, place_value, screen_value, word_items}
+use Rattle.ucl_json.specs.Values.{accepted_value, club_items, club_value, mark_name, place_items, place_value, screen_value, word_items}
 use Rattle.ucl_answers.proofs.WordDigits.{low, word-digits}
 use Rattle.ucl_follows.specs.declared.moment.Moment.{Moment}
 use Rattle.ucl_follows.specs.Answered.{HasNumbers, IsMoment, LinesTellTheirMoment}

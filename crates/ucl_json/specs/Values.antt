@@ -4,14 +4,11 @@ use Rattle.std.specs.Prelude.{ℕ, pos, ◌-ℤ◌, List, [], ◌∷◌, codes, 
 use Rattle.serde_json.specs.Data.{Data, Items, item, no_items, Members, member, no_members, array, number, object, put, string, unsigned}
 use Rattle.serde_json.specs.Find.{of_integer}
 use Rattle.ucl_word.specs.declared.event.Accepted.{Accepted}
-use Rattle.ucl_word.specs.declared.event.Kind.{Kind}
-use Rattle.ucl_word.specs.declared.event.Kind.TheVariants.{KickOff, Goal, Disallow, Yellow, SecondYellow, Red, FullTime, Reopen}
-use Rattle.ucl_word.specs.declared.event.Side.TheVariants.{Home, Away}
 use Rattle.ucl_word.specs.declared.record.MatchRecord.{MatchRecord}
 use Rattle.ucl_word.specs.declared.record.State.{State}
 use Rattle.ucl_word.specs.declared.record.State.TheVariants.{Scheduled, InPlay, Finished}
 use Rattle.ucl_word.specs.declared.refusal.Refusal.{Refusal}
-use Rattle.ucl_word.specs.Names.{found_of, refusal_code, refusal_name}
+use Rattle.ucl_word.specs.Names.{found_of, kind_name, refusal_code, refusal_name}
 use Rattle.ucl_board.specs.Words.{game_at, version_of}
 use Rattle.ucl_order.specs.declared.mark.Mark.{Mark}
 use Rattle.ucl_order.specs.declared.mark.Mark.TheVariants.{Plus, Minus, Blank}
@@ -67,22 +64,6 @@ match_value game m = object (
     member (codes "yellows") (sides_value m.home_yellows m.away_yellows) no_members)))))))
 
 -- ---- replies
-
--- the name by which a row asks for an event of this kind
-abbrev pub kind_name : Kind → List ℕ
-kind_name KickOff = codes "kickoff"
-kind_name (Goal Home) = codes "goal-home"
-kind_name (Goal Away) = codes "goal-away"
-kind_name (Disallow Home) = codes "disallow-home"
-kind_name (Disallow Away) = codes "disallow-away"
-kind_name (Yellow Home) = codes "yellow-home"
-kind_name (Yellow Away) = codes "yellow-away"
-kind_name (SecondYellow Home) = codes "second-yellow-home"
-kind_name (SecondYellow Away) = codes "second-yellow-away"
-kind_name (Red Home) = codes "red-home"
-kind_name (Red Away) = codes "red-away"
-kind_name FullTime = codes "fulltime"
-kind_name Reopen = codes "reopen"
 
 -- the reply to an event that was entered, with the row as it was read, the group, its order and clubs, and the board after the event
 unfoldable pub accepted_value : ℕ → NightEvent → ℕ → Profile → List ℕ → List NamedClub → ℕ → Data

@@ -1,11 +1,10 @@
 //! Replies to rows.
 
-ghost use Rattle.std.specs.Prelude.{◌≡◌, ◌≤◌, [], ◌∷◌, IfOk, Some, length, string_bytes};
+ghost use Rattle.std.specs.Prelude.{◌≡◌, IfOk, string_bytes};
 ghost use Rattle.serde_json.specs.View.{view};
-ghost use Rattle.ucl_word.specs.Names.{kind_named};
 ghost use Rattle.ucl_screen.specs.Screen.{IsGroup};
 ghost use Rattle.ucl_json.specs.Lines.{IsLineOf};
-ghost use Rattle.ucl_json.specs.Values.{accepted_value, bad_row_value, bad_value, coded_value, kind_name, match_value, numbered_value, refused_value, reply_value, state_name};
+ghost use Rattle.ucl_json.specs.Values.{accepted_value, bad_row_value, bad_value, coded_value, match_value, numbered_value, refused_value, reply_value, state_name};
 
 use crate::clubs::club_values;
 use crate::line::line_of;
@@ -16,7 +15,7 @@ use std::alloc::{AllocError, Global};
 use ucl_board::Board;
 use ucl_order::{Profile, Roster};
 use ucl_screen::NightEvent;
-use ucl_word::{Accepted, Kind, MatchNo, MatchRecord, Refusal, Side, State};
+use ucl_word::{Accepted, MatchNo, MatchRecord, Refusal, State};
 
 /// The name of a state.
 fn state_name(state: State) -> &'static str
@@ -26,29 +25,6 @@ fn state_name(state: State) -> &'static str
         State::Scheduled => "SCHEDULED",
         State::InPlay => "IN PLAY",
         State::Finished => "FINISHED",
-    }
-}
-
-/// The name by which a row asks for an event of this kind.
-#[tactic(auto, unfolding(ucl_word::specs::Names::kind_named))]
-fn kind_name(kind: Kind) -> &'static str
-    ensures name { result.now ≡ kind_name kind }
-    ensures named { kind_named result.now ≡ Some kind }
-{
-    match kind {
-        Kind::KickOff => "kickoff",
-        Kind::Goal(Side::Home) => "goal-home",
-        Kind::Goal(Side::Away) => "goal-away",
-        Kind::Disallow(Side::Home) => "disallow-home",
-        Kind::Disallow(Side::Away) => "disallow-away",
-        Kind::Yellow(Side::Home) => "yellow-home",
-        Kind::Yellow(Side::Away) => "yellow-away",
-        Kind::SecondYellow(Side::Home) => "second-yellow-home",
-        Kind::SecondYellow(Side::Away) => "second-yellow-away",
-        Kind::Red(Side::Home) => "red-home",
-        Kind::Red(Side::Away) => "red-away",
-        Kind::FullTime => "fulltime",
-        Kind::Reopen => "reopen",
     }
 }
 
@@ -91,7 +67,7 @@ fn accepted_value(
         "reporter": event.reporter.get(),
         "match": event.call.game.get(),
         "expected": event.call.expected,
-        "event": kind_name(event.call.kind),
+        "event": event.call.kind.name(),
         "number": number,
         "version": board.version(),
         "group": letter_of(group),
@@ -117,7 +93,7 @@ fn coded_value(
         "reporter": event.reporter.get(),
         "match": event.call.game.get(),
         "expected": event.call.expected,
-        "event": kind_name(event.call.kind),
+        "event": event.call.kind.name(),
         "code": code,
         "name": name
     })
@@ -143,7 +119,7 @@ fn numbered_value(
         "reporter": event.reporter.get(),
         "match": event.call.game.get(),
         "expected": event.call.expected,
-        "event": kind_name(event.call.kind),
+        "event": event.call.kind.name(),
         "code": code,
         "name": name,
         "number": found,

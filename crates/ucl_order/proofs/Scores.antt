@@ -3,6 +3,7 @@ use Rattle.std.proofs.Common.{◌≡◌, ℕ, ◌-◌, List, [], ◌∷◌, map,
 use Rattle.std.specs.Prelude.{slice_index}
 use Rattle.ucl_word.specs.declared.record.MatchRecord.{MatchRecord}
 use Rattle.ucl_word.specs.Record.{IsValid}
+use Rattle.ucl_word.proofs.ValidRecords.{home_goals_valid, away_goals_valid, home_yellows_valid, away_yellows_valid, home_expulsions_valid, away_expulsions_valid}
 use Rattle.ucl_board.specs.Fixtures.{IsMatch, fixture_of}
 use Rattle.ucl_board.specs.Words.{game_at}
 use Rattle.ucl_order.specs.declared.game.Match.{Match}
@@ -16,16 +17,14 @@ use Rattle.ucl_order.specs.Marks.{mark_by, mark_of}
 use Rattle.ucl_order.specs.Rows.{row_with, row_of, rows_of}
 
 pub score_is : (m : MatchRecord) → IsValid m → IsScore (score_of m)
-score_is m valid =
-    let w = valid.within in
-    record {
-      home_goals = w.home_goals;
-      away_goals = w.away_goals;
-      home_yellows = w.home_yellows;
-      away_yellows = w.away_yellows;
-      home_expulsions = w.home_expulsions;
-      away_expulsions = w.away_expulsions;
-    }
+score_is m valid = record {
+  home_goals = home_goals_valid m valid;
+  away_goals = away_goals_valid m valid;
+  home_yellows = home_yellows_valid m valid;
+  away_yellows = away_yellows_valid m valid;
+  home_expulsions = home_expulsions_valid m valid;
+  away_expulsions = away_expulsions_valid m valid;
+}
 
 -- the rows, by the matches of a board
 abbrev rows_by : Profile → List NamedClub → List Match → List Row

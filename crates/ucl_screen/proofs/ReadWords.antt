@@ -3,65 +3,17 @@ use Rattle.std.proofs.Common.{◌≡◌, ℕ, zero, suc, ◌+◌, ◌-◌, ◌<�
 use Rattle.std.specs.Prelude.{nat_le, Result, Ok, Err}
 use Rattle.std.proofs.lemmas.Bool.{cases_Bool}
 use Rattle.std.proofs.lemmas.Bool.Decides.{nat_tests}
-use Rattle.ucl_word.specs.declared.record.MatchRecord.{MatchRecord}
-use Rattle.ucl_word.specs.declared.record.State.{State}
-use Rattle.ucl_word.specs.declared.record.State.TheVariants.{Scheduled, InPlay, Finished}
-use Rattle.ucl_word.specs.Record.{IsValid, IsWithinLimits, SuitsState, scheduled}
+use Rattle.ucl_word.specs.Record.{is_valid}
 use Rattle.ucl_word.specs.Layout.{IsWord, first_layout, record_at, word_of}
 use Rattle.ucl_word.specs.Migration.{IsFirstWord, IsReadAs, IsReadable, first_word_of, most_in_first}
 use Rattle.ucl_word.proofs.Words.{record_told, word_packed, word_valid}
 use Rattle.ucl_word.proofs.FirstWords.{first_back, layouts_apart}
 use Rattle.ucl_board.specs.Words.{AreReadAs, IsFirstBad}
-use Rattle.ucl_screen.specs.WordsRead.{before_words, first_record_at, is_first_word, is_untouched, is_valid, is_within_limits, is_word, read_word, read_words, suits}
-
--- which records are valid
-
-within-is : (m : MatchRecord) → is_within_limits m ≡ true → IsWithinLimits m
-within-is m h = record {
-  home_goals = grind (arith, nat_tests);
-  away_goals = grind (arith, nat_tests);
-  home_yellows = grind (arith, nat_tests);
-  away_yellows = grind (arith, nat_tests);
-  home_expulsions = grind (arith, nat_tests);
-  away_expulsions = grind (arith, nat_tests);
-}
-
-is-within : (m : MatchRecord) → IsWithinLimits m → is_within_limits m ≡ true
-is-within m w =
-    let a = w.home_goals in let b = w.away_goals in let c = w.home_yellows in let d = w.away_yellows in let e = w.home_expulsions in let f = w.away_expulsions in
-    grind (arith, nat_tests)
-
-zeros : (s : State) (n hg ag hy ay he ae r : ℕ) → s ≡ Scheduled → n ≡ 0 → hg ≡ 0 → ag ≡ 0 → hy ≡ 0 → ay ≡ 0 → he ≡ 0 → ae ≡ 0 → r ≡ 0
-    → record { number = n; state = s; home_goals = hg; away_goals = ag; home_yellows = hy; away_yellows = ay; home_expulsions = he; away_expulsions = ae; reporter = r } ≡ scheduled
-zeros s n hg ag hy ay he ae r e0 e1 e2 e3 e4 e5 e6 e7 e8 = cc
-
-untouched-is : (m : MatchRecord) → m.state ≡ Scheduled → is_untouched m ≡ true → m ≡ scheduled
-untouched-is m s h =
-    zeros m.state m.number m.home_goals m.away_goals m.home_yellows m.away_yellows m.home_expulsions m.away_expulsions m.reporter s
-    (grind (arith, nat_tests)) (grind (arith, nat_tests)) (grind (arith, nat_tests)) (grind (arith, nat_tests))
-    (grind (arith, nat_tests)) (grind (arith, nat_tests)) (grind (arith, nat_tests)) (grind (arith, nat_tests))
-
-suits-is : (s : State) (m : MatchRecord) → m.state ≡ s → suits s m ≡ true → SuitsState s m
-suits-is Scheduled m e h = untouched-is m e h
-suits-is InPlay m e h = (grind (arith, nat_tests), grind (arith, nat_tests), (grind (arith, nat_tests), grind (arith, nat_tests)))
-suits-is Finished m e h = (grind (arith, nat_tests), grind (arith, nat_tests), (grind (arith, nat_tests), grind (arith, nat_tests)))
-
-is-suited : (s : State) (m : MatchRecord) → SuitsState s m → suits s m ≡ true
-is-suited Scheduled m h = rw h refl
-is-suited InPlay m h = let a = h.0 in let b = h.1 in let c = h.2.0 in let d = h.2.1 in grind (arith, nat_tests)
-is-suited Finished m h = let a = h.0 in let b = h.1 in let c = h.2.0 in let d = h.2.1 in grind (arith, nat_tests)
+use Rattle.ucl_screen.specs.WordsRead.{before_words, first_record_at, is_first_word, is_word, read_word, read_words}
 
 both : (a b : Bool) → (a && b) ≡ true → (a ≡ true) × (b ≡ true)
 both true b h = (refl, h)
 both false b h = cc
-
-pub valid-is : (m : MatchRecord) → is_valid m ≡ true → IsValid m
-unfolding is_valid
-valid-is m h = let p = both (is_within_limits m) (suits m.state m) h in record { within = within-is m p.0; suits = suits-is m.state m refl p.1 }
-
-pub is-valid : (m : MatchRecord) → IsValid m → is_valid m ≡ true
-unfolding is_valid
-is-valid m v = rw (is-within m v.within, is-suited m.state m v.suits) refl
 
 -- what a word is read as
 
@@ -77,10 +29,10 @@ test-below a b e = grind (arith, nat_tests)
 word-is : (word : ℕ) → is_word word ≡ true → IsWord word
 word-is word h =
     let p = both (is_valid (record_at word)) (word_of (record_at word) == word) h in
-    record { of = record_at word; valid = valid-is (record_at word) p.0; packed = test-same (word_of (record_at word)) word p.1 }
+    record { of = record_at word; valid = p.0; packed = test-same (word_of (record_at word)) word p.1 }
 
 is-word : (word : ℕ) → IsWord word → is_word word ≡ true
-is-word word w = rw (is-valid (record_at word) (word_valid word w), same-test (word_of (record_at word)) word (word_packed word w)) refl
+is-word word w = rw (word_valid word w, same-test (word_of (record_at word)) word (word_packed word w)) refl
 
 first-told : (word : ℕ) → first_record_at word ≡ record_told first_layout.number.width word
 unfolding first_record_at
@@ -91,7 +43,7 @@ first-is word h =
     let m = first_record_at word in
     let p = both (is_valid m && nat_le m.number (most_in_first m.state)) (first_word_of m == word) h in
     let q = both (is_valid m) (nat_le m.number (most_in_first m.state)) p.0 in
-    record { of = m; valid = record { valid = valid-is m q.0; number = test-below m.number (most_in_first m.state) q.1 }; packed = test-same (first_word_of m) word p.1 }
+    record { of = m; valid = record { valid = q.0; number = test-below m.number (most_in_first m.state) q.1 }; packed = test-same (first_word_of m) word p.1 }
 
 first-of : (word : ℕ) (w : IsFirstWord word) → first_record_at word ≡ w.of
 first-of word w = first-told word ∙ ap (record_told first_layout.number.width) (sym w.packed) ∙ first_back w.of w.valid
@@ -99,7 +51,7 @@ first-of word w = first-told word ∙ ap (record_told first_layout.number.width)
 is-first : (word : ℕ) → IsFirstWord word → is_first_word word ≡ true
 is-first word w =
     let e = first-of word w in
-    let a = is-valid w.of w.valid.valid in
+    let a = w.valid.valid in
     let b : nat_le w.of.number (most_in_first w.of.state) ≡ true = let k = w.valid.number in grind (arith, nat_tests) in
     let c = same-test (first_word_of w.of) word w.packed in rw (e, a, b, c) refl
 

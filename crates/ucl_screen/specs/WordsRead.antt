@@ -1,34 +1,9 @@
 -- What words are read as: a word of the layout as it is, and a word of the layout before it as the word of the same record.
 use Rattle.std.specs.Prelude.{ℕ, ◌+◌, ◌==◌, ◌&&◌, nat_le, if◌then◌else◌, Bool, List, [], ◌∷◌, Option, Some, None, Result, Ok, Err}
 use Rattle.ucl_word.specs.declared.record.MatchRecord.{MatchRecord}
-use Rattle.ucl_word.specs.declared.record.State.{State}
-use Rattle.ucl_word.specs.declared.record.State.TheVariants.{Scheduled, InPlay, Finished}
-use Rattle.ucl_word.specs.Record.{last_in_play, last_number}
+use Rattle.ucl_word.specs.Record.{is_valid}
 use Rattle.ucl_word.specs.Layout.{first_layout, record_at, record_in, word_of}
 use Rattle.ucl_word.specs.Migration.{first_word_of, most_in_first}
-
-abbrev pub is_within_limits : MatchRecord → Bool
-is_within_limits m =
-    nat_le m.home_goals 63 && nat_le m.away_goals 63 && nat_le m.home_yellows 63 && nat_le m.away_yellows 63
-    && nat_le m.home_expulsions 31 && nat_le m.away_expulsions 31
-
-abbrev pub is_reporter : ℕ → Bool
-is_reporter n = nat_le 1 n && nat_le n 255
-
--- no event yet: every number is 0
-abbrev pub is_untouched : MatchRecord → Bool
-is_untouched m =
-    (m.number == 0) && (m.home_goals == 0) && (m.away_goals == 0) && (m.home_yellows == 0) && (m.away_yellows == 0)
-    && (m.home_expulsions == 0) && (m.away_expulsions == 0) && (m.reporter == 0)
-
-abbrev pub suits : State → MatchRecord → Bool
-suits Scheduled m = is_untouched m
-suits InPlay m = nat_le 1 m.number && nat_le m.number last_in_play && is_reporter m.reporter
-suits Finished m = nat_le 2 m.number && nat_le m.number last_number && is_reporter m.reporter
-
--- whether a match can have this record
-unfoldable pub is_valid : MatchRecord → Bool
-is_valid m = is_within_limits m && suits m.state m
 
 -- what the fields of a word of the first layout hold
 unfoldable pub first_record_at : ℕ → MatchRecord

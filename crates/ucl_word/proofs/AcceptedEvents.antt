@@ -1,5 +1,5 @@
 -- What an accepted event tells of the record, and that the record after it is valid.
-use Rattle.std.proofs.Common.{◌≡◌, ℕ, ◌+◌, ◌<◌, ◌≤◌, Bool, true, false, ◌==◌, Option, Some, None, refl, sym, ap, ◌∙◌, subst, arith, eq-eqb}
+use Rattle.std.proofs.Common.{◌≡◌, ℕ, ◌+◌, ◌<◌, ◌≤◌, Bool, true, false, ◌==◌, Option, Some, None, refl, ◌∙◌, arith, eq-eqb}
 use Rattle.std.proofs.lemmas.Bool.Decides.{nat_tests}
 use Rattle.std.specs.Prelude.{not, nat_le, ◌&&◌, if◌then◌else◌}
 use Rattle.ucl_word.specs.declared.record.MatchRecord.{MatchRecord}
@@ -9,8 +9,9 @@ use Rattle.ucl_word.specs.declared.event.Side.TheVariants.{Home, Away}
 use Rattle.ucl_word.specs.declared.event.Kind.{Kind}
 use Rattle.ucl_word.specs.declared.event.Kind.TheVariants.{KickOff, Goal, Disallow, Yellow, SecondYellow, Red, FullTime, Reopen}
 use Rattle.ucl_word.specs.declared.refusal.Refusal.{Refusal}
-use Rattle.ucl_word.specs.Record.{last_in_play, IsReporter, IsWithinLimits, SuitsState, IsValid}
+use Rattle.ucl_word.specs.Record.{is_within_limits, last_in_play, suits_state, IsReporter, IsValid}
 use Rattle.ucl_word.specs.Rules.{is_scheduled, is_in_play, is_finished, is_kick_off, is_full_time, is_reopen, lacks_goal, lacks_caution, passes_limit, refusal_of, after}
+use Rattle.ucl_word.proofs.ValidRecords.{parts, whole}
 
 -- no condition of a refusal holds
 pub record Accepts (m : MatchRecord) (expected : ℕ) (kind : Kind) : Type 0 where
@@ -64,79 +65,53 @@ room_left : (n : ℕ) → (nat_le last_in_play n && true) ≡ false → n < last
 room_left n h = grind (arith, nat_tests)
 
 in_play : (m : MatchRecord) → m.state ≡ InPlay → IsValid m → (1 ≤ m.number) × (m.number ≤ last_in_play)
-in_play m e v = let s = subst (λ (s : State). SuitsState s m) e v.suits in (s.0, s.1)
+in_play m e v = let s = rw e at (parts m v).1 in (grind (arith, nat_tests), grind (arith, nat_tests))
 
 finished : (m : MatchRecord) → m.state ≡ Finished → IsValid m → 2 ≤ m.number
-finished m e v = (subst (λ (s : State). SuitsState s m) e v.suits).0
+finished m e v = let s = rw e at (parts m v).1 in grind (arith, nat_tests)
 
-suits_in_play : (s : State) (m : MatchRecord) → s ≡ InPlay → 1 ≤ m.number → m.number ≤ last_in_play → IsReporter m.reporter → SuitsState s m
-suits_in_play s m e low high r = subst (λ (s : State). SuitsState s m) (sym e) (low, high, r)
+suits_in_play : (s : State) (m : MatchRecord) → s ≡ InPlay → 1 ≤ m.number → m.number ≤ last_in_play → IsReporter m.reporter → suits_state s m ≡ true
+suits_in_play s m e low high r = let a = r.0 in let b = r.1 in rw e (grind (arith, nat_tests))
 
 module _ (m : MatchRecord) (reporter expected : ℕ) where
-  after_within : (kind : Kind) → IsValid m → Accepts m expected kind → IsWithinLimits (after m reporter kind)
+  after_within : (kind : Kind) → is_within_limits m ≡ true → Accepts m expected kind → is_within_limits (after m reporter kind) ≡ true
   unfolding after
-  after_within KickOff v a =
-      let w = v.within in
-      record { home_goals = omega arith; away_goals = omega arith; home_yellows = omega arith; away_yellows = omega arith; home_expulsions = omega arith; away_expulsions = omega arith }
-  after_within FullTime v a =
-      let w = v.within in
-      record { home_goals = omega arith; away_goals = omega arith; home_yellows = omega arith; away_yellows = omega arith; home_expulsions = omega arith; away_expulsions = omega arith }
-  after_within Reopen v a =
-      let w = v.within in
-      record { home_goals = omega arith; away_goals = omega arith; home_yellows = omega arith; away_yellows = omega arith; home_expulsions = omega arith; away_expulsions = omega arith }
-  after_within (Goal Home) v a =
-      let w = v.within in let l = under 63 m.home_goals a.limit in
-      record { home_goals = omega arith; away_goals = omega arith; home_yellows = omega arith; away_yellows = omega arith; home_expulsions = omega arith; away_expulsions = omega arith }
-  after_within (Goal Away) v a =
-      let w = v.within in let l = under 63 m.away_goals a.limit in
-      record { home_goals = omega arith; away_goals = omega arith; home_yellows = omega arith; away_yellows = omega arith; home_expulsions = omega arith; away_expulsions = omega arith }
-  after_within (Disallow Home) v a =
-      let w = v.within in
-      record { home_goals = omega arith; away_goals = omega arith; home_yellows = omega arith; away_yellows = omega arith; home_expulsions = omega arith; away_expulsions = omega arith }
-  after_within (Disallow Away) v a =
-      let w = v.within in
-      record { home_goals = omega arith; away_goals = omega arith; home_yellows = omega arith; away_yellows = omega arith; home_expulsions = omega arith; away_expulsions = omega arith }
-  after_within (Yellow Home) v a =
-      let w = v.within in let l = under 63 m.home_yellows a.limit in
-      record { home_goals = omega arith; away_goals = omega arith; home_yellows = omega arith; away_yellows = omega arith; home_expulsions = omega arith; away_expulsions = omega arith }
-  after_within (Yellow Away) v a =
-      let w = v.within in let l = under 63 m.away_yellows a.limit in
-      record { home_goals = omega arith; away_goals = omega arith; home_yellows = omega arith; away_yellows = omega arith; home_expulsions = omega arith; away_expulsions = omega arith }
-  after_within (SecondYellow Home) v a =
-      let w = v.within in let l = under 31 m.home_expulsions a.limit in
-      record { home_goals = omega arith; away_goals = omega arith; home_yellows = omega arith; away_yellows = omega arith; home_expulsions = omega arith; away_expulsions = omega arith }
-  after_within (SecondYellow Away) v a =
-      let w = v.within in let l = under 31 m.away_expulsions a.limit in
-      record { home_goals = omega arith; away_goals = omega arith; home_yellows = omega arith; away_yellows = omega arith; home_expulsions = omega arith; away_expulsions = omega arith }
-  after_within (Red Home) v a =
-      let w = v.within in let l = under 31 m.home_expulsions a.limit in
-      record { home_goals = omega arith; away_goals = omega arith; home_yellows = omega arith; away_yellows = omega arith; home_expulsions = omega arith; away_expulsions = omega arith }
-  after_within (Red Away) v a =
-      let w = v.within in let l = under 31 m.away_expulsions a.limit in
-      record { home_goals = omega arith; away_goals = omega arith; home_yellows = omega arith; away_yellows = omega arith; home_expulsions = omega arith; away_expulsions = omega arith }
+  after_within KickOff w a = w
+  after_within FullTime w a = w
+  after_within Reopen w a = w
+  after_within (Goal Home) w a = let l = under 63 m.home_goals a.limit in grind (arith, nat_tests)
+  after_within (Goal Away) w a = let l = under 63 m.away_goals a.limit in grind (arith, nat_tests)
+  after_within (Disallow Home) w a = grind (arith, nat_tests)
+  after_within (Disallow Away) w a = grind (arith, nat_tests)
+  after_within (Yellow Home) w a = let l = under 63 m.home_yellows a.limit in grind (arith, nat_tests)
+  after_within (Yellow Away) w a = let l = under 63 m.away_yellows a.limit in grind (arith, nat_tests)
+  after_within (SecondYellow Home) w a = let l = under 31 m.home_expulsions a.limit in grind (arith, nat_tests)
+  after_within (SecondYellow Away) w a = let l = under 31 m.away_expulsions a.limit in grind (arith, nat_tests)
+  after_within (Red Home) w a = let l = under 31 m.home_expulsions a.limit in grind (arith, nat_tests)
+  after_within (Red Away) w a = let l = under 31 m.away_expulsions a.limit in grind (arith, nat_tests)
 
   -- a match that goes on
   goes_on : (m' : MatchRecord) → IsValid m → IsReporter reporter → (is_finished m.state && true) ≡ false → (is_scheduled m.state && true) ≡ false → (nat_le last_in_play m.number && true) ≡ false
-      → m'.state ≡ m.state → m'.number ≡ m.number + 1 → m'.reporter ≡ reporter → SuitsState m'.state m'
+      → m'.state ≡ m.state → m'.number ≡ m.number + 1 → m'.reporter ≡ reporter → suits_state m'.state m' ≡ true
   goes_on m' v r f s n is_state is_number is_reporter =
       let e = begun m.state f s in
       let now = in_play m e v in
       let room = room_left m.number n in
       suits_in_play m'.state m' (is_state ∙ e) (omega arith) (omega arith) (rw is_reporter r)
 
-  after_suits : (kind : Kind) → IsValid m → IsReporter reporter → Accepts m expected kind → SuitsState (after m reporter kind).state (after m reporter kind)
+  after_suits : (kind : Kind) → IsValid m → IsReporter reporter → Accepts m expected kind → suits_state (after m reporter kind).state (after m reporter kind) ≡ true
   unfolding after
   after_suits KickOff v r a =
-      let e = subst (λ (s : State). SuitsState s m) (unbegun m.state a.unfinished a.not_started) v.suits in
-      let zero : m.number ≡ 0 = ap (λ (m : MatchRecord). m.number) e in
-      (omega arith, omega arith, r)
+      let s = rw (unbegun m.state a.unfinished a.not_started) at (parts m v).1 in
+      let zero : m.number ≡ 0 = grind (arith, nat_tests) in
+      suits_in_play InPlay (after m reporter KickOff) refl (omega arith) (omega arith) r
   after_suits FullTime v r a =
       let now = in_play m (begun m.state a.unfinished a.started) v in
-      (omega arith, omega arith, r)
+      let n = now.1 in let low = r.0 in let high = r.1 in grind (arith, nat_tests)
   after_suits Reopen v r a =
       let low = finished m (over m.state a.finished) v in
       let room = room_left m.number a.room in
-      (omega arith, omega arith, r)
+      suits_in_play InPlay (after m reporter Reopen) refl (omega arith) (omega arith) r
   after_suits (Goal Home) v r a = goes_on (after m reporter (Goal Home)) v r a.unfinished a.started a.room refl refl refl
   after_suits (Goal Away) v r a = goes_on (after m reporter (Goal Away)) v r a.unfinished a.started a.room refl refl refl
   after_suits (Disallow Home) v r a = goes_on (after m reporter (Disallow Home)) v r a.unfinished a.started a.room refl refl refl
@@ -149,7 +124,7 @@ module _ (m : MatchRecord) (reporter expected : ℕ) where
   after_suits (Red Away) v r a = goes_on (after m reporter (Red Away)) v r a.unfinished a.started a.room refl refl refl
 
   pub after_valid : (kind : Kind) → IsValid m → IsReporter reporter → Accepts m expected kind → IsValid (after m reporter kind)
-  after_valid kind v r a = record { within = after_within kind v a; suits = after_suits kind v r a }
+  after_valid kind v r a = whole (after m reporter kind) (after_within kind (parts m v).0 a) (after_suits kind v r a)
 
 and_no : (b : Bool) → (b && false) ≡ false
 and_no true = refl

@@ -1,9 +1,8 @@
 -- What each change of a word does to its record, and that the next word is that of the record after the event.
-use Rattle.std.proofs.Common.{◌≡◌, ℕ, ◌+◌, ◌-◌, ◌*◌, ◌^◌, ◌<◌, ◌≤◌, true, false, None, Result, Ok, Err, refl, sym, ap, ◌∙◌, subst, arith}
+use Rattle.std.proofs.Common.{◌≡◌, ℕ, ◌+◌, ◌-◌, ◌*◌, ◌^◌, ◌<◌, ◌≤◌, true, false, None, Result, Ok, Err, refl, sym, ap, ◌∙◌, arith}
 use Rattle.std.proofs.lemmas.Bool.Decides.{nat_tests}
 use Rattle.std.specs.Prelude.{nat_le, ◌==◌}
 use Rattle.ucl_word.specs.declared.record.MatchRecord.{MatchRecord}
-use Rattle.ucl_word.specs.declared.record.State.{State}
 use Rattle.ucl_word.specs.declared.record.State.TheVariants.{Scheduled, InPlay, Finished}
 use Rattle.ucl_word.specs.declared.event.Side.{Side}
 use Rattle.ucl_word.specs.declared.event.Side.TheVariants.{Home, Away}
@@ -11,10 +10,11 @@ use Rattle.ucl_word.specs.declared.event.Kind.{Kind}
 use Rattle.ucl_word.specs.declared.event.Kind.TheVariants.{KickOff, Goal, Disallow, Yellow, SecondYellow, Red, FullTime, Reopen}
 use Rattle.ucl_word.specs.declared.refusal.Refusal.{Refusal}
 use Rattle.ucl_word.specs.declared.refusal.Refusal.TheVariants.{NoGoal, NoCaution}
-use Rattle.ucl_word.specs.Record.{IsReporter, SuitsState, IsValid}
+use Rattle.ucl_word.specs.Record.{IsReporter, IsValid}
 use Rattle.ucl_word.specs.Layout.{layout, word_of, record_at, state_code, bits_at, IsWord}
 use Rattle.ucl_word.specs.Rules.{goals, yellows, expulsions, refusal_of, changed_by, after}
 use Rattle.ucl_word.specs.Code.Changes.{goals_field, yellows_field, expulsions_field, Raises, Lowers, Changes}
+use Rattle.ucl_word.proofs.ValidRecords.{parts, whole}
 use Rattle.ucl_word.proofs.Words.{word_high, word_valid, word_packed, record_back}
 use Rattle.ucl_word.proofs.AcceptedEvents.{accepts, after_valid}
 
@@ -87,14 +87,8 @@ yellow_turned Away m = omega arith
 
 fewer_valid : (side : Side) (m : MatchRecord) → m.state ≡ InPlay → IsValid m → IsValid (without_yellow side m)
 unfolding without_yellow
-fewer_valid Home m e v = let w = v.within in let s = subst (λ (s : State). SuitsState s m) e v.suits in record {
-  within = record { home_goals = omega arith; away_goals = omega arith; home_yellows = omega arith; away_yellows = omega arith; home_expulsions = omega arith; away_expulsions = omega arith };
-  suits = subst (λ (s : State). SuitsState s (without_yellow Home m)) (sym e) s;
-}
-fewer_valid Away m e v = let w = v.within in let s = subst (λ (s : State). SuitsState s m) e v.suits in record {
-  within = record { home_goals = omega arith; away_goals = omega arith; home_yellows = omega arith; away_yellows = omega arith; home_expulsions = omega arith; away_expulsions = omega arith };
-  suits = subst (λ (s : State). SuitsState s (without_yellow Away m)) (sym e) s;
-}
+fewer_valid Home m e v = let p = parts m v in let w = p.0 in whole (without_yellow Home m) (grind (arith, nat_tests)) (rw e (rw e at p.1))
+fewer_valid Away m e v = let p = parts m v in let w = p.0 in whole (without_yellow Away m) (grind (arith, nat_tests)) (rw e (rw e at p.1))
 
 fewer_expulsions : (side : Side) (m : MatchRecord) → expulsions side (without_yellow side m) ≡ expulsions side m
 unfolding without_yellow

@@ -15,6 +15,7 @@ use Rattle.ucl_word.specs.Record.{scheduled, IsReporter, IsValid}
 use Rattle.ucl_word.specs.Rules.{is_kick_off, is_full_time, is_reopen, lacks_goal, lacks_caution, refusal_of, after}
 use Rattle.ucl_word.specs.Counts.{MatchEntry, count, is_goal, is_disallow, is_yellow, is_second_yellow, is_red, state_of, last_reporter, counted_match, IsAccepted, IsLegalMatch}
 use Rattle.ucl_word.specs.Laws.{IsBalanced, CaseOf, IsCase, OneCaseHolds}
+use Rattle.ucl_word.proofs.ValidRecords.{scheduled_valid}
 use Rattle.ucl_word.proofs.AcceptedEvents.{Accepts, accepts, begun, unbegun, over, after_valid}
 use Rattle.ucl_word.proofs.Sequences.{may_induction, may_next}
 
@@ -194,17 +195,7 @@ one_case es legal s = (
 -- the record after a legal list of entries is one that a match can have
 pub legal_valid : (es : List MatchEntry) → IsLegalMatch es → IsValid (counted_match es)
 legal_valid = may_induction IsAccepted (λ es. IsValid (counted_match es))
-    (rw record_none (record {
-      within = record {
-        home_goals = omega arith;
-        away_goals = omega arith;
-        home_yellows = omega arith;
-        away_yellows = omega arith;
-        home_expulsions = omega arith;
-        away_expulsions = omega arith;
-      };
-      suits = refl;
-    }))
+    (rw record_none scheduled_valid)
     (λ es e legal may v. let a = accepts (counted_match es) (length es) e.kind may.accepted in
     rw (record_next es e.reporter e.kind (legal_balanced es legal) (legal_case es legal) a) (after_valid (counted_match es) e.reporter (length es) e.kind v may.reporter a))
 

@@ -11,14 +11,14 @@ use Rattle.ucl_word.specs.declared.record.State.TheVariants.{Scheduled, InPlay, 
 use Rattle.ucl_word.specs.declared.event.Side.TheVariants.{Home, Away}
 use Rattle.ucl_word.specs.declared.event.Kind.{Kind}
 use Rattle.ucl_word.specs.declared.event.Kind.TheVariants.{KickOff, Goal, Disallow, Yellow, SecondYellow, Red, FullTime, Reopen}
-use Rattle.ucl_word.specs.Record.{scheduled, IsReporter, IsValid, SuitsState}
+use Rattle.ucl_word.specs.Record.{scheduled, IsReporter, IsValid}
 use Rattle.ucl_word.specs.Rules.{is_kick_off, is_full_time, is_reopen, after}
 use Rattle.ucl_word.specs.Counts.{MatchEntry, count, is_goal, is_disallow, is_yellow, is_second_yellow, is_red, state_of, counted_match, IsAccepted, IsLegalMatch}
 use Rattle.ucl_word.specs.Laws.{CaseOf}
 use Rattle.ucl_word.specs.Ways.{Leads, IsLed, IsReached, entries_under, turns, fewest_events, AddsUp, ReachedRecordsAddUp}
 use Rattle.ucl_word.specs.Code.Going.{apart, side_apart, after_sides, least_apart, OnWay}
+use Rattle.ucl_word.proofs.ValidRecords.{reported, scheduled_valid, untouched}
 use Rattle.ucl_word.proofs.Sequences.{may_none, may_induction}
-use Rattle.ucl_word.proofs.WayEvents.{same}
 use Rattle.ucl_word.proofs.WayGoes.{zero_or_one}
 use Rattle.ucl_word.proofs.WayLed.{on_led}
 use Rattle.ucl_word.proofs.EntryCounts.{count_next, legal_balanced, legal_case, legal_valid, counted, entered}
@@ -142,21 +142,15 @@ pub none_counted : counted_match [] ≡ scheduled
 unfolding counted_match
 none_counted = refl
 
-reporter_of : (s : State) (m : MatchRecord) → SuitsState s m → (s ≡ Scheduled → ⊥) → IsReporter m.reporter
-reporter_of Scheduled m s b = absurd (b refl)
-reporter_of InPlay m s b = s.2
-reporter_of Finished m s b = s.2
-
 pub led_reached : (m : MatchRecord) → IsValid m → (m.state ≡ Scheduled → ⊥) → IsLed scheduled m → IsReached m
 led_reached m v begun led = goes_on led.kinds [] scheduled m m.reporter (may_none IsAccepted) none_counted
-    (reporter_of m.state m v.suits begun) led.leads
+    (reported m v begun) led.leads
 
 pub none_reached : (m : MatchRecord) → m.state ≡ Scheduled → IsValid m → IsReached m
 none_reached m e v = record {
   entries = [];
   legal = may_none IsAccepted;
-  counted = none_counted ∙ sym
-      (subst (λ (s : State). SuitsState s m) e v.suits);
+  counted = none_counted ∙ sym (untouched m e v);
 }
 
 -- what is left over of a way from kick-off on
@@ -184,33 +178,12 @@ above_way m begun a = way_from m begun (2 * a.pairs + a.seconds) (let n = a.numb
 pub reached_way : (m : MatchRecord) → IsReached m → (m.state ≡ Scheduled → ⊥) → OnWay scheduled m
 reached_way m r begun = above_way m begun (reached_above m r begun)
 
-scheduled_valid : IsValid scheduled
-scheduled_valid = record {
-  within = record { home_goals = omega arith; away_goals = omega arith; home_yellows = omega arith; away_yellows = omega arith; home_expulsions = omega arith; away_expulsions = omega arith };
-  suits = refl;
-}
-
 pub way_led : (m : MatchRecord) → IsValid m → OnWay scheduled m → IsLed scheduled m
 way_led m v on = on_led scheduled m scheduled_valid v on
 
 -- what is reached is valid and led to, and the other way round
 pub reached_led : (m : MatchRecord) → (m.state ≡ Scheduled → ⊥) → IsReached m → IsLed scheduled m
 reached_led m begun r = way_led m (reached_valid m r) (reached_way m r begun)
-
-pub default_is : (m : MatchRecord) → (m.number ≡ 0) × ((m.state ≡ Scheduled) × ((m.home_goals ≡ 0) × ((m.away_goals ≡ 0) ×
-    ((m.home_yellows ≡ 0) × ((m.away_yellows ≡ 0) × ((m.home_expulsions ≡ 0) × ((m.away_expulsions ≡ 0) × (m.reporter ≡ 0))))))))
-    → m ≡ scheduled
-default_is m d = same m scheduled (record {
-  number = d.0;
-  state = d.1.0;
-  home_goals = d.1.1.0;
-  away_goals = d.1.1.1.0;
-  home_yellows = d.1.1.1.1.0;
-  away_yellows = d.1.1.1.1.1.0;
-  home_expulsions = d.1.1.1.1.1.1.0;
-  away_expulsions = d.1.1.1.1.1.1.1.0;
-  reporter = d.1.1.1.1.1.1.1.1;
-})
 
 -- the number beside the fewest events, as it is counted
 pub over_is : (s m : MatchRecord) (h a f : ℕ) → s ≡ scheduled → h ≡ side_apart Home s m → a ≡ side_apart Away s m
@@ -277,7 +250,7 @@ scheduled_room = record { valid = scheduled_valid; fewest = omega arith; rest = 
 
 by_state : (s : State) (m : MatchRecord) → m.state ≡ s → IsReached m ↔ AddsUp m
 by_state Scheduled m e = (
-  λ r. subst AddsUp (sym (subst (λ (s : State). SuitsState s m) e (reached_valid m r).suits)) scheduled_room,
+  λ r. subst AddsUp (sym (untouched m e (reached_valid m r))) scheduled_room,
   λ r. none_reached m e r.valid,
 )
 by_state InPlay m e = (
@@ -293,7 +266,7 @@ pub reached_adds_up : ReachedRecordsAddUp
 reached_adds_up m = by_state m.state m refl
 
 pub none_led : (m : MatchRecord) → m.state ≡ Scheduled → IsValid m → IsLed scheduled m
-none_led m e v = record { kinds = []; leads = sym (subst (λ (s : State). SuitsState s m) e v.suits) }
+none_led m e v = record { kinds = []; leads = sym (untouched m e v) }
 
 led_by_state : (s : State) (m : MatchRecord) → m.state ≡ s → IsReached m → IsLed scheduled m
 led_by_state Scheduled m e r = none_led m e (reached_valid m r)

@@ -1,5 +1,6 @@
 -- An event that helps is accepted, and the match is on its way after it.
-use Rattle.std.proofs.Common.{◌≡◌, ℕ, ◌+◌, ◌<◌, ◌≤◌, ◌⊎◌, inl, inr, refl, ap, ◌∙◌, arith, ⊎_elim}
+use Rattle.std.proofs.Common.{◌≡◌, ℕ, ◌+◌, ◌<◌, ◌≤◌, ◌⊎◌, inl, inr, refl, ap, ◌∙◌, arith, ⊎_elim, true}
+use Rattle.std.proofs.lemmas.Bool.Decides.{nat_tests}
 use Rattle.std.proofs.lemmas.Bool.{cases_lt}
 use Rattle.ucl_word.specs.declared.record.MatchRecord.{MatchRecord}
 use Rattle.ucl_word.specs.declared.record.State.{State}
@@ -8,22 +9,23 @@ use Rattle.ucl_word.specs.declared.event.Side.{Side}
 use Rattle.ucl_word.specs.declared.event.Side.TheVariants.{Home, Away}
 use Rattle.ucl_word.specs.declared.event.Kind.{Kind}
 use Rattle.ucl_word.specs.declared.event.Kind.TheVariants.{KickOff, Goal, Disallow, Yellow, SecondYellow, Red, FullTime, Reopen}
-use Rattle.ucl_word.specs.Record.{last_in_play, IsValid, SuitsState}
+use Rattle.ucl_word.specs.Record.{last_in_play, suits_state, IsValid}
 use Rattle.ucl_word.specs.Rules.{goals, yellows, expulsions, changed_by, after}
 use Rattle.ucl_word.specs.Code.Going.{side_apart, before_sides, after_sides, least_apart, FitsSide, Way, OnWay, GoesOn, Helps}
 use Rattle.ucl_word.proofs.Apart.{goal_nearer, disallow_nearer, yellow_nearer, some_apart, equal_apart}
 use Rattle.ucl_word.proofs.WaySteps.{goal_on, disallow_on, yellow_on, yellow_over, turned_on, turned_over, red_on, kick_off_on, reopen_on, full_time_on}
 use Rattle.ucl_word.proofs.WayEvents.{takes_kick_off, takes_reopen, takes_goal, takes_disallow, takes_yellow, takes_second, takes_red, there, ended_there}
+use Rattle.ucl_word.proofs.ValidRecords.{parts, home_goals_valid, away_goals_valid, home_yellows_valid, away_yellows_valid, home_expulsions_valid, away_expulsions_valid}
 use Rattle.ucl_word.proofs.AcceptedEvents.{full_time, after_number}
 
 -- a match in play that has a way is there or on it
 pub kept_on : (m t : MatchRecord) → Way m t → m.state ≡ InPlay → m.reporter ≡ t.reporter → OnWay m t
 kept_on m t w e r = ⊎_elim (λ l. inr (w, l)) (λ l. inl (there m t w e l r)) (cases_lt m.number t.number)
 
-most_number : (s : State) (t : MatchRecord) → SuitsState s t → (s ≡ Scheduled → ⊥) → t.number ≤ last_in_play + after_sides s
+most_number : (s : State) (t : MatchRecord) → suits_state s t ≡ true → (s ≡ Scheduled → ⊥) → t.number ≤ last_in_play + after_sides s
 most_number Scheduled t s b = absurd (b refl)
-most_number InPlay t s b = let h = s.1 in omega arith
-most_number Finished t s b = let h = s.1 in omega arith
+most_number InPlay t s b = grind (arith, nat_tests)
+most_number Finished t s b = grind (arith, nat_tests)
 
 pub goal_state : (side : Side) (m : MatchRecord) (r : ℕ) → (after m r (Goal side)).state ≡ m.state
 unfolding after
@@ -59,16 +61,16 @@ unfolding after
 begins m r kind e = e
 
 goals_within : (side : Side) (m : MatchRecord) → IsValid m → goals side m ≤ 63
-goals_within Home m v = v.within.home_goals
-goals_within Away m v = v.within.away_goals
+goals_within Home m v = home_goals_valid m v
+goals_within Away m v = away_goals_valid m v
 
 yellows_within : (side : Side) (m : MatchRecord) → IsValid m → yellows side m ≤ 63
-yellows_within Home m v = v.within.home_yellows
-yellows_within Away m v = v.within.away_yellows
+yellows_within Home m v = home_yellows_valid m v
+yellows_within Away m v = away_yellows_valid m v
 
 expulsions_within : (side : Side) (m : MatchRecord) → IsValid m → expulsions side m ≤ 31
-expulsions_within Home m v = v.within.home_expulsions
-expulsions_within Away m v = v.within.away_expulsions
+expulsions_within Home m v = home_expulsions_valid m v
+expulsions_within Away m v = away_expulsions_valid m v
 
 fits : (side : Side) (m t : MatchRecord) → Way m t → FitsSide side m t
 fits Home m t w = w.home
@@ -77,11 +79,11 @@ fits Away m t w = w.away
 module _ (m t : MatchRecord) (vt : IsValid t) (w : Way m t) where
   -- where something is left to do before full time, there is room for it
   pub room_before : 0 < before_sides m.state → m.number < last_in_play
-  room_before h = let n = w.number in let k = most_number t.state t vt.suits w.begun in omega arith
+  room_before h = let n = w.number in let k = most_number t.state t (parts t vt).1 w.begun in omega arith
 
   room : (side : Side) → 0 < side_apart side m t → m.number < last_in_play
-  room Home h = let n = w.number in let k = most_number t.state t vt.suits w.begun in omega arith
-  room Away h = let n = w.number in let k = most_number t.state t vt.suits w.begun in omega arith
+  room Home h = let n = w.number in let k = most_number t.state t (parts t vt).1 w.begun in omega arith
+  room Away h = let n = w.number in let k = most_number t.state t (parts t vt).1 w.begun in omega arith
 
   abbrev by_side : (side : Side) → ((g y e G Y E : ℕ) → Type 0) → Type 0
   by_side side P = P (goals side m) (yellows side m) (expulsions side m) (goals side t) (yellows side t) (expulsions side t)

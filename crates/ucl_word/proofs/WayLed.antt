@@ -8,11 +8,12 @@ use Rattle.ucl_word.specs.declared.event.Side.{Side}
 use Rattle.ucl_word.specs.declared.event.Side.TheVariants.{Home, Away}
 use Rattle.ucl_word.specs.declared.event.Kind.{Kind}
 use Rattle.ucl_word.specs.declared.event.Kind.TheVariants.{KickOff, Goal, Disallow, Yellow, SecondYellow, Red, FullTime, Reopen}
-use Rattle.ucl_word.specs.Record.{IsReporter, IsValid, SuitsState}
+use Rattle.ucl_word.specs.Record.{IsValid}
 use Rattle.ucl_word.specs.Rules.{goals, yellows, expulsions, after}
 use Rattle.ucl_word.specs.Ways.{Leads, IsLed}
 use Rattle.ucl_word.specs.Code.Going.{before_sides, Way, OnWay, GoesOn, Helps}
 use Rattle.ucl_word.proofs.Apart.{equal_apart}
+use Rattle.ucl_word.proofs.ValidRecords.{reported}
 use Rattle.ucl_word.proofs.AcceptedEvents.{Accepts, accepts, begun, unbegun, over, after_number, after_valid}
 use Rattle.ucl_word.proofs.WayGoes.{zero_or_one, goal_state, disallow_state, yellow_state, second_state, red_state, begins, helps_good, spent_good, end_good, kick_off_good, reopen_good}
 use Rattle.ucl_word.proofs.WayBack.{finished_not, way_self, stands, goal_back, disallow_back, yellow_back, second_back, red_back, kick_off_back, reopen_back, full_time_back}
@@ -115,18 +116,13 @@ module _ (m t : MatchRecord) (v : IsValid m) (vt : IsValid t) (w : Way m t) (l :
   pub goes : (kind : Kind) × GoesOn m t kind
   goes = goes_in m.state refl
 
-reported : (s : State) (t : MatchRecord) → SuitsState s t → (s ≡ Scheduled → ⊥) → IsReporter t.reporter
-reported Scheduled t s b = absurd (b refl)
-reported InPlay t s b = s.2
-reported Finished t s b = s.2
-
 -- what is on its way is led there
 led_within : (d : ℕ) (m t : MatchRecord) → IsValid m → IsValid t → OnWay m t → t.number ≡ m.number + d → IsLed m t
 led_within zero m t v vt on is = ⊎_elim (λ e. record { kinds = []; leads = e }) (λ w. let l = w.1 in absurd (omega arith)) on
 led_within (suc d) m t v vt on is = ⊎_elim (λ e. record { kinds = []; leads = e })
     (λ w.
     let g = goes m t v vt w.0 w.1 in
-    let valid = after_valid m t.reporter m.number g.0 v (reported t.state t vt.suits w.0.begun) (accepts m m.number g.0 g.1.0) in
+    let valid = after_valid m t.reporter m.number g.0 v (reported t vt w.0.begun) (accepts m m.number g.0 g.1.0) in
     let n = after_number m t.reporter g.0 in
     let rest = led_within d (after m t.reporter g.0) t valid vt g.1.1 (omega arith) in
     record { kinds = g.0 ∷ rest.kinds; leads = (g.1.0, rest.leads) })
@@ -148,4 +144,4 @@ there m t led same = ⊎_elim (λ is. is) (λ w. let l = w.1 in absurd (omega ar
 
 pub led_next : (m t : MatchRecord) (kind : Kind) → IsValid m → IsValid t → Way m t → GoesOn m t kind → IsLed (after m t.reporter kind) t
 led_next m t kind v vt w g = on_led (after m t.reporter kind) t (after_valid m t.reporter m.number kind v
-    (reported t.state t vt.suits w.begun) (accepts m m.number kind g.0)) vt g.1
+    (reported t vt w.begun) (accepts m m.number kind g.0)) vt g.1

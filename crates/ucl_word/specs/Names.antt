@@ -1,5 +1,5 @@
 -- The numbers, names and texts of refusals, and the codes and names of kinds of events. Each stands here and nowhere else.
-use Rattle.std.specs.Prelude.{ℕ, ◌==◌, List, [], ◌∷◌, ◌++◌, codes, decimal, map, find, slice_get, Option, None, Some, option_map}
+use Rattle.std.specs.Prelude.{ℕ, ◌==◌, List, [], ◌∷◌, ◌++◌, codes, decimal, find, slice_get, Option, None, Some}
 use Rattle.std.specs.Str.{bytes_eq}
 use Rattle.ucl_word.specs.declared.event.Side.TheVariants.{Home, Away}
 use Rattle.ucl_word.specs.declared.event.Kind.{Kind}
@@ -54,28 +54,31 @@ refusal_text refusal = decimal (refusal_code refusal) ++ codes " " ++ refusal_na
 
 -- ---- kinds of events
 
--- the kinds by their names, in the order of their codes 0 to 12
-abbrev pub kinds : List (List ℕ × Kind)
+abbrev pub kind_name : Kind → List ℕ
+kind_name KickOff = codes "kickoff"
+kind_name (Goal Home) = codes "goal-home"
+kind_name (Goal Away) = codes "goal-away"
+kind_name (Disallow Home) = codes "disallow-home"
+kind_name (Disallow Away) = codes "disallow-away"
+kind_name (Yellow Home) = codes "yellow-home"
+kind_name (Yellow Away) = codes "yellow-away"
+kind_name (SecondYellow Home) = codes "second-yellow-home"
+kind_name (SecondYellow Away) = codes "second-yellow-away"
+kind_name (Red Home) = codes "red-home"
+kind_name (Red Away) = codes "red-away"
+kind_name FullTime = codes "fulltime"
+kind_name Reopen = codes "reopen"
+
+-- each kind, in the order of their codes 0 to 12
+abbrev pub kinds : List Kind
 kinds =
-    (codes "kickoff", KickOff)
-    ∷ (codes "goal-home", Goal Home)
-    ∷ (codes "goal-away", Goal Away)
-    ∷ (codes "disallow-home", Disallow Home)
-    ∷ (codes "disallow-away", Disallow Away)
-    ∷ (codes "yellow-home", Yellow Home)
-    ∷ (codes "yellow-away", Yellow Away)
-    ∷ (codes "second-yellow-home", SecondYellow Home)
-    ∷ (codes "second-yellow-away", SecondYellow Away)
-    ∷ (codes "red-home", Red Home)
-    ∷ (codes "red-away", Red Away)
-    ∷ (codes "fulltime", FullTime)
-    ∷ (codes "reopen", Reopen)
-    ∷ []
+    KickOff ∷ Goal Home ∷ Goal Away ∷ Disallow Home ∷ Disallow Away ∷ Yellow Home ∷ Yellow Away
+    ∷ SecondYellow Home ∷ SecondYellow Away ∷ Red Home ∷ Red Away ∷ FullTime ∷ Reopen ∷ []
 
 -- the kind with this code
 abbrev pub kind_with : ℕ → Option Kind
-kind_with code = slice_get (map (λ named. named.1) kinds) code
+kind_with code = slice_get kinds code
 
 -- the kind with this name
 unfoldable pub kind_named : List ℕ → Option Kind
-kind_named name = option_map (λ named. named.1) (find (λ named. bytes_eq name named.0) kinds)
+kind_named name = find (λ kind. bytes_eq name (kind_name kind)) kinds

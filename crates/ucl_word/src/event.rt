@@ -1,7 +1,7 @@
 //! What reporters enter.
 
 ghost use Rattle.std.specs.Prelude.{◌≡◌};
-ghost use Rattle.ucl_word.specs.Names.{kind_named, kind_with};
+ghost use Rattle.ucl_word.specs.Names.{kind_name, kind_named, kind_with};
 
 use crate::match_no::MatchNo;
 
@@ -54,6 +54,27 @@ static KINDS: [Kind; 13] = [
 ];
 
 impl Kind {
+    /// The name by which a row asks for an event of this kind.
+    pub fn name(self) -> &'static str
+        ensures { result.now ≡ kind_name self }
+    {
+        match self {
+            Kind::KickOff => "kickoff",
+            Kind::Goal(Side::Home) => "goal-home",
+            Kind::Goal(Side::Away) => "goal-away",
+            Kind::Disallow(Side::Home) => "disallow-home",
+            Kind::Disallow(Side::Away) => "disallow-away",
+            Kind::Yellow(Side::Home) => "yellow-home",
+            Kind::Yellow(Side::Away) => "yellow-away",
+            Kind::SecondYellow(Side::Home) => "second-yellow-home",
+            Kind::SecondYellow(Side::Away) => "second-yellow-away",
+            Kind::Red(Side::Home) => "red-home",
+            Kind::Red(Side::Away) => "red-away",
+            Kind::FullTime => "fulltime",
+            Kind::Reopen => "reopen",
+        }
+    }
+
     /// The kind with this code, where there is one.
     #[inline]
     pub fn from_code(code: u32) -> Option<Kind>

@@ -1,7 +1,7 @@
 //! What is known of one match.
 
-ghost use Rattle.std.specs.Prelude.{◌↔◌, IsTrue};
-ghost use Rattle.ucl_word.specs.Record.{IsValid, IsWithinLimits, SuitsState};
+ghost use Rattle.std.specs.Prelude.{◌≡◌};
+ghost use Rattle.ucl_word.specs.Record.{is_valid, is_within_limits, suits_state};
 
 /// The most goals of a side.
 pub(crate) const MOST_GOALS: u8 = 63;
@@ -58,14 +58,15 @@ impl MatchRecord {
     /// Whether a match can have this record: goals and yellows of a side are at most 63 and expulsions at most 31,
     /// and it is scheduled with every number 0, or in play with an event number from 1 to `LAST_NUMBER_IN_PLAY` and a
     /// reporter, or finished with an event number from 2 to `LAST_NUMBER` and a reporter.
+    #[tactic(auto, unfolding(crate::specs::Record::is_valid))]
     pub fn is_valid(&self) -> bool
-        ensures { IsTrue result ↔ IsValid self.now }
+        ensures { result ≡ is_valid self.now }
     {
         self.is_within_limits() && self.suits_state()
     }
 
     fn is_within_limits(&self) -> bool
-        ensures { IsTrue result ↔ IsWithinLimits self.now }
+        ensures { result ≡ is_within_limits self.now }
     {
         self.home_goals <= MOST_GOALS
             && self.away_goals <= MOST_GOALS
@@ -76,7 +77,7 @@ impl MatchRecord {
     }
 
     fn suits_state(&self) -> bool
-        ensures { IsTrue result ↔ SuitsState self.now.state self.now }
+        ensures { result ≡ suits_state self.now.state self.now }
     {
         // Both cases are worked out, with no jump: the state of the next match that is read can't be foreseen.
         let (first, last) = match self.state {

@@ -146,6 +146,7 @@ pub fn next_event_towards(now: &MatchRecord, target: &MatchRecord) -> Option<Kin
 }
 
 /// Whether a match that has begun has room for what it has, and what is left over comes out even or stands for a second yellow.
+#[tactic(auto, using(crate::proofs::ValidRecords::limits))]
 fn has_way(game: &MatchRecord) -> bool
     requires valid { IsValid game.now }
     requires begun { game.now.state ≡ Scheduled → ⊥ }

@@ -70,6 +70,7 @@ pub(crate) fn put_at(value: u64, low: u32, below: u64) -> u64
 /// From the lowest bits on these are the event number, the state (0 scheduled, 1 in play, 2 finished), the goals of the
 /// home and the visiting side, their standing yellows, their expulsions, the reporter, and the mark, where the
 /// constants of this module have them. Distinct valid records have distinct words.
+#[tactic(auto, using(crate::proofs::ValidRecords::limits))]
 pub fn pack(game: &MatchRecord) -> u64
     requires { IsValid game.now }
     ensures { result ≡ word_of game.now }

@@ -1,5 +1,6 @@
 use Rattle.std.proofs.Common.{eq-eqb, inl, inr, arith}
-use Rattle.ucl_word.proofs.Reached.{default_is, over_is, way_from, stands_for, positive, tells_positive}
+use Rattle.ucl_word.proofs.ValidRecords.{default_is}
+use Rattle.ucl_word.proofs.Reached.{over_is, way_from, stands_for, positive, tells_positive}
 use Rattle.ucl_word.proofs.ways.has_way.Goals as goal
 
 pub returns-then-over-eq0 : goal.returns-then-over-eq0

@@ -1,0 +1,115 @@
+-- What is known of a valid record.
+use Rattle.std.proofs.Common.{◌≡◌, ◌<◌, ◌≤◌, true, refl, arith}
+use Rattle.std.proofs.lemmas.Bool.{and_from, and_parts}
+use Rattle.std.proofs.lemmas.Bool.Decides.{nat_tests}
+use Rattle.ucl_word.specs.declared.record.MatchRecord.{MatchRecord}
+use Rattle.ucl_word.specs.declared.record.State.{State}
+use Rattle.ucl_word.specs.declared.record.State.TheVariants.{Scheduled, InPlay, Finished}
+use Rattle.ucl_word.specs.Record.{is_untouched, is_valid, is_within_limits, last_number, scheduled, suits_state, IsReporter, IsValid}
+
+pub parts : (m : MatchRecord) → IsValid m → (is_within_limits m ≡ true) × (suits_state m.state m ≡ true)
+unfolding is_valid
+parts m v = and_parts (is_within_limits m) (suits_state m.state m) v
+
+pub whole : (m : MatchRecord) → is_within_limits m ≡ true → suits_state m.state m ≡ true → IsValid m
+unfolding is_valid
+whole m w s = and_from (is_within_limits m) (suits_state m.state m) w s
+
+-- ---- its numbers
+
+module _ (m : MatchRecord) (v : IsValid m) where
+  within : is_within_limits m ≡ true
+  within = (parts m v).0
+
+  pub home_goals_valid : m.home_goals ≤ 63
+  home_goals_valid = let w = within in grind (arith, nat_tests)
+
+  pub away_goals_valid : m.away_goals ≤ 63
+  away_goals_valid = let w = within in grind (arith, nat_tests)
+
+  pub home_yellows_valid : m.home_yellows ≤ 63
+  home_yellows_valid = let w = within in grind (arith, nat_tests)
+
+  pub away_yellows_valid : m.away_yellows ≤ 63
+  away_yellows_valid = let w = within in grind (arith, nat_tests)
+
+  pub home_expulsions_valid : m.home_expulsions ≤ 31
+  home_expulsions_valid = let w = within in grind (arith, nat_tests)
+
+  pub away_expulsions_valid : m.away_expulsions ≤ 31
+  away_expulsions_valid = let w = within in grind (arith, nat_tests)
+
+number_within : (s : State) (m : MatchRecord) → suits_state s m ≡ true → (m.number ≤ last_number) × (m.reporter ≤ 255)
+number_within Scheduled m h = (grind (arith, nat_tests), grind (arith, nat_tests))
+number_within InPlay m h = (grind (arith, nat_tests), grind (arith, nat_tests))
+number_within Finished m h = (grind (arith, nat_tests), grind (arith, nat_tests))
+
+pub number_valid : (m : MatchRecord) → IsValid m → m.number ≤ last_number
+number_valid m v = (number_within m.state m (parts m v).1).0
+
+pub reporter_valid : (m : MatchRecord) → IsValid m → m.reporter ≤ 255
+reporter_valid m v = (number_within m.state m (parts m v).1).1
+
+pub ruleset limits = (home_goals_valid, away_goals_valid, home_yellows_valid, away_yellows_valid, home_expulsions_valid, away_expulsions_valid, number_valid)
+
+reporter_within : (s : State) (m : MatchRecord) → suits_state s m ≡ true → (s ≡ Scheduled → ⊥) → IsReporter m.reporter
+reporter_within Scheduled m h b = absurd (b refl)
+reporter_within InPlay m h b = (grind (arith, nat_tests), grind (arith, nat_tests))
+reporter_within Finished m h b = (grind (arith, nat_tests), grind (arith, nat_tests))
+
+pub reported : (m : MatchRecord) → IsValid m → (m.state ≡ Scheduled → ⊥) → IsReporter m.reporter
+reported m v b = reporter_within m.state m (parts m v).1 b
+
+-- with an event there is a reporter
+numbered : (s : State) (m : MatchRecord) → suits_state s m ≡ true → 0 < m.number → 1 ≤ m.reporter
+numbered Scheduled m h some = grind (arith, nat_tests)
+numbered InPlay m h some = grind (arith, nat_tests)
+numbered Finished m h some = grind (arith, nat_tests)
+
+pub begun_reported : (m : MatchRecord) → IsValid m → 0 < m.number → 1 ≤ m.reporter
+begun_reported m v some = numbered m.state m (parts m v).1 some
+
+-- ---- before kick-off
+
+pub scheduled_valid : IsValid scheduled
+unfolding is_valid
+scheduled_valid = refl
+
+-- what the code's default record ensures
+pub default_is : (m : MatchRecord) → (m.number ≡ 0) × ((m.state ≡ Scheduled) × ((m.home_goals ≡ 0) × ((m.away_goals ≡ 0) ×
+    ((m.home_yellows ≡ 0) × ((m.away_yellows ≡ 0) × ((m.home_expulsions ≡ 0) × ((m.away_expulsions ≡ 0) × (m.reporter ≡ 0))))))))
+    → m ≡ scheduled
+default_is m d = λ i. record {
+  number = d.0 i;
+  state = d.1.0 i;
+  home_goals = d.1.1.0 i;
+  away_goals = d.1.1.1.0 i;
+  home_yellows = d.1.1.1.1.0 i;
+  away_yellows = d.1.1.1.1.1.0 i;
+  home_expulsions = d.1.1.1.1.1.1.0 i;
+  away_expulsions = d.1.1.1.1.1.1.1.0 i;
+  reporter = d.1.1.1.1.1.1.1.1 i;
+}
+
+pub untouched : (m : MatchRecord) → m.state ≡ Scheduled → IsValid m → m ≡ scheduled
+untouched m s v =
+    let h : is_untouched m ≡ true = rw s at (parts m v).1 in
+    default_is m (
+      grind (arith, nat_tests),
+      (
+        s,
+        (
+          grind (arith, nat_tests),
+          (
+            grind (arith, nat_tests),
+            (
+              grind (arith, nat_tests),
+              (
+                grind (arith, nat_tests),
+                (grind (arith, nat_tests), (grind (arith, nat_tests), grind (arith, nat_tests))),
+              ),
+            ),
+          ),
+        ),
+      ),
+    )
