@@ -3,7 +3,7 @@ use Rattle.std.specs.Prelude.{◌≡◌, ◌⊎◌, ⊤, ℕ, ◌+◌, ◌-◌, 
 use Rattle.std.specs.Io.KnownBytes.{Appends}
 use Rattle.ucl_board.specs.declared.entry.Entry.{Entry}
 use Rattle.ucl_board.specs.declared.reading.Reading.{Reading}
-use Rattle.ucl_board.specs.History.{board_of, snapshot_at}
+use Rattle.ucl_board.specs.History.{board_of}
 use Rattle.ucl_order.specs.Roster.{NamedClub}
 use Rattle.ucl_runs.specs.declared.fault.RunFault.{RunFault}
 use Rattle.ucl_runs.specs.declared.fault.RunFault.TheVariants.{OutOfMemory, WriteFailed}
@@ -101,13 +101,6 @@ pub record StaysScreen {B V : Type 0} (old new : Screen B V) : Type 0 where
   pub board : new.board ≡ old.board
   pub roster : new.roster ≡ old.roster
   pub options : new.options ≡ old.options
-
--- a reading is the last of a pass, and the board after so many first entries of what that has seen
-pub record IsReadingOf (m : PassView) (reading : Reading) : Type 0 where
-  pub before : List ℕ
-  pub last : m.shown ≡ before ++ reading.version ∷ []
-  pub high : reading.version ≤ length m.seen
-  pub snapshot : reading ≡ snapshot_at m.seen reading.version
 
 -- ---- what was shown
 

@@ -1,9 +1,10 @@
 //! A screen of an evening: where it goes, how it is written, and how far it is.
 
 ghost use Rattle.std.specs.Prelude.{◌≡◌, ◌-◌, ◌^◌, ◌<◌, ◌≤◌, IfErr, IfOk, OnOk, string_bytes};
+ghost use Rattle.ucl_runs.specs.Gates.{IsReadingOf};
 ghost use Rattle.ucl_runs.specs.Run.{SinkFails};
 ghost use Rattle.ucl_answers.specs.Text.{screen_answer};
-ghost use Rattle.ucl_evenings.specs.Showing.{FailsToShowReading, HasShownReading, IsNewScreen, IsReadingOf, StaysScreen, standing};
+ghost use Rattle.ucl_evenings.specs.Showing.{FailsToShowReading, HasShownReading, IsNewScreen, StaysScreen, standing};
 
 use std::alloc::Global;
 use std::snapshot::Snapshot;

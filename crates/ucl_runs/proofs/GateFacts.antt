@@ -5,9 +5,8 @@ use Rattle.std.proofs.lemmas.List.{take_more}
 use Rattle.std.proofs.lemmas.List.Elements.{filter-append}
 use Rattle.ucl_board.specs.declared.reading.Reading.{Reading}
 use Rattle.ucl_screen.specs.declared.night.NightEvent.{NightEvent}
-use Rattle.ucl_shared.specs.Passes.{PassView, Continues, SharedReading, ReportsMore}
-use Rattle.ucl_runs.specs.Gates.{IsScreenOf, rows_by}
-use Rattle.ucl_runs.specs.Styles.{Style, styled_screen}
+use Rattle.ucl_shared.specs.Passes.{PassView, SharedReading, ReportsMore}
+use Rattle.ucl_runs.specs.Gates.{IsReadingOf, rows_by}
 
 -- a row of the reporter is one row more
 pub rows_own : (reporter : ℕ) (rows : List NightEvent) (row : NightEvent) → row.reporter ≡ reporter
@@ -62,14 +61,6 @@ none_twice A B C first second n before = subst C (nothing n) (second (n + 0) (fi
     nothing : (n : ℕ) → n + 0 + 0 ≡ n + 0
     nothing n = omega arith
 
--- what is told of a reading is the screen of a board after a legal history
-pub screen_told : (style : Style) (m z : PassView) (reading : Reading) (text : List ℕ) → Continues m z → SharedReading m reading z
-    → text ≡ styled_screen style reading.board → IsScreenOf reading text
-screen_told style m z reading text on read is = record {
-  history = z.seen;
-  legal = on.sound.legal;
-  within = read.high;
-  snapshot = read.snapshot;
-  style = style;
-  text_is = is;
-}
+-- a reading that was just taken is the last of its pass
+pub just_read : (m z : PassView) (reading : Reading) → SharedReading m reading z → IsReadingOf z reading
+just_read m z reading is = record { before = _; last = is.shown; high = is.high; snapshot = is.snapshot }

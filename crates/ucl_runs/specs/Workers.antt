@@ -3,7 +3,7 @@ use Rattle.std.specs.Prelude.{ℕ, List, option_map, string_bytes}
 use Rattle.ucl_screen.specs.declared.night.NightEvent.{NightEvent}
 use Rattle.ucl_shared.specs.declared.live_board.LiveBoard as boards
 use Rattle.ucl_shared.specs.Passes.{ReportsMore}
-use Rattle.ucl_runs.specs.declared.workers.Plan.{Plan}
+use Rattle.ucl_runs.specs.declared.plan.Plan.{Plan}
 use Rattle.ucl_runs.specs.declared.workers.Shown.{Shown}
 use Rattle.ucl_runs.specs.Gates.{rows_by}
 use Rattle.ucl_runs.specs.Nights.{IsFresh, IsNew, HasEntered, HasShown}

@@ -12,6 +12,7 @@ mod laws;
 mod lines;
 mod night;
 mod output;
+mod plan;
 mod program;
 mod show;
 mod telling;

@@ -14,8 +14,8 @@ ghost use Rattle.ucl_runs.specs.Styles.{styled};
 use crate::RunFault;
 use crate::gate::Gate;
 use crate::output::{put_lasts, put_under};
+use crate::plan::{Onlooker, Plan};
 use crate::threads::{Workers, work};
-use crate::workers::Plan;
 use std::alloc::Global;
 use std::sync::Wait;
 use std::thread::Threads;
@@ -163,7 +163,7 @@ pub fn night_run<B: LiveBoard, G: Gate, R: Threads + Wait + Sync>(
         group,
         readings,
         profile,
-        gate,
+        onlooker: Onlooker::of(gate),
     };
     let Workers {
         mut reporter_1,

@@ -5,7 +5,8 @@ ghost use Rattle.ucl_screen.specs.Screen.{IsGroup};
 ghost use Rattle.ucl_runs.specs.Workers.{IsFreshOn, IsNewOn, HasEnteredOn, HasShownOn};
 
 use crate::gate::Gate;
-use crate::workers::{Plan, Shown, enter_rows, show_screens};
+use crate::plan::Plan;
+use crate::workers::{Shown, enter_rows, show_screens};
 use std::alloc::Global;
 use std::snapshot::Snapshot;
 use std::sync::Wait;
@@ -109,7 +110,16 @@ where
         move || -> B::ReporterPass
             requires { IsFreshOn B.LiveBoard board.now pass }
             ensures { HasEnteredOn B.LiveBoard board.entry.now plan.entry.now pass reporter result }
-        { enter_rows(rt, board, pass, reporter, &plan.night.events, plan.gate) },
+        {
+            enter_rows(
+                rt,
+                board,
+                pass,
+                reporter,
+                &plan.night.events,
+                &plan.onlooker,
+            )
+        },
     );
     started.map_err(|_| NoThread)
 }

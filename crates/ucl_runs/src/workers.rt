@@ -8,28 +8,12 @@ ghost use Rattle.ucl_runs.specs.Nights.{IsFresh, IsNew, HasEntered, HasShown};
 ghost use Rattle.ucl_runs.specs.Workers.{style_of};
 
 use crate::gate::Gate;
+use crate::plan::{Onlooker, Plan};
 use std::alloc::Global;
 use std::sync::Wait;
-use ucl_order::Profile;
-use ucl_screen::{Night, NightEvent, screen};
+use ucl_screen::{NightEvent, screen};
 use ucl_shared::LiveBoard;
 use ucl_word::OutOfMemory;
-
-/// What the workers of a night have in common: the script, how often each reader reads, how it shows what it has read, and the
-/// gate that is told.
-#[derive(Drop)]
-pub struct Plan<'n, G> {
-    /// The clubs, and the events that the reporters enter.
-    pub night: &'n Night,
-    /// The letter of the group.
-    pub group: u8,
-    /// How many readings each reader takes.
-    pub readings: u32,
-    /// The order of the clubs in all screens.
-    pub profile: Profile,
-    /// Who looks on.
-    pub gate: &'n G,
-}
 
 /// Enters the rows of one reporter of the script in their order, on a pass that has entered nothing yet. Replies are not
 /// looked at.
@@ -39,7 +23,7 @@ pub fn enter_rows<B: LiveBoard, G: Gate, R: Wait>(
     mut pass: B::ReporterPass,
     reporter: u8,
     rows: &[NightEvent],
-    gate: &G,
+    onlooker: &Onlooker<'_, G>,
 ) -> B::ReporterPass
     requires own { B.is_reporter board.now pass }
     requires fresh { IsFresh (B.reporter pass) }
@@ -51,7 +35,7 @@ pub fn enter_rows<B: LiveBoard, G: Gate, R: Wait>(
     let mut call: u32 = 0;
     for row in rows {
         if row.reporter.get() == reporter {
-            gate.come(reporter, call);
+            onlooker.come(reporter, call);
             let _ = board.report(rt, &mut pass, &row.call);
             call = call.wrapping_add(1);
         }
@@ -89,14 +73,14 @@ pub fn show_screens<B: LiveBoard, G: Gate, R: Wait>(
         group,
         readings,
         profile,
-        gate,
+        ..
     } = *plan;
     let mut last = None;
     for call in 0..readings {
-        gate.come(worker, call);
+        plan.onlooker.come(worker, call);
         let reading = board.read(rt, &mut pass);
         let text = screen(alloc, &reading.board, &night.roster, group, profile)?;
-        gate.shown(worker, &reading, text.as_str());
+        plan.shown(board, worker, &pass, &reading, text.as_str());
         last = Some(text);
     }
     Ok(Shown { pass, last })

@@ -1,16 +1,23 @@
 use Rattle.std.proofs.Common.{◌∙◌}
 use Rattle.std.specs.Prelude.{string_bytes}
 use Rattle.ucl_runs.specs.Workers.{style_of}
-use Rattle.ucl_runs.proofs.GateFacts.{screen_told}
+use Rattle.ucl_runs.proofs.GateFacts.{just_read}
 use Rattle.ucl_runs.proofs.ShownVersions.{shown_more}
 use Rattle.ucl_runs.proofs.workers.show_screens.Goals as goal
 
-pub shown-requires : goal.shown-requires
-shown-requires g c =
+pub shown-requires-clause-own : goal.shown-requires-clause-own
+shown-requires-clause-own g c κs within = c.read-reading.ensures.own
+
+pub shown-requires-clause-sound : goal.shown-requires-clause-sound
+shown-requires-clause-sound g c κs within = c.read-reading.ensures.always.sound
+
+pub shown-requires-clause-read : goal.shown-requires-clause-read
+shown-requires-clause-read g c κs within =
     let k = g.B.LiveBoard.reader in
-    let read = c.read-reading.ensures in
-    screen_told (style_of c.args.plan.now) (k c.loop-call.pass) (k c.read-reading.new.pass) c.read-reading.result c.as_str.result.now
-    read.always read.reading (c.as_str.ensures.value ∙ c.in_ok-text.ensures)
+    just_read (k c.loop-call.pass) (k c.read-reading.new.pass) c.read-reading.result c.read-reading.ensures.reading
+
+pub shown-requires-clause-text : goal.shown-requires-clause-text
+shown-requires-clause-text g c κs within = c.as_str.ensures.value ∙ c.in_ok-text.ensures
 
 pub loop-call-preserved : goal.loop-call-preserved
 loop-call-preserved g c =

@@ -1,0 +1,65 @@
+//! What the workers of a night have in common, and the gate that they tell.
+
+ghost use Rattle.std.specs.Prelude.{◌≡◌};
+ghost use Rattle.ucl_shared.specs.Passes.{IsSound};
+ghost use Rattle.ucl_runs.specs.Gates.{IsReadingOf};
+ghost use Rattle.ucl_runs.specs.Styles.{styled_screen};
+ghost use Rattle.ucl_runs.specs.Workers.{style_of};
+
+use crate::gate::Gate;
+use ucl_board::Reading;
+use ucl_order::Profile;
+use ucl_screen::Night;
+use ucl_shared::LiveBoard;
+
+/// The gate of a night. No other file reaches it, so it is told what `come` and `Plan::shown` tell, and nothing else.
+#[derive(Drop)]
+pub struct Onlooker<'n, G> {
+    gate: &'n G,
+}
+
+impl<'n, G: Gate> Onlooker<'n, G> {
+    /// The onlooker that is this gate.
+    pub fn of(gate: &'n G) -> Onlooker<'n, G> {
+        Onlooker { gate }
+    }
+
+    /// Tells it that a worker is about to make a call on the board.
+    pub fn come(&self, worker: u8, call: u32) {
+        self.gate.come(worker, call);
+    }
+}
+
+/// What the workers of a night have in common: the script, how often each reader reads, how it shows what it has read, and who looks on.
+#[derive(Drop)]
+pub struct Plan<'n, G> {
+    /// The clubs, and the events that the reporters enter.
+    pub night: &'n Night,
+    /// The letter of the group.
+    pub group: u8,
+    /// How many readings each reader takes.
+    pub readings: u32,
+    /// The order of the clubs in all screens.
+    pub profile: Profile,
+    /// Who looks on.
+    pub onlooker: Onlooker<'n, G>,
+}
+
+impl<G: Gate> Plan<'_, G> {
+    /// Shows a screen to who looks on: that of the last reading of a pass of the board, in the style of the night.
+    pub fn shown<B: LiveBoard>(
+        &self,
+        board: &B,
+        worker: u8,
+        pass: &B::ReaderPass,
+        reading: &Reading,
+        text: &str,
+    )
+        requires own { B.is_reader board.now pass.now }
+        requires sound { IsSound (B.reader pass.now) }
+        requires read { IsReadingOf (B.reader pass.now) reading.now }
+        requires text { text.now ≡ styled_screen (style_of self.now) reading.now.board }
+    {
+        self.onlooker.gate.shown(worker, reading, text);
+    }
+}
