@@ -1,10 +1,10 @@
 -- The lines that an evening in JSON answers, and what each tells.
-use Rattle.std.proofs.Common.{◌≡◌, ◌∙◌, ◌⊎◌, ℕ, ◌/◌, ◌^◌, ◌<◌, ◌≤◌, Bool, true, false, refl, sym, ap, subst, arith, List, [], ◌∷◌, ◌++◌, length, take, Option, Some, None, inl, inr}
+use Rattle.std.proofs.Common.{◌≡◌, ◌∙◌, ◌⊎◌, ℕ, suc, ◌-◌, ◌/◌, ◌^◌, ◌<◌, ◌≤◌, Bool, true, false, refl, sym, ap, subst, arith, List, [], ◌∷◌, ◌++◌, length, take, Option, Some, None, inl, inr}
 use Rattle.std.specs.Prelude.{◌≢◌, All, IfSome, if◌then◌else◌}
 use Rattle.std.specs.List.{list_all}
 use Rattle.std.proofs.lemmas.Bool.{and_from, cases_Bool, cases_lt}
 use Rattle.std.proofs.lemmas.List.{append_cancel_right, length-take, length-take-le, take_all}
-use Rattle.std.proofs.lemmas.List.Elements.{All-append, All-cons, All-head, All-nil, All-tail}
+use Rattle.std.proofs.lemmas.List.Elements.{All-append, All-cons, All-get_or, All-head, All-nil, All-tail}
 use Rattle.serde_json.specs.Data.{Data}
 use Rattle.serde_json.specs.Written.{compact_text}
 use Rattle.serde_json.proofs.OnLiterals.{serde_json_on_literals}
@@ -21,10 +21,13 @@ use Rattle.ucl_word.specs.Record.{IsValid}
 use Rattle.ucl_word.specs.Names.{found_of, refusal_code, refusal_name}
 use Rattle.ucl_word.specs.Rules.{refusal_of}
 use Rattle.ucl_word.proofs.Words.{number_valid, reporter_valid, word_high, word_valid}
-use Rattle.ucl_order.specs.Roster.{is_printed}
+use Rattle.ucl_board.specs.Fixtures.{match_numbers}
+use Rattle.ucl_board.specs.Words.{AreWords, game_at, word_at}
+use Rattle.ucl_order.specs.Roster.{IsRoster, NamedClub, is_printed}
 use Rattle.ucl_screen.specs.declared.night.NightEvent.{NightEvent}
+use Rattle.ucl_screen.specs.Matches.{state_name}
 use Rattle.ucl_json.specs.Lines.{json_line}
-use Rattle.ucl_json.specs.Values.{bad_row_value, coded_value, match_value, numbered_value, refused_by, refused_value, state_name, words_value}
+use Rattle.ucl_json.specs.Values.{bad_row_value, coded_value, match_items, match_value, matches_value, numbered_value, refused_by, refused_value, words_value}
 use Rattle.ucl_json.proofs.OneLine.{one_line}
 use Rattle.ucl_answers.specs.BadRows.{field_name, printed, shown_text}
 use Rattle.ucl_answers.specs.declared.bad_row.BadField.{BadField}
@@ -33,8 +36,8 @@ use Rattle.ucl_follows.specs.declared.moment.Moment.{Moment}
 use Rattle.ucl_follows.specs.Answered.{HasNumbers}
 use Rattle.ucl_follows.specs.Told.{moment_on, moment_told}
 use Rattle.ucl_follows.proofs.Members.{too-long}
-use Rattle.ucl_follows.proofs.PlainAnswers.{kind-text, words-plain}
-use Rattle.ucl_follows.proofs.ReadBack.{IsPlain, IsText, size, told-by-line}
+use Rattle.ucl_follows.proofs.PlainAnswers.{clubs-plain, kind-text, words-plain}
+use Rattle.ucl_follows.proofs.ReadBack.{ArePlain, IsPlain, IsText, none-by-line, size, told-by-line}
 
 -- ---- a text of whole lines, of which each tells nothing or this
 
@@ -138,9 +141,9 @@ state-text InPlay = (refl, omega arith)
 state-text Ended = (refl, omega arith)
 
 -- a match as it stands
-match-plain : (game : ℕ) (m : MatchRecord) → game < 2 ^ 64 → IsValid m → IsPlain 126 (match_value game m) × (size (match_value game m) ≤ 400)
+match-plain : (deep game : ℕ) (m : MatchRecord) → game < 2 ^ 64 → IsValid m → IsPlain (suc (suc deep)) (match_value game m) × (size (match_value game m) ≤ 400)
 unfolding serde_json_on_literals
-match-plain game m g v =
+match-plain deep game m g v =
     let state = state-text m.state in
     let short = state.1 in
     let w = v.within in
@@ -163,7 +166,7 @@ unfolding serde_json_on_literals
 numbered-line o row event code name found m r fits c text short f v =
     let kind = kind-text event.call.kind in
     let named = kind.1 in
-    let stands = match-plain event.call.game m fits.game v in
+    let stands = match-plain 124 event.call.game m fits.game v in
     let few = stands.1 in
     silent-line (numbered_value row event code name found m) o
     ((refl, refl), (c, (kind.0, (fits.expected, (fits.game, (text, (f, (refl, (fits.reporter, (r, (stands.0, tt))))))))))) (omega arith) (no-number row event code name found m)
@@ -217,6 +220,28 @@ unfolding serde_json_on_literals
 words-line o row board r twelve bits =
     let w = words-plain board bits in
     silent-line (words_value row board) o ((refl, refl), (refl, (r, (w.0, tt)))) (let k = w.1 in omega arith) (no-words row board)
+
+-- the twelve matches
+matches-plain : (board : List ℕ) → AreWords board → ArePlain 125 (match_items board match_numbers)
+matches-plain board w =
+    (p 1 (omega arith), (p 2 (omega arith), (p 3 (omega arith), (p 4 (omega arith), (p 5 (omega arith), (p 6 (omega arith), (p 7 (omega arith), (p 8 (omega arith),
+    (p 9 (omega arith), (p 10 (omega arith), (p 11 (omega arith), (p 12 (omega arith), tt))))))))))))
+  where
+    valid : (game : ℕ) → game ≤ 12 → IsValid (game_at board game)
+    valid game high = word_valid (word_at board game) (All-get_or IsWord board (game - 1) 0 (let t = w.twelve in omega (arith, t, high)) w.each)
+
+    p : (game : ℕ) → game ≤ 12 → IsPlain 125 (match_value game (game_at board game))
+    p game high = (match-plain 123 game (game_at board game) (omega arith) (valid game high)).0
+
+no-matches : (row : ℕ) (board : List ℕ) (clubs : List NamedClub) → moment_told (matches_value row board clubs) ≡ None
+unfolding matches_value moment_told serde_json_on_literals
+no-matches row board clubs = refl
+
+pub matches-line : (o : Option Moment) (row : ℕ) (board : List ℕ) (clubs : List NamedClub) → row < 2 ^ 64 → IsRoster clubs → AreWords board → TellsAlone o (json_line (matches_value row board clubs))
+unfolding matches_value serde_json_on_literals
+matches-line o row board clubs r is w =
+    alone-line (matches_value row board clubs) o None
+    (none-by-line (matches_value row board clubs) ((refl, refl), ((clubs-plain clubs is).0, (matches-plain board w, (refl, (r, tt))))) (no-matches row board clubs)) (inl refl)
 
 name-text : (refusal : Refusal) → IsText (refusal_name refusal) × (length (refusal_name refusal) ≤ 20) × (refusal_code refusal < 2 ^ 64)
 name-text (Stale found) = (refl, omega arith, omega arith)

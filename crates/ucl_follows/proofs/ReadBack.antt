@@ -1,9 +1,9 @@
 -- The text of a plain value: it is read as that value, has ASCII alone, and is no longer than its parts.
 use Rattle.std.proofs.Common.{◌≡◌, ◌∙◌, ℕ, zero, suc, ◌+◌, ◌*◌, ◌^◌, ◌<◌, ◌≤◌, ◌&&◌, pos, negsuc, Bool, true, false, refl, sym, ap, arith}
-use Rattle.std.proofs.Common.{List, [], ◌∷◌, ◌++◌, length, append-nil, length-append, Some, inl, inr}
+use Rattle.std.proofs.Common.{List, [], ◌∷◌, ◌++◌, length, append-nil, length-append, Some, None, inl, inr}
 use Rattle.std.specs.Prelude.{⊤, All, decimal, option_map, nat_le}
 use Rattle.std.specs.List.{list_all}
-use Rattle.std.proofs.lemmas.Bool.{and_parts, cases_eq}
+use Rattle.std.proofs.lemmas.Bool.{and_parts, cases_eq, cases_lt}
 use Rattle.std.proofs.lemmas.Bool.Decides.{nat_tests}
 use Rattle.std.proofs.lemmas.Fmt.{IsAscii-decimal, length-decimal-le}
 use Rattle.std.proofs.lemmas.List.Elements.{All-append, All-cons, All-nil}
@@ -24,7 +24,7 @@ use Rattle.serde_json.proofs.Numbers.{number_of-decimal, number_of-negative}
 use Rattle.serde_json.proofs.Texts.{print-outline}
 use Rattle.ucl_order.specs.Roster.{is_printed}
 use Rattle.ucl_follows.specs.Told.{moment_on, moment_told}
-use Rattle.ucl_follows.proofs.Members.{was-read}
+use Rattle.ucl_follows.proofs.Members.{too-long, was-read}
 
 abbrev pub IsText : List ℕ → Type 0
 IsText s = list_all is_printed s ≡ true
@@ -261,6 +261,15 @@ mutual
       (then (compact_text d) (members_text true ms) (size d) (members_size ms) (value-short deep d h.0) (members-short deep true ms keys.1 h.1))))
 
 -- ---- the moment of its line
+
+-- a value that tells none: its line tells none, however long it is
+pub none-by-line : (d : Data) → IsPlain 127 d → moment_told d ≡ None → moment_on (compact_text d) ≡ None
+none-by-line d h none = elim (cases_lt 4096 (length (compact_text d))) [
+  | inl long ↦ sym (too-long (compact_text d) (omega arith))
+  | inr short ↦
+      let p = value-short 127 d h in
+      sym (was-read (compact_text d) d (omega arith) (IsUtf8-from_ascii (compact_text d) (IsAscii-from_all (compact_text d) p.ascii)) (reads d h)) ∙ none
+]
 
 pub told-by-line : (d : Data) → IsPlain 127 d → size d ≤ 4096 → moment_on (compact_text d) ≡ moment_told d
 told-by-line d h few =

@@ -6,8 +6,8 @@ use Rattle.std.proofs.lemmas.List.{take_more}
 use Rattle.ucl_board.specs.Fixtures.{match_numbers}
 use Rattle.ucl_board.proofs.Histories.{each_match}
 
-numbered : (n : ℕ) → 1 ≤ n → n ≤ 12 → get_or match_numbers (n - 1) 0 ≡ n
-numbered n low high = each_match (λ g. get_or match_numbers (g - 1) 0 ≡ g) refl refl refl refl refl refl refl refl refl refl refl refl n (low, high)
+pub match-numbered : (n : ℕ) → 1 ≤ n → n ≤ 12 → get_or match_numbers (n - 1) 0 ≡ n
+match-numbered n low high = each_match (λ g. get_or match_numbers (g - 1) 0 ≡ g) refl refl refl refl refl refl refl refl refl refl refl refl n (low, high)
 
 -- the line of match n, after those of the matches before it
 pub line_more : (line : ℕ → List ℕ) (n game : ℕ) (before after : List ℕ) → 1 ≤ n → n ≤ 12 → game ≡ n
@@ -15,7 +15,7 @@ pub line_more : (line : ℕ → List ℕ) (n game : ℕ) (before after : List �
 line_more line n game before after low high is so_far next =
     let at : n + 1 - 1 ≡ n - 1 + 1 = omega arith in
     let within : n - 1 ≤ 11 = omega arith in
-    rw (at, take_more match_numbers (n - 1) 0 (omega arith), numbered n low high, flat_map-append line (take (n - 1) match_numbers) (n ∷ []), next, is, so_far, append-nil (line n))
+    rw (at, take_more match_numbers (n - 1) 0 (omega arith), match-numbered n low high, flat_map-append line (take (n - 1) match_numbers) (n ∷ []), next, is, so_far, append-nil (line n))
 
 -- all twelve
 pub lines_all : (line : ℕ → List ℕ) (n : ℕ) (text : List ℕ) → n ≡ 13 → text ≡ flat_map line (take (n - 1) match_numbers) → text ≡ flat_map line match_numbers
