@@ -25,7 +25,8 @@ use Rattle.ucl_screen.specs.Lines.{difference_text, mark_text, place_line}
 use Rattle.ucl_screen.specs.Matches.{clubs_text, counts_text, match_line, matches_text, state_text}
 use Rattle.ucl_screen.specs.Screen.{row_line, screen_text}
 use Rattle.ucl_screen.specs.declared.night.NightEvent.{NightEvent}
-use Rattle.ucl_json.specs.Values.{accepted_value, bad_row_value, bad_value, club_items, mark_name, match_items, matches_value, place_items, place_value, refused_by, reply_value, screen_value, word_items, words_value}
+use Rattle.ucl_json.specs.Values.{accepted_value, bad_row_value, bad_value, club_items, mark_name, match_items, matches_value}
+use Rattle.ucl_json.specs.Values.{place_items, place_value, refused_by, reply_value, screen_value, word_items, words_value}
 use Rattle.ucl_answers.specs.Members.{mark_column, match_lines_of, place_line_of, place_lines_of, signed_text, text_told, word_lines_of}
 use Rattle.ucl_answers.specs.Text.{bad_line}
 use Rattle.ucl_answers.specs.Laws.{JsonSaysTheSame, RaisesVersion}

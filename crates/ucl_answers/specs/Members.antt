@@ -67,9 +67,9 @@ abbrev pub sides_of_member : List ℕ → Data → Option (ℕ × ℕ)
 sides_of_member name value = option_and_then two_numbers (items_of_member name value)
 
 -- the name of the club in a slot
-abbrev pub name_in : Items → ℕ → Option (List ℕ)
-name_in no_items slot = None
-name_in (item club clubs) slot = if slot == 1 then text_of_member (codes "club") club else name_in clubs (slot - 1)
+abbrev pub club_named : Items → ℕ → Option (List ℕ)
+club_named no_items slot = None
+club_named (item club clubs) slot = if slot == 1 then text_of_member (codes "club") club else club_named clubs (slot - 1)
 
 -- the line of a match that these clubs play
 abbrev pub match_line_of : Items → Data → Option (List ℕ)
@@ -81,8 +81,8 @@ match_line_of clubs value = do
   yellows ← sides_of_member (codes "yellows") value
   expulsions ← sides_of_member (codes "expulsions") value
   reporter ← number_of_member (codes "reporter") value
-  home ← name_in clubs (fixture_of game).home
-  away ← name_in clubs (fixture_of game).away
+  home ← club_named clubs (fixture_of game).home
+  away ← club_named clubs (fixture_of game).away
   Some (
       (codes "match " ++ right 2 (decimal game) ++ codes " v" ++ zeros_before 4 event_number ++ codes " " ++ left 9 state) ++ codes " "
       ++ (right 2 (decimal goals.0) ++ codes "-" ++ decimal goals.1
@@ -96,8 +96,8 @@ match_lines_of clubs (item game games) = do
   more ← match_lines_of clubs games
   Some (line ++ more)
 
-abbrev pub matches_of : Data → Option (List ℕ)
-matches_of value = do
+abbrev pub matches_told : Data → Option (List ℕ)
+matches_told value = do
   clubs ← items_of_member (codes "clubs") value
   games ← items_of_member (codes "matches") value
   match_lines_of clubs games
@@ -161,7 +161,7 @@ text_by kind value =
     if bytes_eq kind (codes "ok") then accepted_line_of value
     else (if bytes_eq kind (codes "refused") then refused_line_of value
     else (if bytes_eq kind (codes "words") then option_and_then (word_lines_of 1) (items_of_member (codes "words") value)
-    else (if bytes_eq kind (codes "matches") then matches_of value
+    else (if bytes_eq kind (codes "matches") then matches_told value
     else (if bytes_eq kind (codes "screen") then screen_of value else None))))
 
 -- the text that says what the members say

@@ -223,9 +223,31 @@ words-line o row board r twelve bits =
 
 -- the twelve matches
 matches-plain : (board : List ℕ) → AreWords board → ArePlain 125 (match_items board match_numbers)
-matches-plain board w =
-    (p 1 (omega arith), (p 2 (omega arith), (p 3 (omega arith), (p 4 (omega arith), (p 5 (omega arith), (p 6 (omega arith), (p 7 (omega arith), (p 8 (omega arith),
-    (p 9 (omega arith), (p 10 (omega arith), (p 11 (omega arith), (p 12 (omega arith), tt))))))))))))
+matches-plain board w = (
+  p 1 (omega arith),
+  (
+    p 2 (omega arith),
+    (
+      p 3 (omega arith),
+      (
+        p 4 (omega arith),
+        (
+          p 5 (omega arith),
+          (
+            p 6 (omega arith),
+            (
+              p 7 (omega arith),
+              (
+                p 8 (omega arith),
+                (p 9 (omega arith), (p 10 (omega arith), (p 11 (omega arith), (p 12 (omega arith), tt)))),
+              ),
+            ),
+          ),
+        ),
+      ),
+    ),
+  ),
+)
   where
     valid : (game : ℕ) → game ≤ 12 → IsValid (game_at board game)
     valid game high = word_valid (word_at board game) (All-get_or IsWord board (game - 1) 0 (let t = w.twelve in omega (arith, t, high)) w.each)

@@ -71,11 +71,7 @@ fn show(alloc: Global, shape: FollowArgs, row: u64, moment: &Moment) -> Result<S
             moment.group,
             moment.profile,
         )?)),
-        FollowArgs::Matches => Ok(Sight::Screen(matches(
-            alloc,
-            &moment.board,
-            &moment.roster,
-        )?)),
+        FollowArgs::Matches => Ok(Sight::Screen(matches(alloc, &moment.board, &moment.roster)?)),
         FollowArgs::Rows => Ok(Sight::Nothing),
     }
 }
