@@ -204,6 +204,17 @@ def sheet(matches):
     return "".join(f"word,{i},{m.word()},\n" for i, m in enumerate(matches, 1))
 
 
+def match_lines(matches, roster=ROSTER):
+    """The twelve matches, a line each."""
+    sides = lambda numbers: f"{numbers[0]}-{numbers[1]}"
+    lines = []
+    for game, (m, (home, away)) in enumerate(zip(matches, FIXTURES), 1):
+        stands = f"match {game:2} v{m.number:04} {STATES[m.state]:9} {m.goals[0]:2}-{m.goals[1]}"
+        clubs = f"{roster[home - 1][0]} v {roster[away - 1][0]}"
+        lines.append(f"{stands} Y {sides(m.yellows)} E {sides(m.expulsions)} by {m.reporter:3} {clubs}\n")
+    return "".join(lines)
+
+
 # ---- rows
 
 
@@ -305,6 +316,11 @@ def line_of(members):
     return json.dumps(members, sort_keys=True, separators=(",", ":")) + "\n"
 
 
+def clubs_of(roster):
+    """The clubs in JSON."""
+    return [{"club": name, "coefficient": coefficient} for name, coefficient in roster]
+
+
 class Style:
     """How the words of a command line have a screen shown."""
 
@@ -318,9 +334,8 @@ class Style:
 
     def moment(self, matches, roster):
         """The members by which a line of JSON stands for itself."""
-        clubs = [{"club": name, "coefficient": coefficient} for name, coefficient in roster]
         members = {"group": self.group, "order": self.order, "version": version(matches)}
-        return {**members, "clubs": clubs, "words": [m.word() for m in matches]}
+        return {**members, "clubs": clubs_of(roster), "words": [m.word() for m in matches]}
 
     def json(self, matches, roster, row):
         """The screen as a line of JSON."""
@@ -406,6 +421,9 @@ class Evening:
             return self.shown(row)
         if fields == ["words", "", "", ""]:
             return self.told(row, {"reply": "words", "words": [m.word() for m in self.matches]}, sheet(self.matches))
+        if fields == ["matches", "", "", ""]:
+            members = {"reply": "matches", "clubs": clubs_of(self.roster), "matches": [m.members(game) for game, m in enumerate(self.matches, 1)]}
+            return self.told(row, members, match_lines(self.matches, self.roster))
         said = event(fields)
         shown = re.match("[ -~]{0,64}", line)[0]
         return self.refused(row, "20 bad-row", field=bad_field(fields), text=shown) if said is None else self.entered(row, said)
@@ -449,7 +467,8 @@ def followed(words, text):
             newest, shown = moment, shown + 1
             group, order, roster, matches = moment
             style = Style(["--group", group, "--order", order])
-            output += line_of(style.json(matches, roster, row)) if "json" in words else style.screen(matches, roster)
+            text = match_lines(matches, roster) if "--matches" in words else style.screen(matches, roster)
+            output += line_of(style.json(matches, roster, row)) if "json" in words else text
     if "--resume" in words:
         quoted = lambda name: '"' + name.replace('"', '""') + '"'
         if newest is None:

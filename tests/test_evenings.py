@@ -2,7 +2,7 @@
 
 import pytest
 from conftest import EXAMPLES, tabled, text_of
-from model import CLUBS, Evening
+from model import CLUBS, ROSTER, Evening
 
 example = lambda name: text_of(EXAMPLES / name)
 FED = ["one_goal", "two_matches", "head_to_head", "reopened", "plus_lost"]
@@ -19,7 +19,7 @@ test_what_feed_and_show_write_is_answered = tabled({
 BAD = [
     "0,1,0,kickoff", "256,1,0,kickoff", "1,0,0,kickoff", "1,13,0,kickoff", "1,1,65536,kickoff", "1,1,-1,kickoff", "1, 1,0,kickoff",
     "1,1,0,kick-off", "1,1,0,kick", "1,1,0", "1,1,0,kickoff,", "kickoff", "word,1,2000000000000000", "club,1,Alpha,60000", "screen", "screen,,,,",
-    "screen,1,,", "words,,,1", "Screen,,,", '1,1,0,"kickoff', '1,1,0,kickoff"', "1,1,0,kickoff\r2,2,0,kickoff", "\ufeff1,1,0,kickoff",
+    "screen,1,,", "words,,,1", "Screen,,,", "matches", "matches,,1,", "match,,,", '1,1,0,"kickoff', '1,1,0,kickoff"', "1,1,0,kickoff\r2,2,0,kickoff", "\ufeff1,1,0,kickoff",
     "\0" + "1,1,0,kickoff", "x" * 257, "x" * 100_000, *('1,1,0,"' + "x" * (length - 8) + '"' for length in (255, 256, 257)), "\r" * 244 + "1,1,0,kickoff",
 ]
 GOOD = ["001,01,00000,kickoff", '"1","1","0","kickoff"', "1,1,0,kickoff\r", '"1",1,0,"kickoff"\r', "\r" * 242 + "1,1,0,kickoff", "\r" * 243 + "1,1,0,kickoff\r"]
@@ -104,6 +104,19 @@ def test_bad_rows_in_json(run, row, field, text):
     """The first field that is none of an event, and the row up to its first byte that is not printable ASCII, at most 64 bytes."""
     wanted = f'{{"code":20,"field":"{field}","name":"bad-row","reply":"refused","row":5,"text":"{text}"}}\n'
     assert run("ucl_live", "--format", "json", input=CLUBS + row + "\r\n") == (0, wanted, "")
+
+
+def test_matches(run):
+    """The twelve matches as they stand when their row comes; as text, and in JSON, where the clubs stand beside them."""
+    rows = CLUBS + "1,1,0,kickoff\n2,1,1,goal-home\n2,1,2,yellow-away\nmatches,,,\n1,2,0,kickoff\n"
+    first, second = "match  1 v0003 IN PLAY    1-0 Y 0-1 E 0-0 by   2 Bravo v Charlie\n", "match  2 v0000 SCHEDULED  0-0 Y 0-0 E 0-0 by   0 Delta v Alpha\n"
+    lines = run("ucl_live", input=rows).output.splitlines(True)
+    assert lines[3:5] == [first, second] and lines[14:] == ["match 12 v0000 SCHEDULED  0-0 Y 0-0 E 0-0 by   0 Delta v Charlie\n", "9 ok 2 1 4\n"]
+    stands = '"reporter":2,"score":[1,0],"state":"IN PLAY","yellows":[0,1]'
+    scheduled = ',{{"expulsions":[0,0],"match":{},"number":0,"reporter":0,"score":[0,0],"state":"SCHEDULED","yellows":[0,0]}}'
+    clubs = ",".join(f'{{"club":"{name}","coefficient":{coefficient}}}' for name, coefficient in ROSTER)
+    wanted = '{"clubs":[' + clubs + '],"matches":[{"expulsions":[0,0],"match":1,"number":3,' + stands + "}" + "".join(scheduled.format(game) for game in range(2, 13))
+    assert run("ucl_live", "--format", "json", input=rows).output.splitlines()[3] == wanted + '],"reply":"matches","row":8}'
 
 
 def test_json(run):

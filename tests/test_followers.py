@@ -15,6 +15,7 @@ JOURNAL, SCREENS = journal_of(NIGHT), "".join(screens_of(NIGHT))
 LINES = JOURNAL.splitlines(True)
 FIRST, SECOND = journal_of(CLUBS + "1,1,0,kickoff\n1,1,1,goal-home\n").splitlines(True)
 SCREEN, BOTH = ("".join(screens_of(CLUBS + f"1,1,0,kickoff\n{more}")) for more in ("", "1,1,1,goal-home\n"))
+MATCHES = Evening([]).of(CLUBS + "1,1,0,kickoff\nmatches,,,\n1,1,1,goal-home\nmatches,,,\n")[1].replace("5 ok 1 1 1\n", "").replace("7 ok 1 2 2\n", "")
 told = lambda lines, shown: f"{lines} lines, {shown} shown, {lines - shown} passed over\n"
 vain = lambda lines: f"no moment in {lines} lines: there is nothing to go on from\n"
 count = SCREENS.count("GROUP")
@@ -26,6 +27,8 @@ test_journals = tabled({
     "doubled": ("ucl_follow", "".join(line * 2 for line in LINES), SCREENS, 0, told(2 * len(LINES), count)),
     "backwards": ("ucl_follow", "".join(LINES[::-1]), "".join(SCREENS.splitlines(True)[-6:]), 0, told(len(LINES), 1)),
     "in JSON, of which each line is that of the evening": ("ucl_follow --format json", JOURNAL, followed(["json"], JOURNAL)[1], 0, told(len(LINES), count)),
+    "the matches": ("ucl_follow --matches", FIRST + SECOND, MATCHES, 0, told(2, 2)),
+    "the matches of a whole evening": ("ucl_follow --matches", JOURNAL, followed(["--matches"], JOURNAL)[1], 0, told(len(LINES), count)),
     "a follower followed": ("ucl_follow", followed(["json"], JOURNAL)[1], SCREENS, 0, told(count, count)),
     "a line without an end": ("ucl_follow", FIRST + SECOND[:-1], SCREEN, 0, told(1, 1)),
     "nothing": ("ucl_follow", "", "", 0, told(0, 0)),

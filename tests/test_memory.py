@@ -73,10 +73,10 @@ def test_a_call_of_the_library(program, refuses, call, mode):
     assert any(run.output in allowed for run in met)
 
 
-ROWS = "two_matches.csv", "screen,,,\nwords,,,\n"
+ROWS = "two_matches.csv", "screen,,,\nwords,,,\nmatches,,,\n"
 MORE_ROWS = "two_matches_sheet.csv", "words,,,\n1,1,6,fulltime\nscreen,,,\n1,1,6,reopen\n"
 # Each run of a program with its input and its status, and how many lines of its output may be out where want of memory is told: in an evening the
-# clubs ask for memory, the screen, a screen after an accepted event, and all in JSON.
+# clubs ask for memory, the screen, the matches, a screen after an accepted event, and all in JSON.
 RUNS = {
     "ucl_night --help": ([], 0, [0]),
     "ucl_night feed": (["two_matches.csv"], 0, [0]),
@@ -87,9 +87,9 @@ RUNS = {
     "ucl_night night --group A --readings 0": ([f"{H2H}.csv"], 0, [0]),
     "ucl_live --help": ([], 0, [0]),
     "ucl_live --order none": ([], 2, [0]),
-    "ucl_live": (ROWS, 0, [0, 10]),
-    "ucl_live --screens": (ROWS, 0, [0, 7, 16, 23, 30, 37, 45, 52]),
-    "ucl_live --format json": (ROWS, 0, range(12)),
+    "ucl_live": (ROWS, 0, [0, 10, 28]),
+    "ucl_live --screens": (ROWS, 0, [0, 7, 16, 23, 30, 37, 45, 52, 70]),
+    "ucl_live --format json": (ROWS, 0, range(13)),
     "ucl_live --format text": (MORE_ROWS, 0, [0, 13]),
     "ucl_live --format json --screens": (MORE_ROWS, 0, range(4)),
 }

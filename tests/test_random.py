@@ -117,7 +117,7 @@ def test_scripts_and_sheets(program, data):
     assert fed(program("ucl_night"), [word, *words], text, draw(PIECES)) == night(word, words, text)
 
 
-ODD_ROWS = ["screen,,,", "words,,,", "", "\r", "x", "1,1,0", "screen,1,,", "y" * 257, "z" * 700, "word,1,,", '1,1,0,"kickoff', 'word,1,2000000000000000,"', "1,13,0,goal", '1,1,"0', "\ufeff1,1,0,kickoff"]
+ODD_ROWS = ["screen,,,", "words,,,", "matches,,,", "", "\r", "x", "1,1,0", "screen,1,,", "y" * 257, "z" * 700, "word,1,,", '1,1,0,"kickoff', 'word,1,2000000000000000,"', "1,13,0,goal", '1,1,"0', "\ufeff1,1,0,kickoff"]
 
 
 @given(st.data())
@@ -146,7 +146,7 @@ def test_journals(program, data):
     for at, end, more in draw(st.lists(st.tuples(st.integers(0, 40), st.integers(0, 1200), st.sampled_from(["", "\n", "}\n", " \r\n"])), max_size=5)):
         if at < len(some):
             some[at] = some[at].rstrip("\n")[:end] + more
-    words, text = draw(st.sampled_from([[], ["--format", "json"], ["--resume"]])), "".join(some)
+    words, text = draw(st.sampled_from([[], ["--format", "json"], ["--matches"], ["--resume"]])), "".join(some)
     assert fed(program("ucl_follow"), words, text, draw(PIECES)) == followed(words, text)
 
 

@@ -26,9 +26,9 @@ use Rattle.ucl_command.specs.declared.options.Format.{Format}
 use Rattle.ucl_command.specs.declared.options.Format.TheVariants.{Text, Json}
 use Rattle.ucl_command.specs.declared.live.LiveArgs.{LiveArgs}
 use Rattle.ucl_answers.specs.declared.request.Request.{Request}
-use Rattle.ucl_answers.specs.declared.request.Request.TheVariants.{Bad, Event, Screen, Words}
+use Rattle.ucl_answers.specs.declared.request.Request.TheVariants.{Bad, Event, Screen, Words, Matches}
 use Rattle.ucl_answers.specs.BadRows.{bad_field, shown_text}
-use Rattle.ucl_answers.specs.Requests.{asked_by, event_or_bad, request_of}
+use Rattle.ucl_answers.specs.Requests.{asked_by, event_or_bad, request_of, shown_by}
 use Rattle.ucl_answers.specs.Rows.{Said, Nothing, Garbled, Row, said_on}
 use Rattle.ucl_answers.specs.Stages.{Stage, Open, Restoring, next_board, next_stage}
 use Rattle.ucl_answers.specs.Text.{Evening, after_lines, answer_said, answer_of, answers, next, reply_answer, reply_in, screen_after}
@@ -88,18 +88,24 @@ by-event : (f : FourFields) (o : Option NightEvent) → ((e : NightEvent) → o 
 by-event f None p = none
 by-event f (Some e) p = one (attempt_of e) (p e refl)
 
-either : (b : Bool) (x y : Request) → AreAttempts x → AreAttempts y → AreAttempts (if b then x else y)
-either true x y p q = p
-either false x y p q = q
+-- what holds of each request that a row can ask for
+module _ (P : Request → Type 0) where
+  either : (b : Bool) (x y : Request) → P x → P y → P (if b then x else y)
+  either true x y p q = p
+  either false x y p q = q
+
+  pub asked-by : (f : FourFields) → P Screen → P Words → P Matches → P (Bad (bad_field f)) → P (event_or_bad f (event_of f)) → P (asked_by f)
+  unfolding asked_by
+  asked-by f screen words matches bad event =
+      let or_bad = if bytes_eq f.first (codes "matches") then Matches else Bad (bad_field f) in
+      let others = if bytes_eq f.first (codes "words") then Words else or_bad in
+      either ((length f.second == 0) && (length f.third == 0) && (length f.fourth == 0)) (shown_by f) (event_or_bad f (event_of f))
+      (either (bytes_eq f.first (codes "screen")) Screen others screen
+      (either (bytes_eq f.first (codes "words")) Words or_bad words (either (bytes_eq f.first (codes "matches")) Matches (Bad (bad_field f)) matches bad)))
+      event
 
 pub asked : (f : FourFields) → AreAttempts (asked_by f)
-unfolding asked_by
-asked f =
-    let words = if bytes_eq f.first (codes "words") then Words else Bad (bad_field f) in
-    let commands = if bytes_eq f.first (codes "screen") then Screen else words in
-    either ((length f.second == 0) && (length f.third == 0) && (length f.fourth == 0)) commands (event_or_bad f (event_of f))
-    (either (bytes_eq f.first (codes "screen")) Screen words none (either (bytes_eq f.first (codes "words")) Words (Bad (bad_field f)) none none))
-    (by-event f (event_of f) (event-is_attempt f))
+asked f = asked-by AreAttempts f none none none none (by-event f (event_of f) (event-is_attempt f))
 
 said-attempts : (r : Said) → All IsAttempt (attempts_on r)
 said-attempts Nothing = none
@@ -118,6 +124,7 @@ fold-request board (Event e) more = refl
 fold-request board (Bad field) more = refl
 fold-request board Screen more = refl
 fold-request board Words more = refl
+fold-request board Matches more = refl
 
 abbrev board_on : List ℕ → Said → List ℕ
 board_on board Nothing = board
@@ -192,6 +199,7 @@ request-answer options row clubs history (Event event) shown legal all = event-a
 request-answer options row clubs history (Bad field) shown legal all = refl
 request-answer options row clubs history Screen shown legal all = refl
 request-answer options row clubs history Words shown legal all = refl
+request-answer options row clubs history Matches shown legal all = refl
 
 said-answer : (e : Evening) (clubs : List NamedClub) (history : List Entry) (r : Said) (shown : List ℕ) → IsLegal history → e.stage ≡ Open clubs (board_of history)
     → answer_said e r shown ≡ line_by_history e.options e.row clubs history r shown

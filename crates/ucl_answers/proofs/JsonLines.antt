@@ -8,12 +8,12 @@ use Rattle.ucl_board.specs.Words.{game_at, version_of}
 use Rattle.ucl_order.specs.Roster.{NamedClub}
 use Rattle.ucl_screen.specs.declared.night.NightEvent.{NightEvent}
 use Rattle.ucl_json.specs.Lines.{AreLinesOfValues}
-use Rattle.ucl_json.specs.Values.{bad_row_value, reply_value, screen_value, words_value}
+use Rattle.ucl_json.specs.Values.{bad_row_value, matches_value, reply_value, screen_value, words_value}
 use Rattle.ucl_json.proofs.OneLine.{line_of_value, lines_then, no_lines}
 use Rattle.ucl_command.specs.declared.options.Format.TheVariants.{Json}
 use Rattle.ucl_command.specs.declared.live.LiveArgs.{LiveArgs}
 use Rattle.ucl_answers.specs.declared.request.Request.{Request}
-use Rattle.ucl_answers.specs.declared.request.Request.TheVariants.{Bad, Event, Screen, Words}
+use Rattle.ucl_answers.specs.declared.request.Request.TheVariants.{Bad, Event, Screen, Words, Matches}
 use Rattle.ucl_answers.specs.Rows.{Said, Nothing, Garbled, Row, said_on}
 use Rattle.ucl_answers.specs.BadRows.{field_name, shown_text}
 use Rattle.ucl_answers.specs.Requests.{request_of}
@@ -47,6 +47,7 @@ request-lines options row clubs board (Event event) shown h =
 request-lines options row clubs board (Bad field) shown h = rw h (line_of_value (bad_row_value row (field_name field) shown))
 request-lines options row clubs board Screen shown h = screen-line options row clubs board h
 request-lines options row clubs board Words shown h = rw h (line_of_value (words_value row board))
+request-lines options row clubs board Matches shown h = rw h (line_of_value (matches_value row board clubs))
 
 stage-lines : (options : LiveArgs) (row : ℕ) (stage : Stage) (request : Request) (shown : List ℕ) → options.format ≡ Json → AreLinesOfValues (answer_at options row stage request shown)
 stage-lines options row (Naming clubs) request shown h = no_lines

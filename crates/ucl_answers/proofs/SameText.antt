@@ -16,16 +16,17 @@ use Rattle.ucl_board.proofs.Repeats.{no_refusal}
 use Rattle.ucl_order.specs.Roster.{NamedClub, bad_slot}
 use Rattle.ucl_runs.specs.Feed.{attempt_of, line_of_reply, word_lines}
 use Rattle.ucl_screen.specs.Events.{◌>>=◌}
+use Rattle.ucl_screen.specs.Matches.{matches_text}
 use Rattle.ucl_screen.specs.Screen.{screen_text}
 use Rattle.ucl_screen.specs.WordsRead.{read_words}
 use Rattle.ucl_screen.specs.declared.night.NightEvent.{NightEvent}
 use Rattle.ucl_json.specs.Lines.{IsOneLine, json_line}
-use Rattle.ucl_json.specs.Values.{bad_row_value, reply_value, screen_value, words_value}
+use Rattle.ucl_json.specs.Values.{bad_row_value, matches_value, reply_value, screen_value, words_value}
 use Rattle.ucl_json.proofs.OneLine.{one_line}
 use Rattle.ucl_command.specs.declared.options.Format.TheVariants.{Json}
 use Rattle.ucl_command.specs.declared.live.LiveArgs.{LiveArgs}
 use Rattle.ucl_answers.specs.declared.request.Request.{Request}
-use Rattle.ucl_answers.specs.declared.request.Request.TheVariants.{Bad, Event, Screen, Words}
+use Rattle.ucl_answers.specs.declared.request.Request.TheVariants.{Bad, Event, Screen, Words, Matches}
 use Rattle.ucl_answers.specs.Lines.{lines_of}
 use Rattle.ucl_answers.specs.Members.{text_told, texts_told}
 use Rattle.ucl_answers.specs.BadRows.{field_name, shown_text}
@@ -135,6 +136,8 @@ request-lines options row clubs board (Bad field) shown h w all =
     rw h (value-line (bad_row_value row (field_name field) shown) (bad_line row) ((same row options.profile board clubs options.group).bad (field_name field) shown))
 request-lines options row clubs board Screen shown h w all = screen-line options row clubs board h
 request-lines options row clubs board Words shown h w all = rw h (value-line (words_value row board) (word_lines 1 board) (same row options.profile board clubs options.group).words)
+request-lines options row clubs board Matches shown h w all =
+    rw h (value-line (matches_value row board clubs) (matches_text board clubs) (same row options.profile board clubs options.group).matches)
 
 -- ---- lines of an evening
 
@@ -184,6 +187,7 @@ good-board board (Event event) w all = good-after board (attempt_of event) w (Al
 good-board board (Bad field) w all = w
 good-board board Screen w all = w
 good-board board Words w all = w
+good-board board Matches w all = w
 
 of-request : (r : Said) → AreAttempts (request_of r)
 of-request Nothing = All-nil IsAttempt

@@ -11,6 +11,7 @@ use Rattle.ucl_word.specs.declared.event.Accepted.{Accepted}
 use Rattle.ucl_word.specs.declared.record.MatchRecord.{MatchRecord}
 use Rattle.ucl_word.specs.declared.refusal.Refusal.{Refusal}
 use Rattle.ucl_word.specs.Names.{found_of, found_text, refusal_code, refusal_name}
+use Rattle.ucl_board.specs.Fixtures.{match_numbers}
 use Rattle.ucl_board.specs.Words.{game_at, version_of}
 use Rattle.ucl_order.specs.declared.mark.Mark.{Mark}
 use Rattle.ucl_order.specs.declared.mark.Mark.TheVariants.{Plus, Minus, Blank}
@@ -21,10 +22,12 @@ use Rattle.ucl_order.specs.Rows.{rows_of}
 use Rattle.ucl_runs.specs.Feed.{line_of_reply, word_lines}
 use Rattle.ucl_runs.specs.Lines.{accepted_line}
 use Rattle.ucl_screen.specs.Lines.{difference_text, mark_text, place_line}
+use Rattle.ucl_screen.specs.Matches.{clubs_text, counts_text, match_line, matches_text, state_text}
 use Rattle.ucl_screen.specs.Screen.{row_line, screen_text}
 use Rattle.ucl_screen.specs.declared.night.NightEvent.{NightEvent}
-use Rattle.ucl_json.specs.Values.{accepted_value, bad_row_value, bad_value, mark_name, place_items, place_value, refused_by, reply_value, screen_value, word_items, words_value}
-use Rattle.ucl_answers.specs.Members.{mark_column, place_line_of, place_lines_of, signed_text, text_told, word_lines_of}
+use Rattle.ucl_json.specs.Values.{accepted_value, bad_row_value, bad_value, club_items, mark_name, match_items, matches_value}
+use Rattle.ucl_json.specs.Values.{place_items, place_value, refused_by, reply_value, screen_value, word_items, words_value}
+use Rattle.ucl_answers.specs.Members.{mark_column, match_lines_of, place_line_of, place_lines_of, signed_text, text_told, word_lines_of}
 use Rattle.ucl_answers.specs.Text.{bad_line}
 use Rattle.ucl_answers.specs.Laws.{JsonSaysTheSame, RaisesVersion}
 
@@ -74,6 +77,16 @@ words-told : (row : ℕ) (board : List ℕ) → text_told (words_value row board
 unfolding text_told serde_json_on_literals
 words-told row board = refl
 
+-- ---- matches
+
+match-lines-told : (clubs : List NamedClub) (board : List ℕ) → match_lines_of (club_items clubs) (match_items board match_numbers) ≡ Some (matches_text board clubs)
+unfolding match_lines_of matches_text match_line state_text counts_text clubs_text serde_json_on_literals
+match-lines-told clubs board = refl
+
+matches-told : (row : ℕ) (board : List ℕ) (clubs : List NamedClub) → text_told (matches_value row board clubs) ≡ match_lines_of (club_items clubs) (match_items board match_numbers)
+unfolding matches_value text_told serde_json_on_literals
+matches-told row board clubs = refl
+
 -- ---- the screen
 
 integer-back : (z : ℤ) → as_integer (of_integer z) ≡ Some z
@@ -114,5 +127,6 @@ same row profile board clubs group = record {
   reply = replied row profile board clubs group;
   bad = bad row;
   words = words-told row board ∙ lines-told 1 board;
+  matches = matches-told row board clubs ∙ match-lines-told clubs board;
   screen = screen-told row profile board clubs group;
 }

@@ -12,11 +12,11 @@ use Rattle.ucl_command.specs.declared.options.Format.{Format}
 use Rattle.ucl_command.specs.declared.options.Format.TheVariants.{Text, Json}
 use Rattle.ucl_command.specs.declared.live.LiveArgs.{LiveArgs}
 use Rattle.ucl_answers.specs.declared.request.Request.{Request}
-use Rattle.ucl_answers.specs.declared.request.Request.TheVariants.{Bad, Event, Screen, Words}
+use Rattle.ucl_answers.specs.declared.request.Request.TheVariants.{Bad, Event, Screen, Words, Matches}
 use Rattle.ucl_answers.specs.Rows.{Said, Nothing, Garbled, Row, said_on}
 use Rattle.ucl_answers.specs.BadRows.{shown_text}
 use Rattle.ucl_answers.specs.Requests.{request_of}
-use Rattle.ucl_answers.specs.Text.{bad_answer, screen_after, screen_answer, words_answer}
+use Rattle.ucl_answers.specs.Text.{bad_answer, matches_answer, screen_after, screen_answer, words_answer}
 
 -- ---- the events that lines ask for, with who enters them, where the first line has this number and the board is open
 
@@ -25,6 +25,7 @@ attempts_of (Event event) = attempt_of event ∷ []
 attempts_of (Bad field) = []
 attempts_of Screen = []
 attempts_of Words = []
+attempts_of Matches = []
 
 abbrev pub attempts_on : Said → List Attempt
 attempts_on Nothing = []
@@ -43,7 +44,7 @@ reply_by_history Text options row clubs history event = reply_line row history e
 reply_by_history Json options row clubs history event =
     json_line (reply_value row event (sequential_reply history event.call) options.profile (board_of (after_attempt history (attempt_of event))) clubs options.group)
 
--- the answer to a request: of an event its reply, and the screen of the board with it; the screen, or the words, of the board before
+-- the answer to a request: of an event its reply, and the screen of the board with it; the screen, the words or the matches of the board before
 abbrev pub answer_by_history : LiveArgs → ℕ → List NamedClub → List Entry → Request → List ℕ → List ℕ
 answer_by_history options row clubs history (Event event) shown =
     reply_by_history options.format options row clubs history event
@@ -51,6 +52,7 @@ answer_by_history options row clubs history (Event event) shown =
 answer_by_history options row clubs history (Bad field) shown = bad_answer options.format row field shown
 answer_by_history options row clubs history Screen shown = screen_answer options row clubs (board_of history)
 answer_by_history options row clubs history Words shown = words_answer options.format row (board_of history)
+answer_by_history options row clubs history Matches shown = matches_answer options.format row clubs (board_of history)
 
 -- the answer to what a line says that is shown so
 abbrev pub line_by_history : LiveArgs → ℕ → List NamedClub → List Entry → Said → List ℕ → List ℕ

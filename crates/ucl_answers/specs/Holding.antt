@@ -18,7 +18,7 @@ use Rattle.ucl_answers.specs.declared.fault.BeginningFault.{BeginningFault}
 use Rattle.ucl_answers.specs.declared.fault.LiveFault.{LiveFault}
 use Rattle.ucl_answers.specs.declared.fault.LiveFault.TheVariants.{Beginning, OutOfMemory}
 use Rattle.ucl_answers.specs.declared.request.Request.{Request}
-use Rattle.ucl_answers.specs.declared.request.Request.TheVariants.{Bad, Event, Screen, Words}
+use Rattle.ucl_answers.specs.declared.request.Request.TheVariants.{Bad, Event, Screen, Words, Matches}
 use Rattle.ucl_answers.specs.declared.parts.Parts.{Parts}
 use Rattle.ucl_answers.specs.Faults.{input_fault}
 use Rattle.ucl_answers.specs.Lines.{last_lines}
@@ -30,13 +30,14 @@ use Rattle.ucl_answers.specs.Text.{Evening, after_lines, answers, live_text, mis
 
 -- ---- want of memory
 
--- whether the answer to a request asks for memory: in JSON each does, and as text screens alone
+-- whether the answer to a request asks for memory: in JSON each does, and as text screens and matches alone
 abbrev pub AsksOf : LiveArgs → List ℕ → Request → Type 0
 AsksOf options board (Event event) =
     (options.format ≡ Json) ⊎ ((options.screens ≡ true) × (is_ok (reply_of (game_at board event.call.game) event.call) ≡ true))
 AsksOf options board (Bad field) = options.format ≡ Json
 AsksOf options board Screen = ⊤
 AsksOf options board Words = options.format ≡ Json
+AsksOf options board Matches = ⊤
 
 -- a club's name asks for memory, and a word does not
 abbrev pub AsksAt : LiveArgs → Stage → Request → Type 0

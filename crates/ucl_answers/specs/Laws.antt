@@ -9,6 +9,7 @@ use Rattle.ucl_order.specs.Roster.{NamedClub}
 use Rattle.ucl_runs.specs.Feed.{line_of_reply, reply_line, word_lines}
 use Rattle.ucl_screen.specs.declared.fault.InputFault.{InputFault}
 use Rattle.ucl_screen.specs.declared.night.NightEvent.{NightEvent}
+use Rattle.ucl_screen.specs.Matches.{matches_text}
 use Rattle.ucl_screen.specs.Screen.{screen_text}
 use Rattle.ucl_word.specs.declared.event.Accepted.{Accepted}
 use Rattle.ucl_word.specs.declared.refusal.Refusal.{Refusal}
@@ -16,7 +17,7 @@ use Rattle.ucl_word.specs.Rules.{reply_of}
 use Rattle.ucl_board.specs.Fixtures.{IsMatch}
 use Rattle.ucl_board.specs.Words.{game_at, version_of}
 use Rattle.ucl_json.specs.Lines.{AreLinesOfValues, IsOneLine, json_line}
-use Rattle.ucl_json.specs.Values.{bad_row_value, reply_value, screen_value, words_value}
+use Rattle.ucl_json.specs.Values.{bad_row_value, matches_value, reply_value, screen_value, words_value}
 use Rattle.ucl_command.specs.declared.options.Format.TheVariants.{Text, Json}
 use Rattle.ucl_command.specs.declared.live.LiveArgs.{LiveArgs}
 use Rattle.ucl_answers.specs.ByHistory.{answers_by_history, attempts_in}
@@ -95,12 +96,13 @@ abbrev pub RaisesVersion : Result Accepted Refusal → ℕ → List ℕ → Type
 RaisesVersion (Ok accepted) before board = version_of board ≡ before + 1
 RaisesVersion (Err refusal) before board = ⊤
 
--- the members of each answer in JSON say just what the answer says as text: its numbers, the name of a refusal, and all columns of the screen
+-- the members of each answer in JSON say just what the answer says as text: its numbers, the name of a refusal, all columns of the screen, and all of a match's line
 pub record SaysTheSame (row : ℕ) (profile : Profile) (board : List ℕ) (clubs : List NamedClub) (group : ℕ) : Type 0 where
   pub reply : (event : NightEvent) (before : ℕ) (reply : Result Accepted Refusal) → RaisesVersion reply before board
       → text_told (reply_value row event reply profile board clubs group) ≡ Some (line_of_reply row event.call.game before reply)
   pub bad : (field shown : List ℕ) → text_told (bad_row_value row field shown) ≡ Some (bad_line row)
   pub words : text_told (words_value row board) ≡ Some (word_lines 1 board)
+  pub matches : text_told (matches_value row board clubs) ≡ Some (matches_text board clubs)
   pub screen : text_told (screen_value row profile board clubs group) ≡ Some (screen_text profile board clubs group)
 
 abbrev pub JsonSaysTheSame : Type 0

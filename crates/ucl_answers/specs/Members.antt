@@ -1,12 +1,14 @@
 -- What the members of an answer in JSON say, as text.
-use Rattle.std.specs.Prelude.{ℕ, ◌+◌, ℤ, pos, negsuc, if◌then◌else◌, List, [], ◌∷◌, ◌++◌, codes, decimal, Option, Some, None, option_and_then}
+use Rattle.std.specs.Prelude.{ℕ, ◌+◌, ◌-◌, ◌==◌, ℤ, pos, negsuc, if◌then◌else◌, List, [], ◌∷◌, ◌++◌, codes, decimal, Option, Some, None, option_and_then}
 use Rattle.std.specs.Str.{bytes_eq}
 use Rattle.serde_json.specs.Data.{Data, Items, item, no_items}
 use Rattle.serde_json.specs.Find.{as_array, as_integer, as_number, as_str, as_u64, get}
 use Rattle.ucl_word.specs.Names.{found_text}
+use Rattle.ucl_board.specs.Fixtures.{fixture_of}
 use Rattle.ucl_runs.specs.Lines.{accepted_line}
 use Rattle.ucl_screen.specs.Events.{◌>>=◌}
-use Rattle.ucl_screen.specs.Lines.{header, left, right}
+use Rattle.ucl_screen.specs.Lines.{header, left, right, zeros_before}
+use Rattle.ucl_screen.specs.Matches.{sides_text}
 use Rattle.ucl_screen.specs.Screen.{columns}
 
 -- the number, the integer, the text and the elements of a member
@@ -50,6 +52,55 @@ word_lines_of index (item word words) = do
   digits ← as_str word
   more ← word_lines_of (index + 1) words
   Some (word_line_of index digits ++ more)
+
+-- ---- matches
+
+-- the numbers of both sides
+abbrev pub two_numbers : Items → Option (ℕ × ℕ)
+two_numbers (item home (item away no_items)) = do
+  h ← option_and_then as_u64 (as_number home)
+  a ← option_and_then as_u64 (as_number away)
+  Some (h, a)
+two_numbers _ = None
+
+abbrev pub sides_of_member : List ℕ → Data → Option (ℕ × ℕ)
+sides_of_member name value = option_and_then two_numbers (items_of_member name value)
+
+-- the name of the club in a slot
+abbrev pub club_named : Items → ℕ → Option (List ℕ)
+club_named no_items slot = None
+club_named (item club clubs) slot = if slot == 1 then text_of_member (codes "club") club else club_named clubs (slot - 1)
+
+-- the line of a match that these clubs play
+abbrev pub match_line_of : Items → Data → Option (List ℕ)
+match_line_of clubs value = do
+  game ← number_of_member (codes "match") value
+  event_number ← number_of_member (codes "number") value
+  state ← text_of_member (codes "state") value
+  goals ← sides_of_member (codes "score") value
+  yellows ← sides_of_member (codes "yellows") value
+  expulsions ← sides_of_member (codes "expulsions") value
+  reporter ← number_of_member (codes "reporter") value
+  home ← club_named clubs (fixture_of game).home
+  away ← club_named clubs (fixture_of game).away
+  Some (
+      (codes "match " ++ right 2 (decimal game) ++ codes " v" ++ zeros_before 4 event_number ++ codes " " ++ left 9 state) ++ codes " "
+      ++ (right 2 (decimal goals.0) ++ codes "-" ++ decimal goals.1
+      ++ codes " Y " ++ sides_text yellows.0 yellows.1 ++ codes " E " ++ sides_text expulsions.0 expulsions.1) ++ codes " "
+      ++ (codes "by " ++ right 3 (decimal reporter) ++ codes " " ++ home ++ codes " v " ++ away) ++ codes "\n")
+
+unfoldable pub match_lines_of : Items → Items → Option (List ℕ)
+match_lines_of clubs no_items = Some []
+match_lines_of clubs (item game games) = do
+  line ← match_line_of clubs game
+  more ← match_lines_of clubs games
+  Some (line ++ more)
+
+abbrev pub matches_told : Data → Option (List ℕ)
+matches_told value = do
+  clubs ← items_of_member (codes "clubs") value
+  games ← items_of_member (codes "matches") value
+  match_lines_of clubs games
 
 -- ---- the screen
 
@@ -110,7 +161,8 @@ text_by kind value =
     if bytes_eq kind (codes "ok") then accepted_line_of value
     else (if bytes_eq kind (codes "refused") then refused_line_of value
     else (if bytes_eq kind (codes "words") then option_and_then (word_lines_of 1) (items_of_member (codes "words") value)
-    else (if bytes_eq kind (codes "screen") then screen_of value else None)))
+    else (if bytes_eq kind (codes "matches") then matches_told value
+    else (if bytes_eq kind (codes "screen") then screen_of value else None))))
 
 -- the text that says what the members say
 unfoldable pub text_told : Data → Option (List ℕ)

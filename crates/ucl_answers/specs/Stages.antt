@@ -9,7 +9,7 @@ use Rattle.ucl_screen.specs.declared.fault.InputFault.TheVariants.{BadRow, BadRo
 use Rattle.ucl_screen.specs.Script.{club_of, word_of_row}
 use Rattle.ucl_answers.specs.Rows.{Said, Nothing, Garbled, Row}
 use Rattle.ucl_answers.specs.declared.request.Request.{Request}
-use Rattle.ucl_answers.specs.declared.request.Request.TheVariants.{Bad, Event, Screen, Words}
+use Rattle.ucl_answers.specs.declared.request.Request.TheVariants.{Bad, Event, Screen, Words, Matches}
 use Rattle.ucl_answers.specs.Requests.{request_of}
 use Rattle.ucl_screen.specs.WordsRead.{read_words}
 
@@ -79,6 +79,7 @@ next_board board (Event event) = board_after board (attempt_of event)
 next_board board (Bad field) = board
 next_board board Screen = board
 next_board board Words = board
+next_board board Matches = board
 
 -- four clubs are named, and no word came yet: a row that is none opens the fresh board
 abbrev pub opened : Stage → Said → Stage

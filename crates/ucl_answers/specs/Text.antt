@@ -8,14 +8,15 @@ use Rattle.ucl_order.specs.Roster.{NamedClub}
 use Rattle.ucl_runs.specs.Feed.{line_of_reply, word_lines}
 use Rattle.ucl_screen.specs.declared.fault.InputFault.{InputFault}
 use Rattle.ucl_screen.specs.declared.night.NightEvent.{NightEvent}
+use Rattle.ucl_screen.specs.Matches.{matches_text}
 use Rattle.ucl_screen.specs.Screen.{screen_text}
 use Rattle.ucl_json.specs.Lines.{json_line}
-use Rattle.ucl_json.specs.Values.{bad_row_value, reply_value, screen_value, words_value}
+use Rattle.ucl_json.specs.Values.{bad_row_value, matches_value, reply_value, screen_value, words_value}
 use Rattle.ucl_command.specs.declared.options.Format.{Format}
 use Rattle.ucl_command.specs.declared.options.Format.TheVariants.{Text, Json}
 use Rattle.ucl_command.specs.declared.live.LiveArgs.{LiveArgs}
 use Rattle.ucl_answers.specs.declared.request.Request.{Request}
-use Rattle.ucl_answers.specs.declared.request.Request.TheVariants.{Bad, Event, Screen, Words}
+use Rattle.ucl_answers.specs.declared.request.Request.TheVariants.{Bad, Event, Screen, Words, Matches}
 use Rattle.ucl_answers.specs.Lines.{lines_of}
 use Rattle.ucl_answers.specs.Rows.{Said, Nothing, Garbled, Row, said_on}
 use Rattle.ucl_answers.specs.BadRows.{field_name, shown_text}
@@ -64,6 +65,11 @@ abbrev pub words_answer : Format → ℕ → List ℕ → List ℕ
 words_answer Text row board = word_lines 1 board
 words_answer Json row board = json_line (words_value row board)
 
+-- the matches of a board
+abbrev pub matches_answer : Format → ℕ → List NamedClub → List ℕ → List ℕ
+matches_answer Text row clubs board = matches_text board clubs
+matches_answer Json row clubs board = json_line (matches_value row board clubs)
+
 -- ---- the answer to a line
 
 -- the screen after an accepted event, where screens are wanted
@@ -84,6 +90,7 @@ answer_of options row clubs board (Event event) shown = event_answer options row
 answer_of options row clubs board (Bad field) shown = bad_answer options.format row field shown
 answer_of options row clubs board Screen shown = screen_answer options row clubs board
 answer_of options row clubs board Words shown = words_answer options.format row board
+answer_of options row clubs board Matches shown = matches_answer options.format row clubs board
 
 -- nothing is answered before the board is open
 abbrev pub answer_at : LiveArgs → ℕ → Stage → Request → List ℕ → List ℕ

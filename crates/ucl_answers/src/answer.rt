@@ -8,7 +8,7 @@ ghost use Rattle.ucl_runs.specs.Feed.{line_of_reply};
 ghost use Rattle.ucl_runs.specs.Lines.{accepted_line, refused_line};
 ghost use Rattle.ucl_answers.specs.BadRows.{shown_text};
 ghost use Rattle.ucl_answers.specs.Seen.{bytes_of};
-ghost use Rattle.ucl_answers.specs.Text.{bad_answer, bad_line, reply_answer, screen_answer};
+ghost use Rattle.ucl_answers.specs.Text.{bad_answer, bad_line, matches_answer, reply_answer, screen_answer};
 
 use crate::bad_row::{BadField, shown_text};
 use crate::stage::Table;
@@ -16,8 +16,8 @@ use arrayvec::ArrayString;
 use itoa::Buffer;
 use std::alloc::{AllocError, Global};
 use ucl_command::{Format, LiveArgs};
-use ucl_json::{bad_row_json, reply_json, screen_json};
-use ucl_screen::{NightEvent, screen};
+use ucl_json::{bad_row_json, matches_json, reply_json, screen_json};
+use ucl_screen::{NightEvent, matches, screen};
 use ucl_word::{Accepted, OutOfMemory, Refusal};
 
 /// The line of a reply, which takes no memory.
@@ -182,6 +182,23 @@ pub(crate) fn screen_answer(
             options.group,
             options.profile,
         )?,
+    };
+    Ok(Answer::Long(text))
+}
+
+/// The matches of a board.
+pub(crate) fn matches_answer(
+    alloc: Global,
+    format: Format,
+    row: u64,
+    table: &Table,
+) -> Result<Answer, OutOfMemory>
+    ensures { IfOk result (λ answer.
+        bytes_of answer ≡ matches_answer format row table.now.roster table.now.board) }
+{
+    let text = match format {
+        Format::Text => matches(alloc, &table.board, &table.roster)?,
+        Format::Json => matches_json(alloc, row, &table.board, &table.roster)?,
     };
     Ok(Answer::Long(text))
 }

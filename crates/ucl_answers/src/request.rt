@@ -19,6 +19,8 @@ pub enum Request {
     Screen,
     /// The twelve words of the board as it stands.
     Words,
+    /// The twelve matches of the board as it stands.
+    Matches,
 }
 
 /// What a row of four fields asks for.
@@ -31,6 +33,8 @@ fn asked_by(four: &Four<'_>) -> Request
             Request::Screen
         } else if four.first == b"words".as_slice() {
             Request::Words
+        } else if four.first == b"matches".as_slice() {
+            Request::Matches
         } else {
             Request::Bad(bad_field(four))
         }

@@ -7,7 +7,7 @@ ghost use Rattle.ucl_answers.specs.Stages.{next_board};
 ghost use Rattle.ucl_answers.specs.Text.{answer_of, event_answer};
 ghost use Rattle.ucl_answers.specs.declared.request.Request.TheVariants.{Event};
 
-use crate::answer::{Answer, bad_answer, reply_answer, screen_answer};
+use crate::answer::{Answer, bad_answer, matches_answer, reply_answer, screen_answer};
 use crate::parts::Parts;
 use crate::request::Request;
 use crate::stage::Table;
@@ -66,6 +66,7 @@ impl Table {
             Request::Event(event) => return self.entered(alloc, options, row, event, parts),
             Request::Bad(field) => parts.put(bad_answer(alloc, options.format, row, *field, text)?),
             Request::Screen => parts.put(screen_answer(alloc, options, row, self)?),
+            Request::Matches => parts.put(matches_answer(alloc, options.format, row, self)?),
             Request::Words => match options.format {
                 Format::Text => parts.put_words(&self.board),
                 Format::Json => parts.put(Answer::Long(words_json(alloc, row, &self.board)?)),

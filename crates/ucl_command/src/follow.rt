@@ -3,7 +3,7 @@
 use crate::fault::{LineFault, matches_from, read};
 use crate::help::follow as help;
 use crate::options::{Format, flag_option, format_of, format_option, program};
-use clap::{ArgMatches, Command};
+use clap::{Arg, ArgMatches, Command};
 use std::alloc::{AllocError, Global};
 
 /// What a follower writes.
@@ -13,15 +13,25 @@ pub enum FollowArgs {
     Text,
     /// Each screen as one JSON object on one line.
     Json,
+    /// The twelve matches as lines of text, in place of each screen.
+    Matches,
     /// No screen, but at the end the rows by which an evening goes on from the newest moment.
     Rows,
+}
+
+/// `--matches`, which is text, and shows moments: it goes with neither `--format` nor `--resume`.
+fn matches_option<'a>(alloc: Global) -> Result<Arg<'a>, AllocError> {
+    flag_option(alloc, "matches", help::MATCHES)
+        .conflicts_with("format")?
+        .conflicts_with("resume")
 }
 
 /// The program's command.
 fn command<'a>(alloc: Global) -> Result<Command<'a>, AllocError> {
     program(alloc, "ucl_follow", help::PROGRAM, help::PROGRAM_MORE)
         .arg(format_option(alloc))?
-        .arg(flag_option(alloc, "resume", help::RESUME))
+        .arg(flag_option(alloc, "resume", help::RESUME))?
+        .arg(matches_option(alloc)?)
 }
 
 /// The arguments that were named.
@@ -29,6 +39,9 @@ fn args_in(matches: &ArgMatches<'_>) -> Option<FollowArgs> {
     let format = format_of(matches)?;
     if matches.get_flag("resume") {
         return Some(FollowArgs::Rows);
+    }
+    if matches.get_flag("matches") {
+        return Some(FollowArgs::Matches);
     }
     match format {
         Format::Text => Some(FollowArgs::Text),
@@ -38,8 +51,8 @@ fn args_in(matches: &ArgMatches<'_>) -> Option<FollowArgs> {
 
 /// What the words ask of `ucl_follow`. The first word is the program's name.
 ///
-/// The options are `--format` with `text` or `json`, which is `text` where it is left out, and `--resume`, which asks for rows in place of
-/// screens.
+/// The options are `--format` with `text` or `json`, which is `text` where it is left out; `--matches`, which asks for the matches in place of
+/// screens, and goes with no other option; and `--resume`, which asks for rows in place of screens.
 ///
 /// # Errors
 ///

@@ -33,7 +33,7 @@ use Rattle.ucl_json.specs.Values.{accepted_value, reply_value, screen_value}
 use Rattle.ucl_command.specs.declared.live.LiveArgs.{LiveArgs}
 use Rattle.ucl_command.specs.declared.options.Format.TheVariants.{Json}
 use Rattle.ucl_answers.specs.declared.request.Request.{Request}
-use Rattle.ucl_answers.specs.declared.request.Request.TheVariants.{Bad, Event, Screen, Words}
+use Rattle.ucl_answers.specs.declared.request.Request.TheVariants.{Bad, Event, Screen, Words, Matches}
 use Rattle.ucl_answers.specs.ByHistory.{attempts_of, attempts_on}
 use Rattle.ucl_answers.specs.BadRows.{bad_field, shown_text}
 use Rattle.ucl_answers.specs.Requests.{asked_by, event_or_bad, request_of}
@@ -41,7 +41,7 @@ use Rattle.ucl_answers.specs.Rows.{Said, Nothing, Garbled, Row, said_on}
 use Rattle.ucl_answers.specs.Stages.{Stage, Naming, Open, Refused, Restoring, after_club, after_row, after_word}
 use Rattle.ucl_answers.specs.Stages.{club_said, is_word_row, next_board, next_stage, opened, restored, with_roster, with_words, word_said}
 use Rattle.ucl_answers.specs.Text.{Evening, after_lines, answer_at, answer_of, answer_said, answers, next, reply_answer, screen_after, screen_answer}
-use Rattle.ucl_answers.proofs.Boards.{AreAttempts, asked, event-is_attempt}
+use Rattle.ucl_answers.proofs.Boards.{AreAttempts, asked, asked-by, event-is_attempt}
 use Rattle.ucl_answers.proofs.GoodBoards.{fresh-good, good-after, read-good, version-after}
 use Rattle.ucl_answers.proofs.OneByOne.{after-none, after-one, answers-none, answers-one}
 use Rattle.ucl_follows.specs.declared.moment.Moment.{Moment}
@@ -50,7 +50,7 @@ use Rattle.ucl_follows.specs.Told.{moment_on}
 use Rattle.ucl_follows.specs.Follow.{version_at}
 use Rattle.ucl_follows.specs.Journals.{moment_at, moment_now, moment_with}
 use Rattle.ucl_follows.proofs.JournalLines.{IsLineThat, IsShown, TellsAlone, TellsAtMost, alone-as, alone-line, alone-none, alone-then, bad-line}
-use Rattle.ucl_follows.proofs.JournalLines.{begun-then, board-fits, found-fits, lines-then, lines_in, refused-line, shown-text, value-line, words-line}
+use Rattle.ucl_follows.proofs.JournalLines.{begun-then, board-fits, found-fits, lines-then, lines_in, matches-line, refused-line, shown-text, value-line, words-line}
 use Rattle.ucl_follows.proofs.PlainAnswers.{told-lines}
 
 abbrev pub Lines : Type 0
@@ -117,6 +117,7 @@ good-board board (Event event) w all = good-after board (attempt_of event) w (Al
 good-board board (Bad field) w all = w
 good-board board Screen w all = w
 good-board board Words w all = w
+good-board board Matches w all = w
 
 of-request : (r : Said) → AreAttempts (request_of r)
 of-request Nothing = All-nil IsAttempt
@@ -192,23 +193,14 @@ Fits (Event event) = HasNumbers event
 Fits (Bad field) = ⊤
 Fits Screen = ⊤
 Fits Words = ⊤
+Fits Matches = ⊤
 
 fits-event : (f : FourFields) (o : Option NightEvent) → ((e : NightEvent) → o ≡ Some e → HasNumbers e) → Fits (event_or_bad f o)
 fits-event f None p = tt
 fits-event f (Some e) p = p e refl
 
-fits-either : (b : Bool) (x y : Request) → Fits x → Fits y → Fits (if b then x else y)
-fits-either true x y p q = p
-fits-either false x y p q = q
-
 fits-asked : (f : FourFields) → Fits (asked_by f)
-unfolding asked_by
-fits-asked f =
-    let words = if bytes_eq f.first (codes "words") then Words else Bad (bad_field f) in
-    let commands = if bytes_eq f.first (codes "screen") then Screen else words in
-    fits-either ((length f.second == 0) && (length f.third == 0) && (length f.fourth == 0)) commands (event_or_bad f (event_of f))
-    (fits-either (bytes_eq f.first (codes "screen")) Screen words tt (fits-either (bytes_eq f.first (codes "words")) Words (Bad (bad_field f)) tt tt))
-    (fits-event f (event_of f) (numbers f))
+fits-asked f = asked-by Fits f tt tt tt tt (fits-event f (event_of f) (numbers f))
 
 fits-request : (r : Said) → Fits (request_of r)
 fits-request Nothing = tt
@@ -292,6 +284,7 @@ module _ (options : LiveArgs) (row : ℕ) (clubs : List NamedClub) (json : optio
   request-tells board (Bad field) shown w all small short = rw json (bad-line (At board) row field shown fits short)
   request-tells board Screen shown w all small short = screen-tells board w
   request-tells board Words shown w all small short = rw json (words-line (At board) row board fits w.twelve (board-fits board w.each))
+  request-tells board Matches shown w all small short = rw json (matches-line (At board) row board clubs fits is w)
 
 stage-tells : (options : LiveArgs) (row : ℕ) (s : Stage) (r : Said) (shown : List ℕ) → options.format ≡ Json → row < 2 ^ 64 → IsGood s → IsShown shown
     → TellsAlone (moment_at options (after_row row s r)) (answer_at options row s (request_of r) shown)

@@ -13,7 +13,7 @@ use Rattle.ucl_screen.specs.Rows.{FourFields}
 use Rattle.ucl_screen.specs.declared.night.NightEvent.{NightEvent}
 use Rattle.ucl_command.specs.declared.options.Format.TheVariants.{Json}
 use Rattle.ucl_answers.specs.declared.request.Request.{Request}
-use Rattle.ucl_answers.specs.declared.request.Request.TheVariants.{Bad, Event, Screen, Words}
+use Rattle.ucl_answers.specs.declared.request.Request.TheVariants.{Bad, Event, Screen, Words, Matches}
 use Rattle.ucl_answers.specs.ByHistory.{attempts_in, attempts_of, attempts_on}
 use Rattle.ucl_answers.specs.Lines.{lines_of}
 use Rattle.ucl_answers.specs.Requests.{asked_by}
@@ -61,6 +61,7 @@ module _ (e : Evening) (line : List ℕ) (clubs : List NamedClub) (board : List 
   by-request f (Bad field) is asks = inl (moved (Row f) is ∙ ap (λ (q : Request). Open clubs (next_board board q)) asks)
   by-request f Screen is asks = inl (moved (Row f) is ∙ ap (λ (q : Request). Open clubs (next_board board q)) asks)
   by-request f Words is asks = inl (moved (Row f) is ∙ ap (λ (q : Request). Open clubs (next_board board q)) asks)
+  by-request f Matches is asks = inl (moved (Row f) is ∙ ap (λ (q : Request). Open clubs (next_board board q)) asks)
 
   by-said : (r : Said) → said_on e.row line ≡ r → StaysOr e line clubs board
   by-said Nothing is = inl (moved Nothing is)

@@ -12,20 +12,19 @@ use Rattle.ucl_io.specs.Lines.{HasNoFeed, begun_line, ended_lines}
 use Rattle.ucl_io.proofs.Cuts.{begun_append, begun_ended, begun_none, ended_append, ended_line, ended_none}
 use Rattle.ucl_word.specs.declared.event.Kind.{Kind}
 use Rattle.ucl_word.specs.declared.record.MatchRecord.{MatchRecord}
-use Rattle.ucl_word.specs.declared.record.State.{State}
-use Rattle.ucl_word.specs.declared.record.State.TheVariants.{Scheduled, InPlay, Finished as Ended}
 use Rattle.ucl_word.specs.declared.refusal.Refusal.{Refusal}
 use Rattle.ucl_word.specs.declared.refusal.Refusal.TheVariants.{Stale, Finished, NotFinished, NotStarted, AlreadyStarted, NumberFull, NoGoal, NoCaution, LimitReached}
 use Rattle.ucl_word.specs.Layout.{IsWord, record_at}
 use Rattle.ucl_word.specs.Record.{IsValid}
 use Rattle.ucl_word.specs.Names.{found_of, refusal_code, refusal_name}
 use Rattle.ucl_word.specs.Rules.{refusal_of}
-use Rattle.ucl_word.proofs.ValidRecords.{number_valid, home_goals_valid, away_goals_valid, home_yellows_valid, away_yellows_valid, home_expulsions_valid, away_expulsions_valid, reporter_valid}
+use Rattle.ucl_word.proofs.ValidRecords.{number_valid}
 use Rattle.ucl_word.proofs.Words.{word_high, word_valid}
-use Rattle.ucl_order.specs.Roster.{is_printed}
+use Rattle.ucl_board.specs.Words.{AreWords}
+use Rattle.ucl_order.specs.Roster.{IsRoster, NamedClub, is_printed}
 use Rattle.ucl_screen.specs.declared.night.NightEvent.{NightEvent}
 use Rattle.ucl_json.specs.Lines.{json_line}
-use Rattle.ucl_json.specs.Values.{bad_row_value, coded_value, match_value, numbered_value, refused_by, refused_value, state_name, words_value}
+use Rattle.ucl_json.specs.Values.{bad_row_value, coded_value, matches_value, numbered_value, refused_by, refused_value, words_value}
 use Rattle.ucl_json.proofs.OneLine.{one_line}
 use Rattle.ucl_answers.specs.BadRows.{field_name, printed, shown_text}
 use Rattle.ucl_answers.specs.declared.bad_row.BadField.{BadField}
@@ -34,8 +33,9 @@ use Rattle.ucl_follows.specs.declared.moment.Moment.{Moment}
 use Rattle.ucl_follows.specs.Answered.{HasNumbers}
 use Rattle.ucl_follows.specs.Told.{moment_on, moment_told}
 use Rattle.ucl_follows.proofs.Members.{too-long}
+use Rattle.ucl_follows.proofs.Matches.{match-plain, matches-plain, matches-short}
 use Rattle.ucl_follows.proofs.PlainAnswers.{kind-text, words-plain}
-use Rattle.ucl_follows.proofs.ReadBack.{IsPlain, IsText, size, told-by-line}
+use Rattle.ucl_follows.proofs.ReadBack.{IsPlain, IsText, size, told-by-line, told-if-short}
 
 -- ---- a text of whole lines, of which each tells nothing or this
 
@@ -133,29 +133,6 @@ coded-line o row event code name r fits c text short =
     silent-line (coded_value row event code name) o
     ((refl, refl), (c, (kind.0, (fits.expected, (fits.game, (text, (refl, (fits.reporter, (r, tt))))))))) (omega arith) (no-code row event code name)
 
-state-text : (s : State) → IsText (state_name s) × (length (state_name s) ≤ 9)
-state-text Scheduled = (refl, omega arith)
-state-text InPlay = (refl, omega arith)
-state-text Ended = (refl, omega arith)
-
--- a match as it stands
-match-plain : (game : ℕ) (m : MatchRecord) → game < 2 ^ 64 → IsValid m → IsPlain 126 (match_value game m) × (size (match_value game m) ≤ 400)
-unfolding serde_json_on_literals
-match-plain game m g v =
-    let state = state-text m.state in
-    let short = state.1 in
-    let home_goals : m.home_goals < 2 ^ 64 = let n = home_goals_valid m v in omega arith in
-    let away_goals : m.away_goals < 2 ^ 64 = let n = away_goals_valid m v in omega arith in
-    let home_yellows : m.home_yellows < 2 ^ 64 = let n = home_yellows_valid m v in omega arith in
-    let away_yellows : m.away_yellows < 2 ^ 64 = let n = away_yellows_valid m v in omega arith in
-    let home_expulsions : m.home_expulsions < 2 ^ 64 = let n = home_expulsions_valid m v in omega arith in
-    let away_expulsions : m.away_expulsions < 2 ^ 64 = let n = away_expulsions_valid m v in omega arith in
-    let number : m.number < 2 ^ 64 = let n = number_valid m v in omega arith in
-    let reporter : m.reporter < 2 ^ 64 = let n = reporter_valid m v in omega arith in (
-      ((refl, refl), ((home_expulsions, (away_expulsions, tt)), (g, (number, (reporter, ((home_goals, (away_goals, tt)), (state.0, ((home_yellows, (away_yellows, tt)), tt)))))))),
-      omega arith,
-    )
-
 numbered-line : (o : Option Moment) (row : ℕ) (event : NightEvent) (code : ℕ) (name : List ℕ) (found : ℕ) (m : MatchRecord)
     → row < 2 ^ 64 → HasNumbers event → code < 2 ^ 64 → IsText name → length name ≤ 20 → found < 2 ^ 64 → IsValid m
     → TellsAlone o (json_line (numbered_value row event code name found m))
@@ -163,7 +140,7 @@ unfolding serde_json_on_literals
 numbered-line o row event code name found m r fits c text short f v =
     let kind = kind-text event.call.kind in
     let named = kind.1 in
-    let stands = match-plain event.call.game m fits.game v in
+    let stands = match-plain 124 event.call.game m fits.game v in
     let few = stands.1 in
     silent-line (numbered_value row event code name found m) o
     ((refl, refl), (c, (kind.0, (fits.expected, (fits.game, (text, (f, (refl, (fits.reporter, (r, (stands.0, tt))))))))))) (omega arith) (no-number row event code name found m)
@@ -217,6 +194,15 @@ unfolding serde_json_on_literals
 words-line o row board r twelve bits =
     let w = words-plain board bits in
     silent-line (words_value row board) o ((refl, refl), (refl, (r, (w.0, tt)))) (let k = w.1 in omega arith) (no-words row board)
+
+no-matches : (row : ℕ) (board : List ℕ) (clubs : List NamedClub) → moment_told (matches_value row board clubs) ≡ None
+unfolding matches_value moment_told serde_json_on_literals
+no-matches row board clubs = refl
+
+pub matches-line : (o : Option Moment) (row : ℕ) (board : List ℕ) (clubs : List NamedClub) → row < 2 ^ 64 → IsRoster clubs → AreWords board → TellsAlone o (json_line (matches_value row board clubs))
+matches-line o row board clubs r is w =
+    alone-line (matches_value row board clubs) o None
+    (told-if-short (matches_value row board clubs) (matches-plain board w row clubs r is) (matches-short board w row clubs r is) ∙ no-matches row board clubs) (inl refl)
 
 name-text : (refusal : Refusal) → IsText (refusal_name refusal) × (length (refusal_name refusal) ≤ 20) × (refusal_code refusal < 2 ^ 64)
 name-text (Stale found) = (refl, omega arith, omega arith)

@@ -8,6 +8,7 @@ pub mod Repeats
 pub mod RowTexts
 pub mod Resumed
 pub mod JournalLines
+pub mod Matches
 pub mod JournalAnswers
 pub mod Journals
 pub mod JournalEnds

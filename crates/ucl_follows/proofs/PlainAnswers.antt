@@ -108,10 +108,10 @@ slot-plain clubs is slot h =
     let four = is.four in let low = h.0 in let high = h.1 in
     club-plain (club_in clubs slot) (is.each (slot - 1) (named [] 0) (omega arith))
 
-abbrev ArePlainClubs : List NamedClub → Type 0
+abbrev pub ArePlainClubs : List NamedClub → Type 0
 ArePlainClubs clubs = ArePlain 125 (club_items clubs) × (items_size (club_items clubs) ≤ 481)
 
-clubs-plain : (clubs : List NamedClub) → IsRoster clubs → ArePlainClubs clubs
+pub clubs-plain : (clubs : List NamedClub) → IsRoster clubs → ArePlainClubs clubs
 unfolding serde_json_on_literals
 clubs-plain clubs is =
     let w = slot-plain clubs is 1 (omega arith, omega arith) in

@@ -177,22 +177,22 @@ then a b m n p q = record {
   short = let l = length-append a b in let i = p.short in let j = q.short in omega arith;
 }
 
-first : (b : ℕ) (text : List ℕ) (n : ℕ) → b < 128 → IsShort text n → IsShort (b ∷ text) (1 + n)
+pub first : (b : ℕ) (text : List ℕ) (n : ℕ) → b < 128 → IsShort text n → IsShort (b ∷ text) (1 + n)
 first b text n h p = record { ascii = All-cons (λ x. x < 128) b text h p.ascii; short = let i = p.short in omega arith }
 
 none : IsShort [] 0
 none = record { ascii = All-nil (λ x. x < 128); short = omega arith }
 
-wider : (text : List ℕ) (m n : ℕ) → m ≤ n → IsShort text m → IsShort text n
+pub wider : (text : List ℕ) (m n : ℕ) → m ≤ n → IsShort text m → IsShort text n
 wider text m n h p = record { ascii = p.ascii; short = let i = p.short in omega arith }
 
-digits-short : (n : ℕ) → n < 2 ^ 64 → IsShort (decimal n) 20
-digits-short n h = record { ascii = All-from_ascii (decimal n) (IsAscii-decimal n h); short = length-decimal-le 20 n (omega arith) (omega arith) h }
+pub digits-short : (k n : ℕ) → 0 < k → n < 10 ^ k → n < 2 ^ 64 → IsShort (decimal n) k
+digits-short k n some few h = record { ascii = All-from_ascii (decimal n) (IsAscii-decimal n h); short = length-decimal-le k n some few h }
 
 number-short : (n : Num) → IsPlainNumber n → IsShort (number_text n) 21
-number-short (unsigned n) h = wider (decimal n) 20 21 (omega arith) (digits-short n h)
+number-short (unsigned n) h = wider (decimal n) 20 21 (omega arith) (digits-short 20 n (omega arith) (omega arith) h)
 number-short (negative (pos n)) h = absurd h
-number-short (negative (negsuc n)) h = first 45 (decimal (suc n)) 20 (omega arith) (digits-short (suc n) (omega arith))
+number-short (negative (negsuc n)) h = first 45 (decimal (suc n)) 20 (omega arith) (digits-short 20 (suc n) (omega arith) (omega arith) (omega arith))
 number-short (float x) h = absurd h
 
 quote : IsShort (escape_byte 34) 2
@@ -223,7 +223,7 @@ escaped (x ∷ s) h =
     let p = and_parts (is_printed x) (list_all is_printed s) h in
     wider (escape_byte x ++ escape s) (2 + 2 * length s) (2 * length (x ∷ s)) (omega arith) (then (escape_byte x) (escape s) 2 (2 * length s) (escaped-byte x p.0) (escaped s p.1))
 
-in-quotes : (s : List ℕ) → IsText s → IsShort (quoted s) (2 * length s + 2)
+pub in-quotes : (s : List ℕ) → IsText s → IsShort (quoted s) (2 * length s + 2)
 in-quotes s h =
     wider (quoted s) (1 + (2 * length s + 1)) (2 * length s + 2) (omega arith)
     (first 34 (escape s ++ 34 ∷ []) (2 * length s + 1) (omega arith) (then (escape s) (34 ∷ []) (2 * length s) 1 (escaped s h) (first 34 [] 0 (omega arith) none)))
@@ -231,6 +231,23 @@ in-quotes s h =
 comma : (later : Bool) → IsShort (comma_if later) 1
 comma true = first 44 [] 0 (omega arith) none
 comma false = wider [] 0 1 (omega arith) none
+
+-- an element, or a member, and the rest, from the end on
+pub items-end : (later : Bool) → IsShort (items_text later no_items) 1
+items-end later = first 93 [] 0 (omega arith) none
+
+pub item-short : (later : Bool) (d : Data) (ds : Items) (n m : ℕ) → IsShort (compact_text d) n → IsShort (items_text true ds) m → IsShort (items_text later (item d ds)) (1 + (n + m))
+item-short later d ds n m p q = then (comma_if later) (compact_text d ++ items_text true ds) 1 (n + m) (comma later) (then (compact_text d) (items_text true ds) n m p q)
+
+pub members-end : (later : Bool) → IsShort (members_text later no_members) 1
+members-end later = first 125 [] 0 (omega arith) none
+
+pub member-short : (later : Bool) (k : List ℕ) (d : Data) (ms : Members) (n m : ℕ) → IsText k → IsShort (compact_text d) n → IsShort (members_text true ms) m
+    → IsShort (members_text later (member k d ms)) (1 + ((2 * length k + 2) + (1 + (n + m))))
+member-short later k d ms n m key p q =
+    let rest = compact_text d ++ members_text true ms in
+    then (comma_if later) (quoted k ++ 58 ∷ rest) 1 ((2 * length k + 2) + (1 + (n + m))) (comma later)
+    (then (quoted k) (58 ∷ rest) (2 * length k + 2) (1 + (n + m)) (in-quotes k key) (first 58 rest (n + m) (omega arith) (then (compact_text d) (members_text true ms) n m p q)))
 
 mutual
   value-short : (deep : ℕ) (d : Data) → IsPlain deep d → IsShort (compact_text d) (size d)
@@ -243,26 +260,20 @@ mutual
   value-short zero (object ms) h = absurd h
   value-short (suc deep) (object ms) h = first 123 (members_text false ms) (members_size ms) (omega arith) (members-short deep false ms h.0.1 h.1)
 
-  items-short : (deep : ℕ) (later : Bool) (ds : Items) → ArePlain deep ds → IsShort (items_text later ds) (items_size ds)
-  items-short deep later no_items h = first 93 [] 0 (omega arith) none
-  items-short deep later (item d ds) h =
-      then (comma_if later) (compact_text d ++ items_text true ds) 1 (size d + items_size ds) (comma later)
-      (then (compact_text d) (items_text true ds) (size d) (items_size ds) (value-short deep d h.0) (items-short deep true ds h.1))
+  pub items-short : (deep : ℕ) (later : Bool) (ds : Items) → ArePlain deep ds → IsShort (items_text later ds) (items_size ds)
+  items-short deep later no_items h = items-end later
+  items-short deep later (item d ds) h = item-short later d ds (size d) (items_size ds) (value-short deep d h.0) (items-short deep true ds h.1)
 
   members-short : (deep : ℕ) (later : Bool) (ms : Members) → have_texts ms ≡ true → HavePlain deep ms → IsShort (members_text later ms) (members_size ms)
-  members-short deep later no_members k h = first 125 [] 0 (omega arith) none
+  members-short deep later no_members k h = members-end later
   members-short deep later (member k d ms) texts h =
       let keys = and_parts (list_all is_printed k) (have_texts ms) texts in
-      let rest = compact_text d ++ members_text true ms in
-      let more = size d + members_size ms in
-      then (comma_if later) (quoted k ++ 58 ∷ rest) 1 ((2 * length k + 2) + (1 + more)) (comma later)
-      (then (quoted k) (58 ∷ rest) (2 * length k + 2) (1 + more) (in-quotes k keys.0)
-      (first 58 rest more (omega arith)
-      (then (compact_text d) (members_text true ms) (size d) (members_size ms) (value-short deep d h.0) (members-short deep true ms keys.1 h.1))))
+      member-short later k d ms (size d) (members_size ms) keys.0 (value-short deep d h.0) (members-short deep true ms keys.1 h.1)
 
 -- ---- the moment of its line
 
+pub told-if-short : (d : Data) → IsPlain 127 d → IsShort (compact_text d) 4096 → moment_on (compact_text d) ≡ moment_told d
+told-if-short d h p = sym (was-read (compact_text d) d p.short (IsUtf8-from_ascii (compact_text d) (IsAscii-from_all (compact_text d) p.ascii)) (reads d h))
+
 pub told-by-line : (d : Data) → IsPlain 127 d → size d ≤ 4096 → moment_on (compact_text d) ≡ moment_told d
-told-by-line d h few =
-    let p = value-short 127 d h in
-    sym (was-read (compact_text d) d (let i = p.short in omega arith) (IsUtf8-from_ascii (compact_text d) (IsAscii-from_all (compact_text d) p.ascii)) (reads d h))
+told-by-line d h few = told-if-short d h (wider (compact_text d) (size d) 4096 few (value-short 127 d h))

@@ -1,11 +1,11 @@
 -- What an evening answers, as a follower takes it.
-use Rattle.std.specs.Prelude.{◌≡◌, ◌<◌, ◌^◌, ℕ, All, Some}
+use Rattle.std.specs.Prelude.{◌≡◌, ◌<◌, ◌≤◌, ◌^◌, ℕ, All, Some, length}
 use Rattle.serde_json.specs.Written.{compact_text}
 use Rattle.ucl_board.specs.Words.{AreWords}
 use Rattle.ucl_order.specs.Roster.{IsRoster}
 use Rattle.ucl_screen.specs.declared.night.NightEvent.{NightEvent}
 use Rattle.ucl_screen.specs.Screen.{IsGroup}
-use Rattle.ucl_json.specs.Values.{accepted_value, screen_value}
+use Rattle.ucl_json.specs.Values.{accepted_value, matches_value, screen_value}
 use Rattle.ucl_follows.specs.declared.moment.Moment.{Moment}
 use Rattle.ucl_follows.specs.Told.{moment_on, moment_told}
 
@@ -38,3 +38,7 @@ pub record TellsOnItsLine (row : ℕ) (event : NightEvent) (number : ℕ) (m : M
 abbrev pub LinesTellTheirMoment : Type 0
 LinesTellTheirMoment = (row : ℕ) (event : NightEvent) (number : ℕ) (m : Moment) → IsMoment m → row < 2 ^ 64 → HasNumbers event → number < 2 ^ 64
     → TellsOnItsLine row event number m
+
+-- the line of the matches, which tells none, is as short
+abbrev pub MatchesFitTheirLine : Type 0
+MatchesFitTheirLine = (row : ℕ) (m : Moment) → IsMoment m → row < 2 ^ 64 → length (compact_text (matches_value row m.board m.roster)) ≤ 4096

@@ -4,13 +4,14 @@ use Rattle.ucl_io.specs.Lines.{ended_lines}
 use Rattle.ucl_board.specs.Words.{version_of}
 use Rattle.ucl_order.specs.Roster.{NamedClub, coefficient_of, name_of}
 use Rattle.ucl_runs.specs.Feed.{word_lines}
+use Rattle.ucl_screen.specs.Matches.{matches_text}
 use Rattle.ucl_screen.specs.Screen.{screen_text}
 use Rattle.ucl_json.specs.Lines.{json_line}
 use Rattle.ucl_json.specs.Values.{screen_value}
 use Rattle.ucl_follows.specs.declared.moment.Moment.{Moment}
 use Rattle.ucl_follows.specs.declared.following.Following.{Following}
 use Rattle.ucl_command.specs.declared.follow.FollowArgs.{FollowArgs}
-use Rattle.ucl_command.specs.declared.follow.FollowArgs.TheVariants.{Text, Json, Rows}
+use Rattle.ucl_command.specs.declared.follow.FollowArgs.TheVariants.{Text, Json, Matches, Rows}
 use Rattle.ucl_follows.specs.Told.{moment_on}
 
 abbrev pub version_at : Moment → ℕ
@@ -33,10 +34,11 @@ resuming_rows moment =
 
 -- ---- what is shown
 
--- the screen of a moment, worked out from its words, where the line of this number told it. A follower that resumes shows none
+-- the screen of a moment, or its matches, worked out from its words, where the line of this number told it. A follower that resumes shows none
 abbrev pub sight_text : FollowArgs → ℕ → Moment → List ℕ
 sight_text Text row moment = screen_text moment.profile moment.board moment.roster moment.group
 sight_text Json row moment = json_line (screen_value row moment.profile moment.board moment.roster moment.group)
+sight_text Matches row moment = matches_text moment.board moment.roster
 sight_text Rows row moment = []
 
 -- whether a moment is newer than the newest that was shown
@@ -82,6 +84,7 @@ resuming_text Rows (Some moment) = resuming_rows moment
 resuming_text Rows None = []
 resuming_text Text newest = []
 resuming_text Json newest = []
+resuming_text Matches newest = []
 
 -- the lines that have an end, each without its line feed. What comes after the 4,097th byte of a line is passed over: it is too long by
 -- then. A line that is torn off, last, is none

@@ -19,7 +19,7 @@ use Rattle.ucl_command.specs.declared.fault.LineFault.{LineFault}
 use Rattle.ucl_runs.specs.Ending.{AnsweredAlone}
 use Rattle.ucl_follows.specs.declared.run.Followed.{Followed}
 use Rattle.ucl_command.specs.declared.follow.FollowArgs.{FollowArgs}
-use Rattle.ucl_command.specs.declared.follow.FollowArgs.TheVariants.{Text, Json, Rows}
+use Rattle.ucl_command.specs.declared.follow.FollowArgs.TheVariants.{Text, Json, Matches, Rows}
 use Rattle.ucl_follows.specs.Follow.{follow_end, follow_text}
 use Rattle.ucl_follows.specs.Hearing.{FollowFails, IsFollowedSoFar, counts_of}
 
@@ -43,6 +43,7 @@ abbrev pub is_in_vain : FollowArgs → Followed → Bool
 is_in_vain Rows followed = followed.shown == 0
 is_in_vain Text followed = false
 is_in_vain Json followed = false
+is_in_vain Matches followed = false
 
 -- how many lines came, where none of them told a moment
 abbrev pub vain_line : Followed → List ℕ

@@ -14,7 +14,7 @@ use std::alloc::Global;
 use ucl_command::FollowArgs;
 use ucl_io::{LineMachine, Text};
 use ucl_json::screen_json;
-use ucl_screen::screen;
+use ucl_screen::{matches, screen};
 use ucl_word::OutOfMemory;
 
 /// What a line is answered.
@@ -22,7 +22,7 @@ use ucl_word::OutOfMemory;
 pub enum Sight {
     /// Nothing.
     Nothing,
-    /// A screen.
+    /// A screen, or the matches in its place.
     Screen(String),
     /// The rows by which an evening goes on.
     Rows(Vec<u8>),
@@ -50,7 +50,7 @@ impl Text for Sight {
     }
 }
 
-/// The screen of a moment that the line of this number told.
+/// What is shown of a moment that the line of this number told.
 fn show(alloc: Global, shape: FollowArgs, row: u64, moment: &Moment) -> Result<Sight, OutOfMemory>
     requires { IsGroup moment.now.group }
     ensures { IfOk result (λ sight. sight_bytes sight ≡ sight_text shape row moment.now) }
@@ -71,6 +71,7 @@ fn show(alloc: Global, shape: FollowArgs, row: u64, moment: &Moment) -> Result<S
             moment.group,
             moment.profile,
         )?)),
+        FollowArgs::Matches => Ok(Sight::Screen(matches(alloc, &moment.board, &moment.roster)?)),
         FollowArgs::Rows => Ok(Sight::Nothing),
     }
 }

@@ -1,6 +1,6 @@
 //! What holds of all that is followed. The functions do nothing: they are there for their contracts.
 
-ghost use Rattle.ucl_follows.specs.Answered.{AnswersTellTheirMoment, LinesTellTheirMoment};
+ghost use Rattle.ucl_follows.specs.Answered.{AnswersTellTheirMoment, LinesTellTheirMoment, MatchesFitTheirLine};
 ghost use Rattle.ucl_follows.specs.Journals.{CrashesChangeNothing, CutJournalsResume, JournalsEndWithTheBoard};
 ghost use Rattle.ucl_follows.specs.Latest.{LatestIsShownLast, OthersDoNotMatter, ShownVersionsRise};
 ghost use Rattle.ucl_follows.specs.Repeats.{RepeatedRowsChangeNothing};
@@ -25,6 +25,11 @@ pub fn answers_tell_their_moment()
 /// So does the line of each such answer: it has at most 4,096 bytes, and is read as that value.
 pub fn lines_tell_their_moment()
     ensures { LinesTellTheirMoment }
+{}
+
+/// The line of the twelve matches has at most 4,096 bytes too.
+pub fn matches_fit_their_line()
+    ensures { MatchesFitTheirLine }
 {}
 
 /// Lines that come in another order, twice, or not at all do not matter, as long as one comes that tells the latest moment: the last

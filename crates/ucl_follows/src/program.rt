@@ -47,7 +47,7 @@ fn is_in_vain(shape: FollowArgs, followed: Followed) -> bool
 {
     match shape {
         FollowArgs::Rows => followed.shown == 0,
-        FollowArgs::Text | FollowArgs::Json => false,
+        FollowArgs::Text | FollowArgs::Json | FollowArgs::Matches => false,
     }
 }
 

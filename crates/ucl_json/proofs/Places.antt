@@ -22,11 +22,11 @@ use Rattle.ucl_order.specs.Roster.{NamedClub}
 use Rattle.ucl_screen.specs.Numbers.{hex_digits}
 use Rattle.ucl_json.specs.Values.{accepted_value, place_items, place_value, refused_by, reply_value, screen_value, with_club, with_goals, with_matches, word_items, words_value}
 
-abbrev add : Items → Data → Items
+abbrev pub add : Items → Data → Items
 add no_items d = item d no_items
 add (item e more) d = item e (add more d)
 
-view-add : (xs : List Value) (v : Value) → items_view (xs ++ v ∷ []) ≡ add (items_view xs) (view v)
+pub view-add : (xs : List Value) (v : Value) → items_view (xs ++ v ∷ []) ≡ add (items_view xs) (view v)
 view-add [] v = refl
 view-add (x ∷ xs) v = ap (item (view x)) (view-add xs v)
 

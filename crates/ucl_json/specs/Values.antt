@@ -5,10 +5,9 @@ use Rattle.serde_json.specs.Data.{Data, Items, item, no_items, Members, member, 
 use Rattle.serde_json.specs.Find.{of_integer}
 use Rattle.ucl_word.specs.declared.event.Accepted.{Accepted}
 use Rattle.ucl_word.specs.declared.record.MatchRecord.{MatchRecord}
-use Rattle.ucl_word.specs.declared.record.State.{State}
-use Rattle.ucl_word.specs.declared.record.State.TheVariants.{Scheduled, InPlay, Finished}
 use Rattle.ucl_word.specs.declared.refusal.Refusal.{Refusal}
 use Rattle.ucl_word.specs.Names.{found_of, kind_name, refusal_code, refusal_name}
+use Rattle.ucl_board.specs.Fixtures.{match_numbers}
 use Rattle.ucl_board.specs.Words.{game_at, version_of}
 use Rattle.ucl_order.specs.declared.mark.Mark.{Mark}
 use Rattle.ucl_order.specs.declared.mark.Mark.TheVariants.{Plus, Minus, Blank}
@@ -18,6 +17,7 @@ use Rattle.ucl_order.specs.Names.{profile_name}
 use Rattle.ucl_order.specs.Roster.{NamedClub, coefficient_of, name_of}
 use Rattle.ucl_order.specs.Rows.{rows_of}
 use Rattle.ucl_screen.specs.declared.night.NightEvent.{NightEvent}
+use Rattle.ucl_screen.specs.Matches.{state_name}
 use Rattle.ucl_screen.specs.Screen.{in_play}
 use Rattle.ucl_screen.specs.Numbers.{hex_digits}
 
@@ -43,11 +43,6 @@ club_items roster = item (club_value roster 1) (item (club_value roster 2) (item
 
 -- ---- a match as it stands
 
-abbrev pub state_name : State → List ℕ
-state_name Scheduled = codes "SCHEDULED"
-state_name InPlay = codes "IN PLAY"
-state_name Finished = codes "FINISHED"
-
 -- a number of the home side and one of the visiting side
 abbrev pub sides_value : ℕ → ℕ → Data
 sides_value home away = array (item (number_value home) (item (number_value away) no_items))
@@ -62,6 +57,19 @@ match_value game m = object (
     member (codes "score") (sides_value m.home_goals m.away_goals) (
     member (codes "state") (string (state_name m.state)) (
     member (codes "yellows") (sides_value m.home_yellows m.away_yellows) no_members)))))))
+
+-- these matches of a board
+abbrev pub match_items : List ℕ → List ℕ → Items
+match_items board [] = no_items
+match_items board (game ∷ games) = item (match_value game (game_at board game)) (match_items board games)
+
+-- the twelve matches, and the clubs that play them
+unfoldable pub matches_value : ℕ → List ℕ → List NamedClub → Data
+matches_value row board roster = object (
+    member (codes "clubs") (array (club_items roster)) (
+    member (codes "matches") (array (match_items board match_numbers)) (
+    member (codes "reply") (string (codes "matches")) (
+    member (codes "row") (number_value row) no_members))))
 
 -- ---- replies
 

@@ -3,11 +3,13 @@
 #![tactic(auto)]
 
 mod clubs;
+mod games;
 mod line;
 mod reply;
 mod screen;
 mod words;
 
+pub use games::matches_json;
 pub use reply::{bad_row_json, reply_json};
 pub use screen::screen_json;
 pub use words::words_json;

@@ -4,7 +4,7 @@ ghost use Rattle.std.specs.Prelude.{◌≡◌, IfOk, string_bytes};
 ghost use Rattle.serde_json.specs.View.{view};
 ghost use Rattle.ucl_screen.specs.Screen.{IsGroup};
 ghost use Rattle.ucl_json.specs.Lines.{IsLineOf};
-ghost use Rattle.ucl_json.specs.Values.{accepted_value, bad_row_value, bad_value, coded_value, match_value, numbered_value, refused_value, reply_value, state_name};
+ghost use Rattle.ucl_json.specs.Values.{accepted_value, bad_row_value, bad_value, coded_value, match_value, numbered_value, refused_value, reply_value};
 
 use crate::clubs::club_values;
 use crate::line::line_of;
@@ -14,22 +14,15 @@ use serde_json::{Value, json};
 use std::alloc::{AllocError, Global};
 use ucl_board::Board;
 use ucl_order::{Profile, Roster};
-use ucl_screen::NightEvent;
-use ucl_word::{Accepted, MatchNo, MatchRecord, Refusal, State};
-
-/// The name of a state.
-fn state_name(state: State) -> &'static str
-    ensures { result.now ≡ state_name state }
-{
-    match state {
-        State::Scheduled => "SCHEDULED",
-        State::InPlay => "IN PLAY",
-        State::Finished => "FINISHED",
-    }
-}
+use ucl_screen::{NightEvent, state_name};
+use ucl_word::{Accepted, MatchNo, MatchRecord, Refusal};
 
 /// A match as it stands.
-fn match_value(alloc: Global, game: MatchNo, m: &MatchRecord) -> Result<Value, AllocError>
+pub(crate) fn match_value(
+    alloc: Global,
+    game: MatchNo,
+    m: &MatchRecord,
+) -> Result<Value, AllocError>
     ensures { IfOk result (λ value. view value ≡ match_value game m.now) }
 {
     json!(in alloc; {

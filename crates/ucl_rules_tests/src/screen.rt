@@ -1,6 +1,7 @@
 //! Inputs read and refused, and devices that fail.
 
 mod devices;
+mod games;
 mod scripts;
 mod sheets;
 mod text;

@@ -10,3 +10,4 @@ pub mod Columns
 pub mod ScriptFaults
 pub mod ReadWords
 pub mod FaultLines
+pub mod OneMatchMore

@@ -6,6 +6,7 @@ pub mod Script
 pub mod Parsing
 pub mod Lines
 pub mod Screen
+pub mod Matches
 pub mod Laws
 pub mod Texts
 pub mod WordsRead

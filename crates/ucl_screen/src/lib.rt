@@ -4,6 +4,7 @@
 mod fault;
 mod fault_line;
 mod fields;
+mod games;
 mod laws;
 mod lines;
 mod night;
@@ -15,6 +16,7 @@ mod transfer;
 
 pub use fault::InputFault;
 pub use fault_line::FaultLine;
+pub use games::{matches, state_name};
 pub use laws::lines_have_53_columns;
 pub use night::{Night, NightEvent};
 pub use reading::{

@@ -19,7 +19,7 @@ fn push_times(out: &mut String, fill: char, times: usize) -> Result<(), AllocErr
 }
 
 /// Writes a text at the left of so many columns.
-fn push_left(out: &mut String, width: usize, text: &str) -> Result<(), AllocError>
+pub(crate) fn push_left(out: &mut String, width: usize, text: &str) -> Result<(), AllocError>
     ensures { OnOk result (string_bytes out.new ≡ string_bytes out.old ++ left width text.now) }
 {
     out.push_str(text)?;
@@ -27,14 +27,14 @@ fn push_left(out: &mut String, width: usize, text: &str) -> Result<(), AllocErro
 }
 
 /// Writes a number.
-fn push_number(out: &mut String, number: u16) -> Result<(), AllocError>
+pub(crate) fn push_number(out: &mut String, number: u16) -> Result<(), AllocError>
     ensures { OnOk result (string_bytes out.new ≡ string_bytes out.old ++ decimal number) }
 {
     out.push_str(Buffer::new().format(number))
 }
 
 /// Writes a number at the right of so many columns.
-fn push_right(out: &mut String, width: usize, number: u16) -> Result<(), AllocError>
+pub(crate) fn push_right(out: &mut String, width: usize, number: u16) -> Result<(), AllocError>
     ensures { OnOk result (string_bytes out.new ≡ string_bytes out.old
         ++ right width (decimal number)) }
 {
@@ -45,7 +45,11 @@ fn push_right(out: &mut String, width: usize, number: u16) -> Result<(), AllocEr
 }
 
 /// Writes a number in so many digits, with leading zeros.
-fn push_zeros_before(out: &mut String, width: usize, number: u16) -> Result<(), AllocError>
+pub(crate) fn push_zeros_before(
+    out: &mut String,
+    width: usize,
+    number: u16,
+) -> Result<(), AllocError>
     ensures { OnOk result (string_bytes out.new ≡ string_bytes out.old
         ++ zeros_before width number) }
 {

@@ -15,7 +15,8 @@ those of one board.
 
 Output: the screen of each moment that is newer than all before, worked out
 from its words, by its order; each other line is passed over. No text of a line
-is handed on. With --resume no screen, but at the end of the input the rows from
+is handed on. With --matches the twelve matches in place of the screen, a line
+each. With --resume no screen, but at the end of the input the rows from
 which ucl_live goes on at the newest moment: four clubs, as
 club,1,\"Alpha\",60000, and twelve words, as word,1,2001000000001001,
 A name is 1 to 20 printable ASCII characters, and a coefficient in thousandths 1
@@ -38,6 +39,10 @@ Examples:
     cat start rows | ucl_live --format json
 
 docs/ROWS.md has rows, answers and all codes; docs/RULES.md has the rules.";
+
+/// What `--matches` does.
+pub(crate) const MATCHES: &str = "\
+Writes the twelve matches in place of each screen; goes with no other option";
 
 /// What `--resume` does.
 pub(crate) const RESUME: &str = "\

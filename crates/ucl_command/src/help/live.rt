@@ -20,6 +20,7 @@ bytes; a line with nothing on it is passed over and counted
                                  the event number last seen of it; the event; as
                                  1,1,0,kickoff where nothing was seen of match 1
   screen,,,                      the table as it stands
+  matches,,,                     the twelve matches as they stand, a line each
   words,,,                       the twelve words as they stand; the club rows
                                  and these begin the next evening
 
@@ -31,11 +32,13 @@ Events:
 Output: once the clubs are named, each row is answered before the next is read
   LINE ok MATCH NUMBER VERSION   the event of this line is accepted
   LINE refused CODE NAME         it is refused, for the reason of this name
+  LINE refused 1 stale NUMBER    somebody else entered an event of this match:
+                                 look at matches,,, first
   LINE refused 20 bad-row        the line asks for nothing that there is
-  the screen, or the word lines  where they are asked for
+  the screen, matches or words   where they are asked for
 
 With --format json each answer is one object on one line, whose member reply is
-ok, refused, words or screen.
+ok, refused, words, matches or screen.
 
 Exit status, with a text on standard error where it is not 0:
   0  the input has ended, or help or the version was asked for

@@ -1,0 +1,47 @@
+-- Matches that are added one after the other.
+use Rattle.std.proofs.Common.{◌≡◌, ◌∙◌, ℕ, ◌+◌, ◌-◌, ◌<◌, ◌≤◌, false, List, [], ◌∷◌, ◌++◌, length, get_or, take, refl, ap, arith}
+use Rattle.std.proofs.lemmas.List.{take_more}
+use Rattle.serde_json.specs.Data.{Data, Items, depth, item, items_depth}
+use Rattle.serde_json.specs.Read.{max_depth}
+use Rattle.serde_json.specs.View.{items_view, view}
+use Rattle.serde_json.specs.Written.{has_float, items_have_float}
+use Rattle.serde_json.specs.declared.value.Value.{Value}
+use Rattle.ucl_board.specs.Fixtures.{match_numbers}
+use Rattle.ucl_board.specs.Words.{game_at}
+use Rattle.ucl_order.specs.Roster.{NamedClub}
+use Rattle.ucl_screen.proofs.OneMatchMore.{match-numbered}
+use Rattle.ucl_json.specs.Values.{match_items, match_value, matches_value}
+use Rattle.ucl_json.proofs.Places.{add, view-add}
+
+match-add : (board games : List ℕ) (game : ℕ) → match_items board (games ++ game ∷ []) ≡ add (match_items board games) (match_value game (game_at board game))
+match-add board [] game = refl
+match-add board (g ∷ games) game = ap (item (match_value g (game_at board g))) (match-add board games game)
+
+-- one match more
+pub next-match : (board : List ℕ) (xs ys : List Value) (v : Value) (n game : ℕ) → 1 ≤ n → n ≤ 12 → game ≡ n → items_view xs ≡ match_items board (take (n - 1) match_numbers)
+    → view v ≡ match_value game (game_at board game) → ys ≡ xs ++ v ∷ [] → items_view ys ≡ match_items board (take (n + 1 - 1) match_numbers)
+next-match board xs ys v n game low high is so_far now e =
+    let at : n + 1 - 1 ≡ n - 1 + 1 = omega arith in
+    rw (at, take_more match_numbers (n - 1) 0 (omega arith), match-numbered n low high, match-add board (take (n - 1) match_numbers) n, ← so_far, e, view-add xs v, now, is)
+
+-- all twelve
+pub all-matches : (board : List ℕ) (xs : List Value) (n : ℕ) → n ≡ 13 → items_view xs ≡ match_items board (take (n - 1) match_numbers) → items_view xs ≡ match_items board match_numbers
+all-matches board xs n last e = rw last at e
+
+-- no float, and no deep nesting
+
+items-whole : (board games : List ℕ) → items_have_float (match_items board games) ≡ false
+items-whole board [] = refl
+items-whole board (game ∷ games) = items-whole board games
+
+pub matches-whole : (row : ℕ) (board : List ℕ) (roster : List NamedClub) → has_float (matches_value row board roster) ≡ false
+unfolding matches_value
+matches-whole row board roster = rw (items-whole board match_numbers) refl
+
+items-flat : (board games : List ℕ) → items_depth (match_items board games) ≤ 2
+items-flat board [] = omega arith
+items-flat board (game ∷ games) = let k = items-flat board games in omega (arith, k)
+
+pub matches-shallow : (row : ℕ) (board : List ℕ) (roster : List NamedClub) → depth (matches_value row board roster) ≤ max_depth
+unfolding matches_value
+matches-shallow row board roster = let k = items-flat board match_numbers in omega (arith, k)
