@@ -116,6 +116,31 @@ def test_row_by_row(hall):
     assert stadium.read() + desk.read() == b""
 
 
+LONG = "\r" * 245 + "1,0,kickoff"
+LINES = {
+    "quotes": ('"1","0","kickoff"\n1,"1",goal-home\n', "1 ok 1 1 1\n2 ok 1 2 2\n"),
+    "quotes that do not close": ('"1,0,kickoff\n1,0,"kickoff\n1,0,kickoff"\n1,0,kickoff\n', "1 refused 20 bad-row\n2 refused 20 bad-row\n3 refused 20 bad-row\n4 ok 1 1 1\n"),
+    "a mark at the start": ("\ufeff1,0,kickoff\n1,1,goal-home", "1 ok 1 1 1\n2 ok 1 2 2\n"),
+    "a mark on another line": ("\n\ufeff1,0,kickoff\n", "2 refused 20 bad-row\n"),
+    "carriage returns": ("1,0,kickoff\r\n\r\n1,1,goal-home\r\n", "1 ok 1 1 1\n3 ok 1 2 2\n"),
+    "two rows on a line": ("1,0,kickoff\r2,0,kickoff\n", "1 refused 20 bad-row\n"),
+    "other numbers of fields": ("1,0\n1,1,0,kickoff\n1,0,kickoff,\n,,\n", "".join(f"{row} refused 20 bad-row\n" for row in range(1, 5))),
+    "bad fields": ("0,0,kickoff\n13,0,kickoff\n001,0,kickoff\n1,65536,kickoff\n1,0,kick\n", "".join(f"{row} refused 20 bad-row\n" for row in range(1, 6))),
+    "256 bytes": (f"{LONG}\n", "1 ok 1 1 1\n"),
+    "256 bytes and a carriage return": (f"{LONG}\r\n", "1 ok 1 1 1\n"),
+    "257 bytes": (f"\r{LONG}\n", "1 refused 20 bad-row\n"),
+}
+
+
+@pytest.mark.parametrize("name", LINES)
+def test_lines(hall, name):
+    """A reporter's lines are read as those of `ucl_live`."""
+    rows, replies = LINES[name]
+    hall.write("north.rows", rows)
+    assert hall.held("--reporter", NORTH).status == 0
+    assert hall.read("north.replies") == replies
+
+
 def test_reporter_and_screen_that_nobody_opens(hall):
     """They hold up nobody."""
     hall.pipes(*PIPES, "stadium")

@@ -7,6 +7,7 @@ use Rattle.std.proofs.lemmas.Bool.{cases_Bool}
 use Rattle.std.proofs.lemmas.Bool.Decides.{nat_tests}
 use Rattle.std.proofs.lemmas.List.Elements.{All-append, All-head, All-tail}
 use Rattle.ucl_word.specs.declared.event.Accepted.{Accepted}
+use Rattle.ucl_word.specs.declared.event.EventCall.{EventCall}
 use Rattle.ucl_word.specs.declared.event.Kind.{Kind}
 use Rattle.ucl_word.specs.declared.refusal.Refusal.{Refusal}
 use Rattle.ucl_word.specs.Names.{kind_named}
@@ -45,13 +46,18 @@ ranged low high (Some m) n h = elim (cases_Bool (nat_le low m && nat_le m high))
   | inr z ↦ cc (rw z at h)
 ]
 
-abbrev made : Option ℕ → Option ℕ → Option ℕ → Option Kind → Option NightEvent
-made a b c d = do
-  reporter ← a
+abbrev call_made : Option ℕ → Option ℕ → Option Kind → Option EventCall
+call_made b c d = do
   game ← b
   expected ← c
   kind ← d
-  Some (record { reporter = reporter; call = record { game = game; expected = expected; kind = kind } })
+  Some (record { game = game; expected = expected; kind = kind })
+
+abbrev made : Option ℕ → Option ℕ → Option ℕ → Option Kind → Option NightEvent
+made a b c d = do
+  reporter ← a
+  call ← call_made b c d
+  Some (record { reporter = reporter; call = call })
 
 abbrev reporter_in : Option NightEvent → Option ℕ
 reporter_in None = None

@@ -12,12 +12,12 @@ use Rattle.csv.specs.declared.parser.State.TheVariants as st
 use Rattle.csv.specs.declared.parser.Terminator.TheVariants as term
 use Rattle.ucl_screen.specs.Rows.{Fields as Rows, four_seen}
 use Rattle.ucl_screen.specs.declared.rows.Four.{Four}
-use Rattle.ucl_answers.specs.Rows.{Row, fits, of_rows, said_by_text, said_on}
-use Rattle.ucl_answers.specs.declared.row.Deed.TheVariants.{EndRecord}
-use Rattle.ucl_answers.specs.declared.row.Stand.{Stand}
-use Rattle.ucl_answers.specs.declared.row.Stand.TheVariants.{StartField, InField}
+use Rattle.ucl_answers.specs.Rows.{Row, fits, of_rows, row_by_text, said_on}
+use Rattle.ucl_answers.specs.declared.row.RowAction.TheVariants.{EndRecord}
+use Rattle.ucl_answers.specs.declared.row.RowState.{RowState}
+use Rattle.ucl_answers.specs.declared.row.RowState.TheVariants.{StartField, InField}
 use Rattle.ucl_answers.specs.Reading.{AreJoining, EndsRow, IsBehindEnds, IsFieldBefore, begins_row, csv_state_of, is_joining, made}
-use Rattle.ucl_answers.proofs.RowBytes.{at-end, begins-field, between-same, by-deed, skip-one, some-record}
+use Rattle.ucl_answers.proofs.RowBytes.{at-end, begins-field, between-same, by-action, skip-one, some-record}
 use Rattle.ucl_answers.proofs.RowEnds.{found-one, no-record}
 
 -- a byte that joins a field is no comma, no quote and no end of a line
@@ -56,21 +56,21 @@ all-run [] h = tt
 all-run (b ∷ xs) h = (joins b h.0, all-run xs h.1)
 
 -- where the reading stands after bytes that join a field
-stand_after : List ℕ → Stand
-stand_after [] = StartField
-stand_after (b ∷ xs) = InField
+state_after : List ℕ → RowState
+state_after [] = StartField
+state_after (b ∷ xs) = InField
 
 field-read : (xs tail : List ℕ) (fields : Rows) → AreJoining xs
-    → next_record default_config st.StartField fields [] (xs ++ tail) ≡ next_record default_config (csv_state_of (stand_after xs)) fields xs tail
-unfolding next_record stand_after
+    → next_record default_config st.StartField fields [] (xs ++ tail) ≡ next_record default_config (csv_state_of (state_after xs)) fields xs tail
+unfolding next_record state_after
 field-read [] tail fields h = refl
 field-read (b ∷ xs) tail fields h = rw (joins-first b h.0) (run-copies default_config st.InField fields (b ∷ []) xs tail (all-run xs h.1))
 
 -- ---- a comma behind them
 
 comma-ends : (xs rest : List ℕ) (fields : Rows)
-    → next_record default_config (csv_state_of (stand_after xs)) fields xs (44 ∷ rest) ≡ next_record default_config st.StartField (fields ++ xs ∷ []) [] rest
-unfolding next_record stand_after
+    → next_record default_config (csv_state_of (state_after xs)) fields xs (44 ∷ rest) ≡ next_record default_config st.StartField (fields ++ xs ∷ []) [] rest
+unfolding next_record state_after
 comma-ends [] rest fields = refl
 comma-ends (b ∷ xs) rest fields = refl
 
@@ -97,8 +97,8 @@ field-before text at h all is =
 line-end : (b : ℕ) → ((b == 13) || (b == 10)) ≡ true → in_field default_config b ≡ made b EndRecord
 line-end b h = elim (cases_Bool (b == 44)) [ inl y ↦ absurd (grind (arith, nat_tests)) | inr n ↦ rw (n, h) refl ]
 
-stands-at-end : (xs : List ℕ) (b : ℕ) → ((b == 13) || (b == 10)) ≡ true → step default_config (csv_state_of (stand_after xs)) b ≡ made b EndRecord
-unfolding stand_after
+stands-at-end : (xs : List ℕ) (b : ℕ) → ((b == 13) || (b == 10)) ≡ true → step default_config (csv_state_of (state_after xs)) b ≡ made b EndRecord
+unfolding state_after
 stands-at-end [] b h = elim (cases_Bool (b == 34)) [ inl y ↦ absurd (grind (arith, nat_tests)) | inr n ↦ rw n (line-end b h) ]
 stands-at-end (x ∷ xs) b h = line-end b h
 
@@ -115,14 +115,14 @@ pub at-ends : (xs tail : List ℕ) → AreJoining xs → IsBehindEnds tail [] �
 at-ends xs [] h e = record {
   state = st.StartRecord;
   rest = [];
-  reads = λ fields. field-read xs [] fields h ∙ at-end (stand_after xs) fields xs;
+  reads = λ fields. field-read xs [] fields h ∙ at-end (state_after xs) fields xs;
   behind = record { same = λ s hs. between-same s [] hs; begins = inl refl };
 }
 at-ends xs (b ∷ tail) h e =
     let y = first-ends b tail e in record {
       state = after_end term.CRLF b;
       rest = tail;
-      reads = λ fields. field-read xs (b ∷ tail) fields h ∙ by-deed (csv_state_of (stand_after xs)) EndRecord b fields xs tail (stands-at-end xs b y);
+      reads = λ fields. field-read xs (b ∷ tail) fields h ∙ by-action (csv_state_of (state_after xs)) EndRecord b fields xs tail (stands-at-end xs b y);
       behind = record { same = λ s hs. between-same s tail hs ∙ sym (skip-one b tail y) ∙ e.same st.StartRecord refl; begins = inl refl };
     }
 
@@ -162,6 +162,6 @@ not-first row h = elim (cases_Bool (row == 1)) [ inl y ↦ absurd (grind (arith,
 
 pub said_plain : (row : ℕ) (line : List ℕ) (o : Option Four) → 1 < row → fits (line ++ 10 ∷ []) ≡ true
     → IfSome o (λ four. of_rows (records default_config (line ++ 10 ∷ [])) ≡ Row (four_seen four)) → IfSome o (λ four. said_on row line ≡ Row (four_seen four))
-unfolding said_by_text
+unfolding row_by_text
 said_plain row line None h k p = tt
 said_plain row line (Some four) h k p = rw (k, not-first row h) p

@@ -9,60 +9,60 @@ use Rattle.csv.specs.declared.parser.Terminator.TheVariants as term
 use Rattle.csv.specs.declared.parser.State.{State}
 use Rattle.csv.specs.declared.parser.State.TheVariants as st
 use Rattle.ucl_screen.specs.Rows.{Fields as Row}
-use Rattle.ucl_answers.specs.declared.row.Stand.{Stand}
-use Rattle.ucl_answers.specs.declared.row.Stand.TheVariants.{StartField, InField, InQuoted, AfterQuote}
-use Rattle.ucl_answers.specs.declared.row.Deed.{Deed}
-use Rattle.ucl_answers.specs.declared.row.Deed.TheVariants.{Copy, Skip, EndField, EndRecord}
-use Rattle.ucl_answers.specs.Reading.{after_deed, begins_row, made, csv_state_of}
+use Rattle.ucl_answers.specs.declared.row.RowState.{RowState}
+use Rattle.ucl_answers.specs.declared.row.RowState.TheVariants.{StartField, InField, InQuoted, AfterQuote}
+use Rattle.ucl_answers.specs.declared.row.RowAction.{RowAction}
+use Rattle.ucl_answers.specs.declared.row.RowAction.TheVariants.{Copy, Skip, EndField, EndRecord}
+use Rattle.ucl_answers.specs.Reading.{after_action, begins_row, made, csv_state_of}
 
-pub by-deed : (s : State) (d : Deed) (b : ℕ) (fields : Row) (field rest : List ℕ) → step default_config s b ≡ made b d
-    → next_record default_config s fields field (b ∷ rest) ≡ after_deed d b fields field rest
+pub by-action : (s : State) (d : RowAction) (b : ℕ) (fields : Row) (field rest : List ℕ) → step default_config s b ≡ made b d
+    → next_record default_config s fields field (b ∷ rest) ≡ after_action d b fields field rest
 unfolding next_record
-by-deed s (Copy stand) b fields field rest e = rw e refl
-by-deed s (Skip stand) b fields field rest e = rw e refl
-by-deed s EndField b fields field rest e = rw e refl
-by-deed s EndRecord b fields field rest e = rw e refl
+by-action s (Copy state) b fields field rest e = rw e refl
+by-action s (Skip state) b fields field rest e = rw e refl
+by-action s EndField b fields field rest e = rw e refl
+by-action s EndRecord b fields field rest e = rw e refl
 
-pub stands-end : (stand : Stand) → ends_at_end (csv_state_of stand) ≡ true
-stands-end StartField = refl
-stands-end InField = refl
-stands-end InQuoted = refl
-stands-end AfterQuote = refl
+pub state-ends : (state : RowState) → ends_at_end (csv_state_of state) ≡ true
+state-ends StartField = refl
+state-ends InField = refl
+state-ends InQuoted = refl
+state-ends AfterQuote = refl
 
 -- the end of a text ends the record
-pub at-end : (stand : Stand) (fields : Row) (field : List ℕ) → next_record default_config (csv_state_of stand) fields field [] ≡ Some (fields ++ field ∷ [], st.StartRecord, [])
+pub at-end : (state : RowState) (fields : Row) (field : List ℕ) → next_record default_config (csv_state_of state) fields field [] ≡ Some (fields ++ field ∷ [], st.StartRecord, [])
 unfolding next_record
-at-end stand fields field = rw (stands-end stand) refl
+at-end state fields field = rw (state-ends state) refl
 
 -- outside quotes
-plain_deed : (b : ℕ) → (d : Deed) × (in_field default_config b ≡ made b d)
-plain_deed b = elim (cases_Bool (b == 44)) [
+plain_action : (b : ℕ) → (d : RowAction) × (in_field default_config b ≡ made b d)
+plain_action b = elim (cases_Bool (b == 44)) [
   | inl y ↦ (EndField, rw y refl)
   | inr n ↦ elim (cases_Bool ((b == 13) || (b == 10))) [ inl y ↦ (EndRecord, rw (n, y) refl) | inr m ↦ (Copy InField, rw (n, m) refl) ]
 ]
 
-any-deed : (stand : Stand) (b : ℕ) → (d : Deed) × (step default_config (csv_state_of stand) b ≡ made b d)
-any-deed StartField b = elim (cases_Bool (b == 34)) [ inl y ↦ (Skip InQuoted, rw y refl) | inr n ↦ let p = plain_deed b in (p.0, rw n p.1) ]
-any-deed InField b = plain_deed b
-any-deed InQuoted b = elim (cases_Bool (b == 34)) [ inl y ↦ (Skip AfterQuote, rw y refl) | inr n ↦ (Copy InQuoted, rw n refl) ]
-any-deed AfterQuote b = elim (cases_Bool (b == 34)) [ inl y ↦ (Copy InQuoted, rw y refl) | inr n ↦ let p = plain_deed b in (p.0, rw n p.1) ]
+any-action : (state : RowState) (b : ℕ) → (d : RowAction) × (step default_config (csv_state_of state) b ≡ made b d)
+any-action StartField b = elim (cases_Bool (b == 34)) [ inl y ↦ (Skip InQuoted, rw y refl) | inr n ↦ let p = plain_action b in (p.0, rw n p.1) ]
+any-action InField b = plain_action b
+any-action InQuoted b = elim (cases_Bool (b == 34)) [ inl y ↦ (Skip AfterQuote, rw y refl) | inr n ↦ (Copy InQuoted, rw n refl) ]
+any-action AfterQuote b = elim (cases_Bool (b == 34)) [ inl y ↦ (Copy InQuoted, rw y refl) | inr n ↦ let p = plain_action b in (p.0, rw n p.1) ]
 
 abbrev HasRecord : List ℕ → Type 0
-HasRecord xs = (stand : Stand) (fields : Row) (field : List ℕ) → (p : Read) × (next_record default_config (csv_state_of stand) fields field xs ≡ Some p)
+HasRecord xs = (state : RowState) (fields : Row) (field : List ℕ) → (p : Read) × (next_record default_config (csv_state_of state) fields field xs ≡ Some p)
 
-some-deed : (d : Deed) (b : ℕ) (fields : Row) (field xs : List ℕ) → HasRecord xs → (p : Read) × (after_deed d b fields field xs ≡ Some p)
-some-deed (Copy stand) b fields field xs more = more stand fields (field ++ b ∷ [])
-some-deed (Skip stand) b fields field xs more = more stand fields field
-some-deed EndField b fields field xs more = more StartField (fields ++ field ∷ []) []
-some-deed EndRecord b fields field xs more = ((fields ++ field ∷ [], after_end term.CRLF b, xs), refl)
+some-action : (d : RowAction) (b : ℕ) (fields : Row) (field xs : List ℕ) → HasRecord xs → (p : Read) × (after_action d b fields field xs ≡ Some p)
+some-action (Copy state) b fields field xs more = more state fields (field ++ b ∷ [])
+some-action (Skip state) b fields field xs more = more state fields field
+some-action EndField b fields field xs more = more StartField (fields ++ field ∷ []) []
+some-action EndRecord b fields field xs more = ((fields ++ field ∷ [], after_end term.CRLF b, xs), refl)
 
 -- from within a row there is a record
-pub some-record : (xs : List ℕ) (stand : Stand) (fields : Row) (field : List ℕ) → (p : Read) × (next_record default_config (csv_state_of stand) fields field xs ≡ Some p)
-some-record [] stand fields field = ((fields ++ field ∷ [], st.StartRecord, []), at-end stand fields field)
-some-record (b ∷ xs) stand fields field =
-    let d = any-deed stand b in
-    let p = some-deed d.0 b fields field xs (some-record xs) in
-    (p.0, by-deed (csv_state_of stand) d.0 b fields field xs d.1 ∙ p.1)
+pub some-record : (xs : List ℕ) (state : RowState) (fields : Row) (field : List ℕ) → (p : Read) × (next_record default_config (csv_state_of state) fields field xs ≡ Some p)
+some-record [] state fields field = ((fields ++ field ∷ [], st.StartRecord, []), at-end state fields field)
+some-record (b ∷ xs) state fields field =
+    let d = any-action state b in
+    let p = some-action d.0 b fields field xs (some-record xs) in
+    (p.0, by-action (csv_state_of state) d.0 b fields field xs d.1 ∙ p.1)
 
 -- a row begins as a field does
 pub begins-field : (xs : List ℕ) → begins_row xs ≡ true → next_record default_config st.StartRecord [] [] xs ≡ next_record default_config st.StartField [] [] xs

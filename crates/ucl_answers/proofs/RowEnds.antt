@@ -6,17 +6,17 @@ use Rattle.csv.specs.Records.{Rising, cut_from, last_end}
 use Rattle.csv.specs.declared.parser.State.{State}
 use Rattle.csv.specs.declared.parser.State.TheVariants as st
 use Rattle.std.proofs.lemmas.Bool.Decides.{nat_tests}
-use Rattle.csv.proofs.RecordFacts.{cut-length, last-append, rising-last}
+use Rattle.csv.proofs.RecordFacts.{last-append, rising-last}
 use Rattle.std.proofs.lemmas.List.{drop-append-le, drop_all, drop_more, length-drop, take_all}
 use Rattle.std.proofs.Math.Seq.{drop-length}
-use Rattle.ucl_screen.specs.Rows.{Fields as Row, four_of, rows_from}
+use Rattle.ucl_screen.specs.Rows.{Fields as Row, rows_from}
 use Rattle.ucl_screen.proofs.RowFacts.{behind, rows-next, rows-none}
-use Rattle.ucl_answers.specs.declared.row.Stand.{Stand}
-use Rattle.ucl_answers.specs.declared.row.Stand.TheVariants.{StartField}
-use Rattle.ucl_answers.specs.declared.row.Deed.{Deed}
-use Rattle.ucl_answers.specs.declared.row.Found.TheVariants.{One, More}
-use Rattle.ucl_answers.specs.Reading.{AreFound, IsBehindEnds, after_deed, begins_row, made, read_on, csv_state_of}
-use Rattle.ucl_answers.proofs.RowBytes.{at-end, begins-field, by-deed, some-record}
+use Rattle.ucl_answers.specs.declared.row.RowState.{RowState}
+use Rattle.ucl_answers.specs.declared.row.RowState.TheVariants.{StartField}
+use Rattle.ucl_answers.specs.declared.row.RowAction.{RowAction}
+use Rattle.ucl_answers.specs.declared.row.RowCount.TheVariants.{One, More}
+use Rattle.ucl_answers.specs.Reading.{AreFound, IsBehindEnds, after_action, begins_row, made, read_on, csv_state_of}
+use Rattle.ucl_answers.proofs.RowBytes.{at-end, begins-field, by-action, some-record}
 
 whole : (line : List ℕ) → records default_config line ≡ rows_from st.StartRecord (Some line)
 unfolding rows_from
@@ -58,48 +58,6 @@ found-more line text rest after row s b nonempty e b2 some =
     let more = rows-next s rest p.0 r.1 (b2.same s r.1 ∙ begins-field after (begins rest after b2 some) ∙ p.1) in
     (p.0.0, rows_from p.0.1 (Some p.0.2), r.0 ∙ ap (λ (rows : List Row). row ∷ rows) more)
 
--- four fields
-
-none : (fields : Row) → length fields ≢ 4 → four_of fields ≡ None
-none [] h = refl
-none (a ∷ []) h = refl
-none (a ∷ b ∷ []) h = refl
-none (a ∷ b ∷ c ∷ []) h = refl
-none (a ∷ b ∷ c ∷ d ∷ []) h = absurd (h refl)
-none (a ∷ b ∷ c ∷ d ∷ e ∷ fields) h = refl
-
-pub four-none : (ends bytes : List ℕ) → length ends ≢ 4 → four_of (cut_from 0 ends bytes) ≡ None
-four-none ends bytes h = none (cut_from 0 ends bytes) (λ e. h (sym (cut-length 0 ends bytes) ∙ e))
-
--- a field from one place to another lies within the bytes
-abbrev Lies : List ℕ → ℕ → ℕ → Type 0
-Lies bytes start end = (start ≤ end) × (end ≤ length bytes)
-
-pub record FourEnds (ends bytes : List ℕ) : Type 0 where
-  pub first : Lies bytes 0 (get_or ends 0 0)
-  pub second : Lies bytes (get_or ends 0 0) (get_or ends 1 0)
-  pub third : Lies bytes (get_or ends 1 0) (get_or ends 2 0)
-  pub fourth : Lies bytes (get_or ends 2 0) (get_or ends 3 0)
-  pub fields : four_of (cut_from 0 ends bytes) ≡ Some (record {
-    first = take (get_or ends 0 0 - 0) (drop 0 bytes);
-    second = take (get_or ends 1 0 - get_or ends 0 0) (drop (get_or ends 0 0) bytes);
-    third = take (get_or ends 2 0 - get_or ends 1 0) (drop (get_or ends 1 0) bytes);
-    fourth = take (get_or ends 3 0 - get_or ends 2 0) (drop (get_or ends 2 0) bytes);
-  })
-
-pub four-ends : (ends bytes : List ℕ) → length ends ≡ 4 → Rising 0 ends (length bytes) → FourEnds ends bytes
-unfolding Rising cut_from
-four-ends (a ∷ b ∷ c ∷ d ∷ []) bytes n r =
-    let c-within : c ≤ length bytes = omega (arith, r.1.1.1.0, r.1.1.1.1) in
-    let b-within : b ≤ length bytes = omega (arith, r.1.1.0, c-within) in
-    let a-within : a ≤ length bytes = omega (arith, r.1.0, b-within) in
-    record { first = (omega arith, a-within); second = (r.1.0, b-within); third = (r.1.1.0, c-within); fourth = (r.1.1.1.0, r.1.1.1.1); fields = refl }
-four-ends [] bytes n r = absurd (omega arith)
-four-ends (a ∷ []) bytes n r = absurd (omega arith)
-four-ends (a ∷ b ∷ []) bytes n r = absurd (omega arith)
-four-ends (a ∷ b ∷ c ∷ []) bytes n r = absurd (omega arith)
-four-ends (a ∷ b ∷ c ∷ d ∷ e ∷ ends) bytes n r = absurd (omega arith)
-
 -- the field at hand
 pub field-pushed : (ends bytes : List ℕ) (b : ℕ) → Rising 0 ends (length bytes) → drop (last_end 0 ends) (bytes ++ b ∷ []) ≡ drop (last_end 0 ends) bytes ++ b ∷ []
 field-pushed ends bytes b r = drop-append-le (last_end 0 ends) bytes (b ∷ []) (rising-last 0 ends (length bytes) r)
@@ -129,13 +87,13 @@ pub full-list : (b : Bool) (xs : List ℕ) → b ≡ (length xs == 0) → b ≡ 
 full-list b xs e h none = let k : false ≡ (length xs == 0) = sym h ∙ e in let t = rw none at k in cc
 
 -- a byte of a text is read
-pub fill-step : (stand : Stand) (d : Deed) (o : Option Stand) (i : ℕ) (text : List ℕ) (fields fields2 : Row) (field field2 : List ℕ) → i < length text
-    → step default_config (csv_state_of stand) (get_or text i 0) ≡ made (get_or text i 0) d
-    → ((rest : List ℕ) → after_deed d (get_or text i 0) fields field rest ≡ read_on o (get_or text i 0) fields2 field2 rest)
-    → next_record default_config (csv_state_of stand) fields field (drop i text) ≡ read_on o (get_or text i 0) fields2 field2 (drop (i + 1) text)
-fill-step stand d o i text fields fields2 field field2 h e reads =
-    rw (drop_more text i 0 h) (by-deed (csv_state_of stand) d (get_or text i 0) fields field (drop (i + 1) text) e ∙ reads (drop (i + 1) text))
+pub fill-step : (state : RowState) (d : RowAction) (o : Option RowState) (i : ℕ) (text : List ℕ) (fields fields2 : Row) (field field2 : List ℕ) → i < length text
+    → step default_config (csv_state_of state) (get_or text i 0) ≡ made (get_or text i 0) d
+    → ((rest : List ℕ) → after_action d (get_or text i 0) fields field rest ≡ read_on o (get_or text i 0) fields2 field2 rest)
+    → next_record default_config (csv_state_of state) fields field (drop i text) ≡ read_on o (get_or text i 0) fields2 field2 (drop (i + 1) text)
+fill-step state d o i text fields fields2 field field2 h e reads =
+    rw (drop_more text i 0 h) (by-action (csv_state_of state) d (get_or text i 0) fields field (drop (i + 1) text) e ∙ reads (drop (i + 1) text))
 
-pub fill-end : (stand : Stand) (i : ℕ) (text : List ℕ) (fields : Row) (field : List ℕ) → length text ≤ i
-    → next_record default_config (csv_state_of stand) fields field (drop i text) ≡ Some (fields ++ field ∷ [], st.StartRecord, [])
-fill-end stand i text fields field h = rw (drop_all i text h) (at-end stand fields field)
+pub fill-end : (state : RowState) (i : ℕ) (text : List ℕ) (fields : Row) (field : List ℕ) → length text ≤ i
+    → next_record default_config (csv_state_of state) fields field (drop i text) ≡ Some (fields ++ field ∷ [], st.StartRecord, [])
+fill-end state i text fields field h = rw (drop_all i text h) (at-end state fields field)

@@ -8,7 +8,7 @@ use Rattle.ucl_io.specs.Lines.{begun_line, ended_lines, longer}
 use Rattle.ucl_answers.specs.Lines.{last_lines, lines_of}
 use Rattle.ucl_answers.specs.UncutLines.{uncut_after, uncut_lines}
 use Rattle.ucl_answers.specs.BadRows.{printed, shown_text}
-use Rattle.ucl_answers.specs.Rows.{Garbled, fits, said_by_text, said_on}
+use Rattle.ucl_answers.specs.Rows.{Garbled, fits, row_by_text, said_on}
 use Rattle.ucl_answers.specs.Text.{Evening, after_lines, answer_said, answers, next}
 use Rattle.ucl_answers.specs.Laws.{LinesAreReadWhole}
 
@@ -43,7 +43,7 @@ no-room text h = elim (cases_Bool (get_or text (length text - 2) 0 == 13)) [
 ]
 
 too-long : (row : ℕ) (line : List ℕ) → 258 ≤ length line → said_on row line ≡ Garbled
-unfolding said_by_text
+unfolding row_by_text
 too-long row line h = rw (no-room (line ++ 10 ∷ []) (let m = longer-by line 10 in omega (arith, h, m))) refl
 
 same-said : (row : ℕ) (line whole : List ℕ) → Alike line whole → said_on row line ≡ said_on row whole

@@ -1,7 +1,7 @@
 -- What an answer in JSON tells of a row that asks for nothing that there is.
-use Rattle.std.specs.Prelude.{ℕ, if◌then◌else◌, Bool, List, [], ◌∷◌, take, codes, is_some}
+use Rattle.std.specs.Prelude.{ℕ, if◌then◌else◌, List, [], ◌∷◌, take, codes, is_some}
 use Rattle.ucl_order.specs.Roster.{is_printed}
-use Rattle.ucl_screen.specs.Events.{event_of}
+use Rattle.ucl_screen.specs.Events.{expected_in, match_in, reporter_in}
 use Rattle.ucl_screen.specs.Rows.{FourFields}
 use Rattle.ucl_answers.specs.declared.bad_row.BadField.{BadField}
 use Rattle.ucl_answers.specs.declared.bad_row.BadField.TheVariants.{Count, Reporter, Match, Expected, Event}
@@ -13,17 +13,13 @@ field_name Match = codes "match"
 field_name Expected = codes "expected"
 field_name Event = codes "event"
 
--- whether a row that begins with these three fields can ask for an event
-abbrev pub is_asked : List ℕ → List ℕ → List ℕ → Bool
-is_asked reporter game expected =
-    is_some (event_of (record { first = reporter; second = game; third = expected; fourth = codes "kickoff" }))
+-- the first field that is none of an event, of those after the reporter; where the first two are, it is the event
+abbrev pub bad_field_of_call : List ℕ → List ℕ → BadField
+bad_field_of_call game expected = if is_some (match_in game) then (if is_some (expected_in expected) then Event else Expected) else Match
 
--- the first field that is none of an event: good ones in the place of those after it do not help. Where three are good, it is the event
+-- the same of a row
 abbrev pub bad_field : FourFields → BadField
-bad_field f =
-    if is_asked f.first (codes "1") (codes "0")
-    then (if is_asked f.first f.second (codes "0") then (if is_asked f.first f.second f.third then Event else Expected) else Match)
-    else Reporter
+bad_field f = if is_some (reporter_in f.first) then bad_field_of_call f.second f.third else Reporter
 
 -- the printable ASCII with which a text begins
 unfoldable pub printed : List ℕ → List ℕ

@@ -1,35 +1,35 @@
 -- How rows are read: the rules of scripts, at the states that the reading of one row can have.
-use Rattle.std.specs.Prelude.{◌≡◌, ◌⊎◌, ⊤, if◌then◌else◌, Bool, true, false, not, ◌==◌, ◌&&◌, ℕ, List, [], ◌∷◌, ◌++◌, drop, Option, Some, None}
+use Rattle.std.specs.Prelude.{◌≡◌, ◌⊎◌, ⊤, if◌then◌else◌, Bool, true, false, not, ◌==◌, ◌&&◌, ℕ, List, [], ◌∷◌, ◌++◌, length, drop, Option, Some, None}
 use Rattle.csv.specs.Machine.{after_end, ends_with}
 use Rattle.csv.specs.Machine.{Read, next_record, ends_at_end}
 use Rattle.csv.specs.Reading.{default_config}
-use Rattle.csv.specs.Records.{cut_from, last_end}
+use Rattle.csv.specs.Records.{Rising, cut_from, last_end}
 use Rattle.csv.specs.declared.parser.Terminator.TheVariants as term
 use Rattle.csv.specs.declared.parser.State.{State}
 use Rattle.csv.specs.declared.parser.State.TheVariants as st
 use Rattle.csv.specs.declared.parser.Action.{Action}
 use Rattle.csv.specs.declared.parser.Action.TheVariants as act
-use Rattle.ucl_screen.specs.Rows.{Fields as Row, four_of}
-use Rattle.ucl_answers.specs.Rows.{Said, of_row}
-use Rattle.ucl_answers.specs.Rows as said
-use Rattle.ucl_answers.specs.declared.row.Stand.{Stand}
-use Rattle.ucl_answers.specs.declared.row.Stand.TheVariants.{StartField, InField, InQuoted, AfterQuote}
-use Rattle.ucl_answers.specs.declared.row.Deed.{Deed}
-use Rattle.ucl_answers.specs.declared.row.Deed.TheVariants.{Copy, Skip, EndField, EndRecord}
-use Rattle.ucl_answers.specs.declared.row.Found.{Found}
-use Rattle.ucl_answers.specs.declared.row.Found.TheVariants.{Nothing, One, More}
+use Rattle.ucl_screen.specs.Rows.{Fields as Row}
+use Rattle.ucl_answers.specs.Rows.{LineRow, NoRow, Unread, OneRow}
+use Rattle.ucl_answers.specs.declared.row.RowState.{RowState}
+use Rattle.ucl_answers.specs.declared.row.RowState.TheVariants.{StartField, InField, InQuoted, AfterQuote}
+use Rattle.ucl_answers.specs.declared.row.RowAction.{RowAction}
+use Rattle.ucl_answers.specs.declared.row.RowAction.TheVariants.{Copy, Skip, EndField, EndRecord}
+use Rattle.ucl_answers.specs.declared.row.RowCount.{RowCount}
+use Rattle.ucl_answers.specs.declared.row.RowCount.TheVariants.{Nothing, One, More}
 use Rattle.ucl_answers.specs.declared.row.Fields.{Fields}
+use Rattle.ucl_answers.specs.declared.line.LineReader.{LineReader}
 
-abbrev pub csv_state_of : Stand → State
+abbrev pub csv_state_of : RowState → State
 csv_state_of StartField = st.StartField
 csv_state_of InField = st.InField
 csv_state_of InQuoted = st.InQuoted
 csv_state_of AfterQuote = st.AfterQuote
 
 -- the state and the action that a byte makes
-abbrev pub made : ℕ → Deed → State × Action
-made b (Copy stand) = (csv_state_of stand, act.Copy)
-made b (Skip stand) = (csv_state_of stand, act.Skip)
+abbrev pub made : ℕ → RowAction → State × Action
+made b (Copy state) = (csv_state_of state, act.Copy)
+made b (Skip state) = (csv_state_of state, act.Skip)
 made b EndField = (st.StartField, act.EndField)
 made b EndRecord = (after_end term.CRLF b, act.EndRecord)
 
@@ -41,17 +41,17 @@ fields_in f = cut_from 0 f.ends.items f.bytes.items
 abbrev pub field_in : Fields → List ℕ
 field_in f = drop (last_end 0 f.ends.items) f.bytes.items
 
--- what the reading of a record becomes by a deed
-abbrev pub after_deed : Deed → ℕ → Row → List ℕ → List ℕ → Option Read
-after_deed (Copy stand) b fields field rest = next_record default_config (csv_state_of stand) fields (field ++ b ∷ []) rest
-after_deed (Skip stand) b fields field rest = next_record default_config (csv_state_of stand) fields field rest
-after_deed EndField b fields field rest = next_record default_config st.StartField (fields ++ field ∷ []) [] rest
-after_deed EndRecord b fields field rest = Some (fields ++ field ∷ [], after_end term.CRLF b, rest)
+-- what the reading of a record becomes by a action
+abbrev pub after_action : RowAction → ℕ → Row → List ℕ → List ℕ → Option Read
+after_action (Copy state) b fields field rest = next_record default_config (csv_state_of state) fields (field ++ b ∷ []) rest
+after_action (Skip state) b fields field rest = next_record default_config (csv_state_of state) fields field rest
+after_action EndField b fields field rest = next_record default_config st.StartField (fields ++ field ∷ []) [] rest
+after_action EndRecord b fields field rest = Some (fields ++ field ∷ [], after_end term.CRLF b, rest)
 
 -- the reading from where it stands: of a record that has ended by a byte, or of one at hand
-abbrev pub read_on : Option Stand → ℕ → Row → List ℕ → List ℕ → Option Read
+abbrev pub read_on : Option RowState → ℕ → Row → List ℕ → List ℕ → Option Read
 read_on None b fields field rest = Some (fields, after_end term.CRLF b, rest)
-read_on (Some stand) b fields field rest = next_record default_config (csv_state_of stand) fields field rest
+read_on (Some state) b fields field rest = next_record default_config (csv_state_of state) fields field rest
 
 -- whether the byte at the front of a text begins a row
 abbrev pub begins_row : List ℕ → Bool
@@ -64,16 +64,26 @@ pub record IsBehindEnds (text rest : List ℕ) : Type 0 where
   pub begins : (rest ≡ []) ⊎ (begins_row rest ≡ true)
 
 -- what was found of these rows
-abbrev pub AreFound : Found → Row → List Row → Type 0
+abbrev pub AreFound : RowCount → Row → List Row → Type 0
 AreFound Nothing row rows = rows ≡ []
 AreFound One row rows = rows ≡ row ∷ []
 AreFound More row rows = (other : Row) × (more : List Row) × (rows ≡ row ∷ other ∷ more)
 
--- what a line says of which these rows were found
-abbrev pub said_in : Found → Row → Said
-said_in Nothing row = said.Nothing
-said_in One row = of_row (four_of row)
-said_in More row = said.Garbled
+-- what a line has of which these rows were found
+abbrev pub row_in : RowCount → Row → LineRow
+row_in Nothing row = NoRow
+row_in One row = OneRow row
+row_in More row = Unread
+
+-- ---- a reader of lines
+
+-- the fields that it has read last
+abbrev pub fields_read : LineReader → Row
+fields_read reader = fields_in reader.fields
+
+-- they lie in its bytes, one after the other
+abbrev pub HasRead : LineReader → Type 0
+HasRead reader = Rising 0 reader.fields.ends.items (length reader.fields.bytes.items)
 
 -- ---- fields that are not in quotes
 

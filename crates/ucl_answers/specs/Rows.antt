@@ -4,6 +4,35 @@ use Rattle.std.specs.Prelude.{ℕ, ◌-◌, ◌==◌, nat_le, if◌then◌else�
 use Rattle.csv.specs.Reading.{default_config, records}
 use Rattle.ucl_screen.specs.Rows.{Fields, FourFields, four_of, rows_of}
 
+-- what a line has: no row; or several, or what is too long to be read; or one
+pub data LineRow : Type 0 where
+  NoRow : LineRow
+  Unread : LineRow
+  OneRow : (fields : Fields) → LineRow
+
+abbrev pub only_row : List Fields → LineRow
+only_row [] = NoRow
+only_row (row ∷ []) = OneRow row
+only_row (row ∷ other ∷ rows) = Unread
+
+-- a byte order mark is passed over at the start of the first line, which is that of the input
+abbrev pub rows_at : Bool → List ℕ → List Fields
+rows_at first text = if first then rows_of text else records default_config text
+
+-- at most 256 bytes, and the end: a line feed, or a carriage return and a line feed
+abbrev pub fits : List ℕ → Bool
+fits text = nat_le (length text) (if get_or text (length text - 2) 0 == 13 then 258 else 257)
+
+-- what a line with its line feed has, where it has this number
+unfoldable pub row_by_text : ℕ → List ℕ → LineRow
+row_by_text row text = if fits text then only_row (rows_at (row == 1) text) else Unread
+
+-- what a line has
+abbrev pub row_on : ℕ → List ℕ → LineRow
+row_on row line = row_by_text row (line ++ 10 ∷ [])
+
+-- ---- rows of four fields
+
 -- nothing; or what is no row of four fields, or too long; or a row
 pub data Said : Type 0 where
   Nothing : Said
@@ -14,24 +43,18 @@ abbrev pub of_row : Option FourFields → Said
 of_row None = Garbled
 of_row (Some f) = Row f
 
--- a line has one row at most
+abbrev pub said_of : LineRow → Said
+said_of NoRow = Nothing
+said_of Unread = Garbled
+said_of (OneRow row) = of_row (four_of row)
+
 abbrev pub of_rows : List Fields → Said
-of_rows [] = Nothing
-of_rows (row ∷ []) = of_row (four_of row)
-of_rows (row ∷ other ∷ rows) = Garbled
-
--- a byte order mark is passed over at the start of the first line, which is that of the input
-abbrev pub rows_at : Bool → List ℕ → List Fields
-rows_at first text = if first then rows_of text else records default_config text
-
--- at most 256 bytes, and the end: a line feed, or a carriage return and a line feed
-abbrev pub fits : List ℕ → Bool
-fits text = nat_le (length text) (if get_or text (length text - 2) 0 == 13 then 258 else 257)
+of_rows rows = said_of (only_row rows)
 
 -- what a line with its line feed says, where it has this number
-unfoldable pub said_by_text : ℕ → List ℕ → Said
-said_by_text row text = if fits text then of_rows (rows_at (row == 1) text) else Garbled
+abbrev pub said_by_text : ℕ → List ℕ → Said
+said_by_text row text = said_of (row_by_text row text)
 
 -- what a line says
 abbrev pub said_on : ℕ → List ℕ → Said
-said_on row line = said_by_text row (line ++ 10 ∷ [])
+said_on row line = said_of (row_on row line)

@@ -4,10 +4,10 @@ ghost use Rattle.std.specs.Prelude.{◌≡◌, ◌≤◌, length, take, true};
 ghost use Rattle.std.specs.List.{list_all};
 ghost use Rattle.ucl_order.specs.Roster.{is_printed};
 ghost use Rattle.ucl_screen.specs.Rows.{four_seen};
-ghost use Rattle.ucl_answers.specs.BadRows.{bad_field, field_name, is_asked, shown_text};
+ghost use Rattle.ucl_answers.specs.BadRows.{bad_field, bad_field_of_call, field_name, shown_text};
 
 use std::str;
-use ucl_screen::{Four, event_of_fields};
+use ucl_screen::{Four, expected_of_field, match_of_field, reporter_of_field};
 
 /// The most bytes of a row that an answer shows.
 const MOST_SHOWN: usize = 64;
@@ -42,31 +42,27 @@ impl BadField {
     }
 }
 
-/// Whether these are the first three fields of a row that asks for an event.
-fn is_asked(first: &[u8], second: &[u8], third: &[u8]) -> bool
-    ensures { result ≡ is_asked first.now second.now third.now }
+/// The first field that is none of an event, of those after the reporter. Where the first two are, it is the event.
+pub fn bad_field_of_call(game: &[u8], expected: &[u8]) -> BadField
+    ensures { result ≡ bad_field_of_call game.now expected.now }
 {
-    event_of_fields(&Four {
-        first,
-        second,
-        third,
-        fourth: b"kickoff".as_slice(),
-    })
-    .is_some()
+    if match_of_field(game).is_none() {
+        BadField::Match
+    } else if expected_of_field(expected).is_none() {
+        BadField::Expected
+    } else {
+        BadField::Event
+    }
 }
 
 /// The first field of a row that is none of an event. Where the first three are, it is the event.
 pub(crate) fn bad_field(four: &Four<'_>) -> BadField
     ensures { result ≡ bad_field (four_seen four.now) }
 {
-    if !is_asked(four.first, b"1".as_slice(), b"0".as_slice()) {
+    if reporter_of_field(four.first).is_none() {
         BadField::Reporter
-    } else if !is_asked(four.first, four.second, b"0".as_slice()) {
-        BadField::Match
-    } else if !is_asked(four.first, four.second, four.third) {
-        BadField::Expected
     } else {
-        BadField::Event
+        bad_field_of_call(four.second, four.third)
     }
 }
 

@@ -14,7 +14,7 @@ use crate::fault::LiveFault;
 use crate::line::{LineReader, plain_row};
 use crate::parts::Parts;
 use crate::request::request_of;
-use crate::row::Found;
+use crate::row::RowCount;
 use crate::stage::{Clubs, Stage, with_club};
 use std::alloc::Global;
 use std::mem;
@@ -130,14 +130,14 @@ impl LineMachine for Evening {
                 .answered(self.alloc, &self.options, row, &Some(four), line, text);
         }
         match self.reader.read(row, line) {
-            Found::Nothing => {
+            RowCount::Nothing => {
                 text.put_nothing();
                 Ok(())
             }
-            Found::More => self
+            RowCount::More => self
                 .stage
                 .answered(self.alloc, &self.options, row, &None, line, text),
-            Found::One => {
+            RowCount::One => {
                 let four = self.reader.four();
                 self.stage
                     .answered(self.alloc, &self.options, row, &four, line, text)

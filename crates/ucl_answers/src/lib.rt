@@ -20,6 +20,7 @@ mod table;
 mod words;
 
 pub use answer::{Answer, ReplyLine, accepted_line, bad_line, refused_line};
+pub use bad_row::{BadField, bad_field_of_call};
 pub use evening::Evening;
 pub use fault::{BeginningFault, LiveFault};
 pub use laws::{
@@ -27,7 +28,9 @@ pub use laws::{
     first_rows_open_the_board, json_answers_are_lines, json_says_the_same, lines_are_read_whole,
     refused_evenings_are_silent, replies_are_those_of_feed,
 };
+pub use line::LineReader;
 pub use live::live_run;
 pub use parts::Parts;
 pub use program::run_evening;
+pub use row::{MOST_LINE_BYTES, RowCount};
 pub use words::{Lines, word_lines};

@@ -1,22 +1,22 @@
 //! What a line says.
 
-ghost use Rattle.std.specs.Prelude.{◌≡◌, ◌∷◌, [], ◌++◌, length, option_map, IfSome};
-ghost use Rattle.csv.specs.Records.{Rising};
+ghost use Rattle.std.specs.Prelude.{◌≡◌, ◌∷◌, [], ◌++◌, option_map, IfSome};
+ghost use Rattle.csv.specs.Records.{field_at};
 ghost use Rattle.ucl_screen.specs.Rows.{four_of, four_seen};
-ghost use Rattle.ucl_answers.specs.Reading.{fields_in, said_in};
-ghost use Rattle.ucl_answers.specs.Rows.{Row, fits, said_on};
+ghost use Rattle.ucl_answers.specs.Reading.{HasRead, fields_read, row_in};
+ghost use Rattle.ucl_answers.specs.Rows.{Row, fits, row_on, said_on};
 
 use crate::plain::plain_four;
-use crate::row::{Fields, Found, without_mark};
+use crate::row::{Fields, RowCount, without_mark};
 use arrayvec::ArrayVec;
 use ucl_screen::Four;
 
 /// The most bytes of a line before its end.
 const MOST_ROW_BYTES: usize = 256;
 
-/// Reads lines, one after the other.
+/// Reads lines, one after the other, as the crate `csv` reads in its default dialect.
 #[derive(Drop)]
-pub(crate) struct LineReader {
+pub struct LineReader {
     text: ArrayVec<u8, 258>,
     fields: Fields,
 }
@@ -48,7 +48,7 @@ pub(crate) fn plain_row(row: u64, line: &[u8]) -> Option<Four<'_>>
 
 impl LineReader {
     /// Nothing was read.
-    pub(crate) fn new() -> LineReader {
+    pub fn new() -> LineReader {
         LineReader {
             text: ArrayVec::new(),
             fields: Fields::new(),
@@ -56,14 +56,14 @@ impl LineReader {
     }
 
     /// Reads a line that has this number, with the line feed that it comes without.
-    #[tactic(auto, unfolding(crate::specs::Rows::said_by_text))]
-    pub(crate) fn read(&mut self, row: u64, line: &[u8]) -> Found
-        ensures rising { Rising 0 self.new.fields.ends.items (length self.new.fields.bytes.items) }
-        ensures said { said_in result (fields_in self.new.fields) ≡ said_on row line.now }
+    #[tactic(auto, unfolding(crate::specs::Rows::row_by_text))]
+    pub fn read(&mut self, row: u64, line: &[u8]) -> RowCount
+        ensures read { HasRead self.new }
+        ensures row { row_in result (fields_read self.new) ≡ row_on row line.now }
     {
         if !fits(line) {
             self.fields.clear();
-            return Found::More;
+            return RowCount::More;
         }
         self.text.clear();
         let _room = self.text.try_extend_from_slice(line);
@@ -75,10 +75,18 @@ impl LineReader {
         }
     }
 
-    /// The fields of the line that was read, where they are four.
+    /// A field of the row that was read, counted from 0.
+    pub fn field(&self, index: usize) -> Option<&[u8]>
+        requires { HasRead self.now }
+        ensures { option_map (λ f. f.now) result ≡ field_at (fields_read self.now) index }
+    {
+        self.fields.field(index)
+    }
+
+    /// The fields of the row that was read, where they are four.
     pub(crate) fn four(&self) -> Option<Four<'_>>
-        requires { Rising 0 self.now.fields.ends.items (length self.now.fields.bytes.items) }
-        ensures { option_map four_seen result ≡ four_of (fields_in self.now.fields) }
+        requires { HasRead self.now }
+        ensures { option_map four_seen result ≡ four_of (fields_read self.now) }
     {
         self.fields.four()
     }

@@ -3,11 +3,11 @@
 ghost use Rattle.std.specs.Prelude.{◌≡◌, ℕ, List, ◌+◌, ◌-◌, ◌<◌, ◌≤◌, ◌++◌, [], ◌∷◌, length, drop, take, Some, option_map};
 ghost use Rattle.csv.specs.Machine.{next_record, step};
 ghost use Rattle.csv.specs.Reading.{default_config, records, strip_bom};
-ghost use Rattle.csv.specs.Records.{Rising};
+ghost use Rattle.csv.specs.Records.{Rising, field_at, prev};
 ghost use Rattle.csv.specs.declared.parser.State.{State};
 ghost use Rattle.csv.specs.declared.parser.State.TheVariants as st;
 ghost use Rattle.ucl_screen.specs.Rows.{four_of, four_seen};
-ghost use Rattle.ucl_answers.specs.Reading.{AreFound, IsBehindEnds, after_deed, field_in, fields_in, made, read_on, csv_state_of};
+ghost use Rattle.ucl_answers.specs.Reading.{AreFound, IsBehindEnds, after_action, field_in, fields_in, made, read_on, csv_state_of};
 
 use arrayvec::ArrayVec;
 use ucl_screen::Four;
@@ -20,7 +20,7 @@ const MOST_FIELDS: usize = 259;
 
 /// Where the reading of a row stands.
 #[derive(Clone, Copy, Debug, PartialEq, Eq)]
-pub(crate) enum Stand {
+pub(crate) enum RowState {
     StartField,
     InField,
     InQuoted,
@@ -29,11 +29,11 @@ pub(crate) enum Stand {
 
 /// What a byte does.
 #[derive(Clone, Copy, Debug, PartialEq, Eq)]
-pub(crate) enum Deed {
+pub(crate) enum RowAction {
     /// It joins the field at hand.
-    Copy(Stand),
+    Copy(RowState),
     /// It is passed over.
-    Skip(Stand),
+    Skip(RowState),
     /// It ends a field.
     EndField,
     /// It ends the record.
@@ -42,7 +42,7 @@ pub(crate) enum Deed {
 
 /// How many rows a line has.
 #[derive(Clone, Copy, Debug, PartialEq, Eq)]
-pub(crate) enum Found {
+pub enum RowCount {
     /// None.
     Nothing,
     /// One.
@@ -52,18 +52,18 @@ pub(crate) enum Found {
 }
 
 /// What a byte does.
-fn deed_of(stand: Stand, b: u8) -> Deed
-    ensures { step default_config (csv_state_of stand) b ≡ made b result }
+fn action_of(state: RowState, b: u8) -> RowAction
+    ensures { step default_config (csv_state_of state) b ≡ made b result }
 {
-    match stand {
-        Stand::InQuoted if b == b'"' => Deed::Skip(Stand::AfterQuote),
-        Stand::InQuoted => Deed::Copy(Stand::InQuoted),
-        Stand::StartField if b == b'"' => Deed::Skip(Stand::InQuoted),
-        Stand::AfterQuote if b == b'"' => Deed::Copy(Stand::InQuoted),
+    match state {
+        RowState::InQuoted if b == b'"' => RowAction::Skip(RowState::AfterQuote),
+        RowState::InQuoted => RowAction::Copy(RowState::InQuoted),
+        RowState::StartField if b == b'"' => RowAction::Skip(RowState::InQuoted),
+        RowState::AfterQuote if b == b'"' => RowAction::Copy(RowState::InQuoted),
         _ => match b {
-            b',' => Deed::EndField,
-            b'\r' | b'\n' => Deed::EndRecord,
-            _ => Deed::Copy(Stand::InField),
+            b',' => RowAction::EndField,
+            b'\r' | b'\n' => RowAction::EndRecord,
+            _ => RowAction::Copy(RowState::InField),
         },
     }
 }
@@ -86,6 +86,17 @@ fn part(bytes: &[u8], start: u16, end: u16) -> &[u8]
     ensures { result.now ≡ take (end - start) (drop start bytes.now) }
 {
     &bytes[usize::from(start)..usize::from(end)]
+}
+
+/// Where the field at a place begins, of fields that end at these.
+fn start_of(ends: &[u16], index: usize) -> u16
+    requires { index < length ends.now }
+    ensures { result ≡ prev 0 ends.now index }
+{
+    if index == 0 {
+        return 0;
+    }
+    ends[index - 1]
 }
 
 /// What comes after the line ends at the start of a text.
@@ -154,27 +165,27 @@ impl Fields {
     }
 
     /// Does what a byte does, and says where the reading stands then: nowhere, where the record has ended.
-    fn obey(&mut self, deed: Deed, b: u8) -> Option<Stand>
+    fn act(&mut self, action: RowAction, b: u8) -> Option<RowState>
         requires ends { length self.old.ends.items < 259 }
         requires bytes { length self.old.bytes.items < 258 }
         requires rising { Rising 0 self.old.ends.items (length self.old.bytes.items) }
-        ensures reads { (rest : List ℕ) → after_deed deed b (fields_in self.old) (field_in self.old)
+        ensures reads { (rest : List ℕ) → after_action action b (fields_in self.old) (field_in self.old)
             rest ≡ read_on result b (fields_in self.new) (field_in self.new) rest }
         ensures rising { Rising 0 self.new.ends.items (length self.new.bytes.items) }
         ensures ends { length self.new.ends.items ≤ length self.old.ends.items + 1 }
         ensures bytes { length self.new.bytes.items ≤ length self.old.bytes.items + 1 }
     {
-        match deed {
-            Deed::Copy(next) => {
+        match action {
+            RowAction::Copy(next) => {
                 self.push(b);
                 Some(next)
             }
-            Deed::Skip(next) => Some(next),
-            Deed::EndField => {
+            RowAction::Skip(next) => Some(next),
+            RowAction::EndField => {
                 self.end_field();
-                Some(Stand::StartField)
+                Some(RowState::StartField)
             }
-            Deed::EndRecord => {
+            RowAction::EndRecord => {
                 self.end_field();
                 None
             }
@@ -191,11 +202,11 @@ impl Fields {
     {
         self.bytes.clear();
         self.ends.clear();
-        let mut stand = Stand::StartField;
+        let mut state = RowState::StartField;
         for at in 0..text.len() {
             let b = text[at];
-            match self.obey(deed_of(stand, b), b) {
-                Some(next) => stand = next,
+            match self.act(action_of(state, b), b) {
+                Some(next) => state = next,
                 None => return at + 1,
             }
         }
@@ -204,7 +215,7 @@ impl Fields {
     }
 
     /// Reads the rows of a text, of which only the first is kept.
-    pub(crate) fn read(&mut self, text: &[u8]) -> Found
+    pub(crate) fn read(&mut self, text: &[u8]) -> RowCount
         requires { length text.now ≤ 258 }
         ensures rising { Rising 0 self.new.ends.items (length self.new.bytes.items) }
         ensures found { AreFound result (fields_in self.new) (records default_config text.now) }
@@ -213,31 +224,47 @@ impl Fields {
         if text.is_empty() {
             self.bytes.clear();
             self.ends.clear();
-            return Found::Nothing;
+            return RowCount::Nothing;
         }
         let at = self.fill(text);
         if without_ends(&text[at..]).is_empty() {
-            Found::One
+            RowCount::One
         } else {
-            Found::More
+            RowCount::More
         }
     }
 
+    /// A field, counted from 0.
+    pub(crate) fn field(&self, index: usize) -> Option<&[u8]>
+        requires { Rising 0 self.now.ends.items (length self.now.bytes.items) }
+        ensures { option_map (λ f. f.now) result ≡ field_at (fields_in self.now) index }
+    {
+        let ends = self.ends.as_slice();
+        if index >= ends.len() {
+            return None;
+        }
+        let start = start_of(ends, index);
+        Some(part(self.bytes.as_slice(), start, ends[index]))
+    }
+
     /// The fields, where they are four.
+    #[tactic(auto, using(ucl_screen::proofs::FourFacts::four_by))]
     pub(crate) fn four(&self) -> Option<Four<'_>>
         requires { Rising 0 self.now.ends.items (length self.now.bytes.items) }
         ensures { option_map four_seen result ≡ four_of (fields_in self.now) }
     {
-        let ends = self.ends.as_slice();
-        if ends.len() != 4 {
-            return None;
+        let first = self.field(0)?;
+        let second = self.field(1)?;
+        let third = self.field(2)?;
+        let fourth = self.field(3)?;
+        match self.field(4) {
+            Some(_) => None,
+            None => Some(Four {
+                first,
+                second,
+                third,
+                fourth,
+            }),
         }
-        let bytes = self.bytes.as_slice();
-        Some(Four {
-            first: part(bytes, 0, ends[0]),
-            second: part(bytes, ends[0], ends[1]),
-            third: part(bytes, ends[1], ends[2]),
-            fourth: part(bytes, ends[2], ends[3]),
-        })
     }
 }

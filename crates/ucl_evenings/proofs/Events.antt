@@ -13,9 +13,9 @@ use Rattle.ucl_board.proofs.Beginnings.{at_beginning, begins_length, take_beginn
 use Rattle.ucl_shared.specs.Passes.{PassView, IsSound, Continues, ReportsMore, AcceptedReport, RefusedReport, SharedReading}
 use Rattle.ucl_shared.proofs.Lists.{unchanged}
 use Rattle.ucl_runs.proofs.EnteredRows.{goes_on}
-use Rattle.ucl_evenings.specs.declared.went.Went.{Went}
-use Rattle.ucl_evenings.specs.declared.went.Went.TheVariants.{Entered, Refused}
-use Rattle.ucl_evenings.specs.Reporting.{WentAt, past_point, GoThrough, entered_by, entered_in, accepted_in, HasReportedRows, RangFor}
+use Rattle.ucl_evenings.specs.declared.outcome.Outcome.{Outcome}
+use Rattle.ucl_evenings.specs.declared.outcome.Outcome.TheVariants.{Entered, Refused}
+use Rattle.ucl_evenings.specs.Reporting.{IsOutcomeAt, past_point, GoThrough, entered_by, entered_in, accepted_in, HasReportedRows, RangFor}
 
 -- no event
 pub rows_none : (k : PassView) → IsSound k → HasReportedRows k k [] []
@@ -67,7 +67,7 @@ row_refused k m call refusal on r = record {
 -- ---- events after events
 
 module _ (reporter : ℕ) (s h : List Entry) (on : IsPrefix s h) where
-  at_on : (point : ℕ) (call : EventCall) (w : Went) → WentAt reporter s point call w → WentAt reporter h point call w
+  at_on : (point : ℕ) (call : EventCall) (w : Outcome) → IsOutcomeAt reporter s point call w → IsOutcomeAt reporter h point call w
   at_on point call (Entered number version) r =
       let read = r.read in
       let within = r.within in
@@ -83,80 +83,80 @@ module _ (reporter : ℕ) (s h : List Entry) (on : IsPrefix s h) where
       let longer = begins_length s h on in
       (omega arith, ap (λ (l : List Entry). sequential_reply l call) (take_beginning s h point on r.0) ∙ r.1)
 
-  through_on : (low high : ℕ) (calls : List EventCall) (went : List Went) → GoThrough reporter s low high calls went → GoThrough reporter h low high calls went
+  through_on : (low high : ℕ) (calls : List EventCall) (outcomes : List Outcome) → GoThrough reporter s low high calls outcomes → GoThrough reporter h low high calls outcomes
   unfolding GoThrough
   through_on low high [] [] g = g
-  through_on low high [] (w ∷ went) g = absurd g
+  through_on low high [] (w ∷ outcomes) g = absurd g
   through_on low high (call ∷ calls) [] g = absurd g
-  through_on low high (call ∷ calls) (w ∷ went) g = (g.0, g.1, at_on g.0 call w g.2, through_on (past_point g.0 w) high calls went g.3)
+  through_on low high (call ∷ calls) (w ∷ outcomes) g = (g.0, g.1, at_on g.0 call w g.2, through_on (past_point g.0 w) high calls outcomes g.3)
 
 module _ (reporter : ℕ) (h : List Entry) where
-  through_lower : (low low2 high : ℕ) (calls : List EventCall) (went : List Went) → low ≤ low2 → GoThrough reporter h low2 high calls went → GoThrough reporter h low high calls went
+  through_lower : (low low2 high : ℕ) (calls : List EventCall) (outcomes : List Outcome) → low ≤ low2 → GoThrough reporter h low2 high calls outcomes → GoThrough reporter h low high calls outcomes
   unfolding GoThrough
   through_lower low low2 high [] [] le g = omega arith
-  through_lower low low2 high [] (w ∷ went) le g = absurd g
+  through_lower low low2 high [] (w ∷ outcomes) le g = absurd g
   through_lower low low2 high (call ∷ calls) [] le g = absurd g
-  through_lower low low2 high (call ∷ calls) (w ∷ went) le g = let x = g.1 in (g.0, omega arith, g.2, g.3)
+  through_lower low low2 high (call ∷ calls) (w ∷ outcomes) le g = let x = g.1 in (g.0, omega arith, g.2, g.3)
 
-  through_then : (low mid high : ℕ) (calls more : List EventCall) (went later : List Went) → GoThrough reporter h low mid calls went → GoThrough reporter h mid high more later
-      → GoThrough reporter h low high (calls ++ more) (went ++ later)
+  through_then : (low mid high : ℕ) (calls more : List EventCall) (outcomes later : List Outcome) → GoThrough reporter h low mid calls outcomes → GoThrough reporter h mid high more later
+      → GoThrough reporter h low high (calls ++ more) (outcomes ++ later)
   unfolding GoThrough
   through_then low mid high [] more [] later g k = through_lower low mid high more later g k
-  through_then low mid high [] more (w ∷ went) later g k = absurd g
+  through_then low mid high [] more (w ∷ outcomes) later g k = absurd g
   through_then low mid high (call ∷ calls) more [] later g k = absurd g
-  through_then low mid high (call ∷ calls) more (w ∷ went) later g k = (g.0, g.1, g.2, through_then (past_point g.0 w) mid high calls more went later g.3 k)
+  through_then low mid high (call ∷ calls) more (w ∷ outcomes) later g k = (g.0, g.1, g.2, through_then (past_point g.0 w) mid high calls more outcomes later g.3 k)
 
-  through_count : (low high : ℕ) (calls : List EventCall) (went : List Went) → GoThrough reporter h low high calls went → length went ≡ length calls
+  through_count : (low high : ℕ) (calls : List EventCall) (outcomes : List Outcome) → GoThrough reporter h low high calls outcomes → length outcomes ≡ length calls
   unfolding GoThrough
   through_count low high [] [] g = refl
-  through_count low high [] (w ∷ went) g = absurd g
+  through_count low high [] (w ∷ outcomes) g = absurd g
   through_count low high (call ∷ calls) [] g = absurd g
-  through_count low high (call ∷ calls) (w ∷ went) g = let n = through_count (past_point g.0 w) high calls went g.3 in omega arith
+  through_count low high (call ∷ calls) (w ∷ outcomes) g = let n = through_count (past_point g.0 w) high calls outcomes g.3 in omega arith
 
-entered_then : (reporter : ℕ) (calls more : List EventCall) (went later : List Went) → length went ≡ length calls
-    → entered_in reporter (calls ++ more) (went ++ later) ≡ entered_in reporter calls went ++ entered_in reporter more later
+entered_then : (reporter : ℕ) (calls more : List EventCall) (outcomes later : List Outcome) → length outcomes ≡ length calls
+    → entered_in reporter (calls ++ more) (outcomes ++ later) ≡ entered_in reporter calls outcomes ++ entered_in reporter more later
 unfolding entered_in
 entered_then reporter [] more [] later same = refl
-entered_then reporter [] more (w ∷ went) later same = absurd (omega arith)
+entered_then reporter [] more (w ∷ outcomes) later same = absurd (omega arith)
 entered_then reporter (call ∷ calls) more [] later same = absurd (omega arith)
-entered_then reporter (call ∷ calls) more (w ∷ went) later same =
-    ap (λ (l : List Entry). entered_by reporter call w ++ l) (entered_then reporter calls more went later (omega arith))
-    ∙ sym (append_assoc (entered_by reporter call w) (entered_in reporter calls went) (entered_in reporter more later))
+entered_then reporter (call ∷ calls) more (w ∷ outcomes) later same =
+    ap (λ (l : List Entry). entered_by reporter call w ++ l) (entered_then reporter calls more outcomes later (omega arith))
+    ∙ sym (append_assoc (entered_by reporter call w) (entered_in reporter calls outcomes) (entered_in reporter more later))
 
-pub rows_count : (k m : PassView) (calls : List EventCall) (went : List Went) → HasReportedRows k m calls went → length went ≡ length calls
-rows_count k m calls went r = through_count k.number m.seen (length k.seen) (length m.seen) calls went r.through
+pub rows_count : (k m : PassView) (calls : List EventCall) (outcomes : List Outcome) → HasReportedRows k m calls outcomes → length outcomes ≡ length calls
+rows_count k m calls outcomes r = through_count k.number m.seen (length k.seen) (length m.seen) calls outcomes r.through
 
 -- what a pass did, and then did more
-pub rows_then : (k m z : PassView) (calls more : List EventCall) (went later : List Went) → HasReportedRows k m calls went → HasReportedRows m z more later
-    → HasReportedRows k z (calls ++ more) (went ++ later)
-rows_then k m z calls more went later a b =
+pub rows_then : (k m z : PassView) (calls more : List EventCall) (outcomes later : List Outcome) → HasReportedRows k m calls outcomes → HasReportedRows m z more later
+    → HasReportedRows k z (calls ++ more) (outcomes ++ later)
+rows_then k m z calls more outcomes later a b =
     let same : m.number ≡ k.number = a.always.number in
     record {
       always = goes_on k m z a.always b.always;
-      through = through_then k.number z.seen (length k.seen) (length m.seen) (length z.seen) calls more went later
-          (through_on k.number m.seen z.seen b.always.on.seen (length k.seen) (length m.seen) calls went a.through)
+      through = through_then k.number z.seen (length k.seen) (length m.seen) (length z.seen) calls more outcomes later
+          (through_on k.number m.seen z.seen b.always.on.seen (length k.seen) (length m.seen) calls outcomes a.through)
           (subst (λ (n : ℕ). GoThrough n z.seen (length m.seen) (length z.seen) more later) same b.through);
       mine = b.mine ∙ ap (λ (l : List Entry). l ++ entered_in m.number more later) a.mine
-          ∙ ap (λ (n : ℕ). (k.mine ++ entered_in k.number calls went) ++ entered_in n more later) same
-          ∙ append_assoc k.mine (entered_in k.number calls went) (entered_in k.number more later)
-          ∙ ap (λ (l : List Entry). k.mine ++ l) (sym (entered_then k.number calls more went later (rows_count k m calls went a)));
+          ∙ ap (λ (n : ℕ). (k.mine ++ entered_in k.number calls outcomes) ++ entered_in n more later) same
+          ∙ append_assoc k.mine (entered_in k.number calls outcomes) (entered_in k.number more later)
+          ∙ ap (λ (l : List Entry). k.mine ++ l) (sym (entered_then k.number calls more outcomes later (rows_count k m calls outcomes a)));
     }
 
 -- ---- rings
 
-entered_count : (reporter : ℕ) (calls : List EventCall) (went : List Went) → length went ≡ length calls → length (entered_in reporter calls went) ≡ accepted_in went
+entered_count : (reporter : ℕ) (calls : List EventCall) (outcomes : List Outcome) → length outcomes ≡ length calls → length (entered_in reporter calls outcomes) ≡ accepted_in outcomes
 unfolding entered_in accepted_in
 entered_count reporter [] [] same = refl
-entered_count reporter [] (w ∷ went) same = absurd (omega arith)
+entered_count reporter [] (w ∷ outcomes) same = absurd (omega arith)
 entered_count reporter (call ∷ calls) [] same = absurd (omega arith)
-entered_count reporter (call ∷ calls) (Entered number version ∷ went) same = let rest = entered_count reporter calls went (omega arith) in omega arith
-entered_count reporter (call ∷ calls) (Refused refusal ∷ went) same = let rest = entered_count reporter calls went (omega arith) in omega arith
+entered_count reporter (call ∷ calls) (Entered number version ∷ outcomes) same = let rest = entered_count reporter calls outcomes (omega arith) in omega arith
+entered_count reporter (call ∷ calls) (Refused refusal ∷ outcomes) same = let rest = entered_count reporter calls outcomes (omega arith) in omega arith
 
-pub rang_for : (k m : PassView) (calls : List EventCall) (went : List Went) (rung rung2 : ℕ → Type 0) → HasReportedRows k m calls went → RangFor k m rung rung2
-    → ReportsMore rung (accepted_in went) rung2
-rang_for k m calls went rung rung2 p r n h =
-    let all = ap (length {A = Entry}) p.mine ∙ length-append k.mine (entered_in k.number calls went) in
-    let count = entered_count k.number calls went (rows_count k m calls went p) in subst rung2 (omega arith) (r.rang n h)
+pub rang_for : (k m : PassView) (calls : List EventCall) (outcomes : List Outcome) (rung rung2 : ℕ → Type 0) → HasReportedRows k m calls outcomes → RangFor k m rung rung2
+    → ReportsMore rung (accepted_in outcomes) rung2
+rang_for k m calls outcomes rung rung2 p r n h =
+    let all = ap (length {A = Entry}) p.mine ∙ length-append k.mine (entered_in k.number calls outcomes) in
+    let count = entered_count k.number calls outcomes (rows_count k m calls outcomes p) in subst rung2 (omega arith) (r.rang n h)
 
 pub rang_none : (k : PassView) (rung : ℕ → Type 0) → RangFor k k rung rung
 rang_none k rung = record { grows = le_refl (length k.mine); rang = λ n h. subst rung (omega arith) h }

@@ -1,4 +1,4 @@
-pub mod Commas
+pub mod RowFields
 pub mod Events
 pub mod LineAnswers
 pub mod Lines

@@ -18,17 +18,17 @@ use Rattle.ucl_runs.specs.Run.{SinkFails, fault_of, is_read_failed}
 use Rattle.ucl_runs.proofs.Driven.{IfMachine, IsOwn, reads, sinks}
 use Rattle.ucl_io.specs.Lines.{begun_line, ended_lines}
 use Rattle.ucl_answers.specs.Lines.{last_lines, lines_of}
-use Rattle.ucl_evenings.specs.declared.went.Went.{Went}
-use Rattle.ucl_evenings.specs.Answering.{calls_typed, typed_answers}
+use Rattle.ucl_evenings.specs.declared.outcome.Outcome.{Outcome}
+use Rattle.ucl_evenings.specs.Answering.{calls_in, answers_in}
 use Rattle.ucl_evenings.specs.Reporting.{RangFor, accepted_in}
 use Rattle.ucl_evenings.specs.Rows.{IsAnsweredUpTo, RunEnds, StopsInLast, TookRows, TurnsBy, TurnsLines}
 use Rattle.ucl_evenings.proofs.Events.{rang_for}
 use Rattle.ucl_evenings.proofs.LineAnswers.{answers_none, answers_then}
 use Rattle.ucl_evenings.proofs.Lines.{by_none, by_then, lines_count}
 
-behind : (a b c : List Went) → IsPrefix b c → IsPrefix (a ++ b) (a ++ c)
+behind : (a b c : List Outcome) → IsPrefix b c → IsPrefix (a ++ b) (a ++ c)
 behind [] b c p = p
-behind (w ∷ a) b c p = let q = behind a b c p in (q.0, ap (λ (x : List Went). w ∷ x) q.1)
+behind (w ∷ a) b c p = let q = behind a b c p in (q.0, ap (λ (x : List Outcome). w ∷ x) q.1)
 
 -- what a machine whose pass reports events does with lines
 module _ (M K : Type 0) (board : M → K) (view : M → PassView) (reports rung : M → ℕ → Type 0) (A Z : M → ℕ → List ℕ → M → List ℕ → Type 0) (S E : M → ℕ → List ℕ → RunFault → Type 0)
@@ -38,16 +38,16 @@ module _ (M K : Type 0) (board : M → K) (view : M → PassView) (reports rung 
     (closes : (m : M) (row : ℕ) (begun : List ℕ) (n : M) (text : List ℕ) → Z m row begun n text
     → TurnsLines (view m) (view n) (reports m) (reports n) (rung m) (rung n) row (last_lines begun) text)
     (never : (m : M) (row : ℕ) (line : List ℕ) (f : RunFault) → S m row line f → ⊥) (never_last : (m : M) (row : ℕ) (line : List ℕ) (f : RunFault) → E m row line f → ⊥) where
-  unfoldable went_of : (row : ℕ) (m : M) (turns : List (Turn M)) → AreTurns A row m turns → List Went
+  unfoldable outcomes_of : (row : ℕ) (m : M) (turns : List (Turn M)) → AreTurns A row m turns → List Outcome
   unfolding AreTurns
-  went_of row m [] p = []
-  went_of row m (t ∷ turns) p = (gives m row t.line t.after t.text p.0).0 ++ went_of (row + 1) t.after turns p.1
+  outcomes_of row m [] p = []
+  outcomes_of row m (t ∷ turns) p = (gives m row t.line t.after t.text p.0).0 ++ outcomes_of (row + 1) t.after turns p.1
 
-  abbrev By : M → M → ℕ → List (List ℕ) → List ℕ → List Went → Type 0
-  By m n row lines text went = TurnsBy (view m) (view n) (reports m) (reports n) (rung m) (rung n) row lines text went
+  abbrev By : M → M → ℕ → List (List ℕ) → List ℕ → List Outcome → Type 0
+  By m n row lines text outcomes = TurnsBy (view m) (view n) (reports m) (reports n) (rung m) (rung n) row lines text outcomes
 
-  turned : (row : ℕ) (m : M) (turns : List (Turn M)) (p : AreTurns A row m turns) → IsSound (view m) → By m (state_after m turns) row (lines_in turns) (text_in turns) (went_of row m turns p)
-  unfolding AreTurns went_of lines_in text_in state_after
+  turned : (row : ℕ) (m : M) (turns : List (Turn M)) (p : AreTurns A row m turns) → IsSound (view m) → By m (state_after m turns) row (lines_in turns) (text_in turns) (outcomes_of row m turns p)
+  unfolding AreTurns outcomes_of lines_in text_in state_after
   turned row m [] p sound = by_none (view m) (reports m) (rung m) row sound
   turned row m (t ∷ turns) p sound =
       let x = gives m row t.line t.after t.text p.0 in
@@ -60,15 +60,15 @@ module _ (M K : Type 0) (board : M → K) (view : M → PassView) (reports rung 
   same_board row m [] p = refl
   same_board row m (t ∷ turns) p = same_board (row + 1) t.after turns p.1 ∙ stays m row t.line t.after t.text p.0
 
-  front : (row : ℕ) (m : M) (first rest : List (Turn M)) (p : AreTurns A row m (first ++ rest)) → (q : AreTurns A row m first) × IsPrefix (went_of row m first q) (went_of row m (first ++ rest) p)
-  unfolding AreTurns went_of
+  front : (row : ℕ) (m : M) (first rest : List (Turn M)) (p : AreTurns A row m (first ++ rest)) → (q : AreTurns A row m first) × IsPrefix (outcomes_of row m first q) (outcomes_of row m (first ++ rest) p)
+  unfolding AreTurns outcomes_of
   front row m [] rest p = (tt, (_, refl))
   front row m (t ∷ first) rest p = let x = front (row + 1) t.after first rest p.1 in ((p.0, x.0), behind _ _ _ x.1)
 
   front_of : (row : ℕ) (m : M) (turns first rest : List (Turn M)) → turns ≡ first ++ rest → (p : AreTurns A row m turns)
-      → (q : AreTurns A row m first) × IsPrefix (went_of row m first q) (went_of row m turns p)
+      → (q : AreTurns A row m first) × IsPrefix (outcomes_of row m first q) (outcomes_of row m turns p)
   front_of row m turns first rest e =
-      subst (λ (l : List (Turn M)). (p : AreTurns A row m l) → (q : AreTurns A row m first) × IsPrefix (went_of row m first q) (went_of row m l p)) (sym e) (front row m first rest)
+      subst (λ (l : List (Turn M)). (p : AreTurns A row m l) → (q : AreTurns A row m first) × IsPrefix (outcomes_of row m first q) (outcomes_of row m l p)) (sym e) (front row m first rest)
 
   lines_last : (before : List (Turn M)) (last : Turn M) → lines_in (before ++ last ∷ []) ≡ lines_in before ++ last.line ∷ []
   unfolding lines_in
@@ -77,65 +77,65 @@ module _ (M K : Type 0) (board : M → K) (view : M → PassView) (reports rung 
 
   module _ (old new : Seen M) (sound : IsSound (view old.machine)) where
     -- the answers to some first lines do not depend on how later events went
-    first_text : (turns first rest : List (Turn M)) → turns ≡ first ++ rest → (p : AreTurns A 1 old.machine turns) (more : List Went)
-        → typed_answers 1 (lines_in first) (went_of 1 old.machine turns p ++ more) ≡ text_in first
+    first_text : (turns first rest : List (Turn M)) → turns ≡ first ++ rest → (p : AreTurns A 1 old.machine turns) (more : List Outcome)
+        → answers_in 1 (lines_in first) (outcomes_of 1 old.machine turns p ++ more) ≡ text_in first
     first_text turns first rest e p more =
         let x = front_of 1 old.machine turns first rest e p in
-        let went = went_of 1 old.machine first x.0 in
+        let outcomes = outcomes_of 1 old.machine first x.0 in
         let by = turned 1 old.machine first x.0 sound in
         let z = state_after old.machine first in
-        ap (λ (l : List Went). typed_answers 1 (lines_in first) (l ++ more)) (sym x.1.1) ∙ ap (typed_answers 1 (lines_in first)) (append_assoc went x.1.0 more)
-        ∙ ap (λ (l : List (List ℕ)). typed_answers 1 l (went ++ (x.1.0 ++ more))) (sym (append-nil (lines_in first)))
-        ∙ answers_then 1 (lines_in first) [] went (x.1.0 ++ more) (lines_count (view old.machine) (view z) (reports old.machine) (reports z) (lines_in first) went by.reported)
+        ap (λ (l : List Outcome). answers_in 1 (lines_in first) (l ++ more)) (sym x.1.1) ∙ ap (answers_in 1 (lines_in first)) (append_assoc outcomes x.1.0 more)
+        ∙ ap (λ (l : List (List ℕ)). answers_in 1 l (outcomes ++ (x.1.0 ++ more))) (sym (append-nil (lines_in first)))
+        ∙ answers_then 1 (lines_in first) [] outcomes (x.1.0 ++ more) (lines_count (view old.machine) (view z) (reports old.machine) (reports z) 1 (lines_in first) outcomes by.reported)
         ∙ ap₂ (λ (a b : List ℕ). a ++ b) (sym by.text_is) (answers_none (1 + length (lines_in first)) (x.1.0 ++ more)) ∙ append-nil (text_in first)
 
     -- at one time
-    prompt : (now : Seen M) (turns : List (Turn M)) (p : AreTurns A 1 old.machine turns) (later : List Went) → IsPromptAt 258 old now turns
-        → IsAnsweredUpTo (went_of 1 old.machine turns p ++ later) old.left now.left old.taken now.taken (rung old.machine) (rung now.machine)
+    prompt : (now : Seen M) (turns : List (Turn M)) (p : AreTurns A 1 old.machine turns) (later : List Outcome) → IsPromptAt 258 old now turns
+        → IsAnsweredUpTo (outcomes_of 1 old.machine turns p ++ later) old.left now.left old.taken now.taken (rung old.machine) (rung now.machine)
     prompt now turns p later u =
         let x = front_of 1 old.machine turns u.first u.later u.among p in
-        let went = went_of 1 old.machine u.first x.0 in
-        let by = subst (λ (l : List (List ℕ)). By old.machine (state_after old.machine u.first) 1 l (text_in u.first) went) u.lines (turned 1 old.machine u.first x.0 sound) in
+        let outcomes = outcomes_of 1 old.machine u.first x.0 in
+        let by = subst (λ (l : List (List ℕ)). By old.machine (state_after old.machine u.first) 1 l (text_in u.first) outcomes) u.lines (turned 1 old.machine u.first x.0 sound) in
         let z = state_after old.machine u.first in
         record {
           bytes = u.bytes;
-          first = went;
-          among = begins_longer went (went_of 1 old.machine turns p) later x.1;
-          each = lines_count (view old.machine) (view z) (reports old.machine) (reports z) (ended_lines 258 [] u.bytes) went by.reported;
+          first = outcomes;
+          among = begins_longer outcomes (outcomes_of 1 old.machine turns p) later x.1;
+          each = lines_count (view old.machine) (view z) (reports old.machine) (reports z) 1 (ended_lines 258 [] u.bytes) outcomes by.reported;
           consumed = u.consumed;
           answered = subst (Appends old.taken now.taken) by.text_is u.out;
-          rang = subst (λ (k : M). (n : ℕ) → rung old.machine n → rung k (n + accepted_in went)) (sym u.machine)
-              (rang_for (view old.machine) (view z) (calls_typed (ended_lines 258 [] u.bytes)) went (rung old.machine) (rung z) by.reported.rows by.rang);
+          rang = subst (λ (k : M). (n : ℕ) → rung old.machine n → rung k (n + accepted_in outcomes)) (sym u.machine)
+              (rang_for (view old.machine) (view z) (calls_in 1 (ended_lines 258 [] u.bytes)) outcomes (rung old.machine) (rung z) by.reported.rows by.rang);
         }
 
     all_turns : (turns : List (Turn M)) (p : AreTurns A 1 old.machine turns) → new.machine ≡ state_after old.machine turns
-        → By old.machine new.machine 1 (lines_in turns) (text_in turns) (went_of 1 old.machine turns p ++ [])
+        → By old.machine new.machine 1 (lines_in turns) (text_in turns) (outcomes_of 1 old.machine turns p ++ [])
     all_turns turns p is =
-        subst (By old.machine new.machine 1 (lines_in turns) (text_in turns)) (sym (append-nil (went_of 1 old.machine turns p)))
-        (subst (λ (k : M). By old.machine k 1 (lines_in turns) (text_in turns) (went_of 1 old.machine turns p)) (sym is) (turned 1 old.machine turns p sound))
+        subst (By old.machine new.machine 1 (lines_in turns) (text_in turns)) (sym (append-nil (outcomes_of 1 old.machine turns p)))
+        (subst (λ (k : M). By old.machine k 1 (lines_in turns) (text_in turns) (outcomes_of 1 old.machine turns p)) (sym is) (turned 1 old.machine turns p sound))
 
     with_last : (turns : List (Turn M)) (p : AreTurns A 1 old.machine turns) (begun text : List ℕ) (x : Z (state_after old.machine turns) (1 + length turns) begun new.machine text)
         → By old.machine new.machine 1 (lines_in turns ++ last_lines begun) (text_in turns ++ text)
-        (went_of 1 old.machine turns p ++ (closes (state_after old.machine turns) (1 + length turns) begun new.machine text x).0)
+        (outcomes_of 1 old.machine turns p ++ (closes (state_after old.machine turns) (1 + length turns) begun new.machine text x).0)
     with_last turns p begun text x =
         let z = state_after old.machine turns in
         let last = closes z (1 + length turns) begun new.machine text x in
         by_then (view old.machine) (view z) (view new.machine) (reports old.machine) (reports z) (reports new.machine) (rung old.machine) (rung z) (rung new.machine) 1 (1 + length turns)
-        (lines_in turns) (last_lines begun) (text_in turns) text (went_of 1 old.machine turns p) last.0 (ap (λ (n : ℕ). 1 + n) (sym (turns_count M turns)))
+        (lines_in turns) (last_lines begun) (text_in turns) text (outcomes_of 1 old.machine turns p) last.0 (ap (λ (n : ℕ). 1 + n) (sym (turns_count M turns)))
         (turned 1 old.machine turns p sound) last.1
 
     -- ---- how a run ends that has taken these bytes
 
     module _ (failed : Bool) where
-      abbrev Stops : List (List ℕ) → List Went → ℕ → Type 0
-      Stops lines went n = StopsInLast 1 lines went 0 failed old.taken new.taken n
+      abbrev Stops : List (List ℕ) → List Outcome → ℕ → Type 0
+      Stops lines outcomes n = StopsInLast 1 lines outcomes 0 failed old.taken new.taken n
 
       cut : (text text2 : List ℕ) (n count : ℕ) → text ≡ text2 → StoppedAt 0 failed old.taken new.taken text n count → StoppedAt 0 failed old.taken new.taken text2 n count
       cut text text2 n count e s = subst (λ (l : List ℕ). StoppedAt 0 failed old.taken new.taken l n count) e s
 
       -- in the answer to the last of the lines
       turns_stop : (turns : List (Turn M)) (p : AreTurns A 1 old.machine turns) (is : new.machine ≡ state_after old.machine turns) (n count : ℕ) → KeptBack 0 [] turns count
-          → StoppedAt 0 failed old.taken new.taken (text_in turns) n count → Stops (lines_in turns) (went_of 1 old.machine turns p ++ []) n
+          → StoppedAt 0 failed old.taken new.taken (text_in turns) n count → Stops (lines_in turns) (outcomes_of 1 old.machine turns p ++ []) n
       turns_stop turns p is n count kept s =
           let all = all_turns turns p is in
           let there = cut (text_in turns) _ n count all.text_is s in
@@ -151,7 +151,7 @@ module _ (M K : Type 0) (board : M → K) (view : M → PassView) (reports rung 
       -- in the answer to a last one without an end
       last_stops : (turns : List (Turn M)) (p : AreTurns A 1 old.machine turns) (begun last : List ℕ) (x : Z (state_after old.machine turns) (1 + length turns) begun new.machine last) (n count : ℕ)
           → length (text_in turns) ≤ count → StoppedAt 0 failed old.taken new.taken (text_in turns ++ last) n count
-          → Stops (lines_in turns ++ last_lines begun) (went_of 1 old.machine turns p ++ (closes (state_after old.machine turns) (1 + length turns) begun new.machine last x).0) n
+          → Stops (lines_in turns ++ last_lines begun) (outcomes_of 1 old.machine turns p ++ (closes (state_after old.machine turns) (1 + length turns) begun new.machine last x).0) n
       last_stops turns p [] last x n count out s =
           let by = (closes (state_after old.machine turns) (1 + length turns) [] new.machine last x).1 in
           let none = ap (λ (l : List ℕ). length l) (by.text_is ∙ answers_none (1 + length turns) _) in
@@ -173,8 +173,8 @@ module _ (M K : Type 0) (board : M → K) (view : M → PassView) (reports rung 
         abbrev Before : List (Turn M) → Type 0
         Before turns = LogsCalls count times times2 calls calls2 (λ t. IsPromptAt 258 old (at t) turns)
 
-        abbrev Then : List Went → Type 0
-        Then went = LogsCalls count times times2 calls calls2 (λ t. IsAnsweredUpTo went old.left (at t).left old.taken (at t).taken (rung old.machine) (rung (at t).machine))
+        abbrev Then : List Outcome → Type 0
+        Then outcomes = LogsCalls count times times2 calls calls2 (λ t. IsAnsweredUpTo outcomes old.left (at t).left old.taken (at t).taken (rung old.machine) (rung (at t).machine))
 
         abbrev D : LineRules M RunFault
         D = rules_of A S Z E
@@ -182,7 +182,7 @@ module _ (M K : Type 0) (board : M → K) (view : M → PassView) (reports rung 
         abbrev Run : Result ℕ (PumpFault RunFault) → Type 0
         Run result = Pumped D 258 0 old new failed result Before
 
-        always : (turns : List (Turn M)) (p : AreTurns A 1 old.machine turns) (later : List Went) → Before turns → Then (went_of 1 old.machine turns p ++ later)
+        always : (turns : List (Turn M)) (p : AreTurns A 1 old.machine turns) (later : List Outcome) → Before turns → Then (outcomes_of 1 old.machine turns p ++ later)
         always turns p later logged = logs-as count times times2 calls calls2 _ _ (λ t u. prompt (at t) turns p later u) logged
 
         no_fault : (f : RunFault) (bytes : List ℕ) (turns : List (Turn M)) (rest : List (List ℕ)) → (StopsNext S 1 old.machine turns rest f ⊎ StopsLast D 258 old new bytes turns rest f) → ⊥
@@ -209,12 +209,12 @@ module _ (M K : Type 0) (board : M → K) (view : M → PassView) (reports rung 
 
             -- between two lines
             came_turns : (result : Result ⊤ RunFault) → new.machine ≡ state_after old.machine turns
-                → RunEnds before after result bytes (lines_in turns) (went_of 1 old.machine turns p.turned ++ []) → Came result
+                → RunEnds before after result bytes (lines_in turns) (outcomes_of 1 old.machine turns p.turned ++ []) → Came result
             came_turns result is how = let all = all_turns turns p.turned is in record {
               took = record {
                 bytes = bytes;
                 lines = lines_in turns;
-                went = went_of 1 old.machine turns p.turned ++ [];
+                outcomes = outcomes_of 1 old.machine turns p.turned ++ [];
                 consumed = consumed;
                 reported = all.reported;
                 prompt = always turns p.turned [] logged;
@@ -227,12 +227,12 @@ module _ (M K : Type 0) (board : M → K) (view : M → PassView) (reports rung 
             -- at the end
             came_last : (result : Result ⊤ RunFault) (last : List ℕ) (e : HasClosed D 258 old new bytes turns rest last)
                 → RunEnds before after result bytes (lines_in turns ++ last_lines (begun_line 258 [] bytes))
-                (went_of 1 old.machine turns p.turned ++ (closes (state_after old.machine turns) (1 + length turns) (begun_line 258 [] bytes) new.machine last e.last).0) → Came result
+                (outcomes_of 1 old.machine turns p.turned ++ (closes (state_after old.machine turns) (1 + length turns) (begun_line 258 [] bytes) new.machine last e.last).0) → Came result
             came_last result last e how = let all = with_last turns p.turned (begun_line 258 [] bytes) last e.last in record {
               took = record {
                 bytes = bytes;
                 lines = lines_in turns ++ last_lines (begun_line 258 [] bytes);
-                went = _;
+                outcomes = _;
                 consumed = consumed;
                 reported = all.reported;
                 prompt = always turns p.turned _ logged;

@@ -1,4 +1,4 @@
-pub mod Typing
+pub mod Inputs
 pub mod Answering
 pub mod Reporting
 pub mod Rows

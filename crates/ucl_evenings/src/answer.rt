@@ -1,17 +1,17 @@
 //! The line that answers an event.
 
 ghost use Rattle.std.specs.Prelude.{◌≡◌};
-ghost use Rattle.ucl_evenings.specs.Answering.{went_line};
+ghost use Rattle.ucl_evenings.specs.Answering.{outcome_line};
 
-use crate::went::Went;
+use crate::outcome::Outcome;
 use ucl_answers::{ReplyLine, accepted_line, refused_line};
 
 /// The line of how an event of a match went.
-pub(crate) fn went_line(row: u64, game: u8, went: Went) -> ReplyLine
-    ensures { result.bytes ≡ went_line row game went }
+pub(crate) fn outcome_line(row: u64, game: u8, outcome: Outcome) -> ReplyLine
+    ensures { result.bytes ≡ outcome_line row game outcome }
 {
-    match went {
-        Went::Entered { number, version } => accepted_line(row, game, number, version),
-        Went::Refused(refusal) => refused_line(row, refusal),
+    match outcome {
+        Outcome::Entered { number, version } => accepted_line(row, game, number, version),
+        Outcome::Refused(refusal) => refused_line(row, refusal),
     }
 }

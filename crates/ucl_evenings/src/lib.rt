@@ -3,17 +3,17 @@
 #![tactic(auto)]
 
 mod answer;
+mod input;
+mod outcome;
 mod reporter;
 mod ring;
 mod screen;
 mod show;
 mod take;
-mod typed;
-mod went;
 
-pub use reporter::{Reporter, Said};
+pub use outcome::Outcome;
+pub use reporter::{Reply, Reporter};
 pub use ring::Ring;
 pub use screen::Screen;
 pub use show::{Bell, show_boards, show_noted};
 pub use take::take_rows;
-pub use went::Went;

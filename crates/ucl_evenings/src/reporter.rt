@@ -3,40 +3,40 @@
 ghost use Rattle.std.specs.Prelude.{◌≡◌, ◌∷◌, []};
 ghost use Rattle.ucl_shared.specs.Passes.{IsSound};
 ghost use Rattle.ucl_answers.specs.Lines.{last_lines};
-ghost use Rattle.ucl_evenings.specs.Rows.{TurnsLines, said_bytes};
+ghost use Rattle.ucl_evenings.specs.Rows.{TurnsLines, reply_bytes};
 
-use crate::answer::went_line;
+use crate::answer::outcome_line;
+use crate::input::{Input, input_on};
+use crate::outcome::Outcome;
 use crate::ring::Ring;
-use crate::typed::{Typed, typed_on};
-use crate::went::Went;
 use std::sync::Wait;
-use ucl_answers::{ReplyLine, bad_line};
+use ucl_answers::{LineReader, ReplyLine, bad_line};
 use ucl_io::{LineMachine, Text};
 use ucl_runs::RunFault;
 use ucl_shared::LiveBoard;
 
 /// What a reporter's line is answered.
 #[derive(Drop)]
-pub enum Said {
+pub enum Reply {
     /// Nothing: the line is empty.
     Nothing,
     /// A line.
     Line(ReplyLine),
 }
 
-impl Text for Said {
-    ghost bytes = { said_bytes };
+impl Text for Reply {
+    ghost bytes = { reply_bytes };
 
-    ghost front = { said_bytes };
+    ghost front = { reply_bytes };
 
-    fn new() -> Said {
-        Said::Nothing
+    fn new() -> Reply {
+        Reply::Nothing
     }
 
     fn front(&self) -> &[u8] {
         match self {
-            Said::Nothing => b"".as_slice(),
-            Said::Line(line) => line.as_str().as_bytes(),
+            Reply::Nothing => b"".as_slice(),
+            Reply::Line(line) => line.as_str().as_bytes(),
         }
     }
 
@@ -55,10 +55,12 @@ pub struct Reporter<'a, B: LiveBoard, V: Ring, R: Wait> {
     pub pass: B::ReporterPass,
     /// What is rung.
     pub bells: V,
+    /// What its lines are read by.
+    pub lines: LineReader,
 }
 
 impl<'a, B: LiveBoard, V: Ring, R: Wait> LineMachine for Reporter<'a, B, V, R> {
-    type Answer = Said;
+    type Answer = Reply;
 
     type Fault = RunFault;
 
@@ -80,39 +82,39 @@ impl<'a, B: LiveBoard, V: Ring, R: Wait> LineMachine for Reporter<'a, B, V, R> {
 
     ghost stops_at_end = { λ _ _ _ _. ⊥ };
 
-    fn answer(&mut self, row: u64, line: &[u8], text: &mut Said) -> Result<(), RunFault> {
-        match typed_on(line) {
-            Typed::Nothing => {
-                *text = Said::Nothing;
+    fn answer(&mut self, row: u64, line: &[u8], text: &mut Reply) -> Result<(), RunFault> {
+        match input_on(&mut self.lines, row, line) {
+            Input::Nothing => {
+                *text = Reply::Nothing;
                 Ok(())
             }
-            Typed::Bad => {
-                *text = Said::Line(bad_line(row));
+            Input::Bad(_) => {
+                *text = Reply::Line(bad_line(row));
                 Ok(())
             }
-            Typed::Event(call) => match self.board.report(self.rt, &mut self.pass, &call) {
+            Input::Event(call) => match self.board.report(self.rt, &mut self.pass, &call) {
                 Ok(accepted) => {
                     self.bells.ring();
                     let reading = self.board.read_own(self.rt, &mut self.pass);
-                    let went = Went::Entered {
+                    let outcome = Outcome::Entered {
                         number: accepted.number,
                         version: reading.version,
                     };
-                    *text = Said::Line(went_line(row, call.game.get(), went));
+                    *text = Reply::Line(outcome_line(row, call.game.get(), outcome));
                     Ok(())
                 }
                 Err(refusal) => {
-                    let went = Went::Refused(refusal);
-                    *text = Said::Line(went_line(row, call.game.get(), went));
+                    let outcome = Outcome::Refused(refusal);
+                    *text = Reply::Line(outcome_line(row, call.game.get(), outcome));
                     Ok(())
                 }
             },
         }
     }
 
-    fn end(&mut self, row: u64, begun: &[u8], text: &mut Said) -> Result<(), RunFault> {
+    fn end(&mut self, row: u64, begun: &[u8], text: &mut Reply) -> Result<(), RunFault> {
         if begun.is_empty() {
-            *text = Said::Nothing;
+            *text = Reply::Nothing;
             return Ok(());
         }
         self.answer(row, begun, text)

@@ -48,10 +48,10 @@ pub fn take_rows<'a, B: LiveBoard, S: Source, W: Sink, V: Ring, R: Wait>(
         (device S.left S.failed W.taken W.failed duplex.old)
         (device S.left S.failed W.taken W.failed duplex.new)
         result
-        (λ went. LogsCalls (λ time. S.calls time.0)
+        (λ outcomes. LogsCalls (λ time. S.calls time.0)
         duplex.old.log.times duplex.new.log.times
         (S.calls duplex.old.source) (S.calls duplex.new.source)
-        (λ time. IsAnsweredUpTo went (S.left duplex.old.source) (S.left time.0)
+        (λ time. IsAnsweredUpTo outcomes (S.left duplex.old.source) (S.left time.0)
         (W.taken duplex.old.sink) (W.taken time.1)
         (V.rung reporter.old.bells) (V.rung time.2.bells))) }
 

@@ -18,9 +18,9 @@ use Rattle.ucl_shared.specs.Passes.{PassView, entries_by}
 use Rattle.ucl_runs.specs.declared.fault.RunFault.{RunFault}
 use Rattle.ucl_answers.specs.Lines.{lines_of}
 use Rattle.ucl_io.specs.Calls.{Device}
-use Rattle.ucl_evenings.specs.Answering.{calls_typed}
+use Rattle.ucl_evenings.specs.Answering.{calls_in}
 use Rattle.ucl_evenings.specs.Reporting.{entered_in}
-use Rattle.ucl_evenings.specs.declared.went.Went.{Went}
+use Rattle.ucl_evenings.specs.declared.outcome.Outcome.{Outcome}
 use Rattle.ucl_evenings.specs.Rows.{RunEnds}
 use Rattle.ucl_evenings_threads.specs.declared.evening.EveningEnd.{EveningEnd}
 use Rattle.ucl_evenings_threads.specs.declared.workers.Reporter.{Reporter}
@@ -100,9 +100,9 @@ all_last P (x ∷ xs) ys all = all_last P xs ys (All-tail P x (xs ++ ys) all)
 -- ---- reporters
 
 -- a run that ended well has taken all lines
-all_lines : (old new : Device) (r : Result ⊤ RunFault) (bytes : List ℕ) (lines : List (List ℕ)) (went : List Went) → RunEnds old new r bytes lines went → IfOk r (λ (done : ⊤). lines ≡ lines_of bytes)
-all_lines old new (Ok done) bytes lines went e = e.all
-all_lines old new (Err fault) bytes lines went e = tt
+all_lines : (old new : Device) (r : Result ⊤ RunFault) (bytes : List ℕ) (lines : List (List ℕ)) (outcomes : List Outcome) → RunEnds old new r bytes lines outcomes → IfOk r (λ (done : ⊤). lines ≡ lines_of bytes)
+all_lines old new (Ok done) bytes lines outcomes e = e.all
+all_lines old new (Err fault) bytes lines outcomes e = tt
 
 module _ {B R P N S W : Type 0} (live : boards.Ghosts B R P N) (board : B) (source : sources.Ghosts S) (replies : sinks.Ghosts W) (before h : List Entry) where
   abbrev Answered : Reporter S W → ReporterEnd P S W → Type 0
@@ -110,7 +110,7 @@ module _ {B R P N S W : Type 0} (live : boards.Ghosts B R P N) (board : B) (sour
 
   -- what a reporter entered
   abbrev entering : (reporter : Reporter S W) (end : ReporterEnd P S W) → Answered reporter end → Entering
-  entering reporter end a = record { number = (live.reporter end.pass).number; calls = calls_typed a.run.took.lines; went = a.run.took.went }
+  entering reporter end a = record { number = (live.reporter end.pass).number; calls = calls_in 1 a.run.took.lines; outcomes = a.run.took.outcomes }
 
   came : (reporter : Reporter S W) (end : ReporterEnd P S W) (a : Answered reporter end) → RanOn live source (reporter, end) (entering reporter end a)
   came reporter end a = record {
@@ -122,20 +122,20 @@ module _ {B R P N S W : Type 0} (live : boards.Ghosts B R P N) (board : B) (sour
     all = all_lines _ _ end.result a.run.took.bytes a.run.took.lines _ a.run.took.ends;
   }
 
-  went : (reporter : Reporter S W) (end : ReporterEnd P S W) (a : Answered reporter end) → Own h (live.reporter end.pass) → WentThrough before h (entering reporter end a)
-  went reporter end a own =
+  outcomes : (reporter : Reporter S W) (end : ReporterEnd P S W) (a : Answered reporter end) → Own h (live.reporter end.pass) → WentThrough before h (entering reporter end a)
+  outcomes reporter end a own =
       let rows = a.run.took.reported.rows in
-      let calls = calls_typed a.run.took.lines in
+      let calls = calls_in 1 a.run.took.lines in
       record {
         through = a.through;
-        own = own ∙ (rows.mine ∙ (ap (λ (l : List Entry). l ++ entered_in (live.reporter a.pass).number calls a.run.took.went) a.ready.nothing
-            ∙ ap (λ (n : ℕ). entered_in n calls a.run.took.went) (sym rows.always.number)));
+        own = own ∙ (rows.mine ∙ (ap (λ (l : List Entry). l ++ entered_in (live.reporter a.pass).number calls a.run.took.outcomes) a.ready.nothing
+            ∙ ap (λ (n : ℕ). entered_in n calls a.run.took.outcomes) (sym rows.always.number)));
       }
 
   record Drawn (reporters : List (Reporter S W)) (ends : List (ReporterEnd P S W)) (low : ℕ) : Type 0 where
     all : List Entering
     came : AllZip (RanOn live source) (zip reporters ends) all
-    went : All (WentThrough before h) all
+    outcomes : All (WentThrough before h) all
     above : All (Above low) all
     apart : AllPairs DifferInNumber all
     each : (n : ℕ) → IsOneOf (views_of live ends) n → Any (IsNumber n) all
@@ -148,7 +148,7 @@ module _ {B R P N S W : Type 0} (live : boards.Ghosts B R P N) (board : B) (sour
       record {
         all = e ∷ d.all;
         came = (came reporter end a, d.came);
-        went = All-cons (WentThrough before h) e d.all (went reporter end a own) d.went;
+        outcomes = All-cons (WentThrough before h) e d.all (outcomes reporter end a own) d.outcomes;
         above = All-cons (Above low) e d.all less (above_more low e.number d.all (omega arith) d.above);
         apart = pairs_cons e d.all (λ k x below same. (let more = d.above k x below in omega arith)) d.apart;
         each = λ n. ⊎_elim (λ (is : n ≡ e.number). any_first n e d.all (sym is)) (λ (is : IsOneOf (views_of live ends) n). any_later n e d.all (d.each n is));
@@ -160,7 +160,7 @@ module _ {B R P N S W : Type 0} (live : boards.Ghosts B R P N) (board : B) (sour
   draw low high [] [] zipped own rise = record {
     all = [];
     came = tt;
-    went = All-nil (WentThrough before h);
+    outcomes = All-nil (WentThrough before h);
     above = All-nil (Above low);
     apart = λ i j d less below. absurd (omega arith);
     each = λ n is. absurd is;
@@ -204,7 +204,7 @@ module _ {B R P N S W V : Type 0} (live : boards.Ghosts B R P N) (board : B) (so
       (All-get_or (λ (y : Entry). IsOneOf (early ++ late) y.reporter) history p x (at_below history p x at) held.theirs.no_other)))
 
   added : All (HadEntered before) early → AddedBy drawn.all before history
-  added had = record { begins = held.since; numbers = drawn.apart; went = drawn.went; no_other = by_these had }
+  added had = record { begins = held.since; numbers = drawn.apart; outcomes = drawn.outcomes; no_other = by_these had }
 
   pub is_decided : RowsDecide live source before entered reporters end
   is_decided had =

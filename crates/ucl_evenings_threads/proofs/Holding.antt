@@ -14,10 +14,10 @@ use Rattle.ucl_io.specs.declared.stream.Source as sources
 use Rattle.ucl_io.specs.declared.stream.Sink as sinks
 use Rattle.ucl_shared.specs.declared.live_board.LiveBoard as boards
 use Rattle.ucl_shared.specs.Passes.{PassView, Continues, SharedReading}
-use Rattle.ucl_evenings.specs.declared.went.Went.{Went}
-use Rattle.ucl_evenings.specs.declared.went.Went.TheVariants.{Entered, Refused}
-use Rattle.ucl_evenings.specs.Answering.{calls_typed}
-use Rattle.ucl_evenings.specs.Reporting.{GoThrough, HasReportedRows, WentAt, past_point}
+use Rattle.ucl_evenings.specs.declared.outcome.Outcome.{Outcome}
+use Rattle.ucl_evenings.specs.declared.outcome.Outcome.TheVariants.{Entered, Refused}
+use Rattle.ucl_evenings.specs.Answering.{calls_in}
+use Rattle.ucl_evenings.specs.Reporting.{GoThrough, HasReportedRows, IsOutcomeAt, past_point}
 use Rattle.ucl_evenings.specs.Showing.{RiseWithin, screens_shown}
 use Rattle.ucl_evenings_threads.specs.declared.tally.Tally.{Tally}
 use Rattle.ucl_evenings_threads.specs.declared.workers.Reporter.{Reporter}
@@ -81,7 +81,7 @@ module _ {B R P N V : Type 0} (live : boards.Ghosts B R P N) (board : B) (sink :
       screens lookings ends looking shown
 
 module _ (reporter : ℕ) (s h : List Entry) (on : IsPrefix s h) where
-  at_in : (point : ℕ) (call : EventCall) (w : Went) → WentAt reporter s point call w → WentAt reporter h point call w
+  at_in : (point : ℕ) (call : EventCall) (w : Outcome) → IsOutcomeAt reporter s point call w → IsOutcomeAt reporter h point call w
   at_in point call (Entered number version) r =
       let read = r.read in
       let within = r.within in
@@ -98,20 +98,20 @@ module _ (reporter : ℕ) (s h : List Entry) (on : IsPrefix s h) where
       (omega arith, ap (λ (l : List Entry). sequential_reply l call) (take_beginning s h point on r.0) ∙ r.1)
 
   -- events that went so in what a pass has seen went so in the history that this begins
-  through_in : (low low2 high high2 : ℕ) (calls : List EventCall) (went : List Went) → low2 ≤ low → high ≤ high2 → GoThrough reporter s low high calls went
-      → GoThrough reporter h low2 high2 calls went
+  through_in : (low low2 high high2 : ℕ) (calls : List EventCall) (outcomes : List Outcome) → low2 ≤ low → high ≤ high2 → GoThrough reporter s low high calls outcomes
+      → GoThrough reporter h low2 high2 calls outcomes
   unfolding GoThrough
   through_in low low2 high high2 [] [] le more g = omega arith
-  through_in low low2 high high2 [] (w ∷ went) le more g = absurd g
+  through_in low low2 high high2 [] (w ∷ outcomes) le more g = absurd g
   through_in low low2 high high2 (call ∷ calls) [] le more g = absurd g
-  through_in low low2 high high2 (call ∷ calls) (w ∷ went) le more g =
-      let x = g.1 in (g.0, omega arith, at_in g.0 call w g.2, through_in (past_point g.0 w) (past_point g.0 w) high high2 calls went (le_refl (past_point g.0 w)) more g.3)
+  through_in low low2 high high2 (call ∷ calls) (w ∷ outcomes) le more g =
+      let x = g.1 in (g.0, omega arith, at_in g.0 call w g.2, through_in (past_point g.0 w) (past_point g.0 w) high high2 calls outcomes (le_refl (past_point g.0 w)) more g.3)
 
-rows_in : (first h : List Entry) (k m : PassView) (calls : List EventCall) (went : List Went) → IsPrefix first k.seen → IsPrefix m.seen h → HasReportedRows k m calls went
-    → GoThrough m.number h (length first) (length h) calls went
-rows_in first h k m calls went early on r =
-    subst (λ (n : ℕ). GoThrough n h (length first) (length h) calls went) (sym r.always.number)
-    (through_in k.number m.seen h on (length k.seen) (length first) (length m.seen) (length h) calls went (begins_length first k.seen early) (begins_length m.seen h on) r.through)
+rows_in : (first h : List Entry) (k m : PassView) (calls : List EventCall) (outcomes : List Outcome) → IsPrefix first k.seen → IsPrefix m.seen h → HasReportedRows k m calls outcomes
+    → GoThrough m.number h (length first) (length h) calls outcomes
+rows_in first h k m calls outcomes early on r =
+    subst (λ (n : ℕ). GoThrough n h (length first) (length h) calls outcomes) (sym r.always.number)
+    (through_in k.number m.seen h on (length k.seen) (length first) (length m.seen) (length h) calls outcomes (begins_length first k.seen early) (begins_length m.seen h on) r.through)
 
 module _ {B R P N S W : Type 0} (live : boards.Ghosts B R P N) (board : B) (source : sources.Ghosts S) (replies : sinks.Ghosts W) where
   pub reported_at_end : (first before s h : List Entry) (reporters : List (Reporter S W)) (all : List (Enlisted P S W)) (ends : List (ReporterEnd P S W)) → IsPrefix first before → IsPrefix s h
@@ -126,7 +126,7 @@ module _ {B R P N S W : Type 0} (live : boards.Ghosts B R P N) (board : B) (sour
         pass = enlisted.pass;
         ready = l.ready;
         run = q;
-        through = rows_in first h (live.reporter enlisted.pass) (live.reporter end.pass) (calls_typed q.took.lines) q.took.went
+        through = rows_in first h (live.reporter enlisted.pass) (live.reporter end.pass) (calls_in 1 q.took.lines) q.took.outcomes
             (begins_through first before (live.reporter enlisted.pass).seen early l.since) (begins_through (live.reporter end.pass).seen s h seen.1 on) q.took.reported.rows;
       })
       reporters all ends enlisted run heard

@@ -24,8 +24,8 @@ use Rattle.ucl_board.proofs.Histories.{entries_same, entries_else}
 use Rattle.ucl_shared.specs.Passes.{entries_by}
 use Rattle.ucl_shared.proofs.Lists.{by_own, by_other}
 use Rattle.ucl_runs.proofs.Elements.{get_some, take_one}
-use Rattle.ucl_evenings.specs.declared.went.Went.{Went}
-use Rattle.ucl_evenings.specs.declared.went.Went.TheVariants.{Entered, Refused}
+use Rattle.ucl_evenings.specs.declared.outcome.Outcome.{Outcome}
+use Rattle.ucl_evenings.specs.declared.outcome.Outcome.TheVariants.{Entered, Refused}
 use Rattle.ucl_evenings.specs.Reporting.{GoThrough, entered_in, accepted_in}
 use Rattle.ucl_evenings_threads.specs.OneReporter.{AddedBy, DifferInNumber, Entering, RowsDecideTheBoard, WentThrough, attempts_of_all}
 
@@ -108,21 +108,21 @@ module _ (n : ℕ) (h : List Entry) where
       subst (λ (x : ℕ). own_at a ≤ own_at x) e (own_rises a (p - a) (omega arith))
 
   -- events that went through a history have left as many entries as were accepted
-  has_entered : (low : ℕ) (calls : List EventCall) (went : List Went) → GoThrough n h low (length h) calls went → own_at low + accepted_in went ≤ own_at (length h)
+  has_entered : (low : ℕ) (calls : List EventCall) (outcomes : List Outcome) → GoThrough n h low (length h) calls outcomes → own_at low + accepted_in outcomes ≤ own_at (length h)
   unfolding GoThrough accepted_in
   has_entered low [] [] g = let e = own_from low (length h) g (omega arith) in omega arith
-  has_entered low [] (w ∷ went) g = absurd g
+  has_entered low [] (w ∷ outcomes) g = absurd g
   has_entered low (call ∷ calls) [] g = absurd g
-  has_entered low (call ∷ calls) (Entered number version ∷ went) (p, above, w, rest) =
+  has_entered low (call ∷ calls) (Entered number version ∷ outcomes) (p, above, w, rest) =
       let below = at_below h p (entry_of n call) w.entry in
       let more = own_from low p above (omega arith) in
       let next = own_next p (entry_of n call) w.entry refl in
-      let later = has_entered (p + 1) calls went rest in
+      let later = has_entered (p + 1) calls outcomes rest in
       let one : p + 1 ≡ suc p = omega arith in
       let e = ap own_at one in omega arith
-  has_entered low (call ∷ calls) (Refused refusal ∷ went) (p, above, w, rest) =
+  has_entered low (call ∷ calls) (Refused refusal ∷ outcomes) (p, above, w, rest) =
       let more = own_from low p above w.0 in
-      let later = has_entered p calls went rest in omega arith
+      let later = has_entered p calls outcomes rest in omega arith
 
   -- a match whose entries, from some place on, are this reporter's
   module _ (g start : ℕ) (only : (p : ℕ) (x : Entry) → start ≤ p → slice_get h p ≡ Some x → x.game ≡ g → x.reporter ≡ n) where
@@ -158,49 +158,49 @@ module _ (n : ℕ) (h : List Entry) where
     ]
 
     -- all its events, of which as many were accepted as it has entries from here on
-    rows_decide_match : (low : ℕ) (s : List Entry) (calls : List EventCall) (went : List Went) → start ≤ low → GoThrough n h low (length h) calls went
-        → own_at (length h) ≤ own_at low + accepted_in went → entries_of g s ≡ entries_at h g low
+    rows_decide_match : (low : ℕ) (s : List Entry) (calls : List EventCall) (outcomes : List Outcome) → start ≤ low → GoThrough n h low (length h) calls outcomes
+        → own_at (length h) ≤ own_at low + accepted_in outcomes → entries_of g s ≡ entries_at h g low
         → entries_of g (fold after_attempt s (map (attempted n) calls)) ≡ entries_at h g (length h)
     unfolding GoThrough accepted_in
     rows_decide_match low s [] [] from t few same = same ∙ sym (same_from low (length h) from t (omega arith) (omega arith))
-    rows_decide_match low s [] (w ∷ went) from t few same = absurd t
+    rows_decide_match low s [] (w ∷ outcomes) from t few same = absurd t
     rows_decide_match low s (call ∷ calls) [] from t few same = absurd t
-    rows_decide_match low s (call ∷ calls) (Entered number version ∷ went) from (p, above, w, rest) few same =
+    rows_decide_match low s (call ∷ calls) (Entered number version ∷ outcomes) from (p, above, w, rest) few same =
         let below = at_below h p (entry_of n call) w.entry in
         let more = own_from low p above (omega arith) in
         let next = own_next p (entry_of n call) w.entry refl in
-        let later = has_entered (p + 1) calls went rest in
+        let later = has_entered (p + 1) calls outcomes rest in
         let e : p + 1 ≡ suc p = omega arith in
         let f : own_at (p + 1) ≡ own_at (suc p) = ap own_at e in
         let here = same ∙ sym (same_from low p from above (omega arith) (omega arith)) in
-        rows_decide_match (p + 1) (after_attempt s (attempted n call)) calls went (omega arith) rest (omega arith)
+        rows_decide_match (p + 1) (after_attempt s (attempted n call)) calls outcomes (omega arith) rest (omega arith)
         (entered_one s call p (record { number = number }) w.reply w.entry here ∙ ap (entries_at h g) (sym e))
-    rows_decide_match low s (call ∷ calls) (Refused refusal ∷ went) from (p, above, w, rest) few same =
+    rows_decide_match low s (call ∷ calls) (Refused refusal ∷ outcomes) from (p, above, w, rest) few same =
         let more = own_from low p above w.0 in
-        let later = has_entered p calls went rest in
+        let later = has_entered p calls outcomes rest in
         let here = same ∙ sym (same_from low p from above w.0 (omega arith)) in
-        rows_decide_match p (after_attempt s (attempted n call)) calls went (omega arith) rest (omega arith) (refused_one s call p (ap is_ok w.1) here)
+        rows_decide_match p (after_attempt s (attempted n call)) calls outcomes (omega arith) rest (omega arith) (refused_one s call p (ap is_ok w.1) here)
 
 -- ---- the entries of reporters are those of their events
 
 -- the entries that events came to are of their matches
-entered_games : (P : Entry → Type 0) (n : ℕ) (calls : List EventCall) (went : List Went) → All (λ (call : EventCall). P (entry_of n call)) calls → All P (entered_in n calls went)
+entered_games : (P : Entry → Type 0) (n : ℕ) (calls : List EventCall) (outcomes : List Outcome) → All (λ (call : EventCall). P (entry_of n call)) calls → All P (entered_in n calls outcomes)
 unfolding entered_in
-entered_games P n [] went all = All-nil P
+entered_games P n [] outcomes all = All-nil P
 entered_games P n (call ∷ calls) [] all = All-nil P
-entered_games P n (call ∷ calls) (Entered number version ∷ went) all =
-    All-cons P (entry_of n call) (entered_in n calls went) (All-head (λ (c : EventCall). P (entry_of n c)) call calls all)
-    (entered_games P n calls went (All-tail (λ (c : EventCall). P (entry_of n c)) call calls all))
-entered_games P n (call ∷ calls) (Refused refusal ∷ went) all = entered_games P n calls went (All-tail (λ (c : EventCall). P (entry_of n c)) call calls all)
+entered_games P n (call ∷ calls) (Entered number version ∷ outcomes) all =
+    All-cons P (entry_of n call) (entered_in n calls outcomes) (All-head (λ (c : EventCall). P (entry_of n c)) call calls all)
+    (entered_games P n calls outcomes (All-tail (λ (c : EventCall). P (entry_of n c)) call calls all))
+entered_games P n (call ∷ calls) (Refused refusal ∷ outcomes) all = entered_games P n calls outcomes (All-tail (λ (c : EventCall). P (entry_of n c)) call calls all)
 
 -- how many of them there are
-entered_count : (n : ℕ) (calls : List EventCall) (went : List Went) (h : List Entry) (low : ℕ) → GoThrough n h low (length h) calls went → length (entered_in n calls went) ≡ accepted_in went
+entered_count : (n : ℕ) (calls : List EventCall) (outcomes : List Outcome) (h : List Entry) (low : ℕ) → GoThrough n h low (length h) calls outcomes → length (entered_in n calls outcomes) ≡ accepted_in outcomes
 unfolding GoThrough accepted_in entered_in
 entered_count n [] [] h low t = refl
-entered_count n [] (w ∷ went) h low t = absurd t
+entered_count n [] (w ∷ outcomes) h low t = absurd t
 entered_count n (call ∷ calls) [] h low t = absurd t
-entered_count n (call ∷ calls) (Entered number version ∷ went) h low (p, above, w, rest) = let e = entered_count n calls went h (p + 1) rest in omega arith
-entered_count n (call ∷ calls) (Refused refusal ∷ went) h low (p, above, w, rest) = let e = entered_count n calls went h p rest in omega arith
+entered_count n (call ∷ calls) (Entered number version ∷ outcomes) h low (p, above, w, rest) = let e = entered_count n calls outcomes h (p + 1) rest in omega arith
+entered_count n (call ∷ calls) (Refused refusal ∷ outcomes) h low (p, above, w, rest) = let e = entered_count n calls outcomes h p rest in omega arith
 
 tail_of : (P : Entry → Type 0) (b : Bool) (y : Entry) (l : List Entry) → All P (cond b (y ∷ l) l) → All P l
 tail_of P true y l all = All-tail P y l all
@@ -239,9 +239,9 @@ module _ (before h : List Entry) (whose : ℕ → ℕ) where
   of_their_matches all t keeps p x from at =
       let o = t.no_other p x from at in
       let e : Entering = o.1 in
-      let w = subst GoesThrough o.3 (t.went o.0 e o.2) in
+      let w = subst GoesThrough o.3 (t.outcomes o.0 e o.2) in
       let k = subst KeepsTo o.3 (keeps o.0 e o.2) in
-      let games = entered_games (λ (y : Entry). whose y.game ≡ e.number) e.number e.calls e.went k in
+      let games = entered_games (λ (y : Entry). whose y.game ≡ e.number) e.number e.calls e.outcomes k in
       of_own (λ (y : Entry). whose y.game ≡ e.number) e.number h (subst (All (λ (y : Entry). whose y.game ≡ e.number)) (sym w.own) games) p x at (sym o.4) ∙ o.4
 
   module _ (g : ℕ) where
@@ -272,10 +272,10 @@ module _ (before h : List Entry) (whose : ℕ → ℕ) where
     own_decides : (s : List Entry) (e : Entering) → AreOfTheirMatches → GoesThrough e → e.number ≡ whose g → entries_of g s ≡ entries_at h g (length before)
         → entries_of g (after_one s e) ≡ entries_at h g (length h)
     own_decides s e theirs w is same =
-        let whole : own_at e.number h (length h) ≡ length (entered_in e.number e.calls e.went) =
+        let whole : own_at e.number h (length h) ≡ length (entered_in e.number e.calls e.outcomes) =
         ap (λ (l : List Entry). length (entries_by e.number l)) (take-length h) ∙ ap (length {A = Entry}) w.own in
-        let count = entered_count e.number e.calls e.went h (length before) w.through in
-        rows_decide_match e.number h g (length before) (λ p x from at here. sym (theirs p x from at) ∙ (ap whose here ∙ sym is)) (length before) s e.calls e.went
+        let count = entered_count e.number e.calls e.outcomes h (length before) w.through in
+        rows_decide_match e.number h g (length before) (λ p x from at here. sym (theirs p x from at) ∙ (ap whose here ∙ sym is)) (length before) s e.calls e.outcomes
         (le_refl (length before)) w.through (omega arith) same
 
     -- the match is as in the history, or it is nobody's
@@ -288,14 +288,14 @@ module _ (before h : List Entry) (whose : ℕ → ℕ) where
 
     decided : (s : List Entry) (all : List Entering) → AreOfTheirMatches → AllPairs DifferInNumber all → All GoesThrough all → All KeepsTo all
         → entries_of g s ≡ entries_at h g (length before) → RowsDecide s all
-    decided s [] theirs apart went keeps same = inr (All-nil IsElse)
-    decided s (e ∷ all) theirs apart went keeps same = elim (cases_eq e.number (whose g)) [
+    decided s [] theirs apart outcomes keeps same = inr (All-nil IsElse)
+    decided s (e ∷ all) theirs apart outcomes keeps same = elim (cases_eq e.number (whose g)) [
       | inl is ↦
           (let others : All IsElse all = (λ k d below not. apart_first e all apart k d below (is ∙ sym not)) in
           inl (ap (entries_of g) (after_first s e all) ∙ (all_pass (after_one s e) all (All-tail KeepsTo e all keeps) others
-          ∙ own_decides s e theirs (All-head GoesThrough e all went) is same)))
+          ∙ own_decides s e theirs (All-head GoesThrough e all outcomes) is same)))
       | inr other ↦ decided_later s e all other
-          (decided (after_one s e) all theirs (apart_rest e all apart) (All-tail GoesThrough e all went) (All-tail KeepsTo e all keeps)
+          (decided (after_one s e) all theirs (apart_rest e all apart) (All-tail GoesThrough e all outcomes) (All-tail KeepsTo e all keeps)
           (one_passes s e (All-head KeepsTo e all keeps) other ∙ same))
     ]
 
@@ -305,7 +305,7 @@ module _ (before h : List Entry) (whose : ℕ → ℕ) where
         let theirs = of_their_matches all t keeps in
         let start : entries_of g before ≡ entries_at h g (length before) = ap (entries_of g) (sym (take_whole before h t.begins)) in
         let end : entries_at h g (length h) ≡ entries_of g h = ap (entries_of g) (take-length h) in
-        elim (decided before all theirs t.numbers t.went keeps start) [
+        elim (decided before all theirs t.numbers t.outcomes keeps start) [
           | inl done ↦ sym (done ∙ end)
           | inr none ↦
               (let stays = same_between h g (length before) (length h) (begins_length before h t.begins) (le_refl (length h))

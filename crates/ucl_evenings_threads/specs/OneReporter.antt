@@ -10,8 +10,8 @@ use Rattle.ucl_io.specs.declared.stream.Source as sources
 use Rattle.ucl_shared.specs.declared.live_board.LiveBoard as boards
 use Rattle.ucl_shared.specs.Passes.{PassView, entries_by}
 use Rattle.ucl_answers.specs.Lines.{lines_of}
-use Rattle.ucl_evenings.specs.declared.went.Went.{Went}
-use Rattle.ucl_evenings.specs.Answering.{calls_typed}
+use Rattle.ucl_evenings.specs.declared.outcome.Outcome.{Outcome}
+use Rattle.ucl_evenings.specs.Answering.{calls_in}
 use Rattle.ucl_evenings.specs.Reporting.{GoThrough, entered_in}
 use Rattle.ucl_evenings_threads.specs.declared.evening.EveningEnd.{EveningEnd}
 use Rattle.ucl_evenings_threads.specs.declared.workers.Reporter.{Reporter}
@@ -21,12 +21,12 @@ use Rattle.ucl_evenings_threads.specs.declared.workers.ReporterEnd.{ReporterEnd}
 pub record Entering : Type 0 where
   pub number : ℕ
   pub calls : List EventCall
-  pub went : List Went
+  pub outcomes : List Outcome
 
 -- so they went in a history, after a beginning of it, and those that were accepted are all the entries that the reporter has there
 pub record WentThrough (before history : List Entry) (e : Entering) : Type 0 where
-  pub through : GoThrough e.number history (length before) (length history) e.calls e.went
-  pub own : entries_by e.number history ≡ entered_in e.number e.calls e.went
+  pub through : GoThrough e.number history (length before) (length history) e.calls e.outcomes
+  pub own : entries_by e.number history ≡ entered_in e.number e.calls e.outcomes
 
 abbrev pub DifferInNumber : Entering → Entering → Type 0
 DifferInNumber e other = e.number ≡ other.number → ⊥
@@ -35,7 +35,7 @@ DifferInNumber e other = e.number ≡ other.number → ⊥
 pub record AddedBy (all : List Entering) (before history : List Entry) : Type 0 where
   pub begins : IsPrefix before history
   pub numbers : AllPairs DifferInNumber all
-  pub went : All (WentThrough before history) all
+  pub outcomes : All (WentThrough before history) all
   pub no_other : (p : ℕ) (x : Entry) → length before ≤ p → slice_get history p ≡ Some x → Any (λ (e : Entering). e.number ≡ x.reporter) all
 
 -- each match has the reporter with this number: nobody else has an event of it
@@ -60,7 +60,7 @@ pub record RanOn {B R P N S W : Type 0} (live : boards.Ghosts B R P N) (source :
   pub bytes : List ℕ
   pub lines : List (List ℕ)
   pub consumed : Consumes (source.left run.0.rows) (source.left run.1.rows) bytes
-  pub calls : e.calls ≡ calls_typed lines
+  pub calls : e.calls ≡ calls_in 1 lines
   pub all : IfOk run.1.result (λ done. lines ≡ lines_of bytes)
 
 -- a pass had entered nothing but what had been seen by then

@@ -13,7 +13,7 @@ use Rattle.ucl_runs.specs.declared.fault.RunFault.{RunFault}
 use Rattle.ucl_runs.specs.declared.fault.RunFault.TheVariants.{OutOfMemory, NoThread, TooManyReporters, Strangers}
 use Rattle.ucl_runs.specs.Run.{SinkFails, is_read_failed}
 use Rattle.ucl_io.specs.Calls.{Device}
-use Rattle.ucl_evenings.specs.Answering.{calls_typed}
+use Rattle.ucl_evenings.specs.Answering.{calls_in}
 use Rattle.ucl_evenings.specs.Reporting.{GoThrough}
 use Rattle.ucl_evenings.specs.Rows.{TookRows}
 use Rattle.ucl_evenings.specs.Showing.{IsNewScreen, IsScreenOn, RiseWithin, ScreensEnd, ShowsSince, StaysScreen, screens_shown, standing}
@@ -115,7 +115,7 @@ pub record HasTakenRows {B R P N S W : Type 0} (live : boards.Ghosts B R P N) (b
     (end : ReporterEnd P S W) : Type 0 where
   pub own : live.is_reporter board end.pass
   pub took : TookRows (live.reporter pass) (live.reporter end.pass) (live.has_reported pass) (live.has_reported end.pass)
-      (device_of source sink reporter.rows reporter.replies) (device_of source sink end.rows end.replies) end.result (λ went. ⊤)
+      (device_of source sink reporter.rows reporter.replies) (device_of source sink end.rows end.replies) end.result (λ outcomes. ⊤)
   pub read_failed : source.failed end.rows ≡ is_read_failed end.result
   pub served : SinkServed sink reporter.replies end.replies end.result
 
@@ -128,7 +128,7 @@ pub record HasAnsweredRows {B R P N S W : Type 0} (live : boards.Ghosts B R P N)
   pub pass : P
   pub ready : IsReady live board pass
   pub run : HasTakenRows live board source sink pass reporter end
-  pub through : GoThrough (live.reporter end.pass).number history (length before) (length history) (calls_typed run.took.lines) run.took.went
+  pub through : GoThrough (live.reporter end.pass).number history (length before) (length history) (calls_in 1 run.took.lines) run.took.outcomes
 
 -- ---- screens
 

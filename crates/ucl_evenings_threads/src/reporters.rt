@@ -15,6 +15,7 @@ use std::alloc::Global;
 use std::snapshot::Snapshot;
 use std::sync::Wait;
 use std::thread::{Promise, PromisedHandle, Scope, Threads};
+use ucl_answers::LineReader;
 use ucl_evenings::{Reporter, take_rows};
 use ucl_io::Duplex;
 use ucl_runs::RunFault;
@@ -41,6 +42,7 @@ fn report<B: LiveBoard, S: Source, W: Sink, R: Wait>(
         board,
         pass,
         bells: Bells::of(wakes),
+        lines: LineReader::new(),
     };
     let mut duplex = Duplex::new(rows, replies);
     let result = take_rows(&mut reporter, &mut duplex);
@@ -54,6 +56,7 @@ fn report<B: LiveBoard, S: Source, W: Sink, R: Wait>(
         board: _,
         pass,
         bells: _,
+        lines: _,
     } = reporter;
     ReporterEnd {
         pass,

@@ -8,6 +8,7 @@ use Rattle.std.proofs.lemmas.Bool.Decides.{nat_tests}
 use Rattle.std.proofs.lemmas.List.Elements.{All-append, All-cons, All-get_or, All-head, All-nil, All-tail}
 use Rattle.ucl_io.specs.Lines.{begun_line}
 use Rattle.ucl_io.proofs.Cuts.{begun_none, ended_none}
+use Rattle.ucl_word.specs.declared.event.EventCall.{EventCall}
 use Rattle.ucl_word.specs.declared.event.Kind.{Kind}
 use Rattle.ucl_word.specs.declared.event.Kind.TheVariants.{KickOff}
 use Rattle.ucl_word.specs.declared.record.MatchRecord.{MatchRecord}
@@ -164,13 +165,18 @@ abbrev expected_in : Option NightEvent → Option ℕ
 expected_in None = None
 expected_in (Some e) = Some e.call.expected
 
-abbrev made : Option ℕ → Option ℕ → Option ℕ → Option Kind → Option NightEvent
-made a b c d = do
-  reporter ← a
+abbrev call_made : Option ℕ → Option ℕ → Option Kind → Option EventCall
+call_made b c d = do
   game ← b
   expected ← c
   kind ← d
-  Some (record { reporter = reporter; call = record { game = game; expected = expected; kind = kind } })
+  Some (record { game = game; expected = expected; kind = kind })
+
+abbrev made : Option ℕ → Option ℕ → Option ℕ → Option Kind → Option NightEvent
+made a b c d = do
+  reporter ← a
+  call ← call_made b c d
+  Some (record { reporter = reporter; call = call })
 
 third : (a b c : Option ℕ) (d : Option Kind) (e : NightEvent) → made a b c d ≡ Some e → c ≡ Some e.call.expected
 third (Some a) (Some b) (Some c) (Some d) e h = ap expected_in h

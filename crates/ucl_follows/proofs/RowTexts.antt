@@ -23,7 +23,7 @@ use Rattle.ucl_screen.specs.Script.{club_of, word_of_row}
 use Rattle.ucl_screen.proofs.Digits.{number-is}
 use Rattle.ucl_io.specs.Lines.{HasNoFeed}
 use Rattle.ucl_answers.specs.Reading.{AreJoining, EndsRow, IsBehindEnds, IsFieldBefore, is_joining}
-use Rattle.ucl_answers.specs.Rows.{Row, fits, of_rows, said_by_text}
+use Rattle.ucl_answers.specs.Rows.{Row, fits, of_rows, row_by_text, said_by_text}
 use Rattle.ucl_answers.proofs.PlainRows.{at-ends, before-comma, plain_row}
 use Rattle.ucl_answers.proofs.RowBytes.{between-same, skip-one}
 use Rattle.ucl_answers.proofs.WordDigits.{low, word-digits}
@@ -185,7 +185,7 @@ fits-short text h = elim (cases_Bool (get_or text (length text - 2) 0 == 13)) [
 ]
 
 said-short : (row : ℕ) (text : List ℕ) (f : FourFields) → length text ≤ 257 → strip_bom text ≡ text → of_rows (records default_config text) ≡ Row f → said_by_text row text ≡ Row f
-unfolding said_by_text
+unfolding row_by_text
 said-short row text f few unmarked is = rw (fits-short text few) (elim (cases_Bool (row == 1)) [ inl y ↦ rw (y, unmarked) is | inr n ↦ rw n is ])
 
 -- ---- a row: it is one line, and what it says

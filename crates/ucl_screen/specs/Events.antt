@@ -1,5 +1,6 @@
 -- What a row of a script says.
-use Rattle.std.specs.Prelude.{Option, Some, option_and_then}
+use Rattle.std.specs.Prelude.{ℕ, List, Option, Some, option_and_then}
+use Rattle.ucl_word.specs.declared.event.EventCall.{EventCall}
 use Rattle.ucl_word.specs.Names.{kind_named}
 use Rattle.ucl_screen.specs.declared.night.NightEvent.{NightEvent}
 use Rattle.ucl_screen.specs.Numbers.{number, in_range}
@@ -9,11 +10,27 @@ infixl 10 ◌>>=◌
 abbrev pub ◌>>=◌ : {A B : Type 0} → Option A → (A → Option B) → Option B
 o >>= f = option_and_then f o
 
--- a reporter in 1 to 3 digits, a match in 1 or 2, an expected number in 1 to 5, and the name of a kind
+-- a reporter in 1 to 3 digits, a match in 1 or 2, and an expected number in 1 to 5
+abbrev pub reporter_in : List ℕ → Option ℕ
+reporter_in text = in_range 1 255 (number 3 text)
+
+abbrev pub match_in : List ℕ → Option ℕ
+match_in text = in_range 1 12 (number 2 text)
+
+abbrev pub expected_in : List ℕ → Option ℕ
+expected_in text = in_range 0 65535 (number 5 text)
+
+-- a match, an expected number, and the name of a kind
+abbrev pub call_of : List ℕ → List ℕ → List ℕ → Option EventCall
+call_of match_no expected name = do
+  game ← match_in match_no
+  number ← expected_in expected
+  kind ← kind_named name
+  Some (record { game = game; expected = number; kind = kind })
+
+-- a reporter, and the same
 abbrev pub event_of : FourFields → Option NightEvent
 event_of f = do
-  reporter ← in_range 1 255 (number 3 f.first)
-  game ← in_range 1 12 (number 2 f.second)
-  expected ← in_range 0 65535 (number 5 f.third)
-  kind ← kind_named f.fourth
-  Some (record { reporter = reporter; call = record { game = game; expected = expected; kind = kind } })
+  reporter ← reporter_in f.first
+  call ← call_of f.second f.third f.fourth
+  Some (record { reporter = reporter; call = call })

@@ -1,9 +1,10 @@
 //! What single fields say.
 
 ghost use Rattle.std.specs.Prelude.{◌≡◌, ◌<◌, ◌≤◌, IfSome};
-ghost use Rattle.ucl_screen.specs.Numbers.{number, in_range, hex_digit, hex_word};
+ghost use Rattle.ucl_screen.specs.Events.{call_of, expected_in, match_in, reporter_in};
+ghost use Rattle.ucl_screen.specs.Numbers.{number, hex_digit, hex_word};
 
-use ucl_word::{MatchNo, ReporterNo};
+use ucl_word::{EventCall, Kind, MatchNo, ReporterNo};
 
 /// The number of a text of decimal digits, at least one and at most so many.
 pub(crate) fn number(text: &[u8], most: usize) -> Option<u32>
@@ -23,25 +24,39 @@ pub(crate) fn number(text: &[u8], most: usize) -> Option<u32>
     Some(n)
 }
 
-/// The reporter of a number, where there is one.
-pub(crate) fn reporter_of(number: u32) -> Option<ReporterNo>
-    ensures { result ≡ in_range 1 255 (Some number) }
+/// The reporter that a field says.
+pub fn reporter_of_field(text: &[u8]) -> Option<ReporterNo>
+    ensures { result ≡ reporter_in text.now }
 {
-    ReporterNo::new(u8::try_from(number).ok()?)
+    ReporterNo::new(u8::try_from(number(text, 3)?).ok()?)
 }
 
-/// The match of a number, where there is one.
-pub(crate) fn match_of(number: u32) -> Option<MatchNo>
-    ensures { result ≡ in_range 1 12 (Some number) }
+/// The match that a field says.
+pub fn match_of_field(text: &[u8]) -> Option<MatchNo>
+    ensures { result ≡ match_in text.now }
 {
-    MatchNo::new(u8::try_from(number).ok()?)
+    MatchNo::new(u8::try_from(number(text, 2)?).ok()?)
 }
 
-/// The number of an event, where a match can have it.
-pub(crate) fn number_of(number: u32) -> Option<u16>
-    ensures { result ≡ in_range 0 65535 (Some number) }
+/// The expected number that a field says.
+pub fn expected_of_field(text: &[u8]) -> Option<u16>
+    ensures { result ≡ expected_in text.now }
 {
-    u16::try_from(number).ok()
+    u16::try_from(number(text, 5)?).ok()
+}
+
+/// The event of a match that three fields say.
+pub fn call_of_fields(game: &[u8], expected: &[u8], kind: &[u8]) -> Option<EventCall>
+    ensures { result ≡ call_of game.now expected.now kind.now }
+{
+    let game = match_of_field(game)?;
+    let expected = expected_of_field(expected)?;
+    let kind = Kind::from_name(kind)?;
+    Some(EventCall {
+        game,
+        expected,
+        kind,
+    })
 }
 
 /// What a hexadecimal digit stands for.

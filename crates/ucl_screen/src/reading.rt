@@ -10,7 +10,7 @@ ghost use Rattle.ucl_screen.specs.Script.{said_by, club_of, club_at, roster_at, 
 ghost use Rattle.ucl_screen.specs.Parsing.{AnswersAsSaid, MeansNight, MeansSheet, night_seen, sheet_seen};
 
 use crate::fault::InputFault;
-use crate::fields::{hex_word, match_of, number, number_of, reporter_of};
+use crate::fields::{call_of_fields, hex_word, number, reporter_of_field};
 use crate::night::{Night, NightEvent};
 use crate::rows::{Four, four_fields, next_row, open};
 use crate::sheet::Sheet;
@@ -20,7 +20,6 @@ use std::alloc::{AllocError, Global};
 use ucl_board::Board;
 use ucl_io::Source;
 use ucl_order::{Club, Roster};
-use ucl_word::{EventCall, Kind};
 
 /// The row of the first event of a script: rows 1 to 4 are its clubs.
 pub const FIRST_EVENT_ROW: u8 = 5;
@@ -91,18 +90,9 @@ fn roster_at(alloc: Global, rows: &mut Reader<&[u8]>) -> Result<Roster, InputFau
 pub fn event_of_fields(fields: &Four<'_>) -> Option<NightEvent>
     ensures { result ≡ event_of (four_seen fields.now) }
 {
-    let reporter = reporter_of(number(fields.first, 3)?)?;
-    let game = match_of(number(fields.second, 2)?)?;
-    let expected = number_of(number(fields.third, 5)?)?;
-    let kind = Kind::from_name(fields.fourth)?;
-    Some(NightEvent {
-        reporter,
-        call: EventCall {
-            game,
-            expected,
-            kind,
-        },
-    })
+    let reporter = reporter_of_field(fields.first)?;
+    let call = call_of_fields(fields.second, fields.third, fields.fourth)?;
+    Some(NightEvent { reporter, call })
 }
 
 /// The event that a row says.

@@ -5,6 +5,7 @@ ghost use Rattle.std.specs.Prelude.{◌≡◌};
 use std::alloc::Global;
 use std::sync::Wait;
 use std::test::Fail;
+use ucl_answers::LineReader;
 use ucl_devices::{Cut, Full, Out};
 use ucl_evenings::{Reporter, Ring, take_rows};
 use ucl_io::Duplex;
@@ -67,6 +68,7 @@ fn told_on<B: LiveBoard, R: Wait>(
             board,
             pass,
             bells: Counting { rung: 0 },
+            lines: LineReader::new(),
         };
         let mut duplex = Duplex::new(source, sink);
         let answer = take_rows(&mut reporter, &mut duplex);
@@ -75,6 +77,7 @@ fn told_on<B: LiveBoard, R: Wait>(
             board: _,
             pass: _,
             bells,
+            lines: _,
         } = reporter;
         (answer, bells.rung)
     };

@@ -32,7 +32,7 @@ returns-clause-run g t c =
     (zip_push (HasRun g.B.LiveBoard c.args.board.now g.S.Source g.W.Sink) _ _ _ _ c.in_ok-ends.ensures.run
     (record {
       own = one.own.1;
-      took = took_later _ _ _ _ _ _ _ _ _ _ _ (λ went h. h) run.took one.unchanged one.reported;
+      took = took_later _ _ _ _ _ _ _ _ _ _ _ (λ outcomes h. h) run.took one.unchanged one.reported;
       read_failed = run.read_failed;
       served = run.served;
     }))

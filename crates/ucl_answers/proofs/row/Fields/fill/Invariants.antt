@@ -11,6 +11,6 @@ invariant-loop-at l = record {
   rising : Rising 0 l.self.ends.items (length l.self.bytes.items);
   few_ends : length l.self.ends.items ≤ l.at;
   few_bytes : length l.self.bytes.items ≤ l.at;
-  same : next_record default_config (csv_state_of l.stand) (fields_in l.self) (field_in l.self) (drop l.at l.text)
+  same : next_record default_config (csv_state_of l.state) (fields_in l.self) (field_in l.self) (drop l.at l.text)
       ≡ next_record default_config st.StartField [] [] l.text;
 }

@@ -4,7 +4,7 @@ use ucl_word::Refusal;
 
 /// How an event went.
 #[derive(Clone, Copy, Debug, PartialEq, Eq)]
-pub enum Went {
+pub enum Outcome {
     /// It was accepted, and is among the first `version` events that the board has taken.
     Entered {
         /// The match's event number after the event.
