@@ -218,7 +218,8 @@ options-after e [] = refl
 options-after e (line ∷ lines) = options-after (next e (said_on e.row line)) lines
 
 -- a stage with a moment is open, and the moment has the title of the evening
-pub open-with : (options : LiveArgs) (s : Stage) (m : Moment) → moment_at options s ≡ Some m → (clubs : List NamedClub) × (board : List ℕ) × (s ≡ Open clubs board) × (m.board ≡ board) × (m.title ≡ title_of options)
+pub open-with : (options : LiveArgs) (s : Stage) (m : Moment) → moment_at options s ≡ Some m
+    → (clubs : List NamedClub) × (board : List ℕ) × (s ≡ Open clubs board) × (m.board ≡ board) × (m.title ≡ title_of options)
 open-with options (Open clubs board) m e = let same : moment_with options clubs board ≡ m = cc in (clubs, board, refl, cc, sym (ap (λ (n : Moment). n.title) same))
 open-with options (Naming clubs) m e = cc
 open-with options (Restoring clubs words) m e = cc
