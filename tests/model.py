@@ -327,6 +327,7 @@ class Style:
     def __init__(self, words=()):
         self.group = words[words.index("--group") + 1] if "--group" in words else "A"
         self.order = words[words.index("--order") + 1] if "--order" in words else "uefa"
+        self.edition = 0
 
     def screen(self, matches, roster):
         """The screen."""
@@ -334,7 +335,7 @@ class Style:
 
     def moment(self, matches, roster):
         """The members by which a line of JSON stands for itself."""
-        members = {"group": self.group, "order": self.order, "version": version(matches)}
+        members = {"group": self.group, "order": self.order, "edition": self.edition, "version": version(matches)}
         return {**members, "clubs": clubs_of(roster), "words": [m.word() for m in matches]}
 
     def json(self, matches, roster, row):
@@ -445,14 +446,15 @@ class Evening:
 
 
 def moment_of(line):
-    """The group, the order, the roster and the matches of the moment that a line tells; None where it tells none."""
+    """The group, the order, the edition, the roster and the matches of the moment that a line tells; None where it tells none."""
     try:
         said = json.loads(line)
-        group, order, words = said["group"], said["order"], said["words"]
+        group, order, edition, words = said["group"], said["order"], said.get("edition", 0), said["words"]
         roster = [(it["club"], it["coefficient"]) for it in said["clubs"]]
         is_one = group in list("ABCDEFGH") and order in ("uefa", "away-in-tie") and len(roster) == 4 and len(words) == 12
+        is_one = is_one and type(edition) is int and 0 <= edition <= 65535
         is_one = is_one and all(type(it) is str and word(["word", "1", it, ""], 1) for it in words) and all(type(c) is int and c >= 0 for _, c in roster)
-        return (group, order, roster, matches_of(words)) if is_one and not bad_slots(roster) else None
+        return (group, order, edition, roster, matches_of(words)) if is_one and not bad_slots(roster) else None
     except (ValueError, KeyError, TypeError, RecursionError, Fault):
         return None
 
@@ -462,16 +464,18 @@ def followed(words, text):
     lines = text.split("\n")[:-1]
     told = [moment_of(line) if len(line.removesuffix("\r").encode(errors="surrogateescape")) <= LONGEST_FOLLOWED else None for line in lines]
     output, newest, shown = "", None, 0
+    age = lambda moment: (moment[2], version(moment[4]))
     for row, moment in enumerate(told, 1):
-        if moment and (newest is None or version(moment[3]) > version(newest[3])):
+        if moment and (newest is None or age(moment) > age(newest)):
             newest, shown = moment, shown + 1
-            group, order, roster, matches = moment
+            group, order, edition, roster, matches = moment
             style = Style(["--group", group, "--order", order])
+            style.edition = edition
             text = match_lines(matches, roster) if "--matches" in words else style.screen(matches, roster)
             output += line_of(style.json(matches, roster, row)) if "json" in words else text
     if "--resume" in words:
         quoted = lambda name: '"' + name.replace('"', '""') + '"'
         if newest is None:
             return 3, "", f"no moment in {len(lines)} lines: there is nothing to go on from\n"
-        output = "".join(f"club,{slot},{quoted(name)},{c}\n" for slot, (name, c) in enumerate(newest[2], 1)) + sheet(newest[3])
+        output = "".join(f"club,{slot},{quoted(name)},{c}\n" for slot, (name, c) in enumerate(newest[3], 1)) + sheet(newest[4])
     return 0, output, f"{len(lines)} lines, {shown} shown, {len(lines) - shown} passed over\n"

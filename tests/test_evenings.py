@@ -130,8 +130,8 @@ def test_json(run):
     table = ",".join(place.format(name, at, slot, d=drawn) for name, at, slot, drawn in clubs)
     stands = '{"expulsions":[0,0],"match":1,"number":1,"reporter":1,"score":[0,0],"state":"IN PLAY","yellows":[0,0]}'
     wanted = [
-        "{" + moment.replace(',"group"', ',"event":"kickoff","expected":0,"group"') + '"match":1,"number":1,"order":"uefa","reply":"ok","reporter":1,"row":5,"version":1,' + words + "}",
-        "{" + moment + '"in_play":1,"order":"uefa","reply":"screen","row":5,"table":[' + table + '],"version":1,' + words + "}",
+        "{" + moment.replace(',"group"', ',"edition":0,"event":"kickoff","expected":0,"group"') + '"match":1,"number":1,"order":"uefa","reply":"ok","reporter":1,"row":5,"version":1,' + words + "}",
+        "{" + moment.replace(',"group"', ',"edition":0,"group"') + '"in_play":1,"order":"uefa","reply":"screen","row":5,"table":[' + table + '],"version":1,' + words + "}",
         '{"code":1,"event":"kickoff","expected":0,"match":1,"name":"stale","number":1,"reply":"refused","reporter":1,"row":6,"stands":' + stands + "}",
         '{"code":20,"field":"fields","name":"bad-row","reply":"refused","row":7,"text":"x"}',
         '{"code":3,"event":"goal-home","expected":0,"match":2,"name":"not-started","reply":"refused","reporter":2,"row":8}',

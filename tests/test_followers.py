@@ -19,6 +19,8 @@ MATCHES = Evening([]).of(CLUBS + "1,1,0,kickoff\nmatches,,,\n1,1,1,goal-home\nma
 told = lambda lines, shown: f"{lines} lines, {shown} shown, {lines - shown} passed over\n"
 vain = lambda lines: f"no moment in {lines} lines: there is nothing to go on from\n"
 count = SCREENS.count("GROUP")
+in_edition = lambda edition, line: line.replace('"edition":0', f'"edition":{edition}').replace("Alpha", "Alfa!")
+renamed = lambda screen: screen.replace("Alpha", "Alfa!")
 
 test_journals = tabled({
     "as it stands": ("ucl_follow", JOURNAL, SCREENS, 0, told(len(LINES), count)),
@@ -33,6 +35,11 @@ test_journals = tabled({
     "a line without an end": ("ucl_follow", FIRST + SECOND[:-1], SCREEN, 0, told(1, 1)),
     "nothing": ("ucl_follow", "", "", 0, told(0, 0)),
     "rows of the newest, not of the last": ("ucl_follow --resume", LINES[-1] + "".join(LINES[:-1]), followed(["--resume"], LINES[-1])[1], 0, told(len(LINES), 1)),
+    "an edition of a lower version, with clubs of its own": ("ucl_follow", FIRST + SECOND + in_edition(1, FIRST) + SECOND, BOTH + renamed(SCREEN), 0, told(4, 3)),
+    "an older edition, of a higher version": ("ucl_follow", in_edition(2, FIRST) + in_edition(1, SECOND) + SECOND, renamed(SCREEN), 0, told(3, 1)),
+    "the last edition": ("ucl_follow", in_edition(65535, FIRST) + in_edition(65534, SECOND), renamed(SCREEN), 0, told(2, 1)),
+    "rows of the latest edition, not of the highest version": ("ucl_follow --resume", in_edition(1, FIRST) + SECOND, followed(["--resume"], in_edition(1, FIRST))[1], 0, told(2, 1)),
+    "an old journal, without editions": ("ucl_follow", JOURNAL.replace('"edition":0,', ""), SCREENS, 0, told(len(LINES), count)),
     "rows of no moment": ("ucl_follow --resume", "{}\n", "", 3, vain(1)),
     "rows of nothing": ("ucl_follow --resume --format json", "", "", 3, vain(0)),
     "rows of a line that is cut": ("ucl_follow --resume", FIRST[:-1], "", 3, vain(0)),
@@ -48,11 +55,13 @@ BAD += [SECOND[:at] + "\n" for at in range(0, len(SECOND) - 1, 7)]
 BAD += [json.dumps({name: it for name, it in VALUE.items() if name != member}) + "\n" for member in ("group", "order", "clubs", "words")]
 BAD += [changed(group="I"), changed(group="AB"), changed(group=""), changed(group=1), changed(order="goals"), changed(words="2" * 16), changed(words=WORDS[:11])]
 BAD += [changed(words=WORDS + WORDS[-1:]), changed(words=["f" * 16, *WORDS[1:]]), changed(words=["2" * 15, *WORDS[1:]]), changed(clubs=VALUE["clubs"][:3])]
+BAD += [changed(edition=it) for it in (-1, 65536, "1", 0.5, None)]
 BAD += [first_club(club=""), first_club(club="Málaga"), first_club(club="x" * 21), *(first_club(coefficient=it) for it in (1_000_000, 2**32, 1.5, -1, "7"))]
 GOOD = {
     "spaces": json.dumps(VALUE, separators=(" , ", " : ")) + "\r\n",
     "4,096 bytes": of_length(4096),
     "other members": json.dumps({"\u00e9": [{}], **VALUE, "version": 77}, ensure_ascii=False) + "\n",
+    "no edition": SECOND.replace('"edition":0,', ""),
     "doubled members": '{"words":1,' + SECOND[1:],
 }
 

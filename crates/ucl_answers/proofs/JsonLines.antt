@@ -8,7 +8,7 @@ use Rattle.ucl_board.specs.Words.{game_at, version_of}
 use Rattle.ucl_order.specs.Roster.{NamedClub}
 use Rattle.ucl_screen.specs.declared.night.NightEvent.{NightEvent}
 use Rattle.ucl_json.specs.Lines.{AreLinesOfValues}
-use Rattle.ucl_json.specs.Values.{bad_row_value, matches_value, reply_value, screen_value, words_value}
+use Rattle.ucl_json.specs.Values.{bad_row_value, edition_screen_value, matches_value, reply_value, words_value}
 use Rattle.ucl_json.proofs.OneLine.{line_of_value, lines_then, no_lines}
 use Rattle.ucl_command.specs.declared.options.Format.TheVariants.{Json}
 use Rattle.ucl_command.specs.declared.live.LiveArgs.{LiveArgs}
@@ -18,11 +18,11 @@ use Rattle.ucl_answers.specs.Rows.{Said, Nothing, Garbled, Row, said_on}
 use Rattle.ucl_answers.specs.BadRows.{field_name, shown_text}
 use Rattle.ucl_answers.specs.Requests.{request_of}
 use Rattle.ucl_answers.specs.Stages.{Stage, Naming, Restoring, Open, Refused, next_board, opened}
-use Rattle.ucl_answers.specs.Text.{Evening, answer_said, answer_at, answer_of, answers, next, reply_answer, screen_after, screen_answer}
+use Rattle.ucl_answers.specs.Text.{Evening, answer_said, answer_at, answer_of, answers, next, reply_answer, screen_after, screen_answer, title_of}
 use Rattle.ucl_answers.specs.Laws.{JsonAnswersAreLines}
 
 screen-line : (options : LiveArgs) (row : ℕ) (clubs : List NamedClub) (board : List ℕ) → options.format ≡ Json → AreLinesOfValues (screen_answer options row clubs board)
-screen-line options row clubs board h = rw h (line_of_value (screen_value row options.profile board clubs options.group))
+screen-line options row clubs board h = rw h (line_of_value (edition_screen_value row (title_of options) board clubs))
 
 wanted : (b : Bool) (text : List ℕ) → AreLinesOfValues text → AreLinesOfValues (if b then text else [])
 wanted true text p = p
@@ -35,7 +35,7 @@ after-line options row clubs (Err refusal) board h = no_lines
 
 reply-lines : (options : LiveArgs) (row : ℕ) (clubs : List NamedClub) (event : NightEvent) (before : ℕ) (reply : Result Accepted Refusal) (board : List ℕ) → options.format ≡ Json
     → AreLinesOfValues (reply_answer options row clubs event before reply board)
-reply-lines options row clubs event before reply board h = rw h (line_of_value (reply_value row event reply options.profile board clubs options.group))
+reply-lines options row clubs event before reply board h = rw h (line_of_value (reply_value row event reply (title_of options) board clubs))
 
 request-lines : (options : LiveArgs) (row : ℕ) (clubs : List NamedClub) (board : List ℕ) (request : Request) (shown : List ℕ) → options.format ≡ Json
     → AreLinesOfValues (answer_of options row clubs board request shown)

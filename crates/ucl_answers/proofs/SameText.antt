@@ -21,7 +21,7 @@ use Rattle.ucl_screen.specs.Screen.{screen_text}
 use Rattle.ucl_screen.specs.WordsRead.{read_words}
 use Rattle.ucl_screen.specs.declared.night.NightEvent.{NightEvent}
 use Rattle.ucl_json.specs.Lines.{IsOneLine, json_line}
-use Rattle.ucl_json.specs.Values.{bad_row_value, matches_value, reply_value, screen_value, words_value}
+use Rattle.ucl_json.specs.Values.{bad_row_value, edition_screen_value, matches_value, reply_value, words_value}
 use Rattle.ucl_json.proofs.OneLine.{one_line}
 use Rattle.ucl_command.specs.declared.options.Format.TheVariants.{Json}
 use Rattle.ucl_command.specs.declared.live.LiveArgs.{LiveArgs}
@@ -34,7 +34,7 @@ use Rattle.ucl_answers.specs.Requests.{request_of}
 use Rattle.ucl_answers.specs.Rows.{Said, Nothing, Garbled, Row, said_on}
 use Rattle.ucl_answers.specs.Stages.{Stage, Naming, Restoring, Open, Refused}
 use Rattle.ucl_answers.specs.Stages.{after_club, after_row, after_word, club_said, is_word_row, next_board, next_stage, opened, restored, with_roster, with_words, word_said}
-use Rattle.ucl_answers.specs.Text.{Evening, answer_at, answer_of, answer_said, answers, bad_line, next, reply_answer, screen_after, screen_answer, start_of}
+use Rattle.ucl_answers.specs.Text.{Evening, answer_at, answer_of, answer_said, answers, bad_line, next, reply_answer, screen_after, screen_answer, start_of, title_of}
 use Rattle.ucl_answers.specs.Laws.{AreLinesSaying, EveningsSayTheSame, RaisesVersion, as_text}
 use Rattle.ucl_answers.proofs.Boards.{AreAttempts, asked}
 use Rattle.ucl_answers.proofs.GoodBoards.{fresh-good, good-after, read-good, version-after}
@@ -94,7 +94,7 @@ both-lines t u j k p q = record {
 screen-line : (options : LiveArgs) (row : ℕ) (clubs : List NamedClub) (board : List ℕ) → options.format ≡ Json
     → AreLinesSaying (screen_answer (as_text options) row clubs board) (screen_answer options row clubs board)
 screen-line options row clubs board h =
-    rw h (value-line (screen_value row options.profile board clubs options.group) (screen_text options.profile board clubs options.group) (same row options.profile board clubs options.group).screen)
+    rw h (value-line (edition_screen_value row (title_of options) board clubs) (screen_text options.profile board clubs options.group) (same row (title_of options) board clubs).screen)
 
 wanted : (b : Bool) (t j : List ℕ) → AreLinesSaying t j → AreLinesSaying (if b then t else []) (if b then j else [])
 wanted true t j p = p
@@ -110,8 +110,8 @@ reply-line : (options : LiveArgs) (row : ℕ) (clubs : List NamedClub) (event : 
     → RaisesVersion reply before board
     → AreLinesSaying (reply_answer (as_text options) row clubs event before reply board) (reply_answer options row clubs event before reply board)
 reply-line options row clubs event before reply board h k =
-    rw h (value-line (reply_value row event reply options.profile board clubs options.group) (line_of_reply row event.call.game before reply)
-    ((same row options.profile board clubs options.group).reply event before reply k))
+    rw h (value-line (reply_value row event reply (title_of options) board clubs) (line_of_reply row event.call.game before reply)
+    ((same row (title_of options) board clubs).reply event before reply k))
 
 raised : (reply : Result Accepted Refusal) (before : ℕ) (board : List ℕ) → (is_ok reply ≡ true → version_of board ≡ before + 1) → RaisesVersion reply before board
 raised (Ok accepted) before board h = h refl
@@ -133,11 +133,11 @@ request-lines : (options : LiveArgs) (row : ℕ) (clubs : List NamedClub) (board
     → AreLinesSaying (answer_of (as_text options) row clubs board request shown) (answer_of options row clubs board request shown)
 request-lines options row clubs board (Event event) shown h w all = event-lines options row clubs board event shown h w (All-head IsAttempt (attempt_of event) [] all)
 request-lines options row clubs board (Bad field) shown h w all =
-    rw h (value-line (bad_row_value row (field_name field) shown) (bad_line row) ((same row options.profile board clubs options.group).bad (field_name field) shown))
+    rw h (value-line (bad_row_value row (field_name field) shown) (bad_line row) ((same row (title_of options) board clubs).bad (field_name field) shown))
 request-lines options row clubs board Screen shown h w all = screen-line options row clubs board h
-request-lines options row clubs board Words shown h w all = rw h (value-line (words_value row board) (word_lines 1 board) (same row options.profile board clubs options.group).words)
+request-lines options row clubs board Words shown h w all = rw h (value-line (words_value row board) (word_lines 1 board) (same row (title_of options) board clubs).words)
 request-lines options row clubs board Matches shown h w all =
-    rw h (value-line (matches_value row board clubs) (matches_text board clubs) (same row options.profile board clubs options.group).matches)
+    rw h (value-line (matches_value row board clubs) (matches_text board clubs) (same row (title_of options) board clubs).matches)
 
 -- ---- lines of an evening
 

@@ -15,7 +15,6 @@ use Rattle.ucl_board.specs.Fixtures.{match_numbers}
 use Rattle.ucl_board.specs.Words.{game_at, version_of}
 use Rattle.ucl_order.specs.declared.mark.Mark.{Mark}
 use Rattle.ucl_order.specs.declared.mark.Mark.TheVariants.{Plus, Minus, Blank}
-use Rattle.ucl_order.specs.declared.profile.Profile.{Profile}
 use Rattle.ucl_order.specs.declared.table.Row.{Row}
 use Rattle.ucl_order.specs.Roster.{NamedClub}
 use Rattle.ucl_order.specs.Rows.{rows_of}
@@ -25,7 +24,8 @@ use Rattle.ucl_screen.specs.Lines.{difference_text, mark_text, place_line}
 use Rattle.ucl_screen.specs.Matches.{clubs_text, counts_text, match_line, matches_text, state_text}
 use Rattle.ucl_screen.specs.Screen.{row_line, screen_text}
 use Rattle.ucl_screen.specs.declared.night.NightEvent.{NightEvent}
-use Rattle.ucl_json.specs.Values.{accepted_value, bad_row_value, bad_value, club_items, mark_name, match_items, matches_value}
+use Rattle.ucl_json.specs.declared.title.Title.{Title}
+use Rattle.ucl_json.specs.Values.{accepted_value, bad_row_value, bad_value, club_items, edition_screen_value, mark_name, match_items, matches_value}
 use Rattle.ucl_json.specs.Values.{place_items, place_value, refused_by, reply_value, screen_value, word_items, words_value}
 use Rattle.ucl_answers.specs.Members.{mark_column, match_lines_of, place_line_of, place_lines_of, signed_text, text_told, word_lines_of}
 use Rattle.ucl_answers.specs.Text.{bad_line}
@@ -33,10 +33,10 @@ use Rattle.ucl_answers.specs.Laws.{JsonSaysTheSame, RaisesVersion}
 
 -- ---- replies
 
-accepted : (row : ℕ) (event : NightEvent) (event_number : ℕ) (profile : Profile) (board : List ℕ) (clubs : List NamedClub) (group : ℕ)
-    → text_told (accepted_value row event event_number profile board clubs group) ≡ Some (accepted_line row event.call.game event_number (version_of board))
+accepted : (row : ℕ) (event : NightEvent) (event_number : ℕ) (title : Title) (board : List ℕ) (clubs : List NamedClub)
+    → text_told (accepted_value row event event_number title board clubs) ≡ Some (accepted_line row event.call.game event_number (version_of board))
 unfolding accepted_value text_told serde_json_on_literals
-accepted row event event_number profile board clubs group = refl
+accepted row event event_number title board clubs = refl
 
 -- parts that are told one by one, and together
 told-parts : (front code space name found end : List ℕ) → front ++ code ++ space ++ name ++ found ++ end ≡ front ++ (code ++ space ++ name ++ found) ++ end
@@ -48,11 +48,11 @@ unfolding text_told serde_json_on_literals
 refused row event code name None m = ap Some (told-parts (decimal row ++ codes " refused ") (decimal code) (codes " ") name [] (codes "\n"))
 refused row event code name (Some found) m = ap Some (told-parts (decimal row ++ codes " refused ") (decimal code) (codes " ") name (codes " " ++ decimal found) (codes "\n"))
 
-replied : (row : ℕ) (profile : Profile) (board : List ℕ) (clubs : List NamedClub) (group : ℕ) (event : NightEvent) (before : ℕ) (reply : Result Accepted Refusal) → RaisesVersion reply before board
-    → text_told (reply_value row event reply profile board clubs group) ≡ Some (line_of_reply row event.call.game before reply)
-replied row profile board clubs group event before (Ok a) h =
-    accepted row event a.number profile board clubs group ∙ ap (λ (version : ℕ). Some (accepted_line row event.call.game a.number version)) h
-replied row profile board clubs group event before (Err refusal) h =
+replied : (row : ℕ) (title : Title) (board : List ℕ) (clubs : List NamedClub) (event : NightEvent) (before : ℕ) (reply : Result Accepted Refusal) → RaisesVersion reply before board
+    → text_told (reply_value row event reply title board clubs) ≡ Some (line_of_reply row event.call.game before reply)
+replied row title board clubs event before (Ok a) h =
+    accepted row event a.number title board clubs ∙ ap (λ (version : ℕ). Some (accepted_line row event.call.game a.number version)) h
+replied row title board clubs event before (Err refusal) h =
     refused row event (refusal_code refusal) (refusal_name refusal) (found_of refusal) (game_at board event.call.game)
 
 bad-told : (row code : ℕ) (name field shown : List ℕ)
@@ -117,16 +117,16 @@ unfolding place_lines_of
 places-told clubs [] = refl
 places-told clubs (row ∷ rows) = rw (place-told clubs row, places-told clubs rows) refl
 
-screen-told : (row : ℕ) (profile : Profile) (board : List ℕ) (clubs : List NamedClub) (group : ℕ)
-    → text_told (screen_value row profile board clubs group) ≡ Some (screen_text profile board clubs group)
-unfolding screen_value screen_text text_told serde_json_on_literals
-screen-told row profile board clubs group = rw (places-told clubs (rows_of profile board clubs)) refl
+screen-told : (row : ℕ) (title : Title) (board : List ℕ) (clubs : List NamedClub)
+    → text_told (edition_screen_value row title board clubs) ≡ Some (screen_text title.profile board clubs title.group)
+unfolding edition_screen_value screen_value screen_text text_told serde_json_on_literals
+screen-told row title board clubs = rw (places-told clubs (rows_of title.profile board clubs)) refl
 
 pub same : JsonSaysTheSame
-same row profile board clubs group = record {
-  reply = replied row profile board clubs group;
+same row title board clubs = record {
+  reply = replied row title board clubs;
   bad = bad row;
   words = words-told row board ∙ lines-told 1 board;
   matches = matches-told row board clubs ∙ match-lines-told clubs board;
-  screen = screen-told row profile board clubs group;
+  screen = screen-told row title board clubs;
 }

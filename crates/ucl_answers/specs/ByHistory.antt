@@ -16,7 +16,7 @@ use Rattle.ucl_answers.specs.declared.request.Request.TheVariants.{Bad, Event, S
 use Rattle.ucl_answers.specs.Rows.{Said, Nothing, Garbled, Row, said_on}
 use Rattle.ucl_answers.specs.BadRows.{shown_text}
 use Rattle.ucl_answers.specs.Requests.{request_of}
-use Rattle.ucl_answers.specs.Text.{bad_answer, matches_answer, screen_after, screen_answer, words_answer}
+use Rattle.ucl_answers.specs.Text.{bad_answer, matches_answer, screen_after, screen_answer, title_of, words_answer}
 
 -- ---- the events that lines ask for, with who enters them, where the first line has this number and the board is open
 
@@ -42,7 +42,7 @@ attempts_in row (line ∷ lines) = attempts_on (said_on row line) ++ attempts_in
 abbrev pub reply_by_history : Format → LiveArgs → ℕ → List NamedClub → List Entry → NightEvent → List ℕ
 reply_by_history Text options row clubs history event = reply_line row history event.call
 reply_by_history Json options row clubs history event =
-    json_line (reply_value row event (sequential_reply history event.call) options.profile (board_of (after_attempt history (attempt_of event))) clubs options.group)
+    json_line (reply_value row event (sequential_reply history event.call) (title_of options) (board_of (after_attempt history (attempt_of event))) clubs)
 
 -- the answer to a request: of an event its reply, and the screen of the board with it; the screen, the words or the matches of the board before
 abbrev pub answer_by_history : LiveArgs → ℕ → List NamedClub → List Entry → Request → List ℕ → List ℕ

@@ -4,7 +4,6 @@ use Rattle.std.specs.List.{fold}
 use Rattle.serde_json.specs.Data.{Data}
 use Rattle.ucl_board.specs.declared.entry.Entry.{Entry}
 use Rattle.ucl_board.specs.History.{IsLegal, after_attempt, board_after, board_of}
-use Rattle.ucl_order.specs.declared.profile.Profile.{Profile}
 use Rattle.ucl_order.specs.Roster.{NamedClub}
 use Rattle.ucl_runs.specs.Feed.{line_of_reply, reply_line, word_lines}
 use Rattle.ucl_screen.specs.declared.fault.InputFault.{InputFault}
@@ -17,7 +16,8 @@ use Rattle.ucl_word.specs.Rules.{reply_of}
 use Rattle.ucl_board.specs.Fixtures.{IsMatch}
 use Rattle.ucl_board.specs.Words.{game_at, version_of}
 use Rattle.ucl_json.specs.Lines.{AreLinesOfValues, IsOneLine, json_line}
-use Rattle.ucl_json.specs.Values.{bad_row_value, matches_value, reply_value, screen_value, words_value}
+use Rattle.ucl_json.specs.declared.title.Title.{Title}
+use Rattle.ucl_json.specs.Values.{bad_row_value, edition_screen_value, matches_value, reply_value, words_value}
 use Rattle.ucl_command.specs.declared.options.Format.TheVariants.{Text, Json}
 use Rattle.ucl_command.specs.declared.live.LiveArgs.{LiveArgs}
 use Rattle.ucl_answers.specs.ByHistory.{answers_by_history, attempts_in}
@@ -97,16 +97,16 @@ RaisesVersion (Ok accepted) before board = version_of board ≡ before + 1
 RaisesVersion (Err refusal) before board = ⊤
 
 -- the members of each answer in JSON say just what the answer says as text: its numbers, the name of a refusal, all columns of the screen, and all of a match's line
-pub record SaysTheSame (row : ℕ) (profile : Profile) (board : List ℕ) (clubs : List NamedClub) (group : ℕ) : Type 0 where
+pub record SaysTheSame (row : ℕ) (title : Title) (board : List ℕ) (clubs : List NamedClub) : Type 0 where
   pub reply : (event : NightEvent) (before : ℕ) (reply : Result Accepted Refusal) → RaisesVersion reply before board
-      → text_told (reply_value row event reply profile board clubs group) ≡ Some (line_of_reply row event.call.game before reply)
+      → text_told (reply_value row event reply title board clubs) ≡ Some (line_of_reply row event.call.game before reply)
   pub bad : (field shown : List ℕ) → text_told (bad_row_value row field shown) ≡ Some (bad_line row)
   pub words : text_told (words_value row board) ≡ Some (word_lines 1 board)
   pub matches : text_told (matches_value row board clubs) ≡ Some (matches_text board clubs)
-  pub screen : text_told (screen_value row profile board clubs group) ≡ Some (screen_text profile board clubs group)
+  pub screen : text_told (edition_screen_value row title board clubs) ≡ Some (screen_text title.profile board clubs title.group)
 
 abbrev pub JsonSaysTheSame : Type 0
-JsonSaysTheSame = (row : ℕ) (profile : Profile) (board : List ℕ) (clubs : List NamedClub) (group : ℕ) → SaysTheSame row profile board clubs group
+JsonSaysTheSame = (row : ℕ) (title : Title) (board : List ℕ) (clubs : List NamedClub) → SaysTheSame row title board clubs
 
 -- lines of values, each one line, whose members say this text
 pub record AreLinesSaying (text json : List ℕ) : Type 0 where

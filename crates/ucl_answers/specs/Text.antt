@@ -11,7 +11,8 @@ use Rattle.ucl_screen.specs.declared.night.NightEvent.{NightEvent}
 use Rattle.ucl_screen.specs.Matches.{matches_text}
 use Rattle.ucl_screen.specs.Screen.{screen_text}
 use Rattle.ucl_json.specs.Lines.{json_line}
-use Rattle.ucl_json.specs.Values.{bad_row_value, matches_value, reply_value, screen_value, words_value}
+use Rattle.ucl_json.specs.declared.title.Title.{Title}
+use Rattle.ucl_json.specs.Values.{bad_row_value, edition_screen_value, matches_value, reply_value, words_value}
 use Rattle.ucl_command.specs.declared.options.Format.{Format}
 use Rattle.ucl_command.specs.declared.options.Format.TheVariants.{Text, Json}
 use Rattle.ucl_command.specs.declared.live.LiveArgs.{LiveArgs}
@@ -36,10 +37,14 @@ start_of options = record { options = options; row = 1; stage = Naming [] }
 
 -- ---- single answers, each in its format
 
+-- what the board is told under: its edition is 0
+abbrev pub title_of : LiveArgs → Title
+title_of options = record { group = options.group; profile = options.profile; edition = 0 }
+
 -- the reply to an event, where so many events were accepted before, with the board after it
 abbrev pub reply_in : Format → LiveArgs → ℕ → List NamedClub → NightEvent → ℕ → Result Accepted Refusal → List ℕ → List ℕ
 reply_in Text options row clubs event before reply board = line_of_reply row event.call.game before reply
-reply_in Json options row clubs event before reply board = json_line (reply_value row event reply options.profile board clubs options.group)
+reply_in Json options row clubs event before reply board = json_line (reply_value row event reply (title_of options) board clubs)
 
 abbrev pub reply_answer : LiveArgs → ℕ → List NamedClub → NightEvent → ℕ → Result Accepted Refusal → List ℕ → List ℕ
 reply_answer options row clubs event before reply board = reply_in options.format options row clubs event before reply board
@@ -55,7 +60,7 @@ bad_answer Json row field shown = json_line (bad_row_value row (field_name field
 -- the screen of a board
 abbrev pub screen_in : Format → LiveArgs → ℕ → List NamedClub → List ℕ → List ℕ
 screen_in Text options row clubs board = screen_text options.profile board clubs options.group
-screen_in Json options row clubs board = json_line (screen_value row options.profile board clubs options.group)
+screen_in Json options row clubs board = json_line (edition_screen_value row (title_of options) board clubs)
 
 abbrev pub screen_answer : LiveArgs → ℕ → List NamedClub → List ℕ → List ℕ
 screen_answer options row clubs board = screen_in options.format options row clubs board

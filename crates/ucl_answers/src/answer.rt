@@ -8,7 +8,7 @@ ghost use Rattle.ucl_runs.specs.Feed.{line_of_reply};
 ghost use Rattle.ucl_runs.specs.Lines.{accepted_line, refused_line};
 ghost use Rattle.ucl_answers.specs.BadRows.{shown_text};
 ghost use Rattle.ucl_answers.specs.Seen.{bytes_of};
-ghost use Rattle.ucl_answers.specs.Text.{bad_answer, bad_line, matches_answer, reply_answer, screen_answer};
+ghost use Rattle.ucl_answers.specs.Text.{bad_answer, bad_line, matches_answer, reply_answer, screen_answer, title_of};
 
 use crate::bad_row::{BadField, shown_text};
 use crate::stage::Table;
@@ -16,7 +16,7 @@ use arrayvec::ArrayString;
 use itoa::Buffer;
 use std::alloc::{AllocError, Global};
 use ucl_command::{Format, LiveArgs};
-use ucl_json::{bad_row_json, matches_json, reply_json, screen_json};
+use ucl_json::{Title, bad_row_json, edition_screen_json, matches_json, reply_json};
 use ucl_screen::{NightEvent, matches, screen};
 use ucl_word::{Accepted, OutOfMemory, Refusal};
 
@@ -41,6 +41,17 @@ impl Answer {
             Answer::Short(line) => line.as_str().as_bytes(),
             Answer::Long(text) => text.as_str().as_bytes(),
         }
+    }
+}
+
+/// What the board of an evening is told under. Its edition is 0.
+pub fn title_of(options: &LiveArgs) -> Title
+    ensures { result ≡ title_of options.now }
+{
+    Title {
+        group: options.group,
+        profile: options.profile,
+        edition: 0,
     }
 }
 
@@ -132,8 +143,7 @@ pub(crate) fn reply_answer(
             reply,
             &after.board,
             &after.roster,
-            options.group,
-            options.profile,
+            title_of(options),
         )?)),
     }
 }
@@ -174,13 +184,12 @@ pub(crate) fn screen_answer(
             options.group,
             options.profile,
         )?,
-        Format::Json => screen_json(
+        Format::Json => edition_screen_json(
             alloc,
             row,
             &table.board,
             &table.roster,
-            options.group,
-            options.profile,
+            title_of(options),
         )?,
     };
     Ok(Answer::Long(text))

@@ -19,7 +19,7 @@ mod stage;
 mod table;
 mod words;
 
-pub use answer::{Answer, ReplyLine, accepted_line, bad_line, refused_line};
+pub use answer::{Answer, ReplyLine, accepted_line, bad_line, refused_line, title_of};
 pub use bad_row::{BadField, bad_field_of_call};
 pub use evening::Evening;
 pub use fault::{BeginningFault, LiveFault};

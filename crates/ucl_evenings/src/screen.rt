@@ -8,9 +8,10 @@ ghost use Rattle.ucl_evenings.specs.Showing.{FailsToShowReading, HasShownReading
 
 use std::alloc::Global;
 use std::snapshot::Snapshot;
+use ucl_answers::title_of;
 use ucl_board::{Board, Reading};
 use ucl_command::{Format, LiveArgs};
-use ucl_json::screen_json;
+use ucl_json::edition_screen_json;
 use ucl_order::Roster;
 use ucl_runs::{RunFault, put_bytes};
 use ucl_screen::{Sink, screen};
@@ -30,7 +31,7 @@ fn screen_of(
 {
     let text = match options.format {
         Format::Text => screen(alloc, board, roster, options.group, options.profile)?,
-        Format::Json => screen_json(alloc, number, board, roster, options.group, options.profile)?,
+        Format::Json => edition_screen_json(alloc, number, board, roster, title_of(options))?,
     };
     Ok(text)
 }

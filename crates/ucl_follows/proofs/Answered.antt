@@ -1,5 +1,5 @@
 -- What an evening answers tells its moment.
-use Rattle.std.proofs.Common.{◌≡◌, ◌∙◌, ℕ, zero, suc, ◌+◌, ◌*◌, ◌/◌, ◌%◌, ◌^◌, ◌<◌, ◌&&◌, ◌==◌, Bool, true, false, refl, ap, arith, List, [], ◌∷◌, codes}
+use Rattle.std.proofs.Common.{◌≡◌, ◌∙◌, ℕ, zero, suc, ◌+◌, ◌*◌, ◌/◌, ◌%◌, ◌^◌, ◌<◌, ◌≤◌, ◌&&◌, ◌==◌, Bool, true, false, refl, ap, arith, List, [], ◌∷◌, codes}
 use Rattle.std.proofs.Common.{length, Option, Some, None, le-leb, inl}
 use Rattle.std.specs.Prelude.{All, nat_le, option_and_then, Ok}
 use Rattle.std.specs.Fmt.{digit_glyph}
@@ -7,6 +7,7 @@ use Rattle.std.proofs.Math.Nat.{pow-suc}
 use Rattle.std.proofs.lemmas.Bool.Decides.{nat_tests}
 use Rattle.std.proofs.lemmas.List.Elements.{All-head, All-tail}
 use Rattle.serde_json.specs.Data.{Data, member, no_members, number, object, string, unsigned}
+use Rattle.serde_json.specs.Find.{get}
 use Rattle.serde_json.proofs.OnLiterals.{serde_json_on_literals}
 use Rattle.ucl_board.specs.Words.{AreWords}
 use Rattle.ucl_order.specs.declared.profile.Profile.{Profile}
@@ -19,10 +20,10 @@ use Rattle.ucl_screen.specs.declared.night.NightEvent.{NightEvent}
 use Rattle.ucl_screen.specs.Screen.{IsGroup}
 use Rattle.ucl_screen.specs.WordsRead.{read_words}
 use Rattle.ucl_screen.proofs.ReadWords.{all-read}
-use Rattle.ucl_json.specs.Values.{accepted_value, club_items, screen_value, word_items}
+use Rattle.ucl_json.specs.Values.{accepted_value, club_items, edition_screen_value, number_value, screen_value, word_items}
 use Rattle.ucl_answers.proofs.WordDigits.{low, word-digits}
 use Rattle.ucl_follows.specs.declared.moment.Moment.{Moment}
-use Rattle.ucl_follows.specs.Told.{board_told, club_told, clubs_told, each_told, group_told, if_read, just, letter_in, list_at, listed, moment_told}
+use Rattle.ucl_follows.specs.Told.{board_told, club_told, clubs_told, each_told, edition_in, edition_told, group_told, if_read, just, letter_in, list_at, listed, moment_told}
 use Rattle.ucl_follows.specs.Told.{order_told, roster_told, text_at, word_told}
 use Rattle.ucl_follows.specs.Answered.{AnswersTellTheirMoment, IsMoment}
 
@@ -140,34 +141,40 @@ order-back : (profile : Profile) → profile_named (profile_name profile) ≡ So
 order-back Uefa = refl
 order-back AwayInTie = refl
 
+edition-back : (edition : ℕ) → edition ≤ 65535 → edition_in (Some (number_value edition)) ≡ Some edition
+edition-back edition h = rw (le-leb edition 65535 h) refl
+
 -- ---- a moment
 
-told-by : (value : Data) (m : Moment) → group_told value ≡ Some m.group → order_told value ≡ Some m.profile → clubs_told value ≡ Some m.roster → board_told value ≡ Some m.board
+told-by : (value : Data) (m : Moment) → group_told value ≡ Some m.title.group → order_told value ≡ Some m.title.profile → edition_told value ≡ Some m.title.edition
+    → clubs_told value ≡ Some m.roster → board_told value ≡ Some m.board
     → moment_told value ≡ Some m
 unfolding moment_told
-told-by value m a b c d = rw (a, b, c, d) refl
+told-by value m a b c d e = rw (a, b, c, d, e) refl
 
 abbrev Has : Data → Moment → Type 0
-Has value m = (text_at (codes "group") value ≡ Some (m.group ∷ [])) × (text_at (codes "order") value ≡ Some (profile_name m.profile))
+Has value m = (text_at (codes "group") value ≡ Some (m.title.group ∷ [])) × (text_at (codes "order") value ≡ Some (profile_name m.title.profile))
+    × (get (codes "edition") value ≡ Some (number_value m.title.edition))
     × (list_at (codes "clubs") value ≡ Some (listed (club_items m.roster))) × (list_at (codes "words") value ≡ Some (listed (word_items m.board)))
 
 tells : (value : Data) (m : Moment) → IsMoment m → Has value m → moment_told value ≡ Some m
-tells value m is (group, order, clubs, words) = told-by value m
-    (ap (option_and_then letter_in) group ∙ letter-told m.group is.letter)
-    (ap (option_and_then profile_named) order ∙ order-back m.profile)
+tells value m is (group, order, edition, clubs, words) = told-by value m
+    (ap (option_and_then letter_in) group ∙ letter-told m.title.group is.letter)
+    (ap (option_and_then profile_named) order ∙ order-back m.title.profile)
+    (ap edition_in edition ∙ edition-back m.title.edition is.edition)
     (ap (option_and_then roster_told) clubs ∙ clubs-told m.roster is.clubs)
     (rw words (board-told m.board is.words is.bits))
 
-reply-has : (row : ℕ) (event : NightEvent) (event_number : ℕ) (m : Moment) → Has (accepted_value row event event_number m.profile m.board m.roster m.group) m
+reply-has : (row : ℕ) (event : NightEvent) (event_number : ℕ) (m : Moment) → Has (accepted_value row event event_number m.title m.board m.roster) m
 unfolding accepted_value serde_json_on_literals
-reply-has row event event_number m = (refl, refl, refl, refl)
+reply-has row event event_number m = (refl, refl, refl, refl, refl)
 
-screen-has : (row : ℕ) (m : Moment) → Has (screen_value row m.profile m.board m.roster m.group) m
-unfolding screen_value serde_json_on_literals
-screen-has row m = (refl, refl, refl, refl)
+screen-has : (row : ℕ) (m : Moment) → Has (edition_screen_value row m.title m.board m.roster) m
+unfolding edition_screen_value screen_value serde_json_on_literals
+screen-has row m = (refl, refl, refl, refl, refl)
 
 pub answered : AnswersTellTheirMoment
 answered row event event_number m is = record {
-  reply = tells (accepted_value row event event_number m.profile m.board m.roster m.group) m is (reply-has row event event_number m);
-  screen = tells (screen_value row m.profile m.board m.roster m.group) m is (screen-has row m);
+  reply = tells (accepted_value row event event_number m.title m.board m.roster) m is (reply-has row event event_number m);
+  screen = tells (edition_screen_value row m.title m.board m.roster) m is (screen-has row m);
 }

@@ -30,7 +30,7 @@ use Rattle.ucl_screen.specs.Numbers.{in_range, number}
 use Rattle.ucl_screen.specs.Rows.{FourFields}
 use Rattle.ucl_screen.specs.WordsRead.{read_words}
 use Rattle.ucl_json.specs.Lines.{json_line}
-use Rattle.ucl_json.specs.Values.{accepted_value, reply_value, screen_value}
+use Rattle.ucl_json.specs.Values.{accepted_value, edition_screen_value, reply_value}
 use Rattle.ucl_command.specs.declared.live.LiveArgs.{LiveArgs}
 use Rattle.ucl_command.specs.declared.options.Format.TheVariants.{Json}
 use Rattle.ucl_answers.specs.declared.request.Request.{Request}
@@ -41,7 +41,7 @@ use Rattle.ucl_answers.specs.Requests.{asked_by, event_or_bad, request_of}
 use Rattle.ucl_answers.specs.Rows.{Said, Nothing, Garbled, Row, said_on}
 use Rattle.ucl_answers.specs.Stages.{Stage, Naming, Open, Refused, Restoring, after_club, after_row, after_word}
 use Rattle.ucl_answers.specs.Stages.{club_said, is_word_row, next_board, next_stage, opened, restored, with_roster, with_words, word_said}
-use Rattle.ucl_answers.specs.Text.{Evening, after_lines, answer_at, answer_of, answer_said, answers, next, reply_answer, screen_after, screen_answer}
+use Rattle.ucl_answers.specs.Text.{Evening, after_lines, answer_at, answer_of, answer_said, answers, next, reply_answer, screen_after, screen_answer, title_of}
 use Rattle.ucl_answers.proofs.Boards.{AreAttempts, asked, asked-by, event-is_attempt}
 use Rattle.ucl_answers.proofs.GoodBoards.{fresh-good, good-after, read-good, version-after}
 use Rattle.ucl_answers.proofs.OneByOne.{after-none, after-one, answers-none, answers-one}
@@ -144,7 +144,7 @@ good-after-lines e (line ∷ lines) g = good-after-lines (next e (said_on e.row 
 -- ---- moments
 
 pub moment-good : (options : LiveArgs) (clubs : List NamedClub) (board : List ℕ) → IsRoster clubs → AreWords board → IsMoment (moment_with options clubs board)
-moment-good options clubs board is w = record { letter = options.letter; clubs = is; words = w; bits = board-fits board w.each }
+moment-good options clubs board is w = record { letter = options.letter; edition = omega arith; clubs = is; words = w; bits = board-fits board w.each }
 
 pub stage-good : (options : LiveArgs) (s : Stage) (m : Moment) → IsGood s → moment_at options s ≡ Some m → IsMoment m
 stage-good options (Open clubs board) m g e = let same : moment_with options clubs board ≡ m = cc in subst IsMoment same (moment-good options clubs board g.0 g.1)
@@ -228,7 +228,7 @@ module _ (options : LiveArgs) (row : ℕ) (clubs : List NamedClub) (json : optio
 
   screen-tells : (board : List ℕ) → AreWords board → TellsAlone (At board) (screen_answer options row clubs board)
   screen-tells board w =
-      rw json (alone-line (screen_value row options.profile board clubs options.group) (At board) (At board)
+      rw json (alone-line (edition_screen_value row (title_of options) board clubs) (At board) (At board)
       ((told-lines row kick_off 0 (moment_with options clubs board) (moment-good options clubs board is w) fits kick_off-fits (omega arith)).screen) (inr refl))
 
   wanted : (b : Bool) (o : Option Moment) (text : List ℕ) → TellsAlone o text → TellsAlone o (if b then text else [])
@@ -255,11 +255,11 @@ module _ (options : LiveArgs) (row : ℕ) (clubs : List NamedClub) (json : optio
     number-fits = let n = number_valid (game_of board) (is-valid board w) in omega arith
 
     abbrev reply-with : Option Refusal → List ℕ
-    reply-with o = json_line (reply_value row event (answer (game_of board).number o) options.profile now clubs options.group)
+    reply-with o = json_line (reply_value row event (answer (game_of board).number o) (title_of options) now clubs)
 
     accepted-line : IsLineThat (At now) (reply-with None)
     accepted-line =
-        value-line (accepted_value row event ((game_of board).number + 1) options.profile now clubs options.group) (At now)
+        value-line (accepted_value row event ((game_of board).number + 1) (title_of options) now clubs) (At now)
         ((told-lines row event ((game_of board).number + 1) (moment_with options clubs now) (moment-good options clubs now is good-now) fits small number-fits).reply)
 
     pub accepted-reply : (before : ℕ) → refusal_of (game_of board) event.call.expected event.call.kind ≡ None

@@ -1,5 +1,5 @@
 -- The last moment of a journal, and what comes after a crash.
-use Rattle.std.proofs.Common.{◌≡◌, ◌∙◌, ◌⊎◌, ℕ, ◌+◌, ◌^◌, ◌≤◌, refl, sym, ap, ap₂, subst}
+use Rattle.std.proofs.Common.{◌≡◌, ◌∙◌, ◌⊎◌, ℕ, ◌+◌, ◌^◌, ◌≤◌, false, refl, sym, ap, ap₂, subst}
 use Rattle.std.proofs.Common.{arith, List, [], ◌∷◌, ◌++◌, length, append-nil, append_assoc, length-append, Option, Some, None, inl, inr}
 use Rattle.std.specs.List.{fold}
 use Rattle.ucl_word.specs.declared.refusal.Refusal.{Refusal}
@@ -19,16 +19,16 @@ use Rattle.ucl_answers.specs.Lines.{lines_of}
 use Rattle.ucl_answers.specs.Requests.{asked_by}
 use Rattle.ucl_answers.specs.Rows.{Said, Nothing, Garbled, Row, said_on}
 use Rattle.ucl_answers.specs.Stages.{Stage, Open, next_board, next_stage, opened}
-use Rattle.ucl_answers.specs.Text.{Evening, after_lines, answers, next, start_of}
+use Rattle.ucl_answers.specs.Text.{Evening, after_lines, answers, next, start_of, title_of}
 use Rattle.ucl_answers.proofs.Boards.{boards}
 use Rattle.ucl_answers.proofs.OneByOne.{after-append, after-none, after-one}
 use Rattle.ucl_follows.specs.declared.moment.Moment.{Moment}
-use Rattle.ucl_follows.specs.Follow.{followed, unseen, version_at, whole_lines}
+use Rattle.ucl_follows.specs.Follow.{followed, is_later, unseen, version_at, whole_lines}
 use Rattle.ucl_follows.specs.Journals.{CrashesChangeNothing, IsAnsweredIn, TakesEvent, JournalsEndWithTheBoard, moment_at, moment_now, moment_with}
 use Rattle.ucl_follows.specs.Latest.{IsLatest, IsNoNewer, IsToldIn}
 use Rattle.ucl_follows.specs.Resuming.{opened_at}
 use Rattle.ucl_follows.proofs.JournalAnswers.{AllTold, IsGood, IsOnTheWay, Lines, good-after-lines, weaken}
-use Rattle.ucl_follows.proofs.Journals.{AtMost, among, boards-rise, first-answer, greatest, in-lines, lines-attempts}
+use Rattle.ucl_follows.proofs.Journals.{AtMost, among, boards-rise, first-answer, greatest, in-lines, later-by-version, lines-attempts}
 use Rattle.ucl_follows.proofs.Journals.{lines-few, open-with, options-after, row-after, told-in, told-in-left, way}
 use Rattle.ucl_follows.proofs.Repeats.{all-same}
 
@@ -118,11 +118,11 @@ module _ (e : Evening) (lines : Lines) (json : e.options.format ≡ Json) (fits 
         let p = open-with (after_lines e lines).options (after_lines e lines).stage m ends in
         elim b.2 [
           | inl same ↦ inl (sym (same-moment e first (after_lines e lines) m other (options-same first) (last ∙ ap (Open o.0) (sym same) ∙ sym o.2) ends w.3))
-          | inr less ↦ inr (let v : version_at other ≡ version_of o.1 = ap version_of o.3 in
+          | inr less ↦ inr (later-by-version m other (p.4 ∙ ap title_of (options-same first) ∙ sym o.4) (let v : version_at other ≡ version_of o.1 = ap version_of o.3 in
               let at : ◌≡◌ {A = Stage} (Open p.0 p.1) (Open o.0 b.0) = sym p.2 ∙ last in
               let same : p.1 ≡ b.0 = cc in
               let n : version_at m ≡ version_of b.0 = ap version_of (p.3 ∙ same) in
-              omega (arith, v, n, less))
+              omega (arith, v, n, less)))
         ]
 
     way-all : AllTold (IsOnTheWay e lines) Out
@@ -154,7 +154,7 @@ module _ (e : Evening) (lines : Lines) (json : e.options.format ≡ Json) (fits 
               let one = first-answer e lines (answers e lines) [] json fits g whole before more.1 more.2 parts takes in
               let answered = all-answered before more.1 more.2 parts takes in
               let in_left = told-in-left e lines (answers e lines) [] json fits g whole before more.1 more.2 parts takes answered in
-              let most : version_at one.told ≤ version_at n = told-in (λ told. AtMost told (Some n)) Out one.told
+              let most : is_later one.told n ≡ false = told-in (λ told. AtMost told (Some n)) Out one.told
               (subst (λ (o : Option Moment). AllTold (λ told. AtMost told o) Out) newest at-most) in_left in
               let short = among e lines (answers e lines) [] json fits g whole before more.1 more.2 parts takes first rest n w.2 w.3 most in
               absurd (omega (arith, short, length-append first more.0))

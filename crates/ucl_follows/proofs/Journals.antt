@@ -20,37 +20,46 @@ use Rattle.ucl_answers.specs.ByHistory.{attempts_in, attempts_on}
 use Rattle.ucl_answers.specs.Lines.{last_lines, lines_of}
 use Rattle.ucl_answers.specs.Rows.{Said, Nothing, Garbled, Row, said_on}
 use Rattle.ucl_answers.specs.Stages.{Stage, Naming, Open, Refused, Restoring, opened}
-use Rattle.ucl_answers.specs.Text.{Evening, after_lines, answers, next, start_of}
+use Rattle.ucl_answers.specs.Text.{Evening, after_lines, answers, next, start_of, title_of}
 use Rattle.ucl_answers.proofs.Boards.{asked, boards}
 use Rattle.ucl_answers.proofs.GoodBoards.{good-after, version-after}
 use Rattle.ucl_answers.proofs.OneByOne.{after-append, after-none, answers-append, answers-one}
+use Rattle.ucl_json.specs.declared.title.Title.{Title}
 use Rattle.ucl_follows.specs.declared.moment.Moment.{Moment}
 use Rattle.ucl_follows.specs.declared.following.Following.{Following}
 use Rattle.ucl_follows.specs.Told.{moment_on}
-use Rattle.ucl_follows.specs.Follow.{after_told, follow_text, followed, is_newer, passed_over, resuming_text, shown_too, sights, told_text, unseen, version_at, whole_lines}
-use Rattle.ucl_follows.specs.Journals.{CutJournalsResume, TakesEvent, IsAnsweredIn, ResumesTheBoard, moment_at, moment_now}
+use Rattle.ucl_follows.specs.Follow.{after_told, follow_text, followed, is_later, is_newer, passed_over, resuming_text, shown_too, sights, told_text, unseen, version_at, whole_lines}
+use Rattle.ucl_follows.specs.Journals.{CutJournalsResume, TakesEvent, IsAnsweredIn, ResumesTheBoard, moment_at, moment_now, moment_with}
 use Rattle.ucl_follows.specs.Latest.{IsToldIn}
 use Rattle.ucl_follows.specs.Resuming.{OpensTheBoard}
 use Rattle.ucl_follows.proofs.JournalAnswers.{AllTold, AnswersFirst, IsGood, IsOnTheWay, Lines, answers-first, begun-of, good-after-lines, on-the-way, stage-good}
 use Rattle.ucl_follows.proofs.JournalLines.{lines-then, lines_in}
 use Rattle.ucl_follows.proofs.Resumed.{resumed}
+use Rattle.ucl_follows.proofs.Shown.{not-itself, one-way}
 
 -- ---- the newest of lines is the greatest
 
 abbrev pub AtMost : Option Moment → Option Moment → Type 0
 AtMost None o = ⊤
 AtMost (Some m) None = ⊥
-AtMost (Some m) (Some n) = version_at m ≤ version_at n
+AtMost (Some m) (Some n) = is_later m n ≡ false
 
 at-most-same : (o : Option Moment) → AtMost o o
 at-most-same None = tt
-at-most-same (Some m) = omega arith
+at-most-same (Some m) = not-itself m
 
 at-most-then : (a b c : Option Moment) → AtMost a b → AtMost b c → AtMost a c
 at-most-then None b c h k = tt
 at-most-then (Some m) None c h k = absurd h
 at-most-then (Some m) (Some n) None h k = absurd k
-at-most-then (Some m) (Some n) (Some l) h k = omega arith
+at-most-then (Some m) (Some n) (Some l) h k = grind (arith, nat_tests)
+
+-- in one edition versions tell which is later
+pub no-higher : (m n : Moment) → m.title ≡ n.title → is_later m n ≡ false → version_at m ≤ version_at n
+no-higher m n e h = let same : m.title.edition ≡ n.title.edition = ap (λ (t : Title). t.edition) e in grind (arith, nat_tests)
+
+pub later-by-version : (m n : Moment) → m.title ≡ n.title → version_at n < version_at m → is_later m n ≡ true
+later-by-version m n e h = let same : m.title.edition ≡ n.title.edition = ap (λ (t : Title). t.edition) e in grind (arith, nat_tests)
 
 abbrev IsTheTold : Option Moment → Option Moment → Type 0
 IsTheTold now o = (m : Moment) × (o ≡ Some m) × (now ≡ Some m)
@@ -62,11 +71,11 @@ record Step (f : Following) (o : Option Moment) : Type 0 where
 
 above : (newest : Option Moment) (m : Moment) → is_newer newest m ≡ true → AtMost newest (Some m)
 above None m h = tt
-above (Some n) m h = grind (arith, nat_tests)
+above (Some n) m h = one-way m n h
 
 below : (newest : Option Moment) (m : Moment) → is_newer newest m ≡ false → AtMost (Some m) newest
 below None m h = cc
-below (Some n) m h = grind (arith, nat_tests)
+below (Some n) m h = h
 
 one-step : (f : Following) (o : Option Moment) → Step f o
 one-step f None = record { before = at-most-same f.newest; told = tt; either = inl refl }
@@ -208,9 +217,10 @@ unfolding after_lines
 options-after e [] = refl
 options-after e (line ∷ lines) = options-after (next e (said_on e.row line)) lines
 
--- a stage with a moment is open
-pub open-with : (options : LiveArgs) (s : Stage) (m : Moment) → moment_at options s ≡ Some m → (clubs : List NamedClub) × (board : List ℕ) × (s ≡ Open clubs board) × (m.board ≡ board)
-open-with options (Open clubs board) m e = (clubs, board, refl, cc)
+-- a stage with a moment is open, and the moment has the title of the evening
+pub open-with : (options : LiveArgs) (s : Stage) (m : Moment) → moment_at options s ≡ Some m
+    → (clubs : List NamedClub) × (board : List ℕ) × (s ≡ Open clubs board) × (m.board ≡ board) × (m.title ≡ title_of options)
+open-with options (Open clubs board) m e = let same : moment_with options clubs board ≡ m = cc in (clubs, board, refl, cc, sym (ap (λ (n : Moment). n.title) same))
 open-with options (Naming clubs) m e = cc
 open-with options (Restoring clubs words) m e = cc
 open-with options (Refused fault) m e = cc
@@ -259,8 +269,8 @@ module _ (e : Evening) (lines : Lines) (left lost : List ℕ) (json : e.options.
         let k = longer-front (whole_lines left) (ended_lines 4097 (begun-of left) lost) (lines_in (answers e before)) l.line rest (sym split ∙ in-lines) answered in
         (l.line, (lines_in (answers e before), k.0, k.1), l.told)
 
-    -- the board after so many lines has the event, where its version is that of the event's moment, or higher
-    pub among : (first rest : Lines) (m : Moment) → lines ≡ first ++ rest → moment_now (after_lines e first) ≡ Some m → version_at first-answer.told ≤ version_at m → length before < length first
+    -- the board after so many lines has the event, where the event's moment is no later
+    pub among : (first rest : Lines) (m : Moment) → lines ≡ first ++ rest → moment_now (after_lines e first) ≡ Some m → is_later first-answer.told m ≡ false → length before < length first
     among first rest m whole is most = elim (cases_lt (length before) (length first)) [
       | inl less ↦ less
       | inr no_less ↦
@@ -281,9 +291,14 @@ module _ (e : Evening) (lines : Lines) (left lost : List ℕ) (json : e.options.
           sym (ap (λ (s : Stage). opened s (said_on (after_lines e before).row line)) there) ∙ accepted.stands in
           let board-is : now ≡ accepted.board = cc in
           let newer = first-answer.newer in
+          let f = next (after_lines e before) (said_on (after_lines e before).row line) in
+          let told-title : first-answer.told.title ≡ title_of e.options =
+          (open-with f.options f.stage first-answer.told first-answer.now).4 ∙ ap title_of (options-after e before) in
+          let title : m.title ≡ title_of e.options = o.4 ∙ ap title_of (options-after e first) in
+          let least = no-higher first-answer.told m (told-title ∙ sym title) most in
           let v : version_at m ≡ version_of board = ap version_of same in
           let w : version_of now ≡ version_of accepted.board = ap version_of board-is in
-          absurd (omega (arith, newer, v, w, rise, most))
+          absurd (omega (arith, newer, v, w, rise, least))
     ]
 
   module _ (again : LiveArgs) (fresh : moment_now e ≡ None) where

@@ -34,7 +34,7 @@ use Rattle.ucl_order.specs.Roster.{IsClub, IsRoster, NamedClub, club_in, is_club
 use Rattle.ucl_screen.specs.declared.night.NightEvent.{NightEvent}
 use Rattle.ucl_screen.specs.Numbers.{hex_digits}
 use Rattle.ucl_screen.specs.Screen.{IsGroup, in_play}
-use Rattle.ucl_json.specs.Values.{accepted_value, club_items, club_value, mark_name, place_items, place_value, screen_value, word_items}
+use Rattle.ucl_json.specs.Values.{accepted_value, club_items, club_value, edition_screen_value, mark_name, place_items, place_value, screen_value, word_items}
 use Rattle.ucl_answers.proofs.WordDigits.{low, word-digits}
 use Rattle.ucl_follows.specs.declared.moment.Moment.{Moment}
 use Rattle.ucl_follows.specs.Answered.{HasNumbers, IsMoment, LinesTellTheirMoment}
@@ -151,15 +151,16 @@ kind-text FullTime = (refl, omega arith)
 kind-text Reopen = (refl, omega arith)
 
 pub accepted-plain : (row : ℕ) (event : NightEvent) (number : ℕ) (m : Moment) → IsMoment m → row < 2 ^ 64 → HasNumbers event → number < 2 ^ 64
-    → IsPlain 127 (accepted_value row event number m.profile m.board m.roster m.group) × (size (accepted_value row event number m.profile m.board m.roster m.group) ≤ 4096)
+    → IsPlain 127 (accepted_value row event number m.title m.board m.roster) × (size (accepted_value row event number m.title m.board m.roster) ≤ 4096)
 unfolding accepted_value serde_json_on_literals
 accepted-plain row event number m is r fits n =
     let words = words-plain m.board is.bits in
     let clubs = clubs-plain m.roster is.clubs in
     let kind = kind-text event.call.kind in
-    let order = order-text m.profile in
-    let group = group-text m.group is.letter in
+    let order = order-text m.title.profile in
+    let group = group-text m.title.group is.letter in
     let version = version-fits m.board is.words in
+    let edition : m.title.edition < 2 ^ 64 = let e = is.edition in omega (arith, e) in
     let twelve = is.words.twelve in
     let few = words.1 in
     let four = clubs.1 in
@@ -167,7 +168,7 @@ accepted-plain row event number m is r fits n =
     let short = order.1 in (
       (
         (refl, refl),
-        (clubs.0, (kind.0, (fits.expected, (group, (fits.game, (n, (order.0, (refl, (fits.reporter, (r, (version, (words.0, tt)))))))))))),
+        (clubs.0, (edition, (kind.0, (fits.expected, (group, (fits.game, (n, (order.0, (refl, (fits.reporter, (r, (version, (words.0, tt))))))))))))),
       ),
       omega arith,
     )
@@ -224,15 +225,16 @@ places-plain profile board roster is words =
     ((w.0, (x.0, (y.0, (z.0, tt)))), (let a = w.1 in let b = x.1 in let c = y.1 in let d = z.1 in omega arith))
 
 pub screen-plain : (row : ℕ) (m : Moment) → IsMoment m → row < 2 ^ 64
-    → IsPlain 127 (screen_value row m.profile m.board m.roster m.group) × (size (screen_value row m.profile m.board m.roster m.group) ≤ 4096)
-unfolding screen_value serde_json_on_literals
+    → IsPlain 127 (edition_screen_value row m.title m.board m.roster) × (size (edition_screen_value row m.title m.board m.roster) ≤ 4096)
+unfolding edition_screen_value screen_value serde_json_on_literals
 screen-plain row m is r =
     let words = words-plain m.board is.bits in
     let clubs = clubs-plain m.roster is.clubs in
-    let order = order-text m.profile in
-    let group = group-text m.group is.letter in
-    let places = places-plain m.profile m.board m.roster is.clubs is.words in
+    let order = order-text m.title.profile in
+    let group = group-text m.title.group is.letter in
+    let places = places-plain m.title.profile m.board m.roster is.clubs is.words in
     let version = version-fits m.board is.words in
+    let edition : m.title.edition < 2 ^ 64 = let e = is.edition in omega (arith, e) in
     let twelve = is.words.twelve in
     let playing = count_by-le-length (λ word. is_in_play (record_at word).state) m.board in
     let now : in_play m.board < 2 ^ 64 = omega (arith, twelve, playing) in
@@ -240,7 +242,7 @@ screen-plain row m is r =
     let four = clubs.1 in
     let short = order.1 in
     let table = places.1 in
-    (((refl, refl), (clubs.0, (group, (now, (order.0, (refl, (r, (places.0, (version, (words.0, tt)))))))))), omega arith)
+    (((refl, refl), (clubs.0, (edition, (group, (now, (order.0, (refl, (r, (places.0, (version, (words.0, tt))))))))))), omega arith)
 
 -- ---- their lines
 
@@ -249,6 +251,6 @@ told-lines row event number m is r fits n =
     let reply = accepted-plain row event number m is r fits n in
     let screen = screen-plain row m is r in
     let told = answered row event number m is in record {
-      reply = told-by-line (accepted_value row event number m.profile m.board m.roster m.group) reply.0 reply.1 ∙ told.reply;
-      screen = told-by-line (screen_value row m.profile m.board m.roster m.group) screen.0 screen.1 ∙ told.screen;
+      reply = told-by-line (accepted_value row event number m.title m.board m.roster) reply.0 reply.1 ∙ told.reply;
+      screen = told-by-line (edition_screen_value row m.title m.board m.roster) screen.0 screen.1 ∙ told.screen;
     }

@@ -1,5 +1,5 @@
 -- What is shown of lines.
-use Rattle.std.proofs.Common.{◌≡◌, ℕ, ◌<◌, true, false, List, [], ◌∷◌, ◌++◌, Option, Some, None, refl, sym, ap, ap₂, ◌∙◌, inl, inr, subst, append_assoc, append-nil, arith}
+use Rattle.std.proofs.Common.{◌≡◌, ℕ, true, false, List, [], ◌∷◌, ◌++◌, Option, Some, None, refl, sym, ap, ap₂, ◌∙◌, inl, inr, subst, append_assoc, append-nil, arith}
 use Rattle.std.specs.Prelude.{⊤, All, flat_map}
 use Rattle.std.proofs.lemmas.Bool.{cases_Bool}
 use Rattle.std.proofs.lemmas.Bool.Decides.{nat_tests}
@@ -9,7 +9,7 @@ use Rattle.ucl_follows.specs.declared.moment.Moment.{Moment}
 use Rattle.ucl_follows.specs.declared.following.Following.{Following}
 use Rattle.ucl_command.specs.declared.follow.FollowArgs.TheVariants.{Text}
 use Rattle.ucl_follows.specs.Told.{moment_on}
-use Rattle.ucl_follows.specs.Follow.{after_told, followed, is_newer, passed_over, shown_too, sights, told_text, unseen, version_at}
+use Rattle.ucl_follows.specs.Follow.{after_told, followed, is_later, is_newer, passed_over, shown_too, sights, told_text, unseen}
 use Rattle.ucl_follows.specs.Latest.{IsLineOfThese, IsNoNewer, IsShownLast, IsToldIn, LatestIsShownLast, OthersDoNotMatter, RiseAbove}
 use Rattle.ucl_follows.specs.Latest.{ShownVersionsRise, moments_shown, shown_of}
 
@@ -17,7 +17,7 @@ abbrev Lines : Type 0
 Lines = List (List ℕ)
 
 abbrev screen_of : Moment → List ℕ
-screen_of m = screen_text m.profile m.board m.roster m.group
+screen_of m = screen_text m.title.profile m.board m.roster m.title.group
 
 -- ---- rising
 
@@ -81,6 +81,13 @@ versions f lines = record { rise = rise f lines; text = text f lines; told = tol
 
 -- ---- the latest
 
+-- no moment is later than itself, nor than one that is later
+pub not-itself : (m : Moment) → is_later m m ≡ false
+not-itself m = grind (arith, nat_tests)
+
+pub one-way : (m other : Moment) → is_later m other ≡ true → is_later other m ≡ false
+one-way m other h = grind (arith, nat_tests)
+
 module _ (m : Moment) where
   abbrev Fits : List ℕ → Type 0
   Fits line = IsNoNewer m (moment_on line)
@@ -88,13 +95,13 @@ module _ (m : Moment) where
   -- the newest so far is older
   abbrev IsBelow : Option Moment → Type 0
   IsBelow None = ⊤
-  IsBelow (Some other) = version_at other < version_at m
+  IsBelow (Some other) = is_later m other ≡ true
 
   -- it is the moment itself: no line is newer, and none is shown
   stays : (f : Following) (o : Option Moment) → f.newest ≡ Some m → IsNoNewer m o → ((after_told f o).newest ≡ Some m) × (shown_of f o ≡ [])
   stays f None h k = (h, refl)
-  stays f (Some other) h (inl e) = let n : is_newer f.newest other ≡ false = rw (h, e) (grind (arith, nat_tests)) in rw n (h, refl)
-  stays f (Some other) h (inr less) = let n : is_newer f.newest other ≡ false = rw h (grind (arith, nat_tests)) in rw n (h, refl)
+  stays f (Some other) h (inl e) = let n : is_newer f.newest other ≡ false = rw (h, e) (not-itself m) in rw n (h, refl)
+  stays f (Some other) h (inr less) = let n : is_newer f.newest other ≡ false = rw h (one-way m other less) in rw n (h, refl)
 
   pub rest : (f : Following) (lines : Lines) → f.newest ≡ Some m → All Fits lines → ((followed f lines).newest ≡ Some m) × (moments_shown f lines ≡ [])
   unfolding followed moments_shown
@@ -109,7 +116,7 @@ module _ (m : Moment) where
 
   newer : (o : Option Moment) → IsBelow o → is_newer o m ≡ true
   newer None h = refl
-  newer (Some other) h = grind (arith, nat_tests)
+  newer (Some other) h = h
 
   onward : (f g : Following) (first : List ℕ) (more : Lines) (ms : List Moment) → after_told f (moment_on first) ≡ g → shown_of f (moment_on first) ≡ ms → EndsWith g more → EndsWith f (first ∷ more)
   unfolding followed moments_shown

@@ -5,21 +5,22 @@ use Rattle.ucl_board.specs.Words.{AreWords}
 use Rattle.ucl_order.specs.Roster.{IsRoster}
 use Rattle.ucl_screen.specs.declared.night.NightEvent.{NightEvent}
 use Rattle.ucl_screen.specs.Screen.{IsGroup}
-use Rattle.ucl_json.specs.Values.{accepted_value, matches_value, screen_value}
+use Rattle.ucl_json.specs.Values.{accepted_value, edition_screen_value, matches_value}
 use Rattle.ucl_follows.specs.declared.moment.Moment.{Moment}
 use Rattle.ucl_follows.specs.Told.{moment_on, moment_told}
 
--- a moment of a group of good clubs and a board, whose words have 64 bits
+-- a moment of a group of good clubs and a board, whose words have 64 bits, and whose edition has 16
 pub record IsMoment (m : Moment) : Type 0 where
-  pub letter : IsGroup m.group
+  pub letter : IsGroup m.title.group
+  pub edition : m.title.edition ≤ 65535
   pub clubs : IsRoster m.roster
   pub words : AreWords m.board
   pub bits : All (λ word. word < 2 ^ 64) m.board
 
 -- the value of the answer to an accepted event, and that of a screen, tell just their moment
 pub record TellsItsMoment (row : ℕ) (event : NightEvent) (number : ℕ) (m : Moment) : Type 0 where
-  pub reply : moment_told (accepted_value row event number m.profile m.board m.roster m.group) ≡ Some m
-  pub screen : moment_told (screen_value row m.profile m.board m.roster m.group) ≡ Some m
+  pub reply : moment_told (accepted_value row event number m.title m.board m.roster) ≡ Some m
+  pub screen : moment_told (edition_screen_value row m.title m.board m.roster) ≡ Some m
 
 abbrev pub AnswersTellTheirMoment : Type 0
 AnswersTellTheirMoment = (row : ℕ) (event : NightEvent) (number : ℕ) (m : Moment) → IsMoment m → TellsItsMoment row event number m
@@ -32,8 +33,8 @@ pub record HasNumbers (event : NightEvent) : Type 0 where
 
 -- the same of the lines of these answers, with the row, the event and the event number of an evening: each is short enough for a follower
 pub record TellsOnItsLine (row : ℕ) (event : NightEvent) (number : ℕ) (m : Moment) : Type 0 where
-  pub reply : moment_on (compact_text (accepted_value row event number m.profile m.board m.roster m.group)) ≡ Some m
-  pub screen : moment_on (compact_text (screen_value row m.profile m.board m.roster m.group)) ≡ Some m
+  pub reply : moment_on (compact_text (accepted_value row event number m.title m.board m.roster)) ≡ Some m
+  pub screen : moment_on (compact_text (edition_screen_value row m.title m.board m.roster)) ≡ Some m
 
 abbrev pub LinesTellTheirMoment : Type 0
 LinesTellTheirMoment = (row : ℕ) (event : NightEvent) (number : ℕ) (m : Moment) → IsMoment m → row < 2 ^ 64 → HasNumbers event → number < 2 ^ 64

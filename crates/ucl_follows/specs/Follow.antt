@@ -1,5 +1,5 @@
 -- What a follower writes.
-use Rattle.std.specs.Prelude.{ℕ, ◌+◌, ◌-◌, ◌^◌, ◌==◌, min, nat_lt, if◌then◌else◌, Bool, true, List, [], ◌∷◌, ◌++◌, codes, decimal, flat_map, Option, Some, None}
+use Rattle.std.specs.Prelude.{ℕ, ◌+◌, ◌-◌, ◌^◌, ◌==◌, ◌||◌, ◌&&◌, min, nat_lt, if◌then◌else◌, Bool, true, List, [], ◌∷◌, ◌++◌, codes, decimal, flat_map, Option, Some, None}
 use Rattle.ucl_io.specs.Lines.{ended_lines}
 use Rattle.ucl_board.specs.Words.{version_of}
 use Rattle.ucl_order.specs.Roster.{NamedClub, coefficient_of, name_of}
@@ -7,7 +7,7 @@ use Rattle.ucl_runs.specs.Feed.{word_lines}
 use Rattle.ucl_screen.specs.Matches.{matches_text}
 use Rattle.ucl_screen.specs.Screen.{screen_text}
 use Rattle.ucl_json.specs.Lines.{json_line}
-use Rattle.ucl_json.specs.Values.{screen_value}
+use Rattle.ucl_json.specs.Values.{edition_screen_value}
 use Rattle.ucl_follows.specs.declared.moment.Moment.{Moment}
 use Rattle.ucl_follows.specs.declared.following.Following.{Following}
 use Rattle.ucl_command.specs.declared.follow.FollowArgs.{FollowArgs}
@@ -36,15 +36,20 @@ resuming_rows moment =
 
 -- the screen of a moment, or its matches, worked out from its words, where the line of this number told it. A follower that resumes shows none
 abbrev pub sight_text : FollowArgs → ℕ → Moment → List ℕ
-sight_text Text row moment = screen_text moment.profile moment.board moment.roster moment.group
-sight_text Json row moment = json_line (screen_value row moment.profile moment.board moment.roster moment.group)
+sight_text Text row moment = screen_text moment.title.profile moment.board moment.roster moment.title.group
+sight_text Json row moment = json_line (edition_screen_value row moment.title moment.board moment.roster)
 sight_text Matches row moment = matches_text moment.board moment.roster
 sight_text Rows row moment = []
+
+-- whether a moment is of a later edition than another, or of the same one and of a higher version
+abbrev pub is_later : Moment → Moment → Bool
+is_later moment other =
+    nat_lt other.title.edition moment.title.edition || ((other.title.edition == moment.title.edition) && nat_lt (version_at other) (version_at moment))
 
 -- whether a moment is newer than the newest that was shown
 abbrev pub is_newer : Option Moment → Moment → Bool
 is_newer None moment = true
-is_newer (Some newest) moment = nat_lt (version_at newest) (version_at moment)
+is_newer (Some newest) moment = is_later moment newest
 
 -- one more; a number past the greatest of 64 bits is told as that
 abbrev pub one_more : ℕ → ℕ

@@ -13,7 +13,7 @@ use Rattle.ucl_answers.specs.ByHistory.{attempts_in, attempts_on}
 use Rattle.ucl_answers.specs.Lines.{lines_of}
 use Rattle.ucl_answers.specs.Rows.{said_on}
 use Rattle.ucl_answers.specs.Stages.{Stage, Naming, Open, Refused, Restoring, opened}
-use Rattle.ucl_answers.specs.Text.{Evening, after_lines, answers, live_text, start_of}
+use Rattle.ucl_answers.specs.Text.{Evening, after_lines, answers, live_text, start_of, title_of}
 use Rattle.ucl_follows.specs.declared.moment.Moment.{Moment}
 use Rattle.ucl_follows.specs.Follow.{follow_text, resuming_text, whole_lines}
 use Rattle.ucl_follows.specs.Latest.{IsLatest, IsToldIn}
@@ -22,7 +22,7 @@ use Rattle.ucl_follows.specs.Resuming.{OpensTheBoard, opened_at}
 
 -- the moment of an evening whose board is open
 abbrev pub moment_with : LiveArgs → List NamedClub → List ℕ → Moment
-moment_with options clubs board = record { group = options.group; profile = options.profile; roster = clubs; board = board }
+moment_with options clubs board = record { title = title_of options; roster = clubs; board = board }
 
 abbrev pub moment_at : LiveArgs → Stage → Option Moment
 moment_at options (Open clubs board) = Some (moment_with options clubs board)

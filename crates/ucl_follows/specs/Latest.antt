@@ -1,11 +1,11 @@
 -- What holds of all that is followed.
-use Rattle.std.specs.Prelude.{◌≡◌, ◌⊎◌, ◌<◌, ⊤, true, ℕ, if◌then◌else◌, All, List, [], ◌∷◌, ◌++◌, flat_map, Option, Some, None}
+use Rattle.std.specs.Prelude.{◌≡◌, ◌⊎◌, ⊤, true, ℕ, if◌then◌else◌, All, List, [], ◌∷◌, ◌++◌, flat_map, Option, Some, None}
 use Rattle.ucl_screen.specs.Screen.{screen_text}
 use Rattle.ucl_follows.specs.declared.moment.Moment.{Moment}
 use Rattle.ucl_follows.specs.declared.following.Following.{Following}
 use Rattle.ucl_command.specs.declared.follow.FollowArgs.TheVariants.{Text}
 use Rattle.ucl_follows.specs.Told.{moment_on}
-use Rattle.ucl_follows.specs.Follow.{after_told, followed, is_newer, sights, unseen, version_at}
+use Rattle.ucl_follows.specs.Follow.{after_told, followed, is_later, is_newer, sights, unseen}
 
 -- ---- what is shown
 
@@ -34,7 +34,7 @@ RiseAbove newest (moment ∷ moments) = (is_newer newest moment ≡ true) × Ris
 -- the moments that are shown rise, and the text is that of their screens
 pub record RisesInText (f : Following) (lines : List (List ℕ)) : Type 0 where
   pub rise : RiseAbove f.newest (moments_shown f lines)
-  pub text : sights Text f lines ≡ flat_map (λ m. screen_text m.profile m.board m.roster m.group) (moments_shown f lines)
+  pub text : sights Text f lines ≡ flat_map (λ m. screen_text m.title.profile m.board m.roster m.title.group) (moments_shown f lines)
   pub told : All (IsToldIn lines) (moments_shown f lines)
 
 abbrev pub ShownVersionsRise : Type 0
@@ -42,10 +42,10 @@ ShownVersionsRise = (f : Following) (lines : List (List ℕ)) → RisesInText f 
 
 -- ---- the latest moment
 
--- a line tells no moment, this one, or one of a lower version
+-- a line tells no moment, this one, or one that this is later than
 abbrev pub IsNoNewer : Moment → Option Moment → Type 0
 IsNoNewer moment None = ⊤
-IsNoNewer moment (Some other) = (other ≡ moment) ⊎ (version_at other < version_at moment)
+IsNoNewer moment (Some other) = (other ≡ moment) ⊎ (is_later moment other ≡ true)
 
 -- a line tells this moment, and no line tells another that is not older
 pub record IsLatest (moment : Moment) (lines : List (List ℕ)) : Type 0 where

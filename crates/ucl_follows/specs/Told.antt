@@ -1,5 +1,5 @@
--- The moment that a line tells: it is JSON whose members `group`, `order`, `clubs` and `words` are those of a board of a group. Whatever
--- else a line has, and in whichever order, does not matter.
+-- The moment that a line tells: it is JSON whose members `group`, `order`, `edition`, `clubs` and `words` are those of a board of a group.
+-- Without `edition` it is of edition 0. Whatever else a line has, and in whichever order, does not matter.
 use Rattle.std.specs.Prelude.{ℕ, ◌==◌, ◌&&◌, nat_le, if◌then◌else◌, List, [], ◌∷◌, codes, length, Option, Some, None, option_and_then, Result, Ok, Err}
 use Rattle.std.specs.Str.{is_utf8}
 use Rattle.serde_json.specs.Data.{Data, Items, item, no_items}
@@ -11,6 +11,7 @@ use Rattle.ucl_order.specs.Roster.{NamedClub, bad_slot, named}
 use Rattle.ucl_screen.specs.Events.{◌>>=◌}
 use Rattle.ucl_screen.specs.Numbers.{hex_word}
 use Rattle.ucl_screen.specs.WordsRead.{read_words}
+use Rattle.ucl_json.specs.declared.title.Title.{Title}
 use Rattle.ucl_follows.specs.declared.moment.Moment.{Moment}
 
 -- the text of a member
@@ -52,6 +53,24 @@ group_told value = option_and_then letter_in (text_at (codes "group") value)
 
 abbrev pub order_told : Data → Option Profile
 order_told value = option_and_then profile_named (text_at (codes "order") value)
+
+-- at most 65,535, and 0 where no member says it
+abbrev pub edition_in : Option Data → Option ℕ
+edition_in None = Some 0
+edition_in (Some member) = do
+  edition ← option_and_then as_u64 (as_number member)
+  if nat_le edition 65535 then Some edition else None
+
+abbrev pub edition_told : Data → Option ℕ
+edition_told value = edition_in (get (codes "edition") value)
+
+-- the group, its order and its edition
+abbrev pub title_told : Data → Option Title
+title_told value = do
+  group ← group_told value
+  profile ← order_told value
+  edition ← edition_told value
+  Some (record { group = group; profile = profile; edition = edition })
 
 -- ---- four clubs, by their slots
 
@@ -95,11 +114,10 @@ board_told value = do
 
 unfoldable pub moment_told : Data → Option Moment
 moment_told value = do
-  group ← group_told value
-  profile ← order_told value
+  title ← title_told value
   clubs ← clubs_told value
   board ← board_told value
-  Some (record { group = group; profile = profile; roster = clubs; board = board })
+  Some (record { title = title; roster = clubs; board = board })
 
 -- a line of at most 4,096 bytes, of UTF-8, which is the text of a value that tells a moment; else it tells none
 unfoldable pub moment_on : List ℕ → Option Moment

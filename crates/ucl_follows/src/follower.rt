@@ -13,7 +13,7 @@ use crate::told::moment_on;
 use std::alloc::Global;
 use ucl_command::FollowArgs;
 use ucl_io::{LineMachine, Text};
-use ucl_json::screen_json;
+use ucl_json::edition_screen_json;
 use ucl_screen::{matches, screen};
 use ucl_word::OutOfMemory;
 
@@ -52,7 +52,7 @@ impl Text for Sight {
 
 /// What is shown of a moment that the line of this number told.
 fn show(alloc: Global, shape: FollowArgs, row: u64, moment: &Moment) -> Result<Sight, OutOfMemory>
-    requires { IsGroup moment.now.group }
+    requires { IsGroup moment.now.title.group }
     ensures { IfOk result (λ sight. sight_bytes sight ≡ sight_text shape row moment.now) }
 {
     match shape {
@@ -60,16 +60,15 @@ fn show(alloc: Global, shape: FollowArgs, row: u64, moment: &Moment) -> Result<S
             alloc,
             &moment.board,
             &moment.roster,
-            moment.group,
-            moment.profile,
+            moment.title.group,
+            moment.title.profile,
         )?)),
-        FollowArgs::Json => Ok(Sight::Screen(screen_json(
+        FollowArgs::Json => Ok(Sight::Screen(edition_screen_json(
             alloc,
             row,
             &moment.board,
             &moment.roster,
-            moment.group,
-            moment.profile,
+            moment.title,
         )?)),
         FollowArgs::Matches => Ok(Sight::Screen(matches(alloc, &moment.board, &moment.roster)?)),
         FollowArgs::Rows => Ok(Sight::Nothing),

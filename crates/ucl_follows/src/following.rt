@@ -1,7 +1,7 @@
 //! What was followed by some lines.
 
 ghost use Rattle.std.specs.Prelude.{◌≡◌};
-ghost use Rattle.ucl_follows.specs.Follow.{is_newer, unseen};
+ghost use Rattle.ucl_follows.specs.Follow.{is_later, is_newer, unseen};
 
 use crate::moment::Moment;
 
@@ -14,13 +14,22 @@ pub(crate) struct Following {
     pub(crate) shown: u64,
 }
 
+/// Whether a moment is of a later edition than another, or of the same one and of a higher version.
+fn is_later(moment: &Moment, other: &Moment) -> bool
+    ensures { result ≡ is_later moment.now other.now }
+{
+    let (edition, version) = (moment.title.edition, moment.board.version());
+    let (other_edition, other_version) = (other.title.edition, other.board.version());
+    other_edition < edition || (other_edition == edition && other_version < version)
+}
+
 /// Whether a moment is newer than the newest that was shown.
 pub(crate) fn is_newer(newest: &Option<Moment>, moment: &Moment) -> bool
     ensures { result ≡ is_newer newest.now moment.now }
 {
     match newest {
         None => true,
-        Some(newest) => newest.board.version() < moment.board.version(),
+        Some(newest) => is_later(moment, newest),
     }
 }
 

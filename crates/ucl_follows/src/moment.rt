@@ -1,13 +1,13 @@
 //! A moment of a group.
 
 use ucl_board::Board;
-use ucl_order::{Profile, Roster};
+use ucl_json::Title;
+use ucl_order::Roster;
 
-/// A moment of a group: the letter of the group, the order of its clubs, the clubs and the board.
+/// A moment of a group: what its board is told under, the clubs and the board.
 #[derive(Drop)]
 pub(crate) struct Moment {
-    pub(crate) group: u8,
-    pub(crate) profile: Profile,
+    pub(crate) title: Title,
     pub(crate) roster: Roster,
     pub(crate) board: Board,
 }

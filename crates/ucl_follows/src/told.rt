@@ -5,18 +5,22 @@ ghost use Rattle.serde_json.specs.View.{items_view, view};
 ghost use Rattle.ucl_order.specs.Roster.{bad_slot, club_lent};
 ghost use Rattle.ucl_screen.specs.Screen.{IsGroup};
 ghost use Rattle.ucl_screen.specs.WordsRead.{read_words};
-ghost use Rattle.ucl_follows.specs.Told.{board_told, club_told, clubs_told, each_told, group_told, if_read, just, letter_in, list_at, moment_on, moment_told, order_told, roster_told, text_at, unless_bad, word_told};
+ghost use Rattle.ucl_follows.specs.Told.{board_told, club_told, clubs_told, each_told, edition_in, edition_told, group_told, if_read, just, letter_in, list_at, moment_on, moment_told, order_told, roster_told, text_at, title_told, unless_bad, word_told};
 
 use crate::moment::Moment;
 use arrayvec::ArrayVec;
 use serde_json::Value;
 use std::alloc::{AllocError, Global};
 use ucl_board::Board;
+use ucl_json::Title;
 use ucl_order::{LentClub, Profile, Roster};
 use ucl_screen::{Four, is_group, word_of_fields};
 
 /// The most bytes of a line.
 const MOST_ANSWER_BYTES: usize = 4096;
+
+/// The greatest edition.
+const GREATEST_EDITION: u64 = 65_535;
 
 /// The greatest coefficient of a club.
 const GREATEST_COEFFICIENT: u64 = 999_999;
@@ -52,6 +56,42 @@ fn order_in(value: &Value) -> Option<Profile>
     ensures { result ≡ order_told (view value.now) }
 {
     Profile::from_name(text_in(value, "order")?)
+}
+
+/// An edition.
+fn edition_of(value: &Value) -> Option<u16>
+    ensures { result ≡ edition_in (Some (view value.now)) }
+{
+    let edition = value.as_u64()?;
+    if edition > GREATEST_EDITION {
+        return None;
+    }
+    Some(edition as u16)
+}
+
+/// The edition, 0 where no member says it.
+fn edition_in(value: &Value) -> Option<u16>
+    ensures { result ≡ edition_told (view value.now) }
+{
+    match value.get("edition") {
+        None => Some(0),
+        Some(edition) => edition_of(edition),
+    }
+}
+
+/// What the board is told under.
+fn title_in(value: &Value) -> Option<Title>
+    ensures told { result ≡ title_told (view value.now) }
+    ensures letter { IfSome result (λ title. IsGroup title.group) }
+{
+    let group = group_in(value)?;
+    let profile = order_in(value)?;
+    let edition = edition_in(value)?;
+    Some(Title {
+        group,
+        profile,
+        edition,
+    })
 }
 
 /// A club, with its coefficient.
@@ -169,15 +209,13 @@ fn board_in(value: &Value) -> Option<Board>
 #[tactic(auto, unfolding(crate::specs::Told::moment_told))]
 fn moment_in(value: &Value) -> Option<Moment>
     ensures told { result ≡ moment_told (view value.now) }
-    ensures letter { IfSome result (λ moment. IsGroup moment.group) }
+    ensures letter { IfSome result (λ moment. IsGroup moment.title.group) }
 {
-    let group = group_in(value)?;
-    let profile = order_in(value)?;
+    let title = title_in(value)?;
     let roster = clubs_in(value)?;
     let board = board_in(value)?;
     Some(Moment {
-        group,
-        profile,
+        title,
         roster,
         board,
     })
@@ -186,7 +224,7 @@ fn moment_in(value: &Value) -> Option<Moment>
 /// The moment that a line tells, where it tells one.
 pub(crate) fn moment_on(alloc: Global, line: &[u8]) -> Result<Option<Moment>, AllocError>
     ensures told { IfOk result (λ moment. moment ≡ moment_on line.now) }
-    ensures letter { IfOk result (λ told. IfSome told (λ moment. IsGroup moment.group)) }
+    ensures letter { IfOk result (λ told. IfSome told (λ moment. IsGroup moment.title.group)) }
 {
     if line.len() > MOST_ANSWER_BYTES {
         return Ok(None);

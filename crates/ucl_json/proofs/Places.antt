@@ -20,7 +20,8 @@ use Rattle.ucl_order.specs.declared.table.Row.{Row}
 use Rattle.ucl_order.specs.Rows.{rows_of}
 use Rattle.ucl_order.specs.Roster.{NamedClub}
 use Rattle.ucl_screen.specs.Numbers.{hex_digits}
-use Rattle.ucl_json.specs.Values.{accepted_value, place_items, place_value, refused_by, reply_value, screen_value, with_club, with_goals, with_matches, word_items, words_value}
+use Rattle.ucl_json.specs.declared.title.Title.{Title}
+use Rattle.ucl_json.specs.Values.{accepted_value, edition_screen_value, place_items, place_value, refused_by, reply_value, screen_value, with_club, with_goals, with_matches, word_items, words_value}
 
 abbrev pub add : Items → Data → Items
 add no_items d = item d no_items
@@ -103,6 +104,15 @@ pub screen-shallow : (row : ℕ) (profile : Profile) (board : List ℕ) (roster 
 unfolding screen_value
 screen-shallow row profile board roster group = let k = places-flat roster (rows_of profile board roster) in rw (words-flat board) (omega (arith, k))
 
+-- and the screen with its edition
+pub edition-whole : (row : ℕ) (title : Title) (board : List ℕ) (roster : List NamedClub) → has_float (edition_screen_value row title board roster) ≡ false
+unfolding edition_screen_value screen_value serde_json_on_literals
+edition-whole row title board roster = rw (places-whole roster (rows_of title.profile board roster), words-items board) refl
+
+pub edition-shallow : (row : ℕ) (title : Title) (board : List ℕ) (roster : List NamedClub) → depth (edition_screen_value row title board roster) ≤ max_depth
+unfolding edition_screen_value screen_value serde_json_on_literals
+edition-shallow row title board roster = let k = places-flat roster (rows_of title.profile board roster) in rw (words-flat board) (omega (arith, k))
+
 -- a reply
 refused-whole : (row : ℕ) (event : NightEvent) (code : ℕ) (name : List ℕ) (found : Option ℕ) (m : MatchRecord) → has_float (refused_by row event code name found m) ≡ false
 refused-whole row event code name None m = refl
@@ -112,16 +122,16 @@ refused-shallow : (row : ℕ) (event : NightEvent) (code : ℕ) (name : List ℕ
 refused-shallow row event code name None m = omega arith
 refused-shallow row event code name (Some found) m = omega arith
 
-pub reply-whole : (row : ℕ) (event : NightEvent) (reply : Result Accepted Refusal) (profile : Profile) (board : List ℕ) (roster : List NamedClub) (group : ℕ)
-    → has_float (reply_value row event reply profile board roster group) ≡ false
+pub reply-whole : (row : ℕ) (event : NightEvent) (reply : Result Accepted Refusal) (title : Title) (board : List ℕ) (roster : List NamedClub)
+    → has_float (reply_value row event reply title board roster) ≡ false
 unfolding accepted_value
-reply-whole row event (Ok accepted) profile board roster group = rw (words-items board) refl
-reply-whole row event (Err refusal) profile board roster group =
+reply-whole row event (Ok accepted) title board roster = rw (words-items board) refl
+reply-whole row event (Err refusal) title board roster =
     refused-whole row event (refusal_code refusal) (refusal_name refusal) (found_of refusal) (game_at board event.call.game)
 
-pub reply-shallow : (row : ℕ) (event : NightEvent) (reply : Result Accepted Refusal) (profile : Profile) (board : List ℕ) (roster : List NamedClub) (group : ℕ)
-    → depth (reply_value row event reply profile board roster group) ≤ max_depth
+pub reply-shallow : (row : ℕ) (event : NightEvent) (reply : Result Accepted Refusal) (title : Title) (board : List ℕ) (roster : List NamedClub)
+    → depth (reply_value row event reply title board roster) ≤ max_depth
 unfolding accepted_value
-reply-shallow row event (Ok accepted) profile board roster group = rw (words-flat board) (omega arith)
-reply-shallow row event (Err refusal) profile board roster group =
+reply-shallow row event (Ok accepted) title board roster = rw (words-flat board) (omega arith)
+reply-shallow row event (Err refusal) title board roster =
     refused-shallow row event (refusal_code refusal) (refusal_name refusal) (found_of refusal) (game_at board event.call.game)

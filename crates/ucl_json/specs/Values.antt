@@ -1,7 +1,7 @@
 -- Answers as values. The members of an object stand in the order of their names. An accepted event's answer and a screen's stand for
--- themselves: each has the group, its order, the clubs and the words of the board, so that it is one moment, whole.
+-- themselves: each has the group, its order, its edition, the clubs and the words of the board, so that it is one moment, whole.
 use Rattle.std.specs.Prelude.{ℕ, pos, ◌-ℤ◌, List, [], ◌∷◌, codes, Option, None, Some, Result, Ok, Err}
-use Rattle.serde_json.specs.Data.{Data, Items, item, no_items, Members, member, no_members, array, number, object, put, string, unsigned}
+use Rattle.serde_json.specs.Data.{Data, Items, item, no_items, Members, member, no_members, array, boolean, null, number, object, put, string, unsigned}
 use Rattle.serde_json.specs.Find.{of_integer}
 use Rattle.ucl_word.specs.declared.event.Accepted.{Accepted}
 use Rattle.ucl_word.specs.declared.record.MatchRecord.{MatchRecord}
@@ -20,6 +20,7 @@ use Rattle.ucl_screen.specs.declared.night.NightEvent.{NightEvent}
 use Rattle.ucl_screen.specs.Matches.{state_name}
 use Rattle.ucl_screen.specs.Screen.{in_play}
 use Rattle.ucl_screen.specs.Numbers.{hex_digits}
+use Rattle.ucl_json.specs.declared.title.Title.{Title}
 
 abbrev pub number_value : ℕ → Data
 number_value n = number (unsigned n)
@@ -73,21 +74,22 @@ matches_value row board roster = object (
 
 -- ---- replies
 
--- the reply to an event that was entered, with the row as it was read, the group, its order and clubs, and the board after the event
-unfoldable pub accepted_value : ℕ → NightEvent → ℕ → Profile → List ℕ → List NamedClub → ℕ → Data
-accepted_value row event event_number profile board roster group = object (
+-- the reply to an event that was entered, with the row as it was read, the title, the clubs, and the board after the event
+unfoldable pub accepted_value : ℕ → NightEvent → ℕ → Title → List ℕ → List NamedClub → Data
+accepted_value row event event_number title board roster = object (
     member (codes "clubs") (array (club_items roster)) (
+    member (codes "edition") (number_value title.edition) (
     member (codes "event") (string (kind_name event.call.kind)) (
     member (codes "expected") (number_value event.call.expected) (
-    member (codes "group") (string (group ∷ [])) (
+    member (codes "group") (string (title.group ∷ [])) (
     member (codes "match") (number_value event.call.game) (
     member (codes "number") (number_value event_number) (
-    member (codes "order") (string (profile_name profile)) (
+    member (codes "order") (string (profile_name title.profile)) (
     member (codes "reply") (string (codes "ok")) (
     member (codes "reporter") (number_value event.reporter) (
     member (codes "row") (number_value row) (
     member (codes "version") (number_value (version_of board)) (
-    member (codes "words") (array (word_items board)) no_members))))))))))))
+    member (codes "words") (array (word_items board)) no_members)))))))))))))
 
 -- the reply to an event that is refused, with the row as it was read
 abbrev pub coded_value : ℕ → NightEvent → ℕ → List ℕ → Data
@@ -124,9 +126,9 @@ abbrev pub refused_value : ℕ → NightEvent → Refusal → MatchRecord → Da
 refused_value row event refusal m = refused_by row event (refusal_code refusal) (refusal_name refusal) (found_of refusal) m
 
 -- the reply to an event, with the board after it
-abbrev pub reply_value : ℕ → NightEvent → Result Accepted Refusal → Profile → List ℕ → List NamedClub → ℕ → Data
-reply_value row event (Ok accepted) profile board roster group = accepted_value row event accepted.number profile board roster group
-reply_value row event (Err refusal) profile board roster group = refused_value row event refusal (game_at board event.call.game)
+abbrev pub reply_value : ℕ → NightEvent → Result Accepted Refusal → Title → List ℕ → List NamedClub → Data
+reply_value row event (Ok accepted) title board roster = accepted_value row event accepted.number title board roster
+reply_value row event (Err refusal) title board roster = refused_value row event refusal (game_at board event.call.game)
 
 -- a refusal of a row for one of its fields, with the text that came
 abbrev pub bad_value : ℕ → ℕ → List ℕ → List ℕ → List ℕ → Data
@@ -202,3 +204,16 @@ screen_value row profile board roster group = object (
     member (codes "table") (array (place_items roster (rows_of profile board roster))) (
     member (codes "version") (number_value (version_of board)) (
     member (codes "words") (array (word_items board)) no_members)))))))))
+
+-- the same among whose members is the edition of the board
+abbrev pub with_edition : ℕ → Data → Data
+with_edition edition (object ms) = object (put (codes "edition") (number_value edition) ms)
+with_edition edition (array items) = array items
+with_edition edition (string text) = string text
+with_edition edition (number n) = number n
+with_edition edition (boolean b) = boolean b
+with_edition edition null = null
+
+-- the screen of a board under a title
+unfoldable pub edition_screen_value : ℕ → Title → List ℕ → List NamedClub → Data
+edition_screen_value row title board roster = with_edition title.edition (screen_value row title.profile board roster title.group)

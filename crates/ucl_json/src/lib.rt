@@ -7,9 +7,11 @@ mod games;
 mod line;
 mod reply;
 mod screen;
+mod title;
 mod words;
 
 pub use games::matches_json;
 pub use reply::{bad_row_json, reply_json};
-pub use screen::screen_json;
+pub use screen::{edition_screen_json, screen_json};
+pub use title::Title;
 pub use words::words_json;

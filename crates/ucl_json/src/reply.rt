@@ -9,11 +9,12 @@ ghost use Rattle.ucl_json.specs.Values.{accepted_value, bad_row_value, bad_value
 use crate::clubs::club_values;
 use crate::line::line_of;
 use crate::screen::letter_of;
+use crate::title::Title;
 use crate::words::word_values;
 use serde_json::{Value, json};
 use std::alloc::{AllocError, Global};
 use ucl_board::Board;
-use ucl_order::{Profile, Roster};
+use ucl_order::Roster;
 use ucl_screen::{NightEvent, state_name};
 use ucl_word::{Accepted, MatchNo, MatchRecord, Refusal};
 
@@ -45,12 +46,11 @@ fn accepted_value(
     number: u16,
     board: &Board,
     roster: &Roster,
-    group: u8,
-    profile: Profile,
+    title: Title,
 ) -> Result<Value, AllocError>
-    requires { IsGroup group }
+    requires { IsGroup title.group }
     ensures { IfOk result (λ value. view value
-        ≡ accepted_value row event.now number profile board.now roster.now group) }
+        ≡ accepted_value row event.now number title board.now roster.now) }
 {
     let clubs = club_values(alloc, roster)?;
     let words = word_values(alloc, board.words().as_slice())?;
@@ -63,8 +63,9 @@ fn accepted_value(
         "event": event.call.kind.name(),
         "number": number,
         "version": board.version(),
-        "group": letter_of(group),
-        "order": profile.name(),
+        "group": letter_of(title.group),
+        "order": title.profile.name(),
+        "edition": title.edition,
         "clubs": clubs,
         "words": words
     })
@@ -139,7 +140,7 @@ fn refused_value(
 }
 
 /// The line of the reply to an event, with the row as it was read, and the board after the event. Where the event was entered, the line stands
-/// for itself: the group, its order, the clubs and the words of that board are in it. Where it is stale, its match as it stands is in it.
+/// for itself: the title, the clubs and the words of that board are in it. Where it is stale, its match as it stands is in it.
 ///
 /// # Errors
 ///
@@ -151,25 +152,15 @@ pub fn reply_json(
     reply: Result<Accepted, Refusal>,
     board: &Board,
     roster: &Roster,
-    group: u8,
-    profile: Profile,
+    title: Title,
 ) -> Result<String, AllocError>
-    requires { IsGroup group }
+    requires { IsGroup title.group }
     ensures { IfOk result (λ line.
-        IsLineOf (reply_value row event.now reply profile board.now roster.now group)
+        IsLineOf (reply_value row event.now reply title board.now roster.now)
         (string_bytes line)) }
 {
     let value = match reply {
-        Ok(accepted) => accepted_value(
-            alloc,
-            row,
-            event,
-            accepted.number,
-            board,
-            roster,
-            group,
-            profile,
-        )?,
+        Ok(accepted) => accepted_value(alloc, row, event, accepted.number, board, roster, title)?,
         Err(refusal) => refused_value(alloc, row, event, refusal, &board.game(event.call.game))?,
     };
     line_of(alloc, &value)

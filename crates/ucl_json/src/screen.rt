@@ -5,10 +5,11 @@ ghost use Rattle.serde_json.specs.View.{items_view, members_view, view};
 ghost use Rattle.ucl_order.specs.Rows.{IsWithinTable, rows_of};
 ghost use Rattle.ucl_screen.specs.Screen.{IsGroup};
 ghost use Rattle.ucl_json.specs.Lines.{IsLineOf};
-ghost use Rattle.ucl_json.specs.Values.{mark_name, place_items, place_value, screen_value, with_club, with_goals, with_matches};
+ghost use Rattle.ucl_json.specs.Values.{edition_screen_value, mark_name, place_items, place_value, screen_value, with_club, with_edition, with_goals, with_matches};
 
 use crate::clubs::club_values;
 use crate::line::line_of;
+use crate::title::Title;
 use crate::words::word_values;
 use serde_json::{Map, Value, json, put};
 use std::alloc::{AllocError, Global};
@@ -160,5 +161,57 @@ pub fn screen_json(
         (string_bytes line)) }
 {
     let value = screen_value(alloc, row, board, roster, group, profile)?;
+    line_of(alloc, &value)
+}
+
+/// A value with the edition of its board among its members.
+fn with_edition(alloc: Global, value: Value, edition: u16) -> Result<Value, AllocError>
+    ensures { IfOk result (λ with. view with ≡ with_edition edition (view value)) }
+{
+    match value {
+        Value::Object(map) => {
+            let mut map = map;
+            put(&mut map, alloc, "edition", Value::from(edition))?;
+            Ok(Value::Object(map))
+        }
+        other => Ok(other),
+    }
+}
+
+/// The screen of a board under a title, as a value.
+#[tactic(auto, unfolding(crate::specs::Values::edition_screen_value))]
+fn edition_screen_value(
+    alloc: Global,
+    row: u64,
+    board: &Board,
+    roster: &Roster,
+    title: Title,
+) -> Result<Value, AllocError>
+    requires { IsGroup title.group }
+    ensures { IfOk result (λ value. view value
+        ≡ edition_screen_value row title board.now roster.now) }
+{
+    let screen = screen_value(alloc, row, board, roster, title.group, title.profile)?;
+    with_edition(alloc, screen, title.edition)
+}
+
+/// The line of the screen of a board under a title, with its edition.
+///
+/// # Errors
+///
+/// Where there is no memory.
+pub fn edition_screen_json(
+    alloc: Global,
+    row: u64,
+    board: &Board,
+    roster: &Roster,
+    title: Title,
+) -> Result<String, AllocError>
+    requires { IsGroup title.group }
+    ensures { IfOk result
+        (λ line. IsLineOf (edition_screen_value row title board.now roster.now)
+        (string_bytes line)) }
+{
+    let value = edition_screen_value(alloc, row, board, roster, title)?;
     line_of(alloc, &value)
 }

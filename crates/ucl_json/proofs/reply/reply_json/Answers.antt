@@ -6,15 +6,15 @@ use Rattle.ucl_json.proofs.reply.reply_json.Goals.{in-Ok+in_ok-value-in-Ok, in-E
 pub line_of-requires-clause-whole : goal.line_of-requires-clause-whole
 line_of-requires-clause-whole c = elim c.match-reply.branch [
   | in-Ok+in_ok-value-in-Ok w ↦ rw (w.value-is, w.in_ok-value-in-Ok.ensures)
-      (reply-whole c.args.row c.args.event.now (Ok w.in-Ok.accepted) c.args.profile c.args.board.now c.args.roster.now c.args.group)
+      (reply-whole c.args.row c.args.event.now (Ok w.in-Ok.accepted) c.args.title c.args.board.now c.args.roster.now)
   | in-Err+in_ok-value-in-Err w ↦ rw (w.value-is, w.in_ok-value-in-Err.ensures, w.game.ensures.value)
-      (reply-whole c.args.row c.args.event.now (Err w.in-Err.refusal) c.args.profile c.args.board.now c.args.roster.now c.args.group)
+      (reply-whole c.args.row c.args.event.now (Err w.in-Err.refusal) c.args.title c.args.board.now c.args.roster.now)
 ]
 
 pub line_of-requires-clause-shallow : goal.line_of-requires-clause-shallow
 line_of-requires-clause-shallow c = elim c.match-reply.branch [
   | in-Ok+in_ok-value-in-Ok w ↦ rw (w.value-is, w.in_ok-value-in-Ok.ensures)
-      (reply-shallow c.args.row c.args.event.now (Ok w.in-Ok.accepted) c.args.profile c.args.board.now c.args.roster.now c.args.group)
+      (reply-shallow c.args.row c.args.event.now (Ok w.in-Ok.accepted) c.args.title c.args.board.now c.args.roster.now)
   | in-Err+in_ok-value-in-Err w ↦ rw (w.value-is, w.in_ok-value-in-Err.ensures, w.game.ensures.value)
-      (reply-shallow c.args.row c.args.event.now (Err w.in-Err.refusal) c.args.profile c.args.board.now c.args.roster.now c.args.group)
+      (reply-shallow c.args.row c.args.event.now (Err w.in-Err.refusal) c.args.title c.args.board.now c.args.roster.now)
 ]
