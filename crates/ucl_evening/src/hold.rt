@@ -27,7 +27,7 @@ fn version_after(events: &[NightEvent], more: usize) -> Option<u16> {
         board.report(event.reporter, &event.call).ok()?;
         highest = highest.max(usize::from(event.reporter.get()));
     }
-    (more <= MOST_REPORTERS - highest).then_some(board.version())
+    (highest.saturating_add(more) <= MOST_REPORTERS).then_some(board.version())
 }
 
 /// Tells that the evening is ready: how many reporters and screens it has, and where its board stands.

@@ -1,11 +1,11 @@
 //! What the names of an evening stand for before it begins.
 
 use crate::files::{Before, folder_of, found, has_bytes, is_device, is_same};
-use crate::told::{line_of, line_of_two};
+use crate::told::{line_of, line_of_two, rule_line};
 use std::alloc::{AllocError, AllocFailed, Global};
 use std::fs::{Files, Metadata};
 use std::path::Path;
-use ucl_command::EveningArgs;
+use ucl_command::{BrokenRule, EveningArgs, broken_rule};
 use ucl_evenings_threads::NoBeginning;
 use ucl_runs::{RunFault, put_text, tell, tell_refusal};
 use ucl_screen::{InputFault, Sink};
@@ -22,6 +22,8 @@ pub enum Stop<'a> {
     SameFile(&'a str, &'a str),
     /// This fault.
     Fault(RunFault),
+    /// This fault of the clubs, for this rule.
+    Club(InputFault, BrokenRule),
     /// No course of events leads to the word of this match, with which it would begin.
     Unreachable(u8),
 }
@@ -59,6 +61,14 @@ impl<'a> From<NoBeginning> for Stop<'a> {
     }
 }
 
+/// Why an evening does not begin from a script that has this fault.
+pub fn stop_at<'a>(fault: InputFault, script: &[u8]) -> Stop<'a> {
+    match broken_rule(script) {
+        Some(broken) => Stop::Club(fault, broken),
+        None => Stop::from(fault),
+    }
+}
+
 /// Tells why an evening does not begin, and gives the exit status.
 pub fn tell_stop<E: Sink>(errors: &mut E, stop: Stop<'_>) -> u8 {
     match stop {
@@ -78,6 +88,11 @@ pub fn tell_stop<E: Sink>(errors: &mut E, stop: Stop<'_>) -> u8 {
             )
         }
         Stop::Fault(fault) => tell(errors, fault),
+        Stop::Club(fault, broken) => {
+            let status = tell(errors, RunFault::from(fault));
+            let _ = put_text(errors, rule_line(broken).as_str());
+            status
+        }
         Stop::Unreachable(index) => {
             let status = tell(errors, RunFault::Input(InputFault::BadWordAt { index }));
             let _ = put_text(errors, NO_COURSE);

@@ -4,7 +4,7 @@ ghost use Rattle.std.specs.Prelude.{◌≤◌, IfOk, length};
 ghost use Rattle.ucl_screen.specs.Input.{most_bytes};
 
 use crate::files::{Before, In, Out};
-use crate::outputs::{Befores, Stop, befores_of};
+use crate::outputs::{Befores, Stop, befores_of, stop_at};
 use std::alloc::Global;
 use std::fs::{File, Files};
 use std::io::Stderr;
@@ -83,7 +83,8 @@ fn script_of<'r, R: Files<File = File>>(
             let sheet = read_words(alloc, &mut FromRead::new(bytes.as_slice()))?;
             Ok(night_towards(alloc, sheet)?)
         }
-        night => Ok(night?),
+        Ok(night) => Ok(night),
+        Err(fault) => Err(stop_at(fault, bytes.as_slice())),
     }
 }
 

@@ -4,6 +4,7 @@ use arrayvec::ArrayString;
 use itoa::Buffer;
 use std::io;
 use std::io::{Stderr, Write};
+use ucl_command::BrokenRule;
 
 /// The most characters of a name that are shown.
 const MOST_SHOWN: usize = 100;
@@ -119,6 +120,17 @@ pub fn ready_line(reporters: usize, screens: usize, version: u16) -> Line {
     push(&mut line, if screens == 1 { " screen" } else { " screens" });
     push(&mut line, ", the board at version ");
     push(&mut line, Buffer::new().format(version));
+    push(&mut line, "\n");
+    line
+}
+
+/// The line of the rule that a club broke.
+pub fn rule_line(broken: BrokenRule) -> Line {
+    let mut line = Line::new();
+    push(&mut line, "club ");
+    push(&mut line, Buffer::new().format(broken.slot));
+    push(&mut line, ": ");
+    push(&mut line, broken.rule);
     push(&mut line, "\n");
     line
 }

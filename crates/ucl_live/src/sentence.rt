@@ -72,29 +72,40 @@ fn push_row(to: &mut Sentence, answer: &Value, number: u64, event: &[&str]) {
     push(to, event);
 }
 
-/// Puts how a match stands that has an event, and who entered the last one.
-fn push_standing(to: &mut Sentence, stands: &Value) {
-    let score = |side: usize| match stands.get("score") {
-        Some(score) => match score.get(side) {
-            Some(goals) => goals.as_u64().unwrap_or(0),
-            None => 0,
-        },
-        None => 0,
+/// The goals of a side of a match: 0 is the home side, 1 the other.
+fn goals_of(stands: &Value, side: usize) -> u64 {
+    let Some(score) = stands.get("score") else {
+        return 0;
     };
-    let is_finished = text_in(stands, "state") == "FINISHED";
-    push(
-        to,
-        &[if is_finished {
-            "it ended "
-        } else {
-            "it stands "
-        }],
-    );
-    push_number(to, score(0));
-    push(to, &["-"]);
-    push_number(to, score(1));
-    push(to, &[", last by reporter "]);
+    match score.get(side) {
+        Some(goals) => goals.as_u64().unwrap_or(0),
+        None => 0,
+    }
+}
+
+/// Puts how a match stands that has an event, who entered the last one, and what may be typed.
+fn push_standing(to: &mut Sentence, answer: &Value, stands: &Value) {
+    let is_over = text_in(stands, "state") == "FINISHED";
+    push_text(to, if is_over { "it ended " } else { "it stands " });
+    push_number(to, goals_of(stands, 0));
+    push_text(to, "-");
+    push_number(to, goals_of(stands, 1));
+    push_text(to, ", last by reporter ");
     push_number(to, number_in(stands, "reporter"));
+    push_text(
+        to,
+        if is_over {
+            "; if it goes on, type "
+        } else {
+            "; if yours is not in it, type "
+        },
+    );
+    let event = if is_over {
+        "reopen"
+    } else {
+        text_in(answer, "event")
+    };
+    push_row(to, answer, number_in(answer, "number"), &[event]);
 }
 
 /// Puts what is wrong with a row whose event number is not that of its match.
@@ -108,11 +119,7 @@ fn push_stale(to: &mut Sentence, answer: &Value) {
     push_number(to, number_in(answer, "expected"));
     push(to, &["; "]);
     match answer.get("stands") {
-        Some(stands) if number > 0 => {
-            push_standing(to, stands);
-            push(to, &["; if yours is not in it, type "]);
-            push_row(to, answer, number, &[text_in(answer, "event")]);
-        }
+        Some(stands) if number > 0 => push_standing(to, answer, stands),
         _ => {
             push(to, &["it has not kicked off; type "]);
             push_row(to, answer, number, &["kickoff"]);

@@ -49,7 +49,6 @@ Exit status, with a text on standard error where it is not 0:
 
 Examples:
   ucl_live < examples/one_goal.csv
-  ucl_live --screens --explain              to type rows, the clubs first
   mkfifo rows; ucl_live --screens < rows    in one terminal, and in another
   cat > rows                                to type rows, up to Ctrl-D
 
