@@ -1,8 +1,11 @@
 """`ucl_live`: rows are answered as they come, on pipes that are held open."""
 
+import itertools
+import re
+
 import pytest
-from conftest import EXAMPLES, tabled, text_of
-from model import CLUBS, ROSTER, Evening
+from conftest import EXAMPLES, faults_alone, lines_of, tabled, text_of
+from model import CLUBS, FINISHED, IN_PLAY, ROSTER, Evening, fresh, sheet
 
 example = lambda name: text_of(EXAMPLES / name)
 FED = ["one_goal", "two_matches", "head_to_head", "reopened", "plus_lost"]
@@ -38,20 +41,109 @@ CLUB = CLUBS.splitlines(True)
 WORD = "word,1,2000000000000000,\n"
 WORDS = "".join(f"word,{game},{'2000000000000000' if game < 3 else 'f' * 16},\n" for game in range(1, 13))
 
-test_beginnings_that_are_refused = tabled({name: ("ucl_live", text, "", 3, f"input refused {fault}\n") for name, (text, fault) in {
-    "nothing": ("", "20: row 1"),
-    "a quote that stays open": ('club,1,"Alp', "20: row 1"),
-    "three clubs": ("".join(CLUB[:3]), "20: row 4"),
-    "an empty line among the clubs": (CLUB[0] + "\n" + CLUB[2], "20: row 3"),
-    "a club twice": (CLUB[0] * 2, "20: row 2"),
-    "an event among the clubs": ("".join(CLUB[:3]) + "1,1,0,kickoff\n", "20: row 4"),
-    "a long name": (CLUB[0] + "club,2,Bravo Bravo Bravo Bra,1\n" + "".join(CLUB[2:]), "21: slot 2"),
-    "a name in UTF-8": (CLUBS.replace("Alpha", "Málaga") + "1,1,0,kickoff\n", "21: slot 1"),
-    "one word": (CLUBS + WORD, "20: row 6"),
+NAME = ": a name has 1 to 20 bytes of printable ASCII\n"
+NUMBER = ": a coefficient is a whole number of thousandths, at most 999999: 35.500 is 35500\n"
+ROW = ": its row is club,SLOT,NAME,COEFFICIENT, as club,1,Alpha,60000\n"
+
+test_beginnings_that_are_refused = tabled({name: ("ucl_live", text, "", 3, f"input refused {fault}\n{''.join(rule)}") for name, (text, fault, *rule) in {
+    "nothing": ("", "20: row 1", "club 1" + ROW),
+    "a quote that stays open": ('club,1,"Alp', "20: row 1", "club 1" + ROW),
+    "three clubs": ("".join(CLUB[:3]), "20: row 4", "club 4" + ROW),
+    "an empty line among the clubs": (CLUB[0] + "\n" + CLUB[2], "20: row 3", "club 2" + ROW),
+    "a club twice": (CLUB[0] * 2, "20: row 2", "club 2" + ROW),
+    "an event among the clubs": ("".join(CLUB[:3]) + "1,1,0,kickoff\n", "20: row 4", "club 4" + ROW),
+    "a comma in a name": (CLUBS.replace("Bravo", "Bra,vo"), "20: row 2", "club 2" + ROW),
+    "names of the columns": ("kind,slot,name,coefficient\n" + CLUBS, "20: row 1", "club 1" + ROW),
+    "a coefficient with a point": (CLUBS.replace("81500", "81.500"), "20: row 4", "club 4" + NUMBER),
+    "a coefficient of ten digits": (CLUBS.replace("95000", "0000095000"), "20: row 2", "club 2" + NUMBER),
+    "a coefficient of a million": (CLUBS.replace("95000", "1000000"), "21: slot 2", "club 2" + NUMBER),
+    "a name and then a coefficient": (CLUBS.replace("Alpha", "").replace("81500", "1e5"), "20: row 4", "club 4" + NUMBER),
+    "a coefficient and then a name": (CLUBS.replace("60000", "000999999", 1).replace("Charlie", '"' + 21 * "C" + '"'), "21: slot 3", "club 3" + NAME),
+    "no name": (CLUBS.replace("Bravo", ""), "21: slot 2", "club 2" + NAME),
+    "a long name": (CLUB[0] + "club,2,Bravo Bravo Bravo Bra,1\n" + "".join(CLUB[2:]), "21: slot 2", "club 2" + NAME),
+    "twenty-one quotes": (CLUBS.replace("Delta", '"' + 42 * '"' + '"'), "21: slot 4", "club 4" + NAME),
+    "a name in UTF-8": (CLUBS.replace("Alpha", "Málaga") + "1,1,0,kickoff\n", "21: slot 1", "club 1" + NAME),
+    "one word": (CLUBS.replace("Delta", '"' + 40 * '"' + '"') + WORD, "20: row 6"),
     "a word twice": (CLUBS + WORD * 2, "20: row 6"),
     "the second word first": (CLUBS + WORD.replace("1", "2", 1), "20: row 5"),
     "words that are none": (CLUBS + WORDS, "10: word 3"),
 }.items()})
+
+# ---- refusals in words
+
+
+def after_words(**members):
+    """Clubs and words of a board whose match 7 is this."""
+    matches = fresh()
+    vars(matches[6]).update(reporter=9, **members)
+    return CLUBS + sheet(matches)
+
+
+STARTED, ENDED = CLUBS + "1,1,0,kickoff\n", CLUBS + "1,1,0,kickoff\n1,1,1,goal-away\n2,1,2,fulltime\n"
+MEANT = {
+    "kick-off": "kickoff", "Kickoff": "kickoff", "kickoff ": "kickoff", "goal-hoem": "goal-home", "goal_away": "goal-away", "FULL TIME": "fulltime", "re-open": "reopen",
+    "disalow-home": "disallow-home", "disallow-awy": "disallow-away", "yelow-home": "yellow-home", "yellow away": "yellow-away", "second-yelow-home": "second-yellow-home",
+    "second yellow away": "second-yellow-away", "read-home": "red-home", "red-aways": "red-away",
+}
+NO_FIELDS = " is no row of four fields"
+# The rows before, a row, and what is told of it.
+SENTENCES = [
+    (STARTED + "2,1,1,goal-home\n", "3,1,1,goal-home", "match 1 has number 2 by now and you had seen 1; it stands 1-0, last by reporter 2; if yours is not in it, type 3,1,2,goal-home"),
+    (ENDED, "1,1,9,red-home", "match 1 has number 3 by now and you had seen 9; it ended 0-1, last by reporter 2; if it goes on, type 1,1,3,reopen"),
+    (CLUBS, "4,2,1,goal-home", "match 2 has number 0 by now and you had seen 1; it has not kicked off; type 4,2,0,kickoff"),
+    (ENDED, "1,1,3,goal-home", "match 1 is finished; if it goes on, type 1,1,3,reopen first"),
+    (STARTED, "1,1,1,reopen", "match 1 is not finished; leave the row out"),
+    (CLUBS, "1,12,0,goal-home", "match 12 has not kicked off; type 1,12,0,kickoff first, or is it another match?"),
+    (STARTED, "7,1,1,kickoff", "match 1 has kicked off already; leave the row out"),
+    (after_words(number=4094, state=IN_PLAY), "1,7,4094,goal-home", "match 7 takes full time alone by now; type 1,7,4094,fulltime"),
+    (after_words(number=4095, state=FINISHED), "1,7,4095,reopen", "match 7 has no event number left, and stays finished"),
+    (STARTED, "1,1,1,disallow-away", "the away side of match 1 has no goal; is it the other side, or another match?"),
+    (STARTED, "1,1,1,second-yellow-home", "the home side of match 1 has no standing yellow; type 1,1,1,yellow-home before it, or red-home in its place"),
+    (after_words(number=64, state=IN_PLAY, goals=[63, 0]), "1,7,64,goal-home", "the home side of match 7 has 63 goals, the most that a board counts"),
+    (after_words(number=64, state=IN_PLAY, yellows=[0, 63]), "1,7,64,yellow-away", "the away side of match 7 has 63 standing yellows, the most that a board counts"),
+    (after_words(number=64, state=IN_PLAY, expulsions=[31, 0]), "1,7,64,red-home", "the home side of match 7 has 31 expulsions, the most that a board counts"),
+    *((CLUBS, f"1,1,0,{said}", f'"{said}" is no event; {meant}?') for said, meant in MEANT.items()),
+    *((CLUBS, f"1,1,0,{said}", f'"{said}" is no event; --help has them all') for said in ("", "goal", "corner-home", "1")),
+    (CLUBS, '"1",1,0,"kick-off"', '"kick-off" is no event; kickoff?'),
+    (CLUBS, "1,1,0,kickoff ", '"kickoff" has bytes behind it that are not printable ASCII; kickoff?'),
+    *((CLUBS, f"{said},1,0,kickoff", f'"{said}" is no reporter, which is a number from 1 to 255') for said in ("0", "256", "north", "+1", "")),
+    *((CLUBS, f"1,{said},0,kickoff", f'"{said}" is no match, which is a number from 1 to 12') for said in ("0", "13", "A v B")),
+    *((CLUBS, f"1,1,{said},kickoff", f'"{said}" is no event number, which is the one last seen of the match') for said in ("-1", "65536", "")),
+    *((CLUBS, row, f'"{row}"{NO_FIELDS}, such as 1,7,0,kickoff') for row in ("help", "1,1,0", "1,1,0,kickoff,", "1 7 0 kickoff", "9" * 64)),
+    *((CLUBS, row, f'"{row}"{NO_FIELDS}; {meant},,,?') for row, meant in (("screen", "screen"), ("Screen,,", "screen"), ("words,,,,", "words"), ("wrods", "words"))),
+    *((CLUBS, row, f'"{row[:-3]}" asks for nothing that there is; {meant},,,?') for row, meant in (("Screen,,,", "screen"), ("word,,,".replace("d", "ds "), "words"), ("help,,,", "screen"))),
+    (CLUBS, "é", f'""{NO_FIELDS}, such as 1,7,0,kickoff'),
+    (STARTED, "club,1,Alpha,60000", '"club" rows come before all events; leave it out'),
+    (STARTED, "word,1,2000000000000000,", '"word" rows come before all events; leave it out'),
+]
+
+test_refusals_in_words = tabled({f"{before.count(chr(10)) + 1}: {row[:40]!r}": (
+    f"ucl_live --explain{form}", before + row + end, Evening(form.split()).of(before + row + end)[1], 0, f"row {before.count(chr(10)) + 1}: {told}\n",
+) for (before, row, told), form, end in zip(SENTENCES, itertools.cycle(["", " --format json", " --screens"]), itertools.cycle(["\n", "\r\n\nscreen,,,\n", ""]))})
+
+
+def test_what_is_explained_of_a_whole_evening(run):
+    """One sentence for each refused row, by its number, however the rows lie in what is read; none without the option."""
+    rows = [f"1,{game},{at},{event}\n" for game in range(1, 13) for at, event in enumerate(["kickoff", "goal-home", "gaol-home", "second-yellow-home", "fulltime"])]
+    text = CLUBS + "".join(rows * 20)
+    refused = [line.split()[0] for line in Evening([]).of(text)[1].splitlines() if " refused " in line]
+    status, output, errors = run("ucl_live", "--explain", input=text)
+    assert (status, output) == Evening([]).of(text)[:2] == run("ucl_live", input=text)[:2]
+    assert [re.match(r"row (\d+): ", line)[1] for line in errors.splitlines()] == refused and len(refused) > 500
+    assert run("ucl_live", input=text).errors == ""
+
+
+@pytest.mark.limit(30)
+def test_explained_row_by_row(start):
+    """The sentence is there before the next row is written."""
+    evening = start("ucl_live", "--explain")
+    evening.write(STARTED)
+    assert evening.lines() == "5 ok 1 1 1\n"
+    for number in range(6, 20):
+        evening.write("1,1,0,kickoff\n")
+        assert evening.lines() == f"{number} refused 1 stale 1\n"
+        assert lines_of(evening.stderr).startswith(f"row {number}: match 1 has number 1 by now")
+    assert evening.end() == (0, "", "")
 
 
 def test_evening_that_goes_on(run):
@@ -91,7 +183,7 @@ def test_cut_after_each_byte(run):
     """The rows that are complete are answered, and the last one as if it ended there."""
     script = example("two_matches.csv")
     for cut in range(len(script) + 1):
-        assert run("ucl_live", input=script[:cut]) == Evening([]).of(script[:cut]), f"cut after {cut} bytes"
+        assert faults_alone(run("ucl_live", input=script[:cut])) == Evening([]).of(script[:cut]), f"cut after {cut} bytes"
 
 
 @pytest.mark.parametrize("row, field, text", [

@@ -9,11 +9,11 @@ import random
 import tempfile
 
 import pytest
-from conftest import EXAMPLES, Started, command, decoded, encoded, text_of
+from conftest import EXAMPLES, Started, command, decoded, encoded, faults_alone, text_of
 from hypothesis import given, settings
 from hypothesis import strategies as st
 from model import CLUBS, FINISHED, IN_PLAY, ROSTER, SCHEDULED, WORDS, Evening, entered, followed, fresh, night, sheet
-from threads import History, replies_of
+from threads import History, faults_of, replies_of
 
 pytestmark = pytest.mark.limit(600)
 NAMES = st.text(st.sampled_from('AZaz09 ,"\\~'), min_size=1, max_size=20)
@@ -133,7 +133,7 @@ def test_evenings(program, data):
         if at < len(rows) and len(rows[at]) > 1:
             rows[at] = "\r" * (length - len(rows[at].encode()) + 1) + rows[at]
     text = cut(draw, "\ufeff" * draw(st.booleans()) + "".join(row[:-1] + draw(st.sampled_from(["\n", "\n", "\r\n"])) for row in rows))
-    assert fed(program("ucl_live"), words, text, draw(PIECES)) == Evening(words).of(text)
+    assert faults_alone(fed(program("ucl_live"), words, text, draw(PIECES))) == Evening(words).of(text)
 
 
 @given(st.data())
@@ -161,7 +161,7 @@ def held(program, folder, script, texts, screens, group, order):
             file.write(text)
     words = [word for way in ways for word in ("--reporter", way)] + [word for at, kind in enumerate(screens) for word in (kind, f"{at}.screen")]
     status, output, errors = command([program("ucl_evening"), script, *words, "--group", group, "--order", order], cwd=folder)
-    assert (status, errors) == (0, "")
+    assert (status, faults_of(errors)) == (0, "")
     answers = [text_of(place(f"{who}.replies")) if os.path.exists(place(f"{who}.replies")) else "" for who in range(len(texts))]
     events = [(int(who), int(game), int(number), word) for who, game, number, word in (row.split(",") for row in text_of(place(script)).splitlines()[4:])]
     history = History([replies_of(*pair) for pair in zip(texts, answers)], entered(events)[0], max([who for who, *_ in events], default=0))

@@ -10,7 +10,7 @@ import signal
 import pytest
 from conftest import EXAMPLES, command, decoded, lines_of, text_of
 from model import CLUBS, FINISHED, ROSTER, Style, fresh, line_of, match_of, sheet, version
-from threads import History, replies_of
+from threads import History, faults_of, replies_of
 
 pytestmark = pytest.mark.limit(60)
 NORTH, SOUTH = "north.rows=north.replies", "south.rows=south.replies"
@@ -24,6 +24,20 @@ def up_and_down(game, count):
     return [f"{game},{at},{'goal-home' if at % 2 else 'disallow-home' if at else 'kickoff'}\n" for at in range(count)]
 
 
+class Held:
+    """An evening that is held. Of what it tells, the lines that are no faults stand apart, in `talk`."""
+
+    def __init__(self, started):
+        self.started, self.write, self.stderr, self.talk = started, started.write, started.stderr, []
+
+    def end(self):
+        """As of any program; the errors are the faults."""
+        run = self.started.end()
+        faults = faults_of(run.errors)
+        self.talk = [line for line in run.errors.splitlines() if line not in faults.splitlines()]
+        return run._replace(errors=faults)
+
+
 class Hall:
     """A folder in which evenings are held, of these clubs."""
 
@@ -33,7 +47,7 @@ class Hall:
 
     def begin(self, *words, clubs="clubs.csv", **how):
         """Begins an evening."""
-        return self.start("ucl_evening", clubs, *words, **how)
+        return Held(self.start("ucl_evening", clubs, *words, **how))
 
     def held(self, *words, **how):
         """Holds an evening to its end."""
@@ -173,7 +187,14 @@ def test_devices_that_fail(hall):
     hall.write("north.rows", "".join(up_and_down(1, 5)))
     hall.write("south.rows", "".join(up_and_down(2, 7)))
     words = ["--reporter", "missing=a", "--reporter", "north.rows=/dev/full", "--reporter", SOUTH, "--reporter", ".=b"]
-    status, output, errors = hall.held(*words, "--screen", "stadium", "--json", "nowhere/desk")
+    evening = hall.begin(*words, "--screen", "stadium", "--json", "nowhere/desk")
+    status, output, errors = evening.end()
+    assert evening.talk[0] == "ready: 4 reporters, 2 screens, the board at version 0"
+    none = "no such file or directory"
+    assert sorted(evening.talk[1:]) == [
+        f"opening missing failed: error 2, {none}", f"opening nowhere/desk failed: error 2, {none}", "reading . failed: error 21, is a directory",
+        "writing /dev/full failed: error 28, no space left",
+    ]
     assert (status, errors) == (4, f"reporter 1: {READ_FAILED}reporter 2: {WRITE_FAILED}reporter 4: {READ_FAILED}json 1: {WRITE_FAILED}")
     assert [reply.is_ok for reply in replies_of(hall.read("south.rows"), hall.read("south.replies"))] == [True] * 7
     assert numbers_of(output) == [1, 7] + [0] * 10
@@ -325,18 +346,76 @@ def test_words_that_no_events_lead_to(hall, record, is_reachable):
     assert (status, output, errors) == ((0, sheet(matches), "") if is_reachable else (3, "", told))
 
 
+def test_what_is_told_as_it_happens(hall):
+    """Whom a pipe waits for, who came, and what failed: each in a line that is there before anything else happens."""
+    hall.pipes("north.rows", "north.replies", "stadium")
+    hall.write("next.csv", CLUBS + "9,4,0,kickoff\n9,4,1,goal-away\n")
+    evening = hall.begin("--reporter", NORTH, "--screen", "stadium", clubs="next.csv")
+    told = lambda count=1: lines_of(evening.stderr, count)
+    assert told() == "ready: 1 reporter, 1 screen, the board at version 2\n"
+    assert sorted(told(2).splitlines()) == ["waiting for a reader of stadium", "waiting for a writer of north.rows"]
+    stadium = hall.open("stadium")
+    assert told() == "stadium has a reader\n"
+    rows = hall.open("north.rows", "wb")
+    assert told() == "north.rows has a writer\n"
+    rows.write(b"1,0,kickoff\n")
+    assert told() == "waiting for a reader of north.replies\n"
+    replies = hall.open("north.replies")
+    assert told() == "north.replies has a reader\n" and lines_of(replies) == "1 ok 1 1 3\n"
+    lines_of(stadium, 12)
+    stadium.close()
+    rows.write(b"1,1,goal-home\n")
+    assert told() == "writing stadium failed: error 32, broken pipe\n"
+    rows.close()
+    assert evening.end().errors.startswith("screen 1: writing failed 26: after ") and evening.talk == []
+
+
+def test_names_and_errors_as_they_are_told(hall):
+    """A name has no control code and not too many letters; an error without a text has its number."""
+    os.symlink("loop", hall.path / "loop")
+    hall.write("file", "")
+    names = {"loop": "loop failed: error 40", "file/rows": "file/rows failed: error 20, not a directory", "red\x1b[31m\n\x85": "red?[31m?? failed: error 2, no such file or directory"}
+    names.update({"caf\u00e9": "caf\u00e9 failed: error 2, no such file or directory", "x" * 101: "x" * 100 + "... failed: error 2, no such file or directory"})
+    evening = hall.begin(*(f"--reporter={name}={number}" for number, name in enumerate(names)))
+    assert evening.end().status == 4
+    assert sorted(evening.talk[1:]) == sorted("opening " + line for line in names.values())
+
+
+@pytest.mark.parametrize("words, told", [
+    ("--reporter rows=full", "full has bytes in it, and nothing is overwritten"),
+    ("--reporter rows=replies --screen full", "full has bytes in it, and nothing is overwritten"),
+    ("--reporter rows=replies --reporter same=other", "rows and same stand for one file or pipe, and none is opened twice"),
+    ("--reporter rows=new --screen ./new", "new and ./new stand for one file or pipe, and none is opened twice"),
+    ("--reporter rows=replies --json /dev/stdout", "/dev/stdout and /dev/stdout stand for one file or pipe, and none is opened twice"),
+])
+def test_output_that_is_refused_by_its_name(hall, words, told):
+    hall.write("rows", "1,0,kickoff\n")
+    hall.write("full", "something\n")
+    os.symlink("rows", hall.path / "same")
+    evening = hall.begin(*words.split())
+    assert (evening.end(), evening.talk) == ((2, "", f"error: {told}\n"), [])
+
+
+NO_NAME = "club 2: a name has 1 to 20 bytes of printable ASCII"
+NO_ROW = "club 1: its row is club,SLOT,NAME,COEFFICIENT, as club,1,Alpha,60000"
+NO_NUMBER = "club 4: a coefficient is a whole number of thousandths, at most 999999: 35.500 is 35500"
+
+
 @pytest.mark.parametrize("script, status, line", [
     (CLUBS + sheet(fresh()) + "1,1,0,kickoff\n", 3, "input refused 20: row 17"), (CLUBS + sheet(fresh())[:200], 3, "input refused 20: row 13"),
     (CLUBS + "1,1,0,kick\n", 3, "input refused 20: row 5"), (CLUBS + "1,1,0,kickoff\n9,1,0,goal-home\n", 3, "input refused 20: row 6"),
-    (CLUBS.replace("Bravo", ""), 3, "input refused 21: slot 2"), ("", 3, "input refused 20: row 1"),
+    (CLUBS.replace("Bravo", ""), 3, f"input refused 21: slot 2\n{NO_NAME}"), ("", 3, f"input refused 20: row 1\n{NO_ROW}"),
+    (CLUBS.replace("81500", "81.500"), 3, f"input refused 20: row 4\n{NO_NUMBER}"),
     (None, 4, READ_FAILED.strip()), (CLUBS + "255,1,0,kickoff\n", 6, "board refused 30"),
-], ids=["a row after the words", "words that are cut", "a bad row", "a refused row", "a bad club", "no row", "no script", "no number left"])
+], ids=["a row after the words", "words that are cut", "a bad row", "a refused row", "a bad club", "no row", "a bad coefficient", "no script", "no number left"])
 def test_fault_of_the_start(hall, script, status, line):
     """Nothing is written then."""
     hall.write("rows", "1,0,kickoff\n")
     if script is not None:
         hall.write("script.csv", script)
-    assert hall.held("--reporter", "rows=replies", "--screen", "stadium", clubs="script.csv") == (status, "", line + "\n")
+    evening = hall.begin("--reporter", "rows=replies", "--screen", "stadium", clubs="script.csv")
+    assert evening.end() == (status, "", line + "\n")
+    assert evening.talk == ([] if script is not None else ["opening script.csv failed: error 2, no such file or directory"])
     assert {"replies", "stadium"} & set(os.listdir(hall.path)) == set()
 
 
@@ -380,7 +459,8 @@ def test_closed_standard_streams(hall, program):
     hall.write("rows", "1,0,kickoff\n")
     words = 'exec "$0" clubs.csv --reporter rows=replies --reporter missing=none --screen stadium '
     for closed, errors in ((">&-", f"reporter 2: {READ_FAILED}{WRITE_FAILED}"), ("<&- >&- 2>&-", "")):
-        assert command(["bash", "-c", words + closed, program("ucl_evening")], cwd=hall.path)[::2] == (4, errors)
+        status, _, told = command(["bash", "-c", words + closed, program("ucl_evening")], cwd=hall.path)
+        assert (status, faults_of(told)) == (4, errors)
         assert hall.read("replies") == "1 ok 1 1 1\n" and len(hall.read("stadium").splitlines()) % 6 == 0
         os.remove(hall.path / "replies")
         os.remove(hall.path / "stadium")

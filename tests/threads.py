@@ -1,8 +1,17 @@
 """What the answers of an evening of threads have to be: one history of the rules explains them all, and the words and screens are of it."""
 
 import json
+import re
 
 from model import IN_PLAY, event, fresh, screen, version
+
+# The lines of standard error that are no faults.
+TOLD = re.compile(r"^(ready: .*|waiting for a (reader|writer) of .*|.* has a (reader|writer)|(opening|reading|writing) .* failed: error .*)\n", re.M)
+
+
+def faults_of(errors):
+    """The lines of standard error that are faults."""
+    return TOLD.sub("", errors)
 
 
 class Reply:

@@ -94,7 +94,7 @@ impl Stage {
 
 impl Evening {
     /// Before the first line.
-    pub(crate) fn new(alloc: Global, options: LiveArgs) -> Evening
+    pub fn new(alloc: Global, options: LiveArgs) -> Evening
         ensures { evening_of result 1 ≡ start_of options }
     {
         Evening {

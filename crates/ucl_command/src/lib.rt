@@ -3,6 +3,7 @@
 //! `clap` reads the words. What it makes of them, and the texts of help and refusals, is tested; proved is what the answers keep to.
 #![tactic(auto)]
 
+mod clubs;
 mod evening;
 mod fault;
 mod files;
@@ -13,10 +14,11 @@ mod names;
 mod night;
 mod options;
 
+pub use clubs::{BrokenRule, broken_rule};
 pub use evening::evening_args;
 pub use fault::{LineFault, words_of};
 pub use files::{EveningArgs, ReporterFiles, ScreenFile};
 pub use follow::{FollowArgs, follow_args};
-pub use live::{LiveArgs, live_args};
+pub use live::{LiveArgs, asks_explanations, live_args};
 pub use night::{Line, line_of};
 pub use options::Format;

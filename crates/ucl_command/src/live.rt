@@ -26,13 +26,17 @@ pub struct LiveArgs {
     pub ghost letter: { IsGroup group },
 }
 
+/// The option by which refusals are explained.
+const EXPLAIN: &str = "explain";
+
 /// The program's command.
 fn command<'a>(alloc: Global) -> Result<Command<'a>, AllocError> {
     program(alloc, "ucl_live", help::PROGRAM, help::PROGRAM_MORE)
         .arg(group_option(alloc))?
         .arg(order_option(alloc))?
         .arg(flag_option(alloc, "screens", help::SCREENS))?
-        .arg(format_option(alloc))
+        .arg(format_option(alloc))?
+        .arg(flag_option(alloc, EXPLAIN, help::EXPLAIN))
 }
 
 /// The arguments that were named.
@@ -52,7 +56,7 @@ fn args_in(matches: &ArgMatches<'_>) -> Option<LiveArgs> {
 /// What the words ask of `ucl_live`. The first word is the program's name.
 ///
 /// The options are `--group` with a letter from `A` to `H`, which is `A` where it is left out; `--order` with `uefa` or `away-in-tie`, which is
-/// `uefa` where it is left out; `--screens`; and `--format` with `text` or `json`, which is `text` where it is left out.
+/// `uefa` where it is left out; `--screens`; `--explain`; and `--format` with `text` or `json`, which is `text` where it is left out.
 ///
 /// # Errors
 ///
@@ -61,4 +65,11 @@ fn args_in(matches: &ArgMatches<'_>) -> Option<LiveArgs> {
 pub fn live_args(alloc: Global, words: &[String]) -> Result<LiveArgs, LineFault> {
     let matches = matches_from(alloc, command(alloc)?, words)?;
     read(alloc, args_in(&matches))
+}
+
+/// Whether words, of which `live_args` makes options, ask `ucl_live` to explain refusals. No option has this word for its value.
+pub fn asks_explanations(words: &[String]) -> bool {
+    words
+        .iter()
+        .any(|word| word.as_str().strip_prefix("--") == Some(EXPLAIN))
 }

@@ -1,39 +1,83 @@
 //! The files and pipes of an evening, each of which is opened by its first use.
 
+use crate::told::{Doing, line_of, tell_failed, tell_line};
 use std::fs::{File, Files, Metadata, OpenOptions};
-use std::io::{Read, Write};
+use std::io::{Read, Stderr, Write};
 use std::os::unix::fs::{FileTypeExt, MetadataExt};
 use std::path::Path;
 use std::{fs, io, mem};
 
+/// A name, and where is told what becomes of its file or pipe.
+#[derive(Drop)]
+struct Named<'r, R: Files<File = File>> {
+    files: &'r R,
+    name: &'r str,
+    errors: Stderr,
+}
+
+impl<R: Files<File = File>> Named<'_, R> {
+    /// Tells of a failure, and hands on the answer.
+    fn told<T>(&self, doing: Doing, answer: io::Result<T>) -> io::Result<T> {
+        if let Err(error) = &answer {
+            tell_failed(self.errors, doing, self.name, error);
+        }
+        answer
+    }
+
+    /// Tells whom a pipe waits for, which is not open yet.
+    fn tell_waiting(&self, whom: &str) {
+        if is_pipe(self.files, self.name) {
+            tell_line(self.errors, &line_of(whom, self.name, ""));
+        }
+    }
+
+    /// Tells who has come to a pipe, which is open now.
+    fn tell_opened(&self, who: &str) {
+        if is_pipe(self.files, self.name) {
+            tell_line(self.errors, &line_of("", self.name, who));
+        }
+    }
+}
+
 /// A file or pipe that rows come from. It is opened by the first read.
 #[derive(Drop)]
 pub struct In<'r, R: Files<File = File>> {
-    files: &'r R,
-    name: &'r str,
+    place: Named<'r, R>,
     file: Option<File>,
 }
 
 impl<'r, R: Files<File = File>> In<'r, R> {
     /// The file or pipe of this name.
-    pub fn named(files: &'r R, name: &'r str) -> In<'r, R> {
+    pub fn named(files: &'r R, name: &'r str, errors: Stderr) -> In<'r, R> {
         In {
-            files,
-            name,
+            place: Named {
+                files,
+                name,
+                errors,
+            },
             file: None,
         }
+    }
+
+    /// Opens it.
+    fn opened(&self) -> io::Result<File> {
+        let place = &self.place;
+        place.tell_waiting("waiting for a writer of ");
+        let file = place.told(Doing::Opening, fs::open(place.files, place.name))?;
+        place.tell_opened(" has a writer");
+        Ok(file)
     }
 }
 
 impl<R: Files<File = File>> Read for In<'_, R> {
     fn read(&mut self, buf: &mut [u8]) -> io::Result<usize> {
-        if let Some(file) = &mut self.file {
-            return file.read(buf);
-        }
-        let mut file = fs::open(self.files, self.name)?;
+        let mut file = match self.file.take() {
+            Some(file) => file,
+            None => self.opened()?,
+        };
         let answer = file.read(buf);
         self.file = Some(file);
-        answer
+        self.place.told(Doing::Reading, answer)
     }
 }
 
@@ -50,49 +94,64 @@ pub enum Before {
 /// else written to its end.
 #[derive(Drop)]
 pub struct Out<'r, R: Files<File = File>> {
-    files: &'r R,
-    name: &'r str,
+    place: Named<'r, R>,
     before: Before,
     file: Option<File>,
 }
 
 impl<'r, R: Files<File = File>> Out<'r, R> {
     /// The file or pipe of this name.
-    pub fn named(files: &'r R, name: &'r str, before: Before) -> Out<'r, R> {
+    pub fn named(files: &'r R, name: &'r str, errors: Stderr, before: Before) -> Out<'r, R> {
         Out {
-            files,
-            name,
+            place: Named {
+                files,
+                name,
+                errors,
+            },
             before,
             file: None,
         }
     }
 
     /// Opens it.
-    fn open(&self) -> io::Result<File> {
+    fn opened(&self) -> io::Result<File> {
+        let place = &self.place;
+        place.tell_waiting("waiting for a reader of ");
         let mut options = OpenOptions::new();
-        match self.before {
-            Before::There => options.append(true).open(self.files, self.name),
+        let answer = match self.before {
+            Before::There => options.append(true).open(place.files, place.name),
             Before::Missing => options
                 .write(true)
                 .create_new(true)
-                .open(self.files, self.name),
-        }
+                .open(place.files, place.name),
+        };
+        let file = place.told(Doing::Opening, answer)?;
+        place.tell_opened(" has a reader");
+        Ok(file)
     }
 }
 
 impl<R: Files<File = File>> Write for Out<'_, R> {
     fn write(&mut self, buf: &[u8]) -> io::Result<usize> {
-        if let Some(file) = &mut self.file {
-            return file.write(buf);
-        }
-        let mut file = self.open()?;
+        let mut file = match self.file.take() {
+            Some(file) => file,
+            None => self.opened()?,
+        };
         let answer = file.write(buf);
         self.file = Some(file);
-        answer
+        self.place.told(Doing::Writing, answer)
     }
 
     fn flush(&mut self) -> io::Result<()> {
         Ok(())
+    }
+}
+
+/// Whether a name stands for a pipe.
+fn is_pipe<R: Files>(files: &R, name: &str) -> bool {
+    match found(files, name) {
+        Some(found) => found.file_type().is_fifo(),
+        None => false,
     }
 }
 

@@ -6,6 +6,7 @@ mod files;
 mod hold;
 mod outputs;
 mod ready;
+mod told;
 
 use files::hold_descriptors;
 use hold::hold;
@@ -28,8 +29,16 @@ fn main(rt: HostRuntime) -> ExitCode {
         Err(fault) => Err(fault),
     };
     let status = match asked {
-        Ok(asked) => match ready_for(&rt, alloc, &asked) {
-            Ok(ready) => hold(&rt, alloc, &asked, ready, &mut output, &mut errors),
+        Ok(asked) => match ready_for(&rt, alloc, &asked, rt.stderr()) {
+            Ok(ready) => hold(
+                &rt,
+                alloc,
+                &asked,
+                ready,
+                &mut output,
+                &mut errors,
+                rt.stderr(),
+            ),
             Err(stop) => tell_stop(&mut errors, stop),
         },
         Err(fault) => ended_unasked(&mut output, &mut errors, fault),

@@ -1,61 +1,59 @@
 //! What the names of an evening stand for before it begins.
 
 use crate::files::{Before, folder_of, found, has_bytes, is_device, is_same};
+use crate::told::{line_of, line_of_two, rule_line};
 use std::alloc::{AllocError, AllocFailed, Global};
 use std::fs::{Files, Metadata};
 use std::path::Path;
-use ucl_command::EveningArgs;
+use ucl_command::{BrokenRule, EveningArgs, broken_rule};
 use ucl_evenings_threads::NoBeginning;
 use ucl_runs::{RunFault, put_text, tell, tell_refusal};
 use ucl_screen::{InputFault, Sink};
-
-/// What is told where an output has bytes in it.
-const HAS_BYTES: &str =
-    "error: a file for answers or screens has bytes in it, and nothing is overwritten\n";
-
-/// What is told where two names stand for one file.
-const SAME_FILE: &str = "error: two names stand for one file or pipe, and none is opened twice\n";
 
 /// What is told after the line of a word that no course of events leads to.
 const NO_COURSE: &str = "error: no course of events leads to this word\n";
 
 /// Why an evening does not begin.
 #[derive(Clone, Copy, Debug)]
-pub enum Stop {
-    /// Its words are refused, as this text says.
-    Refused(&'static str),
+pub enum Stop<'a> {
+    /// The output of this name has bytes in it.
+    HasBytes(&'a str),
+    /// These two names stand for one file or pipe.
+    SameFile(&'a str, &'a str),
     /// This fault.
     Fault(RunFault),
+    /// This fault of the clubs, for this rule.
+    Club(InputFault, BrokenRule),
     /// No course of events leads to the word of this match, with which it would begin.
     Unreachable(u8),
 }
 
-impl From<AllocError> for Stop {
-    fn from(_error: AllocError) -> Stop {
+impl<'a> From<AllocError> for Stop<'a> {
+    fn from(_error: AllocError) -> Stop<'a> {
         Stop::Fault(RunFault::OutOfMemory)
     }
 }
 
-impl<T: Drop> From<AllocFailed<T>> for Stop {
-    fn from(_refused: AllocFailed<T>) -> Stop {
+impl<'a, T: Drop> From<AllocFailed<T>> for Stop<'a> {
+    fn from(_refused: AllocFailed<T>) -> Stop<'a> {
         Stop::Fault(RunFault::OutOfMemory)
     }
 }
 
-impl From<RunFault> for Stop {
-    fn from(fault: RunFault) -> Stop {
+impl<'a> From<RunFault> for Stop<'a> {
+    fn from(fault: RunFault) -> Stop<'a> {
         Stop::Fault(fault)
     }
 }
 
-impl From<InputFault> for Stop {
-    fn from(fault: InputFault) -> Stop {
+impl<'a> From<InputFault> for Stop<'a> {
+    fn from(fault: InputFault) -> Stop<'a> {
         Stop::Fault(RunFault::from(fault))
     }
 }
 
-impl From<NoBeginning> for Stop {
-    fn from(fault: NoBeginning) -> Stop {
+impl<'a> From<NoBeginning> for Stop<'a> {
+    fn from(fault: NoBeginning) -> Stop<'a> {
         match fault {
             NoBeginning::Unreachable(game) => Stop::Unreachable(game.get()),
             NoBeginning::OutOfMemory => Stop::Fault(RunFault::OutOfMemory),
@@ -63,11 +61,38 @@ impl From<NoBeginning> for Stop {
     }
 }
 
+/// Why an evening does not begin from a script that has this fault.
+pub fn stop_at<'a>(fault: InputFault, script: &[u8]) -> Stop<'a> {
+    match broken_rule(script) {
+        Some(broken) => Stop::Club(fault, broken),
+        None => Stop::from(fault),
+    }
+}
+
 /// Tells why an evening does not begin, and gives the exit status.
-pub fn tell_stop<E: Sink>(errors: &mut E, stop: Stop) -> u8 {
+pub fn tell_stop<E: Sink>(errors: &mut E, stop: Stop<'_>) -> u8 {
     match stop {
-        Stop::Refused(text) => tell_refusal(errors, text),
+        Stop::HasBytes(name) => {
+            let line = line_of(
+                "error: ",
+                name,
+                " has bytes in it, and nothing is overwritten",
+            );
+            tell_refusal(errors, line.as_str())
+        }
+        Stop::SameFile(first, second) => {
+            let more = " stand for one file or pipe, and none is opened twice";
+            tell_refusal(
+                errors,
+                line_of_two("error: ", first, " and ", second, more).as_str(),
+            )
+        }
         Stop::Fault(fault) => tell(errors, fault),
+        Stop::Club(fault, broken) => {
+            let status = tell(errors, RunFault::from(fault));
+            let _ = put_text(errors, rule_line(broken).as_str());
+            status
+        }
         Stop::Unreachable(index) => {
             let status = tell(errors, RunFault::Input(InputFault::BadWordAt { index }));
             let _ = put_text(errors, NO_COURSE);
@@ -76,77 +101,92 @@ pub fn tell_stop<E: Sink>(errors: &mut E, stop: Stop) -> u8 {
     }
 }
 
-/// A file that is missing: the folder that it would be in, and its name there.
+/// A file or pipe that is there, and the name by which it was found.
+#[derive(Drop)]
+struct There<'a> {
+    found: Metadata,
+    path: &'a str,
+}
+
+/// A file that is missing: the folder that it would be in, its name there, and the name by which it was looked for.
 #[derive(Drop)]
 struct Missing<'a> {
     folder: Metadata,
     name: &'a str,
+    path: &'a str,
 }
 
 /// The files and pipes that the names stand for, none of which comes twice.
 #[derive(Drop)]
 struct Known<'a> {
-    there: Vec<Metadata>,
+    there: Vec<There<'a>>,
     missing: Vec<Missing<'a>>,
 }
 
 impl<'a> Known<'a> {
     /// Adds one that is there.
-    fn add(&mut self, one: Metadata) -> Result<(), Stop> {
-        if self.there.iter().any(|other| is_same(&one, other)) {
-            return Err(Stop::Refused(SAME_FILE));
+    fn add(&mut self, found: Metadata, path: &'a str) -> Result<(), Stop<'a>> {
+        if let Some(other) = self
+            .there
+            .iter()
+            .find(|other| is_same(&found, &other.found))
+        {
+            return Err(Stop::SameFile(other.path, path));
         }
-        self.there.push(one)?;
+        self.there.push(There { found, path })?;
         Ok(())
     }
 
     /// Adds one that is missing. Where its folder is missing too, it can't be made, and its first use tells so.
-    fn add_missing<R: Files>(&mut self, files: &R, path: &'a str) -> Result<(), Stop> {
+    fn add_missing<R: Files>(&mut self, files: &R, path: &'a str) -> Result<(), Stop<'a>> {
         let (Some(folder), Some(name)) = (folder_of(files, path), Path::new(path).file_name())
         else {
             return Ok(());
         };
-        if self.missing.iter().any(|other| other.name == name && is_same(&folder, &other.folder)) {
-            return Err(Stop::Refused(SAME_FILE));
+        let mut others = self.missing.iter();
+        if let Some(other) = others.find(|other| other.name == name
+            && is_same(&folder, &other.folder))
+        {
+            return Err(Stop::SameFile(other.path, path));
         }
-        self.missing.push(Missing { folder, name })?;
+        self.missing.push(Missing { folder, name, path })?;
         Ok(())
     }
 
     /// Adds the file or pipe at which the program's own output of this name is. Any number may be at one device.
-    fn add_own<R: Files>(&mut self, files: &R, name: &str) -> Result<(), Stop> {
-        match found(files, name) {
-            Some(own) if !is_device(&own) => self.add_once(own),
+    fn add_own<R: Files>(&mut self, files: &R, path: &'a str) -> Result<(), Stop<'a>> {
+        match found(files, path) {
+            Some(own) if !is_device(&own) => self.add_once(own, path),
             _ => Ok(()),
         }
     }
 
     /// Adds one that is there, unless it is known.
-    fn add_once(&mut self, one: Metadata) -> Result<(), Stop> {
-        if !self.there.iter().any(|other| is_same(&one, other)) {
-            self.there.push(one)?;
+    fn add_once(&mut self, found: Metadata, path: &'a str) -> Result<(), Stop<'a>> {
+        if !self.there.iter().any(|other| is_same(&found, &other.found)) {
+            self.there.push(There { found, path })?;
         }
         Ok(())
     }
 
     /// Adds an input, where it is there.
-    fn add_input<R: Files>(&mut self, files: &R, name: &str) -> Result<(), Stop> {
-        match found(files, name) {
-            Some(input) => self.add(input),
+    fn add_input<R: Files>(&mut self, files: &R, path: &'a str) -> Result<(), Stop<'a>> {
+        match found(files, path) {
+            Some(input) => self.add(input, path),
             None => Ok(()),
         }
     }
 
     /// Adds an output, and says whether it is there.
-    fn add_output<R: Files>(&mut self, files: &R, name: &'a str) -> Result<Before, Stop> {
-        match found(files, name) {
+    fn add_output<R: Files>(&mut self, files: &R, path: &'a str) -> Result<Before, Stop<'a>> {
+        match found(files, path) {
             None => {
-                self.add_missing(files, name)?;
+                self.add_missing(files, path)?;
                 Ok(Before::Missing)
             }
-            Some(output) if has_bytes(&output) => Err(Stop::Refused(HAS_BYTES)),
+            Some(output) if has_bytes(&output) => Err(Stop::HasBytes(path)),
             Some(output) => {
-                self.add(output)?;
+                self.add(output, path)?;
                 Ok(Before::There)
             }
         }
@@ -170,11 +210,11 @@ fn push(befores: &mut Vec<Before>, before: Before) -> Result<(), AllocError> {
 
 /// Looks at all names, before any but the script is opened. Refuses two that stand for one
 /// file or pipe, one at which the program's own output is, and an output with bytes in it.
-pub fn befores_of<R: Files>(
+pub fn befores_of<'a, R: Files>(
     files: &R,
     alloc: Global,
-    asked: &EveningArgs,
-) -> Result<Befores, Stop> {
+    asked: &'a EveningArgs,
+) -> Result<Befores, Stop<'a>> {
     let mut known = Known {
         there: Vec::new(alloc),
         missing: Vec::new(alloc),

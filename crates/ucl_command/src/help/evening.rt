@@ -41,6 +41,9 @@ Each file or pipe is opened by the thread that uses it, so one that nobody has
 opened yet holds up nobody else: IN and then OUT with the first answer. An OUT
 that is a file with bytes in it is refused, and so is a name that comes twice.
 
+Standard error has a line once the evening is ready; for each pipe whom it waits
+for; and of a file or pipe that fails its name and the error, at once.
+
 Output: when all reporters have ended, the words of the twelve matches: after the
 clubs they begin the next evening.
 

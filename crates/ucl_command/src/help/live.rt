@@ -40,6 +40,9 @@ Output: once the clubs are named, each row is answered before the next is read
 With --format json each answer is one object on one line, whose member reply is
 ok, refused, words, matches or screen.
 
+With --explain standard error has a sentence for each refused row: what is wrong,
+and what to do.
+
 Exit status, with a text on standard error where it is not 0:
   0  the input has ended, or help or the version was asked for
   2  the words of the command line are refused
@@ -56,3 +59,6 @@ docs/ROWS.md has rows, answers and all codes; docs/RULES.md has the rules.";
 
 /// What `--screens` does.
 pub(crate) const SCREENS: &str = "Writes the screen after each accepted event";
+
+/// What `--explain` does.
+pub(crate) const EXPLAIN: &str = "Explains each refusal in a sentence on standard error";
