@@ -342,7 +342,7 @@ def test_services(full, tmp_path):
         begin = lambda: running.enter_context(conftest.Started(full.words(board)))
         first = begin()
         enter((1, 0, "kickoff"), (1, 1, "goal-home"))
-        full.needs(f"{client}mosquitto_pub -q 1 -t ucl/a/rows/1 -m 1,2,0,kickoff")
+        full.needs(f"{client}mosquitto_pub -q 1 -t ucl/a/0/rows/1 -m 1,2,0,kickoff")
         matches[1].enter(1, "kickoff")
         second = full.run(board)
         assert second.status == 1 and "another board" in second.errors

@@ -540,6 +540,17 @@ def test_what_a_screen_reader_is_told(page):
     assert page.browser.execute_script("return document.getElementById('news').getAttribute('aria-live')") == "polite"
 
 
+def test_a_board_that_is_begun_again(page):
+    page.enter((1, "kickoff"), (2, "kickoff"), (2, "goal-home"))
+    page.shows()
+    page.parts[0].kill()
+    page.site.await_no_board()
+    page.site.done("examples/mend a.jsonl 2 1 >mended.csv && examples/broker/board --begin a mended.csv")
+    page.parts[0].start()
+    page.matches[1] = model.Match()
+    page.shows(version="edition 1, version 1", news="Corrected. Not begun: Delta 0, Alpha 0.")
+
+
 @pytest.mark.parametrize("part", ["the board", "the broker", "the server"])
 def test_no_signal_where_a_part_is_gone_and_a_page_that_goes_on_by_itself(page, part):
     lines = {"the board": page.parts, "the broker": [page.site.broker], "the server": [page.socket]}[part]

@@ -20,7 +20,7 @@ AGAIN = f"while :; do {' '.join(WITH_ITS_PARENT)} '{IF_IT_LIVES}' $$ \"$@\"; sle
 
 
 def topic(group, name):
-    """A topic of a group: `rows/NUMBER`, `desk` or `answers`; a plus stands for any group or number."""
+    """A topic of a group: `EDITION/rows/NUMBER`, `desk` or `answers`; a plus stands for any group, edition or number."""
     return f"ucl/{group}/{name}"
 
 
@@ -71,15 +71,20 @@ def members_of(line):
         return {}
 
 
+def asked_in(said):
+    """The row of an answer, or the text of a row that is none."""
+    return ",".join(str(said[name]) for name in ("reporter", "match", "expected", "event") if name in said) or said.get("text", "")
+
+
 def line_of(members):
     """A line of JSON, whose members stand in the order of their names."""
     return json.dumps(members, sort_keys=True, separators=(",", ":")).encode() + b"\n"
 
 
-def row_of(line):
-    """The number of a topic and the row that came on it, of a line `TOPIC HEX` by which a client writes what it has heard."""
-    heard, _, row = line.decode().partition(" ")
-    return heard.rsplit("/", 1)[1], bytes.fromhex(row)
+def heard_in(line):
+    """A topic and what came on it, of a line `TOPIC HEX` by which a client writes what it has heard."""
+    heard, _, payload = line.decode().partition(" ")
+    return heard, bytes.fromhex(payload)
 
 
 def locked(path):
