@@ -130,6 +130,11 @@ def text_of(path):
     return decoded(pathlib.Path(path).read_bytes())
 
 
+def lines_to_type(page):
+    """The lines that a page has one type, by what stands in bold above each."""
+    return dict(re.findall(r"^\*\*(.+?)\*\*(?:.+\n)+\n((?:    .+\n)+)", text_of(page), re.M))
+
+
 def needs(*tools):
     """Skips the test where one of these commands is not installed."""
     lacking = [tool for tool in tools if shutil.which(tool) is None]

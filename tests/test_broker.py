@@ -31,8 +31,7 @@ from conftest import EXAMPLES, TOP
 BROKER = EXAMPLES / "broker"
 ROWS = 3_000
 pytestmark = pytest.mark.limit(200)
-# The lines that examples/broker/README.md has one type, by what stands in bold above each.
-LINES = dict(re.findall(r"^\*\*(.+?)\*\*(?:.+\n)+\n((?:    .+\n)+)", (BROKER / "README.md").read_text(), re.M))
+LINES = conftest.lines_to_type(BROKER / "README.md")
 # Passes lines on in another order, within windows of a hundred, and loses a tenth of them.
 TURNED = """import itertools, random, sys
 chance = random.Random(5)
@@ -418,14 +417,14 @@ def test_no_late_row_of_an_edition_is_taken_in_the_next_and_all_screens_follow(s
     board.kill()
     site.await_no_board()
     before = (site.path / "a.jsonl").read_bytes()
-    assert site.done("examples/mend a.jsonl 1 3 >mended.csv; timeout 5 examples/broker/board --begin a mended.csv") == (
-        "a.jsonl is of edition 1, and a.jsonl.1 what it was\nmatch 1 had 4 events, and has 3\n")
+    mend, begin, again = conftest.lines_to_type(TOP / "docs/MISTAKES.md")["The journal of group A"].splitlines()
+    assert site.done(f"{mend}\ntimeout 5 {begin}") == "a.jsonl is of edition 1, and a.jsonl.1 what it was\nmatch 1 had 4 events, and has 3\n"
     assert (site.path / "a.jsonl.1").read_bytes() == before
     second.type("2 kickoff\n")
     assert second.sees("2 kickoff               no answer yet; it is sent again")
     waits = site.line("echo 3 kickoff | examples/broker/reporter --again 1 a 3 2>told")
     site.done("mosquitto_pub -q 1 -t ucl/a/0/rows/1 -m 1,1,3,goal-home")
-    board.start()
+    site.line(again)
     assert second.sees("Edition 1 has begun") and second.sees("2 kickoff               dropped, edition 1 has begun: Delta 0-0 Alpha, to come, event 0")
     assert waits.shell.wait(10) == 1 and (site.path / "told").read_text() == "reporter: 3,3,0,kickoff: dropped, edition 1 has begun\n"
     site.done("mosquitto_pub -q 1 -t ucl/a/0/rows/1 -m 1,1,3,goal-home")
@@ -471,6 +470,11 @@ def test_a_journal_that_is_begun_again_only_by_rows_of_its_group_that_were_made_
     assert begin("a mended.csv") == "board: a.jsonl has gone on since mended.csv was made: make it again\n"
     assert site.done("touch mended.csv; examples/broker/board --begin a mended.csv 2>&1").startswith("board: mended.csv is of edition 1, and a.jsonl of edition 1")
     assert site.done("examples/broker/board --cut a; ./ucl_follow --resume <a.jsonl | head -n 1") == "a.jsonl is one line, and a.jsonl.3 what it was\ngroup,A,uefa,1\n"
+    assert site.done("examples/mend a.jsonl 1 1 2>&1") == "mend: a.jsonl has no event 1 of match 1; it has these\n"
+    assert site.done("cat $(ls -v a.jsonl.*) a.jsonl >all.jsonl; examples/mend all.jsonl 1 1 >mended.csv; examples/broker/board --begin a mended.csv").splitlines() == [
+        "a.jsonl is of edition 2, and a.jsonl.4 what it was", "refused, not-started: 1,1,0,goal-home", "match 1 had 2 events, and has 0"]
+    site.done("mv a.jsonl.4 a.jsonl; examples/mend a.jsonl >mended.csv; examples/broker/board --begin a mended.csv")
+    assert site.done("./ucl_follow --resume <a.jsonl").startswith("group,A,uefa,2\n") and site.journal()[-1]["version"] == 2
 
 
 # ---- evenings in which something breaks

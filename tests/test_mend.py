@@ -1,13 +1,16 @@
-"""`examples/mend`: the rows by which a board begins again without a mistake, and what a page says to type, on journals and boards."""
+"""`examples/mend`: the rows by which a board begins again without a mistake; and docs/MISTAKES.md: what it says to type, typed."""
 
 import json
 import random
 import re
 
 import pytest
-from conftest import EXAMPLES, command
-from model import CLUBS, Evening, entered, fresh, matches_of, parsed, records, sheet, word
+from conftest import EXAMPLES, TOP, command, lines_to_type, tabled, text_of
+from model import CLUBS, ROSTER, Evening, entered, fresh, matches_of, parsed, records, screen, sheet, word
 from test_broker import random_rows
+
+MISTAKES = TOP / "docs/MISTAKES.md"
+LINES = lines_to_type(MISTAKES)
 
 USAGE = "Usage: examples/mend JOURNAL MATCH NUMBER"
 QUOTED = re.sub(r"^(club,\d,)(\w+)", r'\1"\2"', CLUBS, flags=re.M)
@@ -133,3 +136,84 @@ def test_a_board_that_is_mended_is_the_one_without_the_mistake(mend, seed):
     matches, answers = entered(later, matches)
     assert [match.word() for match in matches] == [match.word() for match in wanted]
     assert " stale " not in answers and answers.count("refused") == errors.count("the board will refuse it")
+
+
+# ---- what the page says to type
+
+# By the mistake what was typed, and what was meant: matches and events.
+MEANT = {
+    "a goal that was none": ("1 kickoff, 1 goal-home", "1 kickoff"),
+    "a goal for the wrong side": ("1 kickoff, 1 goal-home", "1 kickoff, 1 goal-away"),
+    "a goal for the wrong match": ("1 kickoff, 2 kickoff, 1 goal-home", "1 kickoff, 2 kickoff, 2 goal-home"),
+    "a goal that was disallowed, and counts": ("1 kickoff, 1 goal-home, 1 disallow-home", "1 kickoff, 1 goal-home"),
+    "full time, and the match goes on": ("1 kickoff, 1 goal-away, 1 fulltime", "1 kickoff, 1 goal-away"),
+    "a reopening, and the match was over": ("1 kickoff, 1 fulltime, 1 reopen", "1 kickoff, 1 fulltime"),
+    "a goal that was forgotten in a match that is over": ("1 kickoff, 1 fulltime", "1 kickoff, 1 goal-away, 1 fulltime"),
+}
+PAIRS = re.findall(r"^\| (.+?) \| ((?:`\d+ [a-z ]+` ?)+) \|$", text_of(MISTAKES), re.M)
+TYPED = {mistake: re.findall(r"`(\d+) (.+?)`", typed) for mistake, typed in PAIRS}
+
+
+def numbered(events):
+    """Rows of reporter 7 that enter these events, each a match and an event."""
+    count, rows = dict.fromkeys(range(1, 13), -1), []
+    for game, event in events:
+        count[int(game)] += 1
+        rows.append(f"7,{game},{count[int(game)]},{event}\n")
+    return rows
+
+
+def taken_back(mistake):
+    """The case of a mistake that events take back: their answers, and but for its version the table of what was meant."""
+    typed, meant = ([event.split(" ") for event in events.split(", ")] for events in MEANT[mistake])
+    rows = numbered(typed + [(game, "-".join(event.split())) for game, event in TYPED.get(mistake, [])])
+    version, table = screen(after(*numbered(meant))).split(" ", 3)[2], screen(after(*numbered(meant)))
+    return "ucl_live", CLUBS + "".join(rows) + "screen,,,\n", entered(parsed(CLUBS + "".join(rows))[1])[1] + table.replace(version, f"v{len(rows):05d}")
+
+
+test_what_an_event_takes_back = tabled({mistake: taken_back(mistake) for mistake in MEANT})
+# By the mistake the clubs and the rows of the evening, and the clubs and the rows without it.
+AGAIN = {
+    "A kick-off of match 2": (CLUBS, ROWS, ROSTER, ROWS[:-1]),
+    "A card in match 1": (CLUBS, ROWS, ROSTER, [*ROWS[:2], *(row for row in LEFT_OUT if "second" not in row), ROWS[-1]]),
+    "A misspelt name": (CLUBS.replace("Alpha", "Alhpa"), ROWS, ROSTER, ROWS),
+    "A wrong coefficient": (CLUBS, ROWS, [("Alpha", 61_000), *ROSTER[1:]], ROWS),
+}
+
+
+@pytest.fixture
+def hall(tmp_path, program, editions):
+    """A function that types lines in a folder with the programs."""
+    for name in "ucl_live", "ucl_follow":
+        (tmp_path / name).symlink_to(program(name))
+    (tmp_path / "examples").symlink_to(EXAMPLES)
+    return lambda line, input="": command(["bash", "-c", line], input, cwd=tmp_path).output
+
+
+@pytest.mark.quick
+def test_each_line_of_the_page_is_tried():
+    assert TYPED.keys() == MEANT.keys() and LINES.keys() == {*AGAIN, "The table", "The same journal", "The journal of group A", "`ucl_evening`"}
+
+
+@pytest.mark.parametrize("mistake", AGAIN)
+def test_a_board_begun_again(hall, mistake):
+    """The table is that without the mistake, and whoever follows the journal ends with it and with what comes next."""
+    clubs, rows, roster, meant = AGAIN[mistake]
+    hall("./ucl_live --format json --screens >evening.jsonl; echo -n '{' >>evening.jsonl", clubs + "".join(rows))
+    hall(LINES[mistake])
+    assert hall(LINES["The table"]) == screen(after(*meant), roster)
+    hall("cat >more.rows; " + LINES["The same journal"], "8,12,0,kickoff\n")
+    assert hall("./ucl_follow <evening.jsonl | tail -n 12") == screen(after(*meant), roster) + screen(after(*meant, "8,12,0,kickoff\n"), roster)
+    assert hall("./ucl_follow --resume <evening.jsonl | head -n 1") == "group,A,uefa,1\n"
+
+
+def test_an_evening_of_threads_begun_again(hall, program, tmp_path):
+    (tmp_path / "ucl_evening").symlink_to(program("ucl_evening"))
+    for name, text in ("clubs.csv", CLUBS), ("north.typed", "".join(row[2:] for row in ROWS[:-1])), ("south.typed", ROWS[-1][2:]), ("more", "12,0,kickoff\n"):
+        (tmp_path / name).write_text(text)
+    hall("./ucl_evening clubs.csv --reporter north.typed=north.replies --reporter south.typed=south.replies")
+    hall(LINES["`ucl_evening`"])
+    without = after(*(row.replace("7,", "1,", 1) for row in AGAIN["A card in match 1"][3]))
+    assert (tmp_path / "next.csv").read_text() == "group,A,uefa,1\n" + QUOTED + sheet(without)
+    told = hall("./ucl_evening next.csv --reporter more=replies --json screens; tail -n 1 screens | ./ucl_follow --resume")
+    assert told.startswith("word,1,") and "group,A,uefa,1\n" in told
