@@ -178,11 +178,11 @@ def program(pytestconfig, place):
 
 
 @pytest.fixture(scope="session")
-def editions(program):
+def editions(pytestconfig, program):
     """Skips the test where `ucl_live` knows no editions."""
     rows = "group,A,uefa,1\n" + "".join(f"club,{slot},A,0\n" for slot in range(1, 5)) + "".join(f"word,{game},{2 << 60:016x},\n" for game in range(1, 13))
     if '"edition":1,' not in command([program("ucl_live"), "--resumed", "--format", "json"], rows + "screen,,,\n").output:
-        pytest.skip("this ucl_live knows no editions")
+        (pytest.fail if pytestconfig.getoption("must_run") else pytest.skip)("this ucl_live knows no editions")
 
 
 @pytest.fixture(scope="session")

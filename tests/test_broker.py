@@ -448,6 +448,22 @@ def test_no_late_row_of_an_edition_is_taken_in_the_next_and_all_screens_follow(s
     assert {said["edition"] for said in site.journal() if "words" in said} == {1}
 
 
+def test_an_answer_of_an_edition_that_is_over_decides_nothing(site):
+    """There is no board: the row waits for its own answer."""
+    site.open_broker()
+    screen, entered = map(json.loads, site.done("./ucl_live --format json", model.CLUBS + "screen,,,\n1,1,0,kickoff\n").splitlines())
+    tell = lambda topic, said: site.done(f"mosquitto_pub -r -q 1 -t ucl/a/{topic} -s", json.dumps(said))
+    tell("desk", {**screen, "edition": 1})
+    reporter = Typist(site, "--again 1 a 1")
+    assert reporter.sees("12 Delta 0-0 Charlie, to come, event 0")
+    reporter.type("1 kickoff\n")
+    assert reporter.sees("1 kickoff               no answer yet; it is sent again")
+    tell("answers", {**entered, "edition": 0})
+    assert not reporter.sees("entered", 1)
+    tell("answers", {**entered, "edition": 1})
+    assert reporter.sees("1 kickoff               entered: Bravo 0-0 Charlie, in play, event 1")
+
+
 def test_a_journal_that_is_begun_again_only_by_rows_of_its_group_that_were_made_since(site):
     board = site.begin()
     site.done("examples/broker/reporter a 1", "1 kickoff\n1 yellow home\n1 second-yellow home\n")

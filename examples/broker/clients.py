@@ -4,11 +4,13 @@ Clients are those of mosquitto, which read the broker's address from their own f
 it, and one that ends before is started again after a second.
 """
 
+import contextlib
 import fcntl
 import json
 import os
 import select
 import shutil
+import signal
 import subprocess
 import sys
 
@@ -30,6 +32,13 @@ def started(*command, again=False, **how):
         sys.exit(f"there is no {command[0]}: examples/broker/README.md says what to install")
     loop = ["sh", "-c", AGAIN, "again"] if again else []
     return subprocess.Popen([*WITH_ITS_PARENT, IF_IT_LIVES, str(os.getpid()), *loop, *command], bufsize=0, start_new_session=True, **how)
+
+
+def end(process):
+    """Ends such a command, with all that it started itself."""
+    with contextlib.suppress(ProcessLookupError):
+        os.killpg(process.pid, signal.SIGKILL)
+    process.wait()
 
 
 def listener(*words, **how):
