@@ -135,6 +135,11 @@ def text_of(path):
     return decoded(pathlib.Path(path).read_bytes())
 
 
+def lines_to_type(page):
+    """The lines that a page has one type, by what stands in bold above each."""
+    return dict(re.findall(r"^\*\*(.+?)\*\*(?:.+\n)+\n((?:    .+\n)+)", text_of(page), re.M))
+
+
 def needs(*tools):
     """Skips the test where one of these commands is not installed."""
     lacking = [tool for tool in tools if shutil.which(tool) is None]
@@ -175,6 +180,14 @@ def program(pytestconfig, place):
         return built(name, place)
 
     return path_of
+
+
+@pytest.fixture(scope="session")
+def editions(pytestconfig, program):
+    """Skips the test where `ucl_live` knows no editions."""
+    rows = "group,A,uefa,1\n" + "".join(f"club,{slot},A,0\n" for slot in range(1, 5)) + "".join(f"word,{game},{2 << 60:016x},\n" for game in range(1, 13))
+    if '"edition":1,' not in command([program("ucl_live"), "--resumed", "--format", "json"], rows + "screen,,,\n").output:
+        (pytest.fail if pytestconfig.getoption("must_run") else pytest.skip)("this ucl_live knows no editions")
 
 
 @pytest.fixture(scope="session")

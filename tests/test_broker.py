@@ -31,8 +31,7 @@ from conftest import EXAMPLES, TOP
 BROKER = EXAMPLES / "broker"
 ROWS = 3_000
 pytestmark = pytest.mark.limit(200)
-# The lines that examples/broker/README.md has one type, by what stands in bold above each.
-LINES = dict(re.findall(r"^\*\*(.+?)\*\*(?:.+\n)+\n((?:    .+\n)+)", (BROKER / "README.md").read_text(), re.M))
+LINES = conftest.lines_to_type(BROKER / "README.md")
 # Passes lines on in another order, within windows of a hundred, and loses a tenth of them.
 TURNED = """import itertools, random, sys
 chance = random.Random(5)
@@ -158,7 +157,7 @@ def opened(path, program):
 
 
 @pytest.fixture
-def site(tmp_path, program, monkeypatch):
+def site(tmp_path, program, editions, monkeypatch):
     """Such a folder, where the broker is installed."""
     monkeypatch.setenv("PATH", os.environ["PATH"] + ":/usr/sbin:/usr/local/sbin")
     conftest.needs("mosquitto", "mosquitto_sub", "mosquitto_pub")
@@ -357,7 +356,7 @@ def test_a_reporter_is_told_of_rows_that_are_refused_anothers_or_none(site):
     assert report("--matches 2 a 1", "1,1,2,goal-home") == ["reporter: match 1 is not yours", "1"]
     for row in "1,13,0,kickoff", "2,1,2,goal-home", "1 goal", "goal home":
         assert report("a 1", row) == [f"reporter: {row}: no event of reporter 1; --help has them all", "1"]
-    for topic, text in ("rows/1", "2,1,2,goal-home"), ("rows/x", "x,1"), ("rows/1", "1,1,2,red-home\n"), ("desk", '{"clubs":[],"words":7}'), ("answers", "[1]"):
+    for topic, text in ("0/rows/1", "2,1,2,goal-home"), ("0/rows/x", "x,1"), ("0/rows/1", "1,1,2,red-home\n"), ("desk", '{"clubs":[],"words":7}'), ("answers", "[1]"):
         site.done(f"mosquitto_pub -q 1 -t ucl/a/{topic} -s", text)
     assert report("a 1", "1,1,2,goal-home")[1:] == ["0"]
     assert report("--limit 2 b 1", "1 kickoff") == ["reporter: the desk has told nothing in 2 seconds", "1"]
@@ -380,16 +379,16 @@ def test_access_lists(site):
     assert report("reporter1", "1,1,0,kickoff").startswith("1 kickoff               entered")
     assert "not authorised: the broker takes no rows of reporter 7 from this name" in report("reporter1", "7,1,1,goal-home")
     assert "not authorised" in report("false", "1,1,1,goal-home").lower()
-    sent = ["rows/1 -m 7,1,1,goal-home", "desk -m x", "answers -m x", "rows/7 -m 7,1,1,goal-home"]
-    sent += ["rows/1 -m '1,1,1,yellow-home\n7,1,2,goal-home'", "rows/1 -m '1,1,1,yellow-home\nucl/a/rows/7 7,1,2,goal-home'"]
+    sent = ["0/rows/1 -m 7,1,1,goal-home", "desk -m x", "answers -m x", "0/rows/7 -m 7,1,1,goal-home"]
+    sent += ["0/rows/1 -m '1,1,1,yellow-home\n7,1,2,goal-home'", "0/rows/1 -m '1,1,1,yellow-home\nucl/a/0/rows/7 7,1,2,goal-home'"]
     for words in sent:
-        for who in ("XDG_CONFIG_HOME=reporter1", "") if words[:6] != "rows/1" else ("XDG_CONFIG_HOME=reporter1",):
+        for who in ("XDG_CONFIG_HOME=reporter1", "") if words[:8] != "0/rows/1" else ("XDG_CONFIG_HOME=reporter1",):
             site.done(f"{who} mosquitto_pub -q 1 -t ucl/a/{words}")
     assert report("reporter1", "1,1,1,goal-home").startswith("1 goal-home             entered")
     assert [it["reply"] for it in site.journal()] == ["screen", "screen", "ok", "screen", "ok", "screen"]
     told = [line.split(" ", 1) for line in (site.path / "all").read_text().splitlines()]
     assert {topic for topic, _ in told} == {"ucl/a/desk"} and "x" not in [text for _, text in told]
-    assert (site.path / "errors").read_text().count("board: passed over on ucl/a/rows/1: ") == 3
+    assert (site.path / "errors").read_text().count("board: passed over on ucl/a/0/rows/1: ") == 3
 
 
 def test_an_encrypted_port_takes_who_knows_its_certificate(site):
@@ -399,8 +398,99 @@ def test_an_encrypted_port_takes_who_knows_its_certificate(site):
     port = free_port()
     site.open_broker(re.sub(r"listener \d+", f"listener {port} 127.0.0.1", (BROKER / "tls.conf").read_text()))
     until(lambda: is_reached(port))
-    sent = lambda more: site.done(f"mosquitto_pub -h localhost -p {port} -t ucl/a/rows/1 -m row {more} && echo taken || echo refused")
+    sent = lambda more: site.done(f"mosquitto_pub -h localhost -p {port} -t ucl/a/0/rows/1 -m row {more} && echo taken || echo refused")
     assert [sent(more) for more in ("--cafile ca.crt", "--cafile other.crt", "")] == ["taken\n", "refused\n", "refused\n"]
+
+
+# ---- a board that is begun again
+
+
+def test_no_late_row_of_an_edition_is_taken_in_the_next_and_all_screens_follow(site):
+    """A card is taken out, so event numbers fall. A row from before, sent while there is no board, or when it runs again, is the next one by its number."""
+    board = site.begin()
+    screen = site.line(LINES["A screen"].strip() + " >screen")
+    site.done("examples/broker/reporter a 1", "1 kickoff\n1 goal home\n1 yellow home\n1 goal away\n")
+    first, second = Typist(site, "--again 1 a 1"), Typist(site, "--again 1 a 7")
+    assert first.sees("12 Delta 0-0 Charlie, to come, event 0") and second.sees("12 Delta 0-0 Charlie, to come, event 0")
+    first.type("1 goal h")
+    assert first.sees("> 1 goal h")
+    board.kill()
+    site.await_no_board()
+    before = (site.path / "a.jsonl").read_bytes()
+    mend, begin, again = conftest.lines_to_type(TOP / "docs/MISTAKES.md")["The journal of group A"].splitlines()
+    assert site.done(f"{mend}\ntimeout 5 {begin}") == "a.jsonl is of edition 1, and a.jsonl.1 what it was\nmatch 1 had 4 events, and has 3\n"
+    assert (site.path / "a.jsonl.1").read_bytes() == before
+    second.type("2 kickoff\n")
+    assert second.sees("2 kickoff               no answer yet; it is sent again")
+    waits = site.line("echo 3 kickoff | examples/broker/reporter --again 1 a 3 2>told")
+    site.done("mosquitto_pub -q 1 -t ucl/a/0/rows/1 -m 1,1,3,goal-home")
+    site.line(again)
+    assert second.sees("Edition 1 has begun") and second.sees("2 kickoff               dropped, edition 1 has begun: Delta 0-0 Alpha, to come, event 0")
+    assert waits.shell.wait(10) == 1 and (site.path / "told").read_text() == "reporter: 3,3,0,kickoff: dropped, edition 1 has begun\n"
+    site.done("mosquitto_pub -q 1 -t ucl/a/0/rows/1 -m 1,1,3,goal-home")
+    assert first.sees("Edition 1 has begun") and first.sees(" 1 Bravo 1-1 Charlie, in play, event 3") and first.sees("> 1 goal h")
+    first.type("ome\n")
+    assert first.sees("this is of edition 0, and the board of edition 1: look at the matches")
+    first.type("1 goal home\n")
+    assert first.sees("1 goal-home             entered: Bravo 2-1 Charlie, in play, event 4")
+    enter = lambda words, row: site.done(f"examples/broker/reporter {words} a 1 2>&1", row + "\n").split(": ", 1)[1]
+    assert enter("", "1,1,4,goal-home") == "1,1,4,goal-home: this is of edition 0, and the board of edition 1: look at the matches\n"
+    assert enter("--edition 1", "1,1,4,goal-home") == "Bravo 3-1 Charlie, in play, event 5\n"
+    matches, shown = model.fresh(), []
+    for events in (["kickoff", "goal-home", "yellow-home", "goal-away"], ["kickoff", "goal-home", "goal-away", "goal-home", "goal-home"]):
+        matches[0] = model.Match()
+        for event in events:
+            matches[0].enter(1, event)
+            shown.append(model.screen(matches))
+    shown = "".join([model.screen(model.fresh()), *shown[:4], *shown[6:]])
+    assert until(lambda: (site.path / "screen").read_text() == shown, 20) or (site.path / "screen").read_text() == shown
+    assert (site.path / "errors").read_text().count("board: passed over on ucl/a/0/rows/") >= 4
+    assert {said["edition"] for said in site.journal() if "words" in said} == {1}
+
+
+def test_an_answer_of_an_edition_that_is_over_decides_nothing(site):
+    """There is no board: the row waits for its own answer."""
+    site.open_broker()
+    screen, entered = map(json.loads, site.done("./ucl_live --format json", model.CLUBS + "screen,,,\n1,1,0,kickoff\n").splitlines())
+    tell = lambda topic, said: site.done(f"mosquitto_pub -r -q 1 -t ucl/a/{topic} -s", json.dumps(said))
+    tell("desk", {**screen, "edition": 1})
+    reporter = Typist(site, "--again 1 a 1")
+    assert reporter.sees("12 Delta 0-0 Charlie, to come, event 0")
+    reporter.type("1 kickoff\n")
+    assert reporter.sees("1 kickoff               no answer yet; it is sent again")
+    tell("answers", {**entered, "edition": 0})
+    assert not reporter.sees("entered", 1)
+    tell("answers", {**entered, "edition": 1})
+    assert reporter.sees("1 kickoff               entered: Bravo 0-0 Charlie, in play, event 1")
+
+
+def test_a_journal_that_is_begun_again_only_by_rows_of_its_group_that_were_made_since(site):
+    board = site.begin()
+    site.done("examples/broker/reporter a 1", "1 kickoff\n1 yellow home\n1 second-yellow home\n")
+    begin = lambda rows: site.done(f"timeout 5 examples/broker/board --begin {rows} 2>&1")
+    site.done("examples/mend a.jsonl 1 2 >early.csv")
+    assert begin("a early.csv") == "board: another board of group a runs here: it holds a.lock\n"
+    site.done("examples/broker/reporter a 1", "1 goal home\n")
+    board.kill()
+    site.await_no_board()
+    before = site.journal()
+    assert begin("a early.csv") == "board: a.jsonl has gone on since early.csv was made: make it again\n"
+    site.done("./ucl_follow --resume <a.jsonl >same.csv; sed 's/^group,A/group,B/' early.csv >other.csv; head -n 5 early.csv >clubs.csv")
+    assert begin("a same.csv") == "board: same.csv is of edition 0, and a.jsonl of edition 0: it has to be of a later one\n"
+    assert begin("a none.csv") == "board: none.csv: No such file or directory\n"
+    assert [begin(f"a {name}.csv").splitlines()[1:] for name in ("other", "clubs")] == [[], []] and site.journal() == before
+    site.done("(examples/mend a.jsonl 1 2; echo 1,1,2,yellow-awya) >mended.csv; cp a.jsonl a.jsonl.1")
+    assert begin("a mended.csv").splitlines() == [
+        "a.jsonl is of edition 1, and a.jsonl.2 what it was", "refused, no-caution: 1,1,1,second-yellow-home",
+        "refused, bad-row: 1,1,2,yellow-awya", "match 1 had 4 events, and has 2"]
+    assert begin("a mended.csv") == "board: a.jsonl has gone on since mended.csv was made: make it again\n"
+    assert site.done("touch mended.csv; examples/broker/board --begin a mended.csv 2>&1").startswith("board: mended.csv is of edition 1, and a.jsonl of edition 1")
+    assert site.done("examples/broker/board --cut a; ./ucl_follow --resume <a.jsonl | head -n 1") == "a.jsonl is one line, and a.jsonl.3 what it was\ngroup,A,uefa,1\n"
+    assert site.done("examples/mend a.jsonl 1 1 2>&1") == "mend: a.jsonl has no event 1 of match 1; it has these\n"
+    assert site.done("cat $(ls -v a.jsonl.*) a.jsonl >all.jsonl; examples/mend all.jsonl 1 1 >mended.csv; examples/broker/board --begin a mended.csv").splitlines() == [
+        "a.jsonl is of edition 2, and a.jsonl.4 what it was", "refused, not-started: 1,1,0,goal-home", "match 1 had 2 events, and has 0"]
+    site.done("mv a.jsonl.4 a.jsonl; examples/mend a.jsonl >mended.csv; examples/broker/board --begin a mended.csv")
+    assert site.done("./ucl_follow --resume <a.jsonl").startswith("group,A,uefa,2\n") and site.journal()[-1]["version"] == 2
 
 
 # ---- evenings in which something breaks
@@ -546,7 +636,7 @@ def test_every_row_comes_twice_and_some_ten_rows_later(site):
         if evening.chance.random() < 0.01:
             sent.append(evening.chance.choice(["1,x\n", "1,1,0,goal-hoem\n", "1,13,0,kickoff\n"]))
         again.append(row)
-    site.done("mosquitto_pub -l -q 1 -t ucl/a/rows/1", "".join(sent))
+    site.done("mosquitto_pub -l -q 1 -t ucl/a/0/rows/1", "".join(sent))
     text = model.CLUBS + model.sheet(model.fresh()) + "screen,,,\n" + "".join(sent)
     last = r'"row":%d[,}][^\n]*\n\Z' % text.count("\n")
     until(lambda: re.search(last, evening.journal.read_text()))

@@ -1,10 +1,12 @@
 """`ucl_follow`: a journal of an evening is followed, whatever becomes of its lines."""
 
+import concurrent.futures
 import json
 import random
+import tempfile
 
 import pytest
-from conftest import EXAMPLES, tabled, text_of
+from conftest import EXAMPLES, Started, command, decoded, tabled, text_of
 from model import CLUBS, Evening, followed
 
 NIGHT = text_of(EXAMPLES / "group_a_2021_night.csv")
@@ -83,25 +85,62 @@ def test_evening_that_goes_on_from_its_journal(run, cut):
     assert last(start + "".join(ROWS[cut:])) == last(clubs + "".join(ROWS))
 
 
-@pytest.mark.parametrize("seed", range(12))
-def test_evening_killed_again_and_again(run, seed):
-    """Each start goes on from what the crash before left, of which the last line gets its end. No answer that was whole is taken back."""
-    chance, words = random.Random(seed), ["--format", "json", *["--screens"] * (seed % 2)]
-    journal, pending, version = run("ucl_live", *words, input=CLUBS + "screen,,,\n").output, list(ROWS), 0
-    while pending:
-        start = run("ucl_follow", "--resume", input=journal)
-        assert start.status == 0
-        again = chance.sample(ROWS[: len(ROWS) - len(pending)], min(2, len(ROWS) - len(pending)))
-        output = run("ucl_live", *words, input=start.output + "screen,,,\n" + "".join(again + pending)).output
-        left = output[: chance.randint(0, 4000)]
-        journal += left + "\n"
-        answers = [json.loads(line) for line in left.split("\n")[:-1]]
-        assert all(answer["version"] >= version for answer in answers if "version" in answer)
-        version = max([version, *(answer["version"] for answer in answers if "version" in answer)])
+class Killed:
+    """An evening that is killed again and again: its journal, the newest line there, and the rows that have no whole answer yet."""
+
+    def __init__(self, program, chance, screens):
+        self.live, self.follow = [program("ucl_live"), "--format", "json", *["--screens"] * screens], [program("ucl_follow"), "--resume"]
+        self.chance, self.pending, self.kills = chance, list(ROWS), 0
+        self.journal = self.newest = command(self.live, CLUBS + "screen,,,\n").output
+
+    def start(self, kill):
+        """Goes on from the journal, and is killed: with rows that were answered before, and with those that were not."""
+        start = command(self.follow, self.journal)
+        assert (start.status, start.output) == followed(["--resume"], self.newest)[:2]
+        answered = ROWS[: len(ROWS) - len(self.pending)]
+        again = self.chance.sample(answered, min(2, len(answered)))
+        self.take(kill(self.live, start.output + "screen,,,\n", again + self.pending), len(again))
+
+    def take(self, left, again):
+        """Takes what is left of the answers, the first so many of them to rows that come again. The line that was cut off gets its end, and may lack it alone."""
+        lines = [line + "\n" for line in left.split("\n") if line.endswith("}") and line.count("{") == line.count("}")]
+        self.journal, self.kills = self.journal + left + "\n", self.kills + 1
+        answers = [json.loads(line) for line in lines]
+        moments = [(answer["version"], line) for answer, line in zip(answers, lines) if "version" in answer]
+        assert all(version >= json.loads(self.newest)["version"] for version, _ in moments)
+        self.newest = moments[-1][1] if moments else self.newest
         replies = sum(answer["reply"] != "screen" for answer in answers)
-        pending = pending[max(0, replies - len(again)) :]
-    last = lambda text: run("ucl_live", input=text + "screen,,,\nwords,,,\n").output.splitlines()[-18:]
-    assert last(run("ucl_follow", "--resume", input=journal).output) == last(CLUBS + "".join(ROWS))
+        self.pending = self.pending[max(0, replies - again) :]
+
+    def cut(self, live, start, rows):
+        """Cuts the answers of an evening at a random byte: the first screen, answers to what comes again, and some rows."""
+        output = command(live, start + "".join(rows[:8])).output
+        return output[: self.chance.randint(0, 8000 if "--screens" in live else 4500)]
+
+    def killed(self, live, start, rows):
+        """Kills an evening while it answers random rows."""
+        with tempfile.TemporaryFile() as file, Started(live, stdout=file) as evening:
+            evening.write(start + "".join(rows[: self.chance.randint(0, 9)]))
+            evening.kill()
+            evening.wait()
+            file.seek(0)
+            return decoded(file.read())
+
+
+def test_evenings_killed_a_thousand_times_lose_no_whole_answer(program):
+    """Each start goes on from what the crash before left: the newest whole line tells its board. Of the kills some are real, of a process."""
+    last = lambda text: command([program("ucl_live")], text + "screen,,,\nwords,,,\n").output.splitlines()[-18:]
+
+    def killed(seed):
+        """How often an evening was killed until all its rows were answered."""
+        evening = Killed(program, random.Random(seed), seed % 2)
+        while evening.pending:
+            evening.start(evening.killed if evening.kills % 10 == 0 else evening.cut)
+        assert last(command(evening.follow, evening.journal).output) == last(CLUBS + "".join(ROWS))
+        return evening.kills
+
+    with concurrent.futures.ThreadPoolExecutor() as evenings:
+        assert sum(evenings.map(killed, range(26))) >= 1_000
 
 
 @pytest.mark.limit(30)

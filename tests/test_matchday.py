@@ -65,8 +65,7 @@ class Season:
         wanted = [(it.upper(), str(self.until_night(it, night))) for it in GROUPS]
         versions = lambda: re.findall(r"^([A-H]) +\d+ +(\d+) ", told.read_text(), re.M)[-8:]
         until(lambda: f"Matchday {night} is entered\n" in told.read_text() and versions() == wanted)
-        os.kill(matchday.shell.pid, signal.SIGINT)
-        assert matchday.shell.wait() == 130 and until(lambda: not boards(self.site), 10)
+        end_by_ctrl_c(self.site, matchday)
 
     def kill_broker(self):
         """Kills the broker, and starts it again."""
@@ -104,5 +103,15 @@ def test_a_matchday_needs_eight_files_and_a_folder_of_its_own(site):
     assert site.done(f"timeout 5 examples/matchday {SEASON} 2>&1; echo $?") == "matchday: another matchday runs here: it holds matchday.lock\n1\n"
     report = "printf '3 kickoff\\n3 goal away\\n' | XDG_CONFIG_HOME=clients examples/broker/reporter h 200"
     assert site.done(report).endswith("3 goal-away             entered: Chelsea 0-1 Juventus, in play, event 2\n")
+    end_by_ctrl_c(site, matchday)
+    site.done("examples/mend h.jsonl 3 1 >mended.csv; examples/broker/board --begin h mended.csv")
+    matchday.start()
+    newest = lambda: site.done("XDG_CONFIG_HOME=clients timeout 5 mosquitto_sub -q 1 -C 1 -t ucl/h/desk | ./ucl_follow")
+    assert until(lambda: newest().startswith("GROUP H v00000 "), 20)
+    end_by_ctrl_c(site, matchday)
+
+
+def end_by_ctrl_c(site, matchday):
+    """Ends a matchday, and with it all boards."""
     os.kill(matchday.shell.pid, signal.SIGINT)
     assert matchday.shell.wait() == 130 and until(lambda: not boards(site), 10)

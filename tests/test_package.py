@@ -318,8 +318,8 @@ def calls_of(unit):
 
 
 def test_services(full, tmp_path):
-    """What the unit of a board starts, with the system calls that it allows: rows come in by the broker, a killed board goes on, a second one ends at the lock, the desk has a pulse, and a
-    follower shows all events."""
+    """What the unit of a board starts, with the system calls that it allows: rows come in by the broker, a killed board goes on, a second one ends at the lock, a card is left out of the
+    next edition, the desk has a pulse, and a follower shows all events."""
     needs("systemd-analyze")
     (full.path / "etc/ucl-board/a.csv").write_text(model.CLUBS)
     full.needs("mkdir -p /var/lib/ucl-board/a")
@@ -342,15 +342,21 @@ def test_services(full, tmp_path):
         begin = lambda: running.enter_context(conftest.Started(full.words(board)))
         first = begin()
         enter((1, 0, "kickoff"), (1, 1, "goal-home"))
-        full.needs(f"{client}mosquitto_pub -q 1 -t ucl/a/rows/1 -m 1,2,0,kickoff")
+        full.needs(f"{client}mosquitto_pub -q 1 -t ucl/a/0/rows/1 -m 1,2,0,kickoff")
         matches[1].enter(1, "kickoff")
         second = full.run(board)
         assert second.status == 1 and "another board" in second.errors
         first.kill()
         first.wait()
-        begin()
+        again = begin()
         enter((1, 2, "goal-away"), (2, 1, "red-home"), (1, 3, "fulltime"))
-        desk = full.needs(f"{client}mosquitto_sub -q 1 -C 3 -t ucl/a/desk")
+        again.kill()
+        again.wait()
+        full.needs(f"cd {folder} && flock a.lock {DOC}/mend a.jsonl 2 2 >mended.csv && /usr/libexec/ucl-board/board --begin a mended.csv")
+        matches[1] = model.Match()
+        matches[1].enter(1, "kickoff")
+        begin()
+        desk = full.needs(f"{client}mosquitto_sub -q 1 -C 4 -t ucl/a/desk")
     assert full.run("ucl_follow", desk).output.endswith(model.screen(matches)) and desk.count('"pulse":') >= 2
     full.needs("dpkg -P ucl-board python3-uclboard libuclboard-dev libuclboard1")
     assert not (full.path / "var/lib/ucl-board").exists() and not (full.path / "etc/ucl-board").exists()

@@ -371,10 +371,25 @@ def test_a_newer_screen_is_of_a_later_edition_or_of_the_same_and_a_higher_versio
 
 
 @pytest.mark.quick
+def test_a_board_that_is_begun_again_takes_back_a_kick_off_and_brings_its_own_clubs(sheet):
+    """Its version is lower. The match is not of the evening any more, who listens is told, and what comes late of the edition before is passed over."""
+    wrong = Moment("A", model.fresh(), SEASON["A"][0].roster, [1, 2])
+    for game in wrong.games:
+        wrong.matches[game - 1].enter(1, "kickoff")
+    wrong.matches[1].enter(1, "goal-home")
+    mended = Moment("A", [model.Match(), *wrong.matches[1:]], [("Atletico", 9), *wrong.roster[1:]], [2], 1)
+    sheet.open("group=A")
+    assert [sheet.take(it.line(row))["A"] for row, it in enumerate([wrong, mended, wrong], 1)] == [it.shown() for it in (wrong, mended, mended)]
+    home, away = (mended.roster[slot - 1][0] for slot in model.FIXTURES[0])
+    assert sheet.run("return document.getElementById('news').textContent") == f"Corrected. Not begun: {home} 0, {away} 0."
+
+
+@pytest.mark.quick
 def test_lines_that_tell_no_screen(sheet):
     moment = SEASON["A"][0]
     said = json.loads(moment.line())
-    changed = [{"group": "I"}, {"group": 1}, {"version": "16"}, {"edition": "1"}, {"edition": 0.5}, {"reply": "ok"}, {"table": [1, 2, 3]}, {"words": []}]
+    changed = [{"group": "I"}, {"group": 1}, {"version": "16"}, {"reply": "ok"}, {"table": [1, 2, 3]}, {"words": []}]
+    changed += [{"edition": it} for it in ("1", 0.5, -1, 65536, None)]
     changed += [{"clubs": None}, {"table": [None] * 4}, {"words": ["x"] * 12}, {"clubs": [None] * 4}]
     lines = [json.dumps({**said, "version": 99, "row": at, **it}) for at, it in enumerate(changed)]
     sheet.open("group=A")
@@ -523,6 +538,17 @@ def test_what_a_screen_reader_is_told(page):
     assert [name for role, name in told if role == "rowheader"] == [row[3] for row in page.wanted()["rows"]]
     assert ("alert", "") in told
     assert page.browser.execute_script("return document.getElementById('news').getAttribute('aria-live')") == "polite"
+
+
+def test_a_board_that_is_begun_again(page):
+    page.enter((1, "kickoff"), (2, "kickoff"), (2, "goal-home"))
+    page.shows()
+    page.parts[0].kill()
+    page.site.await_no_board()
+    page.site.done("examples/mend a.jsonl 2 1 >mended.csv && examples/broker/board --begin a mended.csv")
+    page.parts[0].start()
+    page.matches[1] = model.Match()
+    page.shows(version="edition 1, version 1", news="Corrected. Not begun: Delta 0, Alpha 0.")
 
 
 @pytest.mark.parametrize("part", ["the board", "the broker", "the server"])

@@ -4,11 +4,13 @@ Clients are those of mosquitto, which read the broker's address from their own f
 it, and one that ends before is started again after a second.
 """
 
+import contextlib
 import fcntl
 import json
 import os
 import select
 import shutil
+import signal
 import subprocess
 import sys
 
@@ -20,7 +22,7 @@ AGAIN = f"while :; do {' '.join(WITH_ITS_PARENT)} '{IF_IT_LIVES}' $$ \"$@\"; sle
 
 
 def topic(group, name):
-    """A topic of a group: `rows/NUMBER`, `desk` or `answers`; a plus stands for any group or number."""
+    """A topic of a group: `EDITION/rows/NUMBER`, `desk` or `answers`; a plus stands for any group, edition or number."""
     return f"ucl/{group}/{name}"
 
 
@@ -30,6 +32,13 @@ def started(*command, again=False, **how):
         sys.exit(f"there is no {command[0]}: examples/broker/README.md says what to install")
     loop = ["sh", "-c", AGAIN, "again"] if again else []
     return subprocess.Popen([*WITH_ITS_PARENT, IF_IT_LIVES, str(os.getpid()), *loop, *command], bufsize=0, start_new_session=True, **how)
+
+
+def end(process):
+    """Ends such a command, with all that it started itself."""
+    with contextlib.suppress(ProcessLookupError):
+        os.killpg(process.pid, signal.SIGKILL)
+    process.wait()
 
 
 def listener(*words, **how):
@@ -71,15 +80,20 @@ def members_of(line):
         return {}
 
 
+def asked_in(said):
+    """The row of an answer, or the text of a row that is none."""
+    return ",".join(str(said[name]) for name in ("reporter", "match", "expected", "event") if name in said) or said.get("text", "")
+
+
 def line_of(members):
     """A line of JSON, whose members stand in the order of their names."""
     return json.dumps(members, sort_keys=True, separators=(",", ":")).encode() + b"\n"
 
 
-def row_of(line):
-    """The number of a topic and the row that came on it, of a line `TOPIC HEX` by which a client writes what it has heard."""
-    heard, _, row = line.decode().partition(" ")
-    return heard.rsplit("/", 1)[1], bytes.fromhex(row)
+def heard_in(line):
+    """A topic and what came on it, of a line `TOPIC HEX` by which a client writes what it has heard."""
+    heard, _, payload = line.decode().partition(" ")
+    return heard, bytes.fromhex(payload)
 
 
 def locked(path):
