@@ -422,11 +422,12 @@ def test_no_late_row_of_an_edition_is_taken_in_the_next_and_all_screens_follow(s
     assert (site.path / "a.jsonl.1").read_bytes() == before
     second.type("2 kickoff\n")
     assert second.sees("2 kickoff               no answer yet; it is sent again")
-    waits = site.line("echo 3 kickoff | examples/broker/reporter --again 1 a 3 2>told")
+    waits = site.line("echo 3 kickoff | examples/broker/reporter --again 1 a 3 >asked 2>told")
+    assert until(lambda: site.done("grep 'no answer yet' asked"), 20)
     site.done("mosquitto_pub -q 1 -t ucl/a/0/rows/1 -m 1,1,3,goal-home")
     site.line(again)
     assert second.sees("Edition 1 has begun") and second.sees("2 kickoff               dropped, edition 1 has begun: Delta 0-0 Alpha, to come, event 0")
-    assert waits.shell.wait(10) == 1 and (site.path / "told").read_text() == "reporter: 3,3,0,kickoff: dropped, edition 1 has begun\n"
+    assert waits.shell.wait(20) == 1 and (site.path / "told").read_text() == "reporter: 3,3,0,kickoff: dropped, edition 1 has begun\n"
     site.done("mosquitto_pub -q 1 -t ucl/a/0/rows/1 -m 1,1,3,goal-home")
     assert first.sees("Edition 1 has begun") and first.sees(" 1 Bravo 1-1 Charlie, in play, event 3") and first.sees("> 1 goal h")
     first.type("ome\n")

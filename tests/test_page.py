@@ -541,14 +541,15 @@ def test_what_a_screen_reader_is_told(page):
 
 
 def test_a_board_that_is_begun_again(page):
+    """Without a kick-off, and with another name."""
     page.enter((1, "kickoff"), (2, "kickoff"), (2, "goal-home"))
     page.shows()
     page.parts[0].kill()
     page.site.await_no_board()
-    page.site.done("examples/mend a.jsonl 2 1 >mended.csv && examples/broker/board --begin a mended.csv")
+    page.site.done("examples/mend a.jsonl 2 1 | sed 's/Alpha/Alfa/' >mended.csv; examples/broker/board --begin a mended.csv")
     page.parts[0].start()
     page.matches[1] = model.Match()
-    page.shows(version="edition 1, version 1", news="Corrected. Not begun: Delta 0, Alpha 0.")
+    page.shows(**shown_of(page.matches, [("Alfa", 60_000), *model.ROSTER[1:]], [1], 1), news="Corrected. Not begun: Delta 0, Alfa 0.")
 
 
 @pytest.mark.parametrize("part", ["the board", "the broker", "the server"])
