@@ -266,6 +266,14 @@ def word(fields, game):
     return fields[2] if is_word and len(fields[2]) == 16 and all(c in "0123456789abcdefABCDEF" for c in fields[2]) else None
 
 
+def fields_on(row, line):
+    """The fields of a line that has this number: [] where it is too long or has several rows, and None where nothing is on it."""
+    line = line.removesuffix("\r")
+    fits = len(line.encode(errors="surrogateescape")) <= LONGEST_LINE
+    found = records((line.removeprefix("\ufeff") if row == 1 else line) + "\n") if fits else [[]]
+    return None if not found else found[0] if len(found) == 1 else []
+
+
 class Fault(Exception):
     """Why an input is refused."""
 
@@ -411,11 +419,8 @@ class Evening:
 
     def answers(self, row, line):
         """The answers to a line."""
-        line = line[:-1] if line.endswith("\r") else line
-        fits = len(line.encode(errors="surrogateescape")) <= LONGEST_LINE
-        found = records((line.removeprefix("\ufeff") if row == 1 else line) + "\n") if fits else [[]]
-        fields = found[0] if len(found) == 1 else []
-        if not found or self.beginning(row, fields):
+        fields = fields_on(row, line)
+        if fields is None or self.beginning(row, fields):
             return []
         self.matches = self.matches or fresh()
         if fields == ["screen", "", "", ""]:

@@ -174,7 +174,7 @@ def held(program, folder, script, texts, screens, group, order):
 
 REPORTERS = st.lists(PICKS, min_size=1, max_size=5)
 SCREENS = st.lists(st.sampled_from(["--screen", "--json"]), max_size=5)
-BAD_LINES = ["\n", "bad\n", "1,0\n", "13,0,kickoff\n", "1,0,kickoff\r\n"]
+BAD_LINES = ["\n", "bad\n", "1,0\n", "13,0,kickoff\n", "1,0,kickoff\r\n", '"1",0,"kickoff"\n', '1,0,"kickoff\n', "\ufeff1,0,kickoff\n"]
 
 
 @settings(max_examples=settings.default.max_examples // 5)

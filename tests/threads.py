@@ -3,7 +3,7 @@
 import json
 import re
 
-from model import IN_PLAY, event, fresh, screen, version
+from model import IN_PLAY, event, fields_on, fresh, screen, version
 
 # The lines of standard error that are no faults.
 TOLD = re.compile(r"^(ready: .*|waiting for a (reader|writer) of .*|.* has a (reader|writer)|(opening|reading|writing) .* failed: error .*)\n", re.M)
@@ -29,14 +29,14 @@ def replies_of(rows, answers):
     """The replies to the rows of a reporter. One that is no row has a line that says so, and an empty one has none."""
     lines, found = iter(answers.splitlines()), []
     for number, row in enumerate(rows.split("\n"), 1):
-        row = row.removesuffix("\r")
-        if row:
+        fields = fields_on(number, row)
+        if fields is not None:
             line, _, answer = next(lines, "no answer").partition(" ")
             assert line == str(number)
-            if event(["1", *row.split(",")]) is None:
+            if event(["1", *fields]) is None:
                 assert answer == "refused 20 bad-row"
             else:
-                found.append(Reply(row.split(","), answer))
+                found.append(Reply(fields, answer))
     assert list(lines) == []
     return found
 

@@ -82,8 +82,8 @@ abbrev pub fields_read : LineReader → Row
 fields_read reader = fields_in reader.fields
 
 -- they lie in its bytes, one after the other
-abbrev pub HasRead : LineReader → Type 0
-HasRead reader = Rising 0 reader.fields.ends.items (length reader.fields.bytes.items)
+abbrev pub HoldsRow : LineReader → Type 0
+HoldsRow reader = Rising 0 reader.fields.ends.items (length reader.fields.bytes.items)
 
 -- ---- fields that are not in quotes
 

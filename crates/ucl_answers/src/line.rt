@@ -3,7 +3,7 @@
 ghost use Rattle.std.specs.Prelude.{◌≡◌, ◌∷◌, [], ◌++◌, option_map, IfSome};
 ghost use Rattle.csv.specs.Records.{field_at};
 ghost use Rattle.ucl_screen.specs.Rows.{four_of, four_seen};
-ghost use Rattle.ucl_answers.specs.Reading.{HasRead, fields_read, row_in};
+ghost use Rattle.ucl_answers.specs.Reading.{HoldsRow, fields_read, row_in};
 ghost use Rattle.ucl_answers.specs.Rows.{Row, fits, row_on, said_on};
 
 use crate::plain::plain_four;
@@ -58,7 +58,7 @@ impl LineReader {
     /// Reads a line that has this number, with the line feed that it comes without.
     #[tactic(auto, unfolding(crate::specs::Rows::row_by_text))]
     pub fn read(&mut self, row: u64, line: &[u8]) -> RowCount
-        ensures read { HasRead self.new }
+        ensures read { HoldsRow self.new }
         ensures row { row_in result (fields_read self.new) ≡ row_on row line.now }
     {
         if !fits(line) {
@@ -77,7 +77,7 @@ impl LineReader {
 
     /// A field of the row that was read, counted from 0.
     pub fn field(&self, index: usize) -> Option<&[u8]>
-        requires { HasRead self.now }
+        requires { HoldsRow self.now }
         ensures { option_map (λ f. f.now) result ≡ field_at (fields_read self.now) index }
     {
         self.fields.field(index)
@@ -85,7 +85,7 @@ impl LineReader {
 
     /// The fields of the row that was read, where they are four.
     pub(crate) fn four(&self) -> Option<Four<'_>>
-        requires { HasRead self.now }
+        requires { HoldsRow self.now }
         ensures { option_map four_seen result ≡ four_of (fields_read self.now) }
     {
         self.fields.four()

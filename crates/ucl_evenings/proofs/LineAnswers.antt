@@ -62,7 +62,8 @@ answers_then row (line ∷ lines) more outcomes later same =
     let count = same ∙ length-append (calls_of t) (calls_in (row + 1) lines) in
     let rest : length (outcomes_later t outcomes) ≡ length (calls_in (row + 1) lines) = one_count t outcomes (length (calls_in (row + 1) lines)) count in
     let first = one_answer row t outcomes later (omega arith) in
-    let second : answers_in (row + 1) (lines ++ more) (outcomes_later t (outcomes ++ later)) ≡ answers_in (row + 1) lines (outcomes_later t outcomes) ++ answers_in (row + 1 + length lines) more later =
+    let second : answers_in (row + 1) (lines ++ more) (outcomes_later t (outcomes ++ later))
+    ≡ answers_in (row + 1) lines (outcomes_later t outcomes) ++ answers_in (row + 1 + length lines) more later =
     ap (answers_in (row + 1) (lines ++ more)) (one_later t outcomes later (omega arith)) ∙ answers_then (row + 1) lines more (outcomes_later t outcomes) later rest in
     let there : row + 1 + length lines ≡ row + length (line ∷ lines) = omega arith in
     ap₂ (λ (x y : List ℕ). x ++ y) first second

@@ -60,7 +60,8 @@ module _ (M K : Type 0) (board : M → K) (view : M → PassView) (reports rung 
   same_board row m [] p = refl
   same_board row m (t ∷ turns) p = same_board (row + 1) t.after turns p.1 ∙ stays m row t.line t.after t.text p.0
 
-  front : (row : ℕ) (m : M) (first rest : List (Turn M)) (p : AreTurns A row m (first ++ rest)) → (q : AreTurns A row m first) × IsPrefix (outcomes_of row m first q) (outcomes_of row m (first ++ rest) p)
+  front : (row : ℕ) (m : M) (first rest : List (Turn M)) (p : AreTurns A row m (first ++ rest))
+      → (q : AreTurns A row m first) × IsPrefix (outcomes_of row m first q) (outcomes_of row m (first ++ rest) p)
   unfolding AreTurns outcomes_of
   front row m [] rest p = (tt, (_, refl))
   front row m (t ∷ first) rest p = let x = front (row + 1) t.after first rest p.1 in ((p.0, x.0), behind _ _ _ x.1)

@@ -2,7 +2,7 @@
 use Rattle.std.specs.Prelude.{ℕ, List, [], ◌∷◌, Option, Some, None}
 use Rattle.ucl_word.specs.declared.event.EventCall.{EventCall}
 use Rattle.ucl_screen.specs.Rows.{Fields}
-use Rattle.ucl_screen.specs.Events.{call_of}
+use Rattle.ucl_screen.specs.Events.{call_in}
 use Rattle.ucl_answers.specs.BadRows.{bad_field_of_call}
 use Rattle.ucl_answers.specs.Rows.{LineRow, NoRow, Unread, OneRow, row_on}
 use Rattle.ucl_answers.specs.declared.bad_row.BadField.{BadField}
@@ -10,13 +10,13 @@ use Rattle.ucl_answers.specs.declared.bad_row.BadField.TheVariants.{Count}
 use Rattle.ucl_evenings.specs.declared.input.Input.{Input}
 use Rattle.ucl_evenings.specs.declared.input.Input.TheVariants.{Nothing, Bad, Event}
 
-abbrev pub event_or_bad : BadField → Option EventCall → Input
-event_or_bad field None = Bad field
-event_or_bad field (Some call) = Event call
+abbrev pub call_or_bad : BadField → Option EventCall → Input
+call_or_bad field None = Bad field
+call_or_bad field (Some call) = Event call
 
 -- what a row asks for: an event, by three fields
 abbrev pub input_of_row : Fields → Input
-input_of_row (game ∷ expected ∷ kind ∷ []) = event_or_bad (bad_field_of_call game expected) (call_of game expected kind)
+input_of_row (game ∷ expected ∷ kind ∷ []) = call_or_bad (bad_field_of_call game expected) (call_in game expected kind)
 input_of_row _ = Bad Count
 
 abbrev pub input_of : LineRow → Input

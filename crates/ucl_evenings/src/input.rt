@@ -1,7 +1,7 @@
 //! What a reporter's line asks for.
 
 ghost use Rattle.std.specs.Prelude.{◌≡◌};
-ghost use Rattle.ucl_answers.specs.Reading.{HasRead, fields_read};
+ghost use Rattle.ucl_answers.specs.Reading.{HoldsRow, fields_read};
 ghost use Rattle.ucl_evenings.specs.Inputs.{input_of_row, input_on};
 
 use ucl_answers::{BadField, LineReader, RowCount, bad_field_of_call};
@@ -22,7 +22,7 @@ pub enum Input {
 /// What the row asks for that was read last.
 #[tactic(auto, using(crate::proofs::RowFields::row_by))]
 fn input_of_row(lines: &LineReader) -> Input
-    requires { HasRead lines.now }
+    requires { HoldsRow lines.now }
     ensures { result ≡ input_of_row (fields_read lines.now) }
 {
     let (Some(game), Some(expected), Some(kind), None) = (

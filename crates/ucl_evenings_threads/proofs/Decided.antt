@@ -100,7 +100,8 @@ all_last P (x ∷ xs) ys all = all_last P xs ys (All-tail P x (xs ++ ys) all)
 -- ---- reporters
 
 -- a run that ended well has taken all lines
-all_lines : (old new : Device) (r : Result ⊤ RunFault) (bytes : List ℕ) (lines : List (List ℕ)) (outcomes : List Outcome) → RunEnds old new r bytes lines outcomes → IfOk r (λ (done : ⊤). lines ≡ lines_of bytes)
+all_lines : (old new : Device) (r : Result ⊤ RunFault) (bytes : List ℕ) (lines : List (List ℕ)) (outcomes : List Outcome) → RunEnds old new r bytes lines outcomes
+    → IfOk r (λ (done : ⊤). lines ≡ lines_of bytes)
 all_lines old new (Ok done) bytes lines outcomes e = e.all
 all_lines old new (Err fault) bytes lines outcomes e = tt
 

@@ -194,7 +194,8 @@ entered_games P n (call ∷ calls) (Entered number version ∷ outcomes) all =
 entered_games P n (call ∷ calls) (Refused refusal ∷ outcomes) all = entered_games P n calls outcomes (All-tail (λ (c : EventCall). P (entry_of n c)) call calls all)
 
 -- how many of them there are
-entered_count : (n : ℕ) (calls : List EventCall) (outcomes : List Outcome) (h : List Entry) (low : ℕ) → GoThrough n h low (length h) calls outcomes → length (entered_in n calls outcomes) ≡ accepted_in outcomes
+entered_count : (n : ℕ) (calls : List EventCall) (outcomes : List Outcome) (h : List Entry) (low : ℕ) → GoThrough n h low (length h) calls outcomes
+    → length (entered_in n calls outcomes) ≡ accepted_in outcomes
 unfolding GoThrough accepted_in entered_in
 entered_count n [] [] h low t = refl
 entered_count n [] (w ∷ outcomes) h low t = absurd t

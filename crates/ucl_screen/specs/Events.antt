@@ -21,8 +21,8 @@ abbrev pub expected_in : List ℕ → Option ℕ
 expected_in text = in_range 0 65535 (number 5 text)
 
 -- a match, an expected number, and the name of a kind
-abbrev pub call_of : List ℕ → List ℕ → List ℕ → Option EventCall
-call_of match_no expected name = do
+abbrev pub call_in : List ℕ → List ℕ → List ℕ → Option EventCall
+call_in match_no expected name = do
   game ← match_in match_no
   number ← expected_in expected
   kind ← kind_named name
@@ -32,5 +32,5 @@ call_of match_no expected name = do
 abbrev pub event_of : FourFields → Option NightEvent
 event_of f = do
   reporter ← reporter_in f.first
-  call ← call_of f.second f.third f.fourth
+  call ← call_in f.second f.third f.fourth
   Some (record { reporter = reporter; call = call })

@@ -1,7 +1,7 @@
 //! What single fields say.
 
 ghost use Rattle.std.specs.Prelude.{◌≡◌, ◌<◌, ◌≤◌, IfSome};
-ghost use Rattle.ucl_screen.specs.Events.{call_of, expected_in, match_in, reporter_in};
+ghost use Rattle.ucl_screen.specs.Events.{call_in, expected_in, match_in, reporter_in};
 ghost use Rattle.ucl_screen.specs.Numbers.{number, hex_digit, hex_word};
 
 use ucl_word::{EventCall, Kind, MatchNo, ReporterNo};
@@ -47,7 +47,7 @@ pub fn expected_of_field(text: &[u8]) -> Option<u16>
 
 /// The event of a match that three fields say.
 pub fn call_of_fields(game: &[u8], expected: &[u8], kind: &[u8]) -> Option<EventCall>
-    ensures { result ≡ call_of game.now expected.now kind.now }
+    ensures { result ≡ call_in game.now expected.now kind.now }
 {
     let game = match_of_field(game)?;
     let expected = expected_of_field(expected)?;

@@ -17,7 +17,8 @@ returns-in-Bad-clause-answers g c =
     let k = g.B.LiveBoard.reporter c.args.self.now.pass in
     let b = g.B.LiveBoard.has_reported c.args.self.now.pass in
     let r = g.V.Ring.rung c.args.self.now.bells in
-    (refl, turns_line k k b b r r c.args.row c.args.line.now (Bad c.in-Bad.field) (sym c.input_on.ensures ∙ c.in-Bad.is) [] (rows_none k c.requires.1) (reports_none b) (rang_none k r) _ c.bad_line.ensures)
+    let is = sym c.input_on.ensures ∙ c.in-Bad.is in
+    (refl, turns_line k k b b r r c.args.row c.args.line.now (Bad c.in-Bad.field-0) is [] (rows_none k c.requires.1) (reports_none b) (rang_none k r) _ c.bad_line.ensures)
 
 pub returns-in-Ok-clause-answers : goal.returns-in-Ok-clause-answers
 returns-in-Ok-clause-answers g c =
