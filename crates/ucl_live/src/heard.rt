@@ -61,8 +61,14 @@ impl Explaining {
     /// Answers the line that has ended, and explains the answer. After a fault it answers nothing more.
     fn explain_line(&mut self, errors: &mut Stderr) {
         let line = self.line.as_slice();
-        let done = self.evening.answer(self.row, line, &mut self.answer);
-        self.is_over = done.is_err();
+        if self
+            .evening
+            .answer(self.row, line, &mut self.answer)
+            .is_err()
+        {
+            self.is_over = true;
+            return;
+        }
         if let Ok(answer) = Value::from_slice(self.alloc, self.answer.front()) {
             if let Some(sentence) = sentence_of(&answer) {
                 tell(errors, &sentence);
