@@ -22,7 +22,7 @@ use Rattle.ucl_screen.specs.Matches.{state_name}
 use Rattle.ucl_json.specs.Values.{club_items, match_items, match_value, matches_value, number_value, sides_value}
 use Rattle.ucl_follows.specs.Answered.{MatchesFitTheirLine}
 use Rattle.ucl_follows.proofs.PlainAnswers.{clubs-plain}
-use Rattle.ucl_follows.proofs.ReadBack.{AreShortItems, ArePlain, IsPlain, IsShort, IsText, digits-short, in-quotes, items-short, no-item, no-member}
+use Rattle.ucl_follows.proofs.ReadBack.{AreShortItems, ArePlain, IsPlain, IsShort, IsText, digits-short, in-quotes, items-short, items_size, no-item, no-member}
 use Rattle.ucl_follows.proofs.ReadBack.{short-array, short-object, size, wider, with-item, with-member}
 
 state-text : (s : State) → IsText (state_name s) × (length (state_name s) ≤ 9)
@@ -76,6 +76,9 @@ match-short game m high v =
     (with-member (codes "state") (string (state_name m.state)) refl name
     (with-member (codes "yellows") (sides_value m.home_yellows m.away_yellows) refl (sides-short m.home_yellows m.away_yellows w.home_yellows w.away_yellows) no-member)))))))
 
+fits : (text : List ℕ) (n clubs : ℕ) → IsShort text n → n ≡ 2209 + clubs → clubs ≤ 481 → IsShort text 4096
+fits text n clubs p e few = wider text n 4096 (omega (arith, e, few)) p
+
 module _ (board : List ℕ) (w : AreWords board) where
   valid : (game : ℕ) → game ≤ 12 → IsValid (game_at board game)
   valid game high = word_valid (word_at board game) (All-get_or IsWord board (game - 1) 0 (let t = w.twelve in omega (arith, t, high)) w.each)
@@ -110,13 +113,12 @@ module _ (board : List ℕ) (w : AreWords board) where
   unfolding matches_value
   matches-short row clubs r is =
       let c = clubs-plain clubs is in
-      let four = c.1 in
       let whole =
       short-object (with-member (codes "clubs") (array (club_items clubs)) refl (short-array (items-short 125 (club_items clubs) c.0))
       (with-member (codes "matches") (array (match_items board match_numbers)) refl (short-array (short-items match_numbers refl))
       (with-member (codes "reply") (string (codes "matches")) refl (in-quotes (codes "matches") refl)
       (with-member (codes "row") (number_value row) refl (few-digits 20 row (omega arith) (omega arith) r) no-member)))) in
-      record { ascii = whole.ascii; short = let l = whole.short in omega (arith, four, l) }
+      fits _ _ (items_size (club_items clubs)) whole (omega arith) c.1
 
 pub matches-fit : MatchesFitTheirLine
 matches-fit row m is r = (matches-short m.board is.words row m.roster r is.clubs).short
