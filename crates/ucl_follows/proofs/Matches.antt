@@ -1,12 +1,13 @@
 -- The twelve matches in JSON are plain, and their line is short.
-use Rattle.std.proofs.Common.{◌≡◌, ℕ, suc, ◌+◌, ◌-◌, ◌*◌, ◌^◌, ◌<◌, ◌≤◌, Bool, true, false, refl, arith, List, [], ◌∷◌, length, codes}
+use Rattle.std.proofs.Common.{◌≡◌, ℕ, suc, ◌+◌, ◌-◌, ◌*◌, ◌^◌, ◌<◌, ◌≤◌, true, refl, arith, List, [], ◌∷◌, length, codes, subst}
 use Rattle.std.specs.Prelude.{nat_le}
 use Rattle.std.specs.List.{list_all}
 use Rattle.std.proofs.lemmas.Bool.{and_parts}
 use Rattle.std.proofs.lemmas.Bool.Decides.{nat_tests}
 use Rattle.std.proofs.lemmas.List.Elements.{All-get_or}
-use Rattle.serde_json.specs.Data.{array, no_members, string}
-use Rattle.serde_json.specs.Written.{compact_text, items_text, members_text}
+use Rattle.json.specs.Print.{quoted}
+use Rattle.serde_json.specs.Data.{array, string}
+use Rattle.serde_json.specs.Written.{compact_text}
 use Rattle.serde_json.proofs.OnLiterals.{serde_json_on_literals}
 use Rattle.ucl_word.specs.declared.record.MatchRecord.{MatchRecord}
 use Rattle.ucl_word.specs.declared.record.State.{State}
@@ -22,7 +23,8 @@ use Rattle.ucl_screen.specs.Matches.{state_name}
 use Rattle.ucl_json.specs.Values.{club_items, match_items, match_value, matches_value, number_value, sides_value}
 use Rattle.ucl_follows.specs.Answered.{MatchesFitTheirLine}
 use Rattle.ucl_follows.proofs.PlainAnswers.{clubs-plain}
-use Rattle.ucl_follows.proofs.ReadBack.{ArePlain, IsPlain, IsShort, IsText, digits-short, first, in-quotes, item-short, items-end, items-short, member-short, members-end, size, wider}
+use Rattle.ucl_follows.proofs.ReadBack.{AreShortItems, ArePlain, IsPlain, IsShort, IsText, digits-short, in-quotes, items-short, items_size, no-item, no-member}
+use Rattle.ucl_follows.proofs.ReadBack.{short-array, short-object, size, wider, with-item, with-member}
 
 state-text : (s : State) → IsText (state_name s) × (length (state_name s) ≤ 9)
 state-text Scheduled = (refl, omega arith)
@@ -47,11 +49,14 @@ match-plain deep game m g v =
       omega arith,
     )
 
+-- a number of so many digits
+few-digits : (k n : ℕ) → 0 < k → n < 10 ^ k → n < 2 ^ 64 → IsShort (compact_text (number_value n)) k
+few-digits k n some few h = digits-short k n some few h
+
 sides-short : (home away : ℕ) → home ≤ 63 → away ≤ 63 → IsShort (compact_text (sides_value home away)) 8
 sides-short home away h a =
-    first 91 _ 7 (omega arith)
-    (item-short false (number_value home) _ 2 4 (digits-short 2 home (omega arith) (omega arith) (omega arith))
-    (item-short true (number_value away) _ 2 1 (digits-short 2 away (omega arith) (omega arith) (omega arith)) (items-end true)))
+    short-array (with-item (number_value home) (few-digits 2 home (omega arith) (omega arith) (omega arith))
+    (with-item (number_value away) (few-digits 2 away (omega arith) (omega arith) (omega arith)) no-item))
 
 -- the number of the match has two digits, its event number four, and its reporter three
 match-short : (game : ℕ) (m : MatchRecord) → game ≤ 12 → IsValid m → IsShort (compact_text (match_value game m)) 175
@@ -59,17 +64,19 @@ match-short game m high v =
     let state = state-text m.state in
     let number = number_valid m v in
     let reporter = reporter_valid m v in
-    let named : IsShort (compact_text (string (state_name m.state))) 20 = wider _ _ 20 (let l = state.1 in omega arith) (in-quotes (state_name m.state) state.0) in
-    first 123 _ 174 (omega arith)
-    (member-short false (codes "expulsions") (sides_value m.home_expulsions m.away_expulsions) _ 8 142 refl
-    (sides-short m.home_expulsions m.away_expulsions (let n = home_expulsions_valid m v in omega arith) (let n = away_expulsions_valid m v in omega arith))
-    (member-short true (codes "match") (number_value game) _ 2 126 refl (digits-short 2 game (omega arith) (omega arith) (omega arith))
-    (member-short true (codes "number") (number_value m.number) _ 4 106 refl (digits-short 4 m.number (omega arith) (omega (arith, number)) (omega (arith, number)))
-    (member-short true (codes "reporter") (number_value m.reporter) _ 3 83 refl (digits-short 3 m.reporter (omega arith) (omega (arith, reporter)) (omega (arith, reporter)))
-    (member-short true (codes "score") (sides_value m.home_goals m.away_goals) _ 8 61 refl (sides-short m.home_goals m.away_goals (home_goals_valid m v) (away_goals_valid m v))
-    (member-short true (codes "state") (string (state_name m.state)) _ 20 27 refl named
-    (member-short true (codes "yellows") (sides_value m.home_yellows m.away_yellows) _ 8 1 refl (sides-short m.home_yellows m.away_yellows (home_yellows_valid m v) (away_yellows_valid m v))
-    (members-end true))))))))
+    let name : IsShort (compact_text (string (state_name m.state))) 20 =
+    wider (quoted (state_name m.state)) (2 * length (state_name m.state) + 2) 20 (let l = state.1 in omega arith) (in-quotes (state_name m.state) state.0) in
+    let expulsions = sides-short m.home_expulsions m.away_expulsions (let n = (home_expulsions_valid m v) in omega arith) (let n = (away_expulsions_valid m v) in omega arith) in
+    short-object (with-member (codes "expulsions") (sides_value m.home_expulsions m.away_expulsions) refl expulsions
+    (with-member (codes "match") (number_value game) refl (few-digits 2 game (omega arith) (omega arith) (omega arith))
+    (with-member (codes "number") (number_value m.number) refl (few-digits 4 m.number (omega arith) (omega (arith, number)) (omega (arith, number)))
+    (with-member (codes "reporter") (number_value m.reporter) refl (few-digits 3 m.reporter (omega arith) (omega (arith, reporter)) (omega (arith, reporter)))
+    (with-member (codes "score") (sides_value m.home_goals m.away_goals) refl (sides-short m.home_goals m.away_goals (home_goals_valid m v) (away_goals_valid m v))
+    (with-member (codes "state") (string (state_name m.state)) refl name
+    (with-member (codes "yellows") (sides_value m.home_yellows m.away_yellows) refl (sides-short m.home_yellows m.away_yellows (home_yellows_valid m v) (away_yellows_valid m v)) no-member)))))))
+
+fits : (text : List ℕ) (n clubs : ℕ) → IsShort text n → n ≡ 2209 + clubs → clubs ≤ 481 → IsShort text 4096
+fits text n clubs p e few = wider text n 4096 (omega (arith, e, few)) p
 
 module _ (board : List ℕ) (w : AreWords board) where
   valid : (game : ℕ) → game ≤ 12 → IsValid (game_at board game)
@@ -88,14 +95,14 @@ module _ (board : List ℕ) (w : AreWords board) where
       let high = small game p.0 in
       ((match-plain 123 game (game_at board game) (omega arith) (valid game high)).0, plain-items games p.1)
 
-  short-items : (games : List ℕ) (later : Bool) → AreSmall games → IsShort (items_text later (match_items board games)) (1 + 176 * length games)
-  short-items [] later h = items-end later
-  short-items (game ∷ games) later h =
+  short-items : (games : List ℕ) → AreSmall games → AreShortItems (match_items board games) (1 + 176 * length games)
+  short-items [] h = no-item
+  short-items (game ∷ games) h =
       let p = and_parts (nat_le game 12) (list_all (λ g. nat_le g 12) games) h in
       let high = small game p.0 in
-      wider _ (1 + (175 + (1 + 176 * length games))) _ (omega arith)
-      (item-short later (match_value game (game_at board game)) (match_items board games) 175 (1 + 176 * length games) (match-short game (game_at board game) high (valid game high))
-      (short-items games true p.1))
+      let more = with-item (match_value game (game_at board game)) (match-short game (game_at board game) high (valid game high)) (short-items games p.1) in
+      let same : 1 + (175 + (1 + 176 * length games)) ≡ 1 + 176 * length (game ∷ games) = omega arith in
+      subst (AreShortItems (match_items board (game ∷ games))) same more
 
   pub matches-plain : (row : ℕ) (clubs : List NamedClub) → row < 2 ^ 64 → IsRoster clubs → IsPlain 127 (matches_value row board clubs)
   unfolding matches_value serde_json_on_literals
@@ -105,13 +112,12 @@ module _ (board : List ℕ) (w : AreWords board) where
   unfolding matches_value
   matches-short row clubs r is =
       let c = clubs-plain clubs is in
-      let all : IsShort (compact_text (array (club_items clubs))) 482 = first 91 _ 481 (omega arith) (wider _ _ 481 c.1 (items-short 125 false (club_items clubs) c.0)) in
-      wider _ 2690 4096 (omega arith)
-      (first 123 _ 2689 (omega arith)
-      (member-short false (codes "clubs") (array (club_items clubs)) _ 482 2193 refl all
-      (member-short true (codes "matches") (array (match_items board match_numbers)) _ 2114 61 refl (first 91 _ 2113 (omega arith) (short-items match_numbers false refl))
-      (member-short true (codes "reply") (string (codes "matches")) _ 16 31 refl (in-quotes (codes "matches") refl)
-      (member-short true (codes "row") (number_value row) no_members 20 1 refl (digits-short 20 row (omega arith) (omega arith) r) (members-end true))))))
+      let whole =
+      short-object (with-member (codes "clubs") (array (club_items clubs)) refl (short-array (items-short 125 (club_items clubs) c.0))
+      (with-member (codes "matches") (array (match_items board match_numbers)) refl (short-array (short-items match_numbers refl))
+      (with-member (codes "reply") (string (codes "matches")) refl (in-quotes (codes "matches") refl)
+      (with-member (codes "row") (number_value row) refl (few-digits 20 row (omega arith) (omega arith) r) no-member)))) in
+      fits _ _ (items_size (club_items clubs)) whole (omega arith) c.1
 
 pub matches-fit : MatchesFitTheirLine
 matches-fit row m is r = (matches-short m.board is.words row m.roster r is.clubs).short

@@ -232,22 +232,39 @@ comma : (later : Bool) → IsShort (comma_if later) 1
 comma true = first 44 [] 0 (omega arith) none
 comma false = wider [] 0 1 (omega arith) none
 
--- an element, or a member, and the rest, from the end on
-pub items-end : (later : Bool) → IsShort (items_text later no_items) 1
-items-end later = first 93 [] 0 (omega arith) none
+-- elements, and members, after others or not
 
-pub item-short : (later : Bool) (d : Data) (ds : Items) (n m : ℕ) → IsShort (compact_text d) n → IsShort (items_text true ds) m → IsShort (items_text later (item d ds)) (1 + (n + m))
-item-short later d ds n m p q = then (comma_if later) (compact_text d ++ items_text true ds) 1 (n + m) (comma later) (then (compact_text d) (items_text true ds) n m p q)
+pub record AreShortItems (ds : Items) (n : ℕ) : Type 0 where
+  pub short : (later : Bool) → IsShort (items_text later ds) n
 
-pub members-end : (later : Bool) → IsShort (members_text later no_members) 1
-members-end later = first 125 [] 0 (omega arith) none
+pub record AreShortMembers (ms : Members) (n : ℕ) : Type 0 where
+  pub short : (later : Bool) → IsShort (members_text later ms) n
 
-pub member-short : (later : Bool) (k : List ℕ) (d : Data) (ms : Members) (n m : ℕ) → IsText k → IsShort (compact_text d) n → IsShort (members_text true ms) m
-    → IsShort (members_text later (member k d ms)) (1 + ((2 * length k + 2) + (1 + (n + m))))
-member-short later k d ms n m key p q =
-    let rest = compact_text d ++ members_text true ms in
-    then (comma_if later) (quoted k ++ 58 ∷ rest) 1 ((2 * length k + 2) + (1 + (n + m))) (comma later)
-    (then (quoted k) (58 ∷ rest) (2 * length k + 2) (1 + (n + m)) (in-quotes k key) (first 58 rest (n + m) (omega arith) (then (compact_text d) (members_text true ms) n m p q)))
+pub no-item : AreShortItems no_items 1
+no-item = record { short = λ later. first 93 [] 0 (omega arith) none }
+
+pub with-item : {ds : Items} {n m : ℕ} (d : Data) → IsShort (compact_text d) n → AreShortItems ds m → AreShortItems (item d ds) (1 + (n + m))
+with-item {ds} {n} {m} d p q = record {
+  short = λ later. then (comma_if later) (compact_text d ++ items_text true ds) 1 (n + m) (comma later) (then (compact_text d) (items_text true ds) n m p (q.short true));
+}
+
+pub no-member : AreShortMembers no_members 1
+no-member = record { short = λ later. first 125 [] 0 (omega arith) none }
+
+pub with-member : {ms : Members} {n m : ℕ} (k : List ℕ) (d : Data) → IsText k → IsShort (compact_text d) n → AreShortMembers ms m
+    → AreShortMembers (member k d ms) (1 + ((2 * length k + 2) + (1 + (n + m))))
+with-member {ms} {n} {m} k d key p q =
+    let rest = compact_text d ++ members_text true ms in record {
+      short = λ later. then (comma_if later) (quoted k ++ 58 ∷ rest) 1 ((2 * length k + 2) + (1 + (n + m))) (comma later)
+          (then (quoted k) (58 ∷ rest) (2 * length k + 2) (1 + (n + m)) (in-quotes k key)
+          (first 58 rest (n + m) (omega arith) (then (compact_text d) (members_text true ms) n m p (q.short true))));
+    }
+
+pub short-array : {ds : Items} {n : ℕ} → AreShortItems ds n → IsShort (compact_text (array ds)) (1 + n)
+short-array {ds} {n} p = first 91 (items_text false ds) n (omega arith) (p.short false)
+
+pub short-object : {ms : Members} {n : ℕ} → AreShortMembers ms n → IsShort (compact_text (object ms)) (1 + n)
+short-object {ms} {n} p = first 123 (members_text false ms) n (omega arith) (p.short false)
 
 mutual
   value-short : (deep : ℕ) (d : Data) → IsPlain deep d → IsShort (compact_text d) (size d)
@@ -256,19 +273,19 @@ mutual
   value-short deep (number n) h = number-short n h
   value-short deep (string s) h = in-quotes s h
   value-short zero (array ds) h = absurd h
-  value-short (suc deep) (array ds) h = first 91 (items_text false ds) (items_size ds) (omega arith) (items-short deep false ds h)
+  value-short (suc deep) (array ds) h = short-array (items-short deep ds h)
   value-short zero (object ms) h = absurd h
-  value-short (suc deep) (object ms) h = first 123 (members_text false ms) (members_size ms) (omega arith) (members-short deep false ms h.0.1 h.1)
+  value-short (suc deep) (object ms) h = short-object (members-short deep ms h.0.1 h.1)
 
-  pub items-short : (deep : ℕ) (later : Bool) (ds : Items) → ArePlain deep ds → IsShort (items_text later ds) (items_size ds)
-  items-short deep later no_items h = items-end later
-  items-short deep later (item d ds) h = item-short later d ds (size d) (items_size ds) (value-short deep d h.0) (items-short deep true ds h.1)
+  pub items-short : (deep : ℕ) (ds : Items) → ArePlain deep ds → AreShortItems ds (items_size ds)
+  items-short deep no_items h = no-item
+  items-short deep (item d ds) h = with-item d (value-short deep d h.0) (items-short deep ds h.1)
 
-  members-short : (deep : ℕ) (later : Bool) (ms : Members) → have_texts ms ≡ true → HavePlain deep ms → IsShort (members_text later ms) (members_size ms)
-  members-short deep later no_members k h = members-end later
-  members-short deep later (member k d ms) texts h =
+  members-short : (deep : ℕ) (ms : Members) → have_texts ms ≡ true → HavePlain deep ms → AreShortMembers ms (members_size ms)
+  members-short deep no_members k h = no-member
+  members-short deep (member k d ms) texts h =
       let keys = and_parts (list_all is_printed k) (have_texts ms) texts in
-      member-short later k d ms (size d) (members_size ms) keys.0 (value-short deep d h.0) (members-short deep true ms keys.1 h.1)
+      with-member k d keys.0 (value-short deep d h.0) (members-short deep ms keys.1 h.1)
 
 -- ---- the moment of its line
 
