@@ -1,5 +1,5 @@
 -- A pass of a board or none, and what becomes of it in each call.
-use Rattle.std.specs.Prelude.{◌≡◌, ◌≤◌, ◌+◌, [], Option, None, Some, Result, IfOk, IfErr}
+use Rattle.std.specs.Prelude.{ℕ, ◌≡◌, ◌≤◌, ◌+◌, [], Option, None, Some, Result, IfOk, IfErr}
 use Rattle.atomic_table.specs.Seated.{TableId}
 use Rattle.ucl_word.specs.declared.event.EventCall.{EventCall}
 use Rattle.ucl_word.specs.declared.event.Accepted.{Accepted}
