@@ -17,9 +17,10 @@ mod row;
 mod some_words;
 mod stage;
 mod table;
+mod title;
 mod words;
 
-pub use answer::{Answer, ReplyLine, accepted_line, bad_line, refused_line, title_of};
+pub use answer::{Answer, ReplyLine, accepted_line, bad_line, refused_line};
 pub use evening::Evening;
 pub use fault::{BeginningFault, LiveFault};
 pub use laws::{
@@ -30,4 +31,5 @@ pub use laws::{
 pub use live::live_run;
 pub use parts::Parts;
 pub use program::run_evening;
+pub use title::letter_in;
 pub use words::{Lines, word_lines};

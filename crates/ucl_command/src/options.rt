@@ -51,18 +51,14 @@ fn option<'a>(alloc: Global, name: &'a str, value: &'a str, says: &'a str) -> Ar
         .help(says)
 }
 
-/// `--group` with a letter from `A` to `H`, which is `A` where it is left out.
-pub(crate) fn group_option<'a>(alloc: Global) -> Arg<'a> {
-    option(alloc, "group", "GROUP", help::GROUP)
-        .value_parser(GROUPS.as_slice())
-        .default_value("A")
+/// `--group` with a letter from `A` to `H`.
+pub(crate) fn group_option<'a>(alloc: Global, says: &'a str) -> Arg<'a> {
+    option(alloc, "group", "GROUP", says).value_parser(GROUPS.as_slice())
 }
 
-/// `--order` with `uefa` or `away-in-tie`, which is `uefa` where it is left out.
-pub(crate) fn order_option<'a>(alloc: Global) -> Arg<'a> {
-    option(alloc, "order", "ORDER", help::ORDER)
-        .value_parser(PROFILE_NAMES.as_slice())
-        .default_value(Profile::Uefa.name())
+/// `--order` with `uefa` or `away-in-tie`.
+pub(crate) fn order_option<'a>(alloc: Global, says: &'a str) -> Arg<'a> {
+    option(alloc, "order", "ORDER", says).value_parser(PROFILE_NAMES.as_slice())
 }
 
 /// `--format` with `text` or `json`, which is `text` where it is left out.

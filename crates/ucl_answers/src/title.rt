@@ -1,0 +1,164 @@
+//! What the first row may say of the board.
+
+ghost use Rattle.std.specs.Prelude.{◌≡◌, ◌≤◌, IfSome, option_map};
+ghost use Rattle.ucl_order.specs.Names.{profile_named};
+ghost use Rattle.ucl_screen.specs.Rows.{four_seen};
+ghost use Rattle.ucl_screen.specs.Screen.{IsGroup};
+ghost use Rattle.ucl_answers.specs.Rows.{of_row};
+ghost use Rattle.ucl_answers.specs.Titles.{asked_group, asked_order, asked_title, edition_in, is_as_asked, is_asked_group, is_asked_order, is_group_row, is_same_order, letter_in, title_by, title_said};
+
+use ucl_command::LiveArgs;
+use ucl_json::Title;
+use ucl_order::Profile;
+use ucl_screen::{Four, event_of_fields, is_group};
+
+/// The letter of a group, where a text is one.
+pub fn letter_in(text: &[u8]) -> Option<u8>
+    ensures told { result ≡ letter_in text.now }
+    ensures letter { IfSome result IsGroup }
+{
+    match text {
+        [letter] if is_group(*letter) => Some(*letter),
+        _ => None,
+    }
+}
+
+/// The order that a field names.
+fn order_in(text: &[u8]) -> Option<Profile>
+    ensures { result ≡ profile_named text.now }
+{
+    if text == Profile::Uefa.name().as_bytes() {
+        Some(Profile::Uefa)
+    } else if text == Profile::AwayInTie.name().as_bytes() {
+        Some(Profile::AwayInTie)
+    } else {
+        None
+    }
+}
+
+/// The edition that a field says: it has the size of the number that is expected of a match.
+#[tactic(auto, using(crate::proofs::TitleRows::edition_some, crate::proofs::TitleRows::edition_none))]
+fn edition_in(text: &[u8]) -> Option<u16>
+    ensures { result ≡ edition_in text.now }
+{
+    let event = event_of_fields(&Four {
+        first: b"1".as_slice(),
+        second: b"1".as_slice(),
+        third: text,
+        fourth: b"kickoff".as_slice(),
+    })?;
+    Some(event.call.expected)
+}
+
+/// The title that a row of a group says.
+fn title_by(four: &Four<'_>) -> Option<Title>
+    ensures told { result ≡ title_by (four_seen four.now) }
+    ensures letter { IfSome result (λ title. IsGroup title.group) }
+{
+    let group = letter_in(four.second)?;
+    let profile = order_in(four.third)?;
+    let edition = edition_in(four.fourth)?;
+    Some(Title {
+        group,
+        profile,
+        edition,
+    })
+}
+
+/// Whether a row is that of a group, good or bad.
+pub(crate) fn is_group_row(row: &Option<Four<'_>>) -> bool
+    ensures { result ≡ is_group_row (of_row (option_map four_seen row.now)) }
+{
+    match row {
+        None => false,
+        Some(four) => four.first == b"group".as_slice(),
+    }
+}
+
+/// The title that a row says.
+pub(crate) fn title_said(row: &Option<Four<'_>>) -> Option<Title>
+    ensures told { result ≡ title_said (of_row (option_map four_seen row.now)) }
+    ensures letter { IfSome result (λ title. IsGroup title.group) }
+{
+    match row {
+        None => None,
+        Some(four) => title_by(four),
+    }
+}
+
+/// Whether a group is that which was asked for, where one was.
+fn is_asked_group(asked: Option<u8>, group: u8) -> bool
+    ensures { result ≡ is_asked_group asked group }
+{
+    match asked {
+        None => true,
+        Some(asked) => asked == group,
+    }
+}
+
+/// Whether two orders are the same.
+fn is_same_order(one: Profile, other: Profile) -> bool
+    ensures { result ≡ is_same_order one other }
+{
+    match one {
+        Profile::Uefa => match other {
+            Profile::Uefa => true,
+            Profile::AwayInTie => false,
+        },
+        Profile::AwayInTie => match other {
+            Profile::Uefa => false,
+            Profile::AwayInTie => true,
+        },
+    }
+}
+
+/// Whether an order is that which was asked for, where one was.
+fn is_asked_order(asked: Option<Profile>, order: Profile) -> bool
+    ensures { result ≡ is_asked_order asked order }
+{
+    match asked {
+        None => true,
+        Some(asked) => is_same_order(asked, order),
+    }
+}
+
+/// Whether the group and the order are those that were asked for, where some were.
+pub(crate) fn is_as_asked(options: &LiveArgs, title: Title) -> bool
+    ensures { result ≡ is_as_asked options.now title }
+{
+    is_asked_group(options.group, title.group) && is_asked_order(options.profile, title.profile)
+}
+
+/// The group that was asked for, else A.
+fn asked_group(asked: Option<u8>) -> u8
+    requires { IfSome asked IsGroup }
+    ensures told { result ≡ asked_group asked }
+    ensures letter { IsGroup result }
+{
+    match asked {
+        None => b'A',
+        Some(group) => group,
+    }
+}
+
+/// The order that was asked for, else that of the Regulations.
+fn asked_order(asked: Option<Profile>) -> Profile
+    ensures { result ≡ asked_order asked }
+{
+    match asked {
+        None => Profile::Uefa,
+        Some(profile) => profile,
+    }
+}
+
+/// The title where no row says one.
+pub(crate) fn asked_title(options: &LiveArgs) -> Title
+    ensures told { result ≡ asked_title options.now }
+    ensures letter { IsGroup result.group }
+{
+    Title {
+        group: asked_group(options.group),
+        profile: asked_order(options.profile),
+        edition: 0,
+    }
+}
