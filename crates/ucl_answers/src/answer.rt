@@ -177,13 +177,7 @@ pub(crate) fn screen_answer(
             title.group,
             title.profile,
         )?,
-        Format::Json => edition_screen_json(
-            alloc,
-            row,
-            &table.board,
-            &table.roster,
-            title,
-        )?,
+        Format::Json => edition_screen_json(alloc, row, &table.board, &table.roster, title)?,
     };
     Ok(Answer::Long(text))
 }

@@ -39,7 +39,16 @@ impl Table {
     {
         let before = self.board.version();
         let reply = self.board.report(event.reporter, &event.call);
-        let line = reply_answer(alloc, options.format, title, row, event, before, reply, self)?;
+        let line = reply_answer(
+            alloc,
+            options.format,
+            title,
+            row,
+            event,
+            before,
+            reply,
+            self,
+        )?;
         if options.screens && reply.is_ok() {
             let screen = screen_answer(alloc, options.format, title, row, self)?;
             parts.put_both(line, screen);

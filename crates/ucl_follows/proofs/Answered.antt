@@ -146,7 +146,8 @@ edition-back edition h = rw (le-leb edition 65535 h) refl
 
 -- ---- a moment
 
-told-by : (value : Data) (m : Moment) → group_told value ≡ Some m.title.group → order_told value ≡ Some m.title.profile → edition_told value ≡ Some m.title.edition → clubs_told value ≡ Some m.roster → board_told value ≡ Some m.board
+told-by : (value : Data) (m : Moment) → group_told value ≡ Some m.title.group → order_told value ≡ Some m.title.profile → edition_told value ≡ Some m.title.edition
+    → clubs_told value ≡ Some m.roster → board_told value ≡ Some m.board
     → moment_told value ≡ Some m
 unfolding moment_told
 told-by value m a b c d e = rw (a, b, c, d, e) refl

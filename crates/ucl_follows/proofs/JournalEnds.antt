@@ -1,5 +1,5 @@
 -- The last moment of a journal, and what comes after a crash.
-use Rattle.std.proofs.Common.{◌≡◌, ◌∙◌, ◌⊎◌, ℕ, ◌+◌, ◌^◌, ◌≤◌, refl, sym, ap, ap₂, subst}
+use Rattle.std.proofs.Common.{◌≡◌, ◌∙◌, ◌⊎◌, ℕ, ◌+◌, ◌^◌, ◌≤◌, false, refl, sym, ap, ap₂, subst}
 use Rattle.std.proofs.Common.{arith, List, [], ◌∷◌, ◌++◌, length, append-nil, append_assoc, length-append, Option, Some, None, inl, inr}
 use Rattle.std.specs.List.{fold}
 use Rattle.ucl_word.specs.declared.refusal.Refusal.{Refusal}

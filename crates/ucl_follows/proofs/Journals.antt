@@ -228,7 +228,8 @@ options-after e [] = refl
 options-after e (line ∷ lines) = options-after (next e (said_on e.row line)) lines
 
 -- a stage with a moment is open, and the moment has the evening's title
-pub open-with : (title : Title) (s : Stage) (m : Moment) → moment_at title s ≡ Some m → (clubs : List NamedClub) × (board : List ℕ) × (s ≡ Open clubs board) × (m.board ≡ board) × (m.title ≡ title)
+pub open-with : (title : Title) (s : Stage) (m : Moment) → moment_at title s ≡ Some m
+    → (clubs : List NamedClub) × (board : List ℕ) × (s ≡ Open clubs board) × (m.board ≡ board) × (m.title ≡ title)
 open-with title (Open clubs board) m e = let same : moment_with title clubs board ≡ m = cc in (clubs, board, refl, cc, sym (ap (λ (n : Moment). n.title) same))
 open-with title Beginning m e = cc
 open-with title (Naming clubs) m e = cc
