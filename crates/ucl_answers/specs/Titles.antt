@@ -40,6 +40,10 @@ title_said (Row f) = title_by f
 title_said Garbled = None
 title_said Nothing = None
 
+-- what a row says of its group, where it is that of one: a title, or none
+abbrev pub group_said : Said → Option (Option Title)
+group_said said = if is_group_row said then Some (title_said said) else None
+
 -- ---- what was asked for
 
 abbrev pub is_asked_group : Option ℕ → ℕ → Bool

@@ -30,6 +30,6 @@ pub use laws::{
 };
 pub use live::live_run;
 pub use parts::Parts;
-pub use program::run_evening;
-pub use title::letter_in;
+pub use program::{OTHER_GROUP, run_evening};
+pub use title::{first_group, letter_in, title_for};
 pub use words::{Lines, word_lines};

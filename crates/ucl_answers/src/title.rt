@@ -4,9 +4,11 @@ ghost use Rattle.std.specs.Prelude.{◌≡◌, ◌≤◌, IfSome, option_map};
 ghost use Rattle.ucl_order.specs.Names.{profile_named};
 ghost use Rattle.ucl_screen.specs.Rows.{four_seen};
 ghost use Rattle.ucl_screen.specs.Screen.{IsGroup};
-ghost use Rattle.ucl_answers.specs.Rows.{of_row};
-ghost use Rattle.ucl_answers.specs.Titles.{asked_group, asked_order, asked_title, edition_in, is_as_asked, is_asked_group, is_asked_order, is_group_row, is_same_order, letter_in, title_by, title_said};
+ghost use Rattle.ucl_answers.specs.Rows.{of_row, said_on};
+ghost use Rattle.ucl_answers.specs.Titles.{asked_group, asked_order, asked_title, edition_in, group_said, is_as_asked, is_asked_group, is_asked_order, is_group_row, is_same_order, letter_in, title_by, title_said};
 
+use crate::line::LineReader;
+use crate::row::Found;
 use ucl_command::LiveArgs;
 use ucl_json::Title;
 use ucl_order::Profile;
@@ -160,5 +162,52 @@ pub(crate) fn asked_title(options: &LiveArgs) -> Title
         group: asked_group(options.group),
         profile: asked_order(options.profile),
         edition: 0,
+    }
+}
+
+/// What a row says of its group, where it is that of one: a title, or none where the row is bad.
+fn group_said(row: &Option<Four<'_>>) -> Option<Option<Title>>
+    ensures told { result ≡ group_said (of_row (option_map four_seen row.now)) }
+    ensures letter { IfSome result (λ said. IfSome said (λ title. IsGroup title.group)) }
+{
+    if is_group_row(row) {
+        Some(title_said(row))
+    } else {
+        None
+    }
+}
+
+/// What the first line of an input says, where it is the row of a group: a title, or none where the row is bad.
+pub fn first_group(line: &[u8]) -> Option<Option<Title>>
+    ensures told { result ≡ group_said (said_on 1 line.now) }
+    ensures letter { IfSome result (λ said. IfSome said (λ title. IsGroup title.group)) }
+{
+    let mut reader = LineReader::new();
+    match reader.read(1, line) {
+        Found::Nothing | Found::More => None,
+        Found::One => {
+            let four = reader.four();
+            group_said(&four)
+        }
+    }
+}
+
+/// The title of a board whose input says this one, or none: that, where it is as asked, or what was asked for.
+pub fn title_for(group: Option<u8>, profile: Option<Profile>, said: Option<Title>) -> Option<Title>
+    requires asked { IfSome group IsGroup }
+    requires said { IfSome said (λ title. IsGroup title.group) }
+    ensures letter { IfSome result (λ title. IsGroup title.group) }
+{
+    let Some(title) = said else {
+        return Some(Title {
+            group: asked_group(group),
+            profile: asked_order(profile),
+            edition: 0,
+        });
+    };
+    if is_asked_group(group, title.group) && is_asked_order(profile, title.profile) {
+        Some(title)
+    } else {
+        None
     }
 }

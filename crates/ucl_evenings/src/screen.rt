@@ -28,7 +28,13 @@ fn screen_of(
     ensures memory { IfErr result (λ f. f ≡ RunFault.OutOfMemory) }
 {
     let text = match options.format {
-        Format::Text => screen(alloc, board, roster, options.title.group, options.title.profile)?,
+        Format::Text => screen(
+            alloc,
+            board,
+            roster,
+            options.title.group,
+            options.title.profile,
+        )?,
         Format::Json => edition_screen_json(alloc, number, board, roster, options.title)?,
     };
     Ok(text)

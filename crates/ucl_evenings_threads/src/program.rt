@@ -43,7 +43,6 @@ pub struct EveningRun<Q, P, S, W, X> {
     pub status: u8,
 }
 
-
 /// The screens at these places, as they were asked for.
 fn screens_at<B: LiveBoard, V: Sink + Drop>(
     alloc: Global,

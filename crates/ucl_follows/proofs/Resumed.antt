@@ -217,15 +217,15 @@ goes-on e f text bytes p =
 
 -- where the title is that which an evening has anyway
 same-group : (asked : Option ℕ) (group : ℕ) → is_asked_group asked group ≡ true → group ≡ 65 → asked_group asked ≡ group
-same-group None group as plain = sym plain
-same-group (Some asked) group as plain = eqb-true asked group as
+same-group None group is plain = sym plain
+same-group (Some asked) group is plain = eqb-true asked group is
 
 same-order : (asked : Option Profile) (order : Profile) → is_asked_order asked order ≡ true → is_same_order order Uefa ≡ true → asked_order asked ≡ order
-same-order None Uefa as plain = refl
-same-order None AwayInTie as plain = cc
-same-order (Some Uefa) Uefa as plain = refl
-same-order (Some AwayInTie) Uefa as plain = cc
-same-order (Some asked) AwayInTie as plain = cc
+same-order None Uefa is plain = refl
+same-order None AwayInTie is plain = cc
+same-order (Some Uefa) Uefa is plain = refl
+same-order (Some AwayInTie) Uefa is plain = cc
+same-order (Some asked) AwayInTie is plain = cc
 
 anyway : (options : LiveArgs) (title : Title) → is_as_asked options title ≡ true → is_plain_title title ≡ true → asked_title options ≡ title
 anyway options title asked plain =
