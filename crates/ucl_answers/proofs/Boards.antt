@@ -181,13 +181,15 @@ event-answer options title row clubs history event shown legal is =
     let call = event.call in
     let reply : reply_of (game_at (board_of history) call.game) call ≡ sequential_reply history call = reply_is history (board_of history) call legal refl is.1 in
     let after = attempt_board history (attempt_of event) legal is in
-    let told = ap₂ (λ (before : ℕ) (r : Result Accepted Refusal). reply_answer options.format title row clubs event before r (next_board (board_of history) (Event event))) (versions history legal).0 reply in
+    let told =
+    ap₂ (λ (before : ℕ) (r : Result Accepted Refusal). reply_answer options.format title row clubs event before r (next_board (board_of history) (Event event))) (versions history legal).0 reply in
     let stands = ap (λ (board : List ℕ). reply_answer options.format title row clubs event (length history) (sequential_reply history call) board) after in
     let line = told ∙ stands ∙ reply-answer options.format title row clubs history event in
     let screen = ap₂ (λ (r : Result Accepted Refusal) (board : List ℕ). screen_after options title row clubs r board) reply after in
     ap₂ (λ (a b : List ℕ). a ++ b) line screen
 
-request-answer : (options : LiveArgs) (title : Title) (row : ℕ) (clubs : List NamedClub) (history : List Entry) (request : Request) (shown : List ℕ) → IsLegal history → All IsAttempt (attempts_of request)
+request-answer : (options : LiveArgs) (title : Title) (row : ℕ) (clubs : List NamedClub) (history : List Entry) (request : Request) (shown : List ℕ) → IsLegal history
+    → All IsAttempt (attempts_of request)
     → answer_of options title row clubs (board_of history) request shown ≡ answer_by_history options title row clubs history request shown
 request-answer options title row clubs history (Event event) shown legal all = event-answer options title row clubs history event shown legal (first (attempt_of event) [] all)
 request-answer options title row clubs history (Bad field) shown legal all = refl

@@ -35,7 +35,7 @@ use Rattle.ucl_answers.specs.BadRows.{field_name, shown_text}
 use Rattle.ucl_answers.specs.Requests.{request_of}
 use Rattle.ucl_answers.specs.Rows.{Said, Nothing, Garbled, Row, said_on}
 use Rattle.ucl_answers.specs.Stages.{Stage, Beginning, Naming, Restoring, Open, Refused}
-use Rattle.ucl_answers.specs.Stages.{after_club, after_first, after_row, after_title, after_word, club_said, is_word_row, next_board, next_stage, opened, restored, with_roster, with_words, word_said}
+use Rattle.ucl_answers.specs.Stages.{after_club, after_beginning, after_row, after_title, after_word, club_said, is_word_row, next_board, next_stage, opened, restored, with_roster, with_words, word_said}
 use Rattle.ucl_answers.specs.Text.{Evening, answer_at, answer_of, answer_said, answers, bad_line, next, reply_answer, screen_after, next_title, screen_answer, start_of}
 use Rattle.ucl_answers.specs.Laws.{AreLinesSaying, EveningsSayTheSame, RaisesVersion, as_text}
 use Rattle.ucl_answers.proofs.Boards.{AreAttempts, asked}
@@ -115,7 +115,8 @@ raised : (reply : Result Accepted Refusal) (before : ℕ) (board : List ℕ) →
 raised (Ok accepted) before board h = h refl
 raised (Err refusal) before board h = tt
 
-event-lines : (options : LiveArgs) (title : Title) (row : ℕ) (clubs : List NamedClub) (board : List ℕ) (event : NightEvent) (shown : List ℕ) → options.format ≡ Json → AreWords board → IsAttempt (attempt_of event)
+event-lines : (options : LiveArgs) (title : Title) (row : ℕ) (clubs : List NamedClub) (board : List ℕ) (event : NightEvent) (shown : List ℕ) → options.format ≡ Json → AreWords board
+    → IsAttempt (attempt_of event)
     → AreLinesSaying (answer_of (as_text options) title row clubs board (Event event) shown) (answer_of options title row clubs board (Event event) shown)
 event-lines options title row clubs board event shown h w is =
     let call = event.call in
@@ -127,7 +128,8 @@ event-lines options title row clubs board event shown h w is =
     (reply_answer options.format title row clubs event (version_of board) reply after) (screen_after options title row clubs reply after)
     (rw h (reply-line title row clubs event (version_of board) reply after raises)) (after-line options title row clubs reply after h)
 
-request-lines : (options : LiveArgs) (title : Title) (row : ℕ) (clubs : List NamedClub) (board : List ℕ) (request : Request) (shown : List ℕ) → options.format ≡ Json → AreWords board → AreAttempts request
+request-lines : (options : LiveArgs) (title : Title) (row : ℕ) (clubs : List NamedClub) (board : List ℕ) (request : Request) (shown : List ℕ) → options.format ≡ Json → AreWords board
+    → AreAttempts request
     → AreLinesSaying (answer_of (as_text options) title row clubs board request shown) (answer_of options title row clubs board request shown)
 request-lines options title row clubs board (Event event) shown h w all = event-lines options title row clubs board event shown h w (All-head IsAttempt (attempt_of event) [] all)
 request-lines options title row clubs board (Bad field) shown h w all =
@@ -195,7 +197,7 @@ good-title : (options : LiveArgs) (row : ℕ) (title : Option Title) → Good (a
 good-title options row None = tt
 good-title options row (Some title) = either (is_as_asked options title) (Naming []) (Refused OtherGroup) tt tt
 
-good-first : (options : LiveArgs) (row : ℕ) (r : Said) → Good (after_first options row r)
+good-first : (options : LiveArgs) (row : ℕ) (r : Said) → Good (after_beginning options row r)
 good-first options row r =
     either (is_group_row r) (after_title options row (title_said r)) (after_club row [] (club_said 1 r)) (good-title options row (title_said r)) (good-club row [] (club_said 1 r))
 

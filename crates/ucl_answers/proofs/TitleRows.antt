@@ -6,7 +6,7 @@ use Rattle.ucl_word.specs.Names.{kind_named}
 use Rattle.ucl_screen.specs.declared.night.NightEvent.{NightEvent}
 use Rattle.ucl_screen.specs.Events.{◌>>=◌, event_of}
 use Rattle.ucl_screen.specs.Numbers.{digits_after, in_range, number}
-use Rattle.ucl_answers.specs.Titles.{edition_in}
+use Rattle.ucl_answers.specs.Titles.{edition_by}
 
 abbrev expected_of : Option NightEvent → Option ℕ
 expected_of = option_map (λ e. e.call.expected)
@@ -18,12 +18,12 @@ of-expected : (o : Option ℕ) → expected_of (o >>= λ n. Some (record { repor
 of-expected None = refl
 of-expected (Some n) = refl
 
-by-event : (text : List ℕ) → expected_of (asked text) ≡ edition_in text
+by-event : (text : List ℕ) → expected_of (asked text) ≡ edition_by text
 unfolding digits_after kind_named
 by-event text = of-expected (in_range 0 65535 (number 5 text))
 
-pub edition_some : (text : List ℕ) (event : NightEvent) → asked text ≡ Some event → Some event.call.expected ≡ edition_in text
+pub edition_some : (text : List ℕ) (event : NightEvent) → asked text ≡ Some event → Some event.call.expected ≡ edition_by text
 edition_some text event h = sym (ap expected_of h) ∙ by-event text
 
-pub edition_none : (text : List ℕ) → asked text ≡ None → None ≡ edition_in text
+pub edition_none : (text : List ℕ) → asked text ≡ None → None ≡ edition_by text
 edition_none text h = sym (ap expected_of h) ∙ by-event text

@@ -58,8 +58,8 @@ abbrev pub after_title : LiveArgs → ℕ → Option Title → Stage
 after_title options row None = bad_row row
 after_title options row (Some title) = if is_as_asked options title then Naming [] else Refused OtherGroup
 
-abbrev pub after_first : LiveArgs → ℕ → Said → Stage
-after_first options row said = if is_group_row said then after_title options row (title_said said) else after_club row [] (club_said 1 said)
+abbrev pub after_beginning : LiveArgs → ℕ → Said → Stage
+after_beginning options row said = if is_group_row said then after_title options row (title_said said) else after_club row [] (club_said 1 said)
 
 -- ---- words
 
@@ -105,7 +105,7 @@ opened options (Refused fault) said = Refused fault
 
 -- the stage after a row with this number
 abbrev pub after_row : LiveArgs → ℕ → Stage → Said → Stage
-after_row options row Beginning said = after_first options row said
+after_row options row Beginning said = after_beginning options row said
 after_row options row (Naming clubs) said = after_club row clubs (club_said (length clubs + 1) said)
 after_row options row (Restoring clubs words) said = after_word row clubs words (word_said (length words + 1) said)
 after_row options row (Open clubs board) said = Open clubs (next_board board (request_of said))

@@ -19,15 +19,15 @@ letter_in (letter ∷ []) = if nat_le 65 letter && nat_le letter 72 then Some le
 letter_in _ = None
 
 -- 0 to 65,535, in one to five digits
-abbrev pub edition_in : List ℕ → Option ℕ
-edition_in text = in_range 0 65535 (number 5 text)
+abbrev pub edition_by : List ℕ → Option ℕ
+edition_by text = in_range 0 65535 (number 5 text)
 
 -- after `group`: the letter, the order and the edition
 abbrev pub title_by : FourFields → Option Title
 title_by f = do
   group ← letter_in f.second
   profile ← profile_named f.third
-  edition ← edition_in f.fourth
+  edition ← edition_by f.fourth
   Some (record { group = group; profile = profile; edition = edition })
 
 abbrev pub is_group_row : Said → Bool

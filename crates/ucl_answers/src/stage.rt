@@ -4,7 +4,7 @@ ghost use Rattle.std.specs.Prelude.{◌≡◌, ◌+◌, ◌-◌, ◌^◌, ◌<�
 ghost use Rattle.ucl_order.specs.Roster.{bad_slot, club_seen};
 ghost use Rattle.ucl_screen.specs.Rows.{four_seen};
 ghost use Rattle.ucl_answers.specs.Rows.{of_row};
-ghost use Rattle.ucl_answers.specs.Stages.{Beginning, Restoring, after_first, club_said, is_word_row, missing, opened, told_row, after_club, with_clubs, with_roster, after_word, with_words, word_said};
+ghost use Rattle.ucl_answers.specs.Stages.{Beginning, Restoring, after_beginning, club_said, is_word_row, missing, opened, told_row, after_club, with_clubs, with_roster, after_word, with_words, word_said};
 ghost use Rattle.ucl_answers.specs.Text.{next_title};
 ghost use Rattle.ucl_answers.specs.Seen.{Becomes, BecomesIfMemory, clubs_seen, stage_seen};
 
@@ -164,7 +164,7 @@ pub(crate) fn with_first(
     said: &Option<Four<'_>>,
     title: &mut Title,
 ) -> Result<Stage, LiveFault>
-    ensures stage { BecomesIfMemory (after_first options.now row
+    ensures stage { BecomesIfMemory (after_beginning options.now row
         (of_row (option_map four_seen said.now))) result }
     ensures title { OnOk result (title.new ≡ next_title title.old Beginning
         (of_row (option_map four_seen said.now))) }

@@ -5,7 +5,7 @@ ghost use Rattle.ucl_order.specs.Names.{profile_named};
 ghost use Rattle.ucl_screen.specs.Rows.{four_seen};
 ghost use Rattle.ucl_screen.specs.Screen.{IsGroup};
 ghost use Rattle.ucl_answers.specs.Rows.{of_row, said_on};
-ghost use Rattle.ucl_answers.specs.Titles.{asked_group, asked_order, asked_title, edition_in, group_said, is_as_asked, is_asked_group, is_asked_order, is_group_row, is_same_order, letter_in, title_by, title_said};
+ghost use Rattle.ucl_answers.specs.Titles.{asked_group, asked_order, asked_title, edition_by, group_said, is_as_asked, is_asked_group, is_asked_order, is_group_row, is_same_order, letter_in, title_by, title_said};
 
 use crate::line::LineReader;
 use crate::row::Found;
@@ -40,8 +40,8 @@ fn order_in(text: &[u8]) -> Option<Profile>
 
 /// The edition that a field says: it has the size of the number that is expected of a match.
 #[tactic(auto, using(crate::proofs::TitleRows::edition_some, crate::proofs::TitleRows::edition_none))]
-fn edition_in(text: &[u8]) -> Option<u16>
-    ensures { result ≡ edition_in text.now }
+fn edition_by(text: &[u8]) -> Option<u16>
+    ensures { result ≡ edition_by text.now }
 {
     let event = event_of_fields(&Four {
         first: b"1".as_slice(),
@@ -59,7 +59,7 @@ fn title_by(four: &Four<'_>) -> Option<Title>
 {
     let group = letter_in(four.second)?;
     let profile = order_in(four.third)?;
-    let edition = edition_in(four.fourth)?;
+    let edition = edition_by(four.fourth)?;
     Some(Title {
         group,
         profile,

@@ -16,7 +16,7 @@ use Rattle.ucl_runs.proofs.EnteredRows.{goes_on}
 use Rattle.ucl_runs.proofs.Parts.{stopped_second}
 use Rattle.ucl_shared.specs.Passes.{PassView, Continues, SharedReading}
 use Rattle.ucl_evenings.specs.declared.shape.Shape.{Shape}
-use Rattle.ucl_evenings.specs.Showing.{AreFew, EndsWithLatest, GoesOnOrStays, HasRisen, HasShownReading, IsLastBefore, RiseWithin, Screening, SoFar, no_screen, screen_shown, screens_shown}
+use Rattle.ucl_evenings.specs.Showing.{AreFew, EndsWithLatest, GoesOnOrStays, HasRisen, HasShownReading, IsLastBefore, RiseWithin, Screening, SoFar, no_screen, screen_in_shape, screens_shown}
 
 rise_more : (low high version : ℕ) (versions : List ℕ) → RiseWithin low high versions → high ≤ version → RiseWithin low (version + 1) (versions ++ version ∷ [])
 unfolding RiseWithin
@@ -46,21 +46,21 @@ module _ (options : Shape) (clubs : List NamedClub) where
   screens_on s h number low high [] on r le = refl
   screens_on s h number low high (v ∷ versions) on r le =
       let n = rise_count (v + 1) high versions r.1 in
-      ap (λ (l : List Entry). screen_shown options number clubs (board_of l) ++ screens_shown options clubs h (number + 1) versions) (take_beginning s h v on (omega arith))
-      ∙ ap (λ (l : List ℕ). screen_shown options number clubs (board_of (take v s)) ++ l) (screens_on s h (number + 1) (v + 1) high versions on r.1 le)
+      ap (λ (l : List Entry). screen_in_shape options number clubs (board_of l) ++ screens_shown options clubs h (number + 1) versions) (take_beginning s h v on (omega arith))
+      ∙ ap (λ (l : List ℕ). screen_in_shape options number clubs (board_of (take v s)) ++ l) (screens_on s h (number + 1) (v + 1) high versions on r.1 le)
 
   screens_more : (h : List Entry) (number version : ℕ) (versions : List ℕ)
       → screens_shown options clubs h number (versions ++ version ∷ [])
-      ≡ screens_shown options clubs h number versions ++ screen_shown options (number + length versions) clubs (board_of (take version h))
+      ≡ screens_shown options clubs h number versions ++ screen_in_shape options (number + length versions) clubs (board_of (take version h))
   unfolding screens_shown
   screens_more h number version [] =
-      append-nil (screen_shown options number clubs (board_of (take version h))) ∙ ap (λ (n : ℕ). screen_shown options n clubs (board_of (take version h))) (omega arith)
+      append-nil (screen_in_shape options number clubs (board_of (take version h))) ∙ ap (λ (n : ℕ). screen_in_shape options n clubs (board_of (take version h))) (omega arith)
   screens_more h number version (v ∷ versions) =
-      let first = screen_shown options number clubs (board_of (take v h)) in
+      let first = screen_in_shape options number clubs (board_of (take v h)) in
       let same : number + 1 + length versions ≡ number + length (v ∷ versions) = omega arith in
       ap (λ (l : List ℕ). first ++ l) (screens_more h (number + 1) version versions)
-      ∙ sym (append_assoc first (screens_shown options clubs h (number + 1) versions) (screen_shown options (number + 1 + length versions) clubs (board_of (take version h))))
-      ∙ ap (λ (n : ℕ). (first ++ screens_shown options clubs h (number + 1) versions) ++ screen_shown options n clubs (board_of (take version h))) same
+      ∙ sym (append_assoc first (screens_shown options clubs h (number + 1) versions) (screen_in_shape options (number + 1 + length versions) clubs (board_of (take version h))))
+      ∙ ap (λ (n : ℕ). (first ++ screens_shown options clubs h (number + 1) versions) ++ screen_in_shape options n clubs (board_of (take version h))) same
 
   screens_none : (h : List Entry) (number : ℕ) → screens_shown options clubs h number [] ≡ []
   unfolding screens_shown
@@ -123,12 +123,12 @@ module _ (options : Shape) (clubs : List NamedClub) (k m z : PassView) (s : Scre
     at : p.high ≤ reading.version
     at = let low = read.low in elim p.high_is [ inl e ↦ omega arith | inr e ↦ (let l = from_start in omega arith) ]
 
-    more_text : screens_shown options clubs z.seen 1 (versions ++ reading.version ∷ []) ≡ screens_shown options clubs m.seen 1 versions ++ screen_shown options s.number clubs reading.board
+    more_text : screens_shown options clubs z.seen 1 (versions ++ reading.version ∷ []) ≡ screens_shown options clubs m.seen 1 versions ++ screen_in_shape options s.number clubs reading.board
     more_text =
         screens_more options clubs z.seen 1 reading.version versions
-        ∙ ap (λ (l : List ℕ). l ++ screen_shown options (1 + length versions) clubs (board_of (take reading.version z.seen))) same_text
-        ∙ ap (λ (n : ℕ). screens_shown options clubs m.seen 1 versions ++ screen_shown options n clubs (board_of (take reading.version z.seen))) (sym p.count)
-        ∙ ap (λ (r : Reading). screens_shown options clubs m.seen 1 versions ++ screen_shown options s.number clubs r.board) (sym read.snapshot)
+        ∙ ap (λ (l : List ℕ). l ++ screen_in_shape options (1 + length versions) clubs (board_of (take reading.version z.seen))) same_text
+        ∙ ap (λ (n : ℕ). screens_shown options clubs m.seen 1 versions ++ screen_in_shape options n clubs (board_of (take reading.version z.seen))) (sym p.count)
+        ∙ ap (λ (r : Reading). screens_shown options clubs m.seen 1 versions ++ screen_in_shape options s.number clubs r.board) (sym read.snapshot)
 
     pub risen_more : HasRisen k z (versions ++ reading.version ∷ [])
     risen_more = record {
@@ -142,7 +142,7 @@ module _ (options : Shape) (clubs : List NamedClub) (k m z : PassView) (s : Scre
     so_far_more t new2 shown =
         let small = (versions_are z.seen on.sound.legal).1 in
         let high = read.high in
-        let long = ap (length {A = ℕ}) more_text ∙ length-append (screens_shown options clubs m.seen 1 versions) (screen_shown options s.number clubs reading.board) in
+        let long = ap (length {A = ℕ}) more_text ∙ length-append (screens_shown options clubs m.seen 1 versions) (screen_in_shape options s.number clubs reading.board) in
         let before = p.told in
         let told = shown.told in
         let next = shown.next_is in record {
@@ -154,16 +154,16 @@ module _ (options : Shape) (clubs : List NamedClub) (k m z : PassView) (s : Scre
           few = omega arith;
           count = (let c = p.count in let d = shown.number_is in let n = length-append versions (reading.version ∷ []) in omega arith);
           out = subst (Appends old new2) (sym more_text)
-              (appends-then old new new2 (screens_shown options clubs m.seen 1 versions) (screen_shown options s.number clubs reading.board) p.out shown.given);
+              (appends-then old new new2 (screens_shown options clubs m.seen 1 versions) (screen_in_shape options s.number clubs reading.board) p.out shown.given);
           told = omega arith;
           last = inr (record { version = reading.version; before = versions; next_is = next; last = refl });
         }
 
-    pub stopped_more : (failed : Bool) (new2 : Option (List ℕ)) (count : ℕ) → StoppedShort s.written failed new new2 (screen_shown options s.number clubs reading.board) count
+    pub stopped_more : (failed : Bool) (new2 : Option (List ℕ)) (count : ℕ) → StoppedShort s.written failed new new2 (screen_in_shape options s.number clubs reading.board) count
         → StoppedShort 0 failed old new2 (screens_shown options clubs z.seen 1 (versions ++ reading.version ∷ [])) count
     stopped_more failed new2 count stop =
         subst (λ (l : List ℕ). StoppedShort 0 failed old new2 l count) (sym more_text)
-        (stopped_second 0 s.written failed old new new2 (screens_shown options clubs m.seen 1 versions) (screen_shown options s.number clubs reading.board)
+        (stopped_second 0 s.written failed old new new2 (screens_shown options clubs m.seen 1 versions) (screen_in_shape options s.number clubs reading.board)
         (WriteFailed count) p.out (let told = p.told in omega arith) stop)
 
 pub few_more : (options : Shape) (clubs : List NamedClub) (m z : PassView) (s : Screening) (new : Option (List ℕ)) → Continues m z → (reading : Reading) → SharedReading m reading z

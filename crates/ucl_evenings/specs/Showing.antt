@@ -19,14 +19,14 @@ RiseWithin low high [] = low ≤ high
 RiseWithin low high (version ∷ versions) = (low ≤ version) × RiseWithin (version + 1) high versions
 
 -- the text of a screen, which has this number
-abbrev pub screen_shown : Shape → ℕ → List NamedClub → List ℕ → List ℕ
-screen_shown options number clubs board = screen_answer options.format options.title number clubs board
+abbrev pub screen_in_shape : Shape → ℕ → List NamedClub → List ℕ → List ℕ
+screen_in_shape options number clubs board = screen_answer options.format options.title number clubs board
 
 -- the screens of the boards after so many first entries of a history, one after the other, counted from this number
 unfoldable pub screens_shown : Shape → List NamedClub → List Entry → ℕ → List ℕ → List ℕ
 screens_shown options clubs history number [] = []
 screens_shown options clubs history number (version ∷ versions) =
-    screen_shown options number clubs (board_of (take version history)) ++ screens_shown options clubs history (number + 1) versions
+    screen_in_shape options number clubs (board_of (take version history)) ++ screens_shown options clubs history (number + 1) versions
 
 -- a reader's pass, k before and m after, has read, and these versions of its readings came to a screen: they rise strictly, none is below
 -- what k had seen, and each is of the history that m has seen
@@ -158,14 +158,14 @@ ShowsFurther options clubs least m m2 s s2 failed mid new result =
 
 -- a reading was shown
 pub record HasShownReading (options : Shape) (clubs : List NamedClub) (reading : Reading) (before after : Screening) (old new : Option (List ℕ)) : Type 0 where
-  pub given : Appends old new (screen_shown options before.number clubs reading.board)
+  pub given : Appends old new (screen_in_shape options before.number clubs reading.board)
   pub next_is : after.next ≡ reading.version + 1
   pub number_is : after.number ≡ before.number + 1
-  pub told : after.written ≡ min (before.written + length (screen_shown options before.number clubs reading.board)) (2 ^ 64 - 1)
+  pub told : after.written ≡ min (before.written + length (screen_in_shape options before.number clubs reading.board)) (2 ^ 64 - 1)
 
 -- it was not, for want of memory or since the sink failed
 abbrev pub FailsToShowReading : Shape → List NamedClub → Reading → Screening → Bool → Option (List ℕ) → Option (List ℕ) → RunFault → Type 0
 FailsToShowReading options clubs reading before failed old new OutOfMemory = new ≡ old
 FailsToShowReading options clubs reading before failed old new (WriteFailed count) =
-    StoppedShort before.written failed old new (screen_shown options before.number clubs reading.board) count
+    StoppedShort before.written failed old new (screen_in_shape options before.number clubs reading.board) count
 FailsToShowReading options clubs reading before failed old new _ = ⊥

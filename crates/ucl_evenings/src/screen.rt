@@ -2,7 +2,7 @@
 
 ghost use Rattle.std.specs.Prelude.{◌≡◌, ◌-◌, ◌^◌, ◌<◌, ◌≤◌, IfErr, IfOk, OnOk, string_bytes};
 ghost use Rattle.ucl_runs.specs.Run.{SinkFails};
-ghost use Rattle.ucl_evenings.specs.Showing.{FailsToShowReading, HasShownReading, IsNewScreen, IsReadingOf, StaysScreen, screen_shown, standing};
+ghost use Rattle.ucl_evenings.specs.Showing.{FailsToShowReading, HasShownReading, IsNewScreen, IsReadingOf, StaysScreen, screen_in_shape, standing};
 
 use crate::shape::Shape;
 use std::alloc::Global;
@@ -24,7 +24,7 @@ fn screen_of(
     board: &Board,
 ) -> Result<String, RunFault>
     ensures text { IfOk result (λ text. string_bytes text
-        ≡ screen_shown options number roster.now board.now) }
+        ≡ screen_in_shape options number roster.now board.now) }
     ensures memory { IfErr result (λ f. f ≡ RunFault.OutOfMemory) }
 {
     let text = match options.format {

@@ -40,11 +40,11 @@ use Rattle.ucl_screen.specs.Screen.{IsGroup}
 use Rattle.ucl_order.specs.declared.profile.Profile.{Profile}
 use Rattle.ucl_order.specs.Names.{profile_named}
 use Rattle.ucl_answers.specs.declared.fault.BeginningFault.TheVariants.{OtherGroup}
-use Rattle.ucl_answers.specs.Titles.{asked_group, asked_title, edition_in, is_as_asked, is_group_row, letter_in, title_by, title_said}
+use Rattle.ucl_answers.specs.Titles.{asked_group, asked_title, edition_by, is_as_asked, is_group_row, letter_in, title_by, title_said}
 use Rattle.ucl_answers.proofs.Silence.{is_open}
 use Rattle.ucl_answers.specs.Requests.{asked_by, event_or_bad, request_of}
 use Rattle.ucl_answers.specs.Rows.{Said, Nothing, Garbled, Row, said_on}
-use Rattle.ucl_answers.specs.Stages.{Stage, Beginning, Naming, Open, Refused, Restoring, after_club, after_first, after_row, after_title, after_word}
+use Rattle.ucl_answers.specs.Stages.{Stage, Beginning, Naming, Open, Refused, Restoring, after_club, after_beginning, after_row, after_title, after_word}
 use Rattle.ucl_answers.specs.Stages.{club_said, is_word_row, next_board, next_stage, opened, restored, with_roster, with_words, word_said}
 use Rattle.ucl_answers.specs.Text.{Evening, after_lines, answer_at, answer_of, answer_said, answers, next, next_title, reply_answer, screen_after, screen_answer, start_of, title_or}
 use Rattle.ucl_answers.proofs.Boards.{AreAttempts, asked, event-is_attempt}
@@ -136,7 +136,7 @@ good-title : (options : LiveArgs) (row : ℕ) (title : Option Title) → IsGood 
 good-title options row None = tt
 good-title options row (Some title) = either (is_as_asked options title) (Naming []) (Refused OtherGroup) (λ e. tt) tt
 
-good-first : (options : LiveArgs) (row : ℕ) (r : Said) → IsGood (after_first options row r)
+good-first : (options : LiveArgs) (row : ℕ) (r : Said) → IsGood (after_beginning options row r)
 good-first options row r =
     either (is_group_row r) (after_title options row (title_said r)) (after_club row [] (club_said 1 r)) (λ e. good-title options row (title_said r)) (good-club row [] (club_said 1 r))
 
@@ -192,7 +192,7 @@ by-parts (Some a) (Some b) (Some c) title h =
 
 said-title : (f : FourFields) (title : Title) → title_by f ≡ Some title → IsTitle title
 said-title f title h =
-    let p = by-parts (letter_in f.second) (profile_named f.third) (edition_in f.fourth) title h in
+    let p = by-parts (letter_in f.second) (profile_named f.third) (edition_by f.fourth) title h in
     record { letter = within f.second title.group p.0; edition = ranged 0 65535 (number 5 f.fourth) title.edition p.1 }
 
 asked-letter : (asked : Option ℕ) → IfSome asked IsGroup → IsGroup (asked_group asked)

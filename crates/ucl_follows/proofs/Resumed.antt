@@ -147,7 +147,8 @@ or-true : (b : Bool) → (b || true) ≡ true
 or-true true = refl
 or-true false = refl
 
-opened-same : (options : LiveArgs) (title : Title) (clubs : List NamedClub) (words : List ℕ) (f : FourFields) → f.first ≡ codes "word" → opened options (Restoring clubs words) (Row f) ≡ Restoring clubs words
+opened-same : (options : LiveArgs) (clubs : List NamedClub) (words : List ℕ) (f : FourFields) → f.first ≡ codes "word"
+    → opened options (Restoring clubs words) (Row f) ≡ Restoring clubs words
 opened-same options clubs [] f first = rw (first, or-true options.resumed) refl
 opened-same options clubs (word ∷ words) f first = refl
 
@@ -166,14 +167,16 @@ word-passes options title row index clubs words text word here says =
 too-few : (clubs : List NamedClub) (words : List ℕ) → length words < 12 → with_words clubs words ≡ Restoring clubs words
 too-few clubs words h = rw (ne_eqb (length words) 12 (λ e. omega arith)) refl
 
-words-pass : (options : LiveArgs) (title : Title) (clubs : List NamedClub) (word : ℕ) (more done : List ℕ) (row index : ℕ) → length done + 1 ≡ index → index + length more ≡ 12 → All (λ w. w < 2 ^ 64) (word ∷ more)
+words-pass : (options : LiveArgs) (title : Title) (clubs : List NamedClub) (word : ℕ) (more done : List ℕ) (row index : ℕ) → length done + 1 ≡ index → index + length more ≡ 12
+    → All (λ w. w < 2 ^ 64) (word ∷ more)
     → Passes (at options title row (Restoring clubs done)) (word_lines index (word ∷ more)) (at options title (row + 1 + length more) (with_words clubs (done ++ word ∷ more)))
 unfolding word_lines
 words-pass options title clubs word [] done row index here twelve bits =
     let says = word_row_says index word (omega arith) (All-head (λ w. w < 2 ^ 64) word [] bits) in
     let end = with_words clubs (done ++ word ∷ []) in
     passes-same (at options title row (Restoring clubs done)) (at options title (row + 1) end) (at options title (row + 1 + 0) end) (word_line index word) (word_line index word ++ [])
-    (word-passes options title row index clubs done (word_line index word) word here says) (sym (append-nil (word_line index word))) (at-same options title (row + 1) (row + 1 + 0) end end (omega arith) refl)
+    (word-passes options title row index clubs done (word_line index word) word here says) (sym (append-nil (word_line index word)))
+    (at-same options title (row + 1) (row + 1 + 0) end end (omega arith) refl)
 words-pass options title clubs word (other ∷ more) done row index here twelve bits =
     let says = word_row_says index word (omega arith) (All-head (λ w. w < 2 ^ 64) word (other ∷ more) bits) in
     let done_2 = done ++ word ∷ [] in
