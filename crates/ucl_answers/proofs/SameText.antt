@@ -35,7 +35,8 @@ use Rattle.ucl_answers.specs.BadRows.{field_name, shown_text}
 use Rattle.ucl_answers.specs.Requests.{request_of}
 use Rattle.ucl_answers.specs.Rows.{Said, Nothing, Garbled, Row, said_on}
 use Rattle.ucl_answers.specs.Stages.{Stage, Beginning, Naming, Restoring, Open, Refused}
-use Rattle.ucl_answers.specs.Stages.{after_club, after_beginning, after_row, after_title, after_word, club_said, is_word_row, next_board, next_stage, opened, restored, with_roster, with_words, word_said}
+use Rattle.ucl_answers.specs.Stages.{after_beginning, after_club, after_row, after_title, after_word}
+use Rattle.ucl_answers.specs.Stages.{club_said, is_word_row, next_board, next_stage, opened, restored, with_roster, with_words, word_said}
 use Rattle.ucl_answers.specs.Text.{Evening, answer_at, answer_of, answer_said, answers, bad_line, next, reply_answer, screen_after, next_title, screen_answer, start_of}
 use Rattle.ucl_answers.specs.Laws.{AreLinesSaying, EveningsSayTheSame, RaisesVersion, as_text}
 use Rattle.ucl_answers.proofs.Boards.{AreAttempts, asked}

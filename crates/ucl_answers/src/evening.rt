@@ -76,6 +76,7 @@ fn after_row(
 
 impl Stage {
     /// Answers a row of this number, which has four fields or is garbled, and whose text is this.
+    #[tactic(auto, using(crate::proofs::TitleRows::title_opened))]
     fn answered(
         &mut self,
         alloc: Global,

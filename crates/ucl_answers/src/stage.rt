@@ -3,6 +3,7 @@
 ghost use Rattle.std.specs.Prelude.{◌≡◌, ◌+◌, ◌-◌, ◌^◌, ◌<◌, ◌≤◌, ◌++◌, [], ◌∷◌, IfOk, OnOk, length, map, option_map};
 ghost use Rattle.ucl_order.specs.Roster.{bad_slot, club_seen};
 ghost use Rattle.ucl_screen.specs.Rows.{four_seen};
+ghost use Rattle.ucl_screen.specs.Screen.{IsGroup};
 ghost use Rattle.ucl_answers.specs.Rows.{of_row};
 ghost use Rattle.ucl_answers.specs.Stages.{Beginning, Restoring, after_beginning, club_said, is_word_row, missing, opened, told_row, after_club, with_clubs, with_roster, after_word, with_words, word_said};
 ghost use Rattle.ucl_answers.specs.Text.{next_title};
@@ -164,6 +165,8 @@ pub(crate) fn with_first(
     said: &Option<Four<'_>>,
     title: &mut Title,
 ) -> Result<Stage, LiveFault>
+    requires { IsGroup title.old.group }
+    ensures letter { IsGroup title.new.group }
     ensures stage { BecomesIfMemory (after_beginning options.now row
         (of_row (option_map four_seen said.now))) result }
     ensures title { OnOk result (title.new ≡ next_title title.old Beginning
@@ -218,7 +221,7 @@ impl SomeWords {
         ensures { stage_seen result ≡ opened options.now (Restoring self.roster self.words.items)
             (of_row (option_map four_seen said.now)) }
     {
-        if self.words.is_empty() && !options.resumed && !is_word_row(said) {
+        if self.words.is_empty() && !(options.resumed || is_word_row(said)) {
             Stage::Open(Table {
                 roster: self.roster,
                 board: Board::fresh(),

@@ -263,7 +263,8 @@ module _ (options : LiveArgs) (m : Moment) (is : IsMoment m) (asked : is_as_aske
   moment-passes : Passes (start_of options) (resuming_rows m) (opened_at options m)
   moment-passes = elim (cases_Bool (is_plain_title m.title)) [
     | inl y ↦ rw y (plain-passes y)
-    | inr n ↦ rw n (subst (λ (text : List ℕ). Passes (start_of options) text (at options m.title 18 (Open m.roster m.board))) (sym (append_assoc (group_row m.title) (club_rows m.roster) (word_lines 1 m.board))) titled-passes)
+    | inr n ↦ rw n (subst (λ (text : List ℕ). Passes (start_of options) text (at options m.title 18 (Open m.roster m.board)))
+        (sym (append_assoc (group_row m.title) (club_rows m.roster) (word_lines 1 m.board))) titled-passes)
   ]
 
 pub resumed : ResumedRowsOpenTheBoard
