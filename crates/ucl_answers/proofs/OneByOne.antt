@@ -5,7 +5,7 @@ use Rattle.ucl_answers.specs.declared.fault.BeginningFault.TheVariants.{BadRow}
 use Rattle.ucl_io.specs.Lines.{begun_line, ended_lines}
 use Rattle.ucl_io.proofs.Cuts.{begun_append, begun_ended, ended_append}
 use Rattle.ucl_answers.specs.declared.fault.LiveFault.{LiveFault}
-use Rattle.ucl_answers.specs.declared.fault.LiveFault.TheVariants as fault
+use Rattle.ucl_answers.specs.declared.fault.LiveFault.TheVariants as live
 use Rattle.ucl_command.specs.declared.live.LiveArgs.{LiveArgs}
 use Rattle.ucl_answers.specs.Holding.{HasNoAnswer, HasNoEnd, after_bytes, answers_to, end_of, missing_at}
 use Rattle.ucl_answers.specs.Lines.{last_lines, lines_of}
@@ -113,6 +113,6 @@ some-missing e f begun some is =
     ∙ told-alike f.options (e.row + 1) (min (e.row + 1) (2 ^ 64 - 1)) f.stage (omega arith)
 
 pub some-stops : (e : Evening) (begun : List ℕ) (fault : LiveFault) → (begun ≡ [] → ⊥) → HasNoAnswer e (said_on e.row begun) fault → HasNoEnd e begun fault
-some-stops e begun fault.OutOfMemory some h = h
-some-stops e begun (fault.Beginning why) some h =
+some-stops e begun live.OutOfMemory some h = h
+some-stops e begun (live.Beginning why) some h =
     ap missing_now (some-end e begun some) ∙ refused-missing e.options (e.row + 1) (next e (said_on e.row begun)).stage why h

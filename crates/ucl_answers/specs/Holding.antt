@@ -16,7 +16,7 @@ use Rattle.ucl_answers.specs.declared.answer.Answer.{Answer}
 use Rattle.ucl_answers.specs.declared.evening.Evening.{Evening as Held}
 use Rattle.ucl_answers.specs.declared.fault.BeginningFault.{BeginningFault}
 use Rattle.ucl_answers.specs.declared.fault.LiveFault.{LiveFault}
-use Rattle.ucl_answers.specs.declared.fault.LiveFault.TheVariants as fault
+use Rattle.ucl_answers.specs.declared.fault.LiveFault.TheVariants as live
 use Rattle.ucl_answers.specs.declared.request.Request.{Request}
 use Rattle.ucl_answers.specs.declared.request.Request.TheVariants.{Bad, Event, Screen, Words}
 use Rattle.ucl_answers.specs.declared.parts.Parts.{Parts}
@@ -73,8 +73,8 @@ evening_of e row = evening_at e.options e.title row (stage_seen e.stage)
 
 -- a row has no answer: there was no memory for it, which it asks for, or the stage after it is refused
 abbrev pub StopsAt : Type 0 → Stage → LiveFault → Type 0
-StopsAt Asks after fault.OutOfMemory = Asks
-StopsAt Asks after (fault.Beginning why) = after ≡ Refused why
+StopsAt Asks after live.OutOfMemory = Asks
+StopsAt Asks after (live.Beginning why) = after ≡ Refused why
 
 abbrev pub HasNoAnswer : Evening → Said → LiveFault → Type 0
 HasNoAnswer e said fault = StopsAt (AsksForMemory e said) (next e said).stage fault
@@ -93,8 +93,8 @@ pub record Closes (e : Evening) (begun text : List ℕ) : Type 0 where
 
 -- there was no memory for it, which it asks for; or a club or a word has a fault, or is missing
 abbrev pub HasNoEnd : Evening → List ℕ → LiveFault → Type 0
-HasNoEnd e begun fault.OutOfMemory = AsksForMemory e (said_on e.row begun)
-HasNoEnd e begun (fault.Beginning why) = missing_at e begun ≡ Some why
+HasNoEnd e begun live.OutOfMemory = AsksForMemory e (said_on e.row begun)
+HasNoEnd e begun (live.Beginning why) = missing_at e begun ≡ Some why
 
 -- ---- a whole run
 
@@ -143,8 +143,8 @@ abbrev pub LiveFailsAfter : Evening → List ℕ → Device → Device → PumpF
 LiveFailsAfter start bytes old new (ReadFailed count) = (count ≡ length bytes) × Appends old.taken new.taken (answers_to start bytes)
 LiveFailsAfter start bytes old new TooLong = (2 ^ 62 < length bytes) × Appends old.taken new.taken (answers_to start bytes)
 LiveFailsAfter start bytes old new (WriteFailed written) = WriteStops start bytes old new written
-LiveFailsAfter start bytes old new (Machine fault.OutOfMemory) = RanOut start bytes old new
-LiveFailsAfter start bytes old new (Machine (fault.Beginning why)) = IsTurnedAway start bytes old new why
+LiveFailsAfter start bytes old new (Machine live.OutOfMemory) = RanOut start bytes old new
+LiveFailsAfter start bytes old new (Machine (live.Beginning why)) = IsTurnedAway start bytes old new why
 
 pub record LiveFails (start : Evening) (old new : Device) (fault : PumpFault LiveFault) : Type 0 where
   pub bytes : List ℕ

@@ -5,7 +5,7 @@ use Rattle.ucl_answers.specs.declared.answer.Answer.{Answer}
 use Rattle.ucl_answers.specs.declared.answer.Answer.TheVariants.{Short, Long}
 use Rattle.ucl_answers.specs.declared.fault.BeginningFault.{BeginningFault}
 use Rattle.ucl_answers.specs.declared.fault.LiveFault.{LiveFault}
-use Rattle.ucl_answers.specs.declared.fault.LiveFault.TheVariants as fault
+use Rattle.ucl_answers.specs.declared.fault.LiveFault.TheVariants as live
 use Rattle.ucl_answers.specs.declared.stage.Clubs.{Clubs}
 use Rattle.ucl_answers.specs.declared.stage.Clubs.TheVariants.{NoClub, One, Two, Three}
 use Rattle.ucl_answers.specs.declared.stage.Stage.{Stage as Reached}
@@ -32,8 +32,8 @@ Becomes stage (Err fault) = stage ≡ Refused fault
 -- or there was no memory
 abbrev pub BecomesIfMemory : Stage → Result Reached LiveFault → Type 0
 BecomesIfMemory stage (Ok s) = stage_seen s ≡ stage
-BecomesIfMemory stage (Err (fault.Beginning why)) = stage ≡ Refused why
-BecomesIfMemory stage (Err fault.OutOfMemory) = ⊤
+BecomesIfMemory stage (Err (live.Beginning why)) = stage ≡ Refused why
+BecomesIfMemory stage (Err live.OutOfMemory) = ⊤
 
 -- the bytes of an answer
 abbrev pub bytes_of : Answer → List ℕ

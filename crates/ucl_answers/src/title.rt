@@ -1,9 +1,10 @@
 //! What the first row may say of the board.
 
-ghost use Rattle.std.specs.Prelude.{◌≡◌, ◌≤◌, IfSome, option_map};
+ghost use Rattle.std.specs.Prelude.{◌≡◌, ◌≤◌, true, IfSome, option_map};
 ghost use Rattle.ucl_order.specs.Names.{profile_named};
 ghost use Rattle.ucl_screen.specs.Rows.{four_seen};
 ghost use Rattle.ucl_screen.specs.Screen.{IsGroup};
+ghost use Rattle.ucl_command.specs.Groups.{may_be_asked};
 ghost use Rattle.ucl_answers.specs.Rows.{of_row, said_on};
 ghost use Rattle.ucl_answers.specs.Titles.{asked_group, asked_order, asked_title, edition_by, group_said, is_as_asked, is_asked_group, is_asked_order, is_group_row, is_same_order, letter_in, title_by, title_said};
 
@@ -132,8 +133,9 @@ pub(crate) fn is_as_asked(options: &LiveArgs, title: Title) -> bool
 }
 
 /// The group that was asked for, else A.
+#[tactic(auto, using(ucl_command::proofs::Letters::asked_letter))]
 fn asked_group(asked: Option<u8>) -> u8
-    requires { IfSome asked IsGroup }
+    requires { may_be_asked asked ≡ true }
     ensures told { result ≡ asked_group asked }
     ensures letter { IsGroup result }
 {
@@ -194,7 +196,7 @@ pub fn first_group(line: &[u8]) -> Option<Option<Title>>
 
 /// The title of a board whose input says this one, or none: that, where it is as asked, or what was asked for.
 pub fn title_for(group: Option<u8>, profile: Option<Profile>, said: Option<Title>) -> Option<Title>
-    requires asked { IfSome group IsGroup }
+    requires asked { may_be_asked group ≡ true }
     requires said { IfSome said (λ title. IsGroup title.group) }
     ensures letter { IfSome result (λ title. IsGroup title.group) }
 {

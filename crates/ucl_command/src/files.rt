@@ -1,7 +1,7 @@
 //! What `ucl_evening` is to do, and the files and pipes of its evening.
 
-ghost use Rattle.std.specs.Prelude.{IfSome};
-ghost use Rattle.ucl_screen.specs.Screen.{IsGroup};
+ghost use Rattle.std.specs.Prelude.{◌≡◌, true};
+ghost use Rattle.ucl_command.specs.Groups.{may_be_asked};
 
 use crate::options::Format;
 use ucl_order::Profile;
@@ -37,5 +37,5 @@ pub struct EveningArgs {
     pub group: Option<u8>,
     /// The order of the clubs that was asked for.
     pub profile: Option<Profile>,
-    pub ghost letter: { IfSome group IsGroup },
+    pub ghost letter: { may_be_asked group ≡ true },
 }

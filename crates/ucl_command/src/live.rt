@@ -1,7 +1,7 @@
 //! The arguments of `ucl_live`.
 
-ghost use Rattle.std.specs.Prelude.{IfSome};
-ghost use Rattle.ucl_screen.specs.Screen.{IsGroup};
+ghost use Rattle.std.specs.Prelude.{◌≡◌, true};
+ghost use Rattle.ucl_command.specs.Groups.{may_be_asked};
 
 use crate::fault::{LineFault, matches_from, read};
 use crate::help::{ROW_GROUP, ROW_ORDER, live as help};
@@ -27,7 +27,7 @@ pub struct LiveArgs {
     pub screens: bool,
     /// The form of the answers.
     pub format: Format,
-    pub ghost letter: { IfSome group IsGroup },
+    pub ghost letter: { may_be_asked group ≡ true },
 }
 
 /// The program's command.

@@ -1,7 +1,8 @@
 //! The options that programs share, each once, and what their values name.
 
-ghost use Rattle.std.specs.Prelude.{◌≤◌, IfSome};
+ghost use Rattle.std.specs.Prelude.{◌≡◌, ◌≤◌, true, IfSome};
 ghost use Rattle.ucl_screen.specs.Screen.{IsGroup};
+ghost use Rattle.ucl_command.specs.Groups.{may_be_asked};
 
 use crate::help;
 use clap::{Arg, ArgAction, ArgMatches, Command, value_parser};
@@ -94,8 +95,10 @@ pub(crate) fn several_option<'a>(
 }
 
 /// The group that was named.
+#[tactic(auto, using(crate::proofs::Letters::letter_asked))]
 pub(crate) fn group_of(matches: &ArgMatches<'_>) -> Option<u8>
-    ensures { IfSome result IsGroup }
+    ensures letter { IfSome result IsGroup }
+    ensures asked { may_be_asked result ≡ true }
 {
     match matches.get_str("group")?.as_bytes() {
         [letter] if is_group(*letter) => Some(*letter),

@@ -1,7 +1,7 @@
 -- What the lines of an evening's answers tell: nothing, or the moment after their line.
 use Rattle.std.proofs.Common.{◌≡◌, ◌∙◌, ℕ, ◌+◌, ◌-◌, ◌^◌, ◌<◌, ◌≤◌, ◌==◌, ◌&&◌, codes, Bool, true, false, refl, sym, ap, subst, arith, List, [], ◌∷◌, ◌++◌}
 use Rattle.std.proofs.Common.{length, leb-true, Option, Some, None, inl, inr}
-use Rattle.std.specs.Prelude.{⊤, ◌||◌, All, IfSome, if◌then◌else◌, nat_le, Result, Ok, Err}
+use Rattle.std.specs.Prelude.{⊤, ◌||◌, All, if◌then◌else◌, nat_le, Result, Ok, Err}
 use Rattle.std.specs.Str.{bytes_eq}
 use Rattle.std.specs.Result.{is_ok}
 use Rattle.std.proofs.lemmas.Bool.{cases_Bool}
@@ -42,6 +42,8 @@ use Rattle.ucl_order.specs.declared.profile.Profile.{Profile}
 use Rattle.ucl_order.specs.Names.{profile_named}
 use Rattle.ucl_answers.specs.declared.fault.BeginningFault.TheVariants.{OtherGroup}
 use Rattle.ucl_answers.specs.Titles.{asked_group, asked_title, edition_by, is_as_asked, is_group_row, letter_in, title_by, title_said}
+use Rattle.ucl_command.specs.Groups.{may_be_asked}
+use Rattle.ucl_command.proofs.Letters.{asked_letter}
 use Rattle.ucl_answers.proofs.Silence.{is_open}
 use Rattle.ucl_answers.specs.Requests.{asked_by, event_or_bad, request_of}
 use Rattle.ucl_answers.specs.Rows.{Said, Nothing, Garbled, Row, said_on}
@@ -196,12 +198,12 @@ said-title f title h =
     let p = by-parts (letter_in f.second) (profile_named f.third) (edition_by f.fourth) title h in
     record { letter = within f.second title.group p.0; edition = ranged 0 65535 (number 5 f.fourth) title.edition p.1 }
 
-asked-letter : (asked : Option ℕ) → IfSome asked IsGroup → IsGroup (asked_group asked)
-asked-letter None h = (omega arith, omega arith)
-asked-letter (Some group) h = h
+letter-of : (asked : Option ℕ) → may_be_asked asked ≡ true → IsGroup (asked_group asked)
+letter-of None h = (omega arith, omega arith)
+letter-of (Some group) h = asked_letter group h
 
 pub first-title : (options : LiveArgs) → IsTitle (asked_title options)
-first-title options = record { letter = asked-letter options.group options.letter; edition = omega arith }
+first-title options = record { letter = letter-of options.group options.letter; edition = omega arith }
 
 or-title : (title : Title) (o : Option Title) → IsTitle title → ((other : Title) → o ≡ Some other → IsTitle other) → IsTitle (title_or title o)
 or-title title None is more = is
