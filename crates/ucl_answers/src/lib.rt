@@ -17,9 +17,10 @@ mod row;
 mod some_words;
 mod stage;
 mod table;
+mod title;
 mod words;
 
-pub use answer::{Answer, ReplyLine, accepted_line, bad_line, refused_line, title_of};
+pub use answer::{Answer, ReplyLine, accepted_line, bad_line, refused_line};
 pub use bad_row::{BadField, bad_field_of_call};
 pub use evening::Evening;
 pub use fault::{BeginningFault, LiveFault};
@@ -31,6 +32,7 @@ pub use laws::{
 pub use line::LineReader;
 pub use live::live_run;
 pub use parts::Parts;
-pub use program::run_evening;
+pub use program::{OTHER_GROUP, run_evening};
 pub use row::{MOST_LINE_BYTES, RowCount};
+pub use title::{first_group, letter_in, title_for};
 pub use words::{Lines, word_lines};

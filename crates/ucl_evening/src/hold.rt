@@ -1,8 +1,5 @@
 //! The evening that the words ask for, on a board of its own.
 
-ghost use Rattle.std.specs.Prelude.{◌≤◌, length};
-ghost use Rattle.ucl_screen.specs.Input.{most_bytes};
-
 use crate::ready::Ready;
 use crate::told::{ready_line, tell_line};
 use std::alloc::Global;
@@ -10,7 +7,6 @@ use std::io::Stderr;
 use std::sync::Wait;
 use std::thread::Threads;
 use ucl_board::Board;
-use ucl_command::EveningArgs;
 use ucl_evenings_threads::run_evening_of;
 use ucl_runs::{RunFault, tell};
 use ucl_screen::{NightEvent, Sink, Source};
@@ -48,16 +44,14 @@ pub fn hold<
 >(
     rt: &R,
     alloc: Global,
-    asked: &EveningArgs,
     ready: Ready<S, V>,
     output: &mut W,
     errors: &mut E,
     talk: Stderr,
-) -> u8
-    requires few { length ready.night.events.items ≤ most_bytes }
-{
+) -> u8 {
     tell_ready(talk, &ready);
     let Ready {
+        title,
         night,
         reporters,
         places,
@@ -67,7 +61,7 @@ pub fn hold<
         Err(_) => return tell(errors, RunFault::OutOfMemory),
     };
     let run = run_evening_of(
-        rt, alloc, &board, pass, asked, &night, reporters, places, output, errors,
+        rt, alloc, &board, pass, title, &night, reporters, places, output, errors,
     );
     run.status
 }

@@ -30,15 +30,7 @@ fn main(rt: HostRuntime) -> ExitCode {
     };
     let status = match asked {
         Ok(asked) => match ready_for(&rt, alloc, &asked, rt.stderr()) {
-            Ok(ready) => hold(
-                &rt,
-                alloc,
-                &asked,
-                ready,
-                &mut output,
-                &mut errors,
-                rt.stderr(),
-            ),
+            Ok(ready) => hold(&rt, alloc, ready, &mut output, &mut errors, rt.stderr()),
             Err(stop) => tell_stop(&mut errors, stop),
         },
         Err(fault) => ended_unasked(&mut output, &mut errors, fault),

@@ -16,6 +16,8 @@ const NO_COURSE: &str = "error: no course of events leads to this word\n";
 /// Why an evening does not begin.
 #[derive(Clone, Copy, Debug)]
 pub enum Stop<'a> {
+    /// Its arguments are refused, as this text says.
+    Refused(&'static str),
     /// The output of this name has bytes in it.
     HasBytes(&'a str),
     /// These two names stand for one file or pipe.
@@ -72,6 +74,7 @@ pub fn stop_at<'a>(fault: InputFault, script: &[u8]) -> Stop<'a> {
 /// Tells why an evening does not begin, and gives the exit status.
 pub fn tell_stop<E: Sink>(errors: &mut E, stop: Stop<'_>) -> u8 {
     match stop {
+        Stop::Refused(text) => tell_refusal(errors, text),
         Stop::HasBytes(name) => {
             let line = line_of(
                 "error: ",

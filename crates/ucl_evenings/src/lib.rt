@@ -8,6 +8,7 @@ mod outcome;
 mod reporter;
 mod ring;
 mod screen;
+mod shape;
 mod show;
 mod take;
 
@@ -15,5 +16,6 @@ pub use outcome::Outcome;
 pub use reporter::{Reply, Reporter};
 pub use ring::Ring;
 pub use screen::Screen;
+pub use shape::Shape;
 pub use show::{Bell, show_boards, show_noted};
 pub use take::take_rows;

@@ -38,14 +38,15 @@ pub struct Explaining {
 impl Explaining {
     /// Beside an evening of these options.
     pub fn beside(alloc: Global, options: &LiveArgs) -> Explaining {
-        let group = options.group;
+        let (group, profile) = (options.group, options.profile);
         Explaining {
             alloc,
             evening: Evening::new(
                 alloc,
                 LiveArgs {
                     group,
-                    profile: options.profile,
+                    profile,
+                    resumed: options.resumed,
                     screens: false,
                     format: Format::Json,
                 },
