@@ -41,14 +41,7 @@ pub fn hold<
     R: Threads + Wait + Sync,
     W: Sink,
     E: Sink,
->(
-    rt: &R,
-    alloc: Global,
-    ready: Ready<S, V>,
-    output: &mut W,
-    errors: &mut E,
-    talk: Stderr,
-) -> u8 {
+>(rt: &R, alloc: Global, ready: Ready<S, V>, output: &mut W, errors: &mut E, talk: Stderr) -> u8 {
     tell_ready(talk, &ready);
     let Ready {
         title,
