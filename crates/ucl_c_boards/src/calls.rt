@@ -127,7 +127,7 @@ impl Handle {
     /// The number of a reporter's pass.
     pub fn number(&mut self, alloc: Global) -> Result<ReporterNo, WhyNot>
         ensures unchanged { pass_held self.new ≡ pass_held self.old }
-        ensures number { MatchResult result (IsNumberOf (pass_held self.old))
+        ensures told { MatchResult result (IsNumberOf (pass_held self.old))
             (λ why. fault_of_report (pass_held self.old) ≡ Some why) }
     {
         if self.is_null() {

@@ -16,12 +16,11 @@ struct Named<'r, R: Files<File = File>> {
 }
 
 impl<R: Files<File = File>> Named<'_, R> {
-    /// Tells of a failure, and hands on the answer.
-    fn told<T>(&self, doing: Doing, answer: io::Result<T>) -> io::Result<T> {
-        if let Err(error) = &answer {
+    /// Tells of a failure.
+    fn tell<T>(&self, doing: Doing, answer: &io::Result<T>) {
+        if let Err(error) = answer {
             tell_failed(self.errors, doing, self.name, error);
         }
-        answer
     }
 
     /// Tells whom a pipe waits for, which is not open yet.
@@ -63,7 +62,9 @@ impl<'r, R: Files<File = File>> In<'r, R> {
     fn opened(&self) -> io::Result<File> {
         let place = &self.place;
         place.tell_waiting("waiting for a writer of ");
-        let file = place.told(Doing::Opening, fs::open(place.files, place.name))?;
+        let answer = fs::open(place.files, place.name);
+        place.tell(Doing::Opening, &answer);
+        let file = answer?;
         place.tell_opened(" has a writer");
         Ok(file)
     }
@@ -77,7 +78,8 @@ impl<R: Files<File = File>> Read for In<'_, R> {
         };
         let answer = file.read(buf);
         self.file = Some(file);
-        self.place.told(Doing::Reading, answer)
+        self.place.tell(Doing::Reading, &answer);
+        answer
     }
 }
 
@@ -125,7 +127,8 @@ impl<'r, R: Files<File = File>> Out<'r, R> {
                 .create_new(true)
                 .open(place.files, place.name),
         };
-        let file = place.told(Doing::Opening, answer)?;
+        place.tell(Doing::Opening, &answer);
+        let file = answer?;
         place.tell_opened(" has a reader");
         Ok(file)
     }
@@ -139,7 +142,8 @@ impl<R: Files<File = File>> Write for Out<'_, R> {
         };
         let answer = file.write(buf);
         self.file = Some(file);
-        self.place.told(Doing::Writing, answer)
+        self.place.tell(Doing::Writing, &answer);
+        answer
     }
 
     fn flush(&mut self) -> io::Result<()> {
