@@ -365,6 +365,7 @@ by-request (Event event) a h = (event, refl, cc)
 by-request (Bad field) a h = cc
 by-request Screen a h = cc
 by-request Words a h = cc
+by-request Matches a h = cc
 
 abbrev is_taken : List ℕ → Attempt → Bool
 is_taken board a = is_ok (reply_of (game_at board a.call.game) a.call)
