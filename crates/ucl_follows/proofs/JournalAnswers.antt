@@ -37,7 +37,7 @@ use Rattle.ucl_command.specs.declared.options.Format.TheVariants.{Json}
 use Rattle.ucl_answers.specs.declared.request.Request.{Request}
 use Rattle.ucl_answers.specs.declared.request.Request.TheVariants.{Bad, Event, Screen, Words, Matches}
 use Rattle.ucl_answers.specs.ByHistory.{attempts_of, attempts_on}
-use Rattle.ucl_answers.specs.BadRows.{bad_field, shown_text}
+use Rattle.ucl_answers.specs.BadRows.{shown_text}
 use Rattle.ucl_json.specs.declared.title.Title.{Title}
 use Rattle.ucl_screen.specs.Screen.{IsGroup}
 use Rattle.ucl_order.specs.declared.profile.Profile.{Profile}
@@ -483,6 +483,7 @@ by-request (Event event) a h = (event, refl, cc)
 by-request (Bad field) a h = cc
 by-request Screen a h = cc
 by-request Words a h = cc
+by-request Matches a h = cc
 
 abbrev is_taken : List ℕ → Attempt → Bool
 is_taken board a = is_ok (reply_of (game_at board a.call.game) a.call)

@@ -1,7 +1,7 @@
 -- Matches that are added one after the other.
-use Rattle.std.proofs.Common.{◌≡◌, ◌∙◌, ℕ, ◌+◌, ◌-◌, ◌<◌, ◌≤◌, false, List, [], ◌∷◌, ◌++◌, length, get_or, take, refl, ap, arith}
+use Rattle.std.proofs.Common.{◌≡◌, ℕ, ◌+◌, ◌-◌, ◌≤◌, false, List, [], ◌∷◌, ◌++◌, take, refl, ap, arith}
 use Rattle.std.proofs.lemmas.List.{take_more}
-use Rattle.serde_json.specs.Data.{Data, Items, depth, item, items_depth}
+use Rattle.serde_json.specs.Data.{depth, item, items_depth}
 use Rattle.serde_json.specs.Read.{max_depth}
 use Rattle.serde_json.specs.View.{items_view, view}
 use Rattle.serde_json.specs.Written.{has_float, items_have_float}
