@@ -33,7 +33,7 @@ use Rattle.ucl_answers.specs.BadRows.{bad_field, shown_text}
 use Rattle.ucl_answers.specs.Requests.{asked_by, event_or_bad, request_of, shown_by}
 use Rattle.ucl_answers.specs.Rows.{Said, Nothing, Garbled, Row, said_on}
 use Rattle.ucl_answers.specs.Stages.{Stage, Open, Restoring, next_board, next_stage}
-use Rattle.ucl_answers.specs.Text.{Evening, after_lines, answer_said, answer_of, answers, next, reply_answer, screen_after}
+use Rattle.ucl_answers.specs.Text.{Evening, after_lines, answer_said, answer_of, answers, next, next_title, reply_answer, screen_after}
 use Rattle.ucl_answers.specs.ByHistory.{answer_by_history, answers_by_history, attempts_in, attempts_of, attempts_on, line_by_history, reply_by_history}
 use Rattle.ucl_answers.specs.Laws.{BoardsTakeEvents, EveningsAreSequential, FirstRowsOpenTheBoard, IsOtherRow, RefusedEveningsAreSilent, RepliesAreThoseOfFeed, fresh_at}
 use Rattle.ucl_answers.proofs.Silence.{refused-shut, silent}
@@ -228,6 +228,10 @@ said-stage : (e : Evening) (clubs : List NamedClub) (history : List Entry) (r : 
 said-stage e clubs history r legal h =
     ap (λ (s : Stage). next_stage e.options e.row s r) h ∙ next-open e.options e.row clubs (board_of history) r ∙ ap (λ (b : List ℕ). Open clubs b) (said-board history r legal)
 
+-- an open board keeps its title
+open-title : (title : Title) (s : Stage) (r : Said) (clubs : List NamedClub) (board : List ℕ) → s ≡ Open clubs board → next_title title s r ≡ title
+open-title title s r clubs board h = rw h refl
+
 text-by-history : (e : Evening) (lines : List (List ℕ)) (clubs : List NamedClub) (history : List Entry) → IsLegal history → e.stage ≡ Open clubs (board_of history)
     → answers e lines ≡ answers_by_history e.options e.title e.row clubs history lines
 unfolding answers answers_by_history
@@ -236,7 +240,8 @@ text-by-history e (line ∷ lines) clubs history legal h =
     let r = said_on e.row line in
     let later = fold after_attempt history (attempts_on r) in
     ap₂ (λ (a b : List ℕ). a ++ b) (said-answer e clubs history r (shown_text line) legal h)
-    (text-by-history (next e r) lines clubs later (attempts-legal history (attempts_on r) legal (said-attempts r)) (said-stage e clubs history r legal h))
+    (text-by-history (next e r) lines clubs later (attempts-legal history (attempts_on r) legal (said-attempts r)) (said-stage e clubs history r legal h)
+    ∙ ap (λ (t : Title). answers_by_history e.options t (e.row + 1) clubs later lines) (open-title e.title e.stage r clubs (board_of history) h))
 
 pub sequential : EveningsAreSequential
 sequential e lines clubs history legal h =

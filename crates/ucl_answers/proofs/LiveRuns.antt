@@ -117,7 +117,8 @@ module _ (old new : Seen Held) where
     end_silent : (fault : BeginningFault) → rest ≡ [] → missing_at reached begun ≡ Some fault → text_in turns ≡ []
     end_silent fault none h =
         let here = subst (λ (k : Evening). missing_at k begun ≡ Some fault) (all_reached none) h in
-        let shut = shut-lines (after_bytes start bytes) (last_lines begun) (missing-shut _ _ _ fault here) in
+        let last = after_lines (after_bytes start bytes) (last_lines begun) in
+        let shut = shut-lines (after_bytes start bytes) (last_lines begun) (missing-shut last.options last.row last.stage fault here) in
         all_text none ∙ silent start (ended_lines 258 [] bytes) shut
 
     module _ (x y z sink_failed : Bool) where

@@ -34,8 +34,8 @@ open-opened options (Refused fault) r h = cc
 
 open-next : (options : LiveArgs) (row : ℕ) (s : Stage) (r : Said) → is_open s ≡ true → is_open (next_stage options row s r) ≡ true
 open-next options row s Nothing h = h
-open-next row s Garbled h = open-row options row (opened s Garbled) Garbled (open-opened s Garbled h)
-open-next row s (Row f) h = open-row options row (opened s (Row f)) (Row f) (open-opened s (Row f) h)
+open-next options row s Garbled h = open-row options row (opened options s Garbled) Garbled (open-opened options s Garbled h)
+open-next options row s (Row f) h = open-row options row (opened options s (Row f)) (Row f) (open-opened options s (Row f) h)
 
 pub stays-open : (e : Evening) (lines : List (List ℕ)) → is_open e.stage ≡ true → is_open (after_lines e lines).stage ≡ true
 unfolding after_lines

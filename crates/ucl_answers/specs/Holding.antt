@@ -70,7 +70,7 @@ abbrev pub evening_at : LiveArgs → Title → ℕ → Stage → Evening
 evening_at options title row stage = record { options = options; title = title; row = row; stage = stage }
 
 abbrev pub evening_of : Held → ℕ → Evening
-evening_of e row = evening_at e.options e.title row (stage_seen e.stage)
+evening_of e row = evening_at e.options e.title.title row (stage_seen e.stage)
 
 -- a row has no answer: there was no memory for it, which it asks for, or the stage after it is refused
 abbrev pub StopsAt : Type 0 → Stage → LiveFault → Type 0

@@ -2,7 +2,6 @@
 
 ghost use Rattle.std.specs.Prelude.{◌≡◌, ◌+◌, ⊤, IfErr, IfOk, OnOk, option_map};
 ghost use Rattle.ucl_screen.specs.Rows.{four_seen};
-ghost use Rattle.ucl_screen.specs.Screen.{IsGroup};
 ghost use Rattle.ucl_answers.specs.BadRows.{shown_text};
 ghost use Rattle.ucl_answers.specs.Holding.{AsksAt, Closes, HasNoAnswer, HasNoEnd, StopsAt, evening_at, evening_of, parts_bytes};
 ghost use Rattle.ucl_answers.specs.Requests.{request_of};
@@ -12,6 +11,7 @@ ghost use Rattle.ucl_answers.specs.Stages.{after_row, next_stage};
 ghost use Rattle.ucl_answers.specs.Text.{answer_at, answer_said, next, next_title, start_of};
 
 use crate::fault::LiveFault;
+use crate::headed::Headed;
 use crate::line::{LineReader, plain_row};
 use crate::parts::Parts;
 use crate::request::request_of;
@@ -22,7 +22,6 @@ use std::alloc::Global;
 use std::mem;
 use ucl_command::LiveArgs;
 use ucl_io::LineMachine;
-use ucl_json::Title;
 use ucl_screen::Four;
 
 /// An evening between two lines: how it answers, what its board is told under, how far it is, and what it reads lines by.
@@ -30,30 +29,27 @@ use ucl_screen::Four;
 pub struct Evening {
     alloc: Global,
     options: LiveArgs,
-    title: Title,
+    title: Headed,
     stage: Stage,
     reader: LineReader,
-    ghost letter: { IsGroup title.group },
 }
 
 /// Answers a row, whose text is this, at the stage in which it is read, and gives the stage after it.
 fn after_row(
     alloc: Global,
     options: &LiveArgs,
-    title: &mut Title,
+    title: &mut Headed,
     row: u64,
     stage: Stage,
     said: &Option<Four<'_>>,
     text: &[u8],
     parts: &mut Parts,
 ) -> Result<Stage, LiveFault>
-    requires { IsGroup title.old.group }
-    ensures letter { IsGroup title.new.group }
-    ensures title { OnOk result (title.new ≡ next_title title.old (stage_seen stage)
+    ensures title { OnOk result (title.new.title ≡ next_title title.old.title (stage_seen stage)
         (of_row (option_map four_seen said.now))) }
     ensures next { IfOk result (λ after. stage_seen after
         ≡ after_row options.now row (stage_seen stage) (of_row (option_map four_seen said.now))) }
-    ensures text { OnOk result (parts_bytes parts.new ≡ answer_at options.now title.old row (stage_seen stage)
+    ensures text { OnOk result (parts_bytes parts.new ≡ answer_at options.now title.old.title row (stage_seen stage)
         (request_of (of_row (option_map four_seen said.now))) (shown_text text.now)) }
     ensures stops { IfErr result (StopsAt
         (AsksAt options.now (stage_seen stage)
@@ -68,7 +64,15 @@ fn after_row(
         Stage::Restoring(some) => Ok(some.with_row(row, said)?),
         Stage::Open(table) => {
             let mut table = table;
-            table.answered(alloc, options, *title, row, &request_of(said), text, parts)?;
+            table.answered(
+                alloc,
+                options,
+                title.title,
+                row,
+                &request_of(said),
+                text,
+                parts,
+            )?;
             Ok(Stage::Open(table))
         }
     }
@@ -76,32 +80,38 @@ fn after_row(
 
 impl Stage {
     /// Answers a row of this number, which has four fields or is garbled, and whose text is this.
-    #[tactic(auto, using(crate::proofs::TitleRows::title_opened))]
+
     fn answered(
         &mut self,
         alloc: Global,
         options: &LiveArgs,
-        title: &mut Title,
+        title: &mut Headed,
         row: u64,
         said: &Option<Four<'_>>,
         text: &[u8],
         parts: &mut Parts,
     ) -> Result<(), LiveFault>
-        requires { IsGroup title.old.group }
-        ensures letter { IsGroup title.new.group }
-        ensures title { OnOk result (title.new ≡ next_title title.old (stage_seen self.old)
+        ensures title { OnOk result (title.new.title ≡ next_title title.old.title (stage_seen self.old)
             (of_row (option_map four_seen said.now))) }
         ensures next { OnOk result (stage_seen self.new
             ≡ next_stage options.now row (stage_seen self.old) (of_row (option_map four_seen said.now))) }
         ensures text { OnOk result (parts_bytes parts.new
-            ≡ answer_said (evening_at options.now title.old row (stage_seen self.old))
+            ≡ answer_said (evening_at options.now title.old.title row (stage_seen self.old))
             (of_row (option_map four_seen said.now)) (shown_text text.now)) }
         ensures stops { IfErr result
-            (HasNoAnswer (evening_at options.now title.old row (stage_seen self.old))
+            (HasNoAnswer (evening_at options.now title.old.title row (stage_seen self.old))
             (of_row (option_map four_seen said.now))) }
     {
         if let Stage::Open(table) = self {
-            table.answered(alloc, options, *title, row, &request_of(said), text, parts)?;
+            table.answered(
+                alloc,
+                options,
+                title.title,
+                row,
+                &request_of(said),
+                text,
+                parts,
+            )?;
             return Ok(());
         }
         let stage = mem::replace(self, Stage::Beginning).opened(options, said);
@@ -115,7 +125,9 @@ impl Evening {
     pub fn new(alloc: Global, options: LiveArgs) -> Evening
         ensures { evening_of result 1 ≡ start_of options }
     {
-        let title = asked_title(&options);
+        let title = Headed {
+            title: asked_title(&options),
+        };
         Evening {
             alloc,
             options,

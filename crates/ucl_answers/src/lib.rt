@@ -6,6 +6,7 @@ mod answer;
 mod bad_row;
 mod evening;
 mod fault;
+mod headed;
 mod laws;
 mod line;
 mod live;

@@ -3,20 +3,19 @@
 ghost use Rattle.std.specs.Prelude.{◌≡◌, ◌+◌, ◌-◌, ◌^◌, ◌<◌, ◌≤◌, ◌++◌, [], ◌∷◌, IfOk, OnOk, length, map, option_map};
 ghost use Rattle.ucl_order.specs.Roster.{bad_slot, club_seen};
 ghost use Rattle.ucl_screen.specs.Rows.{four_seen};
-ghost use Rattle.ucl_screen.specs.Screen.{IsGroup};
 ghost use Rattle.ucl_answers.specs.Rows.{of_row};
 ghost use Rattle.ucl_answers.specs.Stages.{Beginning, Restoring, after_beginning, club_said, is_word_row, missing, opened, told_row, after_club, with_clubs, with_roster, after_word, with_words, word_said};
 ghost use Rattle.ucl_answers.specs.Text.{next_title};
 ghost use Rattle.ucl_answers.specs.Seen.{Becomes, BecomesIfMemory, clubs_seen, stage_seen};
 
 use crate::fault::{BeginningFault, LiveFault};
+use crate::headed::Headed;
 use crate::some_words::SomeWords;
 use crate::title::{is_as_asked, is_group_row, title_said};
 use arrayvec::ArrayVec;
 use std::alloc::{AllocError, Global};
 use ucl_board::Board;
 use ucl_command::LiveArgs;
-use ucl_json::Title;
 use ucl_order::{Club, Roster};
 use ucl_screen::{Four, club_of_fields, word_of_fields};
 
@@ -163,13 +162,11 @@ pub(crate) fn with_first(
     options: &LiveArgs,
     row: u64,
     said: &Option<Four<'_>>,
-    title: &mut Title,
+    title: &mut Headed,
 ) -> Result<Stage, LiveFault>
-    requires { IsGroup title.old.group }
-    ensures letter { IsGroup title.new.group }
     ensures stage { BecomesIfMemory (after_beginning options.now row
         (of_row (option_map four_seen said.now))) result }
-    ensures title { OnOk result (title.new ≡ next_title title.old Beginning
+    ensures title { OnOk result (title.new.title ≡ next_title title.old.title Beginning
         (of_row (option_map four_seen said.now))) }
 {
     if !is_group_row(said) {
@@ -178,7 +175,7 @@ pub(crate) fn with_first(
     match title_said(said) {
         None => Err(LiveFault::Beginning(bad_row(row))),
         Some(other) if is_as_asked(options, other) => {
-            *title = other;
+            *title = Headed { title: other };
             Ok(Stage::Naming(Clubs::NoClub))
         }
         Some(_) => Err(LiveFault::Beginning(BeginningFault::OtherGroup)),
