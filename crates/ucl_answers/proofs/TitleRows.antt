@@ -1,40 +1,15 @@
--- The edition that a field says, as the number that is expected of a match; and titles, which no row but the first changes.
-use Rattle.std.proofs.Common.{◌≡◌, ◌∙◌, ℕ, ◌<◌, ◌≤◌, ◌&&◌, Bool, cond, true, false, refl, sym, ap, arith, List, [], ◌∷◌, codes, length, Option, None, Some, inl, inr, le-leb, leb-true}
-use Rattle.std.specs.Prelude.{◌||◌, nat_le, option_map}
+-- Titles, which no row but the first changes, and letters.
+use Rattle.std.proofs.Common.{◌≡◌, ◌∙◌, ℕ, ◌<◌, ◌≤◌, ◌&&◌, Bool, cond, true, false, refl, sym, ap, arith, List, [], ◌∷◌, length, Option, None, Some, inl, inr, le-leb, leb-true}
+use Rattle.std.specs.Prelude.{◌||◌, nat_le}
 use Rattle.std.specs.List.{slice_index_or}
 use Rattle.std.proofs.lemmas.Bool.{cases_Bool}
-use Rattle.ucl_word.specs.declared.event.Kind.TheVariants.{KickOff}
-use Rattle.ucl_word.specs.Names.{kind_named}
-use Rattle.ucl_screen.specs.declared.night.NightEvent.{NightEvent}
 use Rattle.ucl_screen.specs.Screen.{IsGroup}
-use Rattle.ucl_screen.specs.Events.{◌>>=◌, event_of}
-use Rattle.ucl_screen.specs.Numbers.{digits_after, in_range, number}
 use Rattle.ucl_json.specs.declared.title.Title.{Title}
 use Rattle.ucl_command.specs.declared.live.LiveArgs.{LiveArgs}
 use Rattle.ucl_answers.specs.Rows.{Said}
 use Rattle.ucl_answers.specs.Stages.{Stage, Beginning, Naming, Restoring, Open, Refused, is_word_row, opened}
 use Rattle.ucl_answers.specs.Text.{next_title}
-use Rattle.ucl_answers.specs.Titles.{edition_by, letter_in}
-
-abbrev expected_of : Option NightEvent → Option ℕ
-expected_of = option_map (λ e. e.call.expected)
-
-abbrev asked : List ℕ → Option NightEvent
-asked text = event_of (record { first = codes "1"; second = codes "1"; third = text; fourth = codes "kickoff" })
-
-of-expected : (o : Option ℕ) → expected_of (o >>= λ n. Some (record { reporter = 1; call = record { game = 1; expected = n; kind = KickOff } })) ≡ o
-of-expected None = refl
-of-expected (Some n) = refl
-
-by-event : (text : List ℕ) → expected_of (asked text) ≡ edition_by text
-unfolding digits_after kind_named
-by-event text = of-expected (in_range 0 65535 (number 5 text))
-
-pub edition_some : (text : List ℕ) (event : NightEvent) → asked text ≡ Some event → Some event.call.expected ≡ edition_by text
-edition_some text event h = sym (ap expected_of h) ∙ by-event text
-
-pub edition_none : (text : List ℕ) → asked text ≡ None → None ≡ edition_by text
-edition_none text h = sym (ap expected_of h) ∙ by-event text
+use Rattle.ucl_answers.specs.Titles.{letter_in}
 
 -- a row that opens the board says no title
 opened-title : (options : LiveArgs) (title : Title) (s : Stage) (r : Said) → next_title title (opened options s r) r ≡ next_title title s r

@@ -6,14 +6,14 @@ ghost use Rattle.ucl_screen.specs.Rows.{four_seen};
 ghost use Rattle.ucl_screen.specs.Screen.{IsGroup};
 ghost use Rattle.ucl_command.specs.Groups.{may_be_asked};
 ghost use Rattle.ucl_answers.specs.Rows.{of_row, said_on};
-ghost use Rattle.ucl_answers.specs.Titles.{asked_group, asked_order, asked_title, edition_by, group_said, is_as_asked, is_asked_group, is_asked_order, is_group_row, is_same_order, letter_in, title_by, title_said};
+ghost use Rattle.ucl_answers.specs.Titles.{asked_group, asked_order, asked_title, group_said, is_as_asked, is_asked_group, is_asked_order, is_group_row, is_same_order, letter_in, title_by, title_said};
 
 use crate::line::LineReader;
 use crate::row::RowCount;
 use ucl_command::LiveArgs;
 use ucl_json::Title;
 use ucl_order::Profile;
-use ucl_screen::{Four, event_of_fields, is_group};
+use ucl_screen::{Four, expected_of_field, is_group};
 
 /// The letter of a group, where a text is one.
 pub fn letter_in(text: &[u8]) -> Option<u8>
@@ -39,20 +39,6 @@ fn order_in(text: &[u8]) -> Option<Profile>
     }
 }
 
-/// The edition that a field says: it has the size of the number that is expected of a match.
-#[tactic(auto, using(crate::proofs::TitleRows::edition_some, crate::proofs::TitleRows::edition_none))]
-fn edition_by(text: &[u8]) -> Option<u16>
-    ensures { result ≡ edition_by text.now }
-{
-    let event = event_of_fields(&Four {
-        first: b"1".as_slice(),
-        second: b"1".as_slice(),
-        third: text,
-        fourth: b"kickoff".as_slice(),
-    })?;
-    Some(event.call.expected)
-}
-
 /// The title that a row of a group says.
 fn title_by(four: &Four<'_>) -> Option<Title>
     ensures told { result ≡ title_by (four_seen four.now) }
@@ -60,7 +46,8 @@ fn title_by(four: &Four<'_>) -> Option<Title>
 {
     let group = letter_in(four.second)?;
     let profile = order_in(four.third)?;
-    let edition = edition_by(four.fourth)?;
+    // It has the size of the number that is expected of a match.
+    let edition = expected_of_field(four.fourth)?;
     Some(Title {
         group,
         profile,
