@@ -314,7 +314,7 @@ module _ (e : Evening) (lines : Lines) (left lost : List ℕ) (json : e.options.
           let rise = no-lower board now b.2 in
           let there : (after_lines e before).stage ≡ Open clubs now = ap (λ (ls : Lines). (after_lines e ls).stage) place ∙ ap (λ (f : Evening). f.stage) (after-append e first between) ∙ then in
           let one : ◌≡◌ {A = Stage} (Open clubs now) (Open accepted.clubs accepted.board) =
-          sym (ap (λ (s : Stage). opened s (said_on (after_lines e before).row line)) there) ∙ accepted.stands in
+          sym (ap (λ (s : Stage). opened (after_lines e before).options s (said_on (after_lines e before).row line)) there) ∙ accepted.stands in
           let board-is : now ≡ accepted.board = cc in
           let newer = first-answer.newer in
           let f = next (after_lines e before) (said_on (after_lines e before).row line) in

@@ -442,8 +442,8 @@ pub record SaysTitle (text : List ℕ) (title : Title) : Type 0 where
   pub title_is : title_by fields ≡ Some title
 
 order-joins : (profile : Profile) → AreJoining (profile_name profile) × (length (profile_name profile) ≤ 11) × (profile_named (profile_name profile) ≡ Some profile)
-order-joins Uefa = ((refl, (refl, (refl, (refl, tt)))), (omega arith, refl))
-order-joins AwayInTie = ((refl, (refl, (refl, (refl, (refl, (refl, (refl, (refl, (refl, (refl, (refl, tt))))))))))), (omega arith, refl))
+order-joins Uefa = ((refl, (refl, (refl, (refl, tt)))), omega arith, refl)
+order-joins AwayInTie = ((refl, (refl, (refl, (refl, (refl, (refl, (refl, (refl, (refl, (refl, (refl, tt))))))))))), omega arith, refl)
 
 title-is : (title : Title) → IsGroup title.group → title.edition ≤ 65535 → title_by (group_fields (title.group ∷ []) (profile_name title.profile) (decimal title.edition)) ≡ Some title
 title-is title letter most =
