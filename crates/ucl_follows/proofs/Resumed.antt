@@ -218,6 +218,9 @@ goes-on e f text bytes p =
     text-append e text bytes p.whole
     ∙ ap₂ (λ (x y : List ℕ). x ++ y) (ap (answers e) lines ∙ p.silent) (ap (λ (g : Evening). live_text g bytes) (ap (after_lines e) lines ∙ p.after))
 
+all-rows : (t a b c d w : List ℕ) → t ++ ((a ++ b ++ c ++ d) ++ w) ≡ t ++ a ++ b ++ c ++ d ++ w
+all-rows t a b c d w = simp append_assoc
+
 -- where the title is that which an evening has anyway
 same-group : (asked : Option ℕ) (group : ℕ) → is_asked_group asked group ≡ true → group ≡ 65 → asked_group asked ≡ group
 same-group None group is plain = sym plain
@@ -264,7 +267,7 @@ module _ (options : LiveArgs) (m : Moment) (is : IsMoment m) (asked : is_as_aske
   moment-passes = elim (cases_Bool (is_plain_title m.title)) [
     | inl y ↦ rw y (plain-passes y)
     | inr n ↦ rw n (subst (λ (text : List ℕ). Passes (start_of options) text (at options m.title 18 (Open m.roster m.board)))
-        (sym (append_assoc (group_row m.title) (club_rows m.roster) (word_lines 1 m.board))) titled-passes)
+        (all-rows (group_row m.title) (club_row m.roster 1) (club_row m.roster 2) (club_row m.roster 3) (club_row m.roster 4) (word_lines 1 m.board)) titled-passes)
   ]
 
 pub resumed : ResumedRowsOpenTheBoard

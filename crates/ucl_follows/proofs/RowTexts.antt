@@ -449,7 +449,7 @@ title-is : (title : Title) → IsGroup title.group → title.edition ≤ 65535 �
 title-is title letter most =
     let order = (order-joins title.profile).2 in
     let back = number-back 5 title.edition (omega arith) (omega arith) (omega arith) in
-    rw (le-leb 65 title.group letter.0, le-leb title.group 72 letter.1, order, back, le-leb title.edition 65535 most) refl
+    rw (le-leb 65 title.group letter.0, le-leb title.group 72 letter.1, order, back, le-leb 0 title.edition (omega arith), le-leb title.edition 65535 most) refl
 
 group-parts : (letter order edition : List ℕ) → group_text letter order edition ≡ codes "group," ++ letter ++ codes "," ++ order ++ codes "," ++ edition ++ codes "\n"
 group-parts letter order edition = simp append_assoc

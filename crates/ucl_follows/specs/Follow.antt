@@ -45,7 +45,7 @@ club_row clubs slot =
 -- the row of the group, where there is one, those of the four clubs, and those of the twelve words
 abbrev pub resuming_rows : Moment → List ℕ
 resuming_rows moment =
-    title_rows moment.title ++ (club_row moment.roster 1 ++ club_row moment.roster 2 ++ club_row moment.roster 3 ++ club_row moment.roster 4) ++ word_lines 1 moment.board
+    title_rows moment.title ++ club_row moment.roster 1 ++ club_row moment.roster 2 ++ club_row moment.roster 3 ++ club_row moment.roster 4 ++ word_lines 1 moment.board
 
 -- ---- what is shown
 
