@@ -312,6 +312,23 @@ class Style:
         self.group = words[words.index("--group") + 1] if "--group" in words else "A"
         self.order = words[words.index("--order") + 1] if "--order" in words else "uefa"
         self.edition = 0
+        self.asked = {word[2:]: words[words.index(word) + 1] for word in ("--group", "--order") if word in words}
+
+    def take(self, fields):
+        """Takes a row of a group; False where it is none."""
+        _, group, order, edition = fields
+        number = int(edition) if re.fullmatch("[0-9]{1,5}", edition) else 65536
+        if len(group) != 1 or group not in "ABCDEFGH" or order not in ("uefa", "away-in-tie") or number > 65535:
+            return False
+        if {"group": group, "order": order, **self.asked} != {"group": group, "order": order}:
+            raise Fault("error: the row of the group differs from --group or --order")
+        self.group, self.order, self.edition = group, order, number
+        return True
+
+    def row(self):
+        """The row of the group, where an evening would not have it anyway."""
+        said = f"group,{self.group},{self.order},{self.edition}\n"
+        return "" if said == "group,A,uefa,0\n" else said
 
     def screen(self, matches, roster):
         """The screen."""
@@ -350,7 +367,7 @@ class Evening:
 
     def __init__(self, words):
         self.is_json, self.with_screens, self.style = "json" in words, "--screens" in words, Style(words)
-        self.roster, self.given, self.matches = [], [], None
+        self.roster, self.given, self.matches, self.begun, self.resumed = [], [], None, False, "--resumed" in words
 
     def told(self, row, members, text):
         """An answer in its form."""
@@ -380,8 +397,12 @@ class Evening:
 
     def beginning(self, row, fields):
         """Takes a row of the clubs or the words; False where the row is none of these."""
-        place = len(self.roster)
-        is_word = self.matches is None and (self.given or len(fields) == 4 and fields[0] == "word")
+        place, first, self.begun = len(self.roster), not self.begun, True
+        if first and len(fields) == 4 and fields[0] == "group":
+            if not self.style.take(fields):
+                raise Fault(f"input refused 20: row {row}")
+            return True
+        is_word = self.matches is None and (self.resumed or self.given or len(fields) == 4 and fields[0] == "word")
         if place == 4 and not is_word:
             return False
         said = club(fields, place + 1) if place < 4 else word(fields, len(self.given) + 1)
@@ -417,10 +438,10 @@ class Evening:
         lines = lines[:-1] if not lines[-1] else lines
         try:
             answers = [answer for row, line in enumerate(lines, 1) for answer in self.answers(row, line)]
-            if len(self.roster) < 4 or (self.given and self.matches is None):
+            if len(self.roster) < 4 or ((self.given or self.resumed) and self.matches is None):
                 raise Fault(f"input refused 20: row {len(lines) + 1}")
         except Fault as fault:
-            return 3, "", f"{fault}\n"
+            return 2 if str(fault).startswith("error") else 3, "", f"{fault}\n"
         return 0, "".join(answers), ""
 
 
@@ -458,5 +479,7 @@ def followed(words, text):
         quoted = lambda name: '"' + name.replace('"', '""') + '"'
         if newest is None:
             return 3, "", f"no moment in {len(lines)} lines: there is nothing to go on from\n"
-        output = "".join(f"club,{slot},{quoted(name)},{c}\n" for slot, (name, c) in enumerate(newest[3], 1)) + sheet(newest[4])
+        style = Style(["--group", newest[0], "--order", newest[1]])
+        style.edition = newest[2]
+        output = style.row() + "".join(f"club,{slot},{quoted(name)},{c}\n" for slot, (name, c) in enumerate(newest[3], 1)) + sheet(newest[4])
     return 0, output, f"{len(lines)} lines, {shown} shown, {len(lines) - shown} passed over\n"

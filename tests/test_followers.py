@@ -42,6 +42,44 @@ test_journals = tabled({
     "rows of a line that is cut": ("ucl_follow --resume", FIRST[:-1], "", 3, vain(0)),
 })
 
+TITLED = "group,C,away-in-tie,1\n"
+test_rows_of_a_group = tabled({
+    "of another group, order and edition": ("ucl_follow --resume", journal_of(TITLED + NIGHT), followed(["--resume"], journal_of(TITLED + NIGHT))[1], 0, told(len(LINES), count)),
+    "asked for": ("ucl_live --group C --order away-in-tie", TITLED + NIGHT, *Evening([]).of(TITLED + NIGHT)[1::-1], ""),
+    "not asked for": ("ucl_live --screens", TITLED + NIGHT, *Evening(["--screens"]).of(TITLED + NIGHT)[1::-1], ""),
+    "another group than was asked for": ("ucl_live --group A", TITLED + NIGHT, "", 2, "error: the row of the group differs from --group or --order\n"),
+    "another order than was asked for": ("ucl_live --order uefa", TITLED + NIGHT, "", 2, "error: the row of the group differs from --group or --order\n"),
+    "twice": ("ucl_live", TITLED * 2 + NIGHT, "", 3, "input refused 20: row 2\n"),
+    "after a club": ("ucl_live", CLUBS[: CLUBS.index("\n") + 1] + TITLED, "", 3, "input refused 20: row 2\n"),
+    "alone": ("ucl_live", TITLED, "", 3, "input refused 20: row 2\n"),
+    **{f"a bad one, {row!r}": ("ucl_live", row + "\n" + NIGHT, "", 3, "input refused 20: row 1\n")
+       for row in ("group,I,uefa,1", "group,,uefa,1", "group,AB,uefa,1", "group,A,goals,1", "group,A,uefa,65536", "group,A,uefa,", "group,A,uefa,-1", "group,A,uefa,000001", "group,A,uefa", "group,A,uefa,1,")},
+    "in a script of nights": ("ucl_night feed", TITLED + NIGHT, "", 3, "input refused 20: row 1\n"),
+    "no words where they have to come": ("ucl_live --resumed", CLUBS + "1,1,0,kickoff\n", "", 3, "input refused 20: row 5\n"),
+    "no words at the end": ("ucl_live --resumed", CLUBS, "", 3, "input refused 20: row 5\n"),
+    "words where they have to come": ("ucl_live --resumed", followed(["--resume"], FIRST)[1] + "screen,,,\n", SCREEN, 0, ""),
+})
+
+
+def test_evening_of_another_group_goes_on(run):
+    """As that group, by that order and in that edition, from its journal alone."""
+    journal = run("ucl_live", "--format", "json", input=TITLED + CLUBS + "screen,,,\n" + "".join(ROWS[:30])).output
+    start = run("ucl_follow", "--resume", input=journal).output
+    assert start.startswith(TITLED + "club,1,")
+    goes_on = run("ucl_live", "--resumed", "--format", "json", input=start + "".join(ROWS[30:])).output
+    said = [json.loads(line) for line in goes_on.splitlines() if '"clubs"' in line]
+    assert said and all((it["group"], it["order"], it["edition"]) == ("C", "away-in-tie", 1) for it in said)
+    last = lambda text: run("ucl_live", input=text + "screen,,,\nwords,,,\n").output.splitlines()[-18:]
+    assert last(start + "".join(ROWS[30:])) == last(TITLED + CLUBS + "".join(ROWS))
+
+
+def test_late_row_of_an_old_edition(run):
+    """A board that was begun again in the next edition tells it in each line: a follower passes over what the old one tells."""
+    old = run("ucl_live", "--format", "json", input=NIGHT).output
+    new = run("ucl_live", "--format", "json", input="group,A,uefa,1\n" + CLUBS + "1,1,0,kickoff\n").output
+    assert run("ucl_follow", input=new + old).output == run("ucl_follow", input=new).output
+
+
 VALUE = json.loads(SECOND)
 changed = lambda **members: json.dumps({**VALUE, **members}, ensure_ascii=False) + "\n"
 first_club = lambda **members: changed(clubs=[{**VALUE["clubs"][0], **members}, *VALUE["clubs"][1:]])

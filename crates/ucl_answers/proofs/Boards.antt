@@ -22,6 +22,7 @@ use Rattle.ucl_screen.specs.declared.night.NightEvent.{NightEvent}
 use Rattle.ucl_screen.specs.Numbers.{in_range, number}
 use Rattle.ucl_screen.specs.Events.{◌>>=◌, event_of}
 use Rattle.ucl_screen.specs.Rows.{FourFields}
+use Rattle.ucl_json.specs.declared.title.Title.{Title}
 use Rattle.ucl_command.specs.declared.options.Format.{Format}
 use Rattle.ucl_command.specs.declared.options.Format.TheVariants.{Text, Json}
 use Rattle.ucl_command.specs.declared.live.LiveArgs.{LiveArgs}
@@ -31,9 +32,9 @@ use Rattle.ucl_answers.specs.BadRows.{bad_field, shown_text}
 use Rattle.ucl_answers.specs.Requests.{asked_by, event_or_bad, request_of}
 use Rattle.ucl_answers.specs.Rows.{Said, Nothing, Garbled, Row, said_on}
 use Rattle.ucl_answers.specs.Stages.{Stage, Open, Restoring, next_board, next_stage}
-use Rattle.ucl_answers.specs.Text.{Evening, after_lines, answer_said, answer_of, answers, next, reply_answer, reply_in, screen_after}
+use Rattle.ucl_answers.specs.Text.{Evening, after_lines, answer_said, answer_of, answers, next, next_title, reply_answer, screen_after}
 use Rattle.ucl_answers.specs.ByHistory.{answer_by_history, answers_by_history, attempts_in, attempts_of, attempts_on, line_by_history, reply_by_history}
-use Rattle.ucl_answers.specs.Laws.{BoardsTakeEvents, EveningsAreSequential, FirstRowsOpenTheBoard, IsOtherRow, RefusedEveningsAreSilent, RepliesAreThoseOfFeed}
+use Rattle.ucl_answers.specs.Laws.{BoardsTakeEvents, EveningsAreSequential, FirstRowsOpenTheBoard, IsOtherRow, RefusedEveningsAreSilent, RepliesAreThoseOfFeed, fresh_at}
 use Rattle.ucl_answers.proofs.Silence.{refused-shut, silent}
 
 -- an event is of a reporter and a match that there are
@@ -129,17 +130,17 @@ fold-said board Nothing more = refl
 fold-said board Garbled more = refl
 fold-said board (Row f) more = fold-request board (request_of (Row f)) more
 
-next-open : (row : ℕ) (clubs : List NamedClub) (board : List ℕ) (r : Said) → next_stage row (Open clubs board) r ≡ Open clubs (board_on board r)
-next-open row clubs board Nothing = refl
-next-open row clubs board Garbled = refl
-next-open row clubs board (Row f) = refl
+next-open : (options : LiveArgs) (row : ℕ) (clubs : List NamedClub) (board : List ℕ) (r : Said) → next_stage options row (Open clubs board) r ≡ Open clubs (board_on board r)
+next-open options row clubs board Nothing = refl
+next-open options row clubs board Garbled = refl
+next-open options row clubs board (Row f) = refl
 
 pub boards : BoardsTakeEvents
 unfolding after_lines attempts_in
 boards e [] clubs board h = h
 boards e (line ∷ lines) clubs board h =
     let r = said_on e.row line in
-    let there : next_stage e.row e.stage r ≡ Open clubs (board_on board r) = ap (λ (s : Stage). next_stage e.row s r) h ∙ next-open e.row clubs board r in
+    let there : next_stage e.options e.row e.stage r ≡ Open clubs (board_on board r) = ap (λ (s : Stage). next_stage e.options e.row s r) h ∙ next-open e.options e.row clubs board r in
     boards (next e r) lines clubs (board_on board r) there ∙ ap (λ (b : List ℕ). Open clubs b) (sym (fold-said board r (attempts_in (e.row + 1) lines)))
 
 -- ---- the history
@@ -159,45 +160,47 @@ attempts-board h (a ∷ attempts) legal all =
 
 pub replies : RepliesAreThoseOfFeed
 unfolding reply_line
-replies options clubs board history row event legal game =
+replies title clubs board history row event legal game =
     ap₂ (λ (before : ℕ) (reply : Result Accepted Refusal). line_of_reply row event.call.game before reply) (versions history legal).0 (reply_is history (board_of history) event.call legal refl game)
 
-reply-answer : (format : Format) (options : LiveArgs) (row : ℕ) (clubs : List NamedClub) (history : List Entry) (event : NightEvent)
-    → reply_in format options row clubs event (length history) (sequential_reply history event.call) (board_of (after_attempt history (attempt_of event)))
-    ≡ reply_by_history format options row clubs history event
+reply-answer : (format : Format) (title : Title) (row : ℕ) (clubs : List NamedClub) (history : List Entry) (event : NightEvent)
+    → reply_answer format title row clubs event (length history) (sequential_reply history event.call) (board_of (after_attempt history (attempt_of event)))
+    ≡ reply_by_history format title row clubs history event
 unfolding reply_line
-reply-answer Text options row clubs history event = refl
-reply-answer Json options row clubs history event = refl
+reply-answer Text title row clubs history event = refl
+reply-answer Json title row clubs history event = refl
 
 -- ---- answers
 
 first : (a : Attempt) (attempts : List Attempt) → All IsAttempt (a ∷ attempts) → IsAttempt a
 first a attempts all = All-head IsAttempt a attempts all
 
-event-answer : (options : LiveArgs) (row : ℕ) (clubs : List NamedClub) (history : List Entry) (event : NightEvent) (shown : List ℕ) → IsLegal history → IsAttempt (attempt_of event)
-    → answer_of options row clubs (board_of history) (Event event) shown ≡ answer_by_history options row clubs history (Event event) shown
-event-answer options row clubs history event shown legal is =
+event-answer : (options : LiveArgs) (title : Title) (row : ℕ) (clubs : List NamedClub) (history : List Entry) (event : NightEvent) (shown : List ℕ) → IsLegal history → IsAttempt (attempt_of event)
+    → answer_of options title row clubs (board_of history) (Event event) shown ≡ answer_by_history options title row clubs history (Event event) shown
+event-answer options title row clubs history event shown legal is =
     let call = event.call in
     let reply : reply_of (game_at (board_of history) call.game) call ≡ sequential_reply history call = reply_is history (board_of history) call legal refl is.1 in
     let after = attempt_board history (attempt_of event) legal is in
-    let told = ap₂ (λ (before : ℕ) (r : Result Accepted Refusal). reply_answer options row clubs event before r (next_board (board_of history) (Event event))) (versions history legal).0 reply in
-    let stands = ap (λ (board : List ℕ). reply_answer options row clubs event (length history) (sequential_reply history call) board) after in
-    let line = told ∙ stands ∙ reply-answer options.format options row clubs history event in
-    let screen = ap₂ (λ (r : Result Accepted Refusal) (board : List ℕ). screen_after options row clubs r board) reply after in
+    let told =
+    ap₂ (λ (before : ℕ) (r : Result Accepted Refusal). reply_answer options.format title row clubs event before r (next_board (board_of history) (Event event))) (versions history legal).0 reply in
+    let stands = ap (λ (board : List ℕ). reply_answer options.format title row clubs event (length history) (sequential_reply history call) board) after in
+    let line = told ∙ stands ∙ reply-answer options.format title row clubs history event in
+    let screen = ap₂ (λ (r : Result Accepted Refusal) (board : List ℕ). screen_after options title row clubs r board) reply after in
     ap₂ (λ (a b : List ℕ). a ++ b) line screen
 
-request-answer : (options : LiveArgs) (row : ℕ) (clubs : List NamedClub) (history : List Entry) (request : Request) (shown : List ℕ) → IsLegal history → All IsAttempt (attempts_of request)
-    → answer_of options row clubs (board_of history) request shown ≡ answer_by_history options row clubs history request shown
-request-answer options row clubs history (Event event) shown legal all = event-answer options row clubs history event shown legal (first (attempt_of event) [] all)
-request-answer options row clubs history (Bad field) shown legal all = refl
-request-answer options row clubs history Screen shown legal all = refl
-request-answer options row clubs history Words shown legal all = refl
+request-answer : (options : LiveArgs) (title : Title) (row : ℕ) (clubs : List NamedClub) (history : List Entry) (request : Request) (shown : List ℕ) → IsLegal history
+    → All IsAttempt (attempts_of request)
+    → answer_of options title row clubs (board_of history) request shown ≡ answer_by_history options title row clubs history request shown
+request-answer options title row clubs history (Event event) shown legal all = event-answer options title row clubs history event shown legal (first (attempt_of event) [] all)
+request-answer options title row clubs history (Bad field) shown legal all = refl
+request-answer options title row clubs history Screen shown legal all = refl
+request-answer options title row clubs history Words shown legal all = refl
 
 said-answer : (e : Evening) (clubs : List NamedClub) (history : List Entry) (r : Said) (shown : List ℕ) → IsLegal history → e.stage ≡ Open clubs (board_of history)
-    → answer_said e r shown ≡ line_by_history e.options e.row clubs history r shown
+    → answer_said e r shown ≡ line_by_history e.options e.title e.row clubs history r shown
 said-answer e clubs history Nothing shown legal h = refl
 said-answer e clubs history Garbled shown legal h = rw h refl
-said-answer e clubs history (Row f) shown legal h = rw h (request-answer e.options e.row clubs history (request_of (Row f)) shown legal (asked f))
+said-answer e clubs history (Row f) shown legal h = rw h (request-answer e.options e.title e.row clubs history (request_of (Row f)) shown legal (asked f))
 
 -- the board that a line leaves
 said-board : (history : List Entry) (r : Said) → IsLegal history → board_on (board_of history) r ≡ board_of (fold after_attempt history (attempts_on r))
@@ -209,17 +212,22 @@ said-board history r legal = sym (fold-said (board_of history) r []) ∙ whole h
 said-stage : (e : Evening) (clubs : List NamedClub) (history : List Entry) (r : Said) → IsLegal history → e.stage ≡ Open clubs (board_of history)
     → (next e r).stage ≡ Open clubs (board_of (fold after_attempt history (attempts_on r)))
 said-stage e clubs history r legal h =
-    ap (λ (s : Stage). next_stage e.row s r) h ∙ next-open e.row clubs (board_of history) r ∙ ap (λ (b : List ℕ). Open clubs b) (said-board history r legal)
+    ap (λ (s : Stage). next_stage e.options e.row s r) h ∙ next-open e.options e.row clubs (board_of history) r ∙ ap (λ (b : List ℕ). Open clubs b) (said-board history r legal)
+
+-- an open board keeps its title
+open-title : (title : Title) (s : Stage) (r : Said) (clubs : List NamedClub) (board : List ℕ) → s ≡ Open clubs board → next_title title s r ≡ title
+open-title title s r clubs board h = rw h refl
 
 text-by-history : (e : Evening) (lines : List (List ℕ)) (clubs : List NamedClub) (history : List Entry) → IsLegal history → e.stage ≡ Open clubs (board_of history)
-    → answers e lines ≡ answers_by_history e.options e.row clubs history lines
+    → answers e lines ≡ answers_by_history e.options e.title e.row clubs history lines
 unfolding answers answers_by_history
 text-by-history e [] clubs history legal h = refl
 text-by-history e (line ∷ lines) clubs history legal h =
     let r = said_on e.row line in
     let later = fold after_attempt history (attempts_on r) in
     ap₂ (λ (a b : List ℕ). a ++ b) (said-answer e clubs history r (shown_text line) legal h)
-    (text-by-history (next e r) lines clubs later (attempts-legal history (attempts_on r) legal (said-attempts r)) (said-stage e clubs history r legal h))
+    (text-by-history (next e r) lines clubs later (attempts-legal history (attempts_on r) legal (said-attempts r)) (said-stage e clubs history r legal h)
+    ∙ ap (λ (t : Title). answers_by_history e.options t (e.row + 1) clubs later lines) (open-title e.title e.stage r clubs (board_of history) h))
 
 pub sequential : EveningsAreSequential
 sequential e lines clubs history legal h =
@@ -231,24 +239,24 @@ sequential e lines clubs history legal h =
 
 -- ---- the first row
 
-first-answer : (e : Evening) (clubs : List NamedClub) (r : Said) (shown : List ℕ) → e.stage ≡ Restoring clubs [] → IsOtherRow r
-    → answer_said e r shown ≡ answer_said (record { options = e.options; row = e.row; stage = Open clubs (board_of []) }) r shown
-first-answer e clubs Nothing shown h k = absurd k
-first-answer e clubs Garbled shown h k = rw h refl
-first-answer e clubs (Row f) shown h k = rw (h, k) refl
+first-answer : (e : Evening) (clubs : List NamedClub) (r : Said) (shown : List ℕ) → e.options.resumed ≡ false → e.stage ≡ Restoring clubs [] → IsOtherRow r
+    → answer_said e r shown ≡ answer_said (fresh_at e clubs) r shown
+first-answer e clubs Nothing shown new h k = absurd k
+first-answer e clubs Garbled shown new h k = rw (h, new) refl
+first-answer e clubs (Row f) shown new h k = rw (h, new, k) refl
 
-first-next : (e : Evening) (clubs : List NamedClub) (r : Said) → e.stage ≡ Restoring clubs [] → IsOtherRow r
-    → next e r ≡ next (record { options = e.options; row = e.row; stage = Open clubs (board_of []) }) r
-first-next e clubs Nothing h k = absurd k
-first-next e clubs Garbled h k = rw h refl
-first-next e clubs (Row f) h k = rw (h, k) refl
+first-next : (e : Evening) (clubs : List NamedClub) (r : Said) → e.options.resumed ≡ false → e.stage ≡ Restoring clubs [] → IsOtherRow r
+    → next e r ≡ next (fresh_at e clubs) r
+first-next e clubs Nothing new h k = absurd k
+first-next e clubs Garbled new h k = rw (h, new) refl
+first-next e clubs (Row f) new h k = rw (h, new, k) refl
 
 pub first-rows : FirstRowsOpenTheBoard
 unfolding answers after_lines
-first-rows e clubs line lines h k =
+first-rows e clubs line lines new h k =
     let r = said_on e.row line in
-    let there = first-next e clubs r h k in record {
-      text = ap₂ (λ (a b : List ℕ). a ++ b) (first-answer e clubs r (shown_text line) h k) (ap (λ (f : Evening). answers f lines) there);
+    let there = first-next e clubs r new h k in record {
+      text = ap₂ (λ (a b : List ℕ). a ++ b) (first-answer e clubs r (shown_text line) new h k) (ap (λ (f : Evening). answers f lines) there);
       after = ap (λ (f : Evening). after_lines f lines) there;
     }
 

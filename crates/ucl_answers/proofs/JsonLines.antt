@@ -8,8 +8,10 @@ use Rattle.ucl_board.specs.Words.{game_at, version_of}
 use Rattle.ucl_order.specs.Roster.{NamedClub}
 use Rattle.ucl_screen.specs.declared.night.NightEvent.{NightEvent}
 use Rattle.ucl_json.specs.Lines.{AreLinesOfValues}
+use Rattle.ucl_json.specs.declared.title.Title.{Title}
 use Rattle.ucl_json.specs.Values.{bad_row_value, edition_screen_value, reply_value, words_value}
 use Rattle.ucl_json.proofs.OneLine.{line_of_value, lines_then, no_lines}
+use Rattle.ucl_command.specs.declared.options.Format.{Format}
 use Rattle.ucl_command.specs.declared.options.Format.TheVariants.{Json}
 use Rattle.ucl_command.specs.declared.live.LiveArgs.{LiveArgs}
 use Rattle.ucl_answers.specs.declared.request.Request.{Request}
@@ -17,47 +19,50 @@ use Rattle.ucl_answers.specs.declared.request.Request.TheVariants.{Bad, Event, S
 use Rattle.ucl_answers.specs.Rows.{Said, Nothing, Garbled, Row, said_on}
 use Rattle.ucl_answers.specs.BadRows.{field_name, shown_text}
 use Rattle.ucl_answers.specs.Requests.{request_of}
-use Rattle.ucl_answers.specs.Stages.{Stage, Naming, Restoring, Open, Refused, next_board, opened}
-use Rattle.ucl_answers.specs.Text.{Evening, answer_said, answer_at, answer_of, answers, next, reply_answer, screen_after, screen_answer, title_of}
+use Rattle.ucl_answers.specs.Stages.{Stage, Beginning, Naming, Restoring, Open, Refused, next_board, opened}
+use Rattle.ucl_answers.specs.Text.{Evening, answer_said, answer_at, answer_of, answers, next, reply_answer, screen_after, screen_answer}
 use Rattle.ucl_answers.specs.Laws.{JsonAnswersAreLines}
 
-screen-line : (options : LiveArgs) (row : ℕ) (clubs : List NamedClub) (board : List ℕ) → options.format ≡ Json → AreLinesOfValues (screen_answer options row clubs board)
-screen-line options row clubs board h = rw h (line_of_value (edition_screen_value row (title_of options) board clubs))
+screen-line : (format : Format) (title : Title) (row : ℕ) (clubs : List NamedClub) (board : List ℕ) → format ≡ Json → AreLinesOfValues (screen_answer format title row clubs board)
+screen-line format title row clubs board h = rw h (line_of_value (edition_screen_value row title board clubs))
 
 wanted : (b : Bool) (text : List ℕ) → AreLinesOfValues text → AreLinesOfValues (if b then text else [])
 wanted true text p = p
 wanted false text p = no_lines
 
-after-line : (options : LiveArgs) (row : ℕ) (clubs : List NamedClub) (reply : Result Accepted Refusal) (board : List ℕ)
-    → options.format ≡ Json → AreLinesOfValues (screen_after options row clubs reply board)
-after-line options row clubs (Ok accepted) board h = wanted options.screens (screen_answer options row clubs board) (screen-line options row clubs board h)
-after-line options row clubs (Err refusal) board h = no_lines
+after-line : (options : LiveArgs) (title : Title) (row : ℕ) (clubs : List NamedClub) (reply : Result Accepted Refusal) (board : List ℕ)
+    → options.format ≡ Json → AreLinesOfValues (screen_after options title row clubs reply board)
+after-line options title row clubs (Ok accepted) board h =
+    wanted options.screens (screen_answer options.format title row clubs board) (screen-line options.format title row clubs board h)
+after-line options title row clubs (Err refusal) board h = no_lines
 
-reply-lines : (options : LiveArgs) (row : ℕ) (clubs : List NamedClub) (event : NightEvent) (before : ℕ) (reply : Result Accepted Refusal) (board : List ℕ) → options.format ≡ Json
-    → AreLinesOfValues (reply_answer options row clubs event before reply board)
-reply-lines options row clubs event before reply board h = rw h (line_of_value (reply_value row event reply (title_of options) board clubs))
+reply-lines : (format : Format) (title : Title) (row : ℕ) (clubs : List NamedClub) (event : NightEvent) (before : ℕ) (reply : Result Accepted Refusal) (board : List ℕ) → format ≡ Json
+    → AreLinesOfValues (reply_answer format title row clubs event before reply board)
+reply-lines format title row clubs event before reply board h = rw h (line_of_value (reply_value row event reply title board clubs))
 
-request-lines : (options : LiveArgs) (row : ℕ) (clubs : List NamedClub) (board : List ℕ) (request : Request) (shown : List ℕ) → options.format ≡ Json
-    → AreLinesOfValues (answer_of options row clubs board request shown)
-request-lines options row clubs board (Event event) shown h =
+request-lines : (options : LiveArgs) (title : Title) (row : ℕ) (clubs : List NamedClub) (board : List ℕ) (request : Request) (shown : List ℕ) → options.format ≡ Json
+    → AreLinesOfValues (answer_of options title row clubs board request shown)
+request-lines options title row clubs board (Event event) shown h =
     let reply = reply_of (game_at board event.call.game) event.call in
     let after = next_board board (Event event) in
-    lines_then (reply_answer options row clubs event (version_of board) reply after) (screen_after options row clubs reply after)
-    (reply-lines options row clubs event (version_of board) reply after h) (after-line options row clubs reply after h)
-request-lines options row clubs board (Bad field) shown h = rw h (line_of_value (bad_row_value row (field_name field) shown))
-request-lines options row clubs board Screen shown h = screen-line options row clubs board h
-request-lines options row clubs board Words shown h = rw h (line_of_value (words_value row board))
+    lines_then (reply_answer options.format title row clubs event (version_of board) reply after) (screen_after options title row clubs reply after)
+    (reply-lines options.format title row clubs event (version_of board) reply after h) (after-line options title row clubs reply after h)
+request-lines options title row clubs board (Bad field) shown h = rw h (line_of_value (bad_row_value row (field_name field) shown))
+request-lines options title row clubs board Screen shown h = screen-line options.format title row clubs board h
+request-lines options title row clubs board Words shown h = rw h (line_of_value (words_value row board))
 
-stage-lines : (options : LiveArgs) (row : ℕ) (stage : Stage) (request : Request) (shown : List ℕ) → options.format ≡ Json → AreLinesOfValues (answer_at options row stage request shown)
-stage-lines options row (Naming clubs) request shown h = no_lines
-stage-lines options row (Restoring clubs words) request shown h = no_lines
-stage-lines options row (Open clubs board) request shown h = request-lines options row clubs board request shown h
-stage-lines options row (Refused fault) request shown h = no_lines
+stage-lines : (options : LiveArgs) (title : Title) (row : ℕ) (stage : Stage) (request : Request) (shown : List ℕ) → options.format ≡ Json
+    → AreLinesOfValues (answer_at options title row stage request shown)
+stage-lines options title row Beginning request shown h = no_lines
+stage-lines options title row (Naming clubs) request shown h = no_lines
+stage-lines options title row (Restoring clubs words) request shown h = no_lines
+stage-lines options title row (Open clubs board) request shown h = request-lines options title row clubs board request shown h
+stage-lines options title row (Refused fault) request shown h = no_lines
 
 said-lines : (e : Evening) (said : Said) (shown : List ℕ) → e.options.format ≡ Json → AreLinesOfValues (answer_said e said shown)
 said-lines e Nothing shown h = no_lines
-said-lines e Garbled shown h = stage-lines e.options e.row (opened e.stage Garbled) (request_of Garbled) shown h
-said-lines e (Row f) shown h = stage-lines e.options e.row (opened e.stage (Row f)) (request_of (Row f)) shown h
+said-lines e Garbled shown h = stage-lines e.options e.title e.row (opened e.options e.stage Garbled) (request_of Garbled) shown h
+said-lines e (Row f) shown h = stage-lines e.options e.title e.row (opened e.options e.stage (Row f)) (request_of (Row f)) shown h
 
 pub json-lines : JsonAnswersAreLines
 unfolding answers

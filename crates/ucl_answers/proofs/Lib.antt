@@ -13,3 +13,4 @@ pub mod Uncut
 pub mod Told
 pub mod GoodBoards
 pub mod SameText
+pub mod TitleRows

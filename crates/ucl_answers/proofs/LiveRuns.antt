@@ -2,7 +2,6 @@
 use Rattle.std.proofs.Common.{◌≡◌, ◌⊎◌, ℕ, ◌+◌, Bool, false, List, [], ◌∷◌, ◌++◌, length, Some, None, refl, sym, ap, ap₂, ◌∙◌, inl, inr, append-nil, subst, arith}
 use Rattle.std.specs.Prelude.{Result, Ok, Err, IfSome}
 use Rattle.std.specs.Io.KnownBytes.{Appends}
-use Rattle.ucl_screen.specs.declared.fault.InputFault.{InputFault}
 use Rattle.ucl_io.specs.declared.fault.PumpFault.{PumpFault}
 use Rattle.ucl_io.specs.declared.fault.PumpFault.TheVariants.{Machine, ReadFailed, TooLong, WriteFailed}
 use Rattle.ucl_io.specs.Calls.{Device}
@@ -18,7 +17,6 @@ use Rattle.ucl_answers.specs.declared.evening.Evening.{Evening as Held}
 use Rattle.ucl_answers.specs.declared.fault.BeginningFault.{BeginningFault}
 use Rattle.ucl_answers.specs.declared.fault.LiveFault.{LiveFault}
 use Rattle.ucl_answers.specs.declared.fault.LiveFault.TheVariants.{Beginning, OutOfMemory}
-use Rattle.ucl_answers.specs.Faults.{input_fault}
 use Rattle.ucl_answers.specs.Holding.{AsksForMemory, Closes, HasNoAnswer, HasNoEnd, IsAnsweredSoFar, LiveFails, LiveFailsAfter, RanOut, WriteStops, after_bytes, answers_to, evening_of, missing_at}
 use Rattle.ucl_answers.specs.Lines.{last_lines}
 use Rattle.ucl_answers.specs.BadRows.{shown_text}
@@ -103,23 +101,24 @@ module _ (old new : Seen Held) where
 
     -- ---- a refused evening, which has answered nothing
 
-    line_refused : (fault : BeginningFault) → StopsNext Stops 1 old.machine turns rest (Beginning fault) → (after_bytes start bytes).stage ≡ Refused (input_fault fault)
+    line_refused : (fault : BeginningFault) → StopsNext Stops 1 old.machine turns rest (Beginning fault) → (after_bytes start bytes).stage ≡ Refused fault
     line_refused fault s =
         let lines = p.lines_are ∙ ap (λ (l : List (List ℕ)). lines_in turns ++ l) s.next in
         let after = after-append start (lines_in turns) (s.line ∷ s.later) ∙ ap (λ (k : Evening). after_lines k (s.line ∷ s.later)) (sym reaches) ∙ after-one reached s.line s.later in
-        ap (λ (k : Evening). k.stage) (ap (after_lines start) lines ∙ after) ∙ stays-refused (next reached (said_on reached.row s.line)) s.later (input_fault fault) s.stops
+        ap (λ (k : Evening). k.stage) (ap (after_lines start) lines ∙ after) ∙ stays-refused (next reached (said_on reached.row s.line)) s.later fault s.stops
 
     line_silent : (fault : BeginningFault) → StopsNext Stops 1 old.machine turns rest (Beginning fault) → text_in turns ≡ []
     line_silent fault s =
         let lines = p.lines_are ∙ ap (λ (l : List (List ℕ)). lines_in turns ++ l) s.next in
-        let shut = refused-shut _ (input_fault fault) (line_refused fault s) in
+        let shut = refused-shut _ fault (line_refused fault s) in
         let early = subst (λ (k : Evening). is_open k.stage ≡ false) (ap (after_lines start) lines ∙ after-append start (lines_in turns) (s.line ∷ s.later)) shut in
         shows turns p.turned ∙ silent start (lines_in turns) (shut-lines (after_lines start (lines_in turns)) (s.line ∷ s.later) early)
 
-    end_silent : (fault : InputFault) → rest ≡ [] → missing_at reached begun ≡ Some fault → text_in turns ≡ []
+    end_silent : (fault : BeginningFault) → rest ≡ [] → missing_at reached begun ≡ Some fault → text_in turns ≡ []
     end_silent fault none h =
         let here = subst (λ (k : Evening). missing_at k begun ≡ Some fault) (all_reached none) h in
-        let shut = shut-lines (after_bytes start bytes) (last_lines begun) (missing-shut _ _ fault here) in
+        let last = after_lines (after_bytes start bytes) (last_lines begun) in
+        let shut = shut-lines (after_bytes start bytes) (last_lines begun) (missing-shut last.options last.row last.stage fault here) in
         all_text none ∙ silent start (ended_lines 258 [] bytes) shut
 
     module _ (x y z sink_failed : Bool) where
@@ -160,7 +159,7 @@ module _ (old new : Seen Held) where
       stops (Beginning fault) (inl s) out = record { refused = inl (line_refused fault s); out = subst (Appends old.taken new.taken) (line_silent fault s) out }
       stops (Beginning fault) (inr e) out = record {
         refused = inr (e.ended, whole-missing start bytes ∙ ap (λ (k : Evening). missing_at k begun) (sym (all_reached e.all)) ∙ e.stops);
-        out = subst (Appends old.taken new.taken) (end_silent (input_fault fault) e.all e.stops) out;
+        out = subst (Appends old.taken new.taken) (end_silent fault e.all e.stops) out;
       }
 
       cut : (written : ℕ) (text : List ℕ) (count : ℕ) → HasMade (rules_of Answers Stops Ends StopsAtEnd) 258 4096 old new bytes turns rest text count

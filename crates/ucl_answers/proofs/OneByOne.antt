@@ -1,18 +1,19 @@
 -- Lines that are answered one after the other.
 use Rattle.std.proofs.Common.{◌≡◌, ℕ, ◌+◌, ◌-◌, ◌^◌, min, List, [], ◌∷◌, ◌++◌, Some, refl, sym, ap, ◌∙◌, append_assoc, append-nil, arith}
-use Rattle.ucl_screen.specs.declared.fault.InputFault.TheVariants.{BadRow}
+use Rattle.std.specs.Prelude.{if◌then◌else◌, None}
+use Rattle.ucl_answers.specs.declared.fault.BeginningFault.TheVariants.{BadRow}
 use Rattle.ucl_io.specs.Lines.{begun_line, ended_lines}
 use Rattle.ucl_io.proofs.Cuts.{begun_append, begun_ended, ended_append}
 use Rattle.ucl_answers.specs.declared.fault.LiveFault.{LiveFault}
-use Rattle.ucl_answers.specs.declared.fault.LiveFault.TheVariants.{Beginning, OutOfMemory}
-use Rattle.ucl_answers.specs.Faults.{input_fault}
+use Rattle.ucl_answers.specs.declared.fault.LiveFault.TheVariants as live
+use Rattle.ucl_command.specs.declared.live.LiveArgs.{LiveArgs}
 use Rattle.ucl_answers.specs.Holding.{HasNoAnswer, HasNoEnd, after_bytes, answers_to, end_of, missing_at}
 use Rattle.ucl_answers.specs.Lines.{last_lines, lines_of}
 use Rattle.ucl_answers.specs.Laws.{BeginningsAreAnswered, ended}
 use Rattle.ucl_answers.specs.BadRows.{shown_text}
 use Rattle.ucl_answers.specs.Rows.{said_on}
-use Rattle.ucl_answers.specs.Stages.{Stage, Naming, Restoring, Open, Refused, missing, told_row}
-use Rattle.ucl_answers.specs.Text.{Evening, after_lines, answer_said, answers, live_text, missing_after, next}
+use Rattle.ucl_answers.specs.Stages.{Stage, Beginning, Naming, Restoring, Open, Refused, missing, told_row}
+use Rattle.ucl_answers.specs.Text.{Evening, after_lines, answer_said, answers, live_text, missing_after, missing_now, next}
 use Rattle.ucl_answers.proofs.Silence.{refused-missing}
 
 pub answers-none : (e : Evening) → answers e [] ≡ []
@@ -78,15 +79,15 @@ pub whole-end : (e : Evening) (bytes : List ℕ) → after_lines e (lines_of byt
 whole-end e bytes = after-append e (ended_lines 258 [] bytes) (last_lines (begun_line 258 [] bytes))
 
 pub whole-missing : (e : Evening) (bytes : List ℕ) → missing_after e bytes ≡ missing_at (after_bytes e bytes) (begun_line 258 [] bytes)
-whole-missing e bytes = ap (λ (k : Evening). missing k.row k.stage) (whole-end e bytes)
+whole-missing e bytes = ap missing_now (whole-end e bytes)
 
 -- ---- what has begun of a last line
 
 pub none-answers : (e : Evening) (begun : List ℕ) → begun ≡ [] → answers e (last_lines begun) ≡ []
 none-answers e begun none = ap (λ (l : List ℕ). answers e (last_lines l)) none ∙ answers-none e
 
-pub none-missing : (e : Evening) (begun : List ℕ) → begun ≡ [] → missing_at e begun ≡ missing e.row e.stage
-none-missing e begun none = ap (λ (l : List ℕ). missing_at e l) none ∙ ap (λ (k : Evening). missing k.row k.stage) (after-none e)
+pub none-missing : (e : Evening) (begun : List ℕ) → begun ≡ [] → missing_at e begun ≡ missing e.options e.row e.stage
+none-missing e begun none = ap (λ (l : List ℕ). missing_at e l) none ∙ ap missing_now (after-none e)
 
 pub some-answers : (e : Evening) (begun : List ℕ) → (begun ≡ [] → ⊥) → answers e (last_lines begun) ≡ answer_said e (said_on e.row begun) (shown_text begun)
 some-answers e [] some = absurd (some refl)
@@ -97,20 +98,21 @@ some-end e [] some = absurd (some refl)
 some-end e (b ∷ line) some = after-last e (b ∷ line)
 
 -- a greater row is told as the greatest that can be told
-told-alike : (a b : ℕ) (s : Stage) → told_row a ≡ told_row b → missing a s ≡ missing b s
-told-alike a b (Naming clubs) e = ap (λ (n : ℕ). Some (BadRow n)) e
-told-alike a b (Restoring clubs []) e = refl
-told-alike a b (Restoring clubs (word ∷ words)) e = ap (λ (n : ℕ). Some (BadRow n)) e
-told-alike a b (Open clubs board) e = refl
-told-alike a b (Refused fault) e = refl
+told-alike : (options : LiveArgs) (a b : ℕ) (s : Stage) → told_row a ≡ told_row b → missing options a s ≡ missing options b s
+told-alike options a b Beginning e = ap (λ (n : ℕ). Some (BadRow n)) e
+told-alike options a b (Naming clubs) e = ap (λ (n : ℕ). Some (BadRow n)) e
+told-alike options a b (Restoring clubs []) e = ap (λ (n : ℕ). if options.resumed then Some (BadRow n) else None) e
+told-alike options a b (Restoring clubs (word ∷ words)) e = ap (λ (n : ℕ). Some (BadRow n)) e
+told-alike options a b (Open clubs board) e = refl
+told-alike options a b (Refused fault) e = refl
 
 -- the evening after the line is this one
-pub some-missing : (e f : Evening) (begun : List ℕ) → (begun ≡ [] → ⊥) → f ≡ next e (said_on e.row begun) → missing_at e begun ≡ missing (min (e.row + 1) (2 ^ 64 - 1)) f.stage
+pub some-missing : (e f : Evening) (begun : List ℕ) → (begun ≡ [] → ⊥) → f ≡ next e (said_on e.row begun) → missing_at e begun ≡ missing f.options (min (e.row + 1) (2 ^ 64 - 1)) f.stage
 some-missing e f begun some is =
-    ap (λ (k : Evening). missing k.row k.stage) (some-end e begun some ∙ sym is) ∙ ap (λ (k : Evening). missing k.row f.stage) is
-    ∙ told-alike (e.row + 1) (min (e.row + 1) (2 ^ 64 - 1)) f.stage (omega arith)
+    ap missing_now (some-end e begun some ∙ sym is) ∙ ap (λ (k : Evening). missing f.options k.row f.stage) is
+    ∙ told-alike f.options (e.row + 1) (min (e.row + 1) (2 ^ 64 - 1)) f.stage (omega arith)
 
 pub some-stops : (e : Evening) (begun : List ℕ) (fault : LiveFault) → (begun ≡ [] → ⊥) → HasNoAnswer e (said_on e.row begun) fault → HasNoEnd e begun fault
-some-stops e begun OutOfMemory some h = h
-some-stops e begun (Beginning fault) some h =
-    ap (λ (k : Evening). missing k.row k.stage) (some-end e begun some) ∙ refused-missing (e.row + 1) (next e (said_on e.row begun)).stage (input_fault fault) h
+some-stops e begun live.OutOfMemory some h = h
+some-stops e begun (live.Beginning why) some h =
+    ap missing_now (some-end e begun some) ∙ refused-missing e.options (e.row + 1) (next e (said_on e.row begun)).stage why h

@@ -3,7 +3,7 @@ use Rattle.std.proofs.Common.{◌≡◌, ℕ, List, length, refl}
 use Rattle.std.specs.Prelude.{Ok, Err}
 use Rattle.ucl_board.specs.Words.{AreReadAs, IsFirstBad}
 use Rattle.ucl_order.specs.Roster.{NamedClub}
-use Rattle.ucl_screen.specs.declared.fault.InputFault.TheVariants.{BadWordAt}
+use Rattle.ucl_answers.specs.declared.fault.BeginningFault.TheVariants.{BadWordAt}
 use Rattle.ucl_screen.specs.WordsRead.{read_words}
 use Rattle.ucl_screen.proofs.ReadWords.{are-read, first-bad}
 use Rattle.ucl_answers.specs.Stages.{Open, Refused, with_words}

@@ -1,6 +1,6 @@
 -- An evening in JSON says what it says as text.
 use Rattle.std.proofs.Common.{◌≡◌, ◌∙◌, ℕ, ◌+◌, ◌==◌, Bool, true, false, List, [], ◌∷◌, ◌++◌, length, Option, Some, None, refl, sym, ap, inl, inr, append_assoc, append-nil, arith}
-use Rattle.std.specs.Prelude.{⊤, if◌then◌else◌, Result, Ok, Err}
+use Rattle.std.specs.Prelude.{⊤, ◌||◌, if◌then◌else◌, Result, Ok, Err}
 use Rattle.std.specs.Result.{is_ok}
 use Rattle.std.proofs.lemmas.Bool.{cases_Bool}
 use Rattle.std.proofs.lemmas.Bool.Decides.{nat_tests}
@@ -20,10 +20,13 @@ use Rattle.ucl_screen.specs.Screen.{screen_text}
 use Rattle.ucl_screen.specs.WordsRead.{read_words}
 use Rattle.ucl_screen.specs.declared.night.NightEvent.{NightEvent}
 use Rattle.ucl_json.specs.Lines.{IsOneLine, json_line}
+use Rattle.ucl_json.specs.declared.title.Title.{Title}
 use Rattle.ucl_json.specs.Values.{bad_row_value, edition_screen_value, reply_value, words_value}
 use Rattle.ucl_json.proofs.OneLine.{one_line}
-use Rattle.ucl_command.specs.declared.options.Format.TheVariants.{Json}
+use Rattle.ucl_command.specs.declared.options.Format.TheVariants.{Json, Text}
 use Rattle.ucl_command.specs.declared.live.LiveArgs.{LiveArgs}
+use Rattle.ucl_answers.specs.declared.fault.BeginningFault.TheVariants.{OtherGroup}
+use Rattle.ucl_answers.specs.Titles.{is_as_asked, is_group_row, title_said}
 use Rattle.ucl_answers.specs.declared.request.Request.{Request}
 use Rattle.ucl_answers.specs.declared.request.Request.TheVariants.{Bad, Event, Screen, Words}
 use Rattle.ucl_answers.specs.Lines.{lines_of}
@@ -31,9 +34,10 @@ use Rattle.ucl_answers.specs.Members.{text_told, texts_told}
 use Rattle.ucl_answers.specs.BadRows.{field_name, shown_text}
 use Rattle.ucl_answers.specs.Requests.{request_of}
 use Rattle.ucl_answers.specs.Rows.{Said, Nothing, Garbled, Row, said_on}
-use Rattle.ucl_answers.specs.Stages.{Stage, Naming, Restoring, Open, Refused}
-use Rattle.ucl_answers.specs.Stages.{after_club, after_row, after_word, club_said, is_word_row, next_board, next_stage, opened, restored, with_roster, with_words, word_said}
-use Rattle.ucl_answers.specs.Text.{Evening, answer_at, answer_of, answer_said, answers, bad_line, next, reply_answer, screen_after, screen_answer, start_of, title_of}
+use Rattle.ucl_answers.specs.Stages.{Stage, Beginning, Naming, Restoring, Open, Refused}
+use Rattle.ucl_answers.specs.Stages.{after_beginning, after_club, after_row, after_title, after_word}
+use Rattle.ucl_answers.specs.Stages.{club_said, is_word_row, next_board, next_stage, opened, restored, with_roster, with_words, word_said}
+use Rattle.ucl_answers.specs.Text.{Evening, answer_at, answer_of, answer_said, answers, bad_line, next, reply_answer, screen_after, next_title, screen_answer, start_of}
 use Rattle.ucl_answers.specs.Laws.{AreLinesSaying, EveningsSayTheSame, RaisesVersion, as_text}
 use Rattle.ucl_answers.proofs.Boards.{AreAttempts, asked}
 use Rattle.ucl_answers.proofs.GoodBoards.{fresh-good, good-after, read-good, version-after}
@@ -90,57 +94,56 @@ both-lines t u j k p q = record {
 
 -- ---- single answers
 
-screen-line : (options : LiveArgs) (row : ℕ) (clubs : List NamedClub) (board : List ℕ) → options.format ≡ Json
-    → AreLinesSaying (screen_answer (as_text options) row clubs board) (screen_answer options row clubs board)
-screen-line options row clubs board h =
-    rw h (value-line (edition_screen_value row (title_of options) board clubs) (screen_text options.profile board clubs options.group) (same row (title_of options) board clubs).screen)
+screen-line : (title : Title) (row : ℕ) (clubs : List NamedClub) (board : List ℕ) → AreLinesSaying (screen_answer Text title row clubs board) (screen_answer Json title row clubs board)
+screen-line title row clubs board = value-line (edition_screen_value row title board clubs) (screen_text title.profile board clubs title.group) (same row title board clubs).screen
 
 wanted : (b : Bool) (t j : List ℕ) → AreLinesSaying t j → AreLinesSaying (if b then t else []) (if b then j else [])
 wanted true t j p = p
 wanted false t j p = no-lines
 
-after-line : (options : LiveArgs) (row : ℕ) (clubs : List NamedClub) (reply : Result Accepted Refusal) (board : List ℕ) → options.format ≡ Json
-    → AreLinesSaying (screen_after (as_text options) row clubs reply board) (screen_after options row clubs reply board)
-after-line options row clubs (Ok accepted) board h =
-    wanted options.screens (screen_answer (as_text options) row clubs board) (screen_answer options row clubs board) (screen-line options row clubs board h)
-after-line options row clubs (Err refusal) board h = no-lines
+after-line : (options : LiveArgs) (title : Title) (row : ℕ) (clubs : List NamedClub) (reply : Result Accepted Refusal) (board : List ℕ) → options.format ≡ Json
+    → AreLinesSaying (screen_after (as_text options) title row clubs reply board) (screen_after options title row clubs reply board)
+after-line options title row clubs (Ok accepted) board h =
+    rw h (wanted options.screens (screen_answer Text title row clubs board) (screen_answer Json title row clubs board) (screen-line title row clubs board))
+after-line options title row clubs (Err refusal) board h = no-lines
 
-reply-line : (options : LiveArgs) (row : ℕ) (clubs : List NamedClub) (event : NightEvent) (before : ℕ) (reply : Result Accepted Refusal) (board : List ℕ) → options.format ≡ Json
-    → RaisesVersion reply before board
-    → AreLinesSaying (reply_answer (as_text options) row clubs event before reply board) (reply_answer options row clubs event before reply board)
-reply-line options row clubs event before reply board h k =
-    rw h (value-line (reply_value row event reply (title_of options) board clubs) (line_of_reply row event.call.game before reply)
-    ((same row (title_of options) board clubs).reply event before reply k))
+reply-line : (title : Title) (row : ℕ) (clubs : List NamedClub) (event : NightEvent) (before : ℕ) (reply : Result Accepted Refusal) (board : List ℕ) → RaisesVersion reply before board
+    → AreLinesSaying (reply_answer Text title row clubs event before reply board) (reply_answer Json title row clubs event before reply board)
+reply-line title row clubs event before reply board k =
+    value-line (reply_value row event reply title board clubs) (line_of_reply row event.call.game before reply) ((same row title board clubs).reply event before reply k)
 
 raised : (reply : Result Accepted Refusal) (before : ℕ) (board : List ℕ) → (is_ok reply ≡ true → version_of board ≡ before + 1) → RaisesVersion reply before board
 raised (Ok accepted) before board h = h refl
 raised (Err refusal) before board h = tt
 
-event-lines : (options : LiveArgs) (row : ℕ) (clubs : List NamedClub) (board : List ℕ) (event : NightEvent) (shown : List ℕ) → options.format ≡ Json → AreWords board → IsAttempt (attempt_of event)
-    → AreLinesSaying (answer_of (as_text options) row clubs board (Event event) shown) (answer_of options row clubs board (Event event) shown)
-event-lines options row clubs board event shown h w is =
+event-lines : (options : LiveArgs) (title : Title) (row : ℕ) (clubs : List NamedClub) (board : List ℕ) (event : NightEvent) (shown : List ℕ) → options.format ≡ Json → AreWords board
+    → IsAttempt (attempt_of event)
+    → AreLinesSaying (answer_of (as_text options) title row clubs board (Event event) shown) (answer_of options title row clubs board (Event event) shown)
+event-lines options title row clubs board event shown h w is =
     let call = event.call in
     let m = game_at board call.game in
     let reply = reply_of m call in
     let after = next_board board (Event event) in
     let raises = raised reply (version_of board) after (λ ok. version-after board (attempt_of event) w is (no_refusal m.number (refusal_of m call.expected call.kind) ok)) in
-    both-lines (reply_answer (as_text options) row clubs event (version_of board) reply after) (screen_after (as_text options) row clubs reply after)
-    (reply_answer options row clubs event (version_of board) reply after) (screen_after options row clubs reply after)
-    (reply-line options row clubs event (version_of board) reply after h raises) (after-line options row clubs reply after h)
+    both-lines (reply_answer Text title row clubs event (version_of board) reply after) (screen_after (as_text options) title row clubs reply after)
+    (reply_answer options.format title row clubs event (version_of board) reply after) (screen_after options title row clubs reply after)
+    (rw h (reply-line title row clubs event (version_of board) reply after raises)) (after-line options title row clubs reply after h)
 
-request-lines : (options : LiveArgs) (row : ℕ) (clubs : List NamedClub) (board : List ℕ) (request : Request) (shown : List ℕ) → options.format ≡ Json → AreWords board → AreAttempts request
-    → AreLinesSaying (answer_of (as_text options) row clubs board request shown) (answer_of options row clubs board request shown)
-request-lines options row clubs board (Event event) shown h w all = event-lines options row clubs board event shown h w (All-head IsAttempt (attempt_of event) [] all)
-request-lines options row clubs board (Bad field) shown h w all =
-    rw h (value-line (bad_row_value row (field_name field) shown) (bad_line row) ((same row (title_of options) board clubs).bad (field_name field) shown))
-request-lines options row clubs board Screen shown h w all = screen-line options row clubs board h
-request-lines options row clubs board Words shown h w all = rw h (value-line (words_value row board) (word_lines 1 board) (same row (title_of options) board clubs).words)
+request-lines : (options : LiveArgs) (title : Title) (row : ℕ) (clubs : List NamedClub) (board : List ℕ) (request : Request) (shown : List ℕ) → options.format ≡ Json → AreWords board
+    → AreAttempts request
+    → AreLinesSaying (answer_of (as_text options) title row clubs board request shown) (answer_of options title row clubs board request shown)
+request-lines options title row clubs board (Event event) shown h w all = event-lines options title row clubs board event shown h w (All-head IsAttempt (attempt_of event) [] all)
+request-lines options title row clubs board (Bad field) shown h w all =
+    rw h (value-line (bad_row_value row (field_name field) shown) (bad_line row) ((same row title board clubs).bad (field_name field) shown))
+request-lines options title row clubs board Screen shown h w all = rw h (screen-line title row clubs board)
+request-lines options title row clubs board Words shown h w all = rw h (value-line (words_value row board) (word_lines 1 board) (same row title board clubs).words)
 
 -- ---- lines of an evening
 
 -- a board that is open is of valid words
 abbrev Good : Stage → Type 0
 Good (Open clubs board) = AreWords board
+Good Beginning = ⊤
 Good (Naming clubs) = ⊤
 Good (Restoring clubs words) = ⊤
 Good (Refused fault) = ⊤
@@ -172,12 +175,13 @@ good-word : (row : ℕ) (clubs : List NamedClub) (words : List ℕ) (word : Opti
 good-word row clubs words None = tt
 good-word row clubs words (Some word) = good-words clubs (words ++ word ∷ [])
 
-good-opened : (s : Stage) (r : Said) → Good s → Good (opened s r)
-good-opened (Restoring clubs []) r g = either (is_word_row r) (Restoring clubs []) (Open clubs (board_of [])) tt fresh-good
-good-opened (Restoring clubs (word ∷ words)) r g = tt
-good-opened (Naming clubs) r g = tt
-good-opened (Open clubs board) r g = g
-good-opened (Refused fault) r g = tt
+good-opened : (options : LiveArgs) (s : Stage) (r : Said) → Good s → Good (opened options s r)
+good-opened options Beginning r g = tt
+good-opened options (Restoring clubs []) r g = either (options.resumed || is_word_row r) (Restoring clubs []) (Open clubs (board_of [])) tt fresh-good
+good-opened options (Restoring clubs (word ∷ words)) r g = tt
+good-opened options (Naming clubs) r g = tt
+good-opened options (Open clubs board) r g = g
+good-opened options (Refused fault) r g = tt
 
 good-board : (board : List ℕ) (request : Request) → AreWords board → AreAttempts request → AreWords (next_board board request)
 good-board board (Event event) w all = good-after board (attempt_of event) w (All-head IsAttempt (attempt_of event) [] all)
@@ -190,31 +194,76 @@ of-request Nothing = All-nil IsAttempt
 of-request Garbled = All-nil IsAttempt
 of-request (Row f) = asked f
 
-good-row : (row : ℕ) (s : Stage) (r : Said) → Good s → Good (after_row row s r)
-good-row row (Naming clubs) r g = good-club row clubs (club_said (length clubs + 1) r)
-good-row row (Restoring clubs words) r g = good-word row clubs words (word_said (length words + 1) r)
-good-row row (Open clubs board) r g = good-board board (request_of r) g (of-request r)
-good-row row (Refused fault) r g = tt
+good-title : (options : LiveArgs) (row : ℕ) (title : Option Title) → Good (after_title options row title)
+good-title options row None = tt
+good-title options row (Some title) = either (is_as_asked options title) (Naming []) (Refused OtherGroup) tt tt
 
-good-next : (row : ℕ) (s : Stage) (r : Said) → Good s → Good (next_stage row s r)
-good-next row s Nothing g = g
-good-next row s Garbled g = good-row row (opened s Garbled) Garbled (good-opened s Garbled g)
-good-next row s (Row f) g = good-row row (opened s (Row f)) (Row f) (good-opened s (Row f) g)
+good-first : (options : LiveArgs) (row : ℕ) (r : Said) → Good (after_beginning options row r)
+good-first options row r =
+    either (is_group_row r) (after_title options row (title_said r)) (after_club row [] (club_said 1 r)) (good-title options row (title_said r)) (good-club row [] (club_said 1 r))
 
-stage-lines : (options : LiveArgs) (row : ℕ) (s : Stage) (r : Said) (shown : List ℕ) → options.format ≡ Json → Good s
-    → AreLinesSaying (answer_at (as_text options) row s (request_of r) shown) (answer_at options row s (request_of r) shown)
-stage-lines options row (Naming clubs) r shown h g = no-lines
-stage-lines options row (Restoring clubs words) r shown h g = no-lines
-stage-lines options row (Open clubs board) r shown h g = request-lines options row clubs board (request_of r) shown h g (of-request r)
-stage-lines options row (Refused fault) r shown h g = no-lines
+good-row : (options : LiveArgs) (row : ℕ) (s : Stage) (r : Said) → Good s → Good (after_row options row s r)
+good-row options row Beginning r g = good-first options row r
+good-row options row (Naming clubs) r g = good-club row clubs (club_said (length clubs + 1) r)
+good-row options row (Restoring clubs words) r g = good-word row clubs words (word_said (length words + 1) r)
+good-row options row (Open clubs board) r g = good-board board (request_of r) g (of-request r)
+good-row options row (Refused fault) r g = tt
+
+good-next : (options : LiveArgs) (row : ℕ) (s : Stage) (r : Said) → Good s → Good (next_stage options row s r)
+good-next options row s Nothing g = g
+good-next options row s Garbled g = good-row options row (opened options s Garbled) Garbled (good-opened options s Garbled g)
+good-next options row s (Row f) g = good-row options row (opened options s (Row f)) (Row f) (good-opened options s (Row f) g)
+
+-- ---- the form of the answers changes no stage
+
+opened-text : (options : LiveArgs) (s : Stage) (r : Said) → opened (as_text options) s r ≡ opened options s r
+opened-text options Beginning r = refl
+opened-text options (Naming clubs) r = refl
+opened-text options (Restoring clubs []) r = refl
+opened-text options (Restoring clubs (word ∷ words)) r = refl
+opened-text options (Open clubs board) r = refl
+opened-text options (Refused fault) r = refl
+
+title-text : (options : LiveArgs) (row : ℕ) (title : Option Title) → after_title (as_text options) row title ≡ after_title options row title
+title-text options row None = refl
+title-text options row (Some title) = refl
+
+row-text : (options : LiveArgs) (row : ℕ) (s : Stage) (r : Said) → after_row (as_text options) row s r ≡ after_row options row s r
+row-text options row Beginning r = ap (λ (s : Stage). if is_group_row r then s else after_club row [] (club_said 1 r)) (title-text options row (title_said r))
+row-text options row (Naming clubs) r = refl
+row-text options row (Restoring clubs words) r = refl
+row-text options row (Open clubs board) r = refl
+row-text options row (Refused fault) r = refl
+
+stage-text : (options : LiveArgs) (row : ℕ) (s : Stage) (r : Said) → next_stage (as_text options) row s r ≡ next_stage options row s r
+stage-text options row s Nothing = refl
+stage-text options row s Garbled = rw (opened-text options s Garbled) (row-text options row (opened options s Garbled) Garbled)
+stage-text options row s (Row f) = rw (opened-text options s (Row f)) (row-text options row (opened options s (Row f)) (Row f))
+
+stage-lines : (options : LiveArgs) (title : Title) (row : ℕ) (s : Stage) (r : Said) (shown : List ℕ) → options.format ≡ Json → Good s
+    → AreLinesSaying (answer_at (as_text options) title row s (request_of r) shown) (answer_at options title row s (request_of r) shown)
+stage-lines options title row Beginning r shown h g = no-lines
+stage-lines options title row (Naming clubs) r shown h g = no-lines
+stage-lines options title row (Restoring clubs words) r shown h g = no-lines
+stage-lines options title row (Open clubs board) r shown h g = request-lines options title row clubs board (request_of r) shown h g (of-request r)
+stage-lines options title row (Refused fault) r shown h g = no-lines
 
 abbrev text_of : Evening → Evening
-text_of e = record { options = as_text e.options; row = e.row; stage = e.stage }
+text_of e = record { options = as_text e.options; title = e.title; row = e.row; stage = e.stage }
+
+abbrev with-stage : Evening → Said → Stage → Evening
+with-stage e r s = record { options = as_text e.options; title = next_title e.title e.stage r; row = e.row + 1; stage = s }
+
+text-next : (e : Evening) (r : Said) → next (text_of e) r ≡ text_of (next e r)
+text-next e r =
+    ap (λ (s : Stage). with-stage e r s) (stage-text e.options e.row e.stage r)
 
 said-lines : (e : Evening) (r : Said) (shown : List ℕ) → e.options.format ≡ Json → Good e.stage → AreLinesSaying (answer_said (text_of e) r shown) (answer_said e r shown)
 said-lines e Nothing shown h g = no-lines
-said-lines e Garbled shown h g = stage-lines e.options e.row (opened e.stage Garbled) Garbled shown h (good-opened e.stage Garbled g)
-said-lines e (Row f) shown h g = stage-lines e.options e.row (opened e.stage (Row f)) (Row f) shown h (good-opened e.stage (Row f) g)
+said-lines e Garbled shown h g =
+    rw (opened-text e.options e.stage Garbled) (stage-lines e.options e.title e.row (opened e.options e.stage Garbled) Garbled shown h (good-opened e.options e.stage Garbled g))
+said-lines e (Row f) shown h g =
+    rw (opened-text e.options e.stage (Row f)) (stage-lines e.options e.title e.row (opened e.options e.stage (Row f)) (Row f) shown h (good-opened e.options e.stage (Row f) g))
 
 all-lines : (e : Evening) (lines : List (List ℕ)) → e.options.format ≡ Json → Good e.stage → AreLinesSaying (answers (text_of e) lines) (answers e lines)
 unfolding answers
@@ -222,8 +271,9 @@ all-lines e [] h g = no-lines
 all-lines e (line ∷ lines) h g =
     let r = said_on e.row line in
     let shown = shown_text line in
-    both-lines (answer_said (text_of e) r shown) (answers (text_of (next e r)) lines) (answer_said e r shown) (answers (next e r) lines)
-    (said-lines e r shown h g) (all-lines (next e r) lines h (good-next e.row e.stage r g))
+    let later = all-lines (next e r) lines h (good-next e.options e.row e.stage r g) in
+    both-lines (answer_said (text_of e) r shown) (answers (next (text_of e) r) lines) (answer_said e r shown) (answers (next e r) lines)
+    (said-lines e r shown h g) (rw (text-next e r) later)
 
 pub evenings : EveningsSayTheSame
 evenings options bytes h = all-lines (start_of options) (lines_of bytes) h tt

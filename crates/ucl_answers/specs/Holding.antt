@@ -4,29 +4,28 @@ use Rattle.std.specs.Result.{is_ok}
 use Rattle.std.specs.Io.KnownBytes.{Appends, Consumes}
 use Rattle.ucl_word.specs.Rules.{reply_of}
 use Rattle.ucl_board.specs.Words.{game_at}
-use Rattle.ucl_screen.specs.declared.fault.InputFault.{InputFault}
 use Rattle.ucl_io.specs.declared.fault.PumpFault.{PumpFault}
 use Rattle.ucl_io.specs.declared.fault.PumpFault.TheVariants.{Machine, ReadFailed, TooLong, WriteFailed}
 use Rattle.ucl_io.specs.Calls.{Device, HasEnded}
 use Rattle.ucl_io.specs.Lines.{begun_line, ended_lines}
 use Rattle.ucl_io.specs.Output.{StoppedShort}
+use Rattle.ucl_json.specs.declared.title.Title.{Title}
 use Rattle.ucl_command.specs.declared.options.Format.TheVariants.{Json}
 use Rattle.ucl_command.specs.declared.live.LiveArgs.{LiveArgs}
 use Rattle.ucl_answers.specs.declared.answer.Answer.{Answer}
 use Rattle.ucl_answers.specs.declared.evening.Evening.{Evening as Held}
 use Rattle.ucl_answers.specs.declared.fault.BeginningFault.{BeginningFault}
 use Rattle.ucl_answers.specs.declared.fault.LiveFault.{LiveFault}
-use Rattle.ucl_answers.specs.declared.fault.LiveFault.TheVariants.{Beginning, OutOfMemory}
+use Rattle.ucl_answers.specs.declared.fault.LiveFault.TheVariants as live
 use Rattle.ucl_answers.specs.declared.request.Request.{Request}
 use Rattle.ucl_answers.specs.declared.request.Request.TheVariants.{Bad, Event, Screen, Words}
 use Rattle.ucl_answers.specs.declared.parts.Parts.{Parts}
-use Rattle.ucl_answers.specs.Faults.{input_fault}
 use Rattle.ucl_answers.specs.Lines.{last_lines}
 use Rattle.ucl_answers.specs.Requests.{request_of}
 use Rattle.ucl_answers.specs.Rows.{Said, Nothing, Garbled, Row, said_on}
 use Rattle.ucl_answers.specs.Seen.{bytes_of, stage_seen}
-use Rattle.ucl_answers.specs.Stages.{Stage, Naming, Restoring, Open, Refused, missing, opened}
-use Rattle.ucl_answers.specs.Text.{Evening, after_lines, answers, live_text, missing_after, next}
+use Rattle.ucl_answers.specs.Stages.{Stage, Beginning, Naming, Restoring, Open, Refused, opened}
+use Rattle.ucl_answers.specs.Text.{Evening, after_lines, answers, live_text, missing_after, missing_now, next}
 
 -- ---- want of memory
 
@@ -40,6 +39,7 @@ AsksOf options board Words = options.format ≡ Json
 
 -- a club's name asks for memory, and a word does not
 abbrev pub AsksAt : LiveArgs → Stage → Request → Type 0
+AsksAt options Beginning request = ⊤
 AsksAt options (Naming clubs) request = ⊤
 AsksAt options (Restoring clubs words) request = ⊥
 AsksAt options (Open clubs board) request = AsksOf options board request
@@ -47,8 +47,8 @@ AsksAt options (Refused fault) request = ⊥
 
 abbrev pub AsksForMemory : Evening → Said → Type 0
 AsksForMemory e Nothing = ⊥
-AsksForMemory e Garbled = AsksAt e.options (opened e.stage Garbled) (request_of Garbled)
-AsksForMemory e (Row f) = AsksAt e.options (opened e.stage (Row f)) (request_of (Row f))
+AsksForMemory e Garbled = AsksAt e.options (opened e.options e.stage Garbled) (request_of Garbled)
+AsksForMemory e (Row f) = AsksAt e.options (opened e.options e.stage (Row f)) (request_of (Row f))
 
 -- ---- the machine
 
@@ -65,16 +65,16 @@ abbrev pub parts_bytes : Parts → List ℕ
 parts_bytes p = with_second (parts_front p) p.second
 
 -- the evening before a line of this number
-abbrev pub evening_at : LiveArgs → ℕ → Stage → Evening
-evening_at options row stage = record { options = options; row = row; stage = stage }
+abbrev pub evening_at : LiveArgs → Title → ℕ → Stage → Evening
+evening_at options title row stage = record { options = options; title = title; row = row; stage = stage }
 
 abbrev pub evening_of : Held → ℕ → Evening
-evening_of e row = evening_at e.options row (stage_seen e.stage)
+evening_of e row = evening_at e.options e.title.title row (stage_seen e.stage)
 
 -- a row has no answer: there was no memory for it, which it asks for, or the stage after it is refused
 abbrev pub StopsAt : Type 0 → Stage → LiveFault → Type 0
-StopsAt Asks after OutOfMemory = Asks
-StopsAt Asks after (Beginning fault) = after ≡ Refused (input_fault fault)
+StopsAt Asks after live.OutOfMemory = Asks
+StopsAt Asks after (live.Beginning why) = after ≡ Refused why
 
 abbrev pub HasNoAnswer : Evening → Said → LiveFault → Type 0
 HasNoAnswer e said fault = StopsAt (AsksForMemory e said) (next e said).stage fault
@@ -83,8 +83,8 @@ HasNoAnswer e said fault = StopsAt (AsksForMemory e said) (next e said).stage fa
 abbrev pub end_of : Evening → List ℕ → Evening
 end_of e begun = after_lines e (last_lines begun)
 
-abbrev pub missing_at : Evening → List ℕ → Option InputFault
-missing_at e begun = missing (end_of e begun).row (end_of e begun).stage
+abbrev pub missing_at : Evening → List ℕ → Option BeginningFault
+missing_at e begun = missing_now (end_of e begun)
 
 -- it is answered too, and no club or word is missing then
 pub record Closes (e : Evening) (begun text : List ℕ) : Type 0 where
@@ -93,8 +93,8 @@ pub record Closes (e : Evening) (begun text : List ℕ) : Type 0 where
 
 -- there was no memory for it, which it asks for; or a club or a word has a fault, or is missing
 abbrev pub HasNoEnd : Evening → List ℕ → LiveFault → Type 0
-HasNoEnd e begun OutOfMemory = AsksForMemory e (said_on e.row begun)
-HasNoEnd e begun (Beginning fault) = missing_at e begun ≡ Some (input_fault fault)
+HasNoEnd e begun live.OutOfMemory = AsksForMemory e (said_on e.row begun)
+HasNoEnd e begun (live.Beginning why) = missing_at e begun ≡ Some why
 
 -- ---- a whole run
 
@@ -133,8 +133,8 @@ pub record RanOut (start : Evening) (bytes : List ℕ) (old new : Device) : Type
 
 -- the evening is refused, by the bytes that were taken or by their end, and nothing was answered
 pub record IsTurnedAway (start : Evening) (bytes : List ℕ) (old new : Device) (fault : BeginningFault) : Type 0 where
-  pub refused : ((after_bytes start bytes).stage ≡ Refused (input_fault fault))
-      ⊎ (HasEnded old.left new.left × (missing_after start bytes ≡ Some (input_fault fault)))
+  pub refused : ((after_bytes start bytes).stage ≡ Refused fault)
+      ⊎ (HasEnded old.left new.left × (missing_after start bytes ≡ Some fault))
   pub out : Appends old.taken new.taken []
 
 -- why an evening fails that has taken these bytes: the source failed after them, they are more than any input has, or the sink failed; there
@@ -143,8 +143,8 @@ abbrev pub LiveFailsAfter : Evening → List ℕ → Device → Device → PumpF
 LiveFailsAfter start bytes old new (ReadFailed count) = (count ≡ length bytes) × Appends old.taken new.taken (answers_to start bytes)
 LiveFailsAfter start bytes old new TooLong = (2 ^ 62 < length bytes) × Appends old.taken new.taken (answers_to start bytes)
 LiveFailsAfter start bytes old new (WriteFailed written) = WriteStops start bytes old new written
-LiveFailsAfter start bytes old new (Machine OutOfMemory) = RanOut start bytes old new
-LiveFailsAfter start bytes old new (Machine (Beginning fault)) = IsTurnedAway start bytes old new fault
+LiveFailsAfter start bytes old new (Machine live.OutOfMemory) = RanOut start bytes old new
+LiveFailsAfter start bytes old new (Machine (live.Beginning why)) = IsTurnedAway start bytes old new why
 
 pub record LiveFails (start : Evening) (old new : Device) (fault : PumpFault LiveFault) : Type 0 where
   pub bytes : List ℕ

@@ -6,7 +6,6 @@ use Rattle.ucl_board.specs.declared.entry.Entry.{Entry}
 use Rattle.ucl_board.specs.History.{IsLegal, after_attempt, board_after, board_of}
 use Rattle.ucl_order.specs.Roster.{NamedClub}
 use Rattle.ucl_runs.specs.Feed.{line_of_reply, reply_line, word_lines}
-use Rattle.ucl_screen.specs.declared.fault.InputFault.{InputFault}
 use Rattle.ucl_screen.specs.declared.night.NightEvent.{NightEvent}
 use Rattle.ucl_screen.specs.Screen.{screen_text}
 use Rattle.ucl_word.specs.declared.event.Accepted.{Accepted}
@@ -19,13 +18,14 @@ use Rattle.ucl_json.specs.declared.title.Title.{Title}
 use Rattle.ucl_json.specs.Values.{bad_row_value, edition_screen_value, reply_value, words_value}
 use Rattle.ucl_command.specs.declared.options.Format.TheVariants.{Text, Json}
 use Rattle.ucl_command.specs.declared.live.LiveArgs.{LiveArgs}
+use Rattle.ucl_answers.specs.declared.fault.BeginningFault.{BeginningFault}
 use Rattle.ucl_answers.specs.ByHistory.{answers_by_history, attempts_in}
 use Rattle.ucl_answers.specs.Lines.{lines_of}
 use Rattle.ucl_answers.specs.Members.{text_told, texts_told}
 use Rattle.ucl_answers.specs.UncutLines.{uncut_lines}
 use Rattle.ucl_answers.specs.Rows.{Said, Nothing, Garbled, Row, said_on}
 use Rattle.ucl_answers.specs.Stages.{Open, Refused, Restoring, is_word_row}
-use Rattle.ucl_answers.specs.Text.{Evening, after_lines, answers, bad_line, live_text, reply_in, start_of}
+use Rattle.ucl_answers.specs.Text.{Evening, after_lines, answers, bad_line, live_text, reply_answer, start_of}
 
 -- some bytes and the end of a line
 abbrev pub ended : List ℕ → List ℕ
@@ -46,7 +46,7 @@ BoardsTakeEvents = (e : Evening) (lines : List (List ℕ)) (clubs : List NamedCl
 pub record IsSequential (e : Evening) (lines : List (List ℕ)) (clubs : List NamedClub) (history : List Entry) : Type 0 where
   pub legal : IsLegal (fold after_attempt history (attempts_in e.row lines))
   pub stage : (after_lines e lines).stage ≡ Open clubs (board_of (fold after_attempt history (attempts_in e.row lines)))
-  pub text : answers e lines ≡ answers_by_history e.options e.row clubs history lines
+  pub text : answers e lines ≡ answers_by_history e.options e.title e.row clubs history lines
 
 -- so it is after any lines of an evening on the board of a legal history: of no event, or of any whose words were given
 abbrev pub EveningsAreSequential : Type 0
@@ -59,20 +59,23 @@ IsOtherRow Nothing = ⊥
 IsOtherRow Garbled = ⊤
 IsOtherRow (Row f) = is_word_row (Row f) ≡ false
 
+abbrev pub fresh_at : Evening → List NamedClub → Evening
+fresh_at e clubs = record e { stage = Open clubs (board_of []) }
+
 -- four clubs were named: where the first row after them is not that of a word, all goes on as on the open board of no event
 pub record GoesOnFresh (e : Evening) (lines : List (List ℕ)) (clubs : List NamedClub) : Type 0 where
-  pub text : answers e lines ≡ answers (record { options = e.options; row = e.row; stage = Open clubs (board_of []) }) lines
-  pub after : after_lines e lines ≡ after_lines (record { options = e.options; row = e.row; stage = Open clubs (board_of []) }) lines
+  pub text : answers e lines ≡ answers (fresh_at e clubs) lines
+  pub after : after_lines e lines ≡ after_lines (fresh_at e clubs) lines
 
 abbrev pub FirstRowsOpenTheBoard : Type 0
-FirstRowsOpenTheBoard = (e : Evening) (clubs : List NamedClub) (line : List ℕ) (lines : List (List ℕ)) → e.stage ≡ Restoring clubs [] → IsOtherRow (said_on e.row line)
+FirstRowsOpenTheBoard = (e : Evening) (clubs : List NamedClub) (line : List ℕ) (lines : List (List ℕ)) → e.options.resumed ≡ false → e.stage ≡ Restoring clubs [] → IsOtherRow (said_on e.row line)
     → GoesOnFresh e (line ∷ lines) clubs
 
 -- on the board of a legal history the reply to an event is the line that `feed` writes of it
 abbrev pub RepliesAreThoseOfFeed : Type 0
-RepliesAreThoseOfFeed = (options : LiveArgs) (clubs : List NamedClub) (board : List ℕ) (history : List Entry) (row : ℕ) (event : NightEvent)
+RepliesAreThoseOfFeed = (title : Title) (clubs : List NamedClub) (board : List ℕ) (history : List Entry) (row : ℕ) (event : NightEvent)
     → IsLegal history → IsMatch event.call.game
-    → reply_in Text options row clubs event (version_of (board_of history)) (reply_of (game_at (board_of history) event.call.game) event.call) board ≡ reply_line row history event.call
+    → reply_answer Text title row clubs event (version_of (board_of history)) (reply_of (game_at (board_of history) event.call.game) event.call) board ≡ reply_line row history event.call
 
 -- in JSON each answer is a value on one line, and nothing else goes out
 abbrev pub JsonAnswersAreLines : Type 0
@@ -80,7 +83,7 @@ JsonAnswersAreLines = (e : Evening) (lines : List (List ℕ)) → e.options.form
 
 -- where the clubs or the words have a fault, nothing was answered
 abbrev pub RefusedEveningsAreSilent : Type 0
-RefusedEveningsAreSilent = (e : Evening) (lines : List (List ℕ)) (fault : InputFault) → (after_lines e lines).stage ≡ Refused fault → answers e lines ≡ []
+RefusedEveningsAreSilent = (e : Evening) (lines : List (List ℕ)) (fault : BeginningFault) → (after_lines e lines).stage ≡ Refused fault → answers e lines ≡ []
 
 -- the lines as they are read end with their 258th byte: the answers, and the evening after them, are those of the lines as they came
 pub record IsOfUncutLines (e : Evening) (bytes : List ℕ) : Type 0 where

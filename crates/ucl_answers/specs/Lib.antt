@@ -2,6 +2,7 @@ pub mod Lines
 pub mod Rows
 pub mod BadRows
 pub mod Requests
+pub mod Titles
 pub mod Stages
 pub mod Text
 pub mod Reading

@@ -5,13 +5,12 @@ use Rattle.ucl_answers.specs.declared.answer.Answer.{Answer}
 use Rattle.ucl_answers.specs.declared.answer.Answer.TheVariants.{Short, Long}
 use Rattle.ucl_answers.specs.declared.fault.BeginningFault.{BeginningFault}
 use Rattle.ucl_answers.specs.declared.fault.LiveFault.{LiveFault}
-use Rattle.ucl_answers.specs.declared.fault.LiveFault.TheVariants.{Beginning, OutOfMemory}
+use Rattle.ucl_answers.specs.declared.fault.LiveFault.TheVariants as live
 use Rattle.ucl_answers.specs.declared.stage.Clubs.{Clubs}
 use Rattle.ucl_answers.specs.declared.stage.Clubs.TheVariants.{NoClub, One, Two, Three}
 use Rattle.ucl_answers.specs.declared.stage.Stage.{Stage as Reached}
 use Rattle.ucl_answers.specs.declared.stage.Stage.TheVariants as reached
-use Rattle.ucl_answers.specs.Faults.{input_fault}
-use Rattle.ucl_answers.specs.Stages.{Stage, Naming, Restoring, Open, Refused}
+use Rattle.ucl_answers.specs.Stages.{Stage, Beginning, Naming, Restoring, Open, Refused}
 
 abbrev pub clubs_seen : Clubs → List NamedClub
 clubs_seen NoClub = []
@@ -20,6 +19,7 @@ clubs_seen (Two a b) = club_seen a ∷ club_seen b ∷ []
 clubs_seen (Three a b c) = club_seen a ∷ club_seen b ∷ club_seen c ∷ []
 
 abbrev pub stage_seen : Reached → Stage
+stage_seen reached.Beginning = Beginning
 stage_seen (reached.Naming clubs) = Naming (clubs_seen clubs)
 stage_seen (reached.Restoring some) = Restoring some.roster some.words.items
 stage_seen (reached.Open table) = Open table.roster table.board
@@ -27,13 +27,13 @@ stage_seen (reached.Open table) = Open table.roster table.board
 -- what became of a stage is this one
 abbrev pub Becomes : Stage → Result Reached BeginningFault → Type 0
 Becomes stage (Ok s) = stage_seen s ≡ stage
-Becomes stage (Err fault) = stage ≡ Refused (input_fault fault)
+Becomes stage (Err fault) = stage ≡ Refused fault
 
 -- or there was no memory
 abbrev pub BecomesIfMemory : Stage → Result Reached LiveFault → Type 0
 BecomesIfMemory stage (Ok s) = stage_seen s ≡ stage
-BecomesIfMemory stage (Err (Beginning fault)) = stage ≡ Refused (input_fault fault)
-BecomesIfMemory stage (Err OutOfMemory) = ⊤
+BecomesIfMemory stage (Err (live.Beginning why)) = stage ≡ Refused why
+BecomesIfMemory stage (Err live.OutOfMemory) = ⊤
 
 -- the bytes of an answer
 abbrev pub bytes_of : Answer → List ℕ

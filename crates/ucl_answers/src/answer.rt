@@ -8,14 +8,14 @@ ghost use Rattle.ucl_runs.specs.Feed.{line_of_reply};
 ghost use Rattle.ucl_runs.specs.Lines.{accepted_line, refused_line};
 ghost use Rattle.ucl_answers.specs.BadRows.{shown_text};
 ghost use Rattle.ucl_answers.specs.Seen.{bytes_of};
-ghost use Rattle.ucl_answers.specs.Text.{bad_answer, bad_line, reply_answer, screen_answer, title_of};
+ghost use Rattle.ucl_answers.specs.Text.{bad_answer, bad_line, reply_answer, screen_answer};
 
 use crate::bad_row::{BadField, shown_text};
 use crate::stage::Table;
 use arrayvec::ArrayString;
 use itoa::Buffer;
 use std::alloc::{AllocError, Global};
-use ucl_command::{Format, LiveArgs};
+use ucl_command::Format;
 use ucl_json::{Title, bad_row_json, edition_screen_json, reply_json};
 use ucl_screen::{NightEvent, screen};
 use ucl_word::{Accepted, OutOfMemory, Refusal};
@@ -41,17 +41,6 @@ impl Answer {
             Answer::Short(line) => line.as_str().as_bytes(),
             Answer::Long(text) => text.as_str().as_bytes(),
         }
-    }
-}
-
-/// What the board of an evening is told under. Its edition is 0.
-pub fn title_of(options: &LiveArgs) -> Title
-    ensures { result ≡ title_of options.now }
-{
-    Title {
-        group: options.group,
-        profile: options.profile,
-        edition: 0,
     }
 }
 
@@ -122,19 +111,21 @@ fn reply_line(row: u64, game: u8, before: u16, reply: Result<Accepted, Refusal>)
 /// The reply to an event, where so many events were accepted before, and the table is that after it.
 pub(crate) fn reply_answer(
     alloc: Global,
-    options: &LiveArgs,
+    format: Format,
+    title: Title,
     row: u64,
     event: &NightEvent,
     before: u16,
     reply: Result<Accepted, Refusal>,
     after: &Table,
 ) -> Result<Answer, AllocError>
-    requires { before < 2 ^ 16 - 1 }
+    requires few { before < 2 ^ 16 - 1 }
+    requires letter { IsGroup title.group }
     ensures text { IfOk result (λ answer. bytes_of answer
-        ≡ reply_answer options.now row after.now.roster event.now before reply after.now.board) }
-    ensures memory { IfErr result (λ _. options.now.format ≡ Format.Json) }
+        ≡ reply_answer format title row after.now.roster event.now before reply after.now.board) }
+    ensures memory { IfErr result (λ _. format ≡ Format.Json) }
 {
-    match options.format {
+    match format {
         Format::Text => Ok(Answer::Short(reply_line(row, event.call.game.get(), before, reply))),
         Format::Json => Ok(Answer::Long(reply_json(
             alloc,
@@ -143,7 +134,7 @@ pub(crate) fn reply_answer(
             reply,
             &after.board,
             &after.roster,
-            title_of(options),
+            title,
         )?)),
     }
 }
@@ -169,28 +160,24 @@ pub(crate) fn bad_answer(
 /// The screen of a board.
 pub(crate) fn screen_answer(
     alloc: Global,
-    options: &LiveArgs,
+    format: Format,
+    title: Title,
     row: u64,
     table: &Table,
 ) -> Result<Answer, OutOfMemory>
+    requires { IsGroup title.group }
     ensures { IfOk result (λ answer.
-        bytes_of answer ≡ screen_answer options.now row table.now.roster table.now.board) }
+        bytes_of answer ≡ screen_answer format title row table.now.roster table.now.board) }
 {
-    let text = match options.format {
+    let text = match format {
         Format::Text => screen(
             alloc,
             &table.board,
             &table.roster,
-            options.group,
-            options.profile,
+            title.group,
+            title.profile,
         )?,
-        Format::Json => edition_screen_json(
-            alloc,
-            row,
-            &table.board,
-            &table.roster,
-            title_of(options),
-        )?,
+        Format::Json => edition_screen_json(alloc, row, &table.board, &table.roster, title)?,
     };
     Ok(Answer::Long(text))
 }

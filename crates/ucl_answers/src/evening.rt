@@ -8,25 +8,28 @@ ghost use Rattle.ucl_answers.specs.Requests.{request_of};
 ghost use Rattle.ucl_answers.specs.Rows.{of_row, said_on};
 ghost use Rattle.ucl_answers.specs.Seen.{stage_seen};
 ghost use Rattle.ucl_answers.specs.Stages.{after_row, next_stage};
-ghost use Rattle.ucl_answers.specs.Text.{answer_at, answer_said, next, start_of};
+ghost use Rattle.ucl_answers.specs.Text.{answer_at, answer_said, next, next_title, start_of};
 
 use crate::fault::LiveFault;
+use crate::headed::Headed;
 use crate::line::{LineReader, plain_row};
 use crate::parts::Parts;
 use crate::request::request_of;
 use crate::row::Found;
-use crate::stage::{Clubs, Stage, with_club};
+use crate::stage::{Stage, with_club, with_first};
+use crate::title::asked_title;
 use std::alloc::Global;
 use std::mem;
 use ucl_command::LiveArgs;
 use ucl_io::LineMachine;
 use ucl_screen::Four;
 
-/// An evening between two lines: how it answers, how far it is, and what it reads lines by.
+/// An evening between two lines: how it answers, what its board is told under, how far it is, and what it reads lines by.
 #[derive(Drop)]
 pub struct Evening {
     alloc: Global,
     options: LiveArgs,
+    title: Headed,
     stage: Stage,
     reader: LineReader,
 }
@@ -35,28 +38,41 @@ pub struct Evening {
 fn after_row(
     alloc: Global,
     options: &LiveArgs,
+    title: &mut Headed,
     row: u64,
     stage: Stage,
     said: &Option<Four<'_>>,
     text: &[u8],
     parts: &mut Parts,
 ) -> Result<Stage, LiveFault>
+    ensures title { OnOk result (title.new.title ≡ next_title title.old.title (stage_seen stage)
+        (of_row (option_map four_seen said.now))) }
     ensures next { IfOk result (λ after. stage_seen after
-        ≡ after_row row (stage_seen stage) (of_row (option_map four_seen said.now))) }
-    ensures text { OnOk result (parts_bytes parts.new ≡ answer_at options.now row (stage_seen stage)
+        ≡ after_row options.now row (stage_seen stage) (of_row (option_map four_seen said.now))) }
+    ensures text { OnOk result (parts_bytes parts.new ≡ answer_at options.now title.old.title row (stage_seen stage)
         (request_of (of_row (option_map four_seen said.now))) (shown_text text.now)) }
     ensures stops { IfErr result (StopsAt
         (AsksAt options.now (stage_seen stage)
         (request_of (of_row (option_map four_seen said.now))))
-        (after_row row (stage_seen stage) (of_row (option_map four_seen said.now)))) }
+        (after_row options.now row (stage_seen stage)
+        (of_row (option_map four_seen said.now)))) }
 {
     parts.put_nothing();
     match stage {
+        Stage::Beginning => with_first(alloc, options, row, said, title),
         Stage::Naming(clubs) => with_club(alloc, row, clubs, said),
         Stage::Restoring(some) => Ok(some.with_row(row, said)?),
         Stage::Open(table) => {
             let mut table = table;
-            table.answered(alloc, options, row, &request_of(said), text, parts)?;
+            table.answered(
+                alloc,
+                options,
+                title.title,
+                row,
+                &request_of(said),
+                text,
+                parts,
+            )?;
             Ok(Stage::Open(table))
         }
     }
@@ -64,30 +80,42 @@ fn after_row(
 
 impl Stage {
     /// Answers a row of this number, which has four fields or is garbled, and whose text is this.
+
     fn answered(
         &mut self,
         alloc: Global,
         options: &LiveArgs,
+        title: &mut Headed,
         row: u64,
         said: &Option<Four<'_>>,
         text: &[u8],
         parts: &mut Parts,
     ) -> Result<(), LiveFault>
+        ensures title { OnOk result (title.new.title ≡ next_title title.old.title (stage_seen self.old)
+            (of_row (option_map four_seen said.now))) }
         ensures next { OnOk result (stage_seen self.new
-            ≡ next_stage row (stage_seen self.old) (of_row (option_map four_seen said.now))) }
+            ≡ next_stage options.now row (stage_seen self.old) (of_row (option_map four_seen said.now))) }
         ensures text { OnOk result (parts_bytes parts.new
-            ≡ answer_said (evening_at options.now row (stage_seen self.old))
+            ≡ answer_said (evening_at options.now title.old.title row (stage_seen self.old))
             (of_row (option_map four_seen said.now)) (shown_text text.now)) }
         ensures stops { IfErr result
-            (HasNoAnswer (evening_at options.now row (stage_seen self.old))
+            (HasNoAnswer (evening_at options.now title.old.title row (stage_seen self.old))
             (of_row (option_map four_seen said.now))) }
     {
         if let Stage::Open(table) = self {
-            table.answered(alloc, options, row, &request_of(said), text, parts)?;
+            table.answered(
+                alloc,
+                options,
+                title.title,
+                row,
+                &request_of(said),
+                text,
+                parts,
+            )?;
             return Ok(());
         }
-        let stage = mem::replace(self, Stage::Naming(Clubs::NoClub)).opened(said);
-        *self = after_row(alloc, options, row, stage, said, text, parts)?;
+        let stage = mem::replace(self, Stage::Beginning).opened(options, said);
+        *self = after_row(alloc, options, title, row, stage, said, text, parts)?;
         Ok(())
     }
 }
@@ -97,10 +125,14 @@ impl Evening {
     pub(crate) fn new(alloc: Global, options: LiveArgs) -> Evening
         ensures { evening_of result 1 ≡ start_of options }
     {
+        let title = Headed {
+            title: asked_title(&options),
+        };
         Evening {
             alloc,
             options,
-            stage: Stage::Naming(Clubs::NoClub),
+            title,
+            stage: Stage::Beginning,
             reader: LineReader::new(),
         }
     }
@@ -125,22 +157,41 @@ impl LineMachine for Evening {
 
     fn answer(&mut self, row: u64, line: &[u8], text: &mut Parts) -> Result<(), LiveFault> {
         if let Some(four) = plain_row(row, line) {
-            return self
-                .stage
-                .answered(self.alloc, &self.options, row, &Some(four), line, text);
+            return self.stage.answered(
+                self.alloc,
+                &self.options,
+                &mut self.title,
+                row,
+                &Some(four),
+                line,
+                text,
+            );
         }
         match self.reader.read(row, line) {
             Found::Nothing => {
                 text.put_nothing();
                 Ok(())
             }
-            Found::More => self
-                .stage
-                .answered(self.alloc, &self.options, row, &None, line, text),
+            Found::More => self.stage.answered(
+                self.alloc,
+                &self.options,
+                &mut self.title,
+                row,
+                &None,
+                line,
+                text,
+            ),
             Found::One => {
                 let four = self.reader.four();
-                self.stage
-                    .answered(self.alloc, &self.options, row, &four, line, text)
+                self.stage.answered(
+                    self.alloc,
+                    &self.options,
+                    &mut self.title,
+                    row,
+                    &four,
+                    line,
+                    text,
+                )
             }
         }
     }
@@ -148,13 +199,13 @@ impl LineMachine for Evening {
     fn end(&mut self, row: u64, begun: &[u8], text: &mut Parts) -> Result<(), LiveFault> {
         if begun.is_empty() {
             text.put_nothing();
-            return match self.stage.missing(row) {
+            return match self.stage.missing(&self.options, row) {
                 Some(fault) => Err(LiveFault::Beginning(fault)),
                 None => Ok(()),
             };
         }
         self.answer(row, begun, text)?;
-        match self.stage.missing(row.saturating_add(1)) {
+        match self.stage.missing(&self.options, row.saturating_add(1)) {
             Some(fault) => Err(LiveFault::Beginning(fault)),
             None => Ok(()),
         }

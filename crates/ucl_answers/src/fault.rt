@@ -1,7 +1,7 @@
 //! Why an evening goes no further.
 
 ghost use Rattle.std.specs.Prelude.{◌≡◌};
-ghost use Rattle.ucl_answers.specs.Faults.{run_fault};
+ghost use Rattle.ucl_answers.specs.Faults.{input_fault, run_fault};
 ghost use Rattle.ucl_answers.specs.declared.fault.LiveFault.TheVariants.{Beginning, OutOfMemory};
 
 use std::alloc::AllocError;
@@ -9,7 +9,7 @@ use ucl_io::PumpFault;
 use ucl_runs::RunFault;
 use ucl_screen::InputFault;
 
-/// Why an evening is refused: its clubs or its words have a fault.
+/// Why an evening is refused: its group, its clubs or its words have a fault.
 #[derive(Clone, Copy, Debug, PartialEq, Eq)]
 pub enum BeginningFault {
     /// 20: the first row that is missing or is not as its place demands.
@@ -27,6 +27,8 @@ pub enum BeginningFault {
         /// The least match with such a word.
         index: u8,
     },
+    /// The first row says another group or order than was asked for.
+    OtherGroup,
 }
 
 /// Why an evening has no answer to a line.
@@ -62,19 +64,29 @@ impl From<ucl_word::OutOfMemory> for LiveFault {
     }
 }
 
-/// The fault of a program that holds an evening.
-pub(crate) fn run_fault(fault: PumpFault<LiveFault>) -> RunFault
+/// The fault of the input, where there is one.
+fn input_fault(fault: BeginningFault) -> Option<InputFault>
+    ensures { result ≡ input_fault fault }
+{
+    match fault {
+        BeginningFault::BadRow { row } => Some(InputFault::BadRow { row }),
+        BeginningFault::BadRoster { slot } => Some(InputFault::BadRoster { slot }),
+        BeginningFault::BadWordAt { index } => Some(InputFault::BadWordAt { index }),
+        BeginningFault::OtherGroup => None,
+    }
+}
+
+/// The fault of a program that holds an evening, but for a row that differs from what was asked for.
+pub(crate) fn run_fault(fault: PumpFault<LiveFault>) -> Option<RunFault>
     ensures { result ≡ run_fault fault }
 {
     match fault {
-        PumpFault::ReadFailed { bytes } => RunFault::Input(InputFault::ReadFailed { bytes }),
-        PumpFault::TooLong => RunFault::Input(InputFault::TooLong),
-        PumpFault::WriteFailed { written } => RunFault::WriteFailed { written },
-        PumpFault::Machine(LiveFault::OutOfMemory) => RunFault::OutOfMemory,
-        PumpFault::Machine(LiveFault::Beginning(fault)) => RunFault::Input(match fault {
-            BeginningFault::BadRow { row } => InputFault::BadRow { row },
-            BeginningFault::BadRoster { slot } => InputFault::BadRoster { slot },
-            BeginningFault::BadWordAt { index } => InputFault::BadWordAt { index },
-        }),
+        PumpFault::ReadFailed { bytes } => Some(RunFault::Input(InputFault::ReadFailed { bytes })),
+        PumpFault::TooLong => Some(RunFault::Input(InputFault::TooLong)),
+        PumpFault::WriteFailed { written } => Some(RunFault::WriteFailed { written }),
+        PumpFault::Machine(LiveFault::OutOfMemory) => Some(RunFault::OutOfMemory),
+        PumpFault::Machine(LiveFault::Beginning(fault)) => {
+            Some(RunFault::Input(input_fault(fault)?))
+        }
     }
 }

@@ -6,6 +6,7 @@ mod answer;
 mod bad_row;
 mod evening;
 mod fault;
+mod headed;
 mod laws;
 mod line;
 mod live;
@@ -17,9 +18,10 @@ mod row;
 mod some_words;
 mod stage;
 mod table;
+mod title;
 mod words;
 
-pub use answer::{Answer, ReplyLine, accepted_line, bad_line, refused_line, title_of};
+pub use answer::{Answer, ReplyLine, accepted_line, bad_line, refused_line};
 pub use evening::Evening;
 pub use fault::{BeginningFault, LiveFault};
 pub use laws::{
@@ -29,5 +31,6 @@ pub use laws::{
 };
 pub use live::live_run;
 pub use parts::Parts;
-pub use program::run_evening;
+pub use program::{OTHER_GROUP, run_evening};
+pub use title::{first_group, letter_in, title_for};
 pub use words::{Lines, word_lines};

@@ -1,18 +1,34 @@
 //! The evening that `ucl_live` holds for its arguments.
 
-ghost use Rattle.ucl_answers.specs.Program.{RunsEvening};
+ghost use Rattle.ucl_answers.specs.Program.{EndsHeld, RunsEvening};
 
 use crate::evening::Evening;
-use crate::fault::run_fault;
+use crate::fault::{LiveFault, run_fault};
 use crate::live::live_run;
 use std::alloc::Global;
 use ucl_command::{LineFault, LiveArgs};
-use ucl_io::Duplex;
-use ucl_runs::{ended, ended_unasked};
+use ucl_io::{Duplex, PumpFault};
+use ucl_runs::{ended_unasked, tell, tell_refusal};
 use ucl_screen::{Sink, Source};
 
+/// What is told where the first row says another group or order than was asked for.
+pub const OTHER_GROUP: &str = "error: the row of the group differs from --group or --order\n";
+
+/// Tells the fault of an evening, where it has one, and gives the exit status.
+fn told<E: Sink>(errors: &mut E, done: Result<(), PumpFault<LiveFault>>) -> u8
+    ensures { EndsHeld done result (E.failed errors.new) (E.taken errors.old) (E.taken errors.new) }
+{
+    match done {
+        Ok(()) => 0,
+        Err(fault) => match run_fault(fault) {
+            Some(fault) => tell(errors, fault),
+            None => tell_refusal(errors, OTHER_GROUP),
+        },
+    }
+}
+
 /// Holds the evening that the arguments asked for, as `live_args` answered it, and gives the exit status: 0 where the input has ended and each row
-/// is answered, 2 where the arguments are refused, by the text of `clap`, and else that of the fault, which is told by its line: 3 where the clubs
+/// is answered, 2 where the arguments are refused, by the text of `clap`, or the row of the group differs from them, and else that of the fault, which is told by its line: 3 where the clubs
 /// or the words of the board are refused, 4 where a device has failed, and 5 where there was no memory. Help goes to the output.
 pub fn run_evening<S: Source, W: Sink, E: Sink>(
     alloc: Global,
@@ -25,11 +41,8 @@ pub fn run_evening<S: Source, W: Sink, E: Sink>(
 {
     match asked {
         Ok(options) => {
-            let done = match live_run(alloc, options, duplex) {
-                Ok(()) => Ok(()),
-                Err(fault) => Err(run_fault(fault)),
-            };
-            ended(errors, done)
+            let done = live_run(alloc, options, duplex);
+            told(errors, done)
         }
         Err(fault) => ended_unasked(&mut duplex.sink, errors, fault),
     }

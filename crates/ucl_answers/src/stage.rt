@@ -1,18 +1,21 @@
 //! How far an evening is.
 
-ghost use Rattle.std.specs.Prelude.{◌≡◌, ◌+◌, ◌-◌, ◌^◌, ◌<◌, ◌≤◌, ◌++◌, [], ◌∷◌, IfOk, length, map, option_map};
+ghost use Rattle.std.specs.Prelude.{◌≡◌, ◌+◌, ◌-◌, ◌^◌, ◌<◌, ◌≤◌, ◌++◌, [], ◌∷◌, IfOk, OnOk, length, map, option_map};
 ghost use Rattle.ucl_order.specs.Roster.{bad_slot, club_seen};
 ghost use Rattle.ucl_screen.specs.Rows.{four_seen};
-ghost use Rattle.ucl_answers.specs.Faults.{input_fault};
 ghost use Rattle.ucl_answers.specs.Rows.{of_row};
-ghost use Rattle.ucl_answers.specs.Stages.{Restoring, club_said, is_word_row, missing, opened, told_row, after_club, with_clubs, with_roster, after_word, with_words, word_said};
+ghost use Rattle.ucl_answers.specs.Stages.{Beginning, Restoring, after_beginning, club_said, is_word_row, missing, opened, told_row, after_club, with_clubs, with_roster, after_word, with_words, word_said};
+ghost use Rattle.ucl_answers.specs.Text.{next_title};
 ghost use Rattle.ucl_answers.specs.Seen.{Becomes, BecomesIfMemory, clubs_seen, stage_seen};
 
 use crate::fault::{BeginningFault, LiveFault};
+use crate::headed::Headed;
 use crate::some_words::SomeWords;
+use crate::title::{is_as_asked, is_group_row, title_said};
 use arrayvec::ArrayVec;
 use std::alloc::{AllocError, Global};
 use ucl_board::Board;
+use ucl_command::LiveArgs;
 use ucl_order::{Club, Roster};
 use ucl_screen::{Four, club_of_fields, word_of_fields};
 
@@ -35,6 +38,8 @@ pub(crate) struct Table {
 /// How far an evening is.
 #[derive(Drop)]
 pub(crate) enum Stage {
+    /// No row came yet.
+    Beginning,
     /// The clubs are named.
     Naming(Clubs),
     /// The words of a board that was written down are given. Where no word came yet, none may come.
@@ -151,6 +156,32 @@ pub(crate) fn with_club(
     }
 }
 
+/// The stage after the first row, which has this number: that of a group, or that of the first club. The title becomes what it says.
+pub(crate) fn with_first(
+    alloc: Global,
+    options: &LiveArgs,
+    row: u64,
+    said: &Option<Four<'_>>,
+    title: &mut Headed,
+) -> Result<Stage, LiveFault>
+    ensures stage { BecomesIfMemory (after_beginning options.now row
+        (of_row (option_map four_seen said.now))) result }
+    ensures title { OnOk result (title.new.title ≡ next_title title.old.title Beginning
+        (of_row (option_map four_seen said.now))) }
+{
+    if !is_group_row(said) {
+        return with_club(alloc, row, Clubs::NoClub, said);
+    }
+    match title_said(said) {
+        None => Err(LiveFault::Beginning(bad_row(row))),
+        Some(other) if is_as_asked(options, other) => {
+            *title = Headed { title: other };
+            Ok(Stage::Naming(Clubs::NoClub))
+        }
+        Some(_) => Err(LiveFault::Beginning(BeginningFault::OtherGroup)),
+    }
+}
+
 impl SomeWords {
     /// The stage with one word more.
     #[tactic(auto, using(crate::proofs::ReadWords::words_read, crate::proofs::ReadWords::words_bad))]
@@ -182,12 +213,12 @@ impl SomeWords {
         }
     }
 
-    /// The stage in which a row is read: where no word came yet, a row that is none opens the fresh board.
-    fn opened(self, said: &Option<Four<'_>>) -> Stage
-        ensures { stage_seen result ≡ opened (Restoring self.roster self.words.items)
+    /// The stage in which a row is read: where no word came yet, and none has to, a row that is none opens the fresh board.
+    fn opened(self, options: &LiveArgs, said: &Option<Four<'_>>) -> Stage
+        ensures { stage_seen result ≡ opened options.now (Restoring self.roster self.words.items)
             (of_row (option_map four_seen said.now)) }
     {
-        if self.words.is_empty() && !is_word_row(said) {
+        if self.words.is_empty() && !(options.resumed || is_word_row(said)) {
             Stage::Open(Table {
                 roster: self.roster,
                 board: Board::fresh(),
@@ -200,24 +231,25 @@ impl SomeWords {
 
 impl Stage {
     /// The stage in which a row is read.
-    pub(crate) fn opened(self, said: &Option<Four<'_>>) -> Stage
-        ensures { stage_seen result ≡ opened (stage_seen self)
+    pub(crate) fn opened(self, options: &LiveArgs, said: &Option<Four<'_>>) -> Stage
+        ensures { stage_seen result ≡ opened options.now (stage_seen self)
             (of_row (option_map four_seen said.now)) }
     {
         match self {
+            Stage::Beginning => Stage::Beginning,
             Stage::Naming(clubs) => Stage::Naming(clubs),
-            Stage::Restoring(some) => some.opened(said),
+            Stage::Restoring(some) => some.opened(options, said),
             Stage::Open(table) => Stage::Open(table),
         }
     }
 
     /// Why an evening is refused that ends here, before a line with this number.
-    pub(crate) fn missing(&self, row: u64) -> Option<BeginningFault>
-        ensures { option_map input_fault result ≡ missing row (stage_seen self.now) }
+    pub(crate) fn missing(&self, options: &LiveArgs, row: u64) -> Option<BeginningFault>
+        ensures { result ≡ missing options.now row (stage_seen self.now) }
     {
         match self {
-            Stage::Naming(_) => Some(bad_row(row)),
-            Stage::Restoring(some) if some.words.is_empty() => None,
+            Stage::Beginning | Stage::Naming(_) => Some(bad_row(row)),
+            Stage::Restoring(some) if some.words.is_empty() && !options.resumed => None,
             Stage::Restoring(_) => Some(bad_row(row)),
             Stage::Open(_) => None,
         }

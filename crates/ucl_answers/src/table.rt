@@ -1,6 +1,7 @@
 //! The answers of an open board.
 
 ghost use Rattle.std.specs.Prelude.{◌≡◌, IfErr, OnOk};
+ghost use Rattle.ucl_screen.specs.Screen.{IsGroup};
 ghost use Rattle.ucl_answers.specs.BadRows.{shown_text};
 ghost use Rattle.ucl_answers.specs.Holding.{AsksOf, parts_bytes};
 ghost use Rattle.ucl_answers.specs.Stages.{next_board};
@@ -13,7 +14,7 @@ use crate::request::Request;
 use crate::stage::Table;
 use std::alloc::Global;
 use ucl_command::{Format, LiveArgs};
-use ucl_json::words_json;
+use ucl_json::{Title, words_json};
 use ucl_screen::NightEvent;
 use ucl_word::OutOfMemory;
 
@@ -23,22 +24,34 @@ impl Table {
         &mut self,
         alloc: Global,
         options: &LiveArgs,
+        title: Title,
         row: u64,
         event: &NightEvent,
         parts: &mut Parts,
     ) -> Result<(), OutOfMemory>
+        requires { IsGroup title.group }
         ensures roster { OnOk result (self.new.roster ≡ self.old.roster) }
         ensures board { OnOk result (self.new.board ≡ next_board self.old.board (Event event.now)) }
         ensures text { OnOk result (parts_bytes parts.new
-            ≡ event_answer options.now row self.old.roster self.old.board event.now) }
+            ≡ event_answer options.now title row self.old.roster self.old.board event.now) }
         ensures memory { IfErr result
             (λ _. AsksOf options.now self.old.board (Event event.now)) }
     {
         let before = self.board.version();
         let reply = self.board.report(event.reporter, &event.call);
-        let line = reply_answer(alloc, options, row, event, before, reply, self)?;
+        let line = reply_answer(
+            alloc,
+            options.format,
+            title,
+            row,
+            event,
+            before,
+            reply,
+            self,
+        )?;
         if options.screens && reply.is_ok() {
-            parts.put_both(line, screen_answer(alloc, options, row, self)?);
+            let screen = screen_answer(alloc, options.format, title, row, self)?;
+            parts.put_both(line, screen);
         } else {
             parts.put(line);
         }
@@ -50,22 +63,26 @@ impl Table {
         &mut self,
         alloc: Global,
         options: &LiveArgs,
+        title: Title,
         row: u64,
         request: &Request,
         text: &[u8],
         parts: &mut Parts,
     ) -> Result<(), OutOfMemory>
+        requires { IsGroup title.group }
         ensures roster { OnOk result (self.new.roster ≡ self.old.roster) }
         ensures board { OnOk result (self.new.board ≡ next_board self.old.board request.now) }
         ensures text { OnOk result (parts_bytes parts.new
-            ≡ answer_of options.now row self.old.roster self.old.board request.now
+            ≡ answer_of options.now title row self.old.roster self.old.board request.now
             (shown_text text.now)) }
         ensures memory { IfErr result (λ _. AsksOf options.now self.old.board request.now) }
     {
         match request {
-            Request::Event(event) => return self.entered(alloc, options, row, event, parts),
+            Request::Event(event) => return self.entered(alloc, options, title, row, event, parts),
             Request::Bad(field) => parts.put(bad_answer(alloc, options.format, row, *field, text)?),
-            Request::Screen => parts.put(screen_answer(alloc, options, row, self)?),
+            Request::Screen => {
+                parts.put(screen_answer(alloc, options.format, title, row, self)?);
+            }
             Request::Words => match options.format {
                 Format::Text => parts.put_words(&self.board),
                 Format::Json => parts.put(Answer::Long(words_json(alloc, row, &self.board)?)),

@@ -5,7 +5,7 @@ ghost use Rattle.ucl_command.specs.Arguments.{IsEvening};
 
 use crate::fault::{LineFault, matches_from, read, refusal};
 use crate::files::{EveningArgs, ReporterFiles, ScreenFile};
-use crate::help::evening as help;
+use crate::help::{ROW_GROUP, ROW_ORDER, evening as help};
 use crate::names::{are_apart, names_of};
 use crate::options::{
     Format, group_of, group_option, order_of, order_option, program, several_option,
@@ -32,8 +32,8 @@ fn command<'a>(alloc: Global) -> Result<Command<'a>, AllocError> {
         .arg(several_option(alloc, "reporter", "IN=OUT", help::REPORTER).required(true))?
         .arg(several_option(alloc, "screen", "OUT", help::SCREEN))?
         .arg(several_option(alloc, "json", "OUT", help::JSON))?
-        .arg(group_option(alloc))?
-        .arg(order_option(alloc))
+        .arg(group_option(alloc, ROW_GROUP))?
+        .arg(order_option(alloc, ROW_ORDER))
 }
 
 /// Adds a reporter with these files.
@@ -86,8 +86,8 @@ fn push_screens(
 /// The arguments that the matches name, before anything is counted or compared.
 fn args_in(alloc: Global, matches: &ArgMatches<'_>) -> Result<EveningArgs, LineFault> {
     let clubs = read(alloc, matches.get_str("clubs"))?;
-    let group = read(alloc, group_of(matches))?;
-    let profile = read(alloc, order_of(matches))?;
+    let group = group_of(matches);
+    let profile = order_of(matches);
     let mut screens = Vec::new(alloc);
     push_screens(alloc, &mut screens, matches, "screen", Format::Text)?;
     push_screens(alloc, &mut screens, matches, "json", Format::Json)?;
@@ -119,8 +119,7 @@ fn if_evening(alloc: Global, args: EveningArgs) -> Result<EveningArgs, LineFault
 /// What the words ask of `ucl_evening`. The first word is the program's name.
 ///
 /// The arguments are the name of the script; `--reporter` with `IN=OUT`, once for each of 1 to 16 reporters; `--screen` and `--json` with the
-/// name of a file or pipe, at most 16 together; `--group` with a letter from `A` to `H`, which is `A` where it is left out; and `--order` with
-/// `uefa` or `away-in-tie`, which is `uefa` where it is left out.
+/// name of a file or pipe, at most 16 together; `--group` with a letter from `A` to `H`; and `--order` with `uefa` or `away-in-tie`.
 ///
 /// # Errors
 ///

@@ -1,6 +1,7 @@
 //! What `ucl_evening` is to do, and the files and pipes of its evening.
 
-ghost use Rattle.ucl_screen.specs.Screen.{IsGroup};
+ghost use Rattle.std.specs.Prelude.{◌≡◌, true};
+ghost use Rattle.ucl_command.specs.Groups.{may_be_asked};
 
 use crate::options::Format;
 use ucl_order::Profile;
@@ -32,9 +33,9 @@ pub struct EveningArgs {
     pub reporters: Vec<ReporterFiles>,
     /// The screens: those of text, and then those of JSON, each in the order of the words.
     pub screens: Vec<ScreenFile>,
-    /// The letter of the group, `A` to `H`.
-    pub group: u8,
-    /// The order of the clubs.
-    pub profile: Profile,
-    pub ghost letter: { IsGroup group },
+    /// The letter of the group that was asked for, `A` to `H`.
+    pub group: Option<u8>,
+    /// The order of the clubs that was asked for.
+    pub profile: Option<Profile>,
+    pub ghost letter: { may_be_asked group ≡ true },
 }

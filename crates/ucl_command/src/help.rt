@@ -17,6 +17,17 @@ pub(crate) const UNREAD: &str = "error: the words of the command line cannot be 
 /// What `--group` is.
 pub(crate) const GROUP: &str = "The letter of the group";
 
+/// What `--group` is where a row may say it too.
+pub(crate) const ROW_GROUP: &str = "\
+The letter of the group; A, where no first row says
+one";
+
+/// What `--order` is where a row may say it too.
+pub(crate) const ROW_ORDER: &str = "\
+The order of the clubs: that of the Regulations, or
+with away goals among tied clubs; uefa, where no first
+row says one";
+
 /// What `--order` is.
 pub(crate) const ORDER: &str = "\
 The order of the clubs: that of the Regulations, or

@@ -1,9 +1,10 @@
 //! The arguments of `ucl_live`.
 
-ghost use Rattle.ucl_screen.specs.Screen.{IsGroup};
+ghost use Rattle.std.specs.Prelude.{◌≡◌, true};
+ghost use Rattle.ucl_command.specs.Groups.{may_be_asked};
 
 use crate::fault::{LineFault, matches_from, read};
-use crate::help::live as help;
+use crate::help::{ROW_GROUP, ROW_ORDER, live as help};
 use crate::options::{
     Format, flag_option, format_of, format_option, group_of, group_option, order_of, order_option,
     program,
@@ -12,47 +13,49 @@ use clap::{ArgMatches, Command};
 use std::alloc::{AllocError, Global};
 use ucl_order::Profile;
 
-/// How an evening answers: for which group, in which order and form, and whether the screen follows each accepted event.
+/// How an evening answers: which group and order were asked for, whether it has to go on from words, whether the screen follows each
+/// accepted event, and in which form.
 #[derive(Debug, Drop)]
 pub struct LiveArgs {
-    /// The letter of the group, `A` to `H`.
-    pub group: u8,
-    /// The order of the clubs.
-    pub profile: Profile,
+    /// The letter of the group that was asked for, `A` to `H`.
+    pub group: Option<u8>,
+    /// The order of the clubs that was asked for.
+    pub profile: Option<Profile>,
+    /// Whether it has to go on from words.
+    pub resumed: bool,
     /// Whether the screen is shown after each accepted event.
     pub screens: bool,
     /// The form of the answers.
     pub format: Format,
-    pub ghost letter: { IsGroup group },
+    pub ghost letter: { may_be_asked group ≡ true },
 }
 
 /// The program's command.
 fn command<'a>(alloc: Global) -> Result<Command<'a>, AllocError> {
     program(alloc, "ucl_live", help::PROGRAM, help::PROGRAM_MORE)
-        .arg(group_option(alloc))?
-        .arg(order_option(alloc))?
+        .arg(group_option(alloc, ROW_GROUP))?
+        .arg(order_option(alloc, ROW_ORDER))?
+        .arg(flag_option(alloc, "resumed", help::RESUMED))?
         .arg(flag_option(alloc, "screens", help::SCREENS))?
         .arg(format_option(alloc))
 }
 
 /// The arguments that were named.
 fn args_in(matches: &ArgMatches<'_>) -> Option<LiveArgs> {
-    let group = group_of(matches)?;
-    let profile = order_of(matches)?;
     let format = format_of(matches)?;
-    let screens = matches.get_flag("screens");
+    let group = group_of(matches);
     Some(LiveArgs {
         group,
-        profile,
-        screens,
+        profile: order_of(matches),
+        resumed: matches.get_flag("resumed"),
+        screens: matches.get_flag("screens"),
         format,
     })
 }
 
 /// What the words ask of `ucl_live`. The first word is the program's name.
 ///
-/// The options are `--group` with a letter from `A` to `H`, which is `A` where it is left out; `--order` with `uefa` or `away-in-tie`, which is
-/// `uefa` where it is left out; `--screens`; and `--format` with `text` or `json`, which is `text` where it is left out.
+/// The options are `--group` with a letter from `A` to `H`; `--order` with `uefa` or `away-in-tie`; `--resumed`; `--screens`; and `--format` with `text` or `json`, which is `text` where it is left out.
 ///
 /// # Errors
 ///

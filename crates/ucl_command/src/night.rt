@@ -4,7 +4,7 @@ ghost use Rattle.std.specs.Prelude.{IfOk, IfSome};
 ghost use Rattle.ucl_command.specs.Arguments.{IsInRange};
 
 use crate::fault::{LineFault, matches_from, read};
-use crate::help::night as help;
+use crate::help::{GROUP, ORDER, night as help};
 use crate::options::{
     group_of, group_option, order_of, order_option, program, readings_of, readings_option,
 };
@@ -43,14 +43,14 @@ fn command<'a>(alloc: Global) -> Result<Command<'a>, AllocError> {
     let show = Command::new(alloc, "show")
         .about(help::SHOW)
         .after_help(help::SHOW_MORE)
-        .arg(group_option(alloc))?
-        .arg(order_option(alloc))?;
+        .arg(group_option(alloc, GROUP).default_value("A"))?
+        .arg(order_option(alloc, ORDER).default_value(Profile::Uefa.name()))?;
     let night = Command::new(alloc, "night")
         .about(help::NIGHT)
         .after_help(help::NIGHT_MORE)
-        .arg(group_option(alloc))?
+        .arg(group_option(alloc, GROUP).default_value("A"))?
         .arg(readings_option(alloc))?
-        .arg(order_option(alloc))?;
+        .arg(order_option(alloc, ORDER).default_value(Profile::Uefa.name()))?;
     program(alloc, "ucl_night", help::PROGRAM, help::PROGRAM_MORE)
         .subcommand_required(true)
         .subcommand(feed)?

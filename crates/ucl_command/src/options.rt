@@ -1,7 +1,8 @@
 //! The options that programs share, each once, and what their values name.
 
-ghost use Rattle.std.specs.Prelude.{◌≤◌, IfSome};
+ghost use Rattle.std.specs.Prelude.{◌≡◌, ◌≤◌, true, IfSome};
 ghost use Rattle.ucl_screen.specs.Screen.{IsGroup};
+ghost use Rattle.ucl_command.specs.Groups.{may_be_asked};
 
 use crate::help;
 use clap::{Arg, ArgAction, ArgMatches, Command, value_parser};
@@ -51,18 +52,14 @@ fn option<'a>(alloc: Global, name: &'a str, value: &'a str, says: &'a str) -> Ar
         .help(says)
 }
 
-/// `--group` with a letter from `A` to `H`, which is `A` where it is left out.
-pub(crate) fn group_option<'a>(alloc: Global) -> Arg<'a> {
-    option(alloc, "group", "GROUP", help::GROUP)
-        .value_parser(GROUPS.as_slice())
-        .default_value("A")
+/// `--group` with a letter from `A` to `H`.
+pub(crate) fn group_option<'a>(alloc: Global, says: &'a str) -> Arg<'a> {
+    option(alloc, "group", "GROUP", says).value_parser(GROUPS.as_slice())
 }
 
-/// `--order` with `uefa` or `away-in-tie`, which is `uefa` where it is left out.
-pub(crate) fn order_option<'a>(alloc: Global) -> Arg<'a> {
-    option(alloc, "order", "ORDER", help::ORDER)
-        .value_parser(PROFILE_NAMES.as_slice())
-        .default_value(Profile::Uefa.name())
+/// `--order` with `uefa` or `away-in-tie`.
+pub(crate) fn order_option<'a>(alloc: Global, says: &'a str) -> Arg<'a> {
+    option(alloc, "order", "ORDER", says).value_parser(PROFILE_NAMES.as_slice())
 }
 
 /// `--format` with `text` or `json`, which is `text` where it is left out.
@@ -98,8 +95,10 @@ pub(crate) fn several_option<'a>(
 }
 
 /// The group that was named.
+#[tactic(auto, using(crate::proofs::Letters::letter_asked))]
 pub(crate) fn group_of(matches: &ArgMatches<'_>) -> Option<u8>
-    ensures { IfSome result IsGroup }
+    ensures letter { IfSome result IsGroup }
+    ensures asked { may_be_asked result ≡ true }
 {
     match matches.get_str("group")?.as_bytes() {
         [letter] if is_group(*letter) => Some(*letter),

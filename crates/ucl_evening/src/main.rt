@@ -29,7 +29,7 @@ fn main(rt: HostRuntime) -> ExitCode {
     };
     let status = match asked {
         Ok(asked) => match ready_for(&rt, alloc, &asked) {
-            Ok(ready) => hold(&rt, alloc, &asked, ready, &mut output, &mut errors),
+            Ok(ready) => hold(&rt, alloc, ready, &mut output, &mut errors),
             Err(stop) => tell_stop(&mut errors, stop),
         },
         Err(fault) => ended_unasked(&mut output, &mut errors, fault),

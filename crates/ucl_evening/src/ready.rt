@@ -2,27 +2,45 @@
 
 ghost use Rattle.std.specs.Prelude.{◌≤◌, IfOk, length};
 ghost use Rattle.ucl_screen.specs.Input.{most_bytes};
+ghost use Rattle.ucl_screen.specs.Screen.{IsGroup};
 
 use crate::files::{Before, In, Out};
 use crate::outputs::{Befores, Stop, befores_of};
 use std::alloc::Global;
 use std::fs::{File, Files};
+use ucl_answers::{OTHER_GROUP, first_group, title_for};
+use ucl_board::Board;
 use ucl_command::EveningArgs;
 use ucl_evenings_threads::{Place, Reporter, night_towards};
+use ucl_json::Title;
 use ucl_runs::RunFault;
 use ucl_screen::{
-    FIRST_EVENT_ROW, FromRead, InputFault, Night, ToWrite, read_all, read_night, read_words,
+    FIRST_EVENT_ROW, FromRead, InputFault, Night, NightEvent, ToWrite, read_all, read_night,
+    read_words,
 };
+
+/// What an evening begins with.
+#[derive(Drop)]
+struct Beginning {
+    title: Title,
+    night: Night,
+    ghost letter: { IsGroup title.group },
+    ghost few: { length night.events.items ≤ most_bytes },
+}
 
 /// What an evening needs: `S` is where rows come from, and `V` where answers and screens go.
 #[derive(Drop)]
 pub struct Ready<S, V> {
+    /// What the board is told under.
+    pub title: Title,
     /// The script.
     pub night: Night,
     /// The reporters, in the order of the words.
     pub reporters: Vec<Reporter<S, V>>,
     /// The places of the screens: those of text, and then those of JSON, each in the order of the words.
     pub places: Vec<Place<V>>,
+    pub ghost letter: { IsGroup title.group },
+    pub ghost few: { length night.events.items ≤ most_bytes },
 }
 
 /// The reporters, with their files and pipes.
@@ -65,17 +83,75 @@ fn places_on<'r, R: Files<File = File>>(
     Ok(places)
 }
 
-/// The script that the argument names. Where it has the words of a board in place of events, it is events that lead to these words.
-fn script_of<R: Files<File = File>>(rt: &R, alloc: Global, name: &str) -> Result<Night, Stop>
+/// The first line of a text, and what comes after it.
+fn first_line(text: &[u8]) -> (&[u8], &[u8]) {
+    for at in 0..text.len() {
+        if text[at] == b'\n' {
+            return (&text[..at], &text[at + 1..]);
+        }
+    }
+    (text, b"".as_slice())
+}
+
+/// A fault of a script, in which the clubs come after so many rows.
+fn moved(fault: InputFault, before: u32) -> InputFault {
+    match fault {
+        InputFault::BadRow { row } => InputFault::BadRow {
+            row: row.saturating_add(before),
+        },
+        other => other,
+    }
+}
+
+/// The night of a script. Where it has the words of a board in place of events, it is events that lead to these words.
+fn night_of(alloc: Global, script: &[u8], before: u32) -> Result<Night, Stop>
     ensures few { IfOk result (λ night. length night.events.items ≤ most_bytes) }
 {
-    let bytes = read_all(alloc, &mut FromRead::new(In::named(rt, name)))?;
-    match read_night(alloc, &mut FromRead::new(bytes.as_slice())) {
+    match read_night(alloc, &mut FromRead::new(script)) {
         Err(InputFault::BadRow { row }) if row == u32::from(FIRST_EVENT_ROW) => {
-            let sheet = read_words(alloc, &mut FromRead::new(bytes.as_slice()))?;
-            Ok(night_towards(alloc, sheet)?)
+            match read_words(alloc, &mut FromRead::new(script)) {
+                Ok(sheet) => Ok(night_towards(alloc, sheet)?),
+                Err(fault) => Err(Stop::from(moved(fault, before))),
+            }
         }
-        night => Ok(night?),
+        Ok(night) => Ok(night),
+        Err(fault) => Err(Stop::from(moved(fault, before))),
+    }
+}
+
+/// The first event that is refused, if one is.
+fn refused_in(events: &[NightEvent]) -> Option<u32> {
+    let mut board = Board::fresh();
+    let mut row = u32::from(FIRST_EVENT_ROW);
+    for event in events {
+        if board.report(event.reporter, &event.call).is_err() {
+            return Some(row);
+        }
+        row = row.saturating_add(1);
+    }
+    None
+}
+
+/// What the script says that the argument names: the row of a group, where it has one, and the night after it.
+fn beginning_of(alloc: Global, asked: &EveningArgs, script: &[u8]) -> Result<Beginning, Stop> {
+    let (line, rest) = first_line(script);
+    let Some(said) = first_group(line) else {
+        let Some(title) = title_for(asked.group, asked.profile, None) else {
+            return Err(Stop::Refused(OTHER_GROUP));
+        };
+        let night = night_of(alloc, script, 0)?;
+        return Ok(Beginning { title, night });
+    };
+    if said.is_none() {
+        return Err(Stop::from(InputFault::BadRow { row: 1 }));
+    }
+    let Some(title) = title_for(asked.group, asked.profile, said) else {
+        return Err(Stop::Refused(OTHER_GROUP));
+    };
+    let night = night_of(alloc, rest, 1)?;
+    match refused_in(&night.events) {
+        Some(row) => Err(Stop::from(moved(InputFault::BadRow { row }, 1))),
+        None => Ok(Beginning { title, night }),
     }
 }
 
@@ -84,17 +160,20 @@ pub fn ready_for<'r, R: Files<File = File>>(
     rt: &'r R,
     alloc: Global,
     asked: &'r EveningArgs,
-) -> Result<Ready<FromRead<In<'r, R>>, ToWrite<Out<'r, R>>>, Stop>
-    ensures few { IfOk result (λ ready. length ready.night.events.items ≤ most_bytes) }
-{
+) -> Result<Ready<FromRead<In<'r, R>>, ToWrite<Out<'r, R>>>, Stop> {
     let Befores {
         replies: before_replies,
         screens: before_screens,
     } = befores_of(rt, alloc, asked)?;
-    let night = script_of(rt, alloc, asked.clubs.as_str())?;
+    let script = read_all(
+        alloc,
+        &mut FromRead::new(In::named(rt, asked.clubs.as_str())),
+    )?;
+    let Beginning { title, night } = beginning_of(alloc, asked, script.as_slice())?;
     let reporters = reporters_on(rt, alloc, asked, &before_replies)?;
     let places = places_on(rt, alloc, asked, &before_screens)?;
     Ok(Ready {
+        title,
         night,
         reporters,
         places,

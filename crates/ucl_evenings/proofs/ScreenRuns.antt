@@ -8,12 +8,12 @@ use Rattle.ucl_order.specs.Roster.{NamedClub}
 use Rattle.ucl_runs.specs.declared.fault.RunFault.{RunFault}
 use Rattle.ucl_runs.specs.declared.fault.RunFault.TheVariants.{Input, OutOfMemory, WriteFailed, NotOnDuty, NoThread, TooManyReporters, Strangers}
 use Rattle.ucl_shared.specs.Passes.{PassView, Continues, SharedReading}
-use Rattle.ucl_command.specs.declared.live.LiveArgs.{LiveArgs}
+use Rattle.ucl_evenings.specs.declared.shape.Shape.{Shape}
 use Rattle.ucl_evenings.specs.Showing.{AreFew, EndsWithLatest, HasReadSince, HasRisen, HasShownLast, FailsToShowReading, HasShownReading, Screening, screens_shown}
 use Rattle.ucl_evenings.specs.Showing.{ShowsSince, SoFar, ends_by}
 use Rattle.ucl_evenings.proofs.ShownScreens.{ends_same, ends_shown, few_more, risen, risen_more, same_text, so_far_more, so_far_on, stopped_more}
 
-module _ (options : LiveArgs) (clubs : List NamedClub) (least : ℕ) (k m z : PassView) (s : Screening) (old new : Option (List ℕ)) (versions : List ℕ)
+module _ (options : Shape) (clubs : List NamedClub) (least : ℕ) (k m z : PassView) (s : Screening) (old new : Option (List ℕ)) (versions : List ℕ)
     (p : SoFar options clubs k m s old new versions) (on : Continues m z) (reading : Reading) (read : SharedReading m reading z) (low : least ≤ length m.seen) where
   -- a reading was shown, or its version was shown before
   pub record AfterReading (t : Screening) (new2 : Option (List ℕ)) : Type 0 where
@@ -82,7 +82,7 @@ ended_by start ends ends2 pass true over same told is = told ∙ same ∙ ap (λ
 ended_by start ends ends2 pass false over same told is =
     told ∙ ap (λ (l : List _). l ++ pass ∷ []) same ∙ ap (λ (b : Bool). cond b (start ++ pass ∷ []) start) (sym is)
 
-pub few_after : (options : LiveArgs) (clubs : List NamedClub) (m z : PassView) (s : Screening) (new : Option (List ℕ)) (on : Continues m z) (reading : Reading) (read : SharedReading m reading z)
+pub few_after : (options : Shape) (clubs : List NamedClub) (m z : PassView) (s : Screening) (new : Option (List ℕ)) (on : Continues m z) (reading : Reading) (read : SharedReading m reading z)
     (t : Screening) (new2 : Option (List ℕ)) → AreFew s → (s.next ≤ reading.version → HasShownReading options clubs reading s t new new2)
     → (reading.version < s.next → (t ≡ s) × (new2 ≡ new)) → AreFew t
 few_after options clubs m z s new on reading read t new2 few shown kept = elim (cases_lt reading.version s.next) [
@@ -91,7 +91,7 @@ few_after options clubs m z s new on reading read t new2 few shown kept = elim (
 ]
 
 -- a note was heard, and a reading was shown or not
-pub shown_noted : (options : LiveArgs) (clubs : List NamedClub) (least : ℕ) (k l m z : PassView) (s : Screening) (old new : Option (List ℕ)) (versions : List ℕ)
+pub shown_noted : (options : Shape) (clubs : List NamedClub) (least : ℕ) (k l m z : PassView) (s : Screening) (old new : Option (List ℕ)) (versions : List ℕ)
     (hear : Continues l m) (on : Continues m z) (reading : Reading) (read : SharedReading m reading z) (low : least ≤ length m.seen)
     (p : SoFar options clubs k l s old new versions) (t : Screening) (new2 : Option (List ℕ)) (failed : Bool) (r : Result ⊤ RunFault)
     → (s.next ≤ reading.version → OnOk r (HasShownReading options clubs reading s t new new2)) → (reading.version < s.next → OnOk r ((t ≡ s) × (new2 ≡ new)))

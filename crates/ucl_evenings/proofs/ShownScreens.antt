@@ -15,9 +15,8 @@ use Rattle.ucl_io.specs.Output.{StoppedShort}
 use Rattle.ucl_runs.proofs.EnteredRows.{goes_on}
 use Rattle.ucl_runs.proofs.Parts.{stopped_second}
 use Rattle.ucl_shared.specs.Passes.{PassView, Continues, SharedReading}
-use Rattle.ucl_command.specs.declared.live.LiveArgs.{LiveArgs}
-use Rattle.ucl_answers.specs.Text.{screen_answer}
-use Rattle.ucl_evenings.specs.Showing.{AreFew, EndsWithLatest, GoesOnOrStays, HasRisen, HasShownReading, IsLastBefore, RiseWithin, Screening, SoFar, no_screen, screens_shown}
+use Rattle.ucl_evenings.specs.declared.shape.Shape.{Shape}
+use Rattle.ucl_evenings.specs.Showing.{AreFew, EndsWithLatest, GoesOnOrStays, HasRisen, HasShownReading, IsLastBefore, RiseWithin, Screening, SoFar, no_screen, screen_in_shape, screens_shown}
 
 rise_more : (low high version : ℕ) (versions : List ℕ) → RiseWithin low high versions → high ≤ version → RiseWithin low (version + 1) (versions ++ version ∷ [])
 unfolding RiseWithin
@@ -39,7 +38,7 @@ unfolding RiseWithin
 rise_count low high [] r = omega arith
 rise_count low high (v ∷ versions) r = let n = rise_count (v + 1) high versions r.1 in let le = r.0 in omega arith
 
-module _ (options : LiveArgs) (clubs : List NamedClub) where
+module _ (options : Shape) (clubs : List NamedClub) where
   -- the screens are those of each history that goes on
   pub screens_on : (s h : List Entry) (number low high : ℕ) (versions : List ℕ) → IsPrefix s h → RiseWithin low high versions → high ≤ length s + 1
       → screens_shown options clubs h number versions ≡ screens_shown options clubs s number versions
@@ -47,27 +46,27 @@ module _ (options : LiveArgs) (clubs : List NamedClub) where
   screens_on s h number low high [] on r le = refl
   screens_on s h number low high (v ∷ versions) on r le =
       let n = rise_count (v + 1) high versions r.1 in
-      ap (λ (l : List Entry). screen_answer options number clubs (board_of l) ++ screens_shown options clubs h (number + 1) versions) (take_beginning s h v on (omega arith))
-      ∙ ap (λ (l : List ℕ). screen_answer options number clubs (board_of (take v s)) ++ l) (screens_on s h (number + 1) (v + 1) high versions on r.1 le)
+      ap (λ (l : List Entry). screen_in_shape options number clubs (board_of l) ++ screens_shown options clubs h (number + 1) versions) (take_beginning s h v on (omega arith))
+      ∙ ap (λ (l : List ℕ). screen_in_shape options number clubs (board_of (take v s)) ++ l) (screens_on s h (number + 1) (v + 1) high versions on r.1 le)
 
   screens_more : (h : List Entry) (number version : ℕ) (versions : List ℕ)
       → screens_shown options clubs h number (versions ++ version ∷ [])
-      ≡ screens_shown options clubs h number versions ++ screen_answer options (number + length versions) clubs (board_of (take version h))
+      ≡ screens_shown options clubs h number versions ++ screen_in_shape options (number + length versions) clubs (board_of (take version h))
   unfolding screens_shown
   screens_more h number version [] =
-      append-nil (screen_answer options number clubs (board_of (take version h))) ∙ ap (λ (n : ℕ). screen_answer options n clubs (board_of (take version h))) (omega arith)
+      append-nil (screen_in_shape options number clubs (board_of (take version h))) ∙ ap (λ (n : ℕ). screen_in_shape options n clubs (board_of (take version h))) (omega arith)
   screens_more h number version (v ∷ versions) =
-      let first = screen_answer options number clubs (board_of (take v h)) in
+      let first = screen_in_shape options number clubs (board_of (take v h)) in
       let same : number + 1 + length versions ≡ number + length (v ∷ versions) = omega arith in
       ap (λ (l : List ℕ). first ++ l) (screens_more h (number + 1) version versions)
-      ∙ sym (append_assoc first (screens_shown options clubs h (number + 1) versions) (screen_answer options (number + 1 + length versions) clubs (board_of (take version h))))
-      ∙ ap (λ (n : ℕ). (first ++ screens_shown options clubs h (number + 1) versions) ++ screen_answer options n clubs (board_of (take version h))) same
+      ∙ sym (append_assoc first (screens_shown options clubs h (number + 1) versions) (screen_in_shape options (number + 1 + length versions) clubs (board_of (take version h))))
+      ∙ ap (λ (n : ℕ). (first ++ screens_shown options clubs h (number + 1) versions) ++ screen_in_shape options n clubs (board_of (take version h))) same
 
   screens_none : (h : List Entry) (number : ℕ) → screens_shown options clubs h number [] ≡ []
   unfolding screens_shown
   screens_none h number = refl
 
-pub so_far_none : (options : LiveArgs) (clubs : List NamedClub) (k : PassView) (old : Option (List ℕ)) → SoFar options clubs k k no_screen old old []
+pub so_far_none : (options : Shape) (clubs : List NamedClub) (k : PassView) (old : Option (List ℕ)) → SoFar options clubs k k no_screen old old []
 unfolding RiseWithin
 so_far_none options clubs k old =
     let none = screens_none options clubs k.seen 1 in record {
@@ -87,7 +86,7 @@ pub goes_next : (k m z : PassView) → GoesOnOrStays k m → Continues m z → C
 goes_next k m z (inl a) b = goes_on k m z a b
 goes_next k m z (inr e) b = subst (λ (x : PassView). Continues x z) e b
 
-module _ (options : LiveArgs) (clubs : List NamedClub) (k m z : PassView) (s : Screening) (old new : Option (List ℕ)) (versions : List ℕ)
+module _ (options : Shape) (clubs : List NamedClub) (k m z : PassView) (s : Screening) (old new : Option (List ℕ)) (versions : List ℕ)
     (p : SoFar options clubs k m s old new versions) (on : Continues m z) where
   longer : length m.seen ≤ length z.seen
   longer = begins_length m.seen z.seen on.on.seen
@@ -124,12 +123,12 @@ module _ (options : LiveArgs) (clubs : List NamedClub) (k m z : PassView) (s : S
     at : p.high ≤ reading.version
     at = let low = read.low in elim p.high_is [ inl e ↦ omega arith | inr e ↦ (let l = from_start in omega arith) ]
 
-    more_text : screens_shown options clubs z.seen 1 (versions ++ reading.version ∷ []) ≡ screens_shown options clubs m.seen 1 versions ++ screen_answer options s.number clubs reading.board
+    more_text : screens_shown options clubs z.seen 1 (versions ++ reading.version ∷ []) ≡ screens_shown options clubs m.seen 1 versions ++ screen_in_shape options s.number clubs reading.board
     more_text =
         screens_more options clubs z.seen 1 reading.version versions
-        ∙ ap (λ (l : List ℕ). l ++ screen_answer options (1 + length versions) clubs (board_of (take reading.version z.seen))) same_text
-        ∙ ap (λ (n : ℕ). screens_shown options clubs m.seen 1 versions ++ screen_answer options n clubs (board_of (take reading.version z.seen))) (sym p.count)
-        ∙ ap (λ (r : Reading). screens_shown options clubs m.seen 1 versions ++ screen_answer options s.number clubs r.board) (sym read.snapshot)
+        ∙ ap (λ (l : List ℕ). l ++ screen_in_shape options (1 + length versions) clubs (board_of (take reading.version z.seen))) same_text
+        ∙ ap (λ (n : ℕ). screens_shown options clubs m.seen 1 versions ++ screen_in_shape options n clubs (board_of (take reading.version z.seen))) (sym p.count)
+        ∙ ap (λ (r : Reading). screens_shown options clubs m.seen 1 versions ++ screen_in_shape options s.number clubs r.board) (sym read.snapshot)
 
     pub risen_more : HasRisen k z (versions ++ reading.version ∷ [])
     risen_more = record {
@@ -143,7 +142,7 @@ module _ (options : LiveArgs) (clubs : List NamedClub) (k m z : PassView) (s : S
     so_far_more t new2 shown =
         let small = (versions_are z.seen on.sound.legal).1 in
         let high = read.high in
-        let long = ap (length {A = ℕ}) more_text ∙ length-append (screens_shown options clubs m.seen 1 versions) (screen_answer options s.number clubs reading.board) in
+        let long = ap (length {A = ℕ}) more_text ∙ length-append (screens_shown options clubs m.seen 1 versions) (screen_in_shape options s.number clubs reading.board) in
         let before = p.told in
         let told = shown.told in
         let next = shown.next_is in record {
@@ -155,19 +154,19 @@ module _ (options : LiveArgs) (clubs : List NamedClub) (k m z : PassView) (s : S
           few = omega arith;
           count = (let c = p.count in let d = shown.number_is in let n = length-append versions (reading.version ∷ []) in omega arith);
           out = subst (Appends old new2) (sym more_text)
-              (appends-then old new new2 (screens_shown options clubs m.seen 1 versions) (screen_answer options s.number clubs reading.board) p.out shown.given);
+              (appends-then old new new2 (screens_shown options clubs m.seen 1 versions) (screen_in_shape options s.number clubs reading.board) p.out shown.given);
           told = omega arith;
           last = inr (record { version = reading.version; before = versions; next_is = next; last = refl });
         }
 
-    pub stopped_more : (failed : Bool) (new2 : Option (List ℕ)) (count : ℕ) → StoppedShort s.written failed new new2 (screen_answer options s.number clubs reading.board) count
+    pub stopped_more : (failed : Bool) (new2 : Option (List ℕ)) (count : ℕ) → StoppedShort s.written failed new new2 (screen_in_shape options s.number clubs reading.board) count
         → StoppedShort 0 failed old new2 (screens_shown options clubs z.seen 1 (versions ++ reading.version ∷ [])) count
     stopped_more failed new2 count stop =
         subst (λ (l : List ℕ). StoppedShort 0 failed old new2 l count) (sym more_text)
-        (stopped_second 0 s.written failed old new new2 (screens_shown options clubs m.seen 1 versions) (screen_answer options s.number clubs reading.board)
+        (stopped_second 0 s.written failed old new new2 (screens_shown options clubs m.seen 1 versions) (screen_in_shape options s.number clubs reading.board)
         (WriteFailed count) p.out (let told = p.told in omega arith) stop)
 
-pub few_more : (options : LiveArgs) (clubs : List NamedClub) (m z : PassView) (s : Screening) (new : Option (List ℕ)) → Continues m z → (reading : Reading) → SharedReading m reading z
+pub few_more : (options : Shape) (clubs : List NamedClub) (m z : PassView) (s : Screening) (new : Option (List ℕ)) → Continues m z → (reading : Reading) → SharedReading m reading z
     → (t : Screening) (new2 : Option (List ℕ)) → AreFew s → s.next ≤ reading.version → HasShownReading options clubs reading s t new new2 → AreFew t
 few_more options clubs m z s new on reading read t new2 few rises shown =
     let small = (versions_are z.seen on.sound.legal).1 in
@@ -177,12 +176,12 @@ few_more options clubs m z s new on reading read t new2 few rises shown =
     let before = few.0 in (omega arith, omega arith)
 
 -- a screen stands somewhere
-pub record Stands (options : LiveArgs) (clubs : List NamedClub) (k m : PassView) (s : Screening) (old new : Option (List ℕ)) : Type 0 where
+pub record Stands (options : Shape) (clubs : List NamedClub) (k m : PassView) (s : Screening) (old new : Option (List ℕ)) : Type 0 where
   pub versions : List ℕ
   pub so_far : SoFar options clubs k m s old new versions
 
 -- where the pass heard nothing it is as it was
-pub so_far_stays : (options : LiveArgs) (clubs : List NamedClub) (k m z : PassView) (s : Screening) (old new : Option (List ℕ)) (versions : List ℕ) → SoFar options clubs k m s old new versions
+pub so_far_stays : (options : Shape) (clubs : List NamedClub) (k m z : PassView) (s : Screening) (old new : Option (List ℕ)) (versions : List ℕ) → SoFar options clubs k m s old new versions
     → GoesOnOrStays m z → SoFar options clubs k z s old new versions
 so_far_stays options clubs k m z s old new versions p (inl on) = so_far_on options clubs k m z s old new versions p on
 so_far_stays options clubs k m z s old new versions p (inr same) = subst (λ (x : PassView). SoFar options clubs k x s old new versions) (sym same) p

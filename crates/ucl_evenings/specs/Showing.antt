@@ -9,7 +9,7 @@ use Rattle.ucl_runs.specs.declared.fault.RunFault.{RunFault}
 use Rattle.ucl_runs.specs.declared.fault.RunFault.TheVariants.{OutOfMemory, WriteFailed}
 use Rattle.ucl_io.specs.Output.{StoppedShort}
 use Rattle.ucl_shared.specs.Passes.{PassView, Continues}
-use Rattle.ucl_command.specs.declared.live.LiveArgs.{LiveArgs}
+use Rattle.ucl_evenings.specs.declared.shape.Shape.{Shape}
 use Rattle.ucl_answers.specs.Text.{screen_answer}
 use Rattle.ucl_evenings.specs.declared.screen.Screen.{Screen}
 
@@ -18,11 +18,15 @@ unfoldable pub RiseWithin : ℕ → ℕ → List ℕ → Type 0
 RiseWithin low high [] = low ≤ high
 RiseWithin low high (version ∷ versions) = (low ≤ version) × RiseWithin (version + 1) high versions
 
+-- the text of a screen, which has this number
+abbrev pub screen_in_shape : Shape → ℕ → List NamedClub → List ℕ → List ℕ
+screen_in_shape options number clubs board = screen_answer options.format options.title number clubs board
+
 -- the screens of the boards after so many first entries of a history, one after the other, counted from this number
-unfoldable pub screens_shown : LiveArgs → List NamedClub → List Entry → ℕ → List ℕ → List ℕ
+unfoldable pub screens_shown : Shape → List NamedClub → List Entry → ℕ → List ℕ → List ℕ
 screens_shown options clubs history number [] = []
 screens_shown options clubs history number (version ∷ versions) =
-    screen_answer options number clubs (board_of (take version history)) ++ screens_shown options clubs history (number + 1) versions
+    screen_in_shape options number clubs (board_of (take version history)) ++ screens_shown options clubs history (number + 1) versions
 
 -- a reader's pass, k before and m after, has read, and these versions of its readings came to a screen: they rise strictly, none is below
 -- what k had seen, and each is of the history that m has seen
@@ -127,7 +131,7 @@ pub record IsLastBefore (next : ℕ) (versions : List ℕ) : Type 0 where
   pub last : versions ≡ before ++ version ∷ []
 
 -- where it stands after these versions, if it began with the pass k, which is m now
-pub record SoFar (options : LiveArgs) (clubs : List NamedClub) (k m : PassView) (s : Screening) (old new : Option (List ℕ)) (versions : List ℕ) : Type 0 where
+pub record SoFar (options : Shape) (clubs : List NamedClub) (k m : PassView) (s : Screening) (old new : Option (List ℕ)) (versions : List ℕ) : Type 0 where
   pub goes : GoesOnOrStays k m
   pub high : ℕ
   pub rise : RiseWithin (length k.seen) high versions
@@ -140,28 +144,28 @@ pub record SoFar (options : LiveArgs) (clubs : List NamedClub) (k m : PassView) 
   pub last : (s.next ≡ 0) ⊎ IsLastBefore s.next versions
 
 -- what a further run of a screen comes to, that has begun with the pass k: all versions that it showed, before and in it, and how it ended
-pub record ShowsSince (options : LiveArgs) (clubs : List NamedClub) (least : ℕ) (k m : PassView) (s : Screening) (failed : Bool) (old new : Option (List ℕ)) (result : Result ⊤ RunFault) : Type 0 where
+pub record ShowsSince (options : Shape) (clubs : List NamedClub) (least : ℕ) (k m : PassView) (s : Screening) (failed : Bool) (old new : Option (List ℕ)) (result : Result ⊤ RunFault) : Type 0 where
   pub versions : List ℕ
   pub risen : HasRisen k m versions
   pub ends : ScreensEnd failed old new (screens_shown options clubs m.seen 1 versions) (EndsWithLatest least m versions) result
   pub stands : OnOk result (SoFar options clubs k m s old new versions)
 
 -- a further run, wherever the screen began
-abbrev pub ShowsFurther : (options : LiveArgs) (clubs : List NamedClub) (least : ℕ) (m m2 : PassView) (s s2 : Screening) (failed : Bool) (mid new : Option (List ℕ)) (result : Result ⊤ RunFault) → Type 0
+abbrev pub ShowsFurther : (options : Shape) (clubs : List NamedClub) (least : ℕ) (m m2 : PassView) (s s2 : Screening) (failed : Bool) (mid new : Option (List ℕ)) (result : Result ⊤ RunFault) → Type 0
 ShowsFurther options clubs least m m2 s s2 failed mid new result =
     (k : PassView) (old : Option (List ℕ)) (versions : List ℕ) → SoFar options clubs k m s old mid versions
     → ShowsSince options clubs least k m2 s2 failed old new result
 
 -- a reading was shown
-pub record HasShownReading (options : LiveArgs) (clubs : List NamedClub) (reading : Reading) (before after : Screening) (old new : Option (List ℕ)) : Type 0 where
-  pub given : Appends old new (screen_answer options before.number clubs reading.board)
+pub record HasShownReading (options : Shape) (clubs : List NamedClub) (reading : Reading) (before after : Screening) (old new : Option (List ℕ)) : Type 0 where
+  pub given : Appends old new (screen_in_shape options before.number clubs reading.board)
   pub next_is : after.next ≡ reading.version + 1
   pub number_is : after.number ≡ before.number + 1
-  pub told : after.written ≡ min (before.written + length (screen_answer options before.number clubs reading.board)) (2 ^ 64 - 1)
+  pub told : after.written ≡ min (before.written + length (screen_in_shape options before.number clubs reading.board)) (2 ^ 64 - 1)
 
 -- it was not, for want of memory or since the sink failed
-abbrev pub FailsToShowReading : LiveArgs → List NamedClub → Reading → Screening → Bool → Option (List ℕ) → Option (List ℕ) → RunFault → Type 0
+abbrev pub FailsToShowReading : Shape → List NamedClub → Reading → Screening → Bool → Option (List ℕ) → Option (List ℕ) → RunFault → Type 0
 FailsToShowReading options clubs reading before failed old new OutOfMemory = new ≡ old
 FailsToShowReading options clubs reading before failed old new (WriteFailed count) =
-    StoppedShort before.written failed old new (screen_answer options before.number clubs reading.board) count
+    StoppedShort before.written failed old new (screen_in_shape options before.number clubs reading.board) count
 FailsToShowReading options clubs reading before failed old new _ = ⊥

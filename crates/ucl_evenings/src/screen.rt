@@ -2,14 +2,13 @@
 
 ghost use Rattle.std.specs.Prelude.{◌≡◌, ◌-◌, ◌^◌, ◌<◌, ◌≤◌, IfErr, IfOk, OnOk, string_bytes};
 ghost use Rattle.ucl_runs.specs.Run.{SinkFails};
-ghost use Rattle.ucl_answers.specs.Text.{screen_answer};
-ghost use Rattle.ucl_evenings.specs.Showing.{FailsToShowReading, HasShownReading, IsNewScreen, IsReadingOf, StaysScreen, standing};
+ghost use Rattle.ucl_evenings.specs.Showing.{FailsToShowReading, HasShownReading, IsNewScreen, IsReadingOf, StaysScreen, screen_in_shape, standing};
 
+use crate::shape::Shape;
 use std::alloc::Global;
 use std::snapshot::Snapshot;
-use ucl_answers::title_of;
 use ucl_board::{Board, Reading};
-use ucl_command::{Format, LiveArgs};
+use ucl_command::Format;
 use ucl_json::edition_screen_json;
 use ucl_order::Roster;
 use ucl_runs::{RunFault, put_bytes};
@@ -19,18 +18,24 @@ use ucl_shared::LiveBoard;
 /// The text of a screen, which has this number.
 fn screen_of(
     alloc: Global,
-    options: &LiveArgs,
+    options: Shape,
     roster: &Roster,
     number: u64,
     board: &Board,
 ) -> Result<String, RunFault>
     ensures text { IfOk result (λ text. string_bytes text
-        ≡ screen_answer options.now number roster.now board.now) }
+        ≡ screen_in_shape options number roster.now board.now) }
     ensures memory { IfErr result (λ f. f ≡ RunFault.OutOfMemory) }
 {
     let text = match options.format {
-        Format::Text => screen(alloc, board, roster, options.group, options.profile)?,
-        Format::Json => edition_screen_json(alloc, number, board, roster, title_of(options))?,
+        Format::Text => screen(
+            alloc,
+            board,
+            roster,
+            options.title.group,
+            options.title.profile,
+        )?,
+        Format::Json => edition_screen_json(alloc, number, board, roster, options.title)?,
     };
     Ok(text)
 }
@@ -42,8 +47,8 @@ pub struct Screen<B, V> {
     board: Snapshot<B>,
     /// Its clubs.
     roster: Snapshot<Roster>,
-    /// How it is written. Whether screens are shown is not looked at: they are.
-    options: LiveArgs,
+    /// How it is written.
+    options: Shape,
     /// Where it goes.
     sink: V,
     /// The least version that it shows.
@@ -56,7 +61,7 @@ pub struct Screen<B, V> {
 
 impl<B: LiveBoard, V: Sink> Screen<B, V> {
     /// A screen of these clubs that has shown nothing yet.
-    pub fn new(board: &B, roster: &Roster, options: LiveArgs, sink: V) -> Screen<B, V>
+    pub fn new(board: &B, roster: &Roster, options: Shape, sink: V) -> Screen<B, V>
         ensures new { IsNewScreen board.now roster.now result }
         ensures options { result.options ≡ options }
         ensures sink { result.sink ≡ sink }
@@ -80,10 +85,10 @@ impl<B: LiveBoard, V: Sink> Screen<B, V> {
     }
 
     /// How it is written.
-    pub fn options(&self) -> &LiveArgs
-        ensures { result.now ≡ self.now.options }
+    pub fn options(&self) -> Shape
+        ensures { result ≡ self.now.options }
     {
-        &self.options
+        self.options
     }
 
     /// Shows the last reading of a pass of its board, where its version is no lower than the least that is shown. It cannot wait, so a sink
@@ -122,7 +127,7 @@ impl<B: LiveBoard, V: Sink> Screen<B, V> {
         if version < self.next {
             return Ok(());
         }
-        let text = screen_of(alloc, &self.options, roster, self.number, &reading.board)?;
+        let text = screen_of(alloc, self.options, roster, self.number, &reading.board)?;
         self.written = put_bytes(&mut self.sink, self.written, text.as_str().as_bytes())?;
         self.next = version + 1;
         self.number += 1;

@@ -8,7 +8,7 @@ use Rattle.ucl_order.specs.Roster.{NamedClub}
 use Rattle.ucl_runs.specs.declared.fault.RunFault.{RunFault}
 use Rattle.ucl_evenings.specs.declared.screen.Screen.{Screen}
 use Rattle.ucl_shared.specs.Passes.{Continues, PassView}
-use Rattle.ucl_command.specs.declared.live.LiveArgs.{LiveArgs}
+use Rattle.ucl_evenings.specs.declared.shape.Shape.{Shape}
 use Rattle.ucl_evenings.specs.Showing.{EndsWithLatest, RiseWithin, ScreensEnd, Screening, ShowsFurther, ShowsSince, StaysScreen, screens_shown, standing}
 use Rattle.ucl_io.specs.declared.stream.Sink as sinks
 use Rattle.ucl_shared.specs.declared.live_board.LiveBoard as boards
@@ -19,13 +19,13 @@ use Rattle.ucl_evenings_threads.specs.Runs.{LastIsAtLeast, HasLookedOn, HasShown
 use Rattle.ucl_evenings_threads.proofs.Ended.{above_less, failed_end, screens_end, served_same, served_then, shown_on}
 
 -- what a screen has shown, of the history that its pass has seen
-pub record Shown (options : LiveArgs) (clubs : List NamedClub) (before history : List Entry) (least : ℕ) (failed : Bool) (old new : Option (List ℕ)) (r : Result ⊤ RunFault) : Type 0 where
+pub record Shown (options : Shape) (clubs : List NamedClub) (before history : List Entry) (least : ℕ) (failed : Bool) (old new : Option (List ℕ)) (r : Result ⊤ RunFault) : Type 0 where
   pub versions : List ℕ
   pub rise : RiseWithin (length before) (length history + 1) versions
   pub ends : ScreensEnd failed old new (screens_shown options clubs history 1 versions) (LastIsAtLeast least versions) r
 
 -- it failed before the end
-pub shown_failed : (options : LiveArgs) (clubs : List NamedClub) (low : ℕ) (k m : PassView) (s : Screening) (failed : Bool) (old new : Option (List ℕ)) (least : ℕ) (r : Result ⊤ RunFault)
+pub shown_failed : (options : Shape) (clubs : List NamedClub) (low : ℕ) (k m : PassView) (s : Screening) (failed : Bool) (old new : Option (List ℕ)) (least : ℕ) (r : Result ⊤ RunFault)
     (f : RunFault) → r ≡ Err f → ShowsSince options clubs low k m s failed old new r → Shown options clubs k.seen m.seen least failed old new (Err f)
 shown_failed options clubs low k m s failed old new least r f is p = record {
   versions = p.versions;
@@ -35,7 +35,7 @@ shown_failed options clubs low k m s failed old new least r f is p = record {
 }
 
 -- it was shown what a note tells
-pub shown_further : (options : LiveArgs) (clubs : List NamedClub) (low : ℕ) (k m z : PassView) (s t : Screening) (failed failed2 : Bool) (old mid new : Option (List ℕ)) (least : ℕ)
+pub shown_further : (options : Shape) (clubs : List NamedClub) (low : ℕ) (k m z : PassView) (s t : Screening) (failed failed2 : Bool) (old mid new : Option (List ℕ)) (least : ℕ)
     (r r2 : Result ⊤ RunFault) → r ≡ Ok tt → ShowsSince options clubs low k m s failed old mid r → ShowsFurther options clubs least m z s t failed2 mid new r2
     → Shown options clubs k.seen z.seen least failed2 old new r2
 shown_further options clubs low k m z s t failed failed2 old mid new least (Ok done) r2 is p f =
@@ -81,7 +81,7 @@ module _ {B R P N V : Type 0} (live : boards.Ghosts B R P N) (board : B) (sink :
       (sink.taken looking.screen.sink) (sink.taken looked.screen.sink) (sink.taken screen.sink) least looked.result r is h.shows
       (subst (λ (n : ℕ). ShowsFurther looking.screen.options clubs n (live.reader looked.pass) (live.reader theirs) (standing looked.screen) (standing screen)
       (sink.failed screen.sink) (sink.taken looked.screen.sink) (sink.taken screen.sink) r) long
-      (subst (λ (o : LiveArgs). ShowsFurther o clubs news (live.reader looked.pass) (live.reader theirs) (standing looked.screen) (standing screen)
+      (subst (λ (o : Shape). ShowsFurther o clubs news (live.reader looked.pass) (live.reader theirs) (standing looked.screen) (standing screen)
       (sink.failed screen.sink) (sink.taken looked.screen.sink) (sink.taken screen.sink) r) h.same.options f)))
 
   -- its pass has told what it has seen

@@ -9,7 +9,7 @@ use Rattle.ucl_order.specs.Roster.{NamedClub}
 use Rattle.ucl_shared.specs.Passes.{PassView, IsSound, ReportsMore}
 use Rattle.ucl_runs.specs.declared.fault.RunFault.{RunFault}
 use Rattle.ucl_runs.specs.declared.fault.RunFault.TheVariants.{Input, OutOfMemory, WriteFailed, NotOnDuty, NoThread, TooManyReporters, Strangers}
-use Rattle.ucl_command.specs.declared.live.LiveArgs.{LiveArgs}
+use Rattle.ucl_evenings.specs.declared.shape.Shape.{Shape}
 use Rattle.ucl_runs.specs.Run.{SinkFails}
 use Rattle.ucl_io.specs.Calls.{Device}
 use Rattle.ucl_evenings.specs.declared.went.Went.{Went}
@@ -114,14 +114,14 @@ ends_at low n versions rise e =
     let same : e.version ≡ n = omega arith in
     record { before = e.before; last = e.last ∙ ap (λ (v : ℕ). e.before ++ v ∷ []) same }
 
-pub stands_few : (options : LiveArgs) (clubs : List NamedClub) (k m : PassView) (s : Screening) (old new : Option (List ℕ)) (versions : List ℕ) → SoFar options clubs k m s old new versions → AreFew s
+pub stands_few : (options : Shape) (clubs : List NamedClub) (k m : PassView) (s : Screening) (old new : Option (List ℕ)) (versions : List ℕ) → SoFar options clubs k m s old new versions → AreFew s
 stands_few options clubs k m s old new versions p =
     let n = rise_count (length k.seen) p.high versions p.rise in
     let c = p.count in
     let few = p.few in (elim p.high_is [ inl e ↦ omega arith | inr e ↦ omega arith ], omega arith)
 
 -- a screen whose thread ended well
-pub looked_few : (options : LiveArgs) (clubs : List NamedClub) (least : ℕ) (k m : PassView) (s : Screening) (failed : Bool) (old new : Option (List ℕ)) (r : Result ⊤ RunFault)
+pub looked_few : (options : Shape) (clubs : List NamedClub) (least : ℕ) (k m : PassView) (s : Screening) (failed : Bool) (old new : Option (List ℕ)) (r : Result ⊤ RunFault)
     → ShowsSince options clubs least k m s failed old new r → OnOk r (AreFew s)
 looked_few options clubs least k m s failed old new (Ok done) p = stands_few options clubs k m s old new p.versions p.stands
 looked_few options clubs least k m s failed old new (Err f) p = tt

@@ -2,7 +2,7 @@
 use Rattle.std.specs.Prelude.{◌≡◌, ◌⊎◌, ◌==◌, ℕ, ⊤, Bool, List, Option, Result, Ok, Err, if◌then◌else◌}
 use Rattle.std.specs.List.{AllZip}
 use Rattle.ucl_board.specs.declared.entry.Entry.{Entry}
-use Rattle.ucl_command.specs.declared.files.EveningArgs.{EveningArgs}
+use Rattle.ucl_json.specs.declared.title.Title.{Title}
 use Rattle.ucl_order.specs.Roster.{NamedClub}
 use Rattle.ucl_evenings.specs.Showing.{IsNewScreen}
 use Rattle.ucl_io.specs.declared.stream.Source as sources
@@ -23,22 +23,21 @@ use Rattle.ucl_evenings_threads.specs.Held.{HasHeld, shares_of_end}
 use Rattle.ucl_evenings_threads.specs.OneReporter.{RowsDecide}
 use Rattle.ucl_evenings_threads.specs.Runs.{IsOfThreads, WereSplitOff}
 
--- a screen that has shown nothing yet goes to this place, with these clubs, in the group, the order and the form that were asked for
-pub record IsAskedFor {B V : Type 0} (board : B) (clubs : List NamedClub) (asked : EveningArgs) (place : Place V) (screen : Screen B V) : Type 0 where
+-- a screen that has shown nothing yet goes to this place, with these clubs, under this title, and in the form that was asked for
+pub record IsAskedFor {B V : Type 0} (board : B) (clubs : List NamedClub) (title : Title) (place : Place V) (screen : Screen B V) : Type 0 where
   pub new : IsNewScreen board clubs screen
   pub sink : screen.sink ≡ place.sink
-  pub group : screen.options.group ≡ asked.group
-  pub profile : screen.options.profile ≡ asked.profile
+  pub title_is : screen.options.title ≡ title
   pub format : screen.options.format ≡ place.format
 
 -- the events of the script were entered on a board, on which this had been seen before, and then an evening was held there, with the
 -- script's clubs, of these reporters and of a screen at each place
 pub record IsEveningOf {B R P N S W V : Type 0} (live : boards.Ghosts B R P N) (board : B) (source : sources.Ghosts S) (replies : sinks.Ghosts W) (sink : sinks.Ghosts V)
-    (asked : EveningArgs) (night : Night) (before : List Entry) (reporters : List (Reporter S W)) (places : List (Place V)) (end : EveningEnd R P S W (Screen B V)) : Type 0 where
+    (title : Title) (night : Night) (before : List Entry) (reporters : List (Reporter S W)) (places : List (Place V)) (end : EveningEnd R P S W (Screen B V)) : Type 0 where
   pub earlier : Earlier R P
   pub entered : WereEntered live before night.events.items earlier.pass earlier.reporters.items
   pub screens : List (Screen B V)
-  pub asked_for : AllZip (IsAskedFor board night.roster asked) places screens
+  pub asked_for : AllZip (IsAskedFor board night.roster title) places screens
   pub held : HasHeld live board source replies sink night.roster (live.reader earlier.pass).seen earlier.reporters.items reporters screens end
   pub decided : RowsDecide live source (live.reader earlier.pass).seen earlier.reporters.items reporters end
   pub shares : WereSplitOff (live.reader earlier.pass).share (shares_of_end live end) (live.reader end.pass).share

@@ -4,6 +4,7 @@ ghost use Rattle.std.specs.Prelude.{◌≡◌, ◌≤◌, [], true, IfErr, IfOk,
 ghost use Rattle.std.specs.List.{AllZip};
 ghost use Rattle.ucl_runs.specs.declared.fault.RunFault.TheVariants as RunFault;
 ghost use Rattle.ucl_runs.specs.Ending.{Ends};
+ghost use Rattle.ucl_screen.specs.Screen.{IsGroup};
 ghost use Rattle.ucl_screen.specs.Input.{most_bytes};
 ghost use Rattle.ucl_shared.specs.Passes.{opening_pass};
 ghost use Rattle.ucl_evenings_threads.specs.Program.{Concludes, EndsEvening, IsAskedFor, IsEveningOf, IsWhyNotHeld, status_of_two};
@@ -16,8 +17,9 @@ use crate::workers::Reporter;
 use std::alloc::Global;
 use std::sync::Wait;
 use std::thread::Threads;
-use ucl_command::{EveningArgs, Format, LiveArgs};
-use ucl_evenings::Screen;
+use ucl_command::Format;
+use ucl_evenings::{Screen, Shape};
+use ucl_json::Title;
 use ucl_order::Roster;
 use ucl_runs::{RunFault, tell};
 use ucl_screen::{Night, Sink, Source};
@@ -41,39 +43,25 @@ pub struct EveningRun<Q, P, S, W, X> {
     pub status: u8,
 }
 
-/// How a screen of this form shows what was asked for.
-fn options_for(asked: &EveningArgs, format: Format) -> LiveArgs
-    ensures group { result.group ≡ asked.now.group }
-    ensures profile { result.profile ≡ asked.now.profile }
-    ensures format { result.format ≡ format }
-{
-    let group = asked.group;
-    LiveArgs {
-        group,
-        profile: asked.profile,
-        screens: true,
-        format,
-    }
-}
-
 /// The screens at these places, as they were asked for.
 fn screens_at<B: LiveBoard, V: Sink + Drop>(
     alloc: Global,
     board: &B,
     roster: &Roster,
-    asked: &EveningArgs,
+    title: Title,
     mut places: Vec<Place<V>>,
 ) -> Result<Vec<Screen<B, V>>, RunFault>
+    requires { IsGroup title.group }
     ensures asked { IfOk result (λ screens.
-        AllZip (IsAskedFor board.now roster.now asked.now) places.items screens.items) }
+        AllZip (IsAskedFor board.now roster.now title) places.items screens.items) }
     ensures memory { IfErr result (λ fault. fault ≡ RunFault.OutOfMemory) }
 {
     let Some(Place { sink, format }) = take_last(&mut places) else {
         return Ok(Vec::new(alloc));
     };
-    let mut screens = screens_at(alloc, board, roster, asked, places)?;
-    let options = options_for(asked, format);
-    put(&mut screens, Screen::new(board, roster, options, sink))?;
+    let mut screens = screens_at(alloc, board, roster, title, places)?;
+    let shape = Shape { title, format };
+    put(&mut screens, Screen::new(board, roster, shape, sink))?;
     Ok(screens)
 }
 
@@ -89,19 +77,20 @@ fn held<
     alloc: Global,
     board: &B,
     pass: B::ReaderPass,
-    asked: &EveningArgs,
+    title: Title,
     night: &Night,
     reporters: Vec<Reporter<S, W>>,
     places: Vec<Place<V>>,
 ) -> Result<EveningEnd<B::ReaderPass, B::ReporterPass, S, W, Screen<B, V>>, RunFault>
     requires own { B.is_reader board.now pass }
     requires few { length night.now.events.items ≤ most_bytes }
+    requires letter { IsGroup title.group }
     ensures held { IfOk result (IsEveningOf B.LiveBoard board.entry.now S.Source W.Sink V.Sink
-        asked.entry.now night.entry.now (B.reader pass).seen reporters.items places.items) }
+        title night.entry.now (B.reader pass).seen reporters.items places.items) }
     ensures faults { IfErr result (IsWhyNotHeld B.LiveBoard board.entry.now night.entry.now
         (B.reader pass).seen) }
 {
-    let screens = screens_at(alloc, board, &night.roster, asked, places)?;
+    let screens = screens_at(alloc, board, &night.roster, title, places)?;
     let earlier = enter_earlier(rt, alloc, board, pass, &night.events)?;
     hold_evening(
         rt,
@@ -149,7 +138,7 @@ fn conclude<Q, P, S, W, B: LiveBoard, V: Sink, O: Sink, E: Sink>(
 }
 
 /// What `ucl_evening` does on a board that was just opened: it enters the events of the script, holds the evening with the clubs of the
-/// script, its screens in the group and the order that were asked for; tells of each part's fault by its line, which begins with the part's
+/// script, its screens under the title; tells of each part's fault by its line, which begins with the part's
 /// place; and writes the words of the last board. The exit status is that of the first fault, or 0. An evening that is not held has one
 /// fault, which is told by its line, and nothing is written.
 pub fn run_evening_of<
@@ -165,7 +154,7 @@ pub fn run_evening_of<
     alloc: Global,
     board: &B,
     pass: B::ReaderPass,
-    asked: &EveningArgs,
+    title: Title,
     night: &Night,
     reporters: Vec<Reporter<S, W>>,
     places: Vec<Place<V>>,
@@ -175,11 +164,12 @@ pub fn run_evening_of<
     requires own { B.is_reader board.now pass }
     requires fresh { B.reader pass ≡ opening_pass }
     requires few { length night.now.events.items ≤ most_bytes }
+    requires letter { IsGroup title.group }
 
     // The evening is that of the script, of these reporters, and of screens at these places as they were asked for, on a board on which
     // nothing had been entered before.
     ensures held { IfOk result.end (IsEveningOf B.LiveBoard board.entry.now S.Source W.Sink V.Sink
-        asked.entry.now night.entry.now [] reporters.items places.items) }
+        title night.entry.now [] reporters.items places.items) }
 
     // Where it was not held, the fault says why.
     ensures faults { IfErr result.end
@@ -189,7 +179,7 @@ pub fn run_evening_of<
     ensures ends { EndsEvening result.end result.status (O.failed output.new) (O.taken output.old)
         (O.taken output.new) (E.failed errors.new) (E.taken errors.old) (E.taken errors.new) }
 {
-    let end = held(rt, alloc, board, pass, asked, night, reporters, places);
+    let end = held(rt, alloc, board, pass, title, night, reporters, places);
     let status = match &end {
         Ok(end) => conclude(end, output, errors),
         Err(fault) => tell(errors, *fault),

@@ -21,9 +21,10 @@ use Rattle.ucl_screen.specs.Screen.{IsGroup}
 use Rattle.ucl_screen.specs.WordsRead.{read_words}
 use Rattle.ucl_screen.proofs.ReadWords.{all-read}
 use Rattle.ucl_json.specs.Values.{accepted_value, club_items, edition_screen_value, number_value, screen_value, word_items}
+use Rattle.ucl_answers.specs.Titles.{letter_in}
 use Rattle.ucl_answers.proofs.WordDigits.{low, word-digits}
 use Rattle.ucl_follows.specs.declared.moment.Moment.{Moment}
-use Rattle.ucl_follows.specs.Told.{board_told, club_told, clubs_told, each_told, edition_in, edition_told, group_told, if_read, just, letter_in, list_at, listed, moment_told}
+use Rattle.ucl_follows.specs.Told.{board_told, club_told, clubs_told, each_told, edition_in, edition_told, group_told, if_read, just, list_at, listed, moment_told}
 use Rattle.ucl_follows.specs.Told.{order_told, roster_told, text_at, word_told}
 use Rattle.ucl_follows.specs.Answered.{AnswersTellTheirMoment, IsMoment}
 

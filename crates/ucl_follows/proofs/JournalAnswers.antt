@@ -1,6 +1,7 @@
 -- What the lines of an evening's answers tell: nothing, or the moment after their line.
-use Rattle.std.proofs.Common.{◌≡◌, ◌∙◌, ℕ, ◌+◌, ◌-◌, ◌^◌, ◌<◌, ◌≤◌, ◌==◌, ◌&&◌, codes, Bool, true, false, refl, sym, ap, subst, arith, List, [], ◌∷◌, ◌++◌, length, Option, Some, None, inl, inr}
-use Rattle.std.specs.Prelude.{⊤, All, if◌then◌else◌, nat_le, Result, Ok, Err}
+use Rattle.std.proofs.Common.{◌≡◌, ◌∙◌, ℕ, ◌+◌, ◌-◌, ◌^◌, ◌<◌, ◌≤◌, ◌==◌, ◌&&◌, codes, Bool, true, false, refl, sym, ap, subst, arith, List, [], ◌∷◌, ◌++◌}
+use Rattle.std.proofs.Common.{length, leb-true, Option, Some, None, inl, inr}
+use Rattle.std.specs.Prelude.{⊤, ◌||◌, All, if◌then◌else◌, nat_le, Result, Ok, Err}
 use Rattle.std.specs.Str.{bytes_eq}
 use Rattle.std.specs.Result.{is_ok}
 use Rattle.std.proofs.lemmas.Bool.{cases_Bool}
@@ -35,11 +36,20 @@ use Rattle.ucl_answers.specs.declared.request.Request.{Request}
 use Rattle.ucl_answers.specs.declared.request.Request.TheVariants.{Bad, Event, Screen, Words}
 use Rattle.ucl_answers.specs.ByHistory.{attempts_of, attempts_on}
 use Rattle.ucl_answers.specs.BadRows.{bad_field, shown_text}
+use Rattle.ucl_json.specs.declared.title.Title.{Title}
+use Rattle.ucl_screen.specs.Screen.{IsGroup}
+use Rattle.ucl_order.specs.declared.profile.Profile.{Profile}
+use Rattle.ucl_order.specs.Names.{profile_named}
+use Rattle.ucl_answers.specs.declared.fault.BeginningFault.TheVariants.{OtherGroup}
+use Rattle.ucl_answers.specs.Titles.{asked_group, asked_title, edition_by, is_as_asked, is_group_row, letter_in, title_by, title_said}
+use Rattle.ucl_command.specs.Groups.{may_be_asked}
+use Rattle.ucl_command.proofs.Letters.{asked_letter}
+use Rattle.ucl_answers.proofs.Silence.{is_open}
 use Rattle.ucl_answers.specs.Requests.{asked_by, event_or_bad, request_of}
 use Rattle.ucl_answers.specs.Rows.{Said, Nothing, Garbled, Row, said_on}
-use Rattle.ucl_answers.specs.Stages.{Stage, Naming, Open, Refused, Restoring, after_club, after_row, after_word}
+use Rattle.ucl_answers.specs.Stages.{Stage, Beginning, Naming, Open, Refused, Restoring, after_club, after_beginning, after_row, after_title, after_word}
 use Rattle.ucl_answers.specs.Stages.{club_said, is_word_row, next_board, next_stage, opened, restored, with_roster, with_words, word_said}
-use Rattle.ucl_answers.specs.Text.{Evening, after_lines, answer_at, answer_of, answer_said, answers, next, reply_answer, screen_after, screen_answer, title_of}
+use Rattle.ucl_answers.specs.Text.{Evening, after_lines, answer_at, answer_of, answer_said, answers, next, next_title, reply_answer, screen_after, screen_answer, start_of, title_or}
 use Rattle.ucl_answers.proofs.Boards.{AreAttempts, asked, event-is_attempt}
 use Rattle.ucl_answers.proofs.GoodBoards.{fresh-good, good-after, read-good, version-after}
 use Rattle.ucl_answers.proofs.OneByOne.{after-none, after-one, answers-none, answers-one}
@@ -50,6 +60,7 @@ use Rattle.ucl_follows.specs.Follow.{version_at}
 use Rattle.ucl_follows.specs.Journals.{moment_at, moment_now, moment_with}
 use Rattle.ucl_follows.proofs.JournalLines.{IsLineThat, IsShown, TellsAlone, TellsAtMost, alone-as, alone-line, alone-none, alone-then, bad-line}
 use Rattle.ucl_follows.proofs.JournalLines.{begun-then, board-fits, found-fits, lines-then, lines_in, refused-line, shown-text, value-line, words-line}
+use Rattle.ucl_follows.proofs.Answered.{both}
 use Rattle.ucl_follows.proofs.PlainAnswers.{told-lines}
 
 abbrev pub Lines : Type 0
@@ -60,6 +71,7 @@ Lines = List (List ℕ)
 abbrev pub IsGood : Stage → Type 0
 IsGood (Open clubs board) = IsRoster clubs × AreWords board
 IsGood (Restoring clubs words) = IsRoster clubs
+IsGood Beginning = ⊤
 IsGood (Naming clubs) = ⊤
 IsGood (Refused fault) = ⊤
 
@@ -104,12 +116,13 @@ good-word : (row : ℕ) (clubs : List NamedClub) (words : List ℕ) (word : Opti
 good-word row clubs words None is = tt
 good-word row clubs words (Some word) is = good-words clubs (words ++ word ∷ []) is
 
-good-opened : (s : Stage) (r : Said) → IsGood s → IsGood (opened s r)
-good-opened (Restoring clubs []) r g = either (is_word_row r) (Restoring clubs []) (Open clubs (board_of [])) (λ _. g) (g, fresh-good)
-good-opened (Restoring clubs (word ∷ words)) r g = g
-good-opened (Naming clubs) r g = tt
-good-opened (Open clubs board) r g = g
-good-opened (Refused fault) r g = tt
+good-opened : (options : LiveArgs) (s : Stage) (r : Said) → IsGood s → IsGood (opened options s r)
+good-opened options Beginning r g = tt
+good-opened options (Restoring clubs []) r g = either (options.resumed || is_word_row r) (Restoring clubs []) (Open clubs (board_of [])) (λ _. g) (g, fresh-good)
+good-opened options (Restoring clubs (word ∷ words)) r g = g
+good-opened options (Naming clubs) r g = tt
+good-opened options (Open clubs board) r g = g
+good-opened options (Refused fault) r g = tt
 
 good-board : (board : List ℕ) (request : Request) → AreWords board → AreAttempts request → AreWords (next_board board request)
 good-board board (Event event) w all = good-after board (attempt_of event) w (All-head IsAttempt (attempt_of event) [] all)
@@ -122,34 +135,25 @@ of-request Nothing = All-nil IsAttempt
 of-request Garbled = All-nil IsAttempt
 of-request (Row f) = asked f
 
-good-row : (row : ℕ) (s : Stage) (r : Said) → IsGood s → IsGood (after_row row s r)
-good-row row (Naming clubs) r g = good-club row clubs (club_said (length clubs + 1) r)
-good-row row (Restoring clubs words) r g = good-word row clubs words (word_said (length words + 1) r) g
-good-row row (Open clubs board) r g = (g.0, good-board board (request_of r) g.1 (of-request r))
-good-row row (Refused fault) r g = tt
+good-title : (options : LiveArgs) (row : ℕ) (title : Option Title) → IsGood (after_title options row title)
+good-title options row None = tt
+good-title options row (Some title) = either (is_as_asked options title) (Naming []) (Refused OtherGroup) (λ e. tt) tt
 
-good-next : (row : ℕ) (s : Stage) (r : Said) → IsGood s → IsGood (next_stage row s r)
-good-next row s Nothing g = g
-good-next row s Garbled g = good-row row (opened s Garbled) Garbled (good-opened s Garbled g)
-good-next row s (Row f) g = good-row row (opened s (Row f)) (Row f) (good-opened s (Row f) g)
+good-first : (options : LiveArgs) (row : ℕ) (r : Said) → IsGood (after_beginning options row r)
+good-first options row r =
+    either (is_group_row r) (after_title options row (title_said r)) (after_club row [] (club_said 1 r)) (λ e. good-title options row (title_said r)) (good-club row [] (club_said 1 r))
 
-pub good-after-lines : (e : Evening) (lines : Lines) → IsGood e.stage → IsGood (after_lines e lines).stage
-unfolding after_lines
-good-after-lines e [] g = g
-good-after-lines e (line ∷ lines) g = good-after-lines (next e (said_on e.row line)) lines (good-next e.row e.stage (said_on e.row line) g)
+good-row : (options : LiveArgs) (row : ℕ) (s : Stage) (r : Said) → IsGood s → IsGood (after_row options row s r)
+good-row options row Beginning r g = good-first options row r
+good-row options row (Naming clubs) r g = good-club row clubs (club_said (length clubs + 1) r)
+good-row options row (Restoring clubs words) r g = good-word row clubs words (word_said (length words + 1) r) g
+good-row options row (Open clubs board) r g = (g.0, good-board board (request_of r) g.1 (of-request r))
+good-row options row (Refused fault) r g = tt
 
--- ---- moments
-
-pub moment-good : (options : LiveArgs) (clubs : List NamedClub) (board : List ℕ) → IsRoster clubs → AreWords board → IsMoment (moment_with options clubs board)
-moment-good options clubs board is w = record { letter = options.letter; edition = omega arith; clubs = is; words = w; bits = board-fits board w.each }
-
-pub stage-good : (options : LiveArgs) (s : Stage) (m : Moment) → IsGood s → moment_at options s ≡ Some m → IsMoment m
-stage-good options (Open clubs board) m g e = let same : moment_with options clubs board ≡ m = cc in subst IsMoment same (moment-good options clubs board g.0 g.1)
-stage-good options (Naming clubs) m g e = cc
-stage-good options (Restoring clubs words) m g e = cc
-stage-good options (Refused fault) m g e = cc
-
--- ---- the numbers of an event that a row asks for
+good-next : (options : LiveArgs) (row : ℕ) (s : Stage) (r : Said) → IsGood s → IsGood (next_stage options row s r)
+good-next options row s Nothing g = g
+good-next options row s Garbled g = good-row options row (opened options s Garbled) Garbled (good-opened options s Garbled g)
+good-next options row s (Row f) g = good-row options row (opened options s (Row f)) (Row f) (good-opened options s (Row f) g)
 
 ranged : (low high : ℕ) (o : Option ℕ) (n : ℕ) → in_range low high o ≡ Some n → n ≤ high
 ranged low high None n h = cc
@@ -157,6 +161,100 @@ ranged low high (Some m) n h = elim (cases_Bool (nat_le low m && nat_le m high))
   | inl y ↦ let k : ◌≡◌ {A = Option ℕ} (Some m) (Some n) = rw y at h in let e : m ≡ n = cc in rw (← e) (grind (arith, nat_tests))
   | inr z ↦ cc (rw z at h)
 ]
+
+-- and a title that there is
+
+pub record IsTitle (title : Title) : Type 0 where
+  pub letter : IsGroup title.group
+  pub edition : title.edition ≤ 65535
+
+within : (text : List ℕ) (group : ℕ) → letter_in text ≡ Some group → IsGroup group
+within [] group e = cc
+within (b ∷ []) group e = elim (cases_Bool (nat_le 65 b && nat_le b 72)) [
+  | inl y ↦
+      let same : b ≡ group = cc (rw y at e) in
+      let p = both (nat_le 65 b) (nat_le b 72) y in subst IsGroup same (leb-true 65 b p.0, leb-true b 72 p.1)
+  | inr n ↦ cc (rw n at e)
+]
+within (b ∷ c ∷ more) group e = cc
+
+abbrev titled : Option ℕ → Option Profile → Option ℕ → Option Title
+titled a b c = do
+  group ← a
+  profile ← b
+  edition ← c
+  Some (record { group = group; profile = profile; edition = edition })
+
+by-parts : (a : Option ℕ) (b : Option Profile) (c : Option ℕ) (title : Title) → titled a b c ≡ Some title → (a ≡ Some title.group) × (c ≡ Some title.edition)
+by-parts None b c title h = cc
+by-parts (Some a) None c title h = cc
+by-parts (Some a) (Some b) None title h = cc
+by-parts (Some a) (Some b) (Some c) title h =
+    let same : ◌≡◌ {A = Title} (record { group = a; profile = b; edition = c }) title = cc in
+    (ap (λ (t : Title). Some t.group) same, ap (λ (t : Title). Some t.edition) same)
+
+said-title : (f : FourFields) (title : Title) → title_by f ≡ Some title → IsTitle title
+said-title f title h =
+    let p = by-parts (letter_in f.second) (profile_named f.third) (edition_by f.fourth) title h in
+    record { letter = within f.second title.group p.0; edition = ranged 0 65535 (number 5 f.fourth) title.edition p.1 }
+
+letter-of : (asked : Option ℕ) → may_be_asked asked ≡ true → IsGroup (asked_group asked)
+letter-of None h = (omega arith, omega arith)
+letter-of (Some group) h = asked_letter group h
+
+pub first-title : (options : LiveArgs) → IsTitle (asked_title options)
+first-title options = record { letter = letter-of options.group options.letter; edition = omega arith }
+
+or-title : (title : Title) (o : Option Title) → IsTitle title → ((other : Title) → o ≡ Some other → IsTitle other) → IsTitle (title_or title o)
+or-title title None is more = is
+or-title title (Some other) is more = more other refl
+
+either-title : (b : Bool) (x y : Title) → IsTitle x → IsTitle y → IsTitle (if b then x else y)
+either-title true x y p q = p
+either-title false x y p q = q
+
+row-title : (title : Title) (r : Said) → IsTitle title → IsTitle (title_or title (title_said r))
+row-title title Nothing is = is
+row-title title Garbled is = is
+row-title title (Row f) is = or-title title (title_by f) is (said-title f)
+
+next-good : (title : Title) (s : Stage) (r : Said) → IsTitle title → IsTitle (next_title title s r)
+next-good title Beginning r is = either-title (is_group_row r) (title_or title (title_said r)) title (row-title title r is) is
+next-good title (Naming clubs) r is = is
+next-good title (Restoring clubs words) r is = is
+next-good title (Open clubs board) r is = is
+next-good title (Refused fault) r is = is
+
+-- ---- evenings
+
+pub record IsSound (e : Evening) : Type 0 where
+  pub stage : IsGood e.stage
+  pub title : IsTitle e.title
+
+pub sound-next : (e : Evening) (r : Said) → IsSound e → IsSound (next e r)
+sound-next e r g = record { stage = good-next e.options e.row e.stage r g.stage; title = next-good e.title e.stage r g.title }
+
+pub good-after-lines : (e : Evening) (lines : Lines) → IsSound e → IsSound (after_lines e lines)
+unfolding after_lines
+good-after-lines e [] g = g
+good-after-lines e (line ∷ lines) g = good-after-lines (next e (said_on e.row line)) lines (sound-next e (said_on e.row line) g)
+
+pub start-sound : (options : LiveArgs) → IsSound (start_of options)
+start-sound options = record { stage = tt; title = first-title options }
+
+-- ---- moments
+
+pub moment-good : (title : Title) (clubs : List NamedClub) (board : List ℕ) → IsTitle title → IsRoster clubs → AreWords board → IsMoment (moment_with title clubs board)
+moment-good title clubs board t is w = record { letter = t.letter; edition = t.edition; clubs = is; words = w; bits = board-fits board w.each }
+
+pub stage-good : (title : Title) (s : Stage) (m : Moment) → IsTitle title → IsGood s → moment_at title s ≡ Some m → IsMoment m
+stage-good title (Open clubs board) m t g e = let same : moment_with title clubs board ≡ m = cc in subst IsMoment same (moment-good title clubs board t g.0 g.1)
+stage-good title Beginning m t g e = cc
+stage-good title (Naming clubs) m t g e = cc
+stage-good title (Restoring clubs words) m t g e = cc
+stage-good title (Refused fault) m t g e = cc
+
+-- ---- the numbers of an event that a row asks for
 
 abbrev expected_in : Option NightEvent → Option ℕ
 expected_in None = None
@@ -223,14 +321,14 @@ kick_off = record { reporter = 1; call = record { game = 1; expected = 0; kind =
 kick_off-fits : HasNumbers kick_off
 kick_off-fits = record { reporter = omega arith; game = omega arith; expected = omega arith }
 
-module _ (options : LiveArgs) (row : ℕ) (clubs : List NamedClub) (json : options.format ≡ Json) (fits : row < 2 ^ 64) (is : IsRoster clubs) where
+module _ (options : LiveArgs) (title : Title) (row : ℕ) (clubs : List NamedClub) (json : options.format ≡ Json) (fits : row < 2 ^ 64) (good : IsTitle title) (is : IsRoster clubs) where
   abbrev At : List ℕ → Option Moment
-  At board = Some (moment_with options clubs board)
+  At board = Some (moment_with title clubs board)
 
-  screen-tells : (board : List ℕ) → AreWords board → TellsAlone (At board) (screen_answer options row clubs board)
+  screen-tells : (board : List ℕ) → AreWords board → TellsAlone (At board) (screen_answer options.format title row clubs board)
   screen-tells board w =
-      rw json (alone-line (edition_screen_value row (title_of options) board clubs) (At board) (At board)
-      ((told-lines row kick_off 0 (moment_with options clubs board) (moment-good options clubs board is w) fits kick_off-fits (omega arith)).screen) (inr refl))
+      rw json (alone-line (edition_screen_value row title board clubs) (At board) (At board)
+      ((told-lines row kick_off 0 (moment_with title clubs board) (moment-good title clubs board good is w) fits kick_off-fits (omega arith)).screen) (inr refl))
 
   wanted : (b : Bool) (o : Option Moment) (text : List ℕ) → TellsAlone o text → TellsAlone o (if b then text else [])
   wanted true o text p = p
@@ -256,15 +354,15 @@ module _ (options : LiveArgs) (row : ℕ) (clubs : List NamedClub) (json : optio
     number-fits = let n = number_valid (game_of board) (is-valid board w) in omega arith
 
     abbrev reply-with : Option Refusal → List ℕ
-    reply-with o = json_line (reply_value row event (answer (game_of board).number o) (title_of options) now clubs)
+    reply-with o = json_line (reply_value row event (answer (game_of board).number o) title now clubs)
 
     accepted-line : IsLineThat (At now) (reply-with None)
     accepted-line =
-        value-line (accepted_value row event ((game_of board).number + 1) (title_of options) now clubs) (At now)
-        ((told-lines row event ((game_of board).number + 1) (moment_with options clubs now) (moment-good options clubs now is good-now) fits small number-fits).reply)
+        value-line (accepted_value row event ((game_of board).number + 1) title now clubs) (At now)
+        ((told-lines row event ((game_of board).number + 1) (moment_with title clubs now) (moment-good title clubs now good is good-now) fits small number-fits).reply)
 
     pub accepted-reply : (before : ℕ) → refusal_of (game_of board) event.call.expected event.call.kind ≡ None
-        → IsLineThat (At now) (reply_answer options row clubs event before (reply_of (game_of board) event.call) now)
+        → IsLineThat (At now) (reply_answer options.format title row clubs event before (reply_of (game_of board) event.call) now)
     accepted-reply before e = rw json (subst (λ (o : Option Refusal). IsLineThat (At now) (reply-with o)) (sym e) accepted-line)
 
     reply-by : (o : Option Refusal) → refusal_of (game_of board) event.call.expected event.call.kind ≡ o → TellsAlone (At now) (reply-with o)
@@ -273,38 +371,51 @@ module _ (options : LiveArgs) (row : ℕ) (clubs : List NamedClub) (json : optio
         refused-line (At now) row event refusal (game_of now) fits small
         (found-fits (word_at board event.call.game) event.call.expected event.call.kind refusal (is-word board w) e) (is-valid now good-now)
 
-    reply-tells : (before : ℕ) → TellsAlone (At now) (reply_answer options row clubs event before (reply_of (game_of board) event.call) now)
+    reply-tells : (before : ℕ) → TellsAlone (At now) (reply_answer options.format title row clubs event before (reply_of (game_of board) event.call) now)
     reply-tells before = rw json (reply-by (refusal_of (game_of board) event.call.expected event.call.kind) refl)
 
-    after-tells : (o : Option Refusal) → TellsAlone (At now) (screen_after options row clubs (answer (game_of board).number o) now)
-    after-tells None = wanted options.screens (At now) (screen_answer options row clubs now) (screen-tells now good-now)
+    after-tells : (o : Option Refusal) → TellsAlone (At now) (screen_after options title row clubs (answer (game_of board).number o) now)
+    after-tells None = wanted options.screens (At now) (screen_answer options.format title row clubs now) (screen-tells now good-now)
     after-tells (Some refusal) = alone-none (At now)
 
   request-tells : (board : List ℕ) (request : Request) (shown : List ℕ) → AreWords board → AreAttempts request → Fits request → IsShown shown
-      → TellsAlone (At (next_board board request)) (answer_of options row clubs board request shown)
+      → TellsAlone (At (next_board board request)) (answer_of options title row clubs board request shown)
   request-tells board (Event event) shown w all small short =
       let m = game_at board event.call.game in
       let after = board_after board (attempt_of event) in
       let attempted = All-head IsAttempt (attempt_of event) [] all in
-      alone-then (At after) (reply_answer options row clubs event (version_of board) (reply_of m event.call) after) (screen_after options row clubs (reply_of m event.call) after)
+      alone-then (At after) (reply_answer options.format title row clubs event (version_of board) (reply_of m event.call) after) (screen_after options title row clubs (reply_of m event.call) after)
       (reply-tells board w event attempted small (version_of board)) (after-tells board w event attempted small (refusal_of m event.call.expected event.call.kind))
   request-tells board (Bad field) shown w all small short = rw json (bad-line (At board) row field shown fits short)
   request-tells board Screen shown w all small short = screen-tells board w
   request-tells board Words shown w all small short = rw json (words-line (At board) row board fits w.twelve (board-fits board w.each))
 
-stage-tells : (options : LiveArgs) (row : ℕ) (s : Stage) (r : Said) (shown : List ℕ) → options.format ≡ Json → row < 2 ^ 64 → IsGood s → IsShown shown
-    → TellsAlone (moment_at options (after_row row s r)) (answer_at options row s (request_of r) shown)
-stage-tells options row (Naming clubs) r shown json fits g short = alone-none (moment_at options (after_row row (Naming clubs) r))
-stage-tells options row (Restoring clubs words) r shown json fits g short = alone-none (moment_at options (after_row row (Restoring clubs words) r))
-stage-tells options row (Open clubs board) r shown json fits g short =
-    request-tells options row clubs json fits g.0 board (request_of r) shown g.1 (of-request r) (fits-request r) short
-stage-tells options row (Refused fault) r shown json fits g short = alone-none None
+stage-tells : (options : LiveArgs) (title other : Title) (row : ℕ) (s : Stage) (r : Said) (shown : List ℕ) → options.format ≡ Json → row < 2 ^ 64 → IsTitle title → IsGood s → IsShown shown
+    → (is_open s ≡ true → other ≡ title) → TellsAlone (moment_at other (after_row options row s r)) (answer_at options title row s (request_of r) shown)
+stage-tells options title other row Beginning r shown json fits t g short same = alone-none (moment_at other (after_row options row Beginning r))
+stage-tells options title other row (Naming clubs) r shown json fits t g short same = alone-none (moment_at other (after_row options row (Naming clubs) r))
+stage-tells options title other row (Restoring clubs words) r shown json fits t g short same = alone-none (moment_at other (after_row options row (Restoring clubs words) r))
+stage-tells options title other row (Open clubs board) r shown json fits t g short same =
+    rw (same refl) (request-tells options title row clubs json fits t g.0 board (request_of r) shown g.1 (of-request r) (fits-request r) short)
+stage-tells options title other row (Refused fault) r shown json fits t g short same = alone-none None
 
-line-tells : (e : Evening) (r : Said) (shown : List ℕ) → e.options.format ≡ Json → e.row < 2 ^ 64 → IsGood e.stage → IsShown shown
+-- a line that opens the board, or finds it open, says no title
+same-title : (options : LiveArgs) (title : Title) (s : Stage) (r : Said) → is_open (opened options s r) ≡ true → next_title title s r ≡ title
+same-title options title (Open clubs board) r h = refl
+same-title options title Beginning r h = cc
+same-title options title (Naming clubs) r h = refl
+same-title options title (Restoring clubs words) r h = refl
+same-title options title (Refused fault) r h = refl
+
+line-tells : (e : Evening) (r : Said) (shown : List ℕ) → e.options.format ≡ Json → e.row < 2 ^ 64 → IsSound e → IsShown shown
     → TellsAlone (moment_now (next e r)) (answer_said e r shown)
 line-tells e Nothing shown json fits g short = alone-none (moment_now (next e Nothing))
-line-tells e Garbled shown json fits g short = stage-tells e.options e.row (opened e.stage Garbled) Garbled shown json fits (good-opened e.stage Garbled g) short
-line-tells e (Row f) shown json fits g short = stage-tells e.options e.row (opened e.stage (Row f)) (Row f) shown json fits (good-opened e.stage (Row f) g) short
+line-tells e Garbled shown json fits g short =
+    stage-tells e.options e.title (next_title e.title e.stage Garbled) e.row (opened e.options e.stage Garbled) Garbled shown json fits g.title (good-opened e.options e.stage Garbled g.stage) short
+    (same-title e.options e.title e.stage Garbled)
+line-tells e (Row f) shown json fits g short =
+    stage-tells e.options e.title (next_title e.title e.stage (Row f)) e.row (opened e.options e.stage (Row f)) (Row f) shown json fits g.title (good-opened e.options e.stage (Row f) g.stage) short
+    (same-title e.options e.title e.stage (Row f))
 
 -- ---- on the way
 
@@ -338,7 +449,7 @@ pub record AreOnTheWay (e : Evening) (lines : Lines) : Type 0 where
   pub begun : begun-of (answers e lines) ≡ []
   pub each : AllTold (IsOnTheWay e lines) (lines_in (answers e lines))
 
-pub on-the-way : (e : Evening) (lines : Lines) → e.options.format ≡ Json → e.row + length lines ≤ 2 ^ 64 → IsGood e.stage → AreOnTheWay e lines
+pub on-the-way : (e : Evening) (lines : Lines) → e.options.format ≡ Json → e.row + length lines ≤ 2 ^ 64 → IsSound e → AreOnTheWay e lines
 on-the-way e [] json fits g = record {
   begun = ap begun-of (answers-none e) ∙ begun_none 4097 [];
   each = subst (AllTold (IsOnTheWay e [])) (sym (ap lines_in (answers-none e) ∙ ended_none 4097 [])) (All-nil (λ line. IsOnTheWay e [] (moment_on line)));
@@ -347,7 +458,7 @@ on-the-way e (line ∷ lines) json fits g =
     let r = said_on e.row line in
     let shown = shown_text line in
     let one = line-tells e r shown json (omega arith) g (shown-text line) in
-    let more = on-the-way (next e r) lines json (omega arith) (good-next e.row e.stage r g) in
+    let more = on-the-way (next e r) lines json (omega arith) (sound-next e r g) in
     let text = answers-one e line lines in record {
       begun = ap begun-of text ∙ begun-then (answer_said e r shown) (answers (next e r) lines) one.begun more.begun;
       each = subst (AllTold (IsOnTheWay e (line ∷ lines))) (sym (ap lines_in text ∙ lines-then (answer_said e r shown) (answers (next e r) lines) one.begun))
@@ -376,8 +487,8 @@ by-request Words a h = cc
 abbrev is_taken : List ℕ → Attempt → Bool
 is_taken board a = is_ok (reply_of (game_at board a.call.game) a.call)
 
-pub answers-first : (e : Evening) (r : Said) (shown : List ℕ) (clubs : List NamedClub) (board : List ℕ) (a : Attempt) → e.options.format ≡ Json → e.row < 2 ^ 64 → IsGood e.stage
-    → opened e.stage r ≡ Open clubs board → attempts_on r ≡ a ∷ [] → is_ok (reply_of (game_at board a.call.game) a.call) ≡ true → AnswersFirst e r shown board
+pub answers-first : (e : Evening) (r : Said) (shown : List ℕ) (clubs : List NamedClub) (board : List ℕ) (a : Attempt) → e.options.format ≡ Json → e.row < 2 ^ 64 → IsSound e
+    → opened e.options e.stage r ≡ Open clubs board → attempts_on r ≡ a ∷ [] → is_ok (reply_of (game_at board a.call.game) a.call) ≡ true → AnswersFirst e r shown board
 answers-first e Nothing shown clubs board a json fits g stands asks ok = cc
 answers-first e Garbled shown clubs board a json fits g stands asks ok = cc
 answers-first e (Row f) shown clubs board a json fits g stands asks ok =
@@ -387,17 +498,18 @@ answers-first e (Row f) shown clubs board a json fits g stands asks ok =
     let same : attempt_of event ≡ a = q.2 in
     let b = attempt_of event in
     let m = game_at board b.call.game in
-    let good : IsGood (Open clubs board) = subst IsGood stands (good-opened e.stage (Row f) g) in
+    let good : IsGood (Open clubs board) = subst IsGood stands (good-opened e.options e.stage (Row f) g.stage) in
     let attempted : IsAttempt b = All-head IsAttempt b [] (subst AreAttempts is (asked f)) in
     let small : HasNumbers event = subst Fits is (fits-asked f) in
     let taken : is_taken board b ≡ true = subst (λ (c : Attempt). is_taken board c ≡ true) (sym same) ok in
     let none = no_refusal m.number (refusal_of m b.call.expected b.call.kind) taken in
     let version = version-after board b good.1 attempted none in record {
-      told = moment_with e.options clubs (board_after board b);
-      now = ap (λ (s : Stage). moment_at e.options (after_row e.row s (Row f))) stands ∙ ap (λ (q : Request). Some (moment_with e.options clubs (next_board board q))) is;
+      told = moment_with e.title clubs (board_after board b);
+      now = ap (λ (t : Title). moment_at t (after_row e.options e.row (opened e.options e.stage (Row f)) (Row f))) (same-title e.options e.title e.stage (Row f) (ap is_open stands))
+          ∙ ap (λ (s : Stage). moment_at e.title (after_row e.options e.row s (Row f))) stands ∙ ap (λ (q : Request). Some (moment_with e.title clubs (next_board board q))) is;
       newer = omega (arith, version);
-      reply = reply_answer e.options e.row clubs event (version_of board) (reply_of m b.call) (board_after board b);
-      more = screen_after e.options e.row clubs (reply_of m b.call) (board_after board b);
-      parts = ap (λ (s : Stage). answer_at e.options e.row s (asked_by f) shown) stands ∙ ap (λ (q : Request). answer_of e.options e.row clubs board q shown) is;
-      line_is = accepted-reply e.options e.row clubs json fits good.0 board good.1 event attempted small (version_of board) none;
+      reply = reply_answer e.options.format e.title e.row clubs event (version_of board) (reply_of m b.call) (board_after board b);
+      more = screen_after e.options e.title e.row clubs (reply_of m b.call) (board_after board b);
+      parts = ap (λ (s : Stage). answer_at e.options e.title e.row s (asked_by f) shown) stands ∙ ap (λ (q : Request). answer_of e.options e.title e.row clubs board q shown) is;
+      line_is = accepted-reply e.options e.title e.row clubs json fits g.title good.0 board good.1 event attempted small (version_of board) none;
     }

@@ -19,17 +19,17 @@ use Rattle.ucl_answers.specs.Lines.{lines_of}
 use Rattle.ucl_answers.specs.Requests.{asked_by}
 use Rattle.ucl_answers.specs.Rows.{Said, Nothing, Garbled, Row, said_on}
 use Rattle.ucl_answers.specs.Stages.{Stage, Open, next_board, next_stage, opened}
-use Rattle.ucl_answers.specs.Text.{Evening, after_lines, answers, next, start_of, title_of}
+use Rattle.ucl_answers.specs.Text.{Evening, after_lines, answers, next, start_of}
 use Rattle.ucl_answers.proofs.Boards.{boards}
 use Rattle.ucl_answers.proofs.OneByOne.{after-append, after-none, after-one}
 use Rattle.ucl_follows.specs.declared.moment.Moment.{Moment}
 use Rattle.ucl_follows.specs.Follow.{followed, is_later, unseen, version_at, whole_lines}
 use Rattle.ucl_follows.specs.Journals.{CrashesChangeNothing, IsAnsweredIn, TakesEvent, JournalsEndWithTheBoard, moment_at, moment_now, moment_with}
 use Rattle.ucl_follows.specs.Latest.{IsLatest, IsNoNewer, IsToldIn}
-use Rattle.ucl_follows.specs.Resuming.{opened_at}
-use Rattle.ucl_follows.proofs.JournalAnswers.{AllTold, IsGood, IsOnTheWay, Lines, good-after-lines, weaken}
+use Rattle.ucl_follows.specs.Resuming.{opened_at, resumed_row}
+use Rattle.ucl_follows.proofs.JournalAnswers.{AllTold, IsGood, IsOnTheWay, IsSound, Lines, good-after-lines, start-sound, weaken}
 use Rattle.ucl_follows.proofs.Journals.{AtMost, among, boards-rise, first-answer, greatest, in-lines, later-by-version, lines-attempts}
-use Rattle.ucl_follows.proofs.Journals.{lines-few, open-with, options-after, row-after, told-in, told-in-left, way}
+use Rattle.ucl_follows.proofs.Journals.{lines-few, open-with, row-after, title-after, told-in, told-in-left, way}
 use Rattle.ucl_follows.proofs.Repeats.{all-same}
 
 -- ---- a line changes the board, or no event of it was accepted
@@ -38,17 +38,17 @@ abbrev StaysOr : Evening → List ℕ → List NamedClub → List ℕ → Type 0
 StaysOr e line clubs board = ((next e (said_on e.row line)).stage ≡ Open clubs board) ⊎ TakesEvent e line
 
 module _ (e : Evening) (line : List ℕ) (clubs : List NamedClub) (board : List ℕ) (stands : e.stage ≡ Open clubs board) where
-  moved : (r : Said) → said_on e.row line ≡ r → (next e (said_on e.row line)).stage ≡ next_stage e.row (Open clubs board) r
-  moved r is = ap₂ (λ (s : Stage) (t : Said). next_stage e.row s t) stands is
+  moved : (r : Said) → said_on e.row line ≡ r → (next e (said_on e.row line)).stage ≡ next_stage e.options e.row (Open clubs board) r
+  moved r is = ap₂ (λ (s : Stage) (t : Said). next_stage e.options e.row s t) stands is
 
   by-reply : (r : Said) (q : Request) (event : NightEvent) (o : Option Refusal) → said_on e.row line ≡ r → attempts_on r ≡ attempt_of event ∷ []
-      → next_stage e.row (Open clubs board) r ≡ Open clubs (board_after board (attempt_of event))
+      → next_stage e.options e.row (Open clubs board) r ≡ Open clubs (board_after board (attempt_of event))
       → refusal_of (game_at board event.call.game) event.call.expected event.call.kind ≡ o → StaysOr e line clubs board
   by-reply r q event None is asks there none = inr (record {
     clubs = clubs;
     board = board;
     attempt = attempt_of event;
-    stands = ap (λ (s : Stage). opened s (said_on e.row line)) stands;
+    stands = ap (λ (s : Stage). opened e.options s (said_on e.row line)) stands;
     asks = ap attempts_on is ∙ asks;
     accepted = rw none refl;
   })
@@ -88,12 +88,12 @@ stays-or e (line ∷ lines) clubs board stands = elim (by-said e line clubs boar
 
 -- ---- the last moment
 
-same-moment : (e : Evening) (first : Lines) (f : Evening) (m n : Moment) → f.options ≡ (after_lines e first).options → f.stage ≡ (after_lines e first).stage
+same-moment : (e : Evening) (first : Lines) (f : Evening) (m n : Moment) → f.title ≡ (after_lines e first).title → f.stage ≡ (after_lines e first).stage
     → moment_now f ≡ Some m → moment_now (after_lines e first) ≡ Some n → m ≡ n
 same-moment e first f m n o s a b =
     let same : moment_now f ≡ moment_now (after_lines e first) = ap₂ moment_at o s in cc (sym a ∙ same ∙ b)
 
-module _ (e : Evening) (lines : Lines) (json : e.options.format ≡ Json) (fits : e.row + length lines ≤ 2 ^ 64) (g : IsGood e.stage) (m : Moment)
+module _ (e : Evening) (lines : Lines) (json : e.options.format ≡ Json) (fits : e.row + length lines ≤ 2 ^ 64) (g : IsSound e) (m : Moment)
     (ends : moment_now (after_lines e lines) ≡ Some m)
   where
     abbrev Out : Lines
@@ -102,22 +102,25 @@ module _ (e : Evening) (lines : Lines) (json : e.options.format ≡ Json) (fits 
     whole : answers e lines ≡ answers e lines ++ []
     whole = sym (append-nil (answers e lines))
 
-    options-same : (first : Lines) → (after_lines e lines).options ≡ (after_lines e first).options
-    options-same first = options-after e lines ∙ sym (options-after e first)
+    -- the title is that of where the board was open
+    title-same : (first rest : Lines) (clubs : List NamedClub) (board : List ℕ) → lines ≡ first ++ rest → (after_lines e first).stage ≡ Open clubs board
+        → (after_lines e lines).title ≡ (after_lines e first).title
+    title-same first rest clubs board parts stands =
+        ap (λ (ls : Lines). (after_lines e ls).title) parts ∙ ap (λ (f : Evening). f.title) (after-append e first rest) ∙ title-after (after_lines e first) rest clubs board stands
 
     no-newer : (told : Option Moment) → IsOnTheWay e lines told → IsNoNewer m told
     no-newer None h = tt
     no-newer (Some other) w =
         let first : Lines = w.0 in
         let rest : Lines = w.1 in
-        let o = open-with (after_lines e first).options (after_lines e first).stage other w.3 in
-        let good : IsGood (Open o.0 o.1) = subst IsGood o.2 (good-after-lines e first g) in
+        let o = open-with (after_lines e first).title (after_lines e first).stage other w.3 in
+        let good : IsGood (Open o.0 o.1) = subst IsGood o.2 (good-after-lines e first g).stage in
         let b = boards-rise (after_lines e first) rest o.0 o.1 o.2 good.1 in
         let last : (after_lines e lines).stage ≡ Open o.0 b.0 = ap (λ (ls : Lines). (after_lines e ls).stage) w.2 ∙ ap (λ (f : Evening). f.stage) (after-append e first rest) ∙ b.1 in
-        let p = open-with (after_lines e lines).options (after_lines e lines).stage m ends in
+        let p = open-with (after_lines e lines).title (after_lines e lines).stage m ends in
         elim b.2 [
-          | inl same ↦ inl (sym (same-moment e first (after_lines e lines) m other (options-same first) (last ∙ ap (Open o.0) (sym same) ∙ sym o.2) ends w.3))
-          | inr less ↦ inr (later-by-version m other (p.4 ∙ ap title_of (options-same first) ∙ sym o.4) (let v : version_at other ≡ version_of o.1 = ap version_of o.3 in
+          | inl same ↦ inl (sym (same-moment e first (after_lines e lines) m other (title-same first rest o.0 o.1 w.2 o.2) (last ∙ ap (Open o.0) (sym same) ∙ sym o.2) ends w.3))
+          | inr less ↦ inr (later-by-version m other (p.4 ∙ title-same first rest o.0 o.1 w.2 o.2 ∙ sym o.4) (let v : version_at other ≡ version_of o.1 = ap version_of o.3 in
               let at : ◌≡◌ {A = Stage} (Open p.0 p.1) (Open o.0 b.0) = sym p.2 ∙ last in
               let same : p.1 ≡ b.0 = cc in
               let n : version_at m ≡ version_of b.0 = ap version_of (p.3 ∙ same) in
@@ -141,11 +144,11 @@ module _ (e : Evening) (lines : Lines) (json : e.options.format ≡ Json) (fits 
         let w = told-in (IsOnTheWay e lines) Out n way-all told in
         let first : Lines = w.0 in
         let rest : Lines = w.1 in
-        let o = open-with (after_lines e first).options (after_lines e first).stage n w.3 in
+        let o = open-with (after_lines e first).title (after_lines e first).stage n w.3 in
         let place : (after_lines e lines).stage ≡ (after_lines (after_lines e first) rest).stage =
         ap (λ (ls : Lines). (after_lines e ls).stage) w.2 ∙ ap (λ (f : Evening). f.stage) (after-append e first rest) in
         elim (stays-or (after_lines e first) rest o.0 o.1 o.2) [
-          | inl still ↦ subst (IsToldIn Out) (sym (same-moment e first (after_lines e lines) m n (options-same first) (place ∙ still ∙ sym o.2) ends w.3)) told
+          | inl still ↦ subst (IsToldIn Out) (sym (same-moment e first (after_lines e lines) m n (title-same first rest o.0 o.1 w.2 o.2) (place ∙ still ∙ sym o.2) ends w.3)) told
           | inr more ↦
               let before : Lines = first ++ more.0 in
               let parts : lines ≡ before ++ more.1 ∷ more.2 = w.2 ∙ ap (λ (ls : Lines). first ++ ls) more.3 ∙ sym (append_assoc first more.0 (more.1 ∷ more.2)) in
@@ -176,21 +179,21 @@ module _ (e : Evening) (lines : Lines) (json : e.options.format ≡ Json) (fits 
 
 pub journals-end : JournalsEndWithTheBoard
 journals-end options input m other json short last told =
-    is-latest (start_of options) (lines_of input) json (let few = lines-few input in omega (arith, few)) tt m last other told
+    is-latest (start_of options) (lines_of input) json (let few = lines-few input in omega (arith, few)) (start-sound options) m last other told
 
 -- ---- after a crash
 
 pub crashes : CrashesChangeNothing
 crashes e again clubs history first rest since m legal stands now has =
     let made = attempts_in e.row first in
-    let longer = attempts_in 17 since in
+    let longer = attempts_in (resumed_row m.title) since in
     let shorter = attempts_in (e.row + length first) rest in
     let board : List ℕ = fold board_after (board_of history) made in
     let on = go_on history made legal (lines-attempts e.row first) in
     let there : (after_lines e first).stage ≡ Open clubs board = boards e first clubs (board_of history) stands in
-    let told : ◌≡◌ {A = Option Moment} (Some (moment_with (after_lines e first).options clubs board)) (Some m) = sym (ap (moment_at (after_lines e first).options) there) ∙ now in
-    let same : moment_with (after_lines e first).options clubs board ≡ m = cc in
-    let k = all-same history made longer shorter legal (lines-attempts e.row first) (lines-attempts 17 since) has in
+    let told : ◌≡◌ {A = Option Moment} (Some (moment_with (after_lines e first).title clubs board)) (Some m) = sym (ap (moment_at (after_lines e first).title) there) ∙ now in
+    let same : moment_with (after_lines e first).title clubs board ≡ m = cc in
+    let k = all-same history made longer shorter legal (lines-attempts e.row first) (lines-attempts (resumed_row m.title) since) has in
     let right = ap (λ (f : Evening). f.stage) (after-append e first rest) ∙ boards (after_lines e first) rest clubs board there in
     boards (opened_at again m) since m.roster m.board refl
     ∙ ap (λ (x : Moment). Open x.roster (fold board_after x.board longer)) (sym same)

@@ -15,15 +15,17 @@ use Rattle.ucl_order.specs.Roster.{NamedClub}
 use Rattle.ucl_command.specs.declared.follow.FollowArgs.TheVariants.{Rows}
 use Rattle.ucl_command.specs.declared.live.LiveArgs.{LiveArgs}
 use Rattle.ucl_command.specs.declared.options.Format.TheVariants.{Json}
+use Rattle.ucl_answers.specs.Titles.{is_as_asked}
+use Rattle.ucl_answers.proofs.Silence.{is_open}
 use Rattle.ucl_answers.specs.BadRows.{shown_text}
 use Rattle.ucl_answers.specs.ByHistory.{attempts_in, attempts_on}
 use Rattle.ucl_answers.specs.Lines.{last_lines, lines_of}
 use Rattle.ucl_answers.specs.Rows.{Said, Nothing, Garbled, Row, said_on}
-use Rattle.ucl_answers.specs.Stages.{Stage, Naming, Open, Refused, Restoring, opened}
-use Rattle.ucl_answers.specs.Text.{Evening, after_lines, answers, next, start_of, title_of}
+use Rattle.ucl_answers.specs.Stages.{Stage, Beginning, Naming, Open, Refused, Restoring, opened}
+use Rattle.ucl_answers.specs.Text.{Evening, after_lines, answers, next, next_title, start_of}
 use Rattle.ucl_answers.proofs.Boards.{asked, boards}
 use Rattle.ucl_answers.proofs.GoodBoards.{good-after, version-after}
-use Rattle.ucl_answers.proofs.OneByOne.{after-append, after-none, answers-append, answers-one}
+use Rattle.ucl_answers.proofs.OneByOne.{after-append, after-last, after-none, answers-append, answers-one}
 use Rattle.ucl_json.specs.declared.title.Title.{Title}
 use Rattle.ucl_follows.specs.declared.moment.Moment.{Moment}
 use Rattle.ucl_follows.specs.declared.following.Following.{Following}
@@ -32,7 +34,7 @@ use Rattle.ucl_follows.specs.Follow.{after_told, follow_text, followed, is_later
 use Rattle.ucl_follows.specs.Journals.{CutJournalsResume, TakesEvent, IsAnsweredIn, ResumesTheBoard, moment_at, moment_now, moment_with}
 use Rattle.ucl_follows.specs.Latest.{IsToldIn}
 use Rattle.ucl_follows.specs.Resuming.{OpensTheBoard}
-use Rattle.ucl_follows.proofs.JournalAnswers.{AllTold, AnswersFirst, IsGood, IsOnTheWay, Lines, answers-first, begun-of, good-after-lines, on-the-way, stage-good}
+use Rattle.ucl_follows.proofs.JournalAnswers.{AllTold, AnswersFirst, IsGood, IsOnTheWay, IsSound, Lines, answers-first, begun-of, good-after-lines, on-the-way, stage-good, start-sound}
 use Rattle.ucl_follows.proofs.JournalLines.{lines-then, lines_in}
 use Rattle.ucl_follows.proofs.Resumed.{resumed}
 use Rattle.ucl_follows.proofs.Shown.{not-itself, one-way}
@@ -207,6 +209,14 @@ pub boards-rise : (e : Evening) (lines : Lines) (clubs : List NamedClub) (board 
 boards-rise e lines clubs board stands w =
     (fold board_after board (attempts_in e.row lines), boards e lines clubs board stands, all-rise board (attempts_in e.row lines) w (lines-attempts e.row lines))
 
+-- one line leaves it open
+boards-rise-to : (e : Evening) (line : List ℕ) (clubs : List NamedClub) (board : List ℕ) → e.stage ≡ Open clubs board
+    → (now : List ℕ) × ((next e (said_on e.row line)).stage ≡ Open clubs now)
+boards-rise-to e line clubs board h = (
+  fold board_after board (attempts_in e.row (line ∷ [])),
+  ap (λ (f : Evening). f.stage) (sym (after-last e line)) ∙ boards e (line ∷ []) clubs board h,
+)
+
 pub row-after : (e : Evening) (lines : Lines) → (after_lines e lines).row ≡ e.row + length lines
 unfolding after_lines
 row-after e [] = omega arith
@@ -217,17 +227,33 @@ unfolding after_lines
 options-after e [] = refl
 options-after e (line ∷ lines) = options-after (next e (said_on e.row line)) lines
 
--- a stage with a moment is open, and the moment has the title of the evening
-pub open-with : (options : LiveArgs) (s : Stage) (m : Moment) → moment_at options s ≡ Some m
-    → (clubs : List NamedClub) × (board : List ℕ) × (s ≡ Open clubs board) × (m.board ≡ board) × (m.title ≡ title_of options)
-open-with options (Open clubs board) m e = let same : moment_with options clubs board ≡ m = cc in (clubs, board, refl, cc, sym (ap (λ (n : Moment). n.title) same))
-open-with options (Naming clubs) m e = cc
-open-with options (Restoring clubs words) m e = cc
-open-with options (Refused fault) m e = cc
+-- a stage with a moment is open, and the moment has the evening's title
+pub open-with : (title : Title) (s : Stage) (m : Moment) → moment_at title s ≡ Some m
+    → (clubs : List NamedClub) × (board : List ℕ) × (s ≡ Open clubs board) × (m.board ≡ board) × (m.title ≡ title)
+open-with title (Open clubs board) m e = let same : moment_with title clubs board ≡ m = cc in (clubs, board, refl, cc, sym (ap (λ (n : Moment). n.title) same))
+open-with title Beginning m e = cc
+open-with title (Naming clubs) m e = cc
+open-with title (Restoring clubs words) m e = cc
+open-with title (Refused fault) m e = cc
+
+-- once a board is open, its title stays
+open-title : (title : Title) (s : Stage) (r : Said) → is_open s ≡ true → next_title title s r ≡ title
+open-title title (Open clubs board) r h = refl
+open-title title Beginning r h = cc
+open-title title (Naming clubs) r h = refl
+open-title title (Restoring clubs words) r h = refl
+open-title title (Refused fault) r h = refl
+
+pub title-after : (e : Evening) (lines : Lines) (clubs : List NamedClub) (board : List ℕ) → e.stage ≡ Open clubs board → (after_lines e lines).title ≡ e.title
+unfolding after_lines
+title-after e [] clubs board h = refl
+title-after e (line ∷ lines) clubs board h =
+    let b = boards-rise-to e line clubs board h in
+    title-after (next e (said_on e.row line)) lines clubs b.0 b.1 ∙ open-title e.title e.stage (said_on e.row line) (ap is_open h)
 
 -- ---- what is left of the answers of an evening
 
-module _ (e : Evening) (lines : Lines) (left lost : List ℕ) (json : e.options.format ≡ Json) (fits : e.row + length lines ≤ 2 ^ 64) (g : IsGood e.stage) (cut : answers e lines ≡ left ++ lost) where
+module _ (e : Evening) (lines : Lines) (left lost : List ℕ) (json : e.options.format ≡ Json) (fits : e.row + length lines ≤ 2 ^ 64) (g : IsSound e) (cut : answers e lines ≡ left ++ lost) where
   split : lines_in (answers e lines) ≡ whole_lines left ++ ended_lines 4097 (begun-of left) lost
   split = ap lines_in cut ∙ ended_append 4097 [] left lost
 
@@ -277,25 +303,28 @@ module _ (e : Evening) (lines : Lines) (left lost : List ℕ) (json : e.options.
           let k = shorter-front first rest before (line ∷ after) (sym whole ∙ parts) no_less in
           let between : Lines = k.0 in
           let place : before ≡ first ++ between = k.1 in
-          let o = open-with (after_lines e first).options (after_lines e first).stage m is in
+          let o = open-with (after_lines e first).title (after_lines e first).stage m is in
           let clubs : List NamedClub = o.0 in
           let board : List ℕ = o.1 in
           let same : m.board ≡ board = o.3 in
-          let good : IsGood (Open clubs board) = subst IsGood o.2 (good-after-lines e first g) in
+          let good : IsGood (Open clubs board) = subst IsGood o.2 (good-after-lines e first g).stage in
           let b = boards-rise (after_lines e first) between clubs board o.2 good.1 in
           let now : List ℕ = b.0 in
           let then : (after_lines (after_lines e first) between).stage ≡ Open clubs now = b.1 in
           let rise = no-lower board now b.2 in
           let there : (after_lines e before).stage ≡ Open clubs now = ap (λ (ls : Lines). (after_lines e ls).stage) place ∙ ap (λ (f : Evening). f.stage) (after-append e first between) ∙ then in
           let one : ◌≡◌ {A = Stage} (Open clubs now) (Open accepted.clubs accepted.board) =
-          sym (ap (λ (s : Stage). opened s (said_on (after_lines e before).row line)) there) ∙ accepted.stands in
+          sym (ap (λ (s : Stage). opened (after_lines e before).options s (said_on (after_lines e before).row line)) there) ∙ accepted.stands in
           let board-is : now ≡ accepted.board = cc in
           let newer = first-answer.newer in
           let f = next (after_lines e before) (said_on (after_lines e before).row line) in
-          let told-title : first-answer.told.title ≡ title_of e.options =
-          (open-with f.options f.stage first-answer.told first-answer.now).4 ∙ ap title_of (options-after e before) in
-          let title : m.title ≡ title_of e.options = o.4 ∙ ap title_of (options-after e first) in
-          let least = no-higher first-answer.told m (told-title ∙ sym title) most in
+          let told-title : first-answer.told.title ≡ (after_lines e before).title =
+          (open-with f.title f.stage first-answer.told first-answer.now).4 ∙ open-title (after_lines e before).title (after_lines e before).stage
+          (said_on (after_lines e before).row line) (ap is_open there) in
+          let stays : (after_lines e before).title ≡ (after_lines e first).title =
+          ap (λ (ls : Lines). (after_lines e ls).title) place ∙ ap (λ (h : Evening). h.title) (after-append e first between) ∙ title-after (after_lines e first) between clubs board o.2 in
+          let title : m.title ≡ (after_lines e first).title = o.4 in
+          let least = no-higher first-answer.told m (told-title ∙ stays ∙ sym title) most in
           let v : version_at m ≡ version_of board = ap version_of same in
           let w : version_of now ≡ version_of accepted.board = ap version_of board-is in
           absurd (omega (arith, newer, v, w, rise, least))
@@ -315,7 +344,7 @@ module _ (e : Evening) (lines : Lines) (left lost : List ℕ) (json : e.options.
           answered = λ before line after parts accepted answered. absurd
               (told-in (λ told. AtMost told None) (whole_lines left) (first-answer before line after parts accepted).told
               (subst (λ (o : Option Moment). AllTold (λ told. AtMost told o) (whole_lines left)) none at-most) (told-in-left before line after parts accepted answered));
-          opens = subst (λ (o : Option Moment). IfSome o (OpensTheBoard again)) (sym start) tt;
+          opens = subst (λ (o : Option Moment). IfSome o (λ n. is_as_asked again n.title ≡ true → OpensTheBoard again n)) (sym start) tt;
         }
 
     with-some : (m : Moment) → (followed unseen (whole_lines left)).newest ≡ Some m → IsToldIn (whole_lines left) m → ResumesTheBoard e again lines left
@@ -325,7 +354,8 @@ module _ (e : Evening) (lines : Lines) (left lost : List ℕ) (json : e.options.
         let rest : Lines = w.1 in
         let parts : lines ≡ first ++ rest = w.2 in
         let is : moment_now (after_lines e first) ≡ Some m = w.3 in
-        let good = stage-good (after_lines e first).options (after_lines e first).stage m (good-after-lines e first g) is in record {
+        let sound = good-after-lines e first g in
+        let good = stage-good (after_lines e first).title (after_lines e first).stage m sound.title sound.stage is in record {
           first = first;
           rest = rest;
           parts = parts;
@@ -333,7 +363,7 @@ module _ (e : Evening) (lines : Lines) (left lost : List ℕ) (json : e.options.
           answered = λ before line after place accepted answered. among before line after place accepted first rest m parts is
               (told-in (λ told. AtMost told (Some m)) (whole_lines left) (first-answer before line after place accepted).told
               (subst (λ (o : Option Moment). AllTold (λ told. AtMost told o) (whole_lines left)) some at-most) (told-in-left before line after place accepted answered));
-          opens = subst (λ (o : Option Moment). IfSome o (OpensTheBoard again)) (sym is) (resumed again m good);
+          opens = subst (λ (o : Option Moment). IfSome o (λ n. is_as_asked again n.title ≡ true → OpensTheBoard again n)) (sym is) (resumed again m good);
         }
 
     by-newest : (o : Option Moment) → (followed unseen (whole_lines left)).newest ≡ o → ResumesTheBoard e again lines left
@@ -362,4 +392,4 @@ lines-few bytes =
 
 pub cut-journals : CutJournalsResume
 cut-journals options again input left lost json short cut =
-    resumes (start_of options) (lines_of input) left lost json (let few = lines-few input in omega (arith, few)) tt cut again refl
+    resumes (start_of options) (lines_of input) left lost json (let few = lines-few input in omega (arith, few)) (start-sound options) cut again refl

@@ -20,38 +20,8 @@ use Rattle.ucl_screen.proofs.ReadWords.{are-read, first-bad}
 use Rattle.ucl_screen.specs.WordsRead.{read_words}
 use Rattle.ucl_screen.specs.Events.{◌>>=◌}
 use Rattle.ucl_screen.specs.Numbers.{digits_after, hex_word}
-use Rattle.ucl_screen.specs.Screen.{IsGroup}
 use Rattle.ucl_screen.specs.Script.{word_of_row}
-use Rattle.ucl_follows.specs.Told.{club_told, each_told, if_read, just, letter_in, listed, moment_on, moment_told, roster_told, unless_bad}
-
--- ---- one letter
-
-both : (a b : Bool) → (a && b) ≡ true → (a ≡ true) × (b ≡ true)
-both true b h = (refl, h)
-both false b h = cc
-
-pub is_letter : (text : List ℕ) → 1 ≤ length text → length text < 2 → IsGroup (slice_index_or text 0 0) → Some (slice_index_or text 0 0) ≡ letter_in text
-is_letter [] some one group = absurd (omega arith)
-is_letter (x ∷ []) some one group = rw (le-leb 65 x group.0, le-leb x 72 group.1) refl
-is_letter (x ∷ y ∷ ys) some one group = absurd (omega arith)
-
-pub no_letter : (text : List ℕ) → length text < 1 → None ≡ letter_in text
-no_letter [] none = refl
-no_letter (x ∷ xs) none = absurd (omega arith)
-
-pub many_letters : (text : List ℕ) → 2 ≤ length text → None ≡ letter_in text
-many_letters [] many = absurd (omega arith)
-many_letters (x ∷ []) many = absurd (omega arith)
-many_letters (x ∷ y ∷ ys) many = refl
-
-pub other_letter : (text : List ℕ) → 1 ≤ length text → length text < 2 → (IsGroup (slice_index_or text 0 0) → ⊥) → None ≡ letter_in text
-other_letter [] some one other = absurd (omega arith)
-other_letter (x ∷ y ∷ ys) some one other = absurd (omega arith)
-other_letter (x ∷ []) some one other = go (nat_le 65 x && nat_le x 72) refl
-  where
-    go : (b : Bool) → (nat_le 65 x && nat_le x 72) ≡ b → None ≡ cond b (Some x) None
-    go false e = refl
-    go true e = let parts = both _ _ e in absurd (other (leb-true _ _ parts.0, leb-true _ _ parts.1))
+use Rattle.ucl_follows.specs.Told.{club_told, each_told, if_read, just, listed, moment_on, moment_told, roster_told, unless_bad}
 
 -- ---- a word
 

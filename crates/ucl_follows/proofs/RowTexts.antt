@@ -27,7 +27,13 @@ use Rattle.ucl_answers.specs.Rows.{Row, fits, of_rows, said_by_text}
 use Rattle.ucl_answers.proofs.PlainRows.{at-ends, before-comma, plain_row}
 use Rattle.ucl_answers.proofs.RowBytes.{between-same, skip-one}
 use Rattle.ucl_answers.proofs.WordDigits.{low, word-digits}
-use Rattle.ucl_follows.specs.Follow.{club_row, in_quotes}
+use Rattle.ucl_order.specs.declared.profile.Profile.{Profile}
+use Rattle.ucl_order.specs.declared.profile.Profile.TheVariants.{Uefa, AwayInTie}
+use Rattle.ucl_order.specs.Names.{profile_name, profile_named}
+use Rattle.ucl_screen.specs.Screen.{IsGroup}
+use Rattle.ucl_json.specs.declared.title.Title.{Title}
+use Rattle.ucl_answers.specs.Titles.{title_by}
+use Rattle.ucl_follows.specs.Follow.{club_row, group_row, in_quotes}
 use Rattle.ucl_follows.proofs.Answered.{both, long, word-back}
 
 -- ---- bytes that join a field
@@ -106,6 +112,10 @@ club-before rest = record { begins = refl; reads = λ fields. refl }
 word-before : (rest : List ℕ) → IsFieldBefore (codes "word," ++ rest) (codes "word") rest
 unfolding next_record
 word-before rest = record { begins = refl; reads = λ fields. refl }
+
+group-before : (rest : List ℕ) → IsFieldBefore (codes "group," ++ rest) (codes "group") rest
+unfolding next_record
+group-before rest = record { begins = refl; reads = λ fields. refl }
 
 -- a name in quotes
 
@@ -270,6 +280,10 @@ word-unmarked : (rest : List ℕ) → strip_bom (codes "word," ++ rest) ≡ code
 unfolding strip_bom
 word-unmarked rest = refl
 
+group-unmarked : (rest : List ℕ) → strip_bom (codes "group," ++ rest) ≡ codes "group," ++ rest
+unfolding strip_bom
+group-unmarked rest = refl
+
 -- and say their fields
 
 club-reads : (slot name coefficient : List ℕ) → AreJoining slot → AreJoining coefficient → of_rows (records default_config (club_text slot name coefficient)) ≡ Row (club_fields slot name coefficient)
@@ -311,6 +325,7 @@ word-says index hex i h a b = record {
 pub record SaysClub (slot : ℕ) (text : List ℕ) (club : NamedClub) : Type 0 where
   pub fields : FourFields
   pub says : SaysRow text fields
+  pub first : fields.first ≡ codes "club"
   pub club_is : club_of slot fields ≡ Some club
 
 club-is : (slot : ℕ) (name : List ℕ) (coefficient : ℕ) → slot < 10 → coefficient ≤ 999999
@@ -338,6 +353,7 @@ club_row_says roster slot few is =
       fields = club_fields (decimal slot) club.name (decimal club.coefficient);
       says = subst (λ (t : List ℕ). SaysRow t (club_fields (decimal slot) club.name (decimal club.coefficient))) (club-parts (decimal slot) club.name (decimal club.coefficient))
           (club-says (decimal slot) club.name (decimal club.coefficient) (decimal-joins slot (omega arith)) (decimal-joins club.coefficient (omega arith)) one six short named.1);
+      first = refl;
       club_is = club-is slot club.name club.coefficient few most;
     }
 
@@ -367,4 +383,88 @@ word_row_says index word i h =
           (word-says (decimal index) (hex_digits word) (decimal-joins index (omega arith)) (hex-joins word h) two (hex-long word h));
       first = refl;
       word_is = word-is index word i h;
+    }
+
+-- ---- the row of a group
+
+abbrev group_text : List ℕ → List ℕ → List ℕ → List ℕ
+group_text letter order edition = codes "group," ++ (letter ++ 44 ∷ (order ++ 44 ∷ (edition ++ 10 ∷ [])))
+
+abbrev group_front : List ℕ → List ℕ → List ℕ → List ℕ
+group_front letter order edition = codes "group," ++ (letter ++ 44 ∷ (order ++ 44 ∷ edition))
+
+abbrev group_fields : List ℕ → List ℕ → List ℕ → FourFields
+group_fields letter order edition = record { first = codes "group"; second = letter; third = order; fourth = edition }
+
+group-clean : (letter order edition : List ℕ) → AreJoining letter → AreJoining order → AreJoining edition → HasNoFeed (group_front letter order edition)
+group-clean letter order edition a b c =
+    let last = no-feed-then (44 ∷ []) edition (test-clear (44 ∷ []) refl) (joining-clear edition c) in
+    let orders = no-feed-then order (44 ∷ edition) (joining-clear order b) last in
+    let behind = no-feed-then (44 ∷ []) (order ++ 44 ∷ edition) (test-clear (44 ∷ []) refl) orders in
+    no-feed-then (codes "group,") (letter ++ 44 ∷ (order ++ 44 ∷ edition)) (test-clear (codes "group,") refl)
+    (no-feed-then letter (44 ∷ (order ++ 44 ∷ edition)) (joining-clear letter a) behind)
+
+group-line : (letter order edition : List ℕ) → group_text letter order edition ≡ group_front letter order edition ++ 10 ∷ []
+group-line letter order edition = simp append_assoc
+
+group-short : (letter order edition : List ℕ) → length letter ≤ 1 → length order ≤ 11 → length edition ≤ 5 → length (group_text letter order edition) ≤ 257
+group-short letter order edition a b c =
+    let p = length-append letter (44 ∷ (order ++ 44 ∷ (edition ++ 10 ∷ []))) in
+    let q = length-append order (44 ∷ (edition ++ 10 ∷ [])) in
+    let r = length-append edition (10 ∷ []) in
+    omega arith
+
+group-reads : (letter order edition : List ℕ) → AreJoining letter → AreJoining order → AreJoining edition
+    → of_rows (records default_config (group_text letter order edition)) ≡ Row (group_fields letter order edition)
+group-reads letter order edition a b c =
+    let last = edition ++ 10 ∷ [] in
+    plain_row (group_text letter order edition) (letter ++ 44 ∷ (order ++ 44 ∷ last)) (order ++ 44 ∷ last) last (codes "group") letter order edition
+    (group-before (letter ++ 44 ∷ (order ++ 44 ∷ last))) (before-comma letter (order ++ 44 ∷ last) a) (before-comma order last b) (at-end edition c)
+
+group-says : (letter order edition : List ℕ) → AreJoining letter → AreJoining order → AreJoining edition → length letter ≤ 1 → length order ≤ 11 → length edition ≤ 5
+    → SaysRow (group_text letter order edition) (group_fields letter order edition)
+group-says letter order edition a b c p q r =
+    let text = group_text letter order edition in
+    let short = group-short letter order edition p q r in
+    let line = group-line letter order edition in record {
+      front = group_front letter order edition;
+      clean = group-clean letter order edition a b c;
+      line = line;
+      short = less-one text (group_front letter order edition) line short;
+      said = λ row. said-short row text (group_fields letter order edition) short (group-unmarked (letter ++ 44 ∷ (order ++ 44 ∷ (edition ++ 10 ∷ []))))
+          (group-reads letter order edition a b c);
+    }
+
+pub record SaysTitle (text : List ℕ) (title : Title) : Type 0 where
+  pub fields : FourFields
+  pub says : SaysRow text fields
+  pub first : fields.first ≡ codes "group"
+  pub title_is : title_by fields ≡ Some title
+
+order-joins : (profile : Profile) → AreJoining (profile_name profile) × (length (profile_name profile) ≤ 11) × (profile_named (profile_name profile) ≡ Some profile)
+order-joins Uefa = ((refl, (refl, (refl, (refl, tt)))), omega arith, refl)
+order-joins AwayInTie = ((refl, (refl, (refl, (refl, (refl, (refl, (refl, (refl, (refl, (refl, (refl, tt))))))))))), omega arith, refl)
+
+title-is : (title : Title) → IsGroup title.group → title.edition ≤ 65535 → title_by (group_fields (title.group ∷ []) (profile_name title.profile) (decimal title.edition)) ≡ Some title
+title-is title letter most =
+    let order = (order-joins title.profile).2 in
+    let back = number-back 5 title.edition (omega arith) (omega arith) (omega arith) in
+    rw (le-leb 65 title.group letter.0, le-leb title.group 72 letter.1, order, back, le-leb 0 title.edition (omega arith), le-leb title.edition 65535 most) refl
+
+group-parts : (letter order edition : List ℕ) → group_text letter order edition ≡ codes "group," ++ letter ++ codes "," ++ order ++ codes "," ++ edition ++ codes "\n"
+group-parts letter order edition = simp append_assoc
+
+pub group_row_says : (title : Title) → IsGroup title.group → title.edition ≤ 65535 → SaysTitle (group_row title) title
+group_row_says title letter most =
+    let order = order-joins title.profile in
+    let five = length-decimal-le 5 title.edition (omega arith) (omega arith) (omega arith) in
+    let fields = group_fields (title.group ∷ []) (profile_name title.profile) (decimal title.edition) in
+    let low = letter.0 in
+    record {
+      fields = fields;
+      says = subst (λ (t : List ℕ). SaysRow t fields) (group-parts (title.group ∷ []) (profile_name title.profile) (decimal title.edition))
+          (group-says (title.group ∷ []) (profile_name title.profile) (decimal title.edition) (above-marks title.group (omega arith), tt) order.0
+          (decimal-joins title.edition (omega arith)) (omega arith) order.1 five);
+      first = refl;
+      title_is = title-is title letter most;
     }

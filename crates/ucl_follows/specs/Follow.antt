@@ -2,11 +2,15 @@
 use Rattle.std.specs.Prelude.{ℕ, ◌+◌, ◌-◌, ◌^◌, ◌==◌, ◌||◌, ◌&&◌, min, nat_lt, if◌then◌else◌, Bool, true, List, [], ◌∷◌, ◌++◌, codes, decimal, flat_map, Option, Some, None}
 use Rattle.ucl_io.specs.Lines.{ended_lines}
 use Rattle.ucl_board.specs.Words.{version_of}
+use Rattle.ucl_order.specs.declared.profile.Profile.TheVariants.{Uefa}
+use Rattle.ucl_order.specs.Names.{profile_name}
 use Rattle.ucl_order.specs.Roster.{NamedClub, coefficient_of, name_of}
 use Rattle.ucl_runs.specs.Feed.{word_lines}
 use Rattle.ucl_screen.specs.Screen.{screen_text}
 use Rattle.ucl_json.specs.Lines.{json_line}
 use Rattle.ucl_json.specs.Values.{edition_screen_value}
+use Rattle.ucl_json.specs.declared.title.Title.{Title}
+use Rattle.ucl_answers.specs.Titles.{is_same_order}
 use Rattle.ucl_follows.specs.declared.moment.Moment.{Moment}
 use Rattle.ucl_follows.specs.declared.following.Following.{Following}
 use Rattle.ucl_command.specs.declared.follow.FollowArgs.{FollowArgs}
@@ -18,6 +22,17 @@ version_at moment = version_of moment.board
 
 -- ---- the rows by which an evening goes on from a moment
 
+-- group A, in the order of the Regulations, in edition 0
+abbrev pub is_plain_title : Title → Bool
+is_plain_title title = (title.group == 65) && is_same_order title.profile Uefa && (title.edition == 0)
+
+abbrev pub group_row : Title → List ℕ
+group_row title = codes "group," ++ (title.group ∷ []) ++ codes "," ++ profile_name title.profile ++ codes "," ++ decimal title.edition ++ codes "\n"
+
+-- the row of the group, where an evening would not have that title without it
+abbrev pub title_rows : Title → List ℕ
+title_rows title = if is_plain_title title then [] else group_row title
+
 -- a byte in a field between quotes, where a quote stands twice
 abbrev pub in_quotes : ℕ → List ℕ
 in_quotes b = if b == 34 then 34 ∷ 34 ∷ [] else b ∷ []
@@ -26,10 +41,10 @@ abbrev pub club_row : List NamedClub → ℕ → List ℕ
 club_row clubs slot =
     codes "club," ++ decimal slot ++ codes ",\"" ++ flat_map in_quotes (name_of clubs slot) ++ codes "\"," ++ decimal (coefficient_of clubs slot) ++ codes "\n"
 
--- the rows of the four clubs, and of the twelve words
+-- the row of the group, where there is one, those of the four clubs, and those of the twelve words
 abbrev pub resuming_rows : Moment → List ℕ
 resuming_rows moment =
-    (club_row moment.roster 1 ++ club_row moment.roster 2 ++ club_row moment.roster 3 ++ club_row moment.roster 4) ++ word_lines 1 moment.board
+    title_rows moment.title ++ club_row moment.roster 1 ++ club_row moment.roster 2 ++ club_row moment.roster 3 ++ club_row moment.roster 4 ++ word_lines 1 moment.board
 
 -- ---- what is shown
 

@@ -12,33 +12,36 @@ use Rattle.ucl_command.specs.declared.options.Format.TheVariants.{Json}
 use Rattle.ucl_answers.specs.ByHistory.{attempts_in, attempts_on}
 use Rattle.ucl_answers.specs.Lines.{lines_of}
 use Rattle.ucl_answers.specs.Rows.{said_on}
-use Rattle.ucl_answers.specs.Stages.{Stage, Naming, Open, Refused, Restoring, opened}
-use Rattle.ucl_answers.specs.Text.{Evening, after_lines, answers, live_text, start_of, title_of}
+use Rattle.ucl_answers.specs.Stages.{Stage, Beginning, Naming, Open, Refused, Restoring, opened}
+use Rattle.ucl_answers.specs.Text.{Evening, after_lines, answers, live_text, start_of}
+use Rattle.ucl_json.specs.declared.title.Title.{Title}
+use Rattle.ucl_answers.specs.Titles.{is_as_asked}
 use Rattle.ucl_follows.specs.declared.moment.Moment.{Moment}
 use Rattle.ucl_follows.specs.Follow.{follow_text, resuming_text, whole_lines}
 use Rattle.ucl_follows.specs.Latest.{IsLatest, IsToldIn}
 use Rattle.ucl_follows.specs.Repeats.{HasRepeats}
-use Rattle.ucl_follows.specs.Resuming.{OpensTheBoard, opened_at}
+use Rattle.ucl_follows.specs.Resuming.{OpensTheBoard, opened_at, resumed_row}
 
 -- the moment of an evening whose board is open
-abbrev pub moment_with : LiveArgs → List NamedClub → List ℕ → Moment
-moment_with options clubs board = record { title = title_of options; roster = clubs; board = board }
+abbrev pub moment_with : Title → List NamedClub → List ℕ → Moment
+moment_with title clubs board = record { title = title; roster = clubs; board = board }
 
-abbrev pub moment_at : LiveArgs → Stage → Option Moment
-moment_at options (Open clubs board) = Some (moment_with options clubs board)
-moment_at options (Naming clubs) = None
-moment_at options (Restoring clubs words) = None
-moment_at options (Refused fault) = None
+abbrev pub moment_at : Title → Stage → Option Moment
+moment_at title (Open clubs board) = Some (moment_with title clubs board)
+moment_at title Beginning = None
+moment_at title (Naming clubs) = None
+moment_at title (Restoring clubs words) = None
+moment_at title (Refused fault) = None
 
 abbrev pub moment_now : Evening → Option Moment
-moment_now e = moment_at e.options e.stage
+moment_now e = moment_at e.title e.stage
 
 -- at this line a board is open, the line asks for an event, and the reply is no refusal
 pub record TakesEvent (e : Evening) (line : List ℕ) : Type 0 where
   pub clubs : List NamedClub
   pub board : List ℕ
   pub attempt : Attempt
-  pub stands : opened e.stage (said_on e.row line) ≡ Open clubs board
+  pub stands : opened e.options e.stage (said_on e.row line) ≡ Open clubs board
   pub asks : attempts_on (said_on e.row line) ≡ attempt ∷ []
   pub accepted : is_ok (reply_of (game_at board attempt.call.game) attempt.call) ≡ true
 
@@ -47,7 +50,8 @@ abbrev pub IsAnsweredIn : Evening → List (List ℕ) → List ℕ → Type 0
 IsAnsweredIn e before left = length (whole_lines (answers e before)) < length (whole_lines left)
 
 -- what `--resume` writes of what is left are the rows of the board after so many lines of the input, or nothing, where none is open then;
--- among these lines is each one that was accepted and whose answer is whole; and the rows open that board again
+-- among these lines is each one that was accepted and whose answer is whole; and the rows open that board again, under its title,
+-- where no other group or order is asked for
 pub record ResumesTheBoard (e : Evening) (again : LiveArgs) (lines : List (List ℕ)) (left : List ℕ) : Type 0 where
   pub first : List (List ℕ)
   pub rest : List (List ℕ)
@@ -55,7 +59,7 @@ pub record ResumesTheBoard (e : Evening) (again : LiveArgs) (lines : List (List 
   pub rows : follow_text Rows left ≡ resuming_text Rows (moment_now (after_lines e first))
   pub answered : (before : List (List ℕ)) (line : List ℕ) (after : List (List ℕ)) → lines ≡ before ++ line ∷ after
       → TakesEvent (after_lines e before) line → IsAnsweredIn e before left → length before < length first
-  pub opens : IfSome (moment_now (after_lines e first)) (OpensTheBoard again)
+  pub opens : IfSome (moment_now (after_lines e first)) (λ m. is_as_asked again m.title ≡ true → OpensTheBoard again m)
 
 -- wherever the output of an evening in JSON is cut
 abbrev pub CutJournalsResume : Type 0
@@ -73,5 +77,5 @@ JournalsEndWithTheBoard = (options : LiveArgs) (input : List ℕ) (m other : Mom
 abbrev pub CrashesChangeNothing : Type 0
 CrashesChangeNothing = (e : Evening) (again : LiveArgs) (clubs : List NamedClub) (history : List Entry) (first rest since : List (List ℕ)) (m : Moment)
     → IsLegal history → e.stage ≡ Open clubs (board_of history) → moment_now (after_lines e first) ≡ Some m
-    → HasRepeats history (attempts_in e.row first) (attempts_in 17 since) (attempts_in (e.row + length first) rest)
+    → HasRepeats history (attempts_in e.row first) (attempts_in (resumed_row m.title) since) (attempts_in (e.row + length first) rest)
     → (after_lines (opened_at again m) since).stage ≡ (after_lines e (first ++ rest)).stage

@@ -1,5 +1,5 @@
 -- What an evening makes of the rows by which it goes on from a moment.
-use Rattle.std.specs.Prelude.{◌≡◌, ℕ, List, [], ◌++◌}
+use Rattle.std.specs.Prelude.{◌≡◌, ℕ, if◌then◌else◌, true, List, [], ◌++◌}
 use Rattle.ucl_board.specs.declared.entry.Entry.{Entry}
 use Rattle.ucl_board.specs.History.{IsLegal, board_of}
 use Rattle.ucl_command.specs.declared.live.LiveArgs.{LiveArgs}
@@ -7,15 +7,21 @@ use Rattle.ucl_answers.specs.Laws.{IsSequential}
 use Rattle.ucl_answers.specs.Lines.{lines_of}
 use Rattle.ucl_answers.specs.Stages.{Open}
 use Rattle.ucl_answers.specs.Text.{Evening, after_lines, answers, live_text, start_of}
+use Rattle.ucl_json.specs.declared.title.Title.{Title}
+use Rattle.ucl_answers.specs.Titles.{is_as_asked}
 use Rattle.ucl_follows.specs.declared.moment.Moment.{Moment}
 use Rattle.ucl_follows.specs.Answered.{IsMoment}
-use Rattle.ucl_follows.specs.Follow.{resuming_rows}
+use Rattle.ucl_follows.specs.Follow.{is_plain_title, resuming_rows}
 
--- sixteen rows were read, of four clubs and twelve words, and the board of the moment is open
+-- the row after those of a title, of four clubs and of twelve words
+abbrev pub resumed_row : Title → ℕ
+resumed_row title = if is_plain_title title then 17 else 18
+
+-- the rows were read, and the board of the moment is open, under its title
 abbrev pub opened_at : LiveArgs → Moment → Evening
-opened_at options moment = record { options = options; row = 17; stage = Open moment.roster moment.board }
+opened_at options moment = record { options = options; title = moment.title; row = resumed_row moment.title; stage = Open moment.roster moment.board }
 
--- an evening that has read the rows of a moment has answered nothing, and its board is open; what comes next is answered on that board, so
+-- an evening that has read the rows of a moment, and was asked for no other group or order, has answered nothing, and its board is open; what comes next is answered on that board, so
 -- each reply and each screen is that of the history which the board is of
 pub record OpensTheBoard (options : LiveArgs) (moment : Moment) : Type 0 where
   pub silent : answers (start_of options) (lines_of (resuming_rows moment)) ≡ []
@@ -25,4 +31,4 @@ pub record OpensTheBoard (options : LiveArgs) (moment : Moment) : Type 0 where
       → IsSequential (opened_at options moment) lines moment.roster history
 
 abbrev pub ResumedRowsOpenTheBoard : Type 0
-ResumedRowsOpenTheBoard = (options : LiveArgs) (moment : Moment) → IsMoment moment → OpensTheBoard options moment
+ResumedRowsOpenTheBoard = (options : LiveArgs) (moment : Moment) → IsMoment moment → is_as_asked options moment.title ≡ true → OpensTheBoard options moment

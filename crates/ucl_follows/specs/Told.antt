@@ -11,6 +11,7 @@ use Rattle.ucl_order.specs.Roster.{NamedClub, bad_slot, named}
 use Rattle.ucl_screen.specs.Events.{◌>>=◌}
 use Rattle.ucl_screen.specs.Numbers.{hex_word}
 use Rattle.ucl_screen.specs.WordsRead.{read_words}
+use Rattle.ucl_answers.specs.Titles.{letter_in}
 use Rattle.ucl_json.specs.declared.title.Title.{Title}
 use Rattle.ucl_follows.specs.declared.moment.Moment.{Moment}
 
@@ -42,11 +43,6 @@ abbrev pub just : {T : Type 0} → ℕ → (Data → Option T) → List Data →
 just many told values = if length values == many then each_told told values else None
 
 -- ---- the group and its order
-
--- one letter, A to H
-abbrev pub letter_in : List ℕ → Option ℕ
-letter_in (letter ∷ []) = if nat_le 65 letter && nat_le letter 72 then Some letter else None
-letter_in _ = None
 
 abbrev pub group_told : Data → Option ℕ
 group_told value = option_and_then letter_in (text_at (codes "group") value)

@@ -5,16 +5,17 @@ ghost use Rattle.serde_json.specs.View.{items_view, view};
 ghost use Rattle.ucl_order.specs.Roster.{bad_slot, club_lent};
 ghost use Rattle.ucl_screen.specs.Screen.{IsGroup};
 ghost use Rattle.ucl_screen.specs.WordsRead.{read_words};
-ghost use Rattle.ucl_follows.specs.Told.{board_told, club_told, clubs_told, each_told, edition_in, edition_told, group_told, if_read, just, letter_in, list_at, moment_on, moment_told, order_told, roster_told, text_at, title_told, unless_bad, word_told};
+ghost use Rattle.ucl_follows.specs.Told.{board_told, club_told, clubs_told, each_told, edition_in, edition_told, group_told, if_read, just, list_at, moment_on, moment_told, order_told, roster_told, text_at, title_told, unless_bad, word_told};
 
 use crate::moment::Moment;
 use arrayvec::ArrayVec;
 use serde_json::Value;
 use std::alloc::{AllocError, Global};
+use ucl_answers::letter_in;
 use ucl_board::Board;
 use ucl_json::Title;
 use ucl_order::{LentClub, Profile, Roster};
-use ucl_screen::{Four, is_group, word_of_fields};
+use ucl_screen::{Four, word_of_fields};
 
 /// The most bytes of a line.
 const MOST_ANSWER_BYTES: usize = 4096;
@@ -30,17 +31,6 @@ fn text_in<'v>(value: &'v Value, name: &str) -> Option<&'v str>
     ensures { option_map (λ text. text.now) result ≡ text_at name.now (view value.now) }
 {
     value.get(name)?.as_str()
-}
-
-/// The letter of a group, where a text is one.
-fn letter_in(text: &[u8]) -> Option<u8>
-    ensures told { result ≡ letter_in text.now }
-    ensures letter { IfSome result IsGroup }
-{
-    match text {
-        [letter] if is_group(*letter) => Some(*letter),
-        _ => None,
-    }
 }
 
 /// The letter of the group.

@@ -6,17 +6,17 @@ use ucl_answers::{BeginningFault, LiveFault, live_run};
 use ucl_command::{Format, LiveArgs};
 use ucl_devices::{Cut, Full, Out};
 use ucl_io::{Duplex, PumpFault};
-use ucl_order::Profile;
 use ucl_screen::{FromRead, ToWrite};
 
 /// How an evening ended, and what it wrote.
 pub type Held = (Result<(), PumpFault<LiveFault>>, Vec<u8>);
 
-/// The options of group A in the UEFA order.
+/// The options of an evening of which neither group nor order was asked for.
 fn options_of(format: Format, screens: bool) -> LiveArgs {
     LiveArgs {
-        group: b'A',
-        profile: Profile::Uefa,
+        group: None,
+        profile: None,
+        resumed: false,
         screens,
         format,
     }

@@ -8,6 +8,9 @@ threads: each reporter and each screen has a file or pipe of its own.";
 /// What goes in and out, how the program ends, and examples.
 pub(crate) const PROGRAM_MORE: &str = "\
 Clubs: rows of four fields separated by commas, one a line
+  group,GROUP,ORDER,EDITION      first, where it is wanted: the group, A to H, the
+                                 order, uefa or away-in-tie, and the edition of
+                                 the board, 0 to 65535; as group,C,uefa,1
   club,SLOT,NAME,COEFFICIENT     the first four: the clubs of slots 1 to 4, as
                                  club,1,Alpha,60000; a name is 1 to 20 printable
                                  ASCII characters, and a coefficient in
@@ -48,7 +51,7 @@ Exit status, with a line on standard error for each fault; that of a reporter or
 screen begins with its place, as `reporter 2: `, and the others go on. The status
 is that of the first fault: reporters first, then screens, then those of JSON
   0  all inputs have ended, or help or the version was asked for
-  2  the words of the command line are refused
+  2  the words of the command line are refused, or differ from the row of a group
   3  the clubs, or the events that were entered before, have a fault
   4  reading or writing failed
   5  there is no memory, or no thread

@@ -10,14 +10,16 @@ pub(crate) const PROGRAM_MORE: &str = "\
 Input: the answers of `ucl_live --format json`, in any order, doubled, cut, and
 with other lines between. A line tells a moment where it is JSON, of at most
 4,096 bytes and an end, with the members group, order, clubs and words of a
-board: each answer to an accepted event does, and each screen. All lines are
-those of one board.
+board, and its edition, where this is not 0: each answer to an accepted event
+does, and each screen. A moment of a later edition is newer, whatever its
+version. All lines are those of one board.
 
 Output: the screen of each moment that is newer than all before, worked out
 from its words, by its order; each other line is passed over. No text of a line
 is handed on. With --resume no screen, but at the end of the input the rows from
-which ucl_live goes on at the newest moment: four clubs, as
-club,1,\"Alpha\",60000, and twelve words, as word,1,2001000000001001,
+which ucl_live goes on at the newest moment: its group, as group,C,uefa,1, where
+this is not group,A,uefa,0; four clubs, as club,1,\"Alpha\",60000; and twelve
+words, as word,1,2001000000001001,
 A name is 1 to 20 printable ASCII characters, and a coefficient in thousandths 1
 to 9 digits, up to 999,999.
 
@@ -35,7 +37,7 @@ Examples:
   ucl_live --format json < rows >> evening.jsonl
   tail -n +1 -F evening.jsonl | ucl_follow
   ucl_follow --resume < evening.jsonl > start &&
-    cat start rows | ucl_live --format json
+    cat start rows | ucl_live --resumed --format json
 
 docs/ROWS.md has rows, answers and all codes; docs/RULES.md has the rules.";
 

@@ -9,6 +9,9 @@ Answers each row of standard input as it comes, on standard output.";
 pub(crate) const PROGRAM_MORE: &str = "\
 Input: rows of four fields separated by commas, one a line, of at most 256
 bytes; a line with nothing on it is passed over and counted
+  group,GROUP,ORDER,EDITION      first, where it is wanted: the group, A to H, the
+                                 order, uefa or away-in-tie, and the edition of
+                                 the board, 0 to 65535; as group,C,uefa,1
   club,SLOT,NAME,COEFFICIENT     the first four: the clubs of slots 1 to 4, as
                                  club,1,Alpha,60000; a name is 1 to 20 printable
                                  ASCII characters, and a coefficient in
@@ -39,7 +42,7 @@ ok, refused, words or screen.
 
 Exit status, with a text on standard error where it is not 0:
   0  the input has ended, or help or the version was asked for
-  2  the words of the command line are refused
+  2  the words of the command line are refused, or differ from the row of a group
   3  the clubs or the words have a fault; nothing was written
   4  reading or writing failed
   5  there is no memory
@@ -50,6 +53,9 @@ Examples:
   cat > rows                                to type rows, up to Ctrl-D
 
 docs/ROWS.md has rows, answers and all codes; docs/RULES.md has the rules.";
+
+/// What `--resumed` does.
+pub(crate) const RESUMED: &str = "Refuses an input without words";
 
 /// What `--screens` does.
 pub(crate) const SCREENS: &str = "Writes the screen after each accepted event";

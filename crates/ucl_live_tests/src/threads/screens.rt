@@ -7,9 +7,10 @@ use std::alloc::Global;
 use std::snapshot::Snapshot;
 use std::sync::Wait;
 use std::test::Fail;
-use ucl_command::{Format, LiveArgs};
+use ucl_command::Format;
 use ucl_devices::{Full, Out};
-use ucl_evenings::{Bell, Screen, show_boards};
+use ucl_evenings::{Bell, Screen, Shape, show_boards};
+use ucl_json::Title;
 use ucl_order::{Club, Profile, Roster};
 use ucl_runs::RunFault;
 use ucl_screen::ToWrite;
@@ -92,10 +93,12 @@ fn shown<R: Wait>(rt: &R, alloc: Global, roster: &Roster, room: usize) -> Result
     let (board, mut reader) = WordBoard::open(rt, alloc)?;
     let pass = board.split_now(&mut reader);
     let reporter = board.enlist_now(pass).ok().ok_or("no number")?;
-    let options = LiveArgs {
-        group: b'A',
-        profile: Profile::Uefa,
-        screens: true,
+    let shape = Shape {
+        title: Title {
+            group: b'A',
+            profile: Profile::Uefa,
+            edition: 0,
+        },
         format: Format::Text,
     };
     let mut bell = KickOff {
@@ -117,7 +120,7 @@ fn shown<R: Wait>(rt: &R, alloc: Global, roster: &Roster, room: usize) -> Result
             room,
             full: Full::Fails,
         });
-        let mut screen = Screen::new(&board, roster, options, sink);
+        let mut screen = Screen::new(&board, roster, shape, sink);
         show_boards(
             rt,
             alloc,

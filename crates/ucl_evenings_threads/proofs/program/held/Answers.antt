@@ -10,7 +10,7 @@ if_all P Q S T f (Err e) p q s = tt
 
 pub hold_evening-requires-clause-screens : goal.hold_evening-requires-clause-screens
 hold_evening-requires-clause-screens g c κs within =
-    zip_right (IsAskedFor c.args.board.now c.args.night.now.roster c.args.asked.now) (IsNewScreen c.args.board.now c.args.night.now.roster) (λ place screen a. a.new)
+    zip_right (IsAskedFor c.args.board.now c.args.night.now.roster c.args.title) (IsNewScreen c.args.board.now c.args.night.now.roster) (λ place screen a. a.new)
     _ _ c.in_ok-screens.ensures.asked
 
 pub returns-clause-held : goal.returns-clause-held
