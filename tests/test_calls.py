@@ -228,7 +228,7 @@ def test_a_script(memory, data, nth, room, lengths):
 
 PLACES = 6
 STEPS = st.tuples(
-    st.sampled_from(["open", "split", "enlist", "drop", "read", "number", "report", "report", "report"]), st.integers(0, PLACES - 1), st.integers(0, PLACES - 1),
+    st.sampled_from(["open", "split", "enlist", "drop", "read", "report", "report", "report"]), st.integers(0, PLACES - 1), st.integers(0, PLACES - 1),
     st.tuples(mostly(st.integers(1, 12) | st.just(1), ODD), mostly(st.integers(0, 12), ODD), mostly(st.just(0), ODD)), mostly(st.just(-1), st.integers(0, 3), 2),
 )
 
@@ -256,8 +256,6 @@ class Handles:
             mine, call = self.held[i], getattr(self.library, f"pass_{name}")
             fault = 59 if self.held[j] else 60 if mine is None else 61 if mine[2] else None
             self.gives(j, fault, nth, call, [self.handles[i], self.handles[j]], lambda: mine if name == "split" else (*mine[:2], next(mine[1])))
-        elif name == "number":
-            self.number(i)
         elif name in ("read", "report"):
             getattr(self, name)(i, *event)
         assert self.room[1::2] == [LEFT64] * PLACES
@@ -283,12 +281,6 @@ class Handles:
             m.enter(mine[2], KINDS[kind])
         status = self.memory.made("pass_report", self.handles[i], game, expected, kind, number)
         assert (status, number[0]) == (told, m.number if told in (0, 1) else LEFT)
-
-    def number(self, i):
-        """Asks for the number of a pass."""
-        number, mine = filled(c.c_uint32), self.held[i]
-        told = 60 if mine is None else 63 if mine[2] == 0 else 0
-        assert (self.memory.made("pass_number", self.handles[i], number), number[0]) == (told, LEFT if told else mine[2])
 
     def read(self, i, room=12, *_):
         """Reads the board by a pass, with room for twelve words or for eleven."""

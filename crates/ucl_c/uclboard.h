@@ -236,10 +236,6 @@ UCLBOARD_NEEDS_LOOK uclboard_status uclboard_pass_enlist(uclboard_pass **pass, u
    event was entered the match's event number after it goes to `number`, and at UCLBOARD_STALE the number found; no other status writes there. */
 UCLBOARD_NEEDS_LOOK uclboard_status uclboard_pass_report(uclboard_pass **pass, uint32_t match, uint32_t expected, uint32_t kind, uint32_t *number);
 
-/* The number of a reporter's pass, 1 to 255, in `number`: that by which its events stand in words. Judged in this order: UCLBOARD_NO_PASS,
-   UCLBOARD_NOT_A_REPORTER. */
-UCLBOARD_NEEDS_LOOK uclboard_status uclboard_pass_number(uclboard_pass **pass, uint32_t *number);
-
 /* Reads the board by a pass of either kind: twelve words that stood at one moment of the call, and their version, how many events had been entered by
    then. All that the pass has seen is in them. Judged in this order: UCLBOARD_NOT_TWELVE, UCLBOARD_NO_PASS. */
 UCLBOARD_NEEDS_LOOK uclboard_status uclboard_pass_read(uclboard_pass **pass, uint64_t *words, size_t words_length, uint32_t *version);

@@ -115,7 +115,6 @@ new_board = declared("open", HANDLE)
 pass_split = declared("pass_split", HANDLE, HANDLE)
 pass_enlist = declared("pass_enlist", HANDLE, HANDLE)
 pass_report = declared("pass_report", HANDLE, c.c_uint32, c.c_uint32, c.c_uint32, ONE)
-pass_number = declared("pass_number", HANDLE, ONE)
 pass_read = declared("pass_read", HANDLE, NUMBERS, c.c_size_t, ONE)
 pass_drop = declared("pass_drop", HANDLE)
 pass_drop.restype = None
@@ -251,13 +250,6 @@ class Pass:
         with self.one_at_a_time:
             status = pass_report(self.handle, number(match), number(expected), KINDS.get(kind, NO_CODE), told)
         need(status, told.value if status == EXCEPTIONS[1].status else None)
-        return told.value
-
-    def number(self):
-        """The number of a reporter's pass, by which its events stand in words."""
-        told = c.c_uint32()
-        with self.one_at_a_time:
-            need(pass_number(self.handle, told))
         return told.value
 
     def read(self):

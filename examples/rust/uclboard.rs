@@ -205,7 +205,6 @@ extern "C" {
     fn uclboard_pass_split(pass: *mut *mut Opaque, other: *mut *mut Opaque) -> u32;
     fn uclboard_pass_enlist(pass: *mut *mut Opaque, other: *mut *mut Opaque) -> u32;
     fn uclboard_pass_report(pass: *mut *mut Opaque, game: u32, expected: u32, kind: u32, number: *mut u32) -> u32;
-    fn uclboard_pass_number(pass: *mut *mut Opaque, number: *mut u32) -> u32;
     fn uclboard_pass_read(pass: *mut *mut Opaque, words: *mut u64, words_length: usize, version: *mut u32) -> u32;
     fn uclboard_pass_drop(pass: *mut *mut Opaque);
 }
@@ -374,13 +373,6 @@ impl Pass {
         let mut number = 0;
         let status = unsafe { uclboard_pass_report(&mut self.at, game, expected, kind as u32, &mut number) };
         done(status, number).map(|()| number)
-    }
-
-    /// The number of this reporter's pass, by which its events stand in words.
-    pub fn number(&mut self) -> Result<u32, Refused> {
-        let mut number = 0;
-        let status = unsafe { uclboard_pass_number(&mut self.at, &mut number) };
-        done(status, 0).map(|()| number)
     }
 
     /// The board as it stood at one moment of the call.

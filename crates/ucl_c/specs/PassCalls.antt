@@ -45,10 +45,6 @@ fault_of_call game code = first_fault (fault_of_kind code ∷ fault_of_match gam
 abbrev pub fault_of_event : AnyPass → ℕ → ℕ → Option Fault
 fault_of_event pass game code = first_fault (fault_of_call game code ∷ fault_by (fault_of_report pass) ∷ [])
 
--- of a number: the pass
-abbrev pub fault_of_number : AnyPass → Option Fault
-fault_of_number pass = fault_by (fault_of_report pass)
-
 -- of a reading: the room for words, the pass
 abbrev pub fault_of_reading : AnyPass → ℕ → Option Fault
 fault_of_reading pass room = first_fault (fault_of_twelve room ∷ fault_by (fault_of_read pass) ∷ [])

@@ -4,11 +4,11 @@ ghost use Rattle.std.specs.Prelude.{◌≡◌, ◌≢◌, ◌↔◌, IsSome, IfS
 ghost use Rattle.ucl_board.specs.Fixtures.{IsMatch};
 ghost use Rattle.ucl_c_boards.specs.declared.board_pass.AnyPass.TheVariants.{Nobody};
 ghost use Rattle.ucl_c_boards.specs.declared.board_pass.WhyNot.{WhyNot};
-ghost use Rattle.ucl_c_boards.specs.BoardPasses.{IsOpened, IsSplit, IsEnlisted, IsRead, IsNumberOf, cause_of, fault_of_split};
+ghost use Rattle.ucl_c_boards.specs.BoardPasses.{IsOpened, IsSplit, IsEnlisted, IsRead, cause_of, fault_of_split};
 ghost use Rattle.ucl_c_boards.specs.Handles.{pass_held, first_cause, fault_of_room, IsNotEnlistedIn};
 ghost use Rattle.ucl_c.specs.declared.fault.Fault.{Fault};
 ghost use Rattle.ucl_c.specs.Faults.{fault_code};
-ghost use Rattle.ucl_c.specs.PassCalls.{IsCallOf, IsReply, fault_because, fault_of_call, fault_of_event, fault_of_number, fault_of_reading, expected_told, number_after, status_of_reply};
+ghost use Rattle.ucl_c.specs.PassCalls.{IsCallOf, IsReply, fault_because, fault_of_call, fault_of_event, fault_of_reading, expected_told, number_after, status_of_reply};
 
 use crate::codes::tell_refusal;
 use crate::fault::{Fault, fault_code};
@@ -159,24 +159,6 @@ pub extern "C" fn uclboard_pass_report(
     };
     match pass.report(alloc, &call) {
         Ok(reply) => answer(reply, number),
-        Err(why) => fault_code(fault_because(why)),
-    }
-}
-
-/// The number of a reporter's pass.
-#[unsafe(no_mangle)]
-pub extern "C" fn uclboard_pass_number(alloc: Global, pass: &mut Handle, number: &mut u32) -> u32
-    ensures told { fault_of_number (pass_held pass.old) ≡ None →
-        (result ≡ 0) × IsNumberOf (pass_held pass.old) number.new }
-    ensures refused { (fault : Fault) → fault_of_number (pass_held pass.old) ≡ Some fault →
-        (result ≡ fault_code fault) × (number.new ≡ number.old) }
-    ensures unchanged { pass_held pass.new ≡ pass_held pass.old }
-{
-    match pass.number(alloc) {
-        Ok(own) => {
-            *number = u32::from(own.get());
-            0
-        }
         Err(why) => fault_code(fault_because(why)),
     }
 }

@@ -149,11 +149,6 @@ IsRead (Reader k) reading (Reader m) = HasRead k reading m
 IsRead (Reporter k) reading (Reporter m) = HasRead k reading m
 IsRead _ _ _ = ⊥
 
--- this is the number of the pass, a reporter's
-abbrev pub IsNumberOf : AnyPass → ℕ → Type 0
-IsNumberOf (Reporter k) number = number ≡ k.view.number
-IsNumberOf _ number = ⊥
-
 -- Why a call is not done. --
 
 -- only a reader's pass is split or enlisted
@@ -162,7 +157,7 @@ fault_of_split Nobody = Some why.NoPass
 fault_of_split (Reader k) = None
 fault_of_split (Reporter k) = Some why.NotAReader
 
--- only a reporter's pass reports, and has a number
+-- only a reporter's pass reports
 abbrev pub fault_of_report : AnyPass → Option WhyNot
 fault_of_report Nobody = Some why.NoPass
 fault_of_report (Reader k) = Some why.NotAReporter

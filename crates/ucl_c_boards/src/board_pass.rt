@@ -3,14 +3,14 @@
 ghost use Rattle.std.specs.Prelude.{◌≡◌, IfOk, IfErr, IfSome, IfNone, None, Some};
 ghost use Rattle.std.specs.Arc.{arc_value};
 ghost use Rattle.ucl_c_boards.specs.declared.board_pass.AnyPass.TheVariants.{Nobody};
-ghost use Rattle.ucl_c_boards.specs.BoardPasses.{FoundFull, IsPassOf, IsOpened, IsSplit, IsEnlisted, IsEnlistedFrom, IsNotEnlisted, IsReported, IsRead, IsNumberOf, cause_of, fault_of_split, fault_of_report, fault_of_read};
+ghost use Rattle.ucl_c_boards.specs.BoardPasses.{FoundFull, IsPassOf, IsOpened, IsSplit, IsEnlisted, IsEnlistedFrom, IsNotEnlisted, IsReported, IsRead, cause_of, fault_of_split, fault_of_report, fault_of_read};
 
 use std::alloc::Global;
 use std::marker::Model;
 use std::sync::Arc;
 use ucl_board::Reading;
-use ucl_shared::{LiveBoard, TooManyReporters};
-use ucl_word::{Accepted, EventCall, OutOfMemory, Refusal, ReporterNo};
+use ucl_shared::TooManyReporters;
+use ucl_word::{Accepted, EventCall, OutOfMemory, Refusal};
 use ucl_words::{WordBoard, WordReaderPass, WordReporterPass};
 
 /// A pass of either kind, or none.
@@ -172,18 +172,6 @@ impl BoardPass {
     {
         match &mut self.pass {
             AnyPass::Reporter(pass) => Ok(self.board.report_now(pass, call)),
-            AnyPass::Reader(_) => Err(WhyNot::NotAReporter),
-            AnyPass::Nobody => Err(WhyNot::NoPass),
-        }
-    }
-
-    /// The number of a reporter's pass.
-    pub fn number(&self) -> Result<ReporterNo, WhyNot>
-        ensures number { IfOk result (IsNumberOf self.now.pass) }
-        ensures refused { IfErr result (λ why. fault_of_report self.now.pass ≡ Some why) }
-    {
-        match &self.pass {
-            AnyPass::Reporter(pass) => Ok(WordBoard::number_of(pass)),
             AnyPass::Reader(_) => Err(WhyNot::NotAReporter),
             AnyPass::Nobody => Err(WhyNot::NoPass),
         }

@@ -2,7 +2,7 @@
 
 ghost use Rattle.std.specs.Prelude.{◌≡◌, true, false, MatchResult, None, Some};
 ghost use Rattle.ucl_c_boards.specs.declared.board_pass.AnyPass.TheVariants.{Nobody};
-ghost use Rattle.ucl_c_boards.specs.BoardPasses.{IsOpened, IsSplit, IsEnlisted, IsReported, IsRead, IsNumberOf, cause_of, fault_of_split, fault_of_report, fault_of_read};
+ghost use Rattle.ucl_c_boards.specs.BoardPasses.{IsOpened, IsSplit, IsEnlisted, IsReported, IsRead, cause_of, fault_of_split, fault_of_report, fault_of_read};
 ghost use Rattle.ucl_c_boards.specs.Handles.{is_null, pass_held, first_cause, fault_of_room, IsNotEnlistedIn};
 
 use crate::board_pass::{BoardPass, WhyNot};
@@ -11,7 +11,7 @@ use crate::parts::Parts;
 use std::alloc::Global;
 use std::ptr::null_mut;
 use ucl_board::Reading;
-use ucl_word::{Accepted, EventCall, Refusal, ReporterNo};
+use ucl_word::{Accepted, EventCall, Refusal};
 
 impl Handle {
     /// Whether the handle is null.
@@ -122,21 +122,6 @@ impl Handle {
         let reply = held.report(call);
         self.put(Parts::of(held));
         reply
-    }
-
-    /// The number of a reporter's pass.
-    pub fn number(&mut self, alloc: Global) -> Result<ReporterNo, WhyNot>
-        ensures unchanged { pass_held self.new ≡ pass_held self.old }
-        ensures told { MatchResult result (IsNumberOf (pass_held self.old))
-            (λ why. fault_of_report (pass_held self.old) ≡ Some why) }
-    {
-        if self.is_null() {
-            return Err(WhyNot::NoPass);
-        }
-        let held = self.take(alloc).into_box();
-        let number = held.number();
-        self.put(Parts::of(held));
-        number
     }
 
     /// The board as the pass reads it.
