@@ -18,7 +18,7 @@ const EVENTS: [&str; 13] = [
 ];
 
 /// The rows that ask for something, up to their commas.
-const ASKING: [&str; 2] = ["screen", "words"];
+const ASKING: [&str; 3] = ["matches", "screen", "words"];
 
 /// How many letters one word may have that another has not, both ways, for it to be meant.
 const MOST_APART: u32 = 2;
