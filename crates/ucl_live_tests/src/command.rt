@@ -19,10 +19,10 @@ fn words_of(alloc: Global, line: &str) -> Result<Vec<String>, Fail> {
     Ok(words)
 }
 
-/// What words are answered, without the texts: a group, an order, whether screens are wanted, and a form.
+/// What words are answered, without the texts: which group and order are asked for, whether screens are wanted, and a form.
 #[derive(Clone, Copy, PartialEq, Eq)]
 enum Answer {
-    Asks(u8, Profile, bool, Format),
+    Asks(Option<u8>, Option<Profile>, bool, Format),
     Helps,
     Refuses,
     LacksMemory,
@@ -40,29 +40,26 @@ fn answer_to(alloc: Global, line: &str) -> Result<Answer, Fail> {
 
 /// Lines of words, and what they are answered.
 static LINES: [(&str, Answer); 32] = [
-    (
-        "ucl_live",
-        Answer::Asks(b'A', Profile::Uefa, false, Format::Text),
-    ),
+    ("ucl_live", Answer::Asks(None, None, false, Format::Text)),
     (
         "ucl_live --screens",
-        Answer::Asks(b'A', Profile::Uefa, true, Format::Text),
+        Answer::Asks(None, None, true, Format::Text),
     ),
     (
         "ucl_live --group H",
-        Answer::Asks(b'H', Profile::Uefa, false, Format::Text),
+        Answer::Asks(Some(b'H'), None, false, Format::Text),
     ),
     (
         "ucl_live --order away-in-tie --format=json",
-        Answer::Asks(b'A', Profile::AwayInTie, false, Format::Json),
+        Answer::Asks(None, Some(Profile::AwayInTie), false, Format::Json),
     ),
     (
         "ucl_live --order uefa --format text --group=B",
-        Answer::Asks(b'B', Profile::Uefa, false, Format::Text),
+        Answer::Asks(Some(b'B'), Some(Profile::Uefa), false, Format::Text),
     ),
     (
         "ucl_live --format json --group C --screens --order away-in-tie",
-        Answer::Asks(b'C', Profile::AwayInTie, true, Format::Json),
+        Answer::Asks(Some(b'C'), Some(Profile::AwayInTie), true, Format::Json),
     ),
     ("ucl_live --help", Answer::Helps),
     ("ucl_live -h", Answer::Helps),
