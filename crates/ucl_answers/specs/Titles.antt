@@ -75,3 +75,8 @@ asked_order (Some profile) = profile
 
 abbrev pub asked_title : LiveArgs → Title
 asked_title options = record { group = asked_group options.group; profile = asked_order options.profile; edition = 0 }
+
+-- the title of a board whose input says this one, or none: that, where it is as asked, else none; or what was asked for
+abbrev pub title_for : Option ℕ → Option Profile → Option Title → Option Title
+title_for group profile None = Some (record { group = asked_group group; profile = asked_order profile; edition = 0 })
+title_for group profile (Some title) = if is_asked_group group title.group && is_asked_order profile title.profile then Some title else None

@@ -6,7 +6,7 @@ ghost use Rattle.ucl_screen.specs.Rows.{four_seen};
 ghost use Rattle.ucl_screen.specs.Screen.{IsGroup};
 ghost use Rattle.ucl_command.specs.Groups.{may_be_asked};
 ghost use Rattle.ucl_answers.specs.Rows.{of_row, said_on};
-ghost use Rattle.ucl_answers.specs.Titles.{asked_group, asked_order, asked_title, group_said, is_as_asked, is_asked_group, is_asked_order, is_group_row, is_same_order, letter_in, title_by, title_said};
+ghost use Rattle.ucl_answers.specs.Titles.{asked_group, asked_order, asked_title, group_said, is_as_asked, is_asked_group, is_asked_order, is_group_row, is_same_order, letter_in, title_by, title_for, title_said};
 
 use crate::line::LineReader;
 use crate::row::RowCount;
@@ -185,6 +185,7 @@ pub fn first_group(line: &[u8]) -> Option<Option<Title>>
 pub fn title_for(group: Option<u8>, profile: Option<Profile>, said: Option<Title>) -> Option<Title>
     requires asked { may_be_asked group ≡ true }
     requires said { IfSome said (λ title. IsGroup title.group) }
+    ensures told { result ≡ title_for group profile said }
     ensures letter { IfSome result (λ title. IsGroup title.group) }
 {
     let Some(title) = said else {
