@@ -183,14 +183,6 @@ def program(pytestconfig, place):
 
 
 @pytest.fixture(scope="session")
-def editions(pytestconfig, program):
-    """Skips the test where `ucl_live` knows no editions."""
-    rows = "group,A,uefa,1\n" + "".join(f"club,{slot},A,0\n" for slot in range(1, 5)) + "".join(f"word,{game},{2 << 60:016x},\n" for game in range(1, 13))
-    if '"edition":1,' not in command([program("ucl_live"), "--resumed", "--format", "json"], rows + "screen,,,\n").output:
-        (pytest.fail if pytestconfig.getoption("must_run") else pytest.skip)("this ucl_live knows no editions")
-
-
-@pytest.fixture(scope="session")
 def run(pytestconfig, place, program, unproved):
     """A function that runs a program to its end, by its name, words and input."""
 

@@ -157,7 +157,7 @@ def opened(path, program):
 
 
 @pytest.fixture
-def site(tmp_path, program, editions, monkeypatch):
+def site(tmp_path, program, monkeypatch):
     """Such a folder, where the broker is installed."""
     monkeypatch.setenv("PATH", os.environ["PATH"] + ":/usr/sbin:/usr/local/sbin")
     conftest.needs("mosquitto", "mosquitto_sub", "mosquitto_pub")
