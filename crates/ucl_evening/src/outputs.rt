@@ -17,7 +17,7 @@ const NO_COURSE: &str = "error: no course of events leads to this word\n";
 #[derive(Clone, Copy, Debug)]
 pub enum Stop<'a> {
     /// Its arguments are refused, as this text says.
-    Refused(&'static str),
+    Refused(&'a str),
     /// The output of this name has bytes in it.
     HasBytes(&'a str),
     /// These two names stand for one file or pipe.
@@ -65,10 +65,10 @@ impl<'a> From<NoBeginning> for Stop<'a> {
 
 /// Why an evening does not begin from a script that has this fault.
 pub fn stop_at<'a>(fault: InputFault, script: &[u8]) -> Stop<'a> {
-    match broken_rule(script) {
-        Some(broken) => Stop::Club(fault, broken),
-        None => Stop::from(fault),
-    }
+    let Some(broken) = broken_rule(script) else {
+        return Stop::from(fault);
+    };
+    Stop::Club(fault, broken)
 }
 
 /// Tells why an evening does not begin, and gives the exit status.
