@@ -48,15 +48,18 @@ test_journals = tabled({
 })
 
 TITLED = "group,C,away-in-tie,1\n"
+NO_CLUB = "club {}: its row is club,SLOT,NAME,COEFFICIENT, as club,1,Alpha,60000\n"
+
 test_rows_of_a_group = tabled({
     "of another group, order and edition": ("ucl_follow --resume", journal_of(TITLED + NIGHT), followed(["--resume"], journal_of(TITLED + NIGHT))[1], 0, told(len(LINES), count)),
     "asked for": ("ucl_live --group C --order away-in-tie", TITLED + NIGHT, *Evening([]).of(TITLED + NIGHT)[1::-1], ""),
     "not asked for": ("ucl_live --screens", TITLED + NIGHT, *Evening(["--screens"]).of(TITLED + NIGHT)[1::-1], ""),
     "another group than was asked for": ("ucl_live --group A", TITLED + NIGHT, "", 2, "error: the row of the group differs from --group or --order\n"),
     "another order than was asked for": ("ucl_live --order uefa", TITLED + NIGHT, "", 2, "error: the row of the group differs from --group or --order\n"),
-    "twice": ("ucl_live", TITLED * 2 + NIGHT, "", 3, "input refused 20: row 2\n"),
-    "after a club": ("ucl_live", CLUBS[: CLUBS.index("\n") + 1] + TITLED, "", 3, "input refused 20: row 2\n"),
-    "alone": ("ucl_live", TITLED, "", 3, "input refused 20: row 2\n"),
+    "twice": ("ucl_live", TITLED * 2 + NIGHT, "", 3, "input refused 20: row 2\n" + NO_CLUB.format(1)),
+    "after a club": ("ucl_live", CLUBS[: CLUBS.index("\n") + 1] + TITLED, "", 3, "input refused 20: row 2\n" + NO_CLUB.format(2)),
+    "alone": ("ucl_live", TITLED, "", 3, "input refused 20: row 2\n" + NO_CLUB.format(1)),
+    "before a name that is none": ("ucl_live", TITLED + NIGHT.replace("Manchester City", "M" * 21), "", 3, "input refused 21: slot 2\nclub 2: a name has 1 to 20 bytes of printable ASCII\n"),
     **{f"a bad one, {row!r}": ("ucl_live", row + "\n" + NIGHT, "", 3, "input refused 20: row 1\n")
        for row in ("group,I,uefa,1", "group,,uefa,1", "group,AB,uefa,1", "group,A,goals,1", "group,A,uefa,65536", "group,A,uefa,", "group,A,uefa,-1", "group,A,uefa,000001", "group,A,uefa", "group,A,uefa,1,")},
     "in a script of nights": ("ucl_night feed", TITLED + NIGHT, "", 3, "input refused 20: row 1\n"),

@@ -85,7 +85,7 @@ fn rule_of(slot: u8, row: &[u8]) -> Option<(bool, &'static str)> {
 }
 
 /// The rule for which the clubs of an input are refused, where they are: of the first row that is none of a club, or else of the first club that no
-/// roster takes.
+/// roster takes. A row of a group may stand before them.
 pub fn broken_rule(input: &[u8]) -> Option<BrokenRule> {
     let text = input
         .strip_prefix(b"\xef\xbb\xbf".as_slice())
@@ -93,7 +93,10 @@ pub fn broken_rule(input: &[u8]) -> Option<BrokenRule> {
     let mut rows = text.split(|b| *b == b'\n' || *b == b'\r');
     let mut first = None;
     for slot in 1..=4u8 {
-        let row = rows.find(|row| !row.is_empty()).unwrap_or(b"".as_slice());
+        let mut row = rows.find(|row| !row.is_empty()).unwrap_or(b"".as_slice());
+        if slot == 1 && row.starts_with(b"group,".as_slice()) {
+            row = rows.find(|row| !row.is_empty()).unwrap_or(b"".as_slice());
+        }
         if let Some((is_no_row, rule)) = rule_of(slot, row) {
             let broken = BrokenRule { slot, rule };
             if is_no_row {
