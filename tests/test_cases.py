@@ -134,6 +134,8 @@ def test_largest_input(run):
 CLUB_ROW, EVENT_ROW, WORD_ROW = "\n  club,SLOT,NAME,COEFFICIENT ", "\n  REPORTER,MATCH,EXPECTED,EVENT ", "\n  word,MATCH,WORD, "
 GROUP = ["\n      --group <GROUP> ", "[default: A] [possible values: A, B, C, D, E, F, G, H]\n"]
 ORDER = ["\n      --order <ORDER> ", "[default: uefa] [possible values: uefa, away-in-tie]\n"]
+# Of a program whose input may say the group in a first row.
+ASKED = [GROUP[0], "one [possible values: A, B, C, D, E, F, G, H]\n", ORDER[0], "one [possible values: uefa, away-in-tie]\n", "group,C,uefa,1"]
 REPLIES = ["\n  ROW ok MATCH NUMBER VERSION ", "\n  ROW refused CODE NAME "]
 READINGS = ["\n      --readings <NUMBER> ", ", 0 to 1,000 [default: 0]\n"]
 STATUSES = ["\n  0  done", "\n  2  the words", "\n  3  the input", "\n  4  reading or writing", "\n  5  there is no memory", "\n  6  the board"]
@@ -151,9 +153,9 @@ test_helps = tabled({line: (line, "", Has("", *parts)) for line, parts in {
     "ucl_night feed --help": ["Usage: ucl_night feed\n", CLUB_ROW, EVENT_ROW, WORD_ROW, *RULES[:3], "1,1,0,kickoff", *REPLIES, STARTS[0]],
     "ucl_night show --help": ["Usage: ucl_night show [OPTIONS]\n", *GROUP, *ORDER, CLUB_ROW, WORD_ROW, STARTS[1]],
     "ucl_night night --help": ["Usage: ucl_night night [OPTIONS]\n", *GROUP, *ORDER, *READINGS, STARTS[2]],
-    "ucl_live --help": ["Usage: ucl_live [OPTIONS]", *RULES, "1,1,0,kickoff", "matches,,,", *GROUP, *ORDER, "--screens", "--explain", "--format <FORMAT>"],
+    "ucl_live --help": ["Usage: ucl_live [OPTIONS]", *RULES, "1,1,0,kickoff", "matches,,,", *ASKED, "--resumed", "--screens", "--explain", "--format <FORMAT>"],
     "ucl_follow --help": ["Usage: ucl_follow [OPTIONS]", *RULES, "--matches", "--resume", "--format <FORMAT>"],
-    "ucl_evening --help": ["Usage: ucl_evening ", *RULES, "1,0,kickoff", *WAYS, *GROUP, *ORDER, STATUSES[1]],
+    "ucl_evening --help": ["Usage: ucl_evening ", *RULES, "1,0,kickoff", *WAYS, *ASKED, STATUSES[1]],
 }.items()})
 
 SEVENTEEN = " ".join(f"--reporter {number}.rows={number}.replies" for number in range(17))

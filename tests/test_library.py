@@ -71,7 +71,8 @@ def defined():
         for name, number in re.findall(rf"^{function} \(?(\w+)[\w ]*\)? = (\d+)$", text, re.M):
             numbers["UCLBOARD_ENDED" if (function, name) == ("state_code_in_c", "Finished") else shouted(name)] = int(number)
     orders = re.search(r"^profiles = (.*) ∷ \[\]$", (CRATES / "ucl_order/specs/Names.antt").read_text(), re.M)[1].split(" ∷ ")
-    for names in re.findall(r"\(codes \".*\", (.*)\)", NAMES), orders:
+    kinds = re.search(r"^kinds =\n(.*?) ∷ \[\]$", NAMES, re.M | re.S)[1].replace("\n", "").split("∷")
+    for names in kinds, orders:
         numbers.update({shouted(name): number for number, name in enumerate(names)})
     return numbers
 
