@@ -172,7 +172,9 @@ def test_a_screen(memory, data, nth, row, room):
     assert line[:2] == (0 if line[2] < room else 56, LEFT) and line[2] < 1424 and len(line[3]) == (line[2] + 1 if line[2] < room else 0)
     if line[3]:
         style = model.Style(["--group", chr(sheet.group), "--order", ["uefa", "away-in-tie"][sheet.order]])
-        assert line[3].decode() == model.line_of(style.json(sheet.matches, sheet.roster, row)) + "\0"
+        # Calls of C know no edition.
+        members = {name: said for name, said in style.json(sheet.matches, sheet.roster, row).items() if name != "edition"}
+        assert line[3].decode() == model.line_of(members) + "\0"
 
 
 @SOME
