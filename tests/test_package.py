@@ -60,7 +60,7 @@ def again(program, place, tmp_path_factory):
     """A program that is proved, compiled and linked once more in another folder, over what is proved below it: a process, which takes a minute, and
     what it writes."""
     path, name = program("ucl_follow"), "ucl_follow"
-    if place != TOP or not (TOP / "crates/ucl_follows/out/rlib").exists():
+    if place != TOP or not (TOP / "crates/ucl_runs/out/rlib").exists():
         pytest.skip("the crates below ucl_follow are not proved here")
     kit = pathlib.Path(command(["rt", "doc"]).output.strip()).parent
     uses = {line.split(":")[0].split()[0]: line.split(":")[1].split() for line in text_of(path.parent / "built").splitlines()}

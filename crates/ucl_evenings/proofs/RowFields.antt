@@ -2,8 +2,8 @@
 use Rattle.std.proofs.Common.{◌≡◌, ℕ, List, [], ◌∷◌, Option, Some, None, refl}
 use Rattle.csv.specs.Records.{field_at}
 use Rattle.ucl_screen.specs.Events.{call_in}
-use Rattle.ucl_answers.specs.BadRows.{bad_field_of_call}
-use Rattle.ucl_answers.specs.declared.bad_row.BadField.TheVariants.{Count}
+use Rattle.ucl_runs.specs.BadRows.{bad_field_of_call}
+use Rattle.ucl_runs.specs.declared.bad_row.BadField.TheVariants.{Count}
 use Rattle.ucl_evenings.specs.declared.input.Input.{Input}
 use Rattle.ucl_evenings.specs.declared.input.Input.TheVariants.{Bad}
 use Rattle.ucl_evenings.specs.Inputs.{call_or_bad, input_of_row}

@@ -17,7 +17,7 @@ use Rattle.ucl_runs.specs.declared.fault.RunFault.{RunFault}
 use Rattle.ucl_runs.specs.Run.{SinkFails, fault_of, is_read_failed}
 use Rattle.ucl_runs.proofs.Driven.{IfMachine, IsOwn, reads, sinks}
 use Rattle.ucl_io.specs.Lines.{begun_line, ended_lines}
-use Rattle.ucl_answers.specs.Lines.{last_lines, lines_of}
+use Rattle.ucl_runs.specs.InputLines.{last_lines, lines_of}
 use Rattle.ucl_evenings.specs.declared.outcome.Outcome.{Outcome}
 use Rattle.ucl_evenings.specs.Answering.{calls_in, answers_in}
 use Rattle.ucl_evenings.specs.Reporting.{RangFor, accepted_in}

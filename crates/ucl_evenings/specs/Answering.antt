@@ -2,7 +2,7 @@
 use Rattle.std.specs.Prelude.{ℕ, ◌+◌, List, [], ◌∷◌, ◌++◌}
 use Rattle.ucl_word.specs.declared.event.EventCall.{EventCall}
 use Rattle.ucl_runs.specs.Lines.{accepted_line, refused_line}
-use Rattle.ucl_answers.specs.Text.{bad_line}
+use Rattle.ucl_runs.specs.LiveText.{bad_line}
 use Rattle.ucl_evenings.specs.declared.input.Input.{Input}
 use Rattle.ucl_evenings.specs.declared.input.Input.TheVariants.{Nothing, Bad, Event}
 use Rattle.ucl_evenings.specs.declared.outcome.Outcome.{Outcome}

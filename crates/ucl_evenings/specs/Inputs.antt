@@ -3,10 +3,10 @@ use Rattle.std.specs.Prelude.{ℕ, List, [], ◌∷◌, Option, Some, None}
 use Rattle.ucl_word.specs.declared.event.EventCall.{EventCall}
 use Rattle.ucl_screen.specs.Rows.{Fields}
 use Rattle.ucl_screen.specs.Events.{call_in}
-use Rattle.ucl_answers.specs.BadRows.{bad_field_of_call}
-use Rattle.ucl_answers.specs.Rows.{LineRow, NoRow, Unread, OneRow, row_on}
-use Rattle.ucl_answers.specs.declared.bad_row.BadField.{BadField}
-use Rattle.ucl_answers.specs.declared.bad_row.BadField.TheVariants.{Count}
+use Rattle.ucl_runs.specs.BadRows.{bad_field_of_call}
+use Rattle.ucl_runs.specs.Rows.{LineRow, NoRow, Unread, OneRow, row_on}
+use Rattle.ucl_runs.specs.declared.bad_row.BadField.{BadField}
+use Rattle.ucl_runs.specs.declared.bad_row.BadField.TheVariants.{Count}
 use Rattle.ucl_evenings.specs.declared.input.Input.{Input}
 use Rattle.ucl_evenings.specs.declared.input.Input.TheVariants.{Nothing, Bad, Event}
 

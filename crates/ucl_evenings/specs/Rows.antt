@@ -8,7 +8,7 @@ use Rattle.ucl_runs.specs.declared.fault.RunFault.TheVariants.{Input, WriteFaile
 use Rattle.ucl_io.specs.Output.{StoppedShort}
 use Rattle.ucl_shared.specs.Passes.{PassView, ReportsMore}
 use Rattle.ucl_io.specs.Lines.{ended_lines}
-use Rattle.ucl_answers.specs.Lines.{lines_of}
+use Rattle.ucl_runs.specs.InputLines.{lines_of}
 use Rattle.ucl_io.specs.Calls.{Device, HasEnded}
 use Rattle.ucl_evenings.specs.declared.reporter.Reply.{Reply}
 use Rattle.ucl_evenings.specs.declared.reporter.Reply.TheVariants.{Nothing, Line}

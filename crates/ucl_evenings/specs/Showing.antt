@@ -10,7 +10,7 @@ use Rattle.ucl_runs.specs.declared.fault.RunFault.TheVariants.{OutOfMemory, Writ
 use Rattle.ucl_io.specs.Output.{StoppedShort}
 use Rattle.ucl_shared.specs.Passes.{PassView, Continues}
 use Rattle.ucl_evenings.specs.declared.shape.Shape.{Shape}
-use Rattle.ucl_answers.specs.Text.{screen_answer}
+use Rattle.ucl_runs.specs.LiveText.{screen_answer}
 use Rattle.ucl_evenings.specs.declared.screen.Screen.{Screen}
 
 -- versions rise strictly, from one that is no lower than the first bound to one that is lower than the second

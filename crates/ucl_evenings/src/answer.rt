@@ -4,7 +4,7 @@ ghost use Rattle.std.specs.Prelude.{◌≡◌};
 ghost use Rattle.ucl_evenings.specs.Answering.{outcome_line};
 
 use crate::outcome::Outcome;
-use ucl_answers::{ReplyLine, accepted_line, refused_line};
+use ucl_runs::{ReplyLine, accepted_line, refused_line};
 
 /// The line of how an event of a match went.
 pub(crate) fn outcome_line(row: u64, game: u8, outcome: Outcome) -> ReplyLine

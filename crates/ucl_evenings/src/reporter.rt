@@ -2,7 +2,7 @@
 
 ghost use Rattle.std.specs.Prelude.{◌≡◌, ◌∷◌, []};
 ghost use Rattle.ucl_shared.specs.Passes.{IsSound};
-ghost use Rattle.ucl_answers.specs.Lines.{last_lines};
+ghost use Rattle.ucl_runs.specs.InputLines.{last_lines};
 ghost use Rattle.ucl_evenings.specs.Rows.{TurnsLines, reply_bytes};
 
 use crate::answer::outcome_line;
@@ -10,9 +10,8 @@ use crate::input::{Input, input_on};
 use crate::outcome::Outcome;
 use crate::ring::Ring;
 use std::sync::Wait;
-use ucl_answers::{LineReader, ReplyLine, bad_line};
+use ucl_runs::{LineReader, ReplyLine, RunFault, bad_line};
 use ucl_io::{LineMachine, Text};
-use ucl_runs::RunFault;
 use ucl_shared::LiveBoard;
 
 /// What a reporter's line is answered.

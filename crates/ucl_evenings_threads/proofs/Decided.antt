@@ -16,7 +16,7 @@ use Rattle.ucl_io.specs.declared.stream.Sink as sinks
 use Rattle.ucl_shared.specs.declared.live_board.LiveBoard as boards
 use Rattle.ucl_shared.specs.Passes.{PassView, entries_by}
 use Rattle.ucl_runs.specs.declared.fault.RunFault.{RunFault}
-use Rattle.ucl_answers.specs.Lines.{lines_of}
+use Rattle.ucl_runs.specs.InputLines.{lines_of}
 use Rattle.ucl_io.specs.Calls.{Device}
 use Rattle.ucl_evenings.specs.Answering.{calls_in}
 use Rattle.ucl_evenings.specs.Reporting.{entered_in}

@@ -12,11 +12,10 @@ ghost use Rattle.ucl_evenings_threads.specs.declared.ending.Part.{Part};
 use crate::evening::EveningEnd;
 use arrayvec::ArrayString;
 use itoa::Buffer;
-use ucl_answers::word_lines;
+use ucl_runs::{RunFault, put_text, status_of, tell, word_lines};
 use ucl_board::Board;
 use ucl_command::Format;
 use ucl_evenings::Screen;
-use ucl_runs::{RunFault, put_text, status_of, tell};
 use ucl_screen::{Sink, give_all};
 use ucl_shared::LiveBoard;
 

@@ -15,10 +15,9 @@ use std::alloc::Global;
 use std::snapshot::Snapshot;
 use std::sync::Wait;
 use std::thread::{Promise, PromisedHandle, Scope, Threads};
-use ucl_answers::LineReader;
+use ucl_runs::{LineReader, RunFault};
 use ucl_evenings::{Reporter, take_rows};
 use ucl_io::Duplex;
-use ucl_runs::RunFault;
 use ucl_screen::{Sink, Source};
 use ucl_shared::LiveBoard;
 

@@ -5,7 +5,7 @@
 use std::process::ExitCode;
 use ucl_command::words_of;
 pub use ucl_command::{LineFault, follow_args};
-pub use ucl_follows::run_following;
+pub use ucl_runs::run_following;
 use ucl_io::Duplex;
 use ucl_screen::{FromRead, ToWrite};
 

@@ -7,7 +7,7 @@ use serde_json::Value;
 use std::alloc::Global;
 use std::io::{Read, Stderr, Write};
 use std::{io, mem};
-use ucl_answers::{Evening, Parts};
+use ucl_runs::{Evening, Parts};
 use ucl_command::{Format, LiveArgs, broken_rule};
 use ucl_io::{LineMachine, Text};
 

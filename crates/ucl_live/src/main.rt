@@ -8,7 +8,7 @@ mod sentence;
 
 use heard::{Explaining, Heard};
 use std::process::ExitCode;
-pub use ucl_answers::run_evening;
+pub use ucl_runs::run_evening;
 use ucl_command::{asks_explanations, words_of};
 pub use ucl_command::{LineFault, live_args};
 use ucl_io::Duplex;

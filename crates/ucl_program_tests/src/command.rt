@@ -333,8 +333,8 @@ fn assert_stops<R: Threads + Wait + Sync + Abort>(
 #[test]
 fn lines_are_done(rt: HostRuntime) -> Result<(), Fail> {
     for &(line, [clubs, rows], [heading, text]) in DONE.as_slice() {
-        let input = joined(rt.alloc(), clubs, rows)?;
-        let output = joined(rt.alloc(), heading, text)?;
+        let input = joined(rt.alloc(), &[clubs, rows])?;
+        let output = joined(rt.alloc(), &[heading, text])?;
         let row = (line, input.as_str(), output.as_str());
         let end = end_of(&rt, rt.alloc(), row, "")?;
         assert_eq!(rt; end, (0, true, true), "at {line}");
@@ -376,7 +376,7 @@ static TOLD: [(&str, &str, &str, &str); 3] = [
 #[test]
 fn faults_are_told(rt: HostRuntime) -> Result<(), Fail> {
     for &(line, script, more, told) in TOLD.as_slice() {
-        let input = joined(rt.alloc(), script, more)?;
+        let input = joined(rt.alloc(), &[script, more])?;
         let end = end_of(&rt, rt.alloc(), (line, input.as_str(), ""), told)?;
         assert_eq!(rt; end, (3, true, true), "at {line}");
     }

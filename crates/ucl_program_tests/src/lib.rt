@@ -1,18 +1,37 @@
-//! What no clause says of the runs and of what words ask for: texts, statuses, nights, and each call once with ample memory.
+//! What no clause says of the runs, of evenings and of their threads: texts, statuses, nights, what words ask for, and each call once with ample
+//! memory.
 #![tactic(auto)]
 
 #[cfg(test)]
+mod beginnings;
+#[cfg(test)]
 mod command;
 #[cfg(test)]
+mod cuts;
+#[cfg(test)]
+mod held;
+#[cfg(test)]
+mod json;
+#[cfg(test)]
+mod live_command;
+#[cfg(test)]
+mod rows;
+#[cfg(test)]
 mod runs;
+#[cfg(test)]
+mod threads;
 
 #[cfg(test)]
 use std::alloc::{AllocError, Global};
-
-/// Two texts, one after the other.
 #[cfg(test)]
-fn joined(alloc: Global, first: &str, second: &str) -> Result<String, AllocError> {
-    let mut text = String::from_str(alloc, first)?;
-    text.push_str(second)?;
-    Ok(text)
+use ucl_devices::CLUBS;
+
+/// Texts, one after the other.
+#[cfg(test)]
+fn joined(alloc: Global, texts: &[&str]) -> Result<String, AllocError> {
+    let mut whole = String::new(alloc);
+    for text in texts {
+        whole.push_str(text)?;
+    }
+    Ok(whole)
 }

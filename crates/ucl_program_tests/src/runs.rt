@@ -95,8 +95,8 @@ fn fault_lines_and_statuses(rt: HostRuntime) -> Result<(), Fail> {
 #[test]
 fn devices_with_the_members_of_their_traits_alone(rt: HostRuntime) -> Result<(), Fail> {
     let alloc = rt.alloc();
-    let script = joined(alloc, CLUBS, STORED)?;
-    let wanted = joined(alloc, STORED_REPLIES, STORED_WORDS)?;
+    let script = joined(alloc, &[CLUBS, STORED])?;
+    let wanted = joined(alloc, &[STORED_REPLIES, STORED_WORDS])?;
     let mut sink = Shelf::new(Vec::new(alloc), wanted.len());
     let answer = feed_run(alloc, &mut Given::new(script.as_bytes()), &mut sink);
     assert_eq!(rt; answer, Ok(()));
@@ -110,10 +110,10 @@ fn devices_with_the_members_of_their_traits_alone(rt: HostRuntime) -> Result<(),
 #[test]
 fn stored_run(rt: HostRuntime) -> Result<(), Fail> {
     let alloc = rt.alloc();
-    let script = joined(alloc, CLUBS, STORED)?;
+    let script = joined(alloc, &[CLUBS, STORED])?;
     let (answer, out) = fed(alloc, script.as_bytes(), usize::MAX, Full::Fails);
     assert_eq!(rt; answer, Ok(()));
-    let wanted = joined(alloc, STORED_REPLIES, STORED_WORDS)?;
+    let wanted = joined(alloc, &[STORED_REPLIES, STORED_WORDS])?;
     assert!(rt; out.as_slice() == wanted.as_bytes());
     Ok(())
 }
@@ -149,7 +149,7 @@ fn script_faults(rt: HostRuntime) -> Result<(), Fail> {
         assert!(rt; has_refused(&ran, fault), "at {script}");
     }
     for row in REFUSED_ROWS.as_slice() {
-        let script = joined(alloc, CLUBS, row)?;
+        let script = joined(alloc, &[CLUBS, row])?;
         let ran = fed(alloc, script.as_bytes(), usize::MAX, Full::Fails);
         assert!(rt;
             has_refused(&ran, InputFault::BadRow { row: 5 }),
@@ -255,7 +255,7 @@ fn head_to_head(rt: HostRuntime) -> Result<(), Fail> {
 #[test]
 fn two_reopenings(rt: HostRuntime) -> Result<(), Fail> {
     let alloc = rt.alloc();
-    let script = joined(alloc, CLUBS, STORED)?;
+    let script = joined(alloc, &[CLUBS, STORED])?;
     let script = joined(alloc, script.as_str(), "1,1,6,reopen\n1,3,0,reopen\n")?;
     let (answer, out) = fed(alloc, script.as_bytes(), usize::MAX, Full::Fails);
     assert_eq!(rt; answer, Ok(()));
@@ -277,9 +277,9 @@ fn assert_feed_stops(rt: &impl Abort, alloc: Global, script: &[u8], wanted: &str
 #[test]
 fn failing_devices(rt: HostRuntime) -> Result<(), Fail> {
     let alloc = rt.alloc();
-    let script = joined(alloc, CLUBS, STORED)?;
+    let script = joined(alloc, &[CLUBS, STORED])?;
     let text = script.as_bytes();
-    let wanted = joined(alloc, STORED_REPLIES, STORED_WORDS)?;
+    let wanted = joined(alloc, &[STORED_REPLIES, STORED_WORDS])?;
     assert_feed_stops(&rt, alloc, text, wanted.as_str(), Full::Fails);
     assert_feed_stops(&rt, alloc, text, wanted.as_str(), Full::TakesNone);
     for room in [0, 1, 100, text.len()] {
@@ -350,7 +350,7 @@ fn assert_stops(rt: &impl Abort, alloc: Global, sheet: &[u8], screen: &str, full
 
 /// Asserts that `show` writes this screen for these words, and stops wherever its output is full.
 fn assert_screen(rt: &impl Abort, alloc: Global, words: &str, screen: &str) -> Result<(), Fail> {
-    let sheet = joined(alloc, CLUBS, words)?;
+    let sheet = joined(alloc, &[CLUBS, words])?;
     let ran = shown(alloc, sheet.as_bytes(), usize::MAX, Full::Fails);
     assert!(rt; has_written(&ran, screen), "at {words}");
     assert_stops(rt, alloc, sheet.as_bytes(), screen, Full::Fails);
@@ -420,7 +420,7 @@ static REFUSED_WORDS: [(&str, InputFault); 3] = [
 fn sheet_faults(rt: HostRuntime) -> Result<(), Fail> {
     let alloc = rt.alloc();
     for &(words, fault) in REFUSED_WORDS.as_slice() {
-        let sheet = joined(alloc, CLUBS, words)?;
+        let sheet = joined(alloc, &[CLUBS, words])?;
         let ran = shown(alloc, sheet.as_bytes(), usize::MAX, Full::Fails);
         assert!(rt; has_refused(&ran, fault), "at {words}");
     }

@@ -3,7 +3,7 @@ pub mod Texts
 pub mod RunFacts
 pub mod ShownVersions
 pub mod Points
-pub mod Parts
+pub mod NightParts
 pub mod Driven
 pub mod Duty
 pub mod WorkSteps
@@ -14,3 +14,33 @@ pub mod Merges
 pub mod Unsigned
 mod NightOutput
 mod Unasked
+pub mod WordDigits
+pub mod RowBytes
+pub mod RowEnds
+pub mod PlainRows
+pub mod OneByOne
+pub mod Silence
+pub mod LiveRuns
+pub mod ReadWords
+pub mod Boards
+pub mod JsonLines
+pub mod LiveShown
+pub mod Uncut
+pub mod LiveTold
+pub mod GoodBoards
+pub mod SameText
+pub mod TitleRows
+pub mod Members
+pub mod FollowShown
+pub mod FollowRuns
+pub mod Answered
+pub mod ReadBack
+pub mod PlainAnswers
+pub mod Repeats
+pub mod RowTexts
+pub mod Resumed
+pub mod JournalLines
+pub mod Matches
+pub mod JournalAnswers
+pub mod Journals
+pub mod JournalEnds

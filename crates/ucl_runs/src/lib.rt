@@ -1,33 +1,85 @@
 //! The runs of the board of one group of the UEFA Champions League, over any source of bytes and any sink: `feed_run` enters a script of
 //! events, and writes what became of each event and how the twelve matches stand; `show_run` writes the screen of a board that was
-//! written down; `night_run` has two reporters enter a script in threads of their own on any live board while two readers look on. `run` does
-//! what the arguments of `ucl_night` ask for.
+//! written down; `night_run` has two reporters enter a script in threads of their own on any live board while two readers look on;
+//! `live_run` answers rows through an evening, as they come; `follow_run` follows the answers of an evening in JSON.
+//! `run`, `run_evening` and `run_following` do what the arguments of `ucl_night`, `ucl_live` and `ucl_follow` ask for.
 #![tactic(auto)]
 
+mod answer;
+mod bad_row;
 mod ending;
+mod evening;
 mod fault;
 mod feed;
+mod follow;
+mod follow_laws;
+mod follow_program;
+mod follower;
+mod following;
 mod gate;
-mod laws;
+mod headed;
+mod line;
 mod lines;
+mod live;
+mod live_fault;
+mod live_laws;
+mod live_program;
+mod moment;
 mod night;
+mod night_laws;
 mod output;
+mod parts;
+mod plain;
 mod plan;
 mod program;
+mod request;
+mod row;
+mod rows;
 mod show;
+mod some_words;
+mod stage;
+mod table;
 mod telling;
 mod telling_screens;
 mod threads;
+mod title;
+mod told;
+mod words;
 mod workers;
 
+pub use answer::{Answer, ReplyLine, accepted_line, bad_line, refused_line};
+pub use bad_row::{BadField, bad_field_of_call};
 pub use ending::{ended, ended_unasked, tell_refusal};
+pub use evening::Evening;
 pub use fault::{RunFault, status_of};
 pub use feed::feed_run;
+pub use follow::{Followed, follow_run};
+pub use follow_laws::{
+    answers_tell_their_moment, crashes_change_nothing, cut_journals_resume,
+    journals_end_with_the_board, latest_is_shown_last, lines_tell_their_moment,
+    matches_fit_their_line, others_do_not_matter, repeated_rows_change_nothing,
+    resumed_rows_open_the_board, versions_rise,
+};
+pub use follow_program::run_following;
+pub use follower::{Follower, Sight};
 pub use gate::{Gate, OpenGate};
-pub use laws::schedule_does_not_matter;
+pub use line::LineReader;
+pub use live::live_run;
+pub use live_fault::{BeginningFault, LiveFault};
+pub use live_laws::{
+    beginnings_are_answered, boards_take_events, evenings_are_sequential, evenings_say_the_same,
+    first_rows_open_the_board, json_answers_are_lines, json_says_the_same, lines_are_read_whole,
+    refused_evenings_are_silent, replies_are_those_of_feed,
+};
+pub use live_program::{OTHER_GROUP, run_evening};
 pub use night::{NightEnd, night_run, put_night};
+pub use night_laws::schedule_does_not_matter;
 pub use output::{put_bytes, put_text};
+pub use parts::Parts;
 pub use program::{obey, run};
+pub use row::{MOST_LINE_BYTES, RowCount};
 pub use show::show_run;
 pub use telling::tell;
 pub use telling_screens::{ToldScreen, report_and_show};
+pub use title::{first_group, letter_in, title_for};
+pub use words::{Lines, word_lines};

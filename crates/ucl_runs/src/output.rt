@@ -43,7 +43,7 @@ pub fn put_bytes<W: Sink>(sink: &mut W, before: usize, bytes: &[u8]) -> Result<u
 }
 
 /// Writes a heading and a text after so many bytes, and tells how many bytes are out then.
-#[tactic(auto, using(crate::proofs::Parts::stopped_first, crate::proofs::Parts::stopped_second))]
+#[tactic(auto, using(crate::proofs::NightParts::stopped_first, crate::proofs::NightParts::stopped_second))]
 pub fn put_under<W: Sink>(
     sink: &mut W,
     before: usize,
@@ -64,7 +64,7 @@ pub fn put_under<W: Sink>(
 }
 
 /// Writes a line of three parts.
-#[tactic(auto, using(crate::proofs::Parts::stopped_first, crate::proofs::Parts::stopped_second))]
+#[tactic(auto, using(crate::proofs::NightParts::stopped_first, crate::proofs::NightParts::stopped_second))]
 pub fn put_line<W: Sink>(
     sink: &mut W,
     before: &str,
@@ -105,7 +105,7 @@ pub fn put_last<W: Sink>(
 }
 
 /// Writes the last screens of both readers, where there are any, and tells how many bytes are out then.
-#[tactic(auto, using(crate::proofs::Parts::stopped_first, crate::proofs::Parts::stopped_second))]
+#[tactic(auto, using(crate::proofs::NightParts::stopped_first, crate::proofs::NightParts::stopped_second))]
 pub fn put_lasts<W: Sink>(sink: &mut W, last: &[Option<String>; 2]) -> Result<usize, RunFault>
     ensures all { OnOk result (Appends (W.taken sink.old) (W.taken sink.new)
         (lasts_text (last_shown last.now 0) (last_shown last.now 1))) }

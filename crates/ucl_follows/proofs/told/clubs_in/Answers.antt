@@ -1,1 +1,0 @@
-use Rattle.ucl_follows.proofs.told.clubs_in.Goals as goal

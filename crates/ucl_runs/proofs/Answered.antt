@@ -1,0 +1,181 @@
+-- What an evening answers tells its moment.
+use Rattle.std.proofs.Common.{◌≡◌, ◌∙◌, ℕ, zero, suc, ◌+◌, ◌*◌, ◌/◌, ◌%◌, ◌^◌, ◌<◌, ◌≤◌, ◌&&◌, ◌==◌, Bool, true, false, refl, ap, arith, List, [], ◌∷◌, codes}
+use Rattle.std.proofs.Common.{length, Option, Some, None, le-leb, inl}
+use Rattle.std.specs.Prelude.{All, nat_le, option_and_then, Ok}
+use Rattle.std.specs.Fmt.{digit_glyph}
+use Rattle.std.proofs.Math.Nat.{pow-suc}
+use Rattle.std.proofs.lemmas.Bool.Decides.{nat_tests}
+use Rattle.std.proofs.lemmas.List.Elements.{All-head, All-tail}
+use Rattle.serde_json.specs.Data.{Data, member, no_members, number, object, string, unsigned}
+use Rattle.serde_json.specs.Find.{get}
+use Rattle.serde_json.proofs.OnLiterals.{serde_json_on_literals}
+use Rattle.ucl_board.specs.Words.{AreWords}
+use Rattle.ucl_order.specs.declared.profile.Profile.{Profile}
+use Rattle.ucl_order.specs.declared.profile.Profile.TheVariants.{Uefa, AwayInTie}
+use Rattle.ucl_order.specs.Names.{profile_name, profile_named}
+use Rattle.ucl_order.specs.Roster.{IsClub, IsRoster, NamedClub, bad_slot, bad_slot_from, is_club, is_name}
+use Rattle.ucl_screen.specs.Numbers.{hex_digits}
+use Rattle.ucl_screen.specs.Numbers.{hex_after, hex_digit, hex_word}
+use Rattle.ucl_screen.specs.declared.night.NightEvent.{NightEvent}
+use Rattle.ucl_screen.specs.Screen.{IsGroup}
+use Rattle.ucl_screen.specs.WordsRead.{read_words}
+use Rattle.ucl_screen.proofs.ReadWords.{all-read}
+use Rattle.ucl_json.specs.Values.{accepted_value, club_items, edition_screen_value, number_value, screen_value, word_items}
+use Rattle.ucl_runs.specs.Titles.{letter_in}
+use Rattle.ucl_runs.proofs.WordDigits.{low, word-digits}
+use Rattle.ucl_runs.specs.declared.moment.Moment.{Moment}
+use Rattle.ucl_runs.specs.Told.{board_told, club_told, clubs_told, each_told, edition_in, edition_told, group_told, if_read, just, list_at, listed, moment_told}
+use Rattle.ucl_runs.specs.Told.{order_told, roster_told, text_at, word_told}
+use Rattle.ucl_runs.specs.Answered.{AnswersTellTheirMoment, IsMoment}
+
+-- ---- digits
+
+glyph-back : (d : ℕ) → d < 16 → hex_digit (digit_glyph false d) ≡ Some d
+glyph-back zero h = refl
+glyph-back (suc zero) h = refl
+glyph-back (suc (suc zero)) h = refl
+glyph-back (suc (suc (suc zero))) h = refl
+glyph-back (suc (suc (suc (suc zero)))) h = refl
+glyph-back (suc (suc (suc (suc (suc zero))))) h = refl
+glyph-back (suc (suc (suc (suc (suc (suc zero)))))) h = refl
+glyph-back (suc (suc (suc (suc (suc (suc (suc zero))))))) h = refl
+glyph-back (suc (suc (suc (suc (suc (suc (suc (suc zero)))))))) h = refl
+glyph-back (suc (suc (suc (suc (suc (suc (suc (suc (suc zero))))))))) h = refl
+glyph-back (suc (suc (suc (suc (suc (suc (suc (suc (suc (suc zero)))))))))) h = refl
+glyph-back (suc (suc (suc (suc (suc (suc (suc (suc (suc (suc (suc zero))))))))))) h = refl
+glyph-back (suc (suc (suc (suc (suc (suc (suc (suc (suc (suc (suc (suc zero)))))))))))) h = refl
+glyph-back (suc (suc (suc (suc (suc (suc (suc (suc (suc (suc (suc (suc (suc zero))))))))))))) h = refl
+glyph-back (suc (suc (suc (suc (suc (suc (suc (suc (suc (suc (suc (suc (suc (suc zero)))))))))))))) h = refl
+glyph-back (suc (suc (suc (suc (suc (suc (suc (suc (suc (suc (suc (suc (suc (suc (suc zero))))))))))))))) h = refl
+glyph-back (suc (suc (suc (suc (suc (suc (suc (suc (suc (suc (suc (suc (suc (suc (suc (suc d)))))))))))))))) h = absurd (omega arith)
+
+one-digit : (n d : ℕ) (rest : List ℕ) → d < 16 → hex_after n (digit_glyph false d ∷ rest) ≡ hex_after (16 * n + d) rest
+unfolding hex_after
+one-digit n d rest h = ap (λ (o : Option ℕ). option_and_then (λ e. hex_after (16 * n + e) rest) o) (glyph-back d h)
+
+spell : (before last power next n : ℕ) → next ≡ 16 * power → n ≡ 16 * before + last → (a : ℕ) → 16 * (a * power + before) + last ≡ a * next + n
+spell before last power next n e f a = rw (e, f) (omega arith)
+
+low-back : (k n a : ℕ) (rest : List ℕ) → n < 16 ^ k → hex_after a (low k n rest) ≡ hex_after (a * 16 ^ k + n) rest
+low-back zero n a rest h = ap (λ (m : ℕ). hex_after m rest) (omega arith)
+low-back (suc k) n a rest h =
+    let p : 16 ^ suc k ≡ 16 * 16 ^ k = omega (arith, pow-suc 16 k) in
+    let few : n / 16 < 16 ^ k = omega arith in
+    let last : n % 16 < 16 = omega arith in
+    let parts : n ≡ 16 * (n / 16) + n % 16 = omega arith in
+    low-back k (n / 16) a (digit_glyph false (n % 16) ∷ rest) few ∙ one-digit (a * 16 ^ k + n / 16) (n % 16) rest last
+    ∙ ap (λ (m : ℕ). hex_after m rest) (spell (n / 16) (n % 16) (16 ^ k) (16 ^ suc k) n p parts a)
+
+pub long : (k n : ℕ) (rest : List ℕ) → length (low k n rest) ≡ k + length rest
+long zero n rest = omega arith
+long (suc k) n rest = long k (n / 16) (digit_glyph false (n % 16) ∷ rest) ∙ omega arith
+
+same-sixteen : (n : ℕ) → n ≡ 16 → (n == 16) ≡ true
+same-sixteen n e = grind (arith, nat_tests)
+
+of-sixteen : (text : List ℕ) (n : ℕ) → length text ≡ 16 → hex_after 0 text ≡ Some n → hex_word text ≡ Some n
+of-sixteen text n e h = rw (same-sixteen (length text) e) h
+
+none-left : (n : ℕ) → hex_after n [] ≡ Some n
+unfolding hex_after
+none-left n = refl
+
+pub word-back : (word : ℕ) → word < 2 ^ 64 → hex_word (hex_digits word) ≡ Some word
+word-back word h =
+    let back = low-back 16 word 0 [] (omega arith) ∙ none-left (0 * 16 ^ 16 + word) ∙ ap (λ (n : ℕ). Some n) (omega arith) in
+    ap hex_word (word-digits word h) ∙ of-sixteen (low 16 word []) word (long 16 word []) back
+
+-- ---- words
+
+words-back : (words : List ℕ) → All (λ word. word < 2 ^ 64) words → each_told word_told (listed (word_items words)) ≡ Some words
+unfolding each_told
+words-back [] h = refl
+words-back (word ∷ words) h =
+    rw (word-back word (All-head (λ w. w < 2 ^ 64) word words h), words-back words (All-tail (λ w. w < 2 ^ 64) word words h)) refl
+
+count-words : (words : List ℕ) → length (listed (word_items words)) ≡ length words
+count-words [] = refl
+count-words (word ∷ words) = ap suc (count-words words)
+
+same-twelve : (n : ℕ) → n ≡ 12 → (n == 12) ≡ true
+same-twelve n e = grind (arith, nat_tests)
+
+pub board-back : (board : List ℕ) → AreWords board → read_words 1 board ≡ Ok board
+board-back board w = all-read 1 board board refl (λ k less. inl (w.each k 0 less, refl))
+
+board-told : (board : List ℕ) → AreWords board → All (λ word. word < 2 ^ 64) board
+    → option_and_then (λ words. if_read (read_words 1 words)) (just 12 word_told (listed (word_items board))) ≡ Some board
+board-told board w bits = rw (count-words board, same-twelve (length board) w.twelve, words-back board bits, board-back board w) refl
+
+-- ---- clubs
+
+pub both : (a b : Bool) → (a && b) ≡ true → (a ≡ true) × (b ≡ true)
+both true b h = (refl, h)
+both false b h = cc
+
+club-back : (club : NamedClub) → IsClub club → club_told (object (member (codes "club") (string club.name) (member (codes "coefficient") (number (unsigned club.coefficient)) no_members))) ≡ Some club
+unfolding is_club serde_json_on_literals
+club-back club h = let p = both (is_name club.name) (nat_le club.coefficient 999999) h in rw p.1 refl
+
+pub no-bad : (a b c d : NamedClub) → IsClub a → IsClub b → IsClub c → IsClub d → bad_slot (a ∷ b ∷ c ∷ d ∷ []) ≡ None
+unfolding bad_slot_from
+no-bad a b c d p q r s = rw (p, q, r, s) refl
+
+four : (a b c d : NamedClub) → IsClub a → IsClub b → IsClub c → IsClub d → roster_told (listed (club_items (a ∷ b ∷ c ∷ d ∷ []))) ≡ Some (a ∷ b ∷ c ∷ d ∷ [])
+unfolding each_told
+four a b c d p q r s = rw (club-back a p, club-back b q, club-back c r, club-back d s, no-bad a b c d p q r s) refl
+
+clubs-told : (clubs : List NamedClub) → IsRoster clubs → roster_told (listed (club_items clubs)) ≡ Some clubs
+clubs-told [] is = absurd (let t = is.four in omega arith)
+clubs-told (a ∷ []) is = absurd (let t = is.four in omega arith)
+clubs-told (a ∷ b ∷ []) is = absurd (let t = is.four in omega arith)
+clubs-told (a ∷ b ∷ c ∷ []) is = absurd (let t = is.four in omega arith)
+clubs-told (a ∷ b ∷ c ∷ d ∷ []) is = four a b c d (is.each 0 a (omega arith)) (is.each 1 a (omega arith)) (is.each 2 a (omega arith)) (is.each 3 a (omega arith))
+clubs-told (a ∷ b ∷ c ∷ d ∷ e ∷ more) is = absurd (let t = is.four in omega arith)
+
+-- ---- the group and its order
+
+letter-told : (group : ℕ) → IsGroup group → letter_in (group ∷ []) ≡ Some group
+letter-told group h = rw (le-leb 65 group h.0, le-leb group 72 h.1) refl
+
+order-back : (profile : Profile) → profile_named (profile_name profile) ≡ Some profile
+order-back Uefa = refl
+order-back AwayInTie = refl
+
+edition-back : (edition : ℕ) → edition ≤ 65535 → edition_in (Some (number_value edition)) ≡ Some edition
+edition-back edition h = rw (le-leb edition 65535 h) refl
+
+-- ---- a moment
+
+told-by : (value : Data) (m : Moment) → group_told value ≡ Some m.title.group → order_told value ≡ Some m.title.profile → edition_told value ≡ Some m.title.edition
+    → clubs_told value ≡ Some m.roster → board_told value ≡ Some m.board
+    → moment_told value ≡ Some m
+unfolding moment_told
+told-by value m a b c d e = rw (a, b, c, d, e) refl
+
+abbrev Has : Data → Moment → Type 0
+Has value m = (text_at (codes "group") value ≡ Some (m.title.group ∷ [])) × (text_at (codes "order") value ≡ Some (profile_name m.title.profile))
+    × (get (codes "edition") value ≡ Some (number_value m.title.edition))
+    × (list_at (codes "clubs") value ≡ Some (listed (club_items m.roster))) × (list_at (codes "words") value ≡ Some (listed (word_items m.board)))
+
+tells : (value : Data) (m : Moment) → IsMoment m → Has value m → moment_told value ≡ Some m
+tells value m is (group, order, edition, clubs, words) = told-by value m
+    (ap (option_and_then letter_in) group ∙ letter-told m.title.group is.letter)
+    (ap (option_and_then profile_named) order ∙ order-back m.title.profile)
+    (ap edition_in edition ∙ edition-back m.title.edition is.edition)
+    (ap (option_and_then roster_told) clubs ∙ clubs-told m.roster is.clubs)
+    (rw words (board-told m.board is.words is.bits))
+
+reply-has : (row : ℕ) (event : NightEvent) (event_number : ℕ) (m : Moment) → Has (accepted_value row event event_number m.title m.board m.roster) m
+unfolding accepted_value serde_json_on_literals
+reply-has row event event_number m = (refl, refl, refl, refl, refl)
+
+screen-has : (row : ℕ) (m : Moment) → Has (edition_screen_value row m.title m.board m.roster) m
+unfolding edition_screen_value screen_value serde_json_on_literals
+screen-has row m = (refl, refl, refl, refl, refl)
+
+pub answered : AnswersTellTheirMoment
+answered row event event_number m is = record {
+  reply = tells (accepted_value row event event_number m.title m.board m.roster) m is (reply-has row event event_number m);
+  screen = tells (edition_screen_value row m.title m.board m.roster) m is (screen-has row m);
+}

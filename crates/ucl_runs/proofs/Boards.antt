@@ -1,0 +1,278 @@
+-- The board of an evening as that of a legal history.
+use Rattle.std.proofs.Common.{◌≡◌, ℕ, ◌+◌, ◌≤◌, ◌==◌, ◌&&◌, Bool, true, false, List, [], ◌∷◌, ◌++◌, length, Option, Some, None, refl, sym, ap, ap₂, ◌∙◌, inl, inr, append-nil, arith}
+use Rattle.std.specs.Str.{bytes_eq}
+use Rattle.std.specs.Prelude.{All, codes, nat_le, if◌then◌else◌, Result}
+use Rattle.std.specs.List.{fold}
+use Rattle.std.proofs.lemmas.Bool.{cases_Bool}
+use Rattle.std.proofs.lemmas.Bool.Decides.{nat_tests}
+use Rattle.std.proofs.lemmas.List.Elements.{All-append, All-head, All-tail}
+use Rattle.ucl_word.specs.declared.event.Accepted.{Accepted}
+use Rattle.ucl_word.specs.declared.event.EventCall.{EventCall}
+use Rattle.ucl_word.specs.declared.event.Kind.{Kind}
+use Rattle.ucl_word.specs.declared.refusal.Refusal.{Refusal}
+use Rattle.ucl_word.specs.Names.{kind_named}
+use Rattle.ucl_word.specs.Rules.{reply_of}
+use Rattle.ucl_board.specs.declared.entry.Entry.{Entry}
+use Rattle.ucl_board.specs.Words.{game_at}
+use Rattle.ucl_board.specs.History.{Attempt, IsAttempt, IsLegal, after_attempt, board_after, board_of, sequential_reply}
+use Rattle.ucl_board.proofs.HistoryLaws.{attempt_board, attempt_legal, versions}
+use Rattle.ucl_board.proofs.Histories.{reply_is}
+use Rattle.ucl_order.specs.Roster.{NamedClub}
+use Rattle.ucl_runs.specs.Feed.{attempt_of, line_of_reply, reply_line}
+use Rattle.ucl_screen.specs.declared.night.NightEvent.{NightEvent}
+use Rattle.ucl_screen.specs.Numbers.{in_range, number}
+use Rattle.ucl_screen.specs.Events.{◌>>=◌, event_of}
+use Rattle.ucl_screen.specs.Rows.{FourFields}
+use Rattle.ucl_json.specs.declared.title.Title.{Title}
+use Rattle.ucl_command.specs.declared.options.Format.{Format}
+use Rattle.ucl_command.specs.declared.options.Format.TheVariants.{Text, Json}
+use Rattle.ucl_command.specs.declared.live.LiveArgs.{LiveArgs}
+use Rattle.ucl_runs.specs.declared.request.Request.{Request}
+use Rattle.ucl_runs.specs.declared.request.Request.TheVariants.{Bad, Event, Screen, Words, Matches}
+use Rattle.ucl_runs.specs.BadRows.{bad_field, shown_text}
+use Rattle.ucl_runs.specs.Requests.{asked_by, event_or_bad, request_of, shown_by}
+use Rattle.ucl_runs.specs.Rows.{Said, Nothing, Garbled, Row, said_on}
+use Rattle.ucl_runs.specs.Stages.{Stage, Open, Restoring, next_board, next_stage}
+use Rattle.ucl_runs.specs.LiveText.{Evening, after_lines, answer_said, answer_of, answers, next, next_title, reply_answer, screen_after}
+use Rattle.ucl_runs.specs.ByHistory.{answer_by_history, answers_by_history, attempts_in, attempts_of, attempts_on, line_by_history, reply_by_history}
+use Rattle.ucl_runs.specs.LiveLaws.{BoardsTakeEvents, EveningsAreSequential, FirstRowsOpenTheBoard, IsOtherRow, RefusedEveningsAreSilent, RepliesAreThoseOfFeed, fresh_at}
+use Rattle.ucl_runs.proofs.Silence.{refused-shut, silent}
+
+-- an event is of a reporter and a match that there are
+
+ranged : (low high : ℕ) (o : Option ℕ) (n : ℕ) → in_range low high o ≡ Some n → (low ≤ n) × (n ≤ high)
+ranged low high None n h = cc
+ranged low high (Some m) n h = elim (cases_Bool (nat_le low m && nat_le m high)) [
+  | inl y ↦ let k : ◌≡◌ {A = Option ℕ} (Some m) (Some n) = rw y at h in let e : m ≡ n = cc in rw (← e) (grind (arith, nat_tests), grind (arith, nat_tests))
+  | inr z ↦ cc (rw z at h)
+]
+
+abbrev call_made : Option ℕ → Option ℕ → Option Kind → Option EventCall
+call_made b c d = do
+  game ← b
+  expected ← c
+  kind ← d
+  Some (record { game = game; expected = expected; kind = kind })
+
+abbrev made : Option ℕ → Option ℕ → Option ℕ → Option Kind → Option NightEvent
+made a b c d = do
+  reporter ← a
+  call ← call_made b c d
+  Some (record { reporter = reporter; call = call })
+
+abbrev reporter_in : Option NightEvent → Option ℕ
+reporter_in None = None
+reporter_in (Some e) = Some e.reporter
+
+abbrev game_in : Option NightEvent → Option ℕ
+game_in None = None
+game_in (Some e) = Some e.call.game
+
+parts : (a b c : Option ℕ) (d : Option Kind) (e : NightEvent) → made a b c d ≡ Some e → (a ≡ Some e.reporter) × (b ≡ Some e.call.game)
+parts (Some a) (Some b) (Some c) (Some d) e h = (ap (reporter_in) h, ap (game_in) h)
+parts None b c d e h = cc
+parts (Some a) None c d e h = cc
+parts (Some a) (Some b) None d e h = cc
+parts (Some a) (Some b) (Some c) None e h = cc
+
+pub event-is_attempt : (f : FourFields) (e : NightEvent) → event_of f ≡ Some e → IsAttempt (attempt_of e)
+event-is_attempt f e h =
+    let p = parts (in_range 1 255 (number 3 f.first)) (in_range 1 12 (number 2 f.second)) (in_range 0 65535 (number 5 f.third)) (kind_named f.fourth) e h in
+    (ranged 1 255 (number 3 f.first) e.reporter p.0, ranged 1 12 (number 2 f.second) e.call.game p.1)
+
+-- of all requests
+
+abbrev pub AreAttempts : Request → Type 0
+AreAttempts r = All IsAttempt (attempts_of r)
+
+none : All IsAttempt []
+none = λ k d h. absurd (omega arith)
+
+one : (a : Attempt) → IsAttempt a → All IsAttempt (a ∷ [])
+one a p = λ k d h. let z : k ≡ 0 = omega arith in rw z p
+
+by-event : (f : FourFields) (o : Option NightEvent) → ((e : NightEvent) → o ≡ Some e → IsAttempt (attempt_of e)) → AreAttempts (event_or_bad f o)
+by-event f None p = none
+by-event f (Some e) p = one (attempt_of e) (p e refl)
+
+-- what holds of each request that a row can ask for
+module _ (P : Request → Type 0) where
+  either : (b : Bool) (x y : Request) → P x → P y → P (if b then x else y)
+  either true x y p q = p
+  either false x y p q = q
+
+  pub asked-by : (f : FourFields) → P Screen → P Words → P Matches → P (Bad (bad_field f)) → P (event_or_bad f (event_of f)) → P (asked_by f)
+  unfolding asked_by
+  asked-by f screen words matches bad event =
+      let or_bad = if bytes_eq f.first (codes "matches") then Matches else Bad (bad_field f) in
+      let others = if bytes_eq f.first (codes "words") then Words else or_bad in
+      either ((length f.second == 0) && (length f.third == 0) && (length f.fourth == 0)) (shown_by f) (event_or_bad f (event_of f))
+      (either (bytes_eq f.first (codes "screen")) Screen others screen
+      (either (bytes_eq f.first (codes "words")) Words or_bad words (either (bytes_eq f.first (codes "matches")) Matches (Bad (bad_field f)) matches bad)))
+      event
+
+pub asked : (f : FourFields) → AreAttempts (asked_by f)
+asked f = asked-by AreAttempts f none none none none (by-event f (event_of f) (event-is_attempt f))
+
+said-attempts : (r : Said) → All IsAttempt (attempts_on r)
+said-attempts Nothing = none
+said-attempts Garbled = none
+said-attempts (Row f) = asked f
+
+all-attempts : (row : ℕ) (lines : List (List ℕ)) → All IsAttempt (attempts_in row lines)
+unfolding attempts_in
+all-attempts row [] = none
+all-attempts row (line ∷ lines) = All-append IsAttempt (attempts_on (said_on row line)) (attempts_in (row + 1) lines) (said-attempts (said_on row line)) (all-attempts (row + 1) lines)
+
+-- the board
+
+fold-request : (board : List ℕ) (r : Request) (more : List Attempt) → fold board_after board (attempts_of r ++ more) ≡ fold board_after (next_board board r) more
+fold-request board (Event e) more = refl
+fold-request board (Bad field) more = refl
+fold-request board Screen more = refl
+fold-request board Words more = refl
+fold-request board Matches more = refl
+
+abbrev board_on : List ℕ → Said → List ℕ
+board_on board Nothing = board
+board_on board Garbled = board
+board_on board (Row f) = next_board board (request_of (Row f))
+
+fold-said : (board : List ℕ) (r : Said) (more : List Attempt) → fold board_after board (attempts_on r ++ more) ≡ fold board_after (board_on board r) more
+fold-said board Nothing more = refl
+fold-said board Garbled more = refl
+fold-said board (Row f) more = fold-request board (request_of (Row f)) more
+
+next-open : (options : LiveArgs) (row : ℕ) (clubs : List NamedClub) (board : List ℕ) (r : Said) → next_stage options row (Open clubs board) r ≡ Open clubs (board_on board r)
+next-open options row clubs board Nothing = refl
+next-open options row clubs board Garbled = refl
+next-open options row clubs board (Row f) = refl
+
+pub boards : BoardsTakeEvents
+unfolding after_lines attempts_in
+boards e [] clubs board h = h
+boards e (line ∷ lines) clubs board h =
+    let r = said_on e.row line in
+    let there : next_stage e.options e.row e.stage r ≡ Open clubs (board_on board r) = ap (λ (s : Stage). next_stage e.options e.row s r) h ∙ next-open e.options e.row clubs board r in
+    boards (next e r) lines clubs (board_on board r) there ∙ ap (λ (b : List ℕ). Open clubs b) (sym (fold-said board r (attempts_in (e.row + 1) lines)))
+
+-- ---- the history
+
+attempts-legal : (h : List Entry) (attempts : List Attempt) → IsLegal h → All IsAttempt attempts → IsLegal (fold after_attempt h attempts)
+attempts-legal h [] legal all = legal
+attempts-legal h (a ∷ attempts) legal all =
+    attempts-legal (after_attempt h a) attempts (attempt_legal h a legal (All-head IsAttempt a attempts all)) (All-tail IsAttempt a attempts all)
+
+attempts-board : (h : List Entry) (attempts : List Attempt) → IsLegal h → All IsAttempt attempts → fold board_after (board_of h) attempts ≡ board_of (fold after_attempt h attempts)
+attempts-board h [] legal all = refl
+attempts-board h (a ∷ attempts) legal all =
+    let is = All-head IsAttempt a attempts all in
+    ap (λ (ws : List ℕ). fold board_after ws attempts) (attempt_board h a legal is) ∙ attempts-board (after_attempt h a) attempts (attempt_legal h a legal is) (All-tail IsAttempt a attempts all)
+
+-- ---- replies
+
+pub replies : RepliesAreThoseOfFeed
+unfolding reply_line
+replies title clubs board history row event legal game =
+    ap₂ (λ (before : ℕ) (reply : Result Accepted Refusal). line_of_reply row event.call.game before reply) (versions history legal).0 (reply_is history (board_of history) event.call legal refl game)
+
+reply-answer : (format : Format) (title : Title) (row : ℕ) (clubs : List NamedClub) (history : List Entry) (event : NightEvent)
+    → reply_answer format title row clubs event (length history) (sequential_reply history event.call) (board_of (after_attempt history (attempt_of event)))
+    ≡ reply_by_history format title row clubs history event
+unfolding reply_line
+reply-answer Text title row clubs history event = refl
+reply-answer Json title row clubs history event = refl
+
+-- ---- answers
+
+first : (a : Attempt) (attempts : List Attempt) → All IsAttempt (a ∷ attempts) → IsAttempt a
+first a attempts all = All-head IsAttempt a attempts all
+
+event-answer : (options : LiveArgs) (title : Title) (row : ℕ) (clubs : List NamedClub) (history : List Entry) (event : NightEvent) (shown : List ℕ) → IsLegal history → IsAttempt (attempt_of event)
+    → answer_of options title row clubs (board_of history) (Event event) shown ≡ answer_by_history options title row clubs history (Event event) shown
+event-answer options title row clubs history event shown legal is =
+    let call = event.call in
+    let reply : reply_of (game_at (board_of history) call.game) call ≡ sequential_reply history call = reply_is history (board_of history) call legal refl is.1 in
+    let after = attempt_board history (attempt_of event) legal is in
+    let told =
+    ap₂ (λ (before : ℕ) (r : Result Accepted Refusal). reply_answer options.format title row clubs event before r (next_board (board_of history) (Event event))) (versions history legal).0 reply in
+    let stands = ap (λ (board : List ℕ). reply_answer options.format title row clubs event (length history) (sequential_reply history call) board) after in
+    let line = told ∙ stands ∙ reply-answer options.format title row clubs history event in
+    let screen = ap₂ (λ (r : Result Accepted Refusal) (board : List ℕ). screen_after options title row clubs r board) reply after in
+    ap₂ (λ (a b : List ℕ). a ++ b) line screen
+
+request-answer : (options : LiveArgs) (title : Title) (row : ℕ) (clubs : List NamedClub) (history : List Entry) (request : Request) (shown : List ℕ) → IsLegal history
+    → All IsAttempt (attempts_of request)
+    → answer_of options title row clubs (board_of history) request shown ≡ answer_by_history options title row clubs history request shown
+request-answer options title row clubs history (Event event) shown legal all = event-answer options title row clubs history event shown legal (first (attempt_of event) [] all)
+request-answer options title row clubs history (Bad field) shown legal all = refl
+request-answer options title row clubs history Screen shown legal all = refl
+request-answer options title row clubs history Words shown legal all = refl
+request-answer options title row clubs history Matches shown legal all = refl
+
+said-answer : (e : Evening) (clubs : List NamedClub) (history : List Entry) (r : Said) (shown : List ℕ) → IsLegal history → e.stage ≡ Open clubs (board_of history)
+    → answer_said e r shown ≡ line_by_history e.options e.title e.row clubs history r shown
+said-answer e clubs history Nothing shown legal h = refl
+said-answer e clubs history Garbled shown legal h = rw h refl
+said-answer e clubs history (Row f) shown legal h = rw h (request-answer e.options e.title e.row clubs history (request_of (Row f)) shown legal (asked f))
+
+-- the board that a line leaves
+said-board : (history : List Entry) (r : Said) → IsLegal history → board_on (board_of history) r ≡ board_of (fold after_attempt history (attempts_on r))
+said-board history r legal = sym (fold-said (board_of history) r []) ∙ whole history r legal
+  where
+    whole : (h : List Entry) (r : Said) → IsLegal h → fold board_after (board_of h) (attempts_on r ++ []) ≡ board_of (fold after_attempt h (attempts_on r))
+    whole h r legal = rw (append-nil (attempts_on r)) (attempts-board h (attempts_on r) legal (said-attempts r))
+
+said-stage : (e : Evening) (clubs : List NamedClub) (history : List Entry) (r : Said) → IsLegal history → e.stage ≡ Open clubs (board_of history)
+    → (next e r).stage ≡ Open clubs (board_of (fold after_attempt history (attempts_on r)))
+said-stage e clubs history r legal h =
+    ap (λ (s : Stage). next_stage e.options e.row s r) h ∙ next-open e.options e.row clubs (board_of history) r ∙ ap (λ (b : List ℕ). Open clubs b) (said-board history r legal)
+
+-- an open board keeps its title
+open-title : (title : Title) (s : Stage) (r : Said) (clubs : List NamedClub) (board : List ℕ) → s ≡ Open clubs board → next_title title s r ≡ title
+open-title title s r clubs board h = rw h refl
+
+text-by-history : (e : Evening) (lines : List (List ℕ)) (clubs : List NamedClub) (history : List Entry) → IsLegal history → e.stage ≡ Open clubs (board_of history)
+    → answers e lines ≡ answers_by_history e.options e.title e.row clubs history lines
+unfolding answers answers_by_history
+text-by-history e [] clubs history legal h = refl
+text-by-history e (line ∷ lines) clubs history legal h =
+    let r = said_on e.row line in
+    let later = fold after_attempt history (attempts_on r) in
+    ap₂ (λ (a b : List ℕ). a ++ b) (said-answer e clubs history r (shown_text line) legal h)
+    (text-by-history (next e r) lines clubs later (attempts-legal history (attempts_on r) legal (said-attempts r)) (said-stage e clubs history r legal h)
+    ∙ ap (λ (t : Title). answers_by_history e.options t (e.row + 1) clubs later lines) (open-title e.title e.stage r clubs (board_of history) h))
+
+pub sequential : EveningsAreSequential
+sequential e lines clubs history legal h =
+    let all = all-attempts e.row lines in record {
+      legal = attempts-legal history (attempts_in e.row lines) legal all;
+      stage = boards e lines clubs (board_of history) h ∙ ap (λ (b : List ℕ). Open clubs b) (attempts-board history (attempts_in e.row lines) legal all);
+      text = text-by-history e lines clubs history legal h;
+    }
+
+-- ---- the first row
+
+first-answer : (e : Evening) (clubs : List NamedClub) (r : Said) (shown : List ℕ) → e.options.resumed ≡ false → e.stage ≡ Restoring clubs [] → IsOtherRow r
+    → answer_said e r shown ≡ answer_said (fresh_at e clubs) r shown
+first-answer e clubs Nothing shown new h k = absurd k
+first-answer e clubs Garbled shown new h k = rw (h, new) refl
+first-answer e clubs (Row f) shown new h k = rw (h, new, k) refl
+
+first-next : (e : Evening) (clubs : List NamedClub) (r : Said) → e.options.resumed ≡ false → e.stage ≡ Restoring clubs [] → IsOtherRow r
+    → next e r ≡ next (fresh_at e clubs) r
+first-next e clubs Nothing new h k = absurd k
+first-next e clubs Garbled new h k = rw (h, new) refl
+first-next e clubs (Row f) new h k = rw (h, new, k) refl
+
+pub first-rows : FirstRowsOpenTheBoard
+unfolding answers after_lines
+first-rows e clubs line lines new h k =
+    let r = said_on e.row line in
+    let there = first-next e clubs r new h k in record {
+      text = ap₂ (λ (a b : List ℕ). a ++ b) (first-answer e clubs r (shown_text line) new h k) (ap (λ (f : Evening). answers f lines) there);
+      after = ap (λ (f : Evening). after_lines f lines) there;
+    }
+
+pub silence : RefusedEveningsAreSilent
+silence e lines fault h = silent e lines (refused-shut _ fault h)

@@ -1,0 +1,73 @@
+-- In JSON an evening answers by lines of values.
+use Rattle.std.proofs.Common.{◌≡◌, ℕ, Bool, true, false, List, [], ◌∷◌}
+use Rattle.std.specs.Prelude.{Result, Ok, Err, if◌then◌else◌}
+use Rattle.ucl_word.specs.declared.event.Accepted.{Accepted}
+use Rattle.ucl_word.specs.declared.refusal.Refusal.{Refusal}
+use Rattle.ucl_word.specs.Rules.{reply_of}
+use Rattle.ucl_board.specs.Words.{game_at, version_of}
+use Rattle.ucl_order.specs.Roster.{NamedClub}
+use Rattle.ucl_screen.specs.declared.night.NightEvent.{NightEvent}
+use Rattle.ucl_json.specs.Lines.{AreLinesOfValues}
+use Rattle.ucl_json.specs.declared.title.Title.{Title}
+use Rattle.ucl_json.specs.Values.{bad_row_value, edition_screen_value, matches_value, reply_value, words_value}
+use Rattle.ucl_json.proofs.OneLine.{line_of_value, lines_then, no_lines}
+use Rattle.ucl_command.specs.declared.options.Format.{Format}
+use Rattle.ucl_command.specs.declared.options.Format.TheVariants.{Json}
+use Rattle.ucl_command.specs.declared.live.LiveArgs.{LiveArgs}
+use Rattle.ucl_runs.specs.declared.request.Request.{Request}
+use Rattle.ucl_runs.specs.declared.request.Request.TheVariants.{Bad, Event, Screen, Words, Matches}
+use Rattle.ucl_runs.specs.Rows.{Said, Nothing, Garbled, Row, said_on}
+use Rattle.ucl_runs.specs.BadRows.{field_name, shown_text}
+use Rattle.ucl_runs.specs.Requests.{request_of}
+use Rattle.ucl_runs.specs.Stages.{Stage, Beginning, Naming, Restoring, Open, Refused, next_board, opened}
+use Rattle.ucl_runs.specs.LiveText.{Evening, answer_said, answer_at, answer_of, answers, next, reply_answer, screen_after, screen_answer}
+use Rattle.ucl_runs.specs.LiveLaws.{JsonAnswersAreLines}
+
+screen-line : (format : Format) (title : Title) (row : ℕ) (clubs : List NamedClub) (board : List ℕ) → format ≡ Json → AreLinesOfValues (screen_answer format title row clubs board)
+screen-line format title row clubs board h = rw h (line_of_value (edition_screen_value row title board clubs))
+
+wanted : (b : Bool) (text : List ℕ) → AreLinesOfValues text → AreLinesOfValues (if b then text else [])
+wanted true text p = p
+wanted false text p = no_lines
+
+after-line : (options : LiveArgs) (title : Title) (row : ℕ) (clubs : List NamedClub) (reply : Result Accepted Refusal) (board : List ℕ)
+    → options.format ≡ Json → AreLinesOfValues (screen_after options title row clubs reply board)
+after-line options title row clubs (Ok accepted) board h =
+    wanted options.screens (screen_answer options.format title row clubs board) (screen-line options.format title row clubs board h)
+after-line options title row clubs (Err refusal) board h = no_lines
+
+reply-lines : (format : Format) (title : Title) (row : ℕ) (clubs : List NamedClub) (event : NightEvent) (before : ℕ) (reply : Result Accepted Refusal) (board : List ℕ) → format ≡ Json
+    → AreLinesOfValues (reply_answer format title row clubs event before reply board)
+reply-lines format title row clubs event before reply board h = rw h (line_of_value (reply_value row event reply title board clubs))
+
+request-lines : (options : LiveArgs) (title : Title) (row : ℕ) (clubs : List NamedClub) (board : List ℕ) (request : Request) (shown : List ℕ) → options.format ≡ Json
+    → AreLinesOfValues (answer_of options title row clubs board request shown)
+request-lines options title row clubs board (Event event) shown h =
+    let reply = reply_of (game_at board event.call.game) event.call in
+    let after = next_board board (Event event) in
+    lines_then (reply_answer options.format title row clubs event (version_of board) reply after) (screen_after options title row clubs reply after)
+    (reply-lines options.format title row clubs event (version_of board) reply after h) (after-line options title row clubs reply after h)
+request-lines options title row clubs board (Bad field) shown h = rw h (line_of_value (bad_row_value row (field_name field) shown))
+request-lines options title row clubs board Screen shown h = screen-line options.format title row clubs board h
+request-lines options title row clubs board Words shown h = rw h (line_of_value (words_value row board))
+request-lines options title row clubs board Matches shown h = rw h (line_of_value (matches_value row board clubs))
+
+stage-lines : (options : LiveArgs) (title : Title) (row : ℕ) (stage : Stage) (request : Request) (shown : List ℕ) → options.format ≡ Json
+    → AreLinesOfValues (answer_at options title row stage request shown)
+stage-lines options title row Beginning request shown h = no_lines
+stage-lines options title row (Naming clubs) request shown h = no_lines
+stage-lines options title row (Restoring clubs words) request shown h = no_lines
+stage-lines options title row (Open clubs board) request shown h = request-lines options title row clubs board request shown h
+stage-lines options title row (Refused fault) request shown h = no_lines
+
+said-lines : (e : Evening) (said : Said) (shown : List ℕ) → e.options.format ≡ Json → AreLinesOfValues (answer_said e said shown)
+said-lines e Nothing shown h = no_lines
+said-lines e Garbled shown h = stage-lines e.options e.title e.row (opened e.options e.stage Garbled) (request_of Garbled) shown h
+said-lines e (Row f) shown h = stage-lines e.options e.title e.row (opened e.options e.stage (Row f)) (request_of (Row f)) shown h
+
+pub json-lines : JsonAnswersAreLines
+unfolding answers
+json-lines e [] h = no_lines
+json-lines e (line ∷ lines) h =
+    let said = said_on e.row line in
+    let shown = shown_text line in lines_then (answer_said e said shown) (answers (next e said) lines) (said-lines e said shown h) (json-lines (next e said) lines h)

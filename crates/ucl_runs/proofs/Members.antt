@@ -1,0 +1,195 @@
+-- What the members of a value tell.
+use Rattle.std.proofs.Common.{◌≡◌, ◌∙◌, ℕ, suc, ◌+◌, ◌<◌, ◌≤◌, ◌&&◌, ◌==◌, Bool, cond, true, false, refl, sym, ap, arith, List, [], ◌∷◌, ◌++◌, codes, length, take, drop}
+use Rattle.std.proofs.Common.{get_or, append_assoc, Option, Some, None, le-leb, leb-true, inl, inr}
+use Rattle.std.specs.Prelude.{nat_le, map, option_and_then}
+use Rattle.std.specs.List.{slice_index_or}
+use Rattle.std.specs.Str.{is_utf8}
+use Rattle.std.specs.Prelude.{IsUtf8}
+use Rattle.std.proofs.lemmas.Str.{IsUtf8-from_is_utf8, is_utf8-from_IsUtf8}
+use Rattle.serde_json.specs.Read.{read}
+use Rattle.ucl_runs.specs.declared.moment.Moment.{Moment}
+use Rattle.std.proofs.lemmas.Bool.{cases_Bool}
+use Rattle.std.proofs.lemmas.Bool.Decides.{nat_tests}
+use Rattle.std.proofs.lemmas.List.{take-append-drop, take_more}
+use Rattle.serde_json.specs.Data.{Data}
+use Rattle.serde_json.specs.View.{items_view, view}
+use Rattle.serde_json.specs.declared.value.Value.{Value}
+use Rattle.ucl_order.specs.Roster.{NamedClub, bad_slot}
+use Rattle.ucl_board.specs.Words.{AreReadAs, IsFirstBad}
+use Rattle.ucl_screen.proofs.ReadWords.{are-read, first-bad}
+use Rattle.ucl_screen.specs.WordsRead.{read_words}
+use Rattle.ucl_screen.specs.Events.{◌>>=◌}
+use Rattle.ucl_screen.specs.Numbers.{digits_after, hex_word}
+use Rattle.ucl_screen.specs.Script.{word_of_row}
+use Rattle.ucl_runs.specs.Told.{club_told, each_told, if_read, just, listed, moment_on, moment_told, roster_told, unless_bad}
+
+-- ---- a word
+
+pub said_word : (text : List ℕ) → word_of_row 1 (record { first = codes "word"; second = codes "1"; third = text; fourth = codes "" }) ≡ hex_word text
+unfolding digits_after
+said_word text = refl
+
+-- ---- values in a row
+
+pub listed_view : (values : List Value) → listed (items_view values) ≡ map view values
+listed_view [] = refl
+listed_view (v ∷ values) = ap (λ (ds : List Data). view v ∷ ds) (listed_view values)
+
+map-then : (xs ys : List Value) → map view (xs ++ ys) ≡ map view xs ++ map view ys
+map-then [] ys = refl
+map-then (x ∷ xs) ys = ap (λ (ds : List Data). view x ∷ ds) (map-then xs ys)
+
+module _ {T : Type 0} (told : Data → Option T) where
+  join : (o q : Option T) (p r : Option (List T)) → r ≡ (p >>= λ all. q >>= λ a. Some (all ++ a ∷ []))
+      → (o >>= λ f. r >>= λ m. Some (f ∷ m)) ≡ ((o >>= λ f. p >>= λ m. Some (f ∷ m)) >>= λ all. q >>= λ a. Some (all ++ a ∷ []))
+  join None q p r e = refl
+  join (Some f) q None r e = rw e refl
+  join (Some f) None (Some all) r e = rw e refl
+  join (Some f) (Some a) (Some all) r e = rw e refl
+
+  pub told-last : (values : List Data) (value : Data) → each_told told (values ++ value ∷ []) ≡ (each_told told values >>= λ all. told value >>= λ a. Some (all ++ a ∷ []))
+  unfolding each_told
+  told-last [] value = refl
+  told-last (v ∷ values) value = join (told v) (told value) (each_told told values) (each_told told (values ++ value ∷ [])) (told-last values value)
+
+  stuck : (o : Option T) (p : Option (List T)) → p ≡ None → (o >>= λ f. p >>= λ m. Some (f ∷ m)) ≡ None
+  stuck None p e = refl
+  stuck (Some f) p e = rw e refl
+
+  pub told-none : (values more : List Data) (value : Data) → told value ≡ None → each_told told (values ++ value ∷ more) ≡ None
+  unfolding each_told
+  told-none [] more value h = rw h refl
+  told-none (v ∷ values) more value h = stuck (told v) (each_told told (values ++ value ∷ more)) (told-none values more value h)
+
+  pub told-nothing : each_told told [] ≡ Some []
+  unfolding each_told
+  told-nothing = refl
+
+  pub told-start : (values : List Value) (so_far : List T) → so_far ≡ [] → each_told told (map view (take 0 values)) ≡ Some so_far
+  told-start values so_far e = rw e (told-first values)
+    where
+      told-first : (values : List Value) → each_told told (map view (take 0 values)) ≡ Some []
+      told-first [] = told-nothing
+      told-first (v ∷ values) = told-nothing
+
+  next-at : (values : List Value) (i : ℕ) (d : Value) (so_far new : List T) (one : T) → i < length values → each_told told (map view (take i values)) ≡ Some so_far
+      → Some one ≡ told (view (get_or values i d)) → new ≡ so_far ++ one ∷ [] → each_told told (map view (take (i + 1) values)) ≡ Some new
+  next-at values i d so_far new one h so k e =
+      rw (take_more values i d h, map-then (take i values) (get_or values i d ∷ []), told-last (map view (take i values)) (view (get_or values i d)), so, ← k, e) refl
+
+  not-at : (values : List Value) (i : ℕ) (d : Value) → i < length values → None ≡ told (view (get_or values i d)) → each_told told (map view values) ≡ None
+  not-at values i d h k =
+      let parts : values ≡ (take i values ++ get_or values i d ∷ []) ++ drop (i + 1) values =
+      sym (take-append-drop (i + 1) values) ∙ ap (λ (l : List Value). l ++ drop (i + 1) values) (take_more values i d h) in
+      let all = append_assoc (take i values) (get_or values i d ∷ []) (drop (i + 1) values) in
+      ap (λ (l : List Value). each_told told (map view l)) (parts ∙ all) ∙ ap (each_told told) (map-then (take i values) (get_or values i d ∷ drop (i + 1) values))
+      ∙ told-none (map view (take i values)) (map view (drop (i + 1) values)) (view (get_or values i d)) (sym k)
+
+  -- one value more
+  pub told-next : (values : List Value) (i : ℕ) (x : Value) (so_far new : List T) (one : T) → i < length values → x ≡ get_or values i x → each_told told (map view (take i values)) ≡ Some so_far
+      → Some one ≡ told (view x) → new ≡ so_far ++ one ∷ [] → each_told told (map view (take (i + 1) values)) ≡ Some new
+  told-next values i x so_far new one h is so k e = next-at values i x so_far new one h so (k ∙ ap (λ (v : Value). told (view v)) is) e
+
+  -- a value that tells nothing
+  pub told-not : (values : List Value) (i : ℕ) (x : Value) → i < length values → x ≡ get_or values i x → None ≡ told (view x) → each_told told (map view values) ≡ None
+  told-not values i x h is k = not-at values i x h (k ∙ ap (λ (v : Value). told (view v)) is)
+
+  many : (values : List Value) → length (map view values) ≡ length values
+  many [] = refl
+  many (v ∷ values) = ap suc (many values)
+
+  pub not-told : (n : ℕ) (values : List Value) → length values ≡ n → each_told told (map view values) ≡ None → just n told (map view values) ≡ None
+  not-told n values long e = rw (many values, long, same n) e
+    where
+      same : (k : ℕ) → (k == k) ≡ true
+      same k = grind (arith, nat_tests)
+
+-- ---- four values
+
+module _ {T : Type 0} where
+  four-each : (a b c e : Option T) → (a >>= λ x. (b >>= λ y. (c >>= λ z. (e >>= λ u. Some [] >>= λ m. Some (u ∷ m)) >>= λ m. Some (z ∷ m)) >>= λ m. Some (y ∷ m)) >>= λ m. Some (x ∷ m))
+      ≡ (a >>= λ x. b >>= λ y. c >>= λ z. e >>= λ u. Some (x ∷ y ∷ z ∷ u ∷ []))
+  four-each None b c e = refl
+  four-each (Some x) None c e = refl
+  four-each (Some x) (Some y) None e = refl
+  four-each (Some x) (Some y) (Some z) None = refl
+  four-each (Some x) (Some y) (Some z) (Some u) = refl
+
+  four-told : (told : Data → Option T) (values : List Value) (d : Value) → 4 ≤ length values → length values < 5
+      → just 4 told (map view values) ≡ (told (view (get_or values 0 d)) >>= λ a. told (view (get_or values 1 d)) >>= λ b.
+      told (view (get_or values 2 d)) >>= λ c. told (view (get_or values 3 d)) >>= λ e. Some (a ∷ b ∷ c ∷ e ∷ []))
+  unfolding each_told
+  four-told told [] d some few = absurd (omega arith)
+  four-told told (p ∷ []) d some few = absurd (omega arith)
+  four-told told (p ∷ q ∷ []) d some few = absurd (omega arith)
+  four-told told (p ∷ q ∷ r ∷ []) d some few = absurd (omega arith)
+  four-told told (p ∷ q ∷ r ∷ s ∷ []) d some few = four-each (told (view p)) (told (view q)) (told (view r)) (told (view s))
+  four-told told (p ∷ q ∷ r ∷ s ∷ t ∷ more) d some few = absurd (omega arith)
+
+pub roster_good : (roster clubs : List NamedClub) → roster ≡ clubs → bad_slot clubs ≡ None → Some roster ≡ unless_bad clubs (bad_slot clubs)
+roster_good roster clubs e h = rw (e, h) refl
+
+pub roster_bad : (clubs : List NamedClub) (slot : ℕ) → bad_slot clubs ≡ Some slot → None ≡ unless_bad clubs (bad_slot clubs)
+roster_bad clubs slot h = rw h refl
+
+abbrev pub by_four : Option NamedClub → Option NamedClub → Option NamedClub → Option NamedClub → Option (List NamedClub)
+by_four o p q r = (o >>= λ a. p >>= λ b. q >>= λ c. r >>= λ e. Some (a ∷ b ∷ c ∷ e ∷ [])) >>= λ clubs. unless_bad clubs (bad_slot clubs)
+
+pub four_clubs : (values : List Value) (d : Value) → 4 ≤ length values → length values < 5
+    → roster_told (map view values) ≡ by_four (club_told (view (get_or values 0 d))) (club_told (view (get_or values 1 d)))
+    (club_told (view (get_or values 2 d))) (club_told (view (get_or values 3 d)))
+four_clubs values d some few = ap (λ (o : Option (List NamedClub)). o >>= λ clubs. unless_bad clubs (bad_slot clubs)) (four-told club_told values d some few)
+
+abbrev Club : Value → Option NamedClub
+Club value = club_told (view value)
+
+pub of-four : (values : List Value) (w x y z : Value) (o p q r : Option NamedClub) → 4 ≤ length values → length values < 5
+    → w ≡ get_or values 0 w → x ≡ get_or values 1 x → y ≡ get_or values 2 y → z ≡ get_or values 3 z
+    → o ≡ Club w → p ≡ Club x → q ≡ Club y → r ≡ Club z → by_four o p q r ≡ roster_told (map view values)
+of-four [] w x y z o p q r some few i j k l e f g h = absurd (omega arith)
+of-four (a ∷ []) w x y z o p q r some few i j k l e f g h = absurd (omega arith)
+of-four (a ∷ b ∷ []) w x y z o p q r some few i j k l e f g h = absurd (omega arith)
+of-four (a ∷ b ∷ c ∷ []) w x y z o p q r some few i j k l e f g h = absurd (omega arith)
+of-four (a ∷ b ∷ c ∷ d ∷ []) w x y z o p q r some few i j k l e f g h =
+    let first : o ≡ Club a = e ∙ ap Club i in
+    let second : p ≡ Club b = f ∙ ap Club j in
+    let third : q ≡ Club c = g ∙ ap Club k in
+    let fourth : r ≡ Club d = h ∙ ap Club l in
+    rw (first, second, third, fourth) (sym (four_clubs (a ∷ b ∷ c ∷ d ∷ []) w some few))
+of-four (a ∷ b ∷ c ∷ d ∷ t ∷ more) w x y z o p q r some few i j k l e f g h = absurd (omega arith)
+
+-- ---- twelve words
+
+pub words_read : (words board : List ℕ) → length words ≡ 12 → AreReadAs words board → Some board ≡ if_read (read_words 1 words)
+words_read words board long r = sym (ap if_read (are-read words board long r))
+
+pub words_bad : (words : List ℕ) (index : ℕ) → IsFirstBad words index → None ≡ if_read (read_words 1 words)
+words_bad words index r = sym (ap if_read (first-bad words index r))
+
+-- ---- a line
+
+test-above : (n m : ℕ) → m < n → nat_le n m ≡ false
+test-above n m h = elim (cases_Bool (nat_le n m)) [ inl y ↦ absurd (grind (arith, nat_tests)) | inr other ↦ other ]
+
+pub too-long : (line : List ℕ) → 4096 < length line → None ≡ moment_on line
+unfolding moment_on
+too-long line h = rw (test-above (length line) 4096 h) refl
+
+pub was-read : (line : List ℕ) (d : Data) → length line ≤ 4096 → IsUtf8 line → read line ≡ Some d → moment_told d ≡ moment_on line
+unfolding moment_on
+was-read line d h u e = rw (le-leb (length line) 4096 h, is_utf8-from_IsUtf8 line u, e) refl
+
+pub not-read : (line : List ℕ) → (IsUtf8 line → read line ≡ None) → None ≡ moment_on line
+unfolding moment_on
+not-read line h = elim (cases_Bool (is_utf8 line)) [
+  | inl y ↦ rw (y, h (IsUtf8-from_is_utf8 line y)) (none (nat_le (length line) 4096))
+  | inr n ↦ rw n (none-there (nat_le (length line) 4096))
+]
+  where
+    none : (b : Bool) → ◌≡◌ {A = Option Moment} None (cond (b && true) None None)
+    none true = refl
+    none false = refl
+
+    none-there : (b : Bool) → ◌≡◌ {A = Option Moment} None (cond (b && false) (option_and_then moment_told (read line)) None)
+    none-there true = refl
+    none-there false = refl

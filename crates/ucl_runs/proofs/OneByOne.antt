@@ -1,0 +1,118 @@
+-- Lines that are answered one after the other.
+use Rattle.std.proofs.Common.{◌≡◌, ℕ, ◌+◌, ◌-◌, ◌^◌, min, List, [], ◌∷◌, ◌++◌, Some, refl, sym, ap, ◌∙◌, append_assoc, append-nil, arith}
+use Rattle.std.specs.Prelude.{if◌then◌else◌, None}
+use Rattle.ucl_runs.specs.declared.live_fault.BeginningFault.TheVariants.{BadRow}
+use Rattle.ucl_io.specs.Lines.{begun_line, ended_lines}
+use Rattle.ucl_io.proofs.Cuts.{begun_append, begun_ended, ended_append}
+use Rattle.ucl_runs.specs.declared.live_fault.LiveFault.{LiveFault}
+use Rattle.ucl_runs.specs.declared.live_fault.LiveFault.TheVariants as live
+use Rattle.ucl_command.specs.declared.live.LiveArgs.{LiveArgs}
+use Rattle.ucl_runs.specs.Holding.{HasNoAnswer, HasNoEnd, after_bytes, answers_to, end_of, missing_at}
+use Rattle.ucl_runs.specs.InputLines.{last_lines, lines_of}
+use Rattle.ucl_runs.specs.LiveLaws.{BeginningsAreAnswered, ended}
+use Rattle.ucl_runs.specs.BadRows.{shown_text}
+use Rattle.ucl_runs.specs.Rows.{said_on}
+use Rattle.ucl_runs.specs.Stages.{Stage, Beginning, Naming, Restoring, Open, Refused, missing, told_row}
+use Rattle.ucl_runs.specs.LiveText.{Evening, after_lines, answer_said, answers, live_text, missing_after, missing_now, next}
+use Rattle.ucl_runs.proofs.Silence.{refused-missing}
+
+pub answers-none : (e : Evening) → answers e [] ≡ []
+unfolding answers
+answers-none e = refl
+
+pub answers-one : (e : Evening) (line : List ℕ) (lines : List (List ℕ)) → answers e (line ∷ lines) ≡ answer_said e (said_on e.row line) (shown_text line) ++ answers (next e (said_on e.row line)) lines
+unfolding answers
+answers-one e line lines = refl
+
+pub after-none : (e : Evening) → after_lines e [] ≡ e
+unfolding after_lines
+after-none e = refl
+
+pub after-one : (e : Evening) (line : List ℕ) (lines : List (List ℕ)) → after_lines e (line ∷ lines) ≡ after_lines (next e (said_on e.row line)) lines
+unfolding after_lines
+after-one e line lines = refl
+
+pub answers-append : (e : Evening) (a b : List (List ℕ)) → answers e (a ++ b) ≡ answers e a ++ answers (after_lines e a) b
+unfolding answers after_lines
+answers-append e [] b = refl
+answers-append e (line ∷ a) b =
+    let r = said_on e.row line in
+    let text = answer_said e r (shown_text line) in
+    ap (λ (l : List ℕ). text ++ l) (answers-append (next e r) a b) ∙ sym (append_assoc text (answers (next e r) a) (answers (after_lines (next e r) a) b))
+
+pub after-append : (e : Evening) (a b : List (List ℕ)) → after_lines e (a ++ b) ≡ after_lines (after_lines e a) b
+unfolding after_lines
+after-append e [] b = refl
+after-append e (line ∷ a) b = after-append (next e (said_on e.row line)) a b
+
+-- ---- one line
+
+pub answers-last : (e : Evening) (line : List ℕ) → answers e (line ∷ []) ≡ answer_said e (said_on e.row line) (shown_text line)
+answers-last e line =
+    let r = said_on e.row line in
+    let text = answer_said e r (shown_text line) in
+    answers-one e line [] ∙ ap (λ (k : List ℕ). text ++ k) (answers-none (next e r)) ∙ append-nil text
+
+pub after-last : (e : Evening) (line : List ℕ) → after_lines e (line ∷ []) ≡ next e (said_on e.row line)
+after-last e line = after-one e line [] ∙ after-none (next e (said_on e.row line))
+
+-- ---- a beginning of an input
+
+lines-append : (xs ys : List ℕ) → begun_line 258 [] xs ≡ [] → lines_of (xs ++ ys) ≡ lines_of xs ++ lines_of ys
+lines-append xs ys e =
+    rw (ended_append 258 [] xs ys, begun_append 258 [] xs ys, e)
+    (append_assoc (ended_lines 258 [] xs) (ended_lines 258 [] ys) (last_lines (begun_line 258 [] ys))
+    ∙ ap (λ (l : List (List ℕ)). l ++ lines_of ys) (sym (append-nil (ended_lines 258 [] xs))))
+
+pub text-append : (e : Evening) (xs ys : List ℕ) → begun_line 258 [] xs ≡ [] → live_text e (xs ++ ys) ≡ live_text e xs ++ live_text (after_lines e (lines_of xs)) ys
+text-append e xs ys k = ap (answers e) (lines-append xs ys k) ∙ answers-append e (lines_of xs) (lines_of ys)
+
+pub beginnings : BeginningsAreAnswered
+beginnings e bytes more = text-append e (ended bytes) more (begun_ended 258 [] bytes)
+
+-- ---- a whole input
+
+pub whole-text : (e : Evening) (bytes : List ℕ) → live_text e bytes ≡ answers_to e bytes ++ answers (after_bytes e bytes) (last_lines (begun_line 258 [] bytes))
+whole-text e bytes = answers-append e (ended_lines 258 [] bytes) (last_lines (begun_line 258 [] bytes))
+
+pub whole-end : (e : Evening) (bytes : List ℕ) → after_lines e (lines_of bytes) ≡ end_of (after_bytes e bytes) (begun_line 258 [] bytes)
+whole-end e bytes = after-append e (ended_lines 258 [] bytes) (last_lines (begun_line 258 [] bytes))
+
+pub whole-missing : (e : Evening) (bytes : List ℕ) → missing_after e bytes ≡ missing_at (after_bytes e bytes) (begun_line 258 [] bytes)
+whole-missing e bytes = ap missing_now (whole-end e bytes)
+
+-- ---- what has begun of a last line
+
+pub none-answers : (e : Evening) (begun : List ℕ) → begun ≡ [] → answers e (last_lines begun) ≡ []
+none-answers e begun none = ap (λ (l : List ℕ). answers e (last_lines l)) none ∙ answers-none e
+
+pub none-missing : (e : Evening) (begun : List ℕ) → begun ≡ [] → missing_at e begun ≡ missing e.options e.row e.stage
+none-missing e begun none = ap (λ (l : List ℕ). missing_at e l) none ∙ ap missing_now (after-none e)
+
+pub some-answers : (e : Evening) (begun : List ℕ) → (begun ≡ [] → ⊥) → answers e (last_lines begun) ≡ answer_said e (said_on e.row begun) (shown_text begun)
+some-answers e [] some = absurd (some refl)
+some-answers e (b ∷ line) some = answers-last e (b ∷ line)
+
+some-end : (e : Evening) (begun : List ℕ) → (begun ≡ [] → ⊥) → end_of e begun ≡ next e (said_on e.row begun)
+some-end e [] some = absurd (some refl)
+some-end e (b ∷ line) some = after-last e (b ∷ line)
+
+-- a greater row is told as the greatest that can be told
+told-alike : (options : LiveArgs) (a b : ℕ) (s : Stage) → told_row a ≡ told_row b → missing options a s ≡ missing options b s
+told-alike options a b Beginning e = ap (λ (n : ℕ). Some (BadRow n)) e
+told-alike options a b (Naming clubs) e = ap (λ (n : ℕ). Some (BadRow n)) e
+told-alike options a b (Restoring clubs []) e = ap (λ (n : ℕ). if options.resumed then Some (BadRow n) else None) e
+told-alike options a b (Restoring clubs (word ∷ words)) e = ap (λ (n : ℕ). Some (BadRow n)) e
+told-alike options a b (Open clubs board) e = refl
+told-alike options a b (Refused fault) e = refl
+
+-- the evening after the line is this one
+pub some-missing : (e f : Evening) (begun : List ℕ) → (begun ≡ [] → ⊥) → f ≡ next e (said_on e.row begun) → missing_at e begun ≡ missing f.options (min (e.row + 1) (2 ^ 64 - 1)) f.stage
+some-missing e f begun some is =
+    ap missing_now (some-end e begun some ∙ sym is) ∙ ap (λ (k : Evening). missing f.options k.row f.stage) is
+    ∙ told-alike f.options (e.row + 1) (min (e.row + 1) (2 ^ 64 - 1)) f.stage (omega arith)
+
+pub some-stops : (e : Evening) (begun : List ℕ) (fault : LiveFault) → (begun ≡ [] → ⊥) → HasNoAnswer e (said_on e.row begun) fault → HasNoEnd e begun fault
+some-stops e begun live.OutOfMemory some h = h
+some-stops e begun (live.Beginning why) some h =
+    ap missing_now (some-end e begun some) ∙ refused-missing e.options (e.row + 1) (next e (said_on e.row begun)).stage why h

@@ -1,0 +1,256 @@
+-- What an evening answers is plain, and short: so each of its lines tells what its value tells.
+use Rattle.std.proofs.Common.{◌≡◌, ◌∙◌, ℕ, zero, suc, ◌+◌, ◌-◌, ◌*◌, ◌/◌, ◌%◌, ◌^◌, ◌<◌, ◌≤◌, ◌&&◌, pos, negsuc, ℤ, ◌-ℤ◌, true}
+use Rattle.std.proofs.Common.{false, refl, arith, List, [], ◌∷◌, length, le-leb, inl, inr}
+use Rattle.std.specs.Prelude.{All, nat_le, nat_lt, slice_index_or}
+use Rattle.std.specs.Fmt.{digit_glyph}
+use Rattle.std.specs.List.{list_all}
+use Rattle.std.proofs.lemmas.Bool.{and_from, and_parts, cases_Bool}
+use Rattle.std.proofs.lemmas.Bool.Decides.{nat_tests}
+use Rattle.std.proofs.lemmas.List.Elements.{All-head, All-tail}
+use Rattle.std.proofs.lemmas.Int.{ints}
+use Rattle.std.proofs.lemmas.List.Sums.{count_by-le-length, sum_by-le}
+use Rattle.serde_json.specs.Find.{of_integer}
+use Rattle.serde_json.proofs.OnLiterals.{serde_json_on_literals}
+use Rattle.ucl_word.specs.declared.event.Kind.{Kind}
+use Rattle.ucl_word.specs.declared.event.Kind.TheVariants.{KickOff, Goal, Disallow, Yellow, SecondYellow, Red, FullTime, Reopen}
+use Rattle.ucl_word.specs.declared.event.Side.TheVariants.{Home, Away}
+use Rattle.ucl_word.specs.Layout.{record_at}
+use Rattle.ucl_word.specs.Names.{kind_name}
+use Rattle.ucl_word.specs.Rules.{is_in_play}
+use Rattle.ucl_word.proofs.ValidRecords.{number_valid}
+use Rattle.ucl_word.proofs.Words.{word_valid}
+use Rattle.ucl_board.specs.Fixtures.{IsSlot}
+use Rattle.ucl_board.specs.Words.{AreWords, version_of}
+use Rattle.ucl_order.specs.declared.profile.Profile.{Profile}
+use Rattle.ucl_order.specs.declared.profile.Profile.TheVariants.{Uefa, AwayInTie}
+use Rattle.ucl_order.specs.declared.mark.Mark.{Mark}
+use Rattle.ucl_order.specs.declared.mark.Mark.TheVariants.{Plus, Minus, Blank}
+use Rattle.ucl_order.specs.declared.table.Row.{Row}
+use Rattle.ucl_order.specs.Rows.{IsWithinTable, row_of, rows_of}
+use Rattle.ucl_order.proofs.KeysFit.{words_valid}
+use Rattle.ucl_order.proofs.Limits.{rows_within}
+use Rattle.ucl_order.specs.Names.{profile_name}
+use Rattle.ucl_order.specs.Roster.{IsClub, IsRoster, NamedClub, club_in, is_club, is_name, is_printed, named}
+use Rattle.ucl_screen.specs.declared.night.NightEvent.{NightEvent}
+use Rattle.ucl_screen.specs.Numbers.{hex_digits}
+use Rattle.ucl_screen.specs.Screen.{IsGroup, in_play}
+use Rattle.ucl_json.specs.Values.{accepted_value, club_items, club_value, edition_screen_value, mark_name, place_items, place_value, screen_value, word_items}
+use Rattle.ucl_runs.proofs.WordDigits.{low, word-digits}
+use Rattle.ucl_runs.specs.declared.moment.Moment.{Moment}
+use Rattle.ucl_runs.specs.Answered.{HasNumbers, IsMoment, LinesTellTheirMoment}
+use Rattle.ucl_runs.proofs.Answered.{answered, both, long}
+use Rattle.ucl_runs.proofs.ReadBack.{ArePlain, IsPlain, IsPlainNumber, IsText, items_size, size, told-by-line}
+
+-- ---- words
+
+printed-between : (x : ℕ) → 32 ≤ x → x ≤ 126 → is_printed x ≡ true
+printed-between x h k = and_from (nat_le 32 x) (nat_le x 126) (le-leb 32 x h) (le-leb x 126 k)
+
+glyph-printed : (d : ℕ) → d < 16 → is_printed (digit_glyph false d) ≡ true
+glyph-printed d h = elim (cases_Bool (nat_lt d 10)) [
+  | inl y ↦ rw y (printed-between (48 + d) (omega arith) (omega arith))
+  | inr n ↦ rw n (let high : 10 ≤ d = grind (arith, nat_tests) in printed-between (87 + d) (omega arith) (omega arith))
+]
+
+low-text : (k n : ℕ) (rest : List ℕ) → IsText rest → IsText (low k n rest)
+low-text zero n rest h = h
+low-text (suc k) n rest h =
+    low-text k (n / 16) (digit_glyph false (n % 16) ∷ rest) (and_from (is_printed (digit_glyph false (n % 16))) (list_all is_printed rest) (glyph-printed (n % 16) (omega arith)) h)
+
+-- sixteen printed digits
+word-text : (word : ℕ) → word < 2 ^ 64 → IsText (hex_digits word) × (length (hex_digits word) ≡ 16)
+word-text word h = rw (word-digits word h) (low-text 16 word [] refl, long 16 word [])
+
+abbrev pub ArePlainWords : List ℕ → Type 0
+ArePlainWords words = ArePlain 125 (word_items words) × (items_size (word_items words) ≤ 35 * length words + 1)
+
+pub words-plain : (words : List ℕ) → All (λ word. word < 2 ^ 64) words → ArePlainWords words
+words-plain [] h = (tt, omega arith)
+words-plain (word ∷ words) h =
+    let one = word-text word (All-head (λ w. w < 2 ^ 64) word words h) in
+    let more = words-plain words (All-tail (λ w. w < 2 ^ 64) word words h) in
+    ((one.0, more.0), (let l = one.1 in let m = more.1 in omega arith))
+
+version-fits : (board : List ℕ) → AreWords board → version_of board < 2 ^ 64
+version-fits board w =
+    let most : version_of board ≤ length board * 4095 =
+    sum_by-le (λ word. (record_at word).number) 4095 board (λ k d less. number_valid (record_at (slice_index_or board k d)) (word_valid (slice_index_or board k d) (w.each k d less))) in
+    let t = w.twelve in omega (arith, t, most)
+
+-- ---- clubs
+
+record IsPlainClub (club : NamedClub) : Type 0 where
+  name : IsText club.name
+  short : length club.name ≤ 20
+  coefficient : club.coefficient ≤ 999999
+
+club-plain : (club : NamedClub) → IsClub club → IsPlainClub club
+unfolding is_club
+club-plain club h =
+    let p = both (is_name club.name) (nat_le club.coefficient 999999) h in
+    let q = name-parts club.name p.0 in
+    record { name = q.1; short = q.0; coefficient = fits club.coefficient p.1 }
+  where
+    fits : (n : ℕ) → nat_le n 999999 ≡ true → n ≤ 999999
+    fits n e = grind (arith, nat_tests)
+
+    few : (n : ℕ) → nat_le n 20 ≡ true → n ≤ 20
+    few n e = grind (arith, nat_tests)
+
+    name-parts : (name : List ℕ) → is_name name ≡ true → (length name ≤ 20) × IsText name
+    name-parts name e =
+        let r = and_parts (nat_le 1 (length name) && nat_le (length name) 20) (list_all is_printed name) e in
+        let s = and_parts (nat_le 1 (length name)) (nat_le (length name) 20) r.0 in (few (length name) s.1, r.1)
+
+-- the club in a slot
+slot-plain : (clubs : List NamedClub) → IsRoster clubs → (slot : ℕ) → IsSlot slot → IsPlainClub (club_in clubs slot)
+slot-plain clubs is slot h =
+    let four = is.four in let low = h.0 in let high = h.1 in
+    club-plain (club_in clubs slot) (is.each (slot - 1) (named [] 0) (omega arith))
+
+abbrev pub ArePlainClubs : List NamedClub → Type 0
+ArePlainClubs clubs = ArePlain 125 (club_items clubs) × (items_size (club_items clubs) ≤ 481)
+
+pub clubs-plain : (clubs : List NamedClub) → IsRoster clubs → ArePlainClubs clubs
+unfolding serde_json_on_literals
+clubs-plain clubs is =
+    let w = slot-plain clubs is 1 (omega arith, omega arith) in
+    let x = slot-plain clubs is 2 (omega arith, omega arith) in
+    let y = slot-plain clubs is 3 (omega arith, omega arith) in
+    let z = slot-plain clubs is 4 (omega arith, omega arith) in
+    ((one clubs 1 w, (one clubs 2 x, (one clubs 3 y, (one clubs 4 z, tt)))), omega arith)
+  where
+    one : (clubs : List NamedClub) (slot : ℕ) → IsPlainClub (club_in clubs slot) → IsPlain 125 (club_value clubs slot)
+    one clubs slot is =
+        let c = is.coefficient in
+        let fits : (club_in clubs slot).coefficient < 2 ^ 64 = omega arith in
+        ((refl, refl), (is.name, (fits, tt)))
+
+-- ---- the answer to an accepted event
+
+group-text : (group : ℕ) → IsGroup group → IsText (group ∷ [])
+group-text group h = and_from (is_printed group) true (let l = h.0 in let m = h.1 in printed-between group (omega arith) (omega arith)) refl
+
+order-text : (profile : Profile) → IsText (profile_name profile) × (length (profile_name profile) ≤ 11)
+order-text Uefa = (refl, omega arith)
+order-text AwayInTie = (refl, omega arith)
+
+pub kind-text : (kind : Kind) → IsText (kind_name kind) × (length (kind_name kind) ≤ 18)
+kind-text KickOff = (refl, omega arith)
+kind-text (Goal Home) = (refl, omega arith)
+kind-text (Goal Away) = (refl, omega arith)
+kind-text (Disallow Home) = (refl, omega arith)
+kind-text (Disallow Away) = (refl, omega arith)
+kind-text (Yellow Home) = (refl, omega arith)
+kind-text (Yellow Away) = (refl, omega arith)
+kind-text (SecondYellow Home) = (refl, omega arith)
+kind-text (SecondYellow Away) = (refl, omega arith)
+kind-text (Red Home) = (refl, omega arith)
+kind-text (Red Away) = (refl, omega arith)
+kind-text FullTime = (refl, omega arith)
+kind-text Reopen = (refl, omega arith)
+
+pub accepted-plain : (row : ℕ) (event : NightEvent) (number : ℕ) (m : Moment) → IsMoment m → row < 2 ^ 64 → HasNumbers event → number < 2 ^ 64
+    → IsPlain 127 (accepted_value row event number m.title m.board m.roster) × (size (accepted_value row event number m.title m.board m.roster) ≤ 4096)
+unfolding accepted_value serde_json_on_literals
+accepted-plain row event number m is r fits n =
+    let words = words-plain m.board is.bits in
+    let clubs = clubs-plain m.roster is.clubs in
+    let kind = kind-text event.call.kind in
+    let order = order-text m.title.profile in
+    let group = group-text m.title.group is.letter in
+    let version = version-fits m.board is.words in
+    let edition : m.title.edition < 2 ^ 64 = let e = is.edition in omega (arith, e) in
+    let twelve = is.words.twelve in
+    let few = words.1 in
+    let four = clubs.1 in
+    let named = kind.1 in
+    let short = order.1 in (
+      (
+        (refl, refl),
+        (clubs.0, (edition, (kind.0, (fits.expected, (group, (fits.game, (n, (order.0, (refl, (fits.reporter, (r, (version, (words.0, tt))))))))))))),
+      ),
+      omega arith,
+    )
+
+-- ---- the screen
+
+difference-plain : (z : ℤ) (a b : ℕ) → z ≡ pos a -ℤ pos b → a ≤ 378 → b ≤ 378 → IsPlainNumber (of_integer z)
+difference-plain (pos n) a b e h k = omega (arith, ints)
+difference-plain (negsuc n) a b e h k = omega (arith, ints)
+
+mark-text : (mark : Mark) → IsText (mark_name mark) × (length (mark_name mark) ≤ 1)
+mark-text Plus = (refl, omega arith)
+mark-text Minus = (refl, omega arith)
+mark-text Blank = (refl, omega arith)
+
+abbrev IsPlainPlace : List NamedClub → Row → Type 0
+IsPlainPlace roster row = IsPlain 125 (place_value roster row) × (size (place_value roster row) ≤ 600)
+
+place-plain : (roster : List NamedClub) (row : Row) → IsRoster roster → IsWithinTable row → row.place ≤ 4 → IsPlainPlace roster row
+unfolding place_value serde_json_on_literals
+place-plain roster row is w four =
+    let club = slot-plain roster is row.slot w.slot in
+    let mark = mark-text row.mark in
+    let drawn : row.draws < 2 ^ 64 = let n = w.draws in omega arith in
+    let apart = difference-plain (pos row.goals_for -ℤ pos row.goals_against) row.goals_for row.goals_against refl w.goals_for w.goals_against in
+    let against : row.goals_against < 2 ^ 64 = let n = w.goals_against in omega arith in
+    let scored : row.goals_for < 2 ^ 64 = let n = w.goals_for in omega arith in
+    let lost : row.losses < 2 ^ 64 = let n = w.losses in omega arith in
+    let place : row.place < 2 ^ 64 = omega arith in
+    let played : row.played < 2 ^ 64 = let n = w.played in omega arith in
+    let points : row.points < 2 ^ 64 = let n = w.points in omega arith in
+    let slot : row.slot < 2 ^ 64 = let n = w.slot.1 in omega arith in
+    let won : row.wins < 2 ^ 64 = let n = w.wins in omega arith in
+    let short = club.short in
+    let sign = mark.1 in
+    (((refl, refl), (club.name, (drawn, (apart, (against, (scored, (lost, (mark.0, (place, (played, (points, (slot, (won, tt))))))))))))), omega arith)
+
+abbrev ArePlainPlaces : List NamedClub → List Row → Type 0
+ArePlainPlaces roster rows = ArePlain 125 (place_items roster rows) × (items_size (place_items roster rows) ≤ 2405)
+
+row-at : (profile : Profile) (board : List ℕ) (roster : List NamedClub) (place : ℕ) → place ≤ 4 → (row_of profile board roster place).place ≤ 4
+unfolding row_of
+row-at profile board roster place h = h
+
+places-plain : (profile : Profile) (board : List ℕ) (roster : List NamedClub) → IsRoster roster → AreWords board → ArePlainPlaces roster (rows_of profile board roster)
+places-plain profile board roster is words =
+    let within = rows_within profile board roster (words_valid board words) in
+    let row = row_of profile board roster in
+    let at = row-at profile board roster in
+    let w = place-plain roster (row 1) is (within 0 (row 1) (omega arith)) (at 1 (omega arith)) in
+    let x = place-plain roster (row 2) is (within 1 (row 1) (omega arith)) (at 2 (omega arith)) in
+    let y = place-plain roster (row 3) is (within 2 (row 1) (omega arith)) (at 3 (omega arith)) in
+    let z = place-plain roster (row 4) is (within 3 (row 1) (omega arith)) (at 4 (omega arith)) in
+    ((w.0, (x.0, (y.0, (z.0, tt)))), (let a = w.1 in let b = x.1 in let c = y.1 in let d = z.1 in omega arith))
+
+pub screen-plain : (row : ℕ) (m : Moment) → IsMoment m → row < 2 ^ 64
+    → IsPlain 127 (edition_screen_value row m.title m.board m.roster) × (size (edition_screen_value row m.title m.board m.roster) ≤ 4096)
+unfolding edition_screen_value screen_value serde_json_on_literals
+screen-plain row m is r =
+    let words = words-plain m.board is.bits in
+    let clubs = clubs-plain m.roster is.clubs in
+    let order = order-text m.title.profile in
+    let group = group-text m.title.group is.letter in
+    let places = places-plain m.title.profile m.board m.roster is.clubs is.words in
+    let version = version-fits m.board is.words in
+    let edition : m.title.edition < 2 ^ 64 = let e = is.edition in omega (arith, e) in
+    let twelve = is.words.twelve in
+    let playing = count_by-le-length (λ word. is_in_play (record_at word).state) m.board in
+    let now : in_play m.board < 2 ^ 64 = omega (arith, twelve, playing) in
+    let few = words.1 in
+    let four = clubs.1 in
+    let short = order.1 in
+    let table = places.1 in
+    (((refl, refl), (clubs.0, (edition, (group, (now, (order.0, (refl, (r, (places.0, (version, (words.0, tt))))))))))), omega arith)
+
+-- ---- their lines
+
+pub told-lines : LinesTellTheirMoment
+told-lines row event number m is r fits n =
+    let reply = accepted-plain row event number m is r fits n in
+    let screen = screen-plain row m is r in
+    let told = answered row event number m is in record {
+      reply = told-by-line (accepted_value row event number m.title m.board m.roster) reply.0 reply.1 ∙ told.reply;
+      screen = told-by-line (edition_screen_value row m.title m.board m.roster) screen.0 screen.1 ∙ told.screen;
+    }

@@ -1,0 +1,296 @@
+-- The text of a plain value: it is read as that value, has ASCII alone, and is no longer than its parts.
+use Rattle.std.proofs.Common.{◌≡◌, ◌∙◌, ℕ, zero, suc, ◌+◌, ◌*◌, ◌^◌, ◌<◌, ◌≤◌, ◌&&◌, pos, negsuc, Bool, true, false, refl, sym, ap, arith}
+use Rattle.std.proofs.Common.{List, [], ◌∷◌, ◌++◌, length, append-nil, length-append, Some, inl, inr}
+use Rattle.std.specs.Prelude.{⊤, All, decimal, option_map, nat_le}
+use Rattle.std.specs.List.{list_all}
+use Rattle.std.proofs.lemmas.Bool.{and_parts, cases_eq}
+use Rattle.std.proofs.lemmas.Bool.Decides.{nat_tests}
+use Rattle.std.proofs.lemmas.Fmt.{IsAscii-decimal, length-decimal-le}
+use Rattle.std.proofs.lemmas.List.Elements.{All-append, All-cons, All-nil}
+use Rattle.std.proofs.lemmas.Str.{IsUtf8-from_ascii}
+use Rattle.std.proofs.lemmas.Str.Ascii.{All-from_ascii, IsAscii-from_all}
+use Rattle.json.specs.Json as json
+use Rattle.json.specs.Lex.{tokens}
+use Rattle.json.specs.Print.{escape, escape_byte, quoted}
+use Rattle.json.specs.Tree as tree
+use Rattle.json.proofs.Printed.Strings.{escape_byte_plain}
+use Rattle.json.proofs.Printed.Decimals.{IsNumber-decimal, IsNumber-signed_decimal}
+use Rattle.json.proofs.Printed.Tokens.{tokens-print}
+use Rattle.json.proofs.Printed.Trees.{ArePrintable-json_tokens, value-json_tokens}
+use Rattle.serde_json.specs.Data.{Num, unsigned, negative, float, Data, null, boolean, number, string, array, object, Items, no_items, item, Members, no_members, member, put}
+use Rattle.serde_json.specs.Read.{number_of, of_json, of_items, of_members, read}
+use Rattle.serde_json.specs.Written.{compact_text, items_text, members_text, number_text, comma_if, outline, items_outline, members_outline}
+use Rattle.serde_json.proofs.Numbers.{number_of-decimal, number_of-negative}
+use Rattle.serde_json.proofs.Texts.{print-outline}
+use Rattle.ucl_order.specs.Roster.{is_printed}
+use Rattle.ucl_runs.specs.Told.{moment_on, moment_told}
+use Rattle.ucl_runs.proofs.Members.{was-read}
+
+abbrev pub IsText : List ℕ → Type 0
+IsText s = list_all is_printed s ≡ true
+
+abbrev pub IsPlainNumber : Num → Type 0
+IsPlainNumber (unsigned n) = n < 2 ^ 64
+IsPlainNumber (negative (pos n)) = ⊥
+IsPlainNumber (negative (negsuc n)) = suc n < 2 ^ 63
+IsPlainNumber (float x) = ⊥
+
+-- members that are put to others, one after the other
+abbrev pub put_all : Members → Members → Members
+put_all no_members found = found
+put_all (member k d ms) found = put_all ms (put k d found)
+
+-- whether each key is a text
+abbrev pub have_texts : Members → Bool
+have_texts no_members = true
+have_texts (member k d ms) = list_all is_printed k && have_texts ms
+
+-- members have texts for keys, each once, in order
+abbrev pub AreInOrder : Members → Type 0
+AreInOrder ms = (put_all ms no_members ≡ ms) × (have_texts ms ≡ true)
+
+-- its numbers fit, its texts are printed bytes, its objects have their members in order, and it nests so deep at most
+abbrev mutual
+  pub IsPlain : ℕ → Data → Type 0
+  IsPlain deep null = ⊥
+  IsPlain deep (boolean b) = ⊥
+  IsPlain deep (number n) = IsPlainNumber n
+  IsPlain deep (string s) = IsText s
+  IsPlain zero (array ds) = ⊥
+  IsPlain (suc deep) (array ds) = ArePlain deep ds
+  IsPlain zero (object ms) = ⊥
+  IsPlain (suc deep) (object ms) = AreInOrder ms × HavePlain deep ms
+
+  pub ArePlain : ℕ → Items → Type 0
+  ArePlain deep no_items = ⊤
+  ArePlain deep (item d ds) = IsPlain deep d × ArePlain deep ds
+
+  pub HavePlain : ℕ → Members → Type 0
+  HavePlain deep no_members = ⊤
+  HavePlain deep (member k d ms) = IsPlain deep d × HavePlain deep ms
+
+-- ---- reading
+
+numeral : (n : Num) → IsPlainNumber n → number_of (number_text n) ≡ Some n
+numeral (unsigned n) h = number_of-decimal n h
+numeral (negative (pos n)) h = absurd h
+numeral (negative (negsuc n)) h = number_of-negative n (omega arith)
+numeral (float x) h = absurd h
+
+mutual
+  value-back : (deep : ℕ) (d : Data) → IsPlain deep d → of_json (outline d) ≡ Some d
+  value-back deep null h = absurd h
+  value-back deep (boolean b) h = absurd h
+  value-back deep (number n) h = ap (option_map number) (numeral n h)
+  value-back deep (string s) h = refl
+  value-back zero (array ds) h = absurd h
+  value-back (suc deep) (array ds) h = ap (option_map array) (items-back deep ds h)
+  value-back zero (object ms) h = absurd h
+  value-back (suc deep) (object ms) h = ap (option_map object) (members-back deep ms no_members h.1 ∙ ap Some h.0.0)
+
+  items-back : (deep : ℕ) (ds : Items) → ArePlain deep ds → of_items (items_outline ds) ≡ Some ds
+  items-back deep no_items h = refl
+  items-back deep (item d ds) h = rw (value-back deep d h.0, items-back deep ds h.1) refl
+
+  members-back : (deep : ℕ) (ms found : Members) → HavePlain deep ms → of_members (members_outline ms) found ≡ Some (put_all ms found)
+  members-back deep no_members found h = refl
+  members-back deep (member k d ms) found h = rw (value-back deep d h.0) (members-back deep ms (put k d found) h.1)
+
+number-is : (n : Num) → IsPlainNumber n → tree.HasNumbers (json.number (number_text n))
+number-is (unsigned n) h = IsNumber-decimal n h
+number-is (negative (pos n)) h = absurd h
+number-is (negative (negsuc n)) h = IsNumber-signed_decimal (negsuc n) (omega arith)
+number-is (float x) h = absurd h
+
+mutual
+  value-numbers : (deep : ℕ) (d : Data) → IsPlain deep d → tree.HasNumbers (outline d)
+  value-numbers deep null h = absurd h
+  value-numbers deep (boolean b) h = absurd h
+  value-numbers deep (number n) h = number-is n h
+  value-numbers deep (string s) h = tt
+  value-numbers zero (array ds) h = absurd h
+  value-numbers (suc deep) (array ds) h = items-numbers deep ds h
+  value-numbers zero (object ms) h = absurd h
+  value-numbers (suc deep) (object ms) h = members-numbers deep ms h.1
+
+  items-numbers : (deep : ℕ) (ds : Items) → ArePlain deep ds → tree.ItemsHaveNumbers (items_outline ds)
+  items-numbers deep no_items h = tt
+  items-numbers deep (item d ds) h = (value-numbers deep d h.0, items-numbers deep ds h.1)
+
+  members-numbers : (deep : ℕ) (ms : Members) → HavePlain deep ms → tree.MembersHaveNumbers (members_outline ms)
+  members-numbers deep no_members h = tt
+  members-numbers deep (member k d ms) h = (value-numbers deep d h.0, members-numbers deep ms h.1)
+
+mutual
+  value-depth : (deep : ℕ) (d : Data) → IsPlain deep d → tree.depth (outline d) ≤ deep
+  value-depth deep null h = absurd h
+  value-depth deep (boolean b) h = absurd h
+  value-depth deep (number n) h = omega arith
+  value-depth deep (string s) h = omega arith
+  value-depth zero (array ds) h = absurd h
+  value-depth (suc deep) (array ds) h = let i = items-depth deep ds h in omega arith
+  value-depth zero (object ms) h = absurd h
+  value-depth (suc deep) (object ms) h = let i = members-depth deep ms h.1 in omega arith
+
+  items-depth : (deep : ℕ) (ds : Items) → ArePlain deep ds → tree.items_depth (items_outline ds) ≤ deep
+  items-depth deep no_items h = omega arith
+  items-depth deep (item d ds) h = let i = value-depth deep d h.0 in let j = items-depth deep ds h.1 in omega arith
+
+  members-depth : (deep : ℕ) (ms : Members) → HavePlain deep ms → tree.members_depth (members_outline ms) ≤ deep
+  members-depth deep no_members h = omega arith
+  members-depth deep (member k d ms) h = let i = value-depth deep d h.0 in let j = members-depth deep ms h.1 in omega arith
+
+pub reads : (d : Data) → IsPlain 127 d → read (compact_text d) ≡ Some d
+reads d h =
+    let same : tokens (compact_text d) ≡ tree.json_tokens (outline d) =
+    ap tokens (sym (print-outline d)) ∙ tokens-print (tree.json_tokens (outline d)) (ArePrintable-json_tokens (outline d) (value-numbers 127 d h)) in
+    let whole : json.value 127 (tokens (compact_text d)) ≡ Some (outline d, []) =
+    ap (json.value 127) (same ∙ sym (append-nil (tree.json_tokens (outline d)))) ∙ value-json_tokens (outline d) 127 [] (value-depth 127 d h) in
+    rw whole (value-back 127 d h)
+
+-- ---- its bytes
+
+abbrev mutual
+  pub size : Data → ℕ
+  size null = 4
+  size (boolean b) = 5
+  size (number n) = 21
+  size (string s) = 2 * length s + 2
+  size (array ds) = 1 + items_size ds
+  size (object ms) = 1 + members_size ms
+
+  pub items_size : Items → ℕ
+  items_size no_items = 1
+  items_size (item d ds) = 1 + (size d + items_size ds)
+
+  pub members_size : Members → ℕ
+  members_size no_members = 1
+  members_size (member k d ms) = 1 + ((2 * length k + 2) + (1 + (size d + members_size ms)))
+
+pub record IsShort (text : List ℕ) (n : ℕ) : Type 0 where
+  pub ascii : All (λ b. b < 128) text
+  pub short : length text ≤ n
+
+then : (a b : List ℕ) (m n : ℕ) → IsShort a m → IsShort b n → IsShort (a ++ b) (m + n)
+then a b m n p q = record {
+  ascii = All-append (λ x. x < 128) a b p.ascii q.ascii;
+  short = let l = length-append a b in let i = p.short in let j = q.short in omega arith;
+}
+
+pub first : (b : ℕ) (text : List ℕ) (n : ℕ) → b < 128 → IsShort text n → IsShort (b ∷ text) (1 + n)
+first b text n h p = record { ascii = All-cons (λ x. x < 128) b text h p.ascii; short = let i = p.short in omega arith }
+
+none : IsShort [] 0
+none = record { ascii = All-nil (λ x. x < 128); short = omega arith }
+
+pub wider : (text : List ℕ) (m n : ℕ) → m ≤ n → IsShort text m → IsShort text n
+wider text m n h p = record { ascii = p.ascii; short = let i = p.short in omega arith }
+
+pub digits-short : (k n : ℕ) → 0 < k → n < 10 ^ k → n < 2 ^ 64 → IsShort (decimal n) k
+digits-short k n some few h = record { ascii = All-from_ascii (decimal n) (IsAscii-decimal n h); short = length-decimal-le k n some few h }
+
+number-short : (n : Num) → IsPlainNumber n → IsShort (number_text n) 21
+number-short (unsigned n) h = wider (decimal n) 20 21 (omega arith) (digits-short 20 n (omega arith) (omega arith) h)
+number-short (negative (pos n)) h = absurd h
+number-short (negative (negsuc n)) h = first 45 (decimal (suc n)) 20 (omega arith) (digits-short 20 (suc n) (omega arith) (omega arith) (omega arith))
+number-short (float x) h = absurd h
+
+quote : IsShort (escape_byte 34) 2
+unfolding escape_byte
+quote = first 92 (34 ∷ []) 1 (omega arith) (first 34 [] 0 (omega arith) none)
+
+slash : IsShort (escape_byte 92) 2
+unfolding escape_byte
+slash = first 92 (92 ∷ []) 1 (omega arith) (first 92 [] 0 (omega arith) none)
+
+in-range : (x : ℕ) → is_printed x ≡ true → (32 ≤ x) × (x ≤ 126)
+in-range x h = let p = and_parts (nat_le 32 x) (nat_le x 126) h in (grind (arith, nat_tests), grind (arith, nat_tests))
+
+escaped-byte : (x : ℕ) → is_printed x ≡ true → IsShort (escape_byte x) 2
+escaped-byte x h =
+    let r = in-range x h in
+    elim (cases_eq x 34) [
+      | inl q ↦ rw q quote
+      | inr a ↦ elim (cases_eq x 92) [
+        | inl b ↦ rw b slash
+        | inr c ↦ rw (escape_byte_plain x a c r.0) (wider (x ∷ []) 1 2 (omega arith) (first x [] 0 (omega arith) none))
+      ]
+    ]
+
+escaped : (s : List ℕ) → IsText s → IsShort (escape s) (2 * length s)
+escaped [] h = none
+escaped (x ∷ s) h =
+    let p = and_parts (is_printed x) (list_all is_printed s) h in
+    wider (escape_byte x ++ escape s) (2 + 2 * length s) (2 * length (x ∷ s)) (omega arith) (then (escape_byte x) (escape s) 2 (2 * length s) (escaped-byte x p.0) (escaped s p.1))
+
+pub in-quotes : (s : List ℕ) → IsText s → IsShort (quoted s) (2 * length s + 2)
+in-quotes s h =
+    wider (quoted s) (1 + (2 * length s + 1)) (2 * length s + 2) (omega arith)
+    (first 34 (escape s ++ 34 ∷ []) (2 * length s + 1) (omega arith) (then (escape s) (34 ∷ []) (2 * length s) 1 (escaped s h) (first 34 [] 0 (omega arith) none)))
+
+comma : (later : Bool) → IsShort (comma_if later) 1
+comma true = first 44 [] 0 (omega arith) none
+comma false = wider [] 0 1 (omega arith) none
+
+-- elements, and members, after others or not
+
+pub record AreShortItems (ds : Items) (n : ℕ) : Type 0 where
+  pub short : (later : Bool) → IsShort (items_text later ds) n
+
+pub record AreShortMembers (ms : Members) (n : ℕ) : Type 0 where
+  pub short : (later : Bool) → IsShort (members_text later ms) n
+
+pub no-item : AreShortItems no_items 1
+no-item = record { short = λ later. first 93 [] 0 (omega arith) none }
+
+pub with-item : {ds : Items} {n m : ℕ} (d : Data) → IsShort (compact_text d) n → AreShortItems ds m → AreShortItems (item d ds) (1 + (n + m))
+with-item {ds} {n} {m} d p q = record {
+  short = λ later. then (comma_if later) (compact_text d ++ items_text true ds) 1 (n + m) (comma later) (then (compact_text d) (items_text true ds) n m p (q.short true));
+}
+
+pub no-member : AreShortMembers no_members 1
+no-member = record { short = λ later. first 125 [] 0 (omega arith) none }
+
+pub with-member : {ms : Members} {n m : ℕ} (k : List ℕ) (d : Data) → IsText k → IsShort (compact_text d) n → AreShortMembers ms m
+    → AreShortMembers (member k d ms) (1 + ((2 * length k + 2) + (1 + (n + m))))
+with-member {ms} {n} {m} k d key p q =
+    let rest = compact_text d ++ members_text true ms in record {
+      short = λ later. then (comma_if later) (quoted k ++ 58 ∷ rest) 1 ((2 * length k + 2) + (1 + (n + m))) (comma later)
+          (then (quoted k) (58 ∷ rest) (2 * length k + 2) (1 + (n + m)) (in-quotes k key)
+          (first 58 rest (n + m) (omega arith) (then (compact_text d) (members_text true ms) n m p (q.short true))));
+    }
+
+pub short-array : {ds : Items} {n : ℕ} → AreShortItems ds n → IsShort (compact_text (array ds)) (1 + n)
+short-array {ds} {n} p = first 91 (items_text false ds) n (omega arith) (p.short false)
+
+pub short-object : {ms : Members} {n : ℕ} → AreShortMembers ms n → IsShort (compact_text (object ms)) (1 + n)
+short-object {ms} {n} p = first 123 (members_text false ms) n (omega arith) (p.short false)
+
+mutual
+  value-short : (deep : ℕ) (d : Data) → IsPlain deep d → IsShort (compact_text d) (size d)
+  value-short deep null h = absurd h
+  value-short deep (boolean b) h = absurd h
+  value-short deep (number n) h = number-short n h
+  value-short deep (string s) h = in-quotes s h
+  value-short zero (array ds) h = absurd h
+  value-short (suc deep) (array ds) h = short-array (items-short deep ds h)
+  value-short zero (object ms) h = absurd h
+  value-short (suc deep) (object ms) h = short-object (members-short deep ms h.0.1 h.1)
+
+  pub items-short : (deep : ℕ) (ds : Items) → ArePlain deep ds → AreShortItems ds (items_size ds)
+  items-short deep no_items h = no-item
+  items-short deep (item d ds) h = with-item d (value-short deep d h.0) (items-short deep ds h.1)
+
+  members-short : (deep : ℕ) (ms : Members) → have_texts ms ≡ true → HavePlain deep ms → AreShortMembers ms (members_size ms)
+  members-short deep no_members k h = no-member
+  members-short deep (member k d ms) texts h =
+      let keys = and_parts (list_all is_printed k) (have_texts ms) texts in
+      with-member k d keys.0 (value-short deep d h.0) (members-short deep ms keys.1 h.1)
+
+-- ---- the moment of its line
+
+pub told-if-short : (d : Data) → IsPlain 127 d → IsShort (compact_text d) 4096 → moment_on (compact_text d) ≡ moment_told d
+told-if-short d h p = sym (was-read (compact_text d) d p.short (IsUtf8-from_ascii (compact_text d) (IsAscii-from_all (compact_text d) p.ascii)) (reads d h))
+
+pub told-by-line : (d : Data) → IsPlain 127 d → size d ≤ 4096 → moment_on (compact_text d) ≡ moment_told d
+told-by-line d h few = told-if-short d h (wider (compact_text d) (size d) 4096 few (value-short 127 d h))

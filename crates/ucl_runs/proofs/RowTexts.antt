@@ -1,0 +1,470 @@
+-- The rows by which an evening goes on, byte by byte.
+use Rattle.std.proofs.Common.{◌≡◌, ◌∙◌, ℕ, zero, suc, ◌+◌, ◌-◌, ◌*◌, ◌/◌, ◌%◌, ◌^◌, ◌<◌, ◌≤◌, ◌&&◌, ◌==◌, true, false, refl, sym, ap, subst, arith, List, [], ◌∷◌, ◌++◌, codes}
+use Rattle.std.proofs.Common.{length, drop, get_or, Some, le-leb, leb-true, ne_eqb, inl, inr, append_assoc, length-append}
+use Rattle.std.specs.Prelude.{decimal, flat_map, nat_le, nat_lt, not}
+use Rattle.std.specs.Fmt.{digit_glyph}
+use Rattle.std.specs.List.{list_all}
+use Rattle.std.specs.Str.{bytes_eq}
+use Rattle.std.proofs.lemmas.Bool.{cases_Bool, eqb-true}
+use Rattle.std.proofs.lemmas.Bool.Decides.{nat_tests}
+use Rattle.std.proofs.lemmas.Fmt.{decimal_by_steps, decimal_digit, decimal_nonempty, length-decimal-le}
+use Rattle.std.proofs.lemmas.Slice.Eq.{bytes_eq-Decides}
+use Rattle.csv.proofs.RoundTrip.{quoted-run}
+use Rattle.csv.specs.Machine.{next_record}
+use Rattle.csv.specs.Reading.{default_config, records, strip_bom}
+use Rattle.csv.specs.Writing.{default_writer, escaped}
+use Rattle.csv.specs.declared.parser.State.TheVariants as st
+use Rattle.ucl_order.specs.Roster.{IsClub, NamedClub, club_in, is_club, is_name, is_printed}
+use Rattle.ucl_screen.specs.Numbers.{hex_digits}
+use Rattle.ucl_runs.specs.Lines.{word_line}
+use Rattle.ucl_screen.specs.Numbers.{digits_after, is_digit, number}
+use Rattle.ucl_screen.specs.Rows.{FourFields}
+use Rattle.ucl_screen.specs.Script.{club_of, word_of_row}
+use Rattle.ucl_screen.proofs.Digits.{number-is}
+use Rattle.ucl_io.specs.Lines.{HasNoFeed}
+use Rattle.ucl_runs.specs.Reading.{AreJoining, EndsRow, IsBehindEnds, IsFieldBefore, is_joining}
+use Rattle.ucl_runs.specs.Rows.{Row, fits, of_rows, row_by_text, said_by_text}
+use Rattle.ucl_runs.proofs.PlainRows.{at-ends, before-comma, plain_row}
+use Rattle.ucl_runs.proofs.RowBytes.{between-same, skip-one}
+use Rattle.ucl_runs.proofs.WordDigits.{low, word-digits}
+use Rattle.ucl_order.specs.declared.profile.Profile.{Profile}
+use Rattle.ucl_order.specs.declared.profile.Profile.TheVariants.{Uefa, AwayInTie}
+use Rattle.ucl_order.specs.Names.{profile_name, profile_named}
+use Rattle.ucl_screen.specs.Screen.{IsGroup}
+use Rattle.ucl_json.specs.declared.title.Title.{Title}
+use Rattle.ucl_runs.specs.Titles.{title_by}
+use Rattle.ucl_runs.specs.Follow.{club_row, group_row, in_quotes}
+use Rattle.ucl_runs.proofs.Answered.{both, long, word-back}
+
+-- ---- bytes that join a field
+
+joining-then : (xs ys : List ℕ) → AreJoining xs → AreJoining ys → AreJoining (xs ++ ys)
+joining-then [] ys a b = b
+joining-then (x ∷ xs) ys a b = (a.0, joining-then xs ys a.1 b)
+
+above-marks : (b : ℕ) → 48 ≤ b → is_joining b ≡ true
+above-marks b h =
+    let comma = ne_eqb b 44 (λ e. omega arith) in
+    let quote = ne_eqb b 34 (λ e. omega arith) in
+    let return = ne_eqb b 13 (λ e. omega arith) in
+    let feed = ne_eqb b 10 (λ e. omega arith) in
+    rw (comma, quote, return, feed) refl
+
+-- numbers in decimal
+
+decimal-joins : (n : ℕ) → n < 2 ^ 64 → AreJoining (decimal n)
+decimal-joins = decimal_by_steps (λ n ds. AreJoining ds) (λ n h. (above-marks (48 + n) (omega arith), tt))
+    (λ n ds h before. joining-then ds ((48 + n % 10) ∷ []) before (above-marks (48 + n % 10) (omega arith), tt))
+
+is-digit : (d : ℕ) → d < 10 → is_digit (48 + d) ≡ true
+is-digit d h = rw (le-leb 48 (48 + d) (omega arith), le-leb (48 + d) 57 (omega arith)) refl
+
+one-digit : (a d : ℕ) (rest : List ℕ) → d < 10 → digits_after a ((48 + d) ∷ rest) ≡ digits_after (10 * a + d) rest
+unfolding digits_after
+one-digit a d rest h = let less : 48 + d - 48 ≡ d = omega arith in rw (is-digit d h, less) refl
+
+none-left : (a : ℕ) → digits_after a [] ≡ Some a
+unfolding digits_after
+none-left a = refl
+
+last-digit : (ds : List ℕ) (a m d : ℕ) → d < 10 → digits_after a ds ≡ Some m → digits_after a (ds ++ (48 + d) ∷ []) ≡ Some (10 * m + d)
+unfolding digits_after
+last-digit [] a m d h e = let same : a ≡ m = cc in one-digit a d [] h ∙ none-left (10 * a + d) ∙ ap (λ (n : ℕ). Some (10 * n + d)) same
+last-digit (b ∷ ds) a m d h e = elim (cases_Bool (is_digit b)) [
+  | inl y ↦ rw y (last-digit ds (10 * a + (b - 48)) m d h (rw y at e))
+  | inr n ↦ cc (rw n at e)
+]
+
+decimal-back : (n : ℕ) → n < 2 ^ 64 → digits_after 0 (decimal n) ≡ Some n
+decimal-back = decimal_by_steps (λ n ds. digits_after 0 ds ≡ Some n)
+    (λ n h. one-digit 0 n [] h ∙ none-left (10 * 0 + n) ∙ ap (λ (k : ℕ). Some k) (omega arith))
+    (λ n ds h before. last-digit ds 0 (n / 10) (n % 10) (omega arith) before ∙ ap (λ (k : ℕ). Some k) (omega arith))
+
+number-back : (most n : ℕ) → 0 < most → n < 10 ^ most → n < 2 ^ 64 → number most (decimal n) ≡ Some n
+number-back most n some few small =
+    let one = decimal_nonempty n small in
+    number-is most (decimal n) (omega arith) (length-decimal-le most n some few small) ∙ decimal-back n small
+
+-- words in hexadecimal
+
+glyph-joins : (d : ℕ) → is_joining (digit_glyph false d) ≡ true
+glyph-joins d = elim (cases_Bool (nat_lt d 10)) [
+  | inl y ↦ rw y (above-marks (48 + d) (omega arith))
+  | inr n ↦ rw n (above-marks (87 + d) (omega arith))
+]
+
+low-joins : (k n : ℕ) (rest : List ℕ) → AreJoining rest → AreJoining (low k n rest)
+low-joins zero n rest h = h
+low-joins (suc k) n rest h = low-joins k (n / 16) (digit_glyph false (n % 16) ∷ rest) (glyph-joins (n % 16), h)
+
+hex-joins : (word : ℕ) → word < 2 ^ 64 → AreJoining (hex_digits word)
+hex-joins word h = subst AreJoining (sym (word-digits word h)) (low-joins 16 word [] tt)
+
+hex-long : (word : ℕ) → word < 2 ^ 64 → length (hex_digits word) ≡ 16
+hex-long word h = ap (λ (l : List ℕ). length l) (word-digits word h) ∙ long 16 word []
+
+-- ---- fields
+
+club-before : (rest : List ℕ) → IsFieldBefore (codes "club," ++ rest) (codes "club") rest
+unfolding next_record
+club-before rest = record { begins = refl; reads = λ fields. refl }
+
+word-before : (rest : List ℕ) → IsFieldBefore (codes "word," ++ rest) (codes "word") rest
+unfolding next_record
+word-before rest = record { begins = refl; reads = λ fields. refl }
+
+group-before : (rest : List ℕ) → IsFieldBefore (codes "group," ++ rest) (codes "group") rest
+unfolding next_record
+group-before rest = record { begins = refl; reads = λ fields. refl }
+
+-- a name in quotes
+
+same-escaped : (name : List ℕ) → flat_map in_quotes name ≡ escaped default_writer name
+unfolding escaped
+same-escaped [] = refl
+same-escaped (b ∷ name) = elim (cases_Bool (b == 34)) [
+  | inl y ↦
+      let e : 34 ≡ b = sym (eqb-true b 34 y) in
+      rw y (ap (λ (l : List ℕ). 34 ∷ 34 ∷ l) (same-escaped name) ∙ ap (λ (z : ℕ). 34 ∷ z ∷ escaped default_writer name) e)
+  | inr n ↦ rw n (ap (λ (l : List ℕ). b ∷ l) (same-escaped name))
+]
+
+quoted-reads : (name rest : List ℕ) (fields : List (List ℕ)) → next_record default_config st.StartField fields [] (34 ∷ (flat_map in_quotes name ++ 34 ∷ 44 ∷ rest))
+    ≡ next_record default_config st.StartField (fields ++ name ∷ []) [] rest
+unfolding next_record
+quoted-reads name rest fields =
+    ap (λ (l : List ℕ). next_record default_config st.InQuoted fields [] (l ++ 34 ∷ 44 ∷ rest)) (same-escaped name) ∙ quoted-run fields [] name (44 ∷ rest)
+
+quoted-before : (name rest : List ℕ) → IsFieldBefore (34 ∷ (flat_map in_quotes name ++ 34 ∷ 44 ∷ rest)) name rest
+quoted-before name rest = record { begins = refl; reads = quoted-reads name rest }
+
+-- the last field
+
+behind-feed : IsBehindEnds (10 ∷ []) []
+behind-feed = record { same = λ s h. between-same s (10 ∷ []) h ∙ skip-one 10 [] refl; begins = inl refl }
+
+at-end : (xs : List ℕ) → AreJoining xs → EndsRow (xs ++ 10 ∷ []) xs
+at-end xs h = at-ends xs (10 ∷ []) h behind-feed
+
+-- ---- line feeds
+
+no-feed-then : (xs ys : List ℕ) → HasNoFeed xs → HasNoFeed ys → HasNoFeed (xs ++ ys)
+no-feed-then [] ys a b = b
+no-feed-then (x ∷ xs) ys a b = (a.0, no-feed-then xs ys a.1 b)
+
+joining-clear : (xs : List ℕ) → AreJoining xs → HasNoFeed xs
+joining-clear [] h = tt
+joining-clear (x ∷ xs) h = (λ e. cc (rw e at h.0), joining-clear xs h.1)
+
+test-clear : (xs : List ℕ) → list_all (λ b. not (b == 10)) xs ≡ true → HasNoFeed xs
+test-clear [] h = tt
+test-clear (x ∷ xs) h = let p = both (not (x == 10)) (list_all (λ b. not (b == 10)) xs) h in (λ e. cc (rw e at p.0), test-clear xs p.1)
+
+printed-clear : (b : ℕ) → is_printed b ≡ true → b ≡ 10 → ⊥
+printed-clear b h e = cc (rw e at h)
+
+quotes-clear : (b : ℕ) → is_printed b ≡ true → HasNoFeed (in_quotes b)
+quotes-clear b h = elim (cases_Bool (b == 34)) [
+  | inl y ↦ rw y (test-clear (34 ∷ 34 ∷ []) refl)
+  | inr n ↦ rw n (printed-clear b h, tt)
+]
+
+name-clear : (name : List ℕ) → list_all is_printed name ≡ true → HasNoFeed (flat_map in_quotes name)
+name-clear [] h = tt
+name-clear (b ∷ name) h =
+    let p = both (is_printed b) (list_all is_printed name) h in
+    no-feed-then (in_quotes b) (flat_map in_quotes name) (quotes-clear b p.0) (name-clear name p.1)
+
+-- ---- lengths
+
+quotes-long : (b : ℕ) → length (in_quotes b) ≤ 2
+quotes-long b = elim (cases_Bool (b == 34)) [ inl y ↦ rw y (omega arith) | inr n ↦ rw n (omega arith) ]
+
+name-long : (name : List ℕ) → length (flat_map in_quotes name) ≤ 2 * length name
+name-long [] = omega arith
+name-long (b ∷ name) =
+    let whole = length-append (in_quotes b) (flat_map in_quotes name) in
+    let one = quotes-long b in
+    let rest = name-long name in
+    omega arith
+
+fits-short : (text : List ℕ) → length text ≤ 257 → fits text ≡ true
+fits-short text h = elim (cases_Bool (get_or text (length text - 2) 0 == 13)) [
+  | inl y ↦ rw y (le-leb (length text) 258 (omega arith))
+  | inr n ↦ rw n (le-leb (length text) 257 h)
+]
+
+said-short : (row : ℕ) (text : List ℕ) (f : FourFields) → length text ≤ 257 → strip_bom text ≡ text → of_rows (records default_config text) ≡ Row f → said_by_text row text ≡ Row f
+unfolding row_by_text
+said-short row text f few unmarked is = rw (fits-short text few) (elim (cases_Bool (row == 1)) [ inl y ↦ rw (y, unmarked) is | inr n ↦ rw n is ])
+
+-- ---- a row: it is one line, and what it says
+
+pub record SaysRow (text : List ℕ) (f : FourFields) : Type 0 where
+  pub front : List ℕ
+  pub clean : HasNoFeed front
+  pub line : text ≡ front ++ 10 ∷ []
+  pub short : length front ≤ 256
+  pub said : (row : ℕ) → said_by_text row text ≡ Row f
+
+-- the texts of the two kinds of rows
+abbrev club_text : List ℕ → List ℕ → List ℕ → List ℕ
+club_text slot name coefficient = codes "club," ++ (slot ++ 44 ∷ 34 ∷ (flat_map in_quotes name ++ 34 ∷ 44 ∷ (coefficient ++ 10 ∷ [])))
+
+abbrev word_text : List ℕ → List ℕ → List ℕ
+word_text index hex = codes "word," ++ (index ++ 44 ∷ (hex ++ 44 ∷ 10 ∷ []))
+
+abbrev club_fields : List ℕ → List ℕ → List ℕ → FourFields
+club_fields slot name coefficient = record { first = codes "club"; second = slot; third = name; fourth = coefficient }
+
+abbrev word_fields : List ℕ → List ℕ → FourFields
+word_fields index hex = record { first = codes "word"; second = index; third = hex; fourth = [] }
+
+-- they are lines
+
+abbrev club_front : List ℕ → List ℕ → List ℕ → List ℕ
+club_front slot name coefficient = codes "club," ++ (slot ++ 44 ∷ 34 ∷ (flat_map in_quotes name ++ 34 ∷ 44 ∷ coefficient))
+
+abbrev word_front : List ℕ → List ℕ → List ℕ
+word_front index hex = codes "word," ++ (index ++ 44 ∷ (hex ++ 44 ∷ []))
+
+club-clean : (slot name coefficient : List ℕ) → AreJoining slot → AreJoining coefficient → list_all is_printed name ≡ true → HasNoFeed (club_front slot name coefficient)
+club-clean slot name coefficient s c n =
+    let last = no-feed-then (34 ∷ 44 ∷ []) coefficient (test-clear (34 ∷ 44 ∷ []) refl) (joining-clear coefficient c) in
+    let names = no-feed-then (flat_map in_quotes name) (34 ∷ 44 ∷ coefficient) (name-clear name n) last in
+    let quoted = no-feed-then (44 ∷ 34 ∷ []) (flat_map in_quotes name ++ 34 ∷ 44 ∷ coefficient) (test-clear (44 ∷ 34 ∷ []) refl) names in
+    let slots = no-feed-then slot (44 ∷ 34 ∷ (flat_map in_quotes name ++ 34 ∷ 44 ∷ coefficient)) (joining-clear slot s) quoted in
+    no-feed-then (codes "club,") (slot ++ 44 ∷ 34 ∷ (flat_map in_quotes name ++ 34 ∷ 44 ∷ coefficient)) (test-clear (codes "club,") refl) slots
+
+club-line : (slot name coefficient : List ℕ) → club_text slot name coefficient ≡ club_front slot name coefficient ++ 10 ∷ []
+club-line slot name coefficient = simp append_assoc
+
+word-clean : (index hex : List ℕ) → AreJoining index → AreJoining hex → HasNoFeed (word_front index hex)
+word-clean index hex i h =
+    let last = no-feed-then hex (44 ∷ []) (joining-clear hex h) (test-clear (44 ∷ []) refl) in
+    let behind = no-feed-then (44 ∷ []) (hex ++ 44 ∷ []) (test-clear (44 ∷ []) refl) last in
+    no-feed-then (codes "word,") (index ++ 44 ∷ (hex ++ 44 ∷ [])) (test-clear (codes "word,") refl)
+    (no-feed-then index (44 ∷ (hex ++ 44 ∷ [])) (joining-clear index i) behind)
+
+word-line : (index hex : List ℕ) → word_text index hex ≡ word_front index hex ++ 10 ∷ []
+word-line index hex = simp append_assoc
+
+-- so the line is one byte shorter
+less-one : (text front : List ℕ) → text ≡ front ++ 10 ∷ [] → length text ≤ 257 → length front ≤ 256
+less-one text front e h =
+    let long : length text ≡ length front + 1 = ap (λ (l : List ℕ). length l) e ∙ length-append front (10 ∷ []) in omega (arith, long, h)
+
+-- they are short
+
+club-short : (slot name coefficient : List ℕ) → length slot ≤ 1 → length coefficient ≤ 6 → length name ≤ 20 → length (club_text slot name coefficient) ≤ 257
+club-short slot name coefficient s c n =
+    let a = length-append slot (44 ∷ 34 ∷ (flat_map in_quotes name ++ 34 ∷ 44 ∷ (coefficient ++ 10 ∷ []))) in
+    let b = length-append (flat_map in_quotes name) (34 ∷ 44 ∷ (coefficient ++ 10 ∷ [])) in
+    let d = length-append coefficient (10 ∷ []) in
+    let e = name-long name in
+    omega arith
+
+word-short : (index hex : List ℕ) → length index ≤ 2 → length hex ≡ 16 → length (word_text index hex) ≤ 257
+word-short index hex i h =
+    let a = length-append index (44 ∷ (hex ++ 44 ∷ 10 ∷ [])) in
+    let b = length-append hex (44 ∷ 10 ∷ []) in
+    omega arith
+
+-- they have no byte order mark
+
+club-unmarked : (rest : List ℕ) → strip_bom (codes "club," ++ rest) ≡ codes "club," ++ rest
+unfolding strip_bom
+club-unmarked rest = refl
+
+word-unmarked : (rest : List ℕ) → strip_bom (codes "word," ++ rest) ≡ codes "word," ++ rest
+unfolding strip_bom
+word-unmarked rest = refl
+
+group-unmarked : (rest : List ℕ) → strip_bom (codes "group," ++ rest) ≡ codes "group," ++ rest
+unfolding strip_bom
+group-unmarked rest = refl
+
+-- and say their fields
+
+club-reads : (slot name coefficient : List ℕ) → AreJoining slot → AreJoining coefficient → of_rows (records default_config (club_text slot name coefficient)) ≡ Row (club_fields slot name coefficient)
+club-reads slot name coefficient s c =
+    let last = coefficient ++ 10 ∷ [] in
+    let quoted = 34 ∷ (flat_map in_quotes name ++ 34 ∷ 44 ∷ last) in
+    plain_row (club_text slot name coefficient) (slot ++ 44 ∷ quoted) quoted last (codes "club") slot name coefficient
+    (club-before (slot ++ 44 ∷ quoted)) (before-comma slot quoted s) (quoted-before name last) (at-end coefficient c)
+
+word-reads : (index hex : List ℕ) → AreJoining index → AreJoining hex → of_rows (records default_config (word_text index hex)) ≡ Row (word_fields index hex)
+word-reads index hex i h =
+    let last : List ℕ = 10 ∷ [] in
+    plain_row (word_text index hex) (index ++ 44 ∷ (hex ++ 44 ∷ last)) (hex ++ 44 ∷ last) last (codes "word") index hex []
+    (word-before (index ++ 44 ∷ (hex ++ 44 ∷ last))) (before-comma index (hex ++ 44 ∷ last) i) (before-comma hex last h) (at-end [] tt)
+
+club-says : (slot name coefficient : List ℕ) → AreJoining slot → AreJoining coefficient → length slot ≤ 1 → length coefficient ≤ 6 → length name ≤ 20 → list_all is_printed name ≡ true
+    → SaysRow (club_text slot name coefficient) (club_fields slot name coefficient)
+club-says slot name coefficient s c a b d n = record {
+  front = club_front slot name coefficient;
+  clean = club-clean slot name coefficient s c n;
+  line = club-line slot name coefficient;
+  short = less-one (club_text slot name coefficient) (club_front slot name coefficient) (club-line slot name coefficient) (club-short slot name coefficient a b d);
+  said = λ row. said-short row (club_text slot name coefficient) (club_fields slot name coefficient) (club-short slot name coefficient a b d)
+      (club-unmarked (slot ++ 44 ∷ 34 ∷ (flat_map in_quotes name ++ 34 ∷ 44 ∷ (coefficient ++ 10 ∷ [])))) (club-reads slot name coefficient s c);
+}
+
+word-says : (index hex : List ℕ) → AreJoining index → AreJoining hex → length index ≤ 2 → length hex ≡ 16 → SaysRow (word_text index hex) (word_fields index hex)
+word-says index hex i h a b = record {
+  front = word_front index hex;
+  clean = word-clean index hex i h;
+  line = word-line index hex;
+  short = less-one (word_text index hex) (word_front index hex) (word-line index hex) (word-short index hex a b);
+  said = λ row. said-short row (word_text index hex) (word_fields index hex) (word-short index hex a b)
+      (word-unmarked (index ++ 44 ∷ (hex ++ 44 ∷ 10 ∷ []))) (word-reads index hex i h);
+}
+
+-- ---- the row of a club
+
+pub record SaysClub (slot : ℕ) (text : List ℕ) (club : NamedClub) : Type 0 where
+  pub fields : FourFields
+  pub says : SaysRow text fields
+  pub first : fields.first ≡ codes "club"
+  pub club_is : club_of slot fields ≡ Some club
+
+club-is : (slot : ℕ) (name : List ℕ) (coefficient : ℕ) → slot < 10 → coefficient ≤ 999999
+    → club_of slot (club_fields (decimal slot) name (decimal coefficient)) ≡ Some (record { name = name; coefficient = coefficient })
+club-is slot name coefficient s c =
+    let digit : bytes_eq (decimal slot) ((48 + slot) ∷ []) ≡ true = (bytes_eq-Decides (decimal slot) ((48 + slot) ∷ [])).1 (decimal_digit slot s) in
+    let back = number-back 9 coefficient (omega arith) (omega arith) (omega arith) in
+    rw (digit, back) refl
+
+club-parts : (slot name coefficient : List ℕ) → club_text slot name coefficient
+    ≡ codes "club," ++ slot ++ codes ",\"" ++ flat_map in_quotes name ++ codes "\"," ++ coefficient ++ codes "\n"
+club-parts slot name coefficient = simp append_assoc
+
+pub club_row_says : (roster : List NamedClub) (slot : ℕ) → slot < 10 → IsClub (club_in roster slot) → SaysClub slot (club_row roster slot) (club_in roster slot)
+unfolding is_club
+club_row_says roster slot few is =
+    let club = club_in roster slot in
+    let parts = both (is_name club.name) (nat_le club.coefficient 999999) is in
+    let named = both (nat_le 1 (length club.name) && nat_le (length club.name) 20) (list_all is_printed club.name) parts.0 in
+    let short = leb-true (length club.name) 20 (both (nat_le 1 (length club.name)) (nat_le (length club.name) 20) named.0).1 in
+    let most = leb-true club.coefficient 999999 parts.1 in
+    let one = length-decimal-le 1 slot (omega arith) (omega arith) (omega arith) in
+    let six = length-decimal-le 6 club.coefficient (omega arith) (omega arith) (omega arith) in
+    record {
+      fields = club_fields (decimal slot) club.name (decimal club.coefficient);
+      says = subst (λ (t : List ℕ). SaysRow t (club_fields (decimal slot) club.name (decimal club.coefficient))) (club-parts (decimal slot) club.name (decimal club.coefficient))
+          (club-says (decimal slot) club.name (decimal club.coefficient) (decimal-joins slot (omega arith)) (decimal-joins club.coefficient (omega arith)) one six short named.1);
+      first = refl;
+      club_is = club-is slot club.name club.coefficient few most;
+    }
+
+-- ---- the row of a word
+
+pub record SaysWord (index : ℕ) (text : List ℕ) (word : ℕ) : Type 0 where
+  pub fields : FourFields
+  pub says : SaysRow text fields
+  pub first : fields.first ≡ codes "word"
+  pub word_is : word_of_row index fields ≡ Some word
+
+same-index : (n : ℕ) → (n == n) ≡ true
+same-index n = grind (arith, nat_tests)
+
+word-is : (index word : ℕ) → index ≤ 12 → word < 2 ^ 64 → word_of_row index (word_fields (decimal index) (hex_digits word)) ≡ Some word
+word-is index word i h = rw (number-back 2 index (omega arith) (omega arith) (omega arith), same-index index) (word-back word h)
+
+word-parts : (index hex : List ℕ) → word_text index hex ≡ codes "word," ++ index ++ codes "," ++ hex ++ codes ",\n"
+word-parts index hex = simp append_assoc
+
+pub word_row_says : (index word : ℕ) → index ≤ 12 → word < 2 ^ 64 → SaysWord index (word_line index word) word
+word_row_says index word i h =
+    let two = length-decimal-le 2 index (omega arith) (omega arith) (omega arith) in
+    record {
+      fields = word_fields (decimal index) (hex_digits word);
+      says = subst (λ (t : List ℕ). SaysRow t (word_fields (decimal index) (hex_digits word))) (word-parts (decimal index) (hex_digits word))
+          (word-says (decimal index) (hex_digits word) (decimal-joins index (omega arith)) (hex-joins word h) two (hex-long word h));
+      first = refl;
+      word_is = word-is index word i h;
+    }
+
+-- ---- the row of a group
+
+abbrev group_text : List ℕ → List ℕ → List ℕ → List ℕ
+group_text letter order edition = codes "group," ++ (letter ++ 44 ∷ (order ++ 44 ∷ (edition ++ 10 ∷ [])))
+
+abbrev group_front : List ℕ → List ℕ → List ℕ → List ℕ
+group_front letter order edition = codes "group," ++ (letter ++ 44 ∷ (order ++ 44 ∷ edition))
+
+abbrev group_fields : List ℕ → List ℕ → List ℕ → FourFields
+group_fields letter order edition = record { first = codes "group"; second = letter; third = order; fourth = edition }
+
+group-clean : (letter order edition : List ℕ) → AreJoining letter → AreJoining order → AreJoining edition → HasNoFeed (group_front letter order edition)
+group-clean letter order edition a b c =
+    let last = no-feed-then (44 ∷ []) edition (test-clear (44 ∷ []) refl) (joining-clear edition c) in
+    let orders = no-feed-then order (44 ∷ edition) (joining-clear order b) last in
+    let behind = no-feed-then (44 ∷ []) (order ++ 44 ∷ edition) (test-clear (44 ∷ []) refl) orders in
+    no-feed-then (codes "group,") (letter ++ 44 ∷ (order ++ 44 ∷ edition)) (test-clear (codes "group,") refl)
+    (no-feed-then letter (44 ∷ (order ++ 44 ∷ edition)) (joining-clear letter a) behind)
+
+group-line : (letter order edition : List ℕ) → group_text letter order edition ≡ group_front letter order edition ++ 10 ∷ []
+group-line letter order edition = simp append_assoc
+
+group-short : (letter order edition : List ℕ) → length letter ≤ 1 → length order ≤ 11 → length edition ≤ 5 → length (group_text letter order edition) ≤ 257
+group-short letter order edition a b c =
+    let p = length-append letter (44 ∷ (order ++ 44 ∷ (edition ++ 10 ∷ []))) in
+    let q = length-append order (44 ∷ (edition ++ 10 ∷ [])) in
+    let r = length-append edition (10 ∷ []) in
+    omega arith
+
+group-reads : (letter order edition : List ℕ) → AreJoining letter → AreJoining order → AreJoining edition
+    → of_rows (records default_config (group_text letter order edition)) ≡ Row (group_fields letter order edition)
+group-reads letter order edition a b c =
+    let last = edition ++ 10 ∷ [] in
+    plain_row (group_text letter order edition) (letter ++ 44 ∷ (order ++ 44 ∷ last)) (order ++ 44 ∷ last) last (codes "group") letter order edition
+    (group-before (letter ++ 44 ∷ (order ++ 44 ∷ last))) (before-comma letter (order ++ 44 ∷ last) a) (before-comma order last b) (at-end edition c)
+
+group-says : (letter order edition : List ℕ) → AreJoining letter → AreJoining order → AreJoining edition → length letter ≤ 1 → length order ≤ 11 → length edition ≤ 5
+    → SaysRow (group_text letter order edition) (group_fields letter order edition)
+group-says letter order edition a b c p q r =
+    let text = group_text letter order edition in
+    let short = group-short letter order edition p q r in
+    let line = group-line letter order edition in record {
+      front = group_front letter order edition;
+      clean = group-clean letter order edition a b c;
+      line = line;
+      short = less-one text (group_front letter order edition) line short;
+      said = λ row. said-short row text (group_fields letter order edition) short (group-unmarked (letter ++ 44 ∷ (order ++ 44 ∷ (edition ++ 10 ∷ []))))
+          (group-reads letter order edition a b c);
+    }
+
+pub record SaysTitle (text : List ℕ) (title : Title) : Type 0 where
+  pub fields : FourFields
+  pub says : SaysRow text fields
+  pub first : fields.first ≡ codes "group"
+  pub title_is : title_by fields ≡ Some title
+
+order-joins : (profile : Profile) → AreJoining (profile_name profile) × (length (profile_name profile) ≤ 11) × (profile_named (profile_name profile) ≡ Some profile)
+order-joins Uefa = ((refl, (refl, (refl, (refl, tt)))), omega arith, refl)
+order-joins AwayInTie = ((refl, (refl, (refl, (refl, (refl, (refl, (refl, (refl, (refl, (refl, (refl, tt))))))))))), omega arith, refl)
+
+title-is : (title : Title) → IsGroup title.group → title.edition ≤ 65535 → title_by (group_fields (title.group ∷ []) (profile_name title.profile) (decimal title.edition)) ≡ Some title
+title-is title letter most =
+    let order = (order-joins title.profile).2 in
+    let back = number-back 5 title.edition (omega arith) (omega arith) (omega arith) in
+    rw (le-leb 65 title.group letter.0, le-leb title.group 72 letter.1, order, back, le-leb 0 title.edition (omega arith), le-leb title.edition 65535 most) refl
+
+group-parts : (letter order edition : List ℕ) → group_text letter order edition ≡ codes "group," ++ letter ++ codes "," ++ order ++ codes "," ++ edition ++ codes "\n"
+group-parts letter order edition = simp append_assoc
+
+pub group_row_says : (title : Title) → IsGroup title.group → title.edition ≤ 65535 → SaysTitle (group_row title) title
+group_row_says title letter most =
+    let order = order-joins title.profile in
+    let five = length-decimal-le 5 title.edition (omega arith) (omega arith) (omega arith) in
+    let fields = group_fields (title.group ∷ []) (profile_name title.profile) (decimal title.edition) in
+    let low = letter.0 in
+    record {
+      fields = fields;
+      says = subst (λ (t : List ℕ). SaysRow t fields) (group-parts (title.group ∷ []) (profile_name title.profile) (decimal title.edition))
+          (group-says (title.group ∷ []) (profile_name title.profile) (decimal title.edition) (above-marks title.group (omega arith), tt) order.0
+          (decimal-joins title.edition (omega arith)) (omega arith) order.1 five);
+      first = refl;
+      title_is = title-is title letter most;
+    }

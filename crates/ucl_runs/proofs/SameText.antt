@@ -1,0 +1,283 @@
+-- An evening in JSON says what it says as text.
+use Rattle.std.proofs.Common.{◌≡◌, ◌∙◌, ℕ, ◌+◌, ◌==◌, Bool, true, false, List, [], ◌∷◌, ◌++◌, length, Option, Some, None, refl, sym, ap, inl, inr, append_assoc, append-nil, arith}
+use Rattle.std.specs.Prelude.{⊤, ◌||◌, if◌then◌else◌, Result, Ok, Err}
+use Rattle.std.specs.Result.{is_ok}
+use Rattle.std.proofs.lemmas.Bool.{cases_Bool}
+use Rattle.std.proofs.lemmas.Bool.Decides.{nat_tests}
+use Rattle.std.proofs.lemmas.Grind.{flat_map-append}
+use Rattle.std.proofs.lemmas.List.Elements.{All-append, All-cons, All-head, All-nil}
+use Rattle.serde_json.specs.Data.{Data}
+use Rattle.ucl_word.specs.declared.event.Accepted.{Accepted}
+use Rattle.ucl_word.specs.declared.refusal.Refusal.{Refusal}
+use Rattle.ucl_word.specs.Rules.{refusal_of, reply_of}
+use Rattle.ucl_board.specs.Words.{AreWords, game_at, version_of}
+use Rattle.ucl_board.specs.History.{IsAttempt, board_of}
+use Rattle.ucl_board.proofs.Repeats.{no_refusal}
+use Rattle.ucl_order.specs.Roster.{NamedClub, bad_slot}
+use Rattle.ucl_runs.specs.Feed.{attempt_of, line_of_reply, word_lines}
+use Rattle.ucl_screen.specs.Events.{◌>>=◌}
+use Rattle.ucl_screen.specs.Matches.{matches_text}
+use Rattle.ucl_screen.specs.Screen.{screen_text}
+use Rattle.ucl_screen.specs.WordsRead.{read_words}
+use Rattle.ucl_screen.specs.declared.night.NightEvent.{NightEvent}
+use Rattle.ucl_json.specs.Lines.{IsOneLine, json_line}
+use Rattle.ucl_json.specs.declared.title.Title.{Title}
+use Rattle.ucl_json.specs.Values.{bad_row_value, edition_screen_value, matches_value, reply_value, words_value}
+use Rattle.ucl_json.proofs.OneLine.{one_line}
+use Rattle.ucl_command.specs.declared.options.Format.TheVariants.{Json, Text}
+use Rattle.ucl_command.specs.declared.live.LiveArgs.{LiveArgs}
+use Rattle.ucl_runs.specs.declared.live_fault.BeginningFault.TheVariants.{OtherGroup}
+use Rattle.ucl_runs.specs.Titles.{is_as_asked, is_group_row, title_said}
+use Rattle.ucl_runs.specs.declared.request.Request.{Request}
+use Rattle.ucl_runs.specs.declared.request.Request.TheVariants.{Bad, Event, Screen, Words, Matches}
+use Rattle.ucl_runs.specs.InputLines.{lines_of}
+use Rattle.ucl_runs.specs.Members.{text_told, texts_told}
+use Rattle.ucl_runs.specs.BadRows.{field_name, shown_text}
+use Rattle.ucl_runs.specs.Requests.{request_of}
+use Rattle.ucl_runs.specs.Rows.{Said, Nothing, Garbled, Row, said_on}
+use Rattle.ucl_runs.specs.Stages.{Stage, Beginning, Naming, Restoring, Open, Refused}
+use Rattle.ucl_runs.specs.Stages.{after_beginning, after_club, after_row, after_title, after_word}
+use Rattle.ucl_runs.specs.Stages.{club_said, is_word_row, next_board, next_stage, opened, restored, with_roster, with_words, word_said}
+use Rattle.ucl_runs.specs.LiveText.{Evening, answer_at, answer_of, answer_said, answers, bad_line, next, reply_answer, screen_after, next_title, screen_answer, start_of}
+use Rattle.ucl_runs.specs.LiveLaws.{AreLinesSaying, EveningsSayTheSame, RaisesVersion, as_text}
+use Rattle.ucl_runs.proofs.Boards.{AreAttempts, asked}
+use Rattle.ucl_runs.proofs.GoodBoards.{fresh-good, good-after, read-good, version-after}
+use Rattle.ucl_runs.proofs.LiveTold.{same}
+
+abbrev Ends : Data → Type 0
+Ends value = IsOneLine (json_line value)
+
+-- ---- lines of values, one after the other
+
+no-lines : AreLinesSaying [] []
+unfolding texts_told
+no-lines = record { values = []; whole = refl; each = All-nil Ends; said = refl }
+
+value-line : (value : Data) (text : List ℕ) → text_told value ≡ Some text → AreLinesSaying text (json_line value)
+unfolding texts_told
+value-line value text h = record {
+  values = value ∷ [];
+  whole = sym (append-nil (json_line value));
+  each = All-cons Ends value [] (one_line value) (All-nil Ends);
+  said = rw h (ap (λ (l : List ℕ). Some l) (append-nil text));
+}
+
+some-same : (x y : List ℕ) → ◌≡◌ {A = Option (List ℕ)} (Some x) (Some y) → x ≡ y
+some-same x y e = cc
+
+pub record InParts (o p : Option (List ℕ)) (t : List ℕ) : Type 0 where
+  pub first : List ℕ
+  pub more : List ℕ
+  pub first_is : o ≡ Some first
+  pub more_is : p ≡ Some more
+  pub whole : first ++ more ≡ t
+
+in-parts : (o p : Option (List ℕ)) (t : List ℕ) → (o >>= λ a. p >>= λ b. Some (a ++ b)) ≡ Some t → InParts o p t
+in-parts None p t e = cc
+in-parts (Some a) None t e = cc
+in-parts (Some a) (Some b) t e = record { first = a; more = b; first_is = refl; more_is = refl; whole = some-same (a ++ b) t e }
+
+said-both : (xs ys : List Data) (t u : List ℕ) → texts_told xs ≡ Some t → texts_told ys ≡ Some u → texts_told (xs ++ ys) ≡ Some (t ++ u)
+unfolding texts_told
+said-both [] ys t u e f = f ∙ ap (λ (l : List ℕ). Some (l ++ u)) (some-same [] t e)
+said-both (x ∷ xs) ys t u e f =
+    let p = in-parts (text_told x) (texts_told xs) t e in
+    let rest = said-both xs ys p.more u p.more_is f in
+    rw (p.first_is, rest) (ap (λ (l : List ℕ). Some l) (sym (append_assoc p.first p.more u)) ∙ ap (λ (l : List ℕ). Some (l ++ u)) p.whole)
+
+both-lines : (t u j k : List ℕ) → AreLinesSaying t j → AreLinesSaying u k → AreLinesSaying (t ++ u) (j ++ k)
+both-lines t u j k p q = record {
+  values = p.values ++ q.values;
+  whole = rw (flat_map-append json_line p.values q.values, p.whole, q.whole) refl;
+  each = All-append Ends p.values q.values p.each q.each;
+  said = said-both p.values q.values t u p.said q.said;
+}
+
+-- ---- single answers
+
+screen-line : (title : Title) (row : ℕ) (clubs : List NamedClub) (board : List ℕ) → AreLinesSaying (screen_answer Text title row clubs board) (screen_answer Json title row clubs board)
+screen-line title row clubs board = value-line (edition_screen_value row title board clubs) (screen_text title.profile board clubs title.group) (same row title board clubs).screen
+
+wanted : (b : Bool) (t j : List ℕ) → AreLinesSaying t j → AreLinesSaying (if b then t else []) (if b then j else [])
+wanted true t j p = p
+wanted false t j p = no-lines
+
+after-line : (options : LiveArgs) (title : Title) (row : ℕ) (clubs : List NamedClub) (reply : Result Accepted Refusal) (board : List ℕ) → options.format ≡ Json
+    → AreLinesSaying (screen_after (as_text options) title row clubs reply board) (screen_after options title row clubs reply board)
+after-line options title row clubs (Ok accepted) board h =
+    rw h (wanted options.screens (screen_answer Text title row clubs board) (screen_answer Json title row clubs board) (screen-line title row clubs board))
+after-line options title row clubs (Err refusal) board h = no-lines
+
+reply-line : (title : Title) (row : ℕ) (clubs : List NamedClub) (event : NightEvent) (before : ℕ) (reply : Result Accepted Refusal) (board : List ℕ) → RaisesVersion reply before board
+    → AreLinesSaying (reply_answer Text title row clubs event before reply board) (reply_answer Json title row clubs event before reply board)
+reply-line title row clubs event before reply board k =
+    value-line (reply_value row event reply title board clubs) (line_of_reply row event.call.game before reply) ((same row title board clubs).reply event before reply k)
+
+raised : (reply : Result Accepted Refusal) (before : ℕ) (board : List ℕ) → (is_ok reply ≡ true → version_of board ≡ before + 1) → RaisesVersion reply before board
+raised (Ok accepted) before board h = h refl
+raised (Err refusal) before board h = tt
+
+event-lines : (options : LiveArgs) (title : Title) (row : ℕ) (clubs : List NamedClub) (board : List ℕ) (event : NightEvent) (shown : List ℕ) → options.format ≡ Json → AreWords board
+    → IsAttempt (attempt_of event)
+    → AreLinesSaying (answer_of (as_text options) title row clubs board (Event event) shown) (answer_of options title row clubs board (Event event) shown)
+event-lines options title row clubs board event shown h w is =
+    let call = event.call in
+    let m = game_at board call.game in
+    let reply = reply_of m call in
+    let after = next_board board (Event event) in
+    let raises = raised reply (version_of board) after (λ ok. version-after board (attempt_of event) w is (no_refusal m.number (refusal_of m call.expected call.kind) ok)) in
+    both-lines (reply_answer Text title row clubs event (version_of board) reply after) (screen_after (as_text options) title row clubs reply after)
+    (reply_answer options.format title row clubs event (version_of board) reply after) (screen_after options title row clubs reply after)
+    (rw h (reply-line title row clubs event (version_of board) reply after raises)) (after-line options title row clubs reply after h)
+
+request-lines : (options : LiveArgs) (title : Title) (row : ℕ) (clubs : List NamedClub) (board : List ℕ) (request : Request) (shown : List ℕ) → options.format ≡ Json → AreWords board
+    → AreAttempts request
+    → AreLinesSaying (answer_of (as_text options) title row clubs board request shown) (answer_of options title row clubs board request shown)
+request-lines options title row clubs board (Event event) shown h w all = event-lines options title row clubs board event shown h w (All-head IsAttempt (attempt_of event) [] all)
+request-lines options title row clubs board (Bad field) shown h w all =
+    rw h (value-line (bad_row_value row (field_name field) shown) (bad_line row) ((same row title board clubs).bad (field_name field) shown))
+request-lines options title row clubs board Screen shown h w all = rw h (screen-line title row clubs board)
+request-lines options title row clubs board Words shown h w all = rw h (value-line (words_value row board) (word_lines 1 board) (same row title board clubs).words)
+request-lines options title row clubs board Matches shown h w all =
+    rw h (value-line (matches_value row board clubs) (matches_text board clubs) (same row title board clubs).matches)
+
+-- ---- lines of an evening
+
+-- a board that is open is of valid words
+abbrev Good : Stage → Type 0
+Good (Open clubs board) = AreWords board
+Good Beginning = ⊤
+Good (Naming clubs) = ⊤
+Good (Restoring clubs words) = ⊤
+Good (Refused fault) = ⊤
+
+good-roster : (clubs : List NamedClub) (slot : Option ℕ) → Good (with_roster clubs slot)
+good-roster clubs None = tt
+good-roster clubs (Some slot) = tt
+
+either : (b : Bool) (s r : Stage) → Good s → Good r → Good (if b then s else r)
+either true s r p q = p
+either false s r p q = q
+
+good-club : (row : ℕ) (clubs : List NamedClub) (club : Option NamedClub) → Good (after_club row clubs club)
+good-club row clubs None = tt
+good-club row clubs (Some club) =
+    let all = clubs ++ club ∷ [] in either (length all == 4) (with_roster all (bad_slot all)) (Naming all) (good-roster all (bad_slot all)) tt
+
+good-restored : (clubs : List NamedClub) (words : List ℕ) (r : Result (List ℕ) ℕ) → length words ≡ 12 → read_words 1 words ≡ r → Good (restored clubs r)
+good-restored clubs words (Ok board) long e = read-good words board long e
+good-restored clubs words (Err index) long e = tt
+
+good-words : (clubs : List NamedClub) (words : List ℕ) → Good (with_words clubs words)
+good-words clubs words = elim (cases_Bool (length words == 12)) [
+  | inl y ↦ rw y (good-restored clubs words (read_words 1 words) (grind (arith, nat_tests)) refl)
+  | inr n ↦ rw n tt
+]
+
+good-word : (row : ℕ) (clubs : List NamedClub) (words : List ℕ) (word : Option ℕ) → Good (after_word row clubs words word)
+good-word row clubs words None = tt
+good-word row clubs words (Some word) = good-words clubs (words ++ word ∷ [])
+
+good-opened : (options : LiveArgs) (s : Stage) (r : Said) → Good s → Good (opened options s r)
+good-opened options Beginning r g = tt
+good-opened options (Restoring clubs []) r g = either (options.resumed || is_word_row r) (Restoring clubs []) (Open clubs (board_of [])) tt fresh-good
+good-opened options (Restoring clubs (word ∷ words)) r g = tt
+good-opened options (Naming clubs) r g = tt
+good-opened options (Open clubs board) r g = g
+good-opened options (Refused fault) r g = tt
+
+good-board : (board : List ℕ) (request : Request) → AreWords board → AreAttempts request → AreWords (next_board board request)
+good-board board (Event event) w all = good-after board (attempt_of event) w (All-head IsAttempt (attempt_of event) [] all)
+good-board board (Bad field) w all = w
+good-board board Screen w all = w
+good-board board Words w all = w
+good-board board Matches w all = w
+
+of-request : (r : Said) → AreAttempts (request_of r)
+of-request Nothing = All-nil IsAttempt
+of-request Garbled = All-nil IsAttempt
+of-request (Row f) = asked f
+
+good-title : (options : LiveArgs) (row : ℕ) (title : Option Title) → Good (after_title options row title)
+good-title options row None = tt
+good-title options row (Some title) = either (is_as_asked options title) (Naming []) (Refused OtherGroup) tt tt
+
+good-first : (options : LiveArgs) (row : ℕ) (r : Said) → Good (after_beginning options row r)
+good-first options row r =
+    either (is_group_row r) (after_title options row (title_said r)) (after_club row [] (club_said 1 r)) (good-title options row (title_said r)) (good-club row [] (club_said 1 r))
+
+good-row : (options : LiveArgs) (row : ℕ) (s : Stage) (r : Said) → Good s → Good (after_row options row s r)
+good-row options row Beginning r g = good-first options row r
+good-row options row (Naming clubs) r g = good-club row clubs (club_said (length clubs + 1) r)
+good-row options row (Restoring clubs words) r g = good-word row clubs words (word_said (length words + 1) r)
+good-row options row (Open clubs board) r g = good-board board (request_of r) g (of-request r)
+good-row options row (Refused fault) r g = tt
+
+good-next : (options : LiveArgs) (row : ℕ) (s : Stage) (r : Said) → Good s → Good (next_stage options row s r)
+good-next options row s Nothing g = g
+good-next options row s Garbled g = good-row options row (opened options s Garbled) Garbled (good-opened options s Garbled g)
+good-next options row s (Row f) g = good-row options row (opened options s (Row f)) (Row f) (good-opened options s (Row f) g)
+
+-- ---- the form of the answers changes no stage
+
+opened-text : (options : LiveArgs) (s : Stage) (r : Said) → opened (as_text options) s r ≡ opened options s r
+opened-text options Beginning r = refl
+opened-text options (Naming clubs) r = refl
+opened-text options (Restoring clubs []) r = refl
+opened-text options (Restoring clubs (word ∷ words)) r = refl
+opened-text options (Open clubs board) r = refl
+opened-text options (Refused fault) r = refl
+
+title-text : (options : LiveArgs) (row : ℕ) (title : Option Title) → after_title (as_text options) row title ≡ after_title options row title
+title-text options row None = refl
+title-text options row (Some title) = refl
+
+row-text : (options : LiveArgs) (row : ℕ) (s : Stage) (r : Said) → after_row (as_text options) row s r ≡ after_row options row s r
+row-text options row Beginning r = ap (λ (s : Stage). if is_group_row r then s else after_club row [] (club_said 1 r)) (title-text options row (title_said r))
+row-text options row (Naming clubs) r = refl
+row-text options row (Restoring clubs words) r = refl
+row-text options row (Open clubs board) r = refl
+row-text options row (Refused fault) r = refl
+
+stage-text : (options : LiveArgs) (row : ℕ) (s : Stage) (r : Said) → next_stage (as_text options) row s r ≡ next_stage options row s r
+stage-text options row s Nothing = refl
+stage-text options row s Garbled = rw (opened-text options s Garbled) (row-text options row (opened options s Garbled) Garbled)
+stage-text options row s (Row f) = rw (opened-text options s (Row f)) (row-text options row (opened options s (Row f)) (Row f))
+
+stage-lines : (options : LiveArgs) (title : Title) (row : ℕ) (s : Stage) (r : Said) (shown : List ℕ) → options.format ≡ Json → Good s
+    → AreLinesSaying (answer_at (as_text options) title row s (request_of r) shown) (answer_at options title row s (request_of r) shown)
+stage-lines options title row Beginning r shown h g = no-lines
+stage-lines options title row (Naming clubs) r shown h g = no-lines
+stage-lines options title row (Restoring clubs words) r shown h g = no-lines
+stage-lines options title row (Open clubs board) r shown h g = request-lines options title row clubs board (request_of r) shown h g (of-request r)
+stage-lines options title row (Refused fault) r shown h g = no-lines
+
+abbrev text_of : Evening → Evening
+text_of e = record { options = as_text e.options; title = e.title; row = e.row; stage = e.stage }
+
+abbrev with-stage : Evening → Said → Stage → Evening
+with-stage e r s = record { options = as_text e.options; title = next_title e.title e.stage r; row = e.row + 1; stage = s }
+
+text-next : (e : Evening) (r : Said) → next (text_of e) r ≡ text_of (next e r)
+text-next e r =
+    ap (λ (s : Stage). with-stage e r s) (stage-text e.options e.row e.stage r)
+
+said-lines : (e : Evening) (r : Said) (shown : List ℕ) → e.options.format ≡ Json → Good e.stage → AreLinesSaying (answer_said (text_of e) r shown) (answer_said e r shown)
+said-lines e Nothing shown h g = no-lines
+said-lines e Garbled shown h g =
+    rw (opened-text e.options e.stage Garbled) (stage-lines e.options e.title e.row (opened e.options e.stage Garbled) Garbled shown h (good-opened e.options e.stage Garbled g))
+said-lines e (Row f) shown h g =
+    rw (opened-text e.options e.stage (Row f)) (stage-lines e.options e.title e.row (opened e.options e.stage (Row f)) (Row f) shown h (good-opened e.options e.stage (Row f) g))
+
+all-lines : (e : Evening) (lines : List (List ℕ)) → e.options.format ≡ Json → Good e.stage → AreLinesSaying (answers (text_of e) lines) (answers e lines)
+unfolding answers
+all-lines e [] h g = no-lines
+all-lines e (line ∷ lines) h g =
+    let r = said_on e.row line in
+    let shown = shown_text line in
+    let later = all-lines (next e r) lines h (good-next e.options e.row e.stage r g) in
+    both-lines (answer_said (text_of e) r shown) (answers (next (text_of e) r) lines) (answer_said e r shown) (answers (next e r) lines)
+    (said-lines e r shown h g) (rw (text-next e r) later)
+
+pub evenings : EveningsSayTheSame
+evenings options bytes h = all-lines (start_of options) (lines_of bytes) h tt

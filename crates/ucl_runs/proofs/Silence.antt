@@ -1,0 +1,97 @@
+-- An evening whose board is not open has answered nothing, and one that is refused stays so.
+use Rattle.std.proofs.Common.{◌≡◌, ℕ, Bool, true, false, List, [], ◌∷◌, Some, refl, ap, ◌∙◌, inl, inr}
+use Rattle.std.proofs.lemmas.Bool.{cases_Bool}
+use Rattle.ucl_command.specs.declared.live.LiveArgs.{LiveArgs}
+use Rattle.ucl_runs.specs.declared.live_fault.BeginningFault.{BeginningFault}
+use Rattle.ucl_runs.specs.BadRows.{shown_text}
+use Rattle.ucl_runs.specs.Requests.{request_of}
+use Rattle.ucl_runs.specs.Rows.{Said, Nothing, Garbled, Row, said_on}
+use Rattle.ucl_runs.specs.Stages.{Stage, Beginning, Naming, Restoring, Open, Refused, after_row, missing, next_stage, opened}
+use Rattle.ucl_runs.specs.LiveText.{Evening, after_lines, answer_said, answer_at, answers, next}
+
+abbrev pub is_open : Stage → Bool
+is_open (Open clubs board) = true
+is_open Beginning = false
+is_open (Naming clubs) = false
+is_open (Restoring clubs words) = false
+is_open (Refused fault) = false
+
+-- an open board stays open
+
+open-row : (options : LiveArgs) (row : ℕ) (s : Stage) (r : Said) → is_open s ≡ true → is_open (after_row options row s r) ≡ true
+open-row options row (Open clubs board) r h = refl
+open-row options row Beginning r h = cc
+open-row options row (Naming clubs) r h = cc
+open-row options row (Restoring clubs words) r h = cc
+open-row options row (Refused fault) r h = cc
+
+open-opened : (options : LiveArgs) (s : Stage) (r : Said) → is_open s ≡ true → is_open (opened options s r) ≡ true
+open-opened options (Open clubs board) r h = refl
+open-opened options Beginning r h = cc
+open-opened options (Naming clubs) r h = cc
+open-opened options (Restoring clubs words) r h = cc
+open-opened options (Refused fault) r h = cc
+
+open-next : (options : LiveArgs) (row : ℕ) (s : Stage) (r : Said) → is_open s ≡ true → is_open (next_stage options row s r) ≡ true
+open-next options row s Nothing h = h
+open-next options row s Garbled h = open-row options row (opened options s Garbled) Garbled (open-opened options s Garbled h)
+open-next options row s (Row f) h = open-row options row (opened options s (Row f)) (Row f) (open-opened options s (Row f) h)
+
+pub stays-open : (e : Evening) (lines : List (List ℕ)) → is_open e.stage ≡ true → is_open (after_lines e lines).stage ≡ true
+unfolding after_lines
+stays-open e [] h = h
+stays-open e (line ∷ lines) h = stays-open (next e (said_on e.row line)) lines (open-next e.options e.row e.stage (said_on e.row line) h)
+
+-- what is not open in the end was not open before
+shut-row : (options : LiveArgs) (row : ℕ) (s : Stage) (r : Said) → is_open (after_row options row s r) ≡ false → is_open s ≡ false
+shut-row options row s r h = elim (cases_Bool (is_open s)) [ inl y ↦ cc (open-row options row s r y) | inr n ↦ n ]
+
+silent-at : (e : Evening) (s : Stage) (r : Said) (shown : List ℕ) → is_open s ≡ false → answer_at e.options e.title e.row s (request_of r) shown ≡ []
+silent-at e Beginning r shown h = refl
+silent-at e (Naming clubs) r shown h = refl
+silent-at e (Restoring clubs words) r shown h = refl
+silent-at e (Refused fault) r shown h = refl
+silent-at e (Open clubs board) r shown h = cc
+
+silent-answer : (e : Evening) (r : Said) (shown : List ℕ) → is_open (next e r).stage ≡ false → answer_said e r shown ≡ []
+silent-answer e Nothing shown h = refl
+silent-answer e Garbled shown h = silent-at e (opened e.options e.stage Garbled) Garbled shown (shut-row e.options e.row (opened e.options e.stage Garbled) Garbled h)
+silent-answer e (Row f) shown h = silent-at e (opened e.options e.stage (Row f)) (Row f) shown (shut-row e.options e.row (opened e.options e.stage (Row f)) (Row f) h)
+
+pub shut-lines : (e : Evening) (lines : List (List ℕ)) → is_open (after_lines e lines).stage ≡ false → is_open e.stage ≡ false
+shut-lines e lines h = elim (cases_Bool (is_open e.stage)) [ inl y ↦ cc (stays-open e lines y) | inr n ↦ n ]
+
+pub silent : (e : Evening) (lines : List (List ℕ)) → is_open (after_lines e lines).stage ≡ false → answers e lines ≡ []
+unfolding answers after_lines
+silent e [] h = refl
+silent e (line ∷ lines) h =
+    let r = said_on e.row line in
+    let a = silent-answer e r (shown_text line) (shut-lines (next e r) lines h) in
+    let b = silent (next e r) lines h in rw (a, b) refl
+
+-- a refused evening stays refused
+
+refused-next : (options : LiveArgs) (row : ℕ) (r : Said) (fault : BeginningFault) → next_stage options row (Refused fault) r ≡ Refused fault
+refused-next options row Nothing fault = refl
+refused-next options row Garbled fault = refl
+refused-next options row (Row f) fault = refl
+
+pub stays-refused : (e : Evening) (lines : List (List ℕ)) (fault : BeginningFault) → e.stage ≡ Refused fault → (after_lines e lines).stage ≡ Refused fault
+unfolding after_lines
+stays-refused e [] fault h = h
+stays-refused e (line ∷ lines) fault h =
+    let r = said_on e.row line in
+    stays-refused (next e r) lines fault (ap (λ (s : Stage). next_stage e.options e.row s r) h ∙ refused-next e.options e.row r fault)
+
+pub refused-shut : (s : Stage) (fault : BeginningFault) → s ≡ Refused fault → is_open s ≡ false
+refused-shut s fault h = rw h refl
+
+pub refused-missing : (options : LiveArgs) (row : ℕ) (s : Stage) (fault : BeginningFault) → s ≡ Refused fault → missing options row s ≡ Some fault
+refused-missing options row s fault h = rw h refl
+
+pub missing-shut : (options : LiveArgs) (row : ℕ) (s : Stage) (fault : BeginningFault) → missing options row s ≡ Some fault → is_open s ≡ false
+missing-shut options row (Open clubs board) fault h = cc
+missing-shut options row Beginning fault h = refl
+missing-shut options row (Naming clubs) fault h = refl
+missing-shut options row (Restoring clubs words) fault h = refl
+missing-shut options row (Refused f) fault h = refl

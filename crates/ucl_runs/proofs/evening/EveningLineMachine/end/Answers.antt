@@ -1,0 +1,35 @@
+use Rattle.std.proofs.Common.{sym, ◌∙◌}
+use Rattle.std.proofs.lemmas.Result.{err_from_is_err_and}
+use Rattle.ucl_runs.specs.Holding.{evening_of}
+use Rattle.ucl_runs.proofs.OneByOne.{none-answers, none-missing, some-answers, some-missing, some-stops}
+use Rattle.ucl_runs.proofs.RowEnds.{empty-list, full-list}
+use Rattle.ucl_runs.proofs.evening.EveningLineMachine.end.Goals as goal
+
+pub returns-in-Some-clause-stops : goal.returns-in-Some-clause-stops
+returns-in-Some-clause-stops c =
+    none-missing (evening_of c.args.self.now c.args.row) c.args.begun.now (empty-list c.is_empty.result _ c.is_empty.ensures c.if-is_empty.true) ∙ sym c.in-Some.ensures
+
+pub returns-in-None-clause-answers : goal.returns-in-None-clause-answers
+returns-in-None-clause-answers c =
+    let none = empty-list c.is_empty.result _ c.is_empty.ensures c.if-is_empty.true in
+    let e = evening_of c.args.self.now c.args.row in
+    record { text_is = c.put_nothing.ensures ∙ sym (none-answers e c.args.begun.now none); complete = none-missing e c.args.begun.now none ∙ sym c.in-None.ensures }
+
+pub returns-in_err-answer-clause-stops : goal.returns-in_err-answer-clause-stops
+returns-in_err-answer-clause-stops c =
+    let p = err_from_is_err_and c.from_residual.result c.from_residual.ensures.1 in
+    let some = full-list c.is_empty.result _ c.is_empty.ensures c.if-is_empty.false in
+    rw (p.1, p.2) (some-stops (evening_of c.args.self.now c.args.row) c.args.begun.now _ some c.in_err-answer.ensures.stops)
+
+pub returns-in-Some-missing-clause-stops : goal.returns-in-Some-missing-clause-stops
+returns-in-Some-missing-clause-stops c =
+    let some = full-list c.is_empty.result _ c.is_empty.ensures c.if-is_empty.false in
+    some-missing (evening_of c.args.self.now c.args.row) _ c.args.begun.now some c.in_ok-answer.ensures.answers.0 ∙ rw (← c.saturating_add.ensures) (sym c.in-Some-missing.ensures)
+
+pub returns-in-None-missing-clause-answers : goal.returns-in-None-missing-clause-answers
+returns-in-None-missing-clause-answers c =
+    let some = full-list c.is_empty.result _ c.is_empty.ensures c.if-is_empty.false in
+    let e = evening_of c.args.self.now c.args.row in record {
+      text_is = c.in_ok-answer.ensures.answers.1 ∙ sym (some-answers e c.args.begun.now some);
+      complete = some-missing e _ c.args.begun.now some c.in_ok-answer.ensures.answers.0 ∙ rw (← c.saturating_add.ensures) (sym c.in-None-missing.ensures);
+    }

@@ -1,0 +1,6 @@
+use Rattle.std.proofs.Common.{take}
+use Rattle.ucl_runs.specs.Reading.{AreJoining}
+use Rattle.ucl_runs.proofs.plain.field_length.Given as goal
+
+abbrev pub invariant-loop-at : goal.invariant-loop-at
+invariant-loop-at l = record { joining : AreJoining (take l.at l.text) }

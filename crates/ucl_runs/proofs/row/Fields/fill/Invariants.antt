@@ -1,0 +1,16 @@
+use Rattle.std.proofs.Common.{◌≡◌, ◌≤◌, [], length, drop}
+use Rattle.csv.specs.Machine.{next_record}
+use Rattle.csv.specs.Reading.{default_config}
+use Rattle.csv.specs.Records.{Rising}
+use Rattle.csv.specs.declared.parser.State.TheVariants as st
+use Rattle.ucl_runs.specs.Reading.{field_in, fields_in, csv_state_of}
+use Rattle.ucl_runs.proofs.row.Fields.fill.Given as goal
+
+abbrev pub invariant-loop-at : goal.invariant-loop-at
+invariant-loop-at l = record {
+  rising : Rising 0 l.self.ends.items (length l.self.bytes.items);
+  few_ends : length l.self.ends.items ≤ l.at;
+  few_bytes : length l.self.bytes.items ≤ l.at;
+  same : next_record default_config (csv_state_of l.state) (fields_in l.self) (field_in l.self) (drop l.at l.text)
+      ≡ next_record default_config st.StartField [] [] l.text;
+}

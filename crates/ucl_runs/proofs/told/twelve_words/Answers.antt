@@ -1,0 +1,20 @@
+use Rattle.std.proofs.Common.{◌∙◌, ℕ, length, sym, ap, arith}
+use Rattle.ucl_runs.specs.Told.{word_told}
+use Rattle.ucl_runs.proofs.Members.{not-told, told-next, told-not, told-start}
+use Rattle.ucl_runs.proofs.told.twelve_words.Goals as goal
+
+pub loop-value-init : goal.loop-value-init
+loop-value-init c = record { count = ap (length {A = ℕ}) c.new-words.ensures; told = told-start word_told c.args.values.now _ c.new-words.ensures }
+
+pub returns-in_err-word_in : goal.returns-in_err-word_in
+returns-in_err-word_in c =
+    c.from_residual.ensures ∙ sym
+    (not-told word_told 12 c.args.values.now c.if-values-ne12.false
+    (told-not word_told c.args.values.now c.loop-value.value-index c.value-item.result c.loop-value-test.true c.value-item.is c.in_err-word_in.ensures))
+
+pub loop-value-preserved : goal.loop-value-preserved
+loop-value-preserved c = record {
+  count = let k = c.loop-value.invariant.count in let n = c.push.ensures.len in omega arith;
+  told = told-next word_told c.args.values.now c.loop-value.value-index c.value-item.result _ _ _ c.loop-value-test.true c.value-item.is
+      c.loop-value.invariant.told c.in_ok-word_in.ensures c.push.ensures.items;
+}

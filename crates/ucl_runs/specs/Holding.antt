@@ -1,0 +1,153 @@
+-- An evening as a machine, and what is left of it where a run fails.
+use Rattle.std.specs.Prelude.{◌≡◌, ◌⊎◌, ⊤, ℕ, ◌^◌, ◌<◌, true, if◌then◌else◌, List, [], ◌∷◌, ◌++◌, length, Option, Some, None}
+use Rattle.std.specs.Result.{is_ok}
+use Rattle.std.specs.Io.KnownBytes.{Appends, Consumes}
+use Rattle.ucl_word.specs.Rules.{reply_of}
+use Rattle.ucl_board.specs.Words.{game_at}
+use Rattle.ucl_io.specs.declared.fault.PumpFault.{PumpFault}
+use Rattle.ucl_io.specs.declared.fault.PumpFault.TheVariants.{Machine, ReadFailed, TooLong, WriteFailed}
+use Rattle.ucl_io.specs.Calls.{Device, HasEnded}
+use Rattle.ucl_io.specs.Lines.{begun_line, ended_lines}
+use Rattle.ucl_io.specs.Output.{StoppedShort}
+use Rattle.ucl_json.specs.declared.title.Title.{Title}
+use Rattle.ucl_command.specs.declared.options.Format.TheVariants.{Json}
+use Rattle.ucl_command.specs.declared.live.LiveArgs.{LiveArgs}
+use Rattle.ucl_runs.specs.declared.answer.Answer.{Answer}
+use Rattle.ucl_runs.specs.declared.evening.Evening.{Evening as Held}
+use Rattle.ucl_runs.specs.declared.live_fault.BeginningFault.{BeginningFault}
+use Rattle.ucl_runs.specs.declared.live_fault.LiveFault.{LiveFault}
+use Rattle.ucl_runs.specs.declared.live_fault.LiveFault.TheVariants as live
+use Rattle.ucl_runs.specs.declared.request.Request.{Request}
+use Rattle.ucl_runs.specs.declared.request.Request.TheVariants.{Bad, Event, Screen, Words, Matches}
+use Rattle.ucl_runs.specs.declared.parts.Parts.{Parts}
+use Rattle.ucl_runs.specs.InputLines.{last_lines}
+use Rattle.ucl_runs.specs.Requests.{request_of}
+use Rattle.ucl_runs.specs.Rows.{Said, Nothing, Garbled, Row, said_on}
+use Rattle.ucl_runs.specs.Seen.{bytes_of, stage_seen}
+use Rattle.ucl_runs.specs.Stages.{Stage, Beginning, Naming, Restoring, Open, Refused, opened}
+use Rattle.ucl_runs.specs.LiveText.{Evening, after_lines, answers, live_text, missing_after, missing_now, next}
+
+-- ---- want of memory
+
+-- whether the answer to a request asks for memory: in JSON each does, and as text screens and matches alone
+abbrev pub AsksOf : LiveArgs → List ℕ → Request → Type 0
+AsksOf options board (Event event) =
+    (options.format ≡ Json) ⊎ ((options.screens ≡ true) × (is_ok (reply_of (game_at board event.call.game) event.call) ≡ true))
+AsksOf options board (Bad field) = options.format ≡ Json
+AsksOf options board Screen = ⊤
+AsksOf options board Words = options.format ≡ Json
+AsksOf options board Matches = ⊤
+
+-- a club's name asks for memory, and a word does not
+abbrev pub AsksAt : LiveArgs → Stage → Request → Type 0
+AsksAt options Beginning request = ⊤
+AsksAt options (Naming clubs) request = ⊤
+AsksAt options (Restoring clubs words) request = ⊥
+AsksAt options (Open clubs board) request = AsksOf options board request
+AsksAt options (Refused fault) request = ⊥
+
+abbrev pub AsksForMemory : Evening → Said → Type 0
+AsksForMemory e Nothing = ⊥
+AsksForMemory e Garbled = AsksAt e.options (opened e.options e.stage Garbled) (request_of Garbled)
+AsksForMemory e (Row f) = AsksAt e.options (opened e.options e.stage (Row f)) (request_of (Row f))
+
+-- ---- the machine
+
+-- what a line is answered: the first part of it, and all
+
+abbrev pub parts_front : Parts → List ℕ
+parts_front p = if p.is_words then p.words.items else bytes_of p.first
+
+abbrev pub with_second : List ℕ → Option Answer → List ℕ
+with_second text None = text
+with_second text (Some answer) = text ++ bytes_of answer
+
+abbrev pub parts_bytes : Parts → List ℕ
+parts_bytes p = with_second (parts_front p) p.second
+
+-- the evening before a line of this number
+abbrev pub evening_at : LiveArgs → Title → ℕ → Stage → Evening
+evening_at options title row stage = record { options = options; title = title; row = row; stage = stage }
+
+abbrev pub evening_of : Held → ℕ → Evening
+evening_of e row = evening_at e.options e.title.title row (stage_seen e.stage)
+
+-- a row has no answer: there was no memory for it, which it asks for, or the stage after it is refused
+abbrev pub StopsAt : Type 0 → Stage → LiveFault → Type 0
+StopsAt Asks after live.OutOfMemory = Asks
+StopsAt Asks after (live.Beginning why) = after ≡ Refused why
+
+abbrev pub HasNoAnswer : Evening → Said → LiveFault → Type 0
+HasNoAnswer e said fault = StopsAt (AsksForMemory e said) (next e said).stage fault
+
+-- the input ends, where a last line has begun so: it may have no byte
+abbrev pub end_of : Evening → List ℕ → Evening
+end_of e begun = after_lines e (last_lines begun)
+
+abbrev pub missing_at : Evening → List ℕ → Option BeginningFault
+missing_at e begun = missing_now (end_of e begun)
+
+-- it is answered too, and no club or word is missing then
+pub record Closes (e : Evening) (begun text : List ℕ) : Type 0 where
+  pub text_is : text ≡ answers e (last_lines begun)
+  pub complete : missing_at e begun ≡ None
+
+-- there was no memory for it, which it asks for; or a club or a word has a fault, or is missing
+abbrev pub HasNoEnd : Evening → List ℕ → LiveFault → Type 0
+HasNoEnd e begun live.OutOfMemory = AsksForMemory e (said_on e.row begun)
+HasNoEnd e begun (live.Beginning why) = missing_at e begun ≡ Some why
+
+-- ---- a whole run
+
+-- the answers to the lines that end among these bytes, and the evening after them
+abbrev pub answers_to : Evening → List ℕ → List ℕ
+answers_to start bytes = answers start (ended_lines 258 [] bytes)
+
+abbrev pub after_bytes : Evening → List ℕ → Evening
+after_bytes start bytes = after_lines start (ended_lines 258 [] bytes)
+
+-- some bytes were taken by now, and the answers to all their lines that have an end are out, and nothing else
+abbrev pub IsAnsweredSoFar : Evening → Option (List ℕ) → Option (List ℕ) → Option (List ℕ) → Option (List ℕ) → Type 0
+IsAnsweredSoFar start left left2 taken taken2 = (bytes : List ℕ) × Consumes left left2 bytes × Appends taken taken2 (answers_to start bytes)
+
+-- the text that the sink failed in: that of the lines that came; or the whole text, once the input has ended
+abbrev pub IsTextOf : Evening → List ℕ → Option (List ℕ) → Option (List ℕ) → List ℕ → Type 0
+IsTextOf start bytes left left2 text = (text ≡ answers_to start bytes) ⊎ (HasEnded left left2 × (text ≡ live_text start bytes))
+
+pub record WriteStops (start : Evening) (bytes : List ℕ) (old new : Device) (written : ℕ) : Type 0 where
+  pub text : List ℕ
+  pub text_is : IsTextOf start bytes old.left new.left text
+  pub stopped : StoppedShort 0 new.sink_failed old.taken new.taken text written
+
+-- the bytes end a line here, or are at their end
+abbrev pub EndsLine : List ℕ → Option (List ℕ) → Option (List ℕ) → Type 0
+EndsLine rest left left2 = ((more : List ℕ) × (rest ≡ 10 ∷ more)) ⊎ ((rest ≡ []) × HasEnded left left2)
+
+-- a line was not answered, for which there was no memory: it asks for some, and those before it were answered, whole
+pub record RanOut (start : Evening) (bytes : List ℕ) (old new : Device) : Type 0 where
+  pub front : List ℕ
+  pub rest : List ℕ
+  pub parts : bytes ≡ front ++ rest
+  pub out : Appends old.taken new.taken (answers_to start front)
+  pub line : EndsLine rest old.left new.left
+  pub asks : AsksForMemory (after_bytes start front) (said_on (after_bytes start front).row (begun_line 258 [] front))
+
+-- the evening is refused, by the bytes that were taken or by their end, and nothing was answered
+pub record IsTurnedAway (start : Evening) (bytes : List ℕ) (old new : Device) (fault : BeginningFault) : Type 0 where
+  pub refused : ((after_bytes start bytes).stage ≡ Refused fault)
+      ⊎ (HasEnded old.left new.left × (missing_after start bytes ≡ Some fault))
+  pub out : Appends old.taken new.taken []
+
+-- why an evening fails that has taken these bytes: the source failed after them, they are more than any input has, or the sink failed; there
+-- was no memory for a line, or it is refused
+abbrev pub LiveFailsAfter : Evening → List ℕ → Device → Device → PumpFault LiveFault → Type 0
+LiveFailsAfter start bytes old new (ReadFailed count) = (count ≡ length bytes) × Appends old.taken new.taken (answers_to start bytes)
+LiveFailsAfter start bytes old new TooLong = (2 ^ 62 < length bytes) × Appends old.taken new.taken (answers_to start bytes)
+LiveFailsAfter start bytes old new (WriteFailed written) = WriteStops start bytes old new written
+LiveFailsAfter start bytes old new (Machine live.OutOfMemory) = RanOut start bytes old new
+LiveFailsAfter start bytes old new (Machine (live.Beginning why)) = IsTurnedAway start bytes old new why
+
+pub record LiveFails (start : Evening) (old new : Device) (fault : PumpFault LiveFault) : Type 0 where
+  pub bytes : List ℕ
+  pub consumed : Consumes old.left new.left bytes
+  pub why : LiveFailsAfter start bytes old new fault

@@ -1,0 +1,81 @@
+-- A journal: the output of an evening in JSON, of which a crash left so many bytes. What `--resume` makes of it.
+use Rattle.std.specs.Prelude.{◌≡◌, ◌<◌, ◌≤◌, ◌^◌, true, ℕ, List, [], ◌∷◌, ◌++◌, length, Option, Some, None, IfSome, ◌+◌}
+use Rattle.std.specs.Result.{is_ok}
+use Rattle.ucl_word.specs.Rules.{reply_of}
+use Rattle.ucl_board.specs.declared.entry.Entry.{Entry}
+use Rattle.ucl_board.specs.History.{Attempt, IsLegal, board_of}
+use Rattle.ucl_board.specs.Words.{game_at}
+use Rattle.ucl_order.specs.Roster.{NamedClub}
+use Rattle.ucl_command.specs.declared.follow.FollowArgs.TheVariants.{Rows}
+use Rattle.ucl_command.specs.declared.live.LiveArgs.{LiveArgs}
+use Rattle.ucl_command.specs.declared.options.Format.TheVariants.{Json}
+use Rattle.ucl_runs.specs.ByHistory.{attempts_in, attempts_on}
+use Rattle.ucl_runs.specs.InputLines.{lines_of}
+use Rattle.ucl_runs.specs.Rows.{said_on}
+use Rattle.ucl_runs.specs.Stages.{Stage, Beginning, Naming, Open, Refused, Restoring, opened}
+use Rattle.ucl_runs.specs.LiveText.{Evening, after_lines, answers, live_text, start_of}
+use Rattle.ucl_json.specs.declared.title.Title.{Title}
+use Rattle.ucl_runs.specs.Titles.{is_as_asked}
+use Rattle.ucl_runs.specs.declared.moment.Moment.{Moment}
+use Rattle.ucl_runs.specs.Follow.{follow_text, resuming_text, whole_lines}
+use Rattle.ucl_runs.specs.Latest.{IsLatest, IsToldIn}
+use Rattle.ucl_runs.specs.Repeats.{HasRepeats}
+use Rattle.ucl_runs.specs.Resuming.{OpensTheBoard, opened_at, resumed_row}
+
+-- the moment of an evening whose board is open
+abbrev pub moment_with : Title → List NamedClub → List ℕ → Moment
+moment_with title clubs board = record { title = title; roster = clubs; board = board }
+
+abbrev pub moment_at : Title → Stage → Option Moment
+moment_at title (Open clubs board) = Some (moment_with title clubs board)
+moment_at title Beginning = None
+moment_at title (Naming clubs) = None
+moment_at title (Restoring clubs words) = None
+moment_at title (Refused fault) = None
+
+abbrev pub moment_now : Evening → Option Moment
+moment_now e = moment_at e.title e.stage
+
+-- at this line a board is open, the line asks for an event, and the reply is no refusal
+pub record TakesEvent (e : Evening) (line : List ℕ) : Type 0 where
+  pub clubs : List NamedClub
+  pub board : List ℕ
+  pub attempt : Attempt
+  pub stands : opened e.options e.stage (said_on e.row line) ≡ Open clubs board
+  pub asks : attempts_on (said_on e.row line) ≡ attempt ∷ []
+  pub accepted : is_ok (reply_of (game_at board attempt.call.game) attempt.call) ≡ true
+
+-- so many bytes are left of the output: of the answer to the line after these lines the first line is whole
+abbrev pub IsAnsweredIn : Evening → List (List ℕ) → List ℕ → Type 0
+IsAnsweredIn e before left = length (whole_lines (answers e before)) < length (whole_lines left)
+
+-- what `--resume` writes of what is left are the rows of the board after so many lines of the input, or nothing, where none is open then;
+-- among these lines is each one that was accepted and whose answer is whole; and the rows open that board again, under its title,
+-- where no other group or order is asked for
+pub record ResumesTheBoard (e : Evening) (again : LiveArgs) (lines : List (List ℕ)) (left : List ℕ) : Type 0 where
+  pub first : List (List ℕ)
+  pub rest : List (List ℕ)
+  pub parts : lines ≡ first ++ rest
+  pub rows : follow_text Rows left ≡ resuming_text Rows (moment_now (after_lines e first))
+  pub answered : (before : List (List ℕ)) (line : List ℕ) (after : List (List ℕ)) → lines ≡ before ++ line ∷ after
+      → TakesEvent (after_lines e before) line → IsAnsweredIn e before left → length before < length first
+  pub opens : IfSome (moment_now (after_lines e first)) (λ m. is_as_asked again m.title ≡ true → OpensTheBoard again m)
+
+-- wherever the output of an evening in JSON is cut
+abbrev pub CutJournalsResume : Type 0
+CutJournalsResume = (options again : LiveArgs) (input left lost : List ℕ) → options.format ≡ Json → length input ≤ 2 ^ 62
+    → live_text (start_of options) input ≡ left ++ lost → ResumesTheBoard (start_of options) again (lines_of input) left
+
+-- an output that was not cut: where it tells a moment, the board after all lines is the latest that it tells
+abbrev pub JournalsEndWithTheBoard : Type 0
+JournalsEndWithTheBoard = (options : LiveArgs) (input : List ℕ) (m other : Moment) → options.format ≡ Json → length input ≤ 2 ^ 62
+    → moment_now (after_lines (start_of options) (lines_of input)) ≡ Some m → IsToldIn (whole_lines (live_text (start_of options) input)) other
+    → IsLatest m (whole_lines (live_text (start_of options) input))
+
+-- an evening on the board of a legal history had these first lines and then the rest. One that was opened at the board after the first had other
+-- lines since: their events are those of the rest, and between them events again that had been accepted by then. It has the same board
+abbrev pub CrashesChangeNothing : Type 0
+CrashesChangeNothing = (e : Evening) (again : LiveArgs) (clubs : List NamedClub) (history : List Entry) (first rest since : List (List ℕ)) (m : Moment)
+    → IsLegal history → e.stage ≡ Open clubs (board_of history) → moment_now (after_lines e first) ≡ Some m
+    → HasRepeats history (attempts_in e.row first) (attempts_in (resumed_row m.title) since) (attempts_in (e.row + length first) rest)
+    → (after_lines (opened_at again m) since).stage ≡ (after_lines e (first ++ rest)).stage

@@ -1,0 +1,127 @@
+-- What holds of all evenings.
+use Rattle.std.specs.Prelude.{◌≡◌, ⊤, ℕ, ◌+◌, false, List, [], ◌∷◌, ◌++◌, All, flat_map, Some, Result, Ok, Err}
+use Rattle.std.specs.List.{fold}
+use Rattle.serde_json.specs.Data.{Data}
+use Rattle.ucl_board.specs.declared.entry.Entry.{Entry}
+use Rattle.ucl_board.specs.History.{IsLegal, after_attempt, board_after, board_of}
+use Rattle.ucl_order.specs.Roster.{NamedClub}
+use Rattle.ucl_runs.specs.Feed.{line_of_reply, reply_line, word_lines}
+use Rattle.ucl_screen.specs.declared.night.NightEvent.{NightEvent}
+use Rattle.ucl_screen.specs.Matches.{matches_text}
+use Rattle.ucl_screen.specs.Screen.{screen_text}
+use Rattle.ucl_word.specs.declared.event.Accepted.{Accepted}
+use Rattle.ucl_word.specs.declared.refusal.Refusal.{Refusal}
+use Rattle.ucl_word.specs.Rules.{reply_of}
+use Rattle.ucl_board.specs.Fixtures.{IsMatch}
+use Rattle.ucl_board.specs.Words.{game_at, version_of}
+use Rattle.ucl_json.specs.Lines.{AreLinesOfValues, IsOneLine, json_line}
+use Rattle.ucl_json.specs.declared.title.Title.{Title}
+use Rattle.ucl_json.specs.Values.{bad_row_value, edition_screen_value, matches_value, reply_value, words_value}
+use Rattle.ucl_command.specs.declared.options.Format.TheVariants.{Text, Json}
+use Rattle.ucl_command.specs.declared.live.LiveArgs.{LiveArgs}
+use Rattle.ucl_runs.specs.declared.live_fault.BeginningFault.{BeginningFault}
+use Rattle.ucl_runs.specs.ByHistory.{answers_by_history, attempts_in}
+use Rattle.ucl_runs.specs.InputLines.{lines_of}
+use Rattle.ucl_runs.specs.Members.{text_told, texts_told}
+use Rattle.ucl_runs.specs.UncutLines.{uncut_lines}
+use Rattle.ucl_runs.specs.Rows.{Said, Nothing, Garbled, Row, said_on}
+use Rattle.ucl_runs.specs.Stages.{Open, Refused, Restoring, is_word_row}
+use Rattle.ucl_runs.specs.LiveText.{Evening, after_lines, answers, bad_line, live_text, reply_answer, start_of}
+
+-- some bytes and the end of a line
+abbrev pub ended : List ℕ → List ℕ
+ended bytes = bytes ++ 10 ∷ []
+
+-- the text of a beginning that ends with a line is a beginning of the text, and the rest is that of an evening that goes on from there
+abbrev pub BeginningsAreAnswered : Type 0
+BeginningsAreAnswered = (e : Evening) (bytes more : List ℕ)
+    → live_text e (ended bytes ++ more) ≡ live_text e (ended bytes) ++ live_text (after_lines e (lines_of (ended bytes))) more
+
+-- an open board becomes the board after the events that were asked for: whatever else comes, and whatever board it was
+abbrev pub BoardsTakeEvents : Type 0
+BoardsTakeEvents = (e : Evening) (lines : List (List ℕ)) (clubs : List NamedClub) (board : List ℕ) → e.stage ≡ Open clubs board
+    → (after_lines e lines).stage ≡ Open clubs (fold board_after board (attempts_in e.row lines))
+
+-- this history with the events that were accepted after it is legal, the board is its board, and each reply and each screen that went
+-- out is that of the board of the history as it was when its line came
+pub record IsSequential (e : Evening) (lines : List (List ℕ)) (clubs : List NamedClub) (history : List Entry) : Type 0 where
+  pub legal : IsLegal (fold after_attempt history (attempts_in e.row lines))
+  pub stage : (after_lines e lines).stage ≡ Open clubs (board_of (fold after_attempt history (attempts_in e.row lines)))
+  pub text : answers e lines ≡ answers_by_history e.options e.title e.row clubs history lines
+
+-- so it is after any lines of an evening on the board of a legal history: of no event, or of any whose words were given
+abbrev pub EveningsAreSequential : Type 0
+EveningsAreSequential = (e : Evening) (lines : List (List ℕ)) (clubs : List NamedClub) (history : List Entry) → IsLegal history → e.stage ≡ Open clubs (board_of history)
+    → IsSequential e lines clubs history
+
+-- a row that is not that of a word
+abbrev pub IsOtherRow : Said → Type 0
+IsOtherRow Nothing = ⊥
+IsOtherRow Garbled = ⊤
+IsOtherRow (Row f) = is_word_row (Row f) ≡ false
+
+abbrev pub fresh_at : Evening → List NamedClub → Evening
+fresh_at e clubs = record e { stage = Open clubs (board_of []) }
+
+-- four clubs were named: where the first row after them is not that of a word, all goes on as on the open board of no event
+pub record GoesOnFresh (e : Evening) (lines : List (List ℕ)) (clubs : List NamedClub) : Type 0 where
+  pub text : answers e lines ≡ answers (fresh_at e clubs) lines
+  pub after : after_lines e lines ≡ after_lines (fresh_at e clubs) lines
+
+abbrev pub FirstRowsOpenTheBoard : Type 0
+FirstRowsOpenTheBoard = (e : Evening) (clubs : List NamedClub) (line : List ℕ) (lines : List (List ℕ)) → e.options.resumed ≡ false → e.stage ≡ Restoring clubs [] → IsOtherRow (said_on e.row line)
+    → GoesOnFresh e (line ∷ lines) clubs
+
+-- on the board of a legal history the reply to an event is the line that `feed` writes of it
+abbrev pub RepliesAreThoseOfFeed : Type 0
+RepliesAreThoseOfFeed = (title : Title) (clubs : List NamedClub) (board : List ℕ) (history : List Entry) (row : ℕ) (event : NightEvent)
+    → IsLegal history → IsMatch event.call.game
+    → reply_answer Text title row clubs event (version_of (board_of history)) (reply_of (game_at (board_of history) event.call.game) event.call) board ≡ reply_line row history event.call
+
+-- in JSON each answer is a value on one line, and nothing else goes out
+abbrev pub JsonAnswersAreLines : Type 0
+JsonAnswersAreLines = (e : Evening) (lines : List (List ℕ)) → e.options.format ≡ Json → AreLinesOfValues (answers e lines)
+
+-- where the clubs or the words have a fault, nothing was answered
+abbrev pub RefusedEveningsAreSilent : Type 0
+RefusedEveningsAreSilent = (e : Evening) (lines : List (List ℕ)) (fault : BeginningFault) → (after_lines e lines).stage ≡ Refused fault → answers e lines ≡ []
+
+-- the lines as they are read end with their 258th byte: the answers, and the evening after them, are those of the lines as they came
+pub record IsOfUncutLines (e : Evening) (bytes : List ℕ) : Type 0 where
+  pub text : live_text e bytes ≡ answers e (uncut_lines bytes)
+  pub after : after_lines e (lines_of bytes) ≡ after_lines e (uncut_lines bytes)
+
+abbrev pub LinesAreReadWhole : Type 0
+LinesAreReadWhole = (e : Evening) (bytes : List ℕ) → IsOfUncutLines e bytes
+
+-- an accepted event raised the version by one
+abbrev pub RaisesVersion : Result Accepted Refusal → ℕ → List ℕ → Type 0
+RaisesVersion (Ok accepted) before board = version_of board ≡ before + 1
+RaisesVersion (Err refusal) before board = ⊤
+
+-- the members of each answer in JSON say just what the answer says as text: its numbers, the name of a refusal, all columns of the screen, and all of a match's line
+pub record SaysTheSame (row : ℕ) (title : Title) (board : List ℕ) (clubs : List NamedClub) : Type 0 where
+  pub reply : (event : NightEvent) (before : ℕ) (reply : Result Accepted Refusal) → RaisesVersion reply before board
+      → text_told (reply_value row event reply title board clubs) ≡ Some (line_of_reply row event.call.game before reply)
+  pub bad : (field shown : List ℕ) → text_told (bad_row_value row field shown) ≡ Some (bad_line row)
+  pub words : text_told (words_value row board) ≡ Some (word_lines 1 board)
+  pub matches : text_told (matches_value row board clubs) ≡ Some (matches_text board clubs)
+  pub screen : text_told (edition_screen_value row title board clubs) ≡ Some (screen_text title.profile board clubs title.group)
+
+abbrev pub JsonSaysTheSame : Type 0
+JsonSaysTheSame = (row : ℕ) (title : Title) (board : List ℕ) (clubs : List NamedClub) → SaysTheSame row title board clubs
+
+-- lines of values, each one line, whose members say this text
+pub record AreLinesSaying (text json : List ℕ) : Type 0 where
+  pub values : List Data
+  pub whole : json ≡ flat_map json_line values
+  pub each : All (λ value. IsOneLine (json_line value)) values
+  pub said : texts_told values ≡ Some text
+
+-- the same options, with answers as text
+abbrev pub as_text : LiveArgs → LiveArgs
+as_text options = record options { format = Text }
+
+-- an evening in JSON says just what it says as text
+abbrev pub EveningsSayTheSame : Type 0
+EveningsSayTheSame = (options : LiveArgs) (bytes : List ℕ) → options.format ≡ Json → AreLinesSaying (live_text (start_of (as_text options)) bytes) (live_text (start_of options) bytes)

@@ -1,0 +1,142 @@
+-- The text of an evening.
+use Rattle.std.specs.Prelude.{ℕ, ◌+◌, if◌then◌else◌, List, [], ◌∷◌, ◌++◌, codes, decimal, Option, None, Some, Result, Ok, Err}
+use Rattle.ucl_word.specs.declared.event.Accepted.{Accepted}
+use Rattle.ucl_word.specs.declared.refusal.Refusal.{Refusal}
+use Rattle.ucl_word.specs.Rules.{reply_of}
+use Rattle.ucl_board.specs.Words.{game_at, version_of}
+use Rattle.ucl_order.specs.Roster.{NamedClub}
+use Rattle.ucl_runs.specs.Feed.{line_of_reply, word_lines}
+use Rattle.ucl_screen.specs.declared.night.NightEvent.{NightEvent}
+use Rattle.ucl_screen.specs.Matches.{matches_text}
+use Rattle.ucl_screen.specs.Screen.{screen_text}
+use Rattle.ucl_json.specs.Lines.{json_line}
+use Rattle.ucl_json.specs.declared.title.Title.{Title}
+use Rattle.ucl_json.specs.Values.{bad_row_value, edition_screen_value, matches_value, reply_value, words_value}
+use Rattle.ucl_command.specs.declared.options.Format.{Format}
+use Rattle.ucl_command.specs.declared.options.Format.TheVariants.{Text, Json}
+use Rattle.ucl_command.specs.declared.live.LiveArgs.{LiveArgs}
+use Rattle.ucl_runs.specs.declared.live_fault.BeginningFault.{BeginningFault}
+use Rattle.ucl_runs.specs.declared.request.Request.{Request}
+use Rattle.ucl_runs.specs.declared.request.Request.TheVariants.{Bad, Event, Screen, Words, Matches}
+use Rattle.ucl_runs.specs.InputLines.{lines_of}
+use Rattle.ucl_runs.specs.Rows.{Said, Nothing, Garbled, Row, said_on}
+use Rattle.ucl_runs.specs.BadRows.{field_name, shown_text}
+use Rattle.ucl_runs.specs.Requests.{request_of}
+use Rattle.ucl_runs.specs.Titles.{asked_title, is_group_row, title_said}
+use Rattle.ucl_runs.specs.declared.bad_row.BadField.{BadField}
+use Rattle.ucl_runs.specs.Stages.{Stage, Beginning, Naming, Restoring, Open, Refused, missing, next_board, next_stage, opened}
+
+-- between two lines: how it answers, what its board is told under, which line comes next, counted from 1, and how far it is
+pub record Evening : Type 0 where
+  pub options : LiveArgs
+  pub title : Title
+  pub row : ℕ
+  pub stage : Stage
+
+-- before the first line
+abbrev pub start_of : LiveArgs → Evening
+start_of options = record { options = options; title = asked_title options; row = 1; stage = Beginning }
+
+-- ---- single answers, each in its format
+
+-- the reply to an event, where so many events were accepted before, with the board after it
+abbrev pub reply_answer : Format → Title → ℕ → List NamedClub → NightEvent → ℕ → Result Accepted Refusal → List ℕ → List ℕ
+reply_answer Text title row clubs event before reply board = line_of_reply row event.call.game before reply
+reply_answer Json title row clubs event before reply board = json_line (reply_value row event reply title board clubs)
+
+abbrev pub bad_line : ℕ → List ℕ
+bad_line row = decimal row ++ codes " refused 20 bad-row\n"
+
+-- the answer to a row that asks for nothing that there is, for this field, and is shown so
+abbrev pub bad_answer : Format → ℕ → BadField → List ℕ → List ℕ
+bad_answer Text row field shown = bad_line row
+bad_answer Json row field shown = json_line (bad_row_value row (field_name field) shown)
+
+-- the screen of a board
+abbrev pub screen_answer : Format → Title → ℕ → List NamedClub → List ℕ → List ℕ
+screen_answer Text title row clubs board = screen_text title.profile board clubs title.group
+screen_answer Json title row clubs board = json_line (edition_screen_value row title board clubs)
+
+-- the words of a board
+abbrev pub words_answer : Format → ℕ → List ℕ → List ℕ
+words_answer Text row board = word_lines 1 board
+words_answer Json row board = json_line (words_value row board)
+
+-- the matches of a board
+abbrev pub matches_answer : Format → ℕ → List NamedClub → List ℕ → List ℕ
+matches_answer Text row clubs board = matches_text board clubs
+matches_answer Json row clubs board = json_line (matches_value row board clubs)
+
+-- ---- the answer to a line
+
+-- the screen after an accepted event, where screens are wanted
+abbrev pub screen_after : LiveArgs → Title → ℕ → List NamedClub → Result Accepted Refusal → List ℕ → List ℕ
+screen_after options title row clubs (Ok accepted) board = if options.screens then screen_answer options.format title row clubs board else []
+screen_after options title row clubs (Err refusal) board = []
+
+-- the answer to an event: its reply, and the screen
+abbrev pub event_answer : LiveArgs → Title → ℕ → List NamedClub → List ℕ → NightEvent → List ℕ
+event_answer options title row clubs board event =
+    let reply = reply_of (game_at board event.call.game) event.call in
+    let after = next_board board (Event event) in
+    reply_answer options.format title row clubs event (version_of board) reply after ++ screen_after options title row clubs reply after
+
+-- the answer to what a row asks that is shown so
+abbrev pub answer_of : LiveArgs → Title → ℕ → List NamedClub → List ℕ → Request → List ℕ → List ℕ
+answer_of options title row clubs board (Event event) shown = event_answer options title row clubs board event
+answer_of options title row clubs board (Bad field) shown = bad_answer options.format row field shown
+answer_of options title row clubs board Screen shown = screen_answer options.format title row clubs board
+answer_of options title row clubs board Words shown = words_answer options.format row board
+answer_of options title row clubs board Matches shown = matches_answer options.format row clubs board
+
+-- nothing is answered before the board is open
+abbrev pub answer_at : LiveArgs → Title → ℕ → Stage → Request → List ℕ → List ℕ
+answer_at options title row (Open clubs board) request shown = answer_of options title row clubs board request shown
+answer_at options title row Beginning request shown = []
+answer_at options title row (Naming clubs) request shown = []
+answer_at options title row (Restoring clubs words) request shown = []
+answer_at options title row (Refused fault) request shown = []
+
+-- the answer to what a line says that is shown so
+abbrev pub answer_said : Evening → Said → List ℕ → List ℕ
+answer_said e Nothing shown = []
+answer_said e Garbled shown = answer_at e.options e.title e.row (opened e.options e.stage Garbled) (request_of Garbled) shown
+answer_said e (Row f) shown = answer_at e.options e.title e.row (opened e.options e.stage (Row f)) (request_of (Row f)) shown
+
+-- the first row may say what the board is told under
+abbrev pub title_or : Title → Option Title → Title
+title_or title None = title
+title_or title (Some other) = other
+
+abbrev pub next_title : Title → Stage → Said → Title
+next_title title Beginning said = if is_group_row said then title_or title (title_said said) else title
+next_title title (Naming clubs) said = title
+next_title title (Restoring clubs words) said = title
+next_title title (Open clubs board) said = title
+next_title title (Refused fault) said = title
+
+abbrev pub next : Evening → Said → Evening
+next e said = record { options = e.options; title = next_title e.title e.stage said; row = e.row + 1; stage = next_stage e.options e.row e.stage said }
+
+-- ---- the answers to lines, one after the other
+
+unfoldable pub answers : Evening → List (List ℕ) → List ℕ
+answers e [] = []
+answers e (line ∷ lines) = answer_said e (said_on e.row line) (shown_text line) ++ answers (next e (said_on e.row line)) lines
+
+-- the evening after lines
+unfoldable pub after_lines : Evening → List (List ℕ) → Evening
+after_lines e [] = e
+after_lines e (line ∷ lines) = after_lines (next e (said_on e.row line)) lines
+
+-- the text of an evening that begins here and has this whole input
+abbrev pub live_text : Evening → List ℕ → List ℕ
+live_text e bytes = answers e (lines_of bytes)
+
+-- why an evening is refused that ends here
+abbrev pub missing_now : Evening → Option BeginningFault
+missing_now e = missing e.options e.row e.stage
+
+-- why an evening is refused that begins here and has this whole input
+abbrev pub missing_after : Evening → List ℕ → Option BeginningFault
+missing_after e bytes = missing_now (after_lines e (lines_of bytes))

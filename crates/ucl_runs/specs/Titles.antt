@@ -1,0 +1,82 @@
+-- What the first row may say of the board: its group, the order of its clubs, and its edition.
+use Rattle.std.specs.Prelude.{ℕ, ◌==◌, ◌&&◌, nat_le, if◌then◌else◌, Bool, true, false, List, [], ◌∷◌, codes, Option, Some, None}
+use Rattle.std.specs.Str.{bytes_eq}
+use Rattle.ucl_order.specs.declared.profile.Profile.{Profile}
+use Rattle.ucl_order.specs.declared.profile.Profile.TheVariants.{Uefa, AwayInTie}
+use Rattle.ucl_order.specs.Names.{profile_named}
+use Rattle.ucl_screen.specs.Events.{◌>>=◌}
+use Rattle.ucl_screen.specs.Numbers.{in_range, number}
+use Rattle.ucl_screen.specs.Rows.{FourFields}
+use Rattle.ucl_json.specs.declared.title.Title.{Title}
+use Rattle.ucl_command.specs.declared.live.LiveArgs.{LiveArgs}
+use Rattle.ucl_runs.specs.Rows.{Said, Nothing, Garbled, Row}
+
+-- ---- the row
+
+-- one letter, A to H
+abbrev pub letter_in : List ℕ → Option ℕ
+letter_in (letter ∷ []) = if nat_le 65 letter && nat_le letter 72 then Some letter else None
+letter_in _ = None
+
+-- 0 to 65,535, in one to five digits
+abbrev pub edition_by : List ℕ → Option ℕ
+edition_by text = in_range 0 65535 (number 5 text)
+
+-- after `group`: the letter, the order and the edition
+abbrev pub title_by : FourFields → Option Title
+title_by f = do
+  group ← letter_in f.second
+  profile ← profile_named f.third
+  edition ← edition_by f.fourth
+  Some (record { group = group; profile = profile; edition = edition })
+
+abbrev pub is_group_row : Said → Bool
+is_group_row (Row f) = bytes_eq f.first (codes "group")
+is_group_row Garbled = false
+is_group_row Nothing = false
+
+abbrev pub title_said : Said → Option Title
+title_said (Row f) = title_by f
+title_said Garbled = None
+title_said Nothing = None
+
+-- what a row says of its group, where it is that of one: a title, or none
+abbrev pub group_said : Said → Option (Option Title)
+group_said said = if is_group_row said then Some (title_said said) else None
+
+-- ---- what was asked for
+
+abbrev pub is_asked_group : Option ℕ → ℕ → Bool
+is_asked_group None group = true
+is_asked_group (Some asked) group = asked == group
+
+abbrev pub is_same_order : Profile → Profile → Bool
+is_same_order Uefa Uefa = true
+is_same_order AwayInTie AwayInTie = true
+is_same_order Uefa AwayInTie = false
+is_same_order AwayInTie Uefa = false
+
+abbrev pub is_asked_order : Option Profile → Profile → Bool
+is_asked_order None order = true
+is_asked_order (Some asked) order = is_same_order asked order
+
+-- the group and the order are those that were asked for, where some were
+abbrev pub is_as_asked : LiveArgs → Title → Bool
+is_as_asked options title = is_asked_group options.group title.group && is_asked_order options.profile title.profile
+
+-- where no row says a title: what was asked for, else group A and the order of the Regulations; edition 0
+abbrev pub asked_group : Option ℕ → ℕ
+asked_group None = 65
+asked_group (Some group) = group
+
+abbrev pub asked_order : Option Profile → Profile
+asked_order None = Uefa
+asked_order (Some profile) = profile
+
+abbrev pub asked_title : LiveArgs → Title
+asked_title options = record { group = asked_group options.group; profile = asked_order options.profile; edition = 0 }
+
+-- the title of a board whose input says this one, or none: that, where it is as asked, else none; or what was asked for
+abbrev pub title_for : Option ℕ → Option Profile → Option Title → Option Title
+title_for group profile None = Some (record { group = asked_group group; profile = asked_order profile; edition = 0 })
+title_for group profile (Some title) = if is_asked_group group title.group && is_asked_order profile title.profile then Some title else None

@@ -1,0 +1,59 @@
+//! What holds of all evenings. The functions do nothing: they are there for their contracts.
+
+ghost use Rattle.ucl_runs.specs.LiveLaws.{BeginningsAreAnswered, BoardsTakeEvents, EveningsAreSequential, EveningsSayTheSame, FirstRowsOpenTheBoard, JsonAnswersAreLines, JsonSaysTheSame, LinesAreReadWhole, RefusedEveningsAreSilent, RepliesAreThoseOfFeed};
+
+/// The text of a longer input begins with the text of any beginning of it that ends with a line, and goes on as the text of the rest, from
+/// where the evening stood.
+pub fn beginnings_are_answered()
+    ensures { BeginningsAreAnswered }
+{}
+
+/// After any lines an open board is the board after the events that they asked for, one after the other, also where it was written down
+/// before.
+pub fn boards_take_events()
+    ensures { BoardsTakeEvents }
+{}
+
+/// After any lines of an evening that opened on the board of a legal history, the history with the accepted events is legal and the board
+/// is its board; each reply that went out is the reply of the board of one thread, and each screen the text of the order of its board, after
+/// the events that were accepted in the lines before. So it is as text and in JSON, from the board of no event and from words.
+pub fn evenings_are_sequential()
+    ensures { EveningsAreSequential }
+{}
+
+/// In JSON the answers of an evening are the lines of values, each one line, whose members say, one after the other, just the text of the same
+/// evening with answers as text.
+pub fn evenings_say_the_same()
+    ensures { EveningsSayTheSame }
+{}
+
+/// The first row after the clubs that is not that of a word is answered on the open board of no event, and so is all that comes after it.
+pub fn first_rows_open_the_board()
+    ensures { FirstRowsOpenTheBoard }
+{}
+
+/// In JSON the answers are the lines of values, and none of these has a line feed but its last byte.
+pub fn json_answers_are_lines()
+    ensures { JsonAnswersAreLines }
+{}
+
+/// What the members of an answer in JSON say is what the answer says as text: the row, the match, the numbers and the version of a reply, the
+/// number and the name of a refusal and the number that was found, the words, and each column of the screen.
+pub fn json_says_the_same()
+    ensures { JsonSaysTheSame }
+{}
+
+/// An evening answers the lines as they came, though it keeps no more than 258 bytes of one.
+pub fn lines_are_read_whole()
+    ensures { LinesAreReadWhole }
+{}
+
+/// On the board of a legal history each reply is the line that `feed` writes after this history.
+pub fn replies_are_those_of_feed()
+    ensures { RepliesAreThoseOfFeed }
+{}
+
+/// Where the clubs or the words have a fault, nothing was answered before.
+pub fn refused_evenings_are_silent()
+    ensures { RefusedEveningsAreSilent }
+{}

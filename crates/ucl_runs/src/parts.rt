@@ -1,0 +1,86 @@
+//! What a line is answered.
+
+ghost use Rattle.std.specs.Prelude.{◌≡◌, [], ◌++◌};
+ghost use Rattle.ucl_runs.specs.Feed.{word_lines};
+ghost use Rattle.ucl_runs.specs.Seen.{bytes_of};
+ghost use Rattle.ucl_runs.specs.Holding.{parts_bytes, parts_front};
+
+use crate::answer::{Answer, ReplyLine};
+use crate::words::{Lines, word_lines};
+use ucl_board::Board;
+use ucl_io::Text;
+
+/// What a line is answered: an answer, with another behind it where there is one; or the words of a board.
+#[derive(Drop)]
+pub struct Parts {
+    first: Answer,
+    second: Option<Answer>,
+    words: Lines,
+    is_words: bool,
+}
+
+impl Text for Parts {
+    ghost bytes = { parts_bytes };
+
+    ghost front = { parts_front };
+
+    fn new() -> Parts {
+        Parts {
+            first: Answer::Short(ReplyLine::new()),
+            second: None,
+            words: Lines::new(),
+            is_words: false,
+        }
+    }
+
+    fn front(&self) -> &[u8] {
+        if self.is_words {
+            self.words.as_slice()
+        } else {
+            self.first.bytes()
+        }
+    }
+
+    fn back(&self) -> &[u8] {
+        match &self.second {
+            Some(answer) => answer.bytes(),
+            None => b"".as_slice(),
+        }
+    }
+}
+
+impl Parts {
+    /// No answer.
+    pub(crate) fn put_nothing(&mut self)
+        ensures { parts_bytes self.new ≡ [] }
+    {
+        self.put(Answer::Short(ReplyLine::new()));
+    }
+
+    /// This answer.
+    pub(crate) fn put(&mut self, answer: Answer)
+        ensures { parts_bytes self.new ≡ bytes_of answer }
+    {
+        self.is_words = false;
+        self.first = answer;
+        self.second = None;
+    }
+
+    /// This answer, and another.
+    pub(crate) fn put_both(&mut self, answer: Answer, other: Answer)
+        ensures { parts_bytes self.new ≡ bytes_of answer ++ bytes_of other }
+    {
+        self.is_words = false;
+        self.first = answer;
+        self.second = Some(other);
+    }
+
+    /// The words of this board.
+    pub(crate) fn put_words(&mut self, board: &Board)
+        ensures { parts_bytes self.new ≡ word_lines 1 board.now }
+    {
+        self.is_words = true;
+        self.words = word_lines(board);
+        self.second = None;
+    }
+}

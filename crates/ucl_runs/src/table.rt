@@ -1,0 +1,94 @@
+//! The answers of an open board.
+
+ghost use Rattle.std.specs.Prelude.{◌≡◌, IfErr, OnOk};
+ghost use Rattle.ucl_screen.specs.Screen.{IsGroup};
+ghost use Rattle.ucl_runs.specs.BadRows.{shown_text};
+ghost use Rattle.ucl_runs.specs.Holding.{AsksOf, parts_bytes};
+ghost use Rattle.ucl_runs.specs.Stages.{next_board};
+ghost use Rattle.ucl_runs.specs.LiveText.{answer_of, event_answer};
+ghost use Rattle.ucl_runs.specs.declared.request.Request.TheVariants.{Event};
+
+use crate::answer::{Answer, bad_answer, matches_answer, reply_answer, screen_answer};
+use crate::parts::Parts;
+use crate::request::Request;
+use crate::stage::Table;
+use std::alloc::Global;
+use ucl_command::{Format, LiveArgs};
+use ucl_json::{Title, words_json};
+use ucl_screen::NightEvent;
+use ucl_word::OutOfMemory;
+
+impl Table {
+    /// Enters an event, and answers it.
+    fn entered(
+        &mut self,
+        alloc: Global,
+        options: &LiveArgs,
+        title: Title,
+        row: u64,
+        event: &NightEvent,
+        parts: &mut Parts,
+    ) -> Result<(), OutOfMemory>
+        requires { IsGroup title.group }
+        ensures roster { OnOk result (self.new.roster ≡ self.old.roster) }
+        ensures board { OnOk result (self.new.board ≡ next_board self.old.board (Event event.now)) }
+        ensures text { OnOk result (parts_bytes parts.new
+            ≡ event_answer options.now title row self.old.roster self.old.board event.now) }
+        ensures memory { IfErr result
+            (λ _. AsksOf options.now self.old.board (Event event.now)) }
+    {
+        let before = self.board.version();
+        let reply = self.board.report(event.reporter, &event.call);
+        let line = reply_answer(
+            alloc,
+            options.format,
+            title,
+            row,
+            event,
+            before,
+            reply,
+            self,
+        )?;
+        if options.screens && reply.is_ok() {
+            let screen = screen_answer(alloc, options.format, title, row, self)?;
+            parts.put_both(line, screen);
+        } else {
+            parts.put(line);
+        }
+        Ok(())
+    }
+
+    /// Does what a row asks for, whose text is this, and answers it.
+    pub(crate) fn answered(
+        &mut self,
+        alloc: Global,
+        options: &LiveArgs,
+        title: Title,
+        row: u64,
+        request: &Request,
+        text: &[u8],
+        parts: &mut Parts,
+    ) -> Result<(), OutOfMemory>
+        requires { IsGroup title.group }
+        ensures roster { OnOk result (self.new.roster ≡ self.old.roster) }
+        ensures board { OnOk result (self.new.board ≡ next_board self.old.board request.now) }
+        ensures text { OnOk result (parts_bytes parts.new
+            ≡ answer_of options.now title row self.old.roster self.old.board request.now
+            (shown_text text.now)) }
+        ensures memory { IfErr result (λ _. AsksOf options.now self.old.board request.now) }
+    {
+        match request {
+            Request::Event(event) => return self.entered(alloc, options, title, row, event, parts),
+            Request::Bad(field) => parts.put(bad_answer(alloc, options.format, row, *field, text)?),
+            Request::Screen => {
+                parts.put(screen_answer(alloc, options.format, title, row, self)?);
+            }
+            Request::Matches => parts.put(matches_answer(alloc, options.format, row, self)?),
+            Request::Words => match options.format {
+                Format::Text => parts.put_words(&self.board),
+                Format::Json => parts.put(Answer::Long(words_json(alloc, row, &self.board)?)),
+            },
+        }
+        Ok(())
+    }
+}

@@ -1,0 +1,203 @@
+//! What the first row may say of the board.
+
+ghost use Rattle.std.specs.Prelude.{◌≡◌, ◌≤◌, true, IfSome, option_map};
+ghost use Rattle.ucl_order.specs.Names.{profile_named};
+ghost use Rattle.ucl_screen.specs.Rows.{four_seen};
+ghost use Rattle.ucl_screen.specs.Screen.{IsGroup};
+ghost use Rattle.ucl_command.specs.Groups.{may_be_asked};
+ghost use Rattle.ucl_runs.specs.Rows.{of_row, said_on};
+ghost use Rattle.ucl_runs.specs.Titles.{asked_group, asked_order, asked_title, group_said, is_as_asked, is_asked_group, is_asked_order, is_group_row, is_same_order, letter_in, title_by, title_for, title_said};
+
+use crate::line::LineReader;
+use crate::row::RowCount;
+use ucl_command::LiveArgs;
+use ucl_json::Title;
+use ucl_order::Profile;
+use ucl_screen::{Four, expected_of_field, is_group};
+
+/// The letter of a group, where a text is one.
+pub fn letter_in(text: &[u8]) -> Option<u8>
+    ensures told { result ≡ letter_in text.now }
+    ensures letter { IfSome result IsGroup }
+{
+    match text {
+        [letter] if is_group(*letter) => Some(*letter),
+        _ => None,
+    }
+}
+
+/// The order that a field names.
+fn order_in(text: &[u8]) -> Option<Profile>
+    ensures { result ≡ profile_named text.now }
+{
+    if text == Profile::Uefa.name().as_bytes() {
+        Some(Profile::Uefa)
+    } else if text == Profile::AwayInTie.name().as_bytes() {
+        Some(Profile::AwayInTie)
+    } else {
+        None
+    }
+}
+
+/// The title that a row of a group says.
+fn title_by(four: &Four<'_>) -> Option<Title>
+    ensures told { result ≡ title_by (four_seen four.now) }
+    ensures letter { IfSome result (λ title. IsGroup title.group) }
+{
+    let group = letter_in(four.second)?;
+    let profile = order_in(four.third)?;
+    // It has the size of the number that is expected of a match.
+    let edition = expected_of_field(four.fourth)?;
+    Some(Title {
+        group,
+        profile,
+        edition,
+    })
+}
+
+/// Whether a row is that of a group, good or bad.
+pub(crate) fn is_group_row(row: &Option<Four<'_>>) -> bool
+    ensures { result ≡ is_group_row (of_row (option_map four_seen row.now)) }
+{
+    match row {
+        None => false,
+        Some(four) => four.first == b"group".as_slice(),
+    }
+}
+
+/// The title that a row says.
+pub(crate) fn title_said(row: &Option<Four<'_>>) -> Option<Title>
+    ensures told { result ≡ title_said (of_row (option_map four_seen row.now)) }
+    ensures letter { IfSome result (λ title. IsGroup title.group) }
+{
+    match row {
+        None => None,
+        Some(four) => title_by(four),
+    }
+}
+
+/// Whether a group is that which was asked for, where one was.
+fn is_asked_group(asked: Option<u8>, group: u8) -> bool
+    ensures { result ≡ is_asked_group asked group }
+{
+    match asked {
+        None => true,
+        Some(asked) => asked == group,
+    }
+}
+
+/// Whether two orders are the same.
+fn is_same_order(one: Profile, other: Profile) -> bool
+    ensures { result ≡ is_same_order one other }
+{
+    match one {
+        Profile::Uefa => match other {
+            Profile::Uefa => true,
+            Profile::AwayInTie => false,
+        },
+        Profile::AwayInTie => match other {
+            Profile::Uefa => false,
+            Profile::AwayInTie => true,
+        },
+    }
+}
+
+/// Whether an order is that which was asked for, where one was.
+fn is_asked_order(asked: Option<Profile>, order: Profile) -> bool
+    ensures { result ≡ is_asked_order asked order }
+{
+    match asked {
+        None => true,
+        Some(asked) => is_same_order(asked, order),
+    }
+}
+
+/// Whether the group and the order are those that were asked for, where some were.
+pub(crate) fn is_as_asked(options: &LiveArgs, title: Title) -> bool
+    ensures { result ≡ is_as_asked options.now title }
+{
+    is_asked_group(options.group, title.group) && is_asked_order(options.profile, title.profile)
+}
+
+/// The group that was asked for, else A.
+#[tactic(auto, using(ucl_command::proofs::Letters::asked_letter))]
+fn asked_group(asked: Option<u8>) -> u8
+    requires { may_be_asked asked ≡ true }
+    ensures told { result ≡ asked_group asked }
+    ensures letter { IsGroup result }
+{
+    match asked {
+        None => b'A',
+        Some(group) => group,
+    }
+}
+
+/// The order that was asked for, else that of the Regulations.
+fn asked_order(asked: Option<Profile>) -> Profile
+    ensures { result ≡ asked_order asked }
+{
+    match asked {
+        None => Profile::Uefa,
+        Some(profile) => profile,
+    }
+}
+
+/// The title where no row says one.
+pub(crate) fn asked_title(options: &LiveArgs) -> Title
+    ensures told { result ≡ asked_title options.now }
+    ensures letter { IsGroup result.group }
+{
+    Title {
+        group: asked_group(options.group),
+        profile: asked_order(options.profile),
+        edition: 0,
+    }
+}
+
+/// What a row says of its group, where it is that of one: a title, or none where the row is bad.
+fn group_said(row: &Option<Four<'_>>) -> Option<Option<Title>>
+    ensures told { result ≡ group_said (of_row (option_map four_seen row.now)) }
+    ensures letter { IfSome result (λ said. IfSome said (λ title. IsGroup title.group)) }
+{
+    if is_group_row(row) {
+        Some(title_said(row))
+    } else {
+        None
+    }
+}
+
+/// What the first line of an input says, where it is the row of a group: a title, or none where the row is bad.
+pub fn first_group(line: &[u8]) -> Option<Option<Title>>
+    ensures told { result ≡ group_said (said_on 1 line.now) }
+    ensures letter { IfSome result (λ said. IfSome said (λ title. IsGroup title.group)) }
+{
+    let mut reader = LineReader::new();
+    match reader.read(1, line) {
+        RowCount::Nothing | RowCount::More => None,
+        RowCount::One => {
+            let four = reader.four();
+            group_said(&four)
+        }
+    }
+}
+
+/// The title of a board whose input says this one, or none: that, where it is as asked, or what was asked for.
+pub fn title_for(group: Option<u8>, profile: Option<Profile>, said: Option<Title>) -> Option<Title>
+    requires asked { may_be_asked group ≡ true }
+    requires said { IfSome said (λ title. IsGroup title.group) }
+    ensures told { result ≡ title_for group profile said }
+    ensures letter { IfSome result (λ title. IsGroup title.group) }
+{
+    let Some(title) = said else {
+        return Some(Title {
+            group: asked_group(group),
+            profile: asked_order(profile),
+            edition: 0,
+        });
+    };
+    if is_asked_group(group, title.group) && is_asked_order(profile, title.profile) {
+        Some(title)
+    } else {
+        None
+    }
+}
