@@ -6,8 +6,8 @@ use Rattle.ucl_board.specs.declared.entry.Entry.{Entry}
 use Rattle.ucl_board.specs.History.{after_attempt}
 use Rattle.ucl_screen.specs.declared.night.NightEvent.{NightEvent}
 use Rattle.ucl_order.specs.Roster.{NamedClub, club_in}
-use Rattle.ucl_runs.specs.Feed.{attempt_of}
-use Rattle.ucl_runs.proofs.Texts.{first-event, past}
+use Rattle.ucl_screen.specs.Events.{attempt_of}
+use Rattle.ucl_screen.proofs.EventsInTurn.{first-event, past}
 use Rattle.ucl_c.specs.declared.script.ReplyOfC.{ReplyOfC}
 use Rattle.ucl_c.specs.declared.group.ClubOfC.{ClubOfC}
 use Rattle.ucl_c.specs.Replies.{club_written, replies_from, reply_after}

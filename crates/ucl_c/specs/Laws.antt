@@ -9,12 +9,10 @@ use Rattle.ucl_screen.specs.declared.fault.InputFault.TheVariants as input
 use Rattle.ucl_screen.specs.Screen.{IsGroup, screen_text}
 use Rattle.ucl_screen.specs.Texts.{input_fault_text}
 use Rattle.ucl_screen.specs.WordsRead.{is_word, read_words}
-use Rattle.ucl_runs.specs.declared.fault.RunFault.TheVariants.{TooManyReporters}
-use Rattle.ucl_runs.specs.Faults.{fault_text}
 use Rattle.ucl_json.specs.Lines.{json_line}
 use Rattle.ucl_json.specs.Values.{bad_row_value, bad_value, screen_value}
 use Rattle.ucl_c.specs.declared.fault.Fault.{Fault}
-use Rattle.ucl_c.specs.declared.fault.Fault.TheVariants.{BadWord, BadRow, BadRoster, OutOfMemory, TooLong, FullBoard}
+use Rattle.ucl_c.specs.declared.fault.Fault.TheVariants.{BadWord, BadRow, BadRoster, OutOfMemory, TooLong}
 use Rattle.ucl_c.specs.Codes.{name_of_status}
 use Rattle.ucl_c.specs.Faults.{fault_code}
 
@@ -56,7 +54,6 @@ pub record IsAnsweredByName (row : ℕ) : Type 0 where
 pub record FaultsAreWrittenByNumber : Type 0 where
   pub inputs : (fault : InputFault) → IsWrittenAs (told_as fault) fault
   pub memory : input_fault_text input.OutOfMemory ≡ codes "out of memory " ++ decimal (fault_code OutOfMemory)
-  pub full : fault_text TooManyReporters ≡ codes "board refused " ++ decimal (fault_code FullBoard)
   pub rows : (row : ℕ) → IsAnsweredByName row
 
 -- the screen of any board has no more bytes than this, and neither has the line of JSON that answers a row with it

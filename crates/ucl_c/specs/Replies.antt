@@ -8,7 +8,7 @@ use Rattle.ucl_board.specs.History.{after_attempt, accepted_of, board_of, sequen
 use Rattle.ucl_order.specs.Roster.{NamedClub}
 use Rattle.ucl_screen.specs.declared.night.NightEvent.{NightEvent}
 use Rattle.ucl_screen.specs.Script.{Script, night_of}
-use Rattle.ucl_runs.specs.Feed.{attempt_of}
+use Rattle.ucl_screen.specs.Events.{attempt_of}
 use Rattle.ucl_c.specs.declared.script.ReplyOfC.{ReplyOfC}
 use Rattle.ucl_c.specs.declared.group.ClubOfC.{ClubOfC}
 

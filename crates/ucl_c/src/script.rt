@@ -9,7 +9,7 @@ ghost use Rattle.ucl_order.specs.Roster.{club_in};
 ghost use Rattle.ucl_screen.specs.Input.{most_bytes};
 ghost use Rattle.ucl_screen.specs.Script.{IsFaultOfScript, night_of};
 ghost use Rattle.ucl_screen.specs.Parsing.{night_seen};
-ghost use Rattle.ucl_runs.specs.Feed.{IsBoardAfter, attempt_of};
+ghost use Rattle.ucl_screen.specs.Events.{IsBoardAfter, attempt_of};
 ghost use Rattle.ucl_c.specs.declared.fault.Fault.TheVariants.{OutOfMemory};
 ghost use Rattle.ucl_c.specs.Faults.{fault_of_four, fault_of_play, fault_of_script, fault_of_twelve, first_fault, of_input, place_with, status_with};
 ghost use Rattle.ucl_c.specs.Replies.{CountsEvents, IsWholeScript, club_written, replies_to, reply_after, words_after};

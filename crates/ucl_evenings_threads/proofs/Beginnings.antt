@@ -21,7 +21,7 @@ use Rattle.ucl_screen.specs.declared.fault.InputFault.TheVariants.{BadRow}
 use Rattle.ucl_screen.specs.declared.night.NightEvent.{NightEvent}
 use Rattle.ucl_runs.specs.declared.fault.RunFault.{RunFault}
 use Rattle.ucl_runs.specs.declared.fault.RunFault.TheVariants.{Input}
-use Rattle.ucl_runs.specs.Feed.{attempt_of}
+use Rattle.ucl_screen.specs.Events.{attempt_of}
 use Rattle.ucl_evenings_threads.specs.Earlier.{entered_from}
 
 -- what holds of each good answer, whatever it is

@@ -18,7 +18,7 @@ use Rattle.ucl_screen.specs.Script.{first_event_row}
 use Rattle.ucl_runs.specs.declared.fault.RunFault.{RunFault}
 use Rattle.ucl_runs.specs.declared.fault.RunFault.TheVariants.{Input, OutOfMemory, TooManyReporters}
 use Rattle.ucl_evenings_threads.specs.declared.beginning.NoBeginning.TheVariants as no_beginning
-use Rattle.ucl_runs.specs.Feed.{attempt_of}
+use Rattle.ucl_screen.specs.Events.{attempt_of}
 
 -- the history after events, the first of which is in this row, where each is accepted; or the first row whose event is refused
 unfoldable pub entered_from : ℕ → List Entry → List NightEvent → Result (List Entry) RunFault

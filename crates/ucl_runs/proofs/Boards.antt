@@ -18,10 +18,10 @@ use Rattle.ucl_board.specs.History.{Attempt, IsAttempt, IsLegal, after_attempt, 
 use Rattle.ucl_board.proofs.HistoryLaws.{attempt_board, attempt_legal, versions}
 use Rattle.ucl_board.proofs.Histories.{reply_is}
 use Rattle.ucl_order.specs.Roster.{NamedClub}
-use Rattle.ucl_runs.specs.Feed.{attempt_of, line_of_reply, reply_line}
+use Rattle.ucl_runs.specs.Feed.{line_of_reply, reply_line}
 use Rattle.ucl_screen.specs.declared.night.NightEvent.{NightEvent}
 use Rattle.ucl_screen.specs.Numbers.{in_range, number}
-use Rattle.ucl_screen.specs.Events.{◌>>=◌, event_of}
+use Rattle.ucl_screen.specs.Events.{◌>>=◌, event_of, attempt_of}
 use Rattle.ucl_screen.specs.Rows.{FourFields}
 use Rattle.ucl_json.specs.declared.title.Title.{Title}
 use Rattle.ucl_command.specs.declared.options.Format.{Format}

@@ -4,7 +4,7 @@ use Rattle.std.proofs.lemmas.List.{take-append-drop}
 use Rattle.std.proofs.lemmas.List.Elements.{All-more}
 use Rattle.ucl_screen.specs.declared.night.NightEvent.{NightEvent}
 use Rattle.ucl_runs.specs.Nights.{IsOnDuty, IsFirstOffDuty}
-use Rattle.ucl_runs.proofs.Texts.{first-event}
+use Rattle.ucl_screen.proofs.EventsInTurn.{first-event}
 
 one_or_two : (n : ℕ) → 1 ≤ n → n ≤ 2 → (n ≡ 1) ⊎ (n ≡ 2)
 one_or_two zero low high = absurd (omega arith)

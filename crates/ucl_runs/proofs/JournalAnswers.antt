@@ -23,9 +23,8 @@ use Rattle.ucl_board.specs.History.{Attempt, IsAttempt, board_after, board_of}
 use Rattle.ucl_board.specs.Words.{AreWords, game_at, version_of, word_at}
 use Rattle.ucl_board.proofs.Repeats.{no_refusal}
 use Rattle.ucl_order.specs.Roster.{IsClub, IsRoster, NamedClub, bad_slot, bad_slot_from, is_club}
-use Rattle.ucl_runs.specs.Feed.{attempt_of}
 use Rattle.ucl_screen.specs.declared.night.NightEvent.{NightEvent}
-use Rattle.ucl_screen.specs.Events.{◌>>=◌, event_of}
+use Rattle.ucl_screen.specs.Events.{◌>>=◌, event_of, attempt_of}
 use Rattle.ucl_screen.specs.Numbers.{in_range, number}
 use Rattle.ucl_screen.specs.Rows.{FourFields}
 use Rattle.ucl_screen.specs.WordsRead.{read_words}

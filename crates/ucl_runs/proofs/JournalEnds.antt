@@ -8,7 +8,7 @@ use Rattle.ucl_board.specs.History.{board_after, board_of}
 use Rattle.ucl_board.specs.Words.{game_at, version_of}
 use Rattle.ucl_board.proofs.Repeats.{go_on}
 use Rattle.ucl_order.specs.Roster.{NamedClub}
-use Rattle.ucl_runs.specs.Feed.{attempt_of}
+use Rattle.ucl_screen.specs.Events.{attempt_of}
 use Rattle.ucl_screen.specs.Rows.{FourFields}
 use Rattle.ucl_screen.specs.declared.night.NightEvent.{NightEvent}
 use Rattle.ucl_command.specs.declared.options.Format.TheVariants.{Json}

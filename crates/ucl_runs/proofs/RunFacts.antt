@@ -1,14 +1,11 @@
 -- The text of an input that was accepted.
-use Rattle.std.proofs.Common.{◌≡◌, ℕ, ◌≤◌, List, Option, Some, None}
+use Rattle.std.proofs.Common.{◌≡◌, ℕ, List, Option, Some, None}
 use Rattle.std.specs.Prelude.{Bool, Result, Ok, Err, IfSome, IfErr, OnOk}
 use Rattle.ucl_order.specs.declared.profile.Profile.{Profile}
 use Rattle.ucl_screen.specs.Script.{Script, WrittenSheet}
 use Rattle.ucl_screen.specs.Parsing.{MeansNight, MeansSheet}
 use Rattle.ucl_screen.specs.Screen.{screen_text}
-use Rattle.ucl_board.specs.declared.entry.Entry.{Entry}
-use Rattle.ucl_board.specs.Words.{greatest_version}
-use Rattle.ucl_board.proofs.HistoryLaws.{versions}
-use Rattle.ucl_runs.specs.Feed.{IsBoardAfter, IsFed, feed_text}
+use Rattle.ucl_runs.specs.Feed.{IsFed, feed_text}
 use Rattle.ucl_runs.specs.Show.{IsShown}
 use Rattle.ucl_runs.specs.declared.fault.RunFault.{RunFault}
 use Rattle.ucl_runs.specs.declared.fault.RunFault.TheVariants.{Input, OutOfMemory, WriteFailed, NotOnDuty, NoThread, TooManyReporters, Strangers}
@@ -48,6 +45,3 @@ part-out (Err NoThread) CallsFor known text failed old new is h = tt
 part-out (Err TooManyReporters) CallsFor known text failed old new is h = tt
 part-out (Err (Strangers version)) CallsFor known text failed old new is h = tt
 part-out (Err (WriteFailed written)) CallsFor known text failed old new is h = text-has CallsFor known text (WroteFirst old new written) is h.1
-
-pub version-bound : (history : List Entry) (words : List ℕ) (version : ℕ) → IsBoardAfter history words version → version ≤ greatest_version
-version-bound history words version is = rw is.version_is (versions history is.legal).1

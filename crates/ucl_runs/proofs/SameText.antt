@@ -14,8 +14,8 @@ use Rattle.ucl_board.specs.Words.{AreWords, game_at, version_of}
 use Rattle.ucl_board.specs.History.{IsAttempt, board_of}
 use Rattle.ucl_board.proofs.Repeats.{no_refusal}
 use Rattle.ucl_order.specs.Roster.{NamedClub, bad_slot}
-use Rattle.ucl_runs.specs.Feed.{attempt_of, line_of_reply, word_lines}
-use Rattle.ucl_screen.specs.Events.{◌>>=◌}
+use Rattle.ucl_runs.specs.Feed.{line_of_reply, word_lines}
+use Rattle.ucl_screen.specs.Events.{◌>>=◌, attempt_of}
 use Rattle.ucl_screen.specs.Matches.{matches_text}
 use Rattle.ucl_screen.specs.Screen.{screen_text}
 use Rattle.ucl_screen.specs.WordsRead.{read_words}

@@ -1,16 +1,13 @@
 -- Texts written one line at a time.
-use Rattle.std.proofs.Common.{◌≡◌, ℕ, suc, ◌+◌, ◌<◌, ◌≤◌, List, [], ◌∷◌, ◌++◌, length, map, drop, get_or, sym, ap, ◌∙◌, append_assoc, add-one, drop-cons, arith}
-use Rattle.std.specs.List.{fold}
-use Rattle.std.proofs.lemmas.Grind.{common_steps}
+use Rattle.std.proofs.Common.{◌≡◌, ℕ, ◌+◌, ◌<◌, ◌≤◌, List, ◌∷◌, ◌++◌, length, drop, get_or, sym, ◌∙◌, append_assoc, add-one, drop-cons}
 use Rattle.std.proofs.lemmas.List.{append-nil}
 use Rattle.ucl_board.specs.declared.entry.Entry.{Entry}
 use Rattle.ucl_board.specs.History.{after_attempt}
 use Rattle.ucl_screen.specs.declared.night.NightEvent.{NightEvent}
 use Rattle.ucl_runs.specs.Lines.{word_line}
-use Rattle.ucl_runs.specs.Feed.{attempt_of, reply_lines, reply_line, word_lines}
-
-pub past : {X : Type 0} (i : ℕ) (xs : List X) → length xs ≤ i → drop i xs ≡ []
-past i xs h = grind (arith, common_steps)
+use Rattle.ucl_screen.specs.Events.{attempt_of}
+use Rattle.ucl_screen.proofs.EventsInTurn.{first-event, past}
+use Rattle.ucl_runs.specs.Feed.{reply_lines, reply_line, word_lines}
 
 pub words-step : (index i : ℕ) (words out new whole : List ℕ) → i < length words → out ++ word_lines index (drop i words) ≡ whole
     → new ≡ out ++ word_line index (get_or words i 0) → new ++ word_lines (index + 1) (drop (i + 1) words) ≡ whole
@@ -23,9 +20,6 @@ pub words-end : (index i : ℕ) (words out whole : List ℕ) → length words �
 unfolding word_lines
 words-end index i words out whole h so_far = sym (append-nil out) ∙ (rw (past i words h) at so_far)
 
-pub first-event : (i : ℕ) (events : List NightEvent) (e : NightEvent) → i < length events → e ≡ get_or events i e → drop i events ≡ e ∷ drop (i + 1) events
-first-event i events e h is = rw (add-one i) (drop-cons events i e h ∙ ap (λ (x : NightEvent). x ∷ drop (suc i) events) (sym is))
-
 pub replies-step : (row i : ℕ) (events : List NightEvent) (e : NightEvent) (history : List Entry) (out new whole : List ℕ) → i < length events → e ≡ get_or events i e
     → out ++ reply_lines row history (drop i events) ≡ whole → new ≡ out ++ reply_line row history e.call
     → new ++ reply_lines (row + 1) (after_attempt history (attempt_of e)) (drop (i + 1) events) ≡ whole
@@ -36,11 +30,3 @@ replies-step row i events e history out new whole h is so_far line =
 pub replies-end : (row i : ℕ) (events : List NightEvent) (history : List Entry) (out whole : List ℕ) → length events ≤ i → out ++ reply_lines row history (drop i events) ≡ whole → out ≡ whole
 unfolding reply_lines
 replies-end row i events history out whole h so_far = sym (append-nil out) ∙ (rw (past i events h) at so_far)
-
-pub history-step : (i : ℕ) (events : List NightEvent) (e : NightEvent) (history whole : List Entry) → i < length events → e ≡ get_or events i e
-    → fold after_attempt history (map attempt_of (drop i events)) ≡ whole
-    → fold after_attempt (after_attempt history (attempt_of e)) (map attempt_of (drop (i + 1) events)) ≡ whole
-history-step i events e history whole h is so_far = rw (first-event i events e h is) at so_far
-
-pub history-end : (i : ℕ) (events : List NightEvent) (history whole : List Entry) → length events ≤ i → fold after_attempt history (map attempt_of (drop i events)) ≡ whole → history ≡ whole
-history-end i events history whole h so_far = rw (past i events h) at so_far

@@ -32,7 +32,7 @@ use Rattle.ucl_order.proofs.Scores.{same_rows}
 use Rattle.ucl_screen.specs.declared.night.NightEvent.{NightEvent}
 use Rattle.ucl_screen.specs.Lines.{header}
 use Rattle.ucl_screen.specs.Screen.{columns, in_play, row_line, screen_text}
-use Rattle.ucl_runs.specs.Feed.{attempt_of}
+use Rattle.ucl_screen.specs.Events.{attempt_of}
 use Rattle.ucl_runs.specs.Nights.{EachMatchHasOneReporter, IsMerge, IsOnDuty, attempt_by, number_of_two}
 use Rattle.ucl_runs.proofs.Merges.{entries_agree}
 

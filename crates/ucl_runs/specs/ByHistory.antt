@@ -5,7 +5,8 @@ use Rattle.ucl_board.specs.declared.entry.Entry.{Entry}
 use Rattle.ucl_board.specs.History.{Attempt, after_attempt, board_of, sequential_reply}
 use Rattle.ucl_order.specs.Roster.{NamedClub}
 use Rattle.ucl_screen.specs.declared.night.NightEvent.{NightEvent}
-use Rattle.ucl_runs.specs.Feed.{attempt_of, reply_line}
+use Rattle.ucl_runs.specs.Feed.{reply_line}
+use Rattle.ucl_screen.specs.Events.{attempt_of}
 use Rattle.ucl_json.specs.Lines.{json_line}
 use Rattle.ucl_json.specs.declared.title.Title.{Title}
 use Rattle.ucl_json.specs.Values.{reply_value}

@@ -4,15 +4,12 @@ use Rattle.ucl_word.specs.declared.event.EventCall.{EventCall}
 use Rattle.ucl_word.specs.declared.event.Accepted.{Accepted}
 use Rattle.ucl_word.specs.declared.refusal.Refusal.{Refusal}
 use Rattle.ucl_board.specs.declared.entry.Entry.{Entry}
-use Rattle.ucl_board.specs.History.{IsLegal, Attempt, attempted, after_attempt, accepted_of, board_of, sequential_reply}
+use Rattle.ucl_board.specs.History.{after_attempt, accepted_of, board_of, sequential_reply}
 use Rattle.ucl_screen.specs.declared.night.NightEvent.{NightEvent}
+use Rattle.ucl_screen.specs.Events.{attempt_of}
 use Rattle.ucl_screen.specs.Script.{Script, first_event_row}
 use Rattle.ucl_screen.specs.Parsing.{MeansNight}
 use Rattle.ucl_runs.specs.Lines.{accepted_line, refused_line, word_line}
-
--- who enters the event of a row, and the event
-abbrev pub attempt_of : NightEvent → Attempt
-attempt_of event = attempted event.reporter event.call
 
 -- the line of a reply, where so many events were accepted before: an accepted one raises the version by one
 abbrev pub line_of_reply : ℕ → ℕ → ℕ → Result Accepted Refusal → List ℕ
@@ -42,9 +39,3 @@ pub record IsFed (bytes text : List ℕ) : Type 0 where
   pub night : Script
   pub means : MeansNight bytes (Ok night)
   pub text_is : text ≡ feed_text night.events
-
--- the words of the board after a legal history, and its version
-pub record IsBoardAfter (history : List Entry) (words : List ℕ) (version : ℕ) : Type 0 where
-  pub legal : IsLegal history
-  pub words_are : board_of history ≡ words
-  pub version_is : version ≡ length history

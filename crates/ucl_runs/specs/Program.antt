@@ -18,7 +18,8 @@ use Rattle.ucl_runs.specs.declared.fault.RunFault.{RunFault}
 use Rattle.ucl_runs.specs.declared.fault.RunFault.TheVariants.{Input, OutOfMemory, WriteFailed, NotOnDuty, NoThread, TooManyReporters, Strangers}
 use Rattle.ucl_runs.specs.Ending.{Ends, EndsUnasked}
 use Rattle.ucl_runs.specs.Faults.{IsOfOneThread}
-use Rattle.ucl_runs.specs.Feed.{IsFed, attempt_of}
+use Rattle.ucl_runs.specs.Feed.{IsFed}
+use Rattle.ucl_screen.specs.Events.{attempt_of}
 use Rattle.ucl_runs.specs.Show.{IsShown}
 use Rattle.ucl_runs.specs.Nights.{EachMatchHasOneReporter, IsFirstOffDuty, IsMerge, IsOnDuty, night_text, number_of_two}
 use Rattle.ucl_io.specs.Stream.{WroteFirst}

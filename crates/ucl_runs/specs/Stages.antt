@@ -3,7 +3,7 @@ use Rattle.std.specs.Prelude.{ℕ, ◌+◌, ◌-◌, ◌^◌, min, ◌==◌, ◌
 use Rattle.std.specs.Str.{bytes_eq}
 use Rattle.ucl_board.specs.History.{board_after, board_of}
 use Rattle.ucl_order.specs.Roster.{NamedClub, bad_slot}
-use Rattle.ucl_runs.specs.Feed.{attempt_of}
+use Rattle.ucl_screen.specs.Events.{attempt_of}
 use Rattle.ucl_screen.specs.Script.{club_of, word_of_row}
 use Rattle.ucl_command.specs.declared.live.LiveArgs.{LiveArgs}
 use Rattle.ucl_runs.specs.declared.live_fault.BeginningFault.{BeginningFault}

@@ -8,7 +8,8 @@ ghost use Rattle.ucl_screen.specs.Input.{most_bytes};
 ghost use Rattle.ucl_screen.specs.Script.{first_event_row};
 ghost use Rattle.ucl_screen.specs.Parsing.{MeansNight, night_seen};
 ghost use Rattle.ucl_runs.specs.Faults.{IsOfOneThread};
-ghost use Rattle.ucl_runs.specs.Feed.{IsBoardAfter, IsFed, attempt_of, feed_text, reply_line, reply_lines, word_lines};
+ghost use Rattle.ucl_runs.specs.Feed.{IsFed, feed_text, reply_line, reply_lines, word_lines};
+ghost use Rattle.ucl_screen.specs.Events.{IsBoardAfter, attempt_of};
 ghost use Rattle.ucl_runs.specs.Run.{BlamesInput, BlamesOutput, CallsWithin, TellsMemoryApart, WritesAll, WritesFirst, WritesNothing, is_read_failed};
 
 use crate::RunFault;

@@ -11,3 +11,4 @@ pub mod ScriptFaults
 pub mod ReadWords
 pub mod FaultLines
 pub mod OneMatchMore
+pub mod EventsInTurn

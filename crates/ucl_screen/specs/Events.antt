@@ -1,7 +1,9 @@
 -- What a row of a script says.
-use Rattle.std.specs.Prelude.{ℕ, List, Option, Some, option_and_then}
+use Rattle.std.specs.Prelude.{◌≡◌, ℕ, List, length, Option, Some, option_and_then}
 use Rattle.ucl_word.specs.declared.event.EventCall.{EventCall}
 use Rattle.ucl_word.specs.Names.{kind_named}
+use Rattle.ucl_board.specs.declared.entry.Entry.{Entry}
+use Rattle.ucl_board.specs.History.{IsLegal, Attempt, attempted, board_of}
 use Rattle.ucl_screen.specs.declared.night.NightEvent.{NightEvent}
 use Rattle.ucl_screen.specs.Numbers.{number, in_range}
 use Rattle.ucl_screen.specs.Rows.{FourFields}
@@ -34,3 +36,15 @@ event_of f = do
   reporter ← reporter_in f.first
   call ← call_in f.second f.third f.fourth
   Some (record { reporter = reporter; call = call })
+
+-- ---- events in turn
+
+-- who enters the event of a row, and the event
+abbrev pub attempt_of : NightEvent → Attempt
+attempt_of event = attempted event.reporter event.call
+
+-- the words of the board after a legal history, and its version
+pub record IsBoardAfter (history : List Entry) (words : List ℕ) (version : ℕ) : Type 0 where
+  pub legal : IsLegal history
+  pub words_are : board_of history ≡ words
+  pub version_is : version ≡ length history

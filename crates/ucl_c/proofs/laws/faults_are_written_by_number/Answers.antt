@@ -20,7 +20,6 @@ unfolding digits
 faults = record {
   inputs = by_number;
   memory = refl;
-  full = refl;
   rows = λ row. record { name = codes "bad-row"; named = refl; answered = λ field text. refl };
 }
 

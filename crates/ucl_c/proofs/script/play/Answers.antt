@@ -1,8 +1,7 @@
 use Rattle.std.proofs.Common.{◌<◌, ◌≤◌, length, arith, sym}
 use Rattle.ucl_board.specs.History.{after_attempt}
-use Rattle.ucl_runs.specs.Feed.{attempt_of}
-use Rattle.ucl_runs.proofs.RunFacts.{version-bound}
-use Rattle.ucl_runs.proofs.Texts.{history-end, history-step}
+use Rattle.ucl_screen.specs.Events.{attempt_of}
+use Rattle.ucl_screen.proofs.EventsInTurn.{history-end, history-step, version-bound}
 use Rattle.ucl_c.proofs.PlayedScripts.{replies-done, replies-more}
 use Rattle.ucl_c.proofs.script.play.Goals as goal
 

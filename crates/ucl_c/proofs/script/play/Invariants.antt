@@ -2,7 +2,7 @@ use Rattle.std.proofs.Common.{◌≡◌, List, ◌+◌, ◌++◌, drop, map, tak
 use Rattle.std.specs.List.{fold}
 use Rattle.ucl_board.specs.declared.entry.Entry.{Entry}
 use Rattle.ucl_board.specs.History.{accepted_of, after_attempt}
-use Rattle.ucl_runs.specs.Feed.{IsBoardAfter, attempt_of}
+use Rattle.ucl_screen.specs.Events.{IsBoardAfter, attempt_of}
 use Rattle.ucl_c.specs.Replies.{replies_from, replies_to}
 use Rattle.ucl_c.proofs.script.play.Given as goal
 

@@ -1,8 +1,8 @@
 use Rattle.std.proofs.Common.{arith, sym}
 use Rattle.ucl_board.specs.History.{after_attempt}
-use Rattle.ucl_runs.specs.Feed.{attempt_of}
-use Rattle.ucl_runs.proofs.RunFacts.{version-bound}
-use Rattle.ucl_runs.proofs.Texts.{history-end, history-step, replies-end, replies-step}
+use Rattle.ucl_screen.specs.Events.{attempt_of}
+use Rattle.ucl_runs.proofs.Texts.{replies-end, replies-step}
+use Rattle.ucl_screen.proofs.EventsInTurn.{history-end, history-step, version-bound}
 use Rattle.ucl_runs.proofs.feed.push_replies.Goals as goal
 
 pub push_reply-requires : goal.push_reply-requires

@@ -2,7 +2,8 @@ use Rattle.std.proofs.Common.{◌≡◌, List, [], ◌+◌, ◌++◌, drop, map,
 use Rattle.std.specs.List.{fold}
 use Rattle.ucl_board.specs.declared.entry.Entry.{Entry}
 use Rattle.ucl_board.specs.History.{accepted_of, after_attempt}
-use Rattle.ucl_runs.specs.Feed.{IsBoardAfter, attempt_of, reply_lines}
+use Rattle.ucl_runs.specs.Feed.{reply_lines}
+use Rattle.ucl_screen.specs.Events.{IsBoardAfter, attempt_of}
 use Rattle.ucl_runs.proofs.feed.push_replies.Given as goal
 
 abbrev pub invariant-loop-event : goal.invariant-loop-event
