@@ -17,15 +17,14 @@ use Rattle.ucl_order.specs.Roster.{IsClub, IsRoster, NamedClub, bad_slot, bad_sl
 use Rattle.ucl_screen.specs.Numbers.{hex_digits}
 use Rattle.ucl_screen.specs.Numbers.{hex_after, hex_digit, hex_word}
 use Rattle.ucl_screen.specs.declared.night.NightEvent.{NightEvent}
-use Rattle.ucl_screen.specs.Screen.{IsGroup}
+use Rattle.ucl_screen.specs.Screen.{IsGroup, letter_in}
 use Rattle.ucl_screen.specs.WordsRead.{read_words}
 use Rattle.ucl_screen.proofs.ReadWords.{all-read}
 use Rattle.ucl_json.specs.Values.{accepted_value, club_items, edition_screen_value, number_value, screen_value, word_items}
-use Rattle.ucl_runs.specs.Titles.{letter_in}
 use Rattle.ucl_runs.proofs.WordDigits.{low, word-digits}
-use Rattle.ucl_runs.specs.declared.moment.Moment.{Moment}
-use Rattle.ucl_runs.specs.Told.{board_told, club_told, clubs_told, each_told, edition_in, edition_told, group_told, if_read, just, list_at, listed, moment_told}
-use Rattle.ucl_runs.specs.Told.{order_told, roster_told, text_at, word_told}
+use Rattle.ucl_json.specs.declared.moment.Moment.{Moment}
+use Rattle.ucl_json.specs.Told.{board_told, club_told, clubs_told, each_told, edition_in, edition_told, group_told, if_read, just, list_at, listed, moment_told}
+use Rattle.ucl_json.specs.Told.{order_told, roster_told, text_at, word_told}
 use Rattle.ucl_runs.specs.Answered.{AnswersTellTheirMoment, IsMoment}
 
 -- ---- digits

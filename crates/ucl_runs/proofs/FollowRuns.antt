@@ -17,7 +17,7 @@ use Rattle.ucl_command.specs.declared.follow.FollowArgs.{FollowArgs}
 use Rattle.ucl_runs.specs.declared.follower.Follower.{Follower}
 use Rattle.ucl_runs.specs.declared.following.Following.{Following}
 use Rattle.ucl_runs.specs.declared.follow.Followed.{Followed}
-use Rattle.ucl_runs.specs.Told.{moment_on}
+use Rattle.ucl_json.specs.Told.{moment_on}
 use Rattle.ucl_runs.specs.Follow.{after_told, follow_end, follow_text, followed, resuming_text, sights, told_text, unseen, whole_lines}
 use Rattle.ucl_runs.specs.Hearing.{FollowFails, FollowStops, HeardFirst, IsFollowedSoFar, counts_of, heard, heard_text}
 

@@ -37,11 +37,11 @@ use Rattle.ucl_runs.specs.declared.request.Request.TheVariants.{Bad, Event, Scre
 use Rattle.ucl_runs.specs.ByHistory.{attempts_of, attempts_on}
 use Rattle.ucl_runs.specs.BadRows.{shown_text}
 use Rattle.ucl_json.specs.declared.title.Title.{Title}
-use Rattle.ucl_screen.specs.Screen.{IsGroup}
+use Rattle.ucl_screen.specs.Screen.{IsGroup, letter_in}
 use Rattle.ucl_order.specs.declared.profile.Profile.{Profile}
 use Rattle.ucl_order.specs.Names.{profile_named}
 use Rattle.ucl_runs.specs.declared.live_fault.BeginningFault.TheVariants.{OtherGroup}
-use Rattle.ucl_runs.specs.Titles.{asked_group, asked_title, edition_by, is_as_asked, is_group_row, letter_in, title_by, title_said}
+use Rattle.ucl_runs.specs.Titles.{asked_group, asked_title, edition_by, is_as_asked, is_group_row, title_by, title_said}
 use Rattle.ucl_command.specs.Groups.{may_be_asked}
 use Rattle.ucl_command.proofs.Letters.{asked_letter}
 use Rattle.ucl_runs.proofs.Silence.{is_open}
@@ -53,9 +53,9 @@ use Rattle.ucl_runs.specs.LiveText.{Evening, after_lines, answer_at, answer_of, 
 use Rattle.ucl_runs.proofs.Boards.{AreAttempts, asked, asked-by, event-is_attempt}
 use Rattle.ucl_runs.proofs.GoodBoards.{fresh-good, good-after, read-good, version-after}
 use Rattle.ucl_runs.proofs.OneByOne.{after-none, after-one, answers-none, answers-one}
-use Rattle.ucl_runs.specs.declared.moment.Moment.{Moment}
+use Rattle.ucl_json.specs.declared.moment.Moment.{Moment}
 use Rattle.ucl_runs.specs.Answered.{HasNumbers, IsMoment}
-use Rattle.ucl_runs.specs.Told.{moment_on}
+use Rattle.ucl_json.specs.Told.{moment_on}
 use Rattle.ucl_runs.specs.Follow.{version_at}
 use Rattle.ucl_runs.specs.Journals.{moment_at, moment_now, moment_with}
 use Rattle.ucl_runs.proofs.JournalLines.{IsLineThat, IsShown, TellsAlone, TellsAtMost, alone-as, alone-line, alone-none, alone-then, bad-line}

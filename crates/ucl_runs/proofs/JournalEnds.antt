@@ -22,7 +22,7 @@ use Rattle.ucl_runs.specs.Stages.{Stage, Open, next_board, next_stage, opened}
 use Rattle.ucl_runs.specs.LiveText.{Evening, after_lines, answers, next, start_of}
 use Rattle.ucl_runs.proofs.Boards.{boards}
 use Rattle.ucl_runs.proofs.OneByOne.{after-append, after-none, after-one}
-use Rattle.ucl_runs.specs.declared.moment.Moment.{Moment}
+use Rattle.ucl_json.specs.declared.moment.Moment.{Moment}
 use Rattle.ucl_runs.specs.Follow.{followed, is_later, unseen, version_at, whole_lines}
 use Rattle.ucl_runs.specs.Journals.{CrashesChangeNothing, IsAnsweredIn, TakesEvent, JournalsEndWithTheBoard, moment_at, moment_now, moment_with}
 use Rattle.ucl_runs.specs.Latest.{IsLatest, IsNoNewer, IsToldIn}

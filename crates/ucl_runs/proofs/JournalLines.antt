@@ -29,10 +29,10 @@ use Rattle.ucl_json.proofs.OneLine.{one_line}
 use Rattle.ucl_runs.specs.BadRows.{field_name, printed, shown_text}
 use Rattle.ucl_runs.specs.declared.bad_row.BadField.{BadField}
 use Rattle.ucl_runs.specs.declared.bad_row.BadField.TheVariants.{Count, Reporter, Match, Expected, Event}
-use Rattle.ucl_runs.specs.declared.moment.Moment.{Moment}
+use Rattle.ucl_json.specs.declared.moment.Moment.{Moment}
 use Rattle.ucl_runs.specs.Answered.{HasNumbers}
-use Rattle.ucl_runs.specs.Told.{moment_on, moment_told}
-use Rattle.ucl_runs.proofs.Members.{too-long}
+use Rattle.ucl_json.specs.Told.{moment_on, moment_told}
+use Rattle.ucl_json.proofs.Members.{too-long}
 use Rattle.ucl_runs.proofs.Matches.{match-plain, matches-plain, matches-short}
 use Rattle.ucl_runs.proofs.PlainAnswers.{kind-text, words-plain}
 use Rattle.ucl_runs.proofs.ReadBack.{IsPlain, IsText, size, told-by-line, told-if-short}

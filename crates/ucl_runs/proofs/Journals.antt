@@ -27,9 +27,9 @@ use Rattle.ucl_runs.proofs.Boards.{asked, boards}
 use Rattle.ucl_runs.proofs.GoodBoards.{good-after, version-after}
 use Rattle.ucl_runs.proofs.OneByOne.{after-append, after-last, after-none, answers-append, answers-one}
 use Rattle.ucl_json.specs.declared.title.Title.{Title}
-use Rattle.ucl_runs.specs.declared.moment.Moment.{Moment}
+use Rattle.ucl_json.specs.declared.moment.Moment.{Moment}
 use Rattle.ucl_runs.specs.declared.following.Following.{Following}
-use Rattle.ucl_runs.specs.Told.{moment_on}
+use Rattle.ucl_json.specs.Told.{moment_on}
 use Rattle.ucl_runs.specs.Follow.{after_told, follow_text, followed, is_later, is_newer, passed_over, resuming_text, shown_too, sights, told_text, unseen, version_at, whole_lines}
 use Rattle.ucl_runs.specs.Journals.{CutJournalsResume, TakesEvent, IsAnsweredIn, ResumesTheBoard, moment_at, moment_now, moment_with}
 use Rattle.ucl_runs.specs.Latest.{IsToldIn}

@@ -30,7 +30,6 @@ pub mod LiveTold
 pub mod GoodBoards
 pub mod SameText
 pub mod TitleRows
-pub mod Members
 pub mod FollowShown
 pub mod FollowRuns
 pub mod Answered

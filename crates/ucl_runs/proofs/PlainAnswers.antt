@@ -36,7 +36,7 @@ use Rattle.ucl_screen.specs.Numbers.{hex_digits}
 use Rattle.ucl_screen.specs.Screen.{IsGroup, in_play}
 use Rattle.ucl_json.specs.Values.{accepted_value, club_items, club_value, edition_screen_value, mark_name, place_items, place_value, screen_value, word_items}
 use Rattle.ucl_runs.proofs.WordDigits.{low, word-digits}
-use Rattle.ucl_runs.specs.declared.moment.Moment.{Moment}
+use Rattle.ucl_json.specs.declared.moment.Moment.{Moment}
 use Rattle.ucl_runs.specs.Answered.{HasNumbers, IsMoment, LinesTellTheirMoment}
 use Rattle.ucl_runs.proofs.Answered.{answered, both, long}
 use Rattle.ucl_runs.proofs.ReadBack.{ArePlain, IsPlain, IsPlainNumber, IsText, items_size, size, told-by-line}

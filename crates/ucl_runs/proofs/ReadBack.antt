@@ -23,8 +23,8 @@ use Rattle.serde_json.specs.Written.{compact_text, items_text, members_text, num
 use Rattle.serde_json.proofs.Numbers.{number_of-decimal, number_of-negative}
 use Rattle.serde_json.proofs.Texts.{print-outline}
 use Rattle.ucl_order.specs.Roster.{is_printed}
-use Rattle.ucl_runs.specs.Told.{moment_on, moment_told}
-use Rattle.ucl_runs.proofs.Members.{was-read}
+use Rattle.ucl_json.specs.Told.{moment_on, moment_told}
+use Rattle.ucl_json.proofs.Members.{was-read}
 
 abbrev pub IsText : List ℕ → Type 0
 IsText s = list_all is_printed s ≡ true

@@ -27,7 +27,7 @@ use Rattle.ucl_runs.specs.Holding.{after_bytes, answers_to}
 use Rattle.ucl_runs.specs.LiveText.{Evening, after_lines, answer_at, answer_said, answers, live_text, next, start_of}
 use Rattle.ucl_runs.proofs.Boards.{sequential}
 use Rattle.ucl_runs.proofs.OneByOne.{after-append, after-last, answers-append, answers-last, text-append}
-use Rattle.ucl_runs.specs.declared.moment.Moment.{Moment}
+use Rattle.ucl_json.specs.declared.moment.Moment.{Moment}
 use Rattle.ucl_runs.specs.Answered.{IsMoment}
 use Rattle.ucl_runs.specs.Follow.{club_row, group_row, is_plain_title, resuming_rows}
 use Rattle.ucl_runs.specs.Resuming.{ResumedRowsOpenTheBoard, opened_at}

@@ -6,8 +6,8 @@ use Rattle.ucl_order.specs.Roster.{IsRoster}
 use Rattle.ucl_screen.specs.declared.night.NightEvent.{NightEvent}
 use Rattle.ucl_screen.specs.Screen.{IsGroup}
 use Rattle.ucl_json.specs.Values.{accepted_value, edition_screen_value, matches_value}
-use Rattle.ucl_runs.specs.declared.moment.Moment.{Moment}
-use Rattle.ucl_runs.specs.Told.{moment_on, moment_told}
+use Rattle.ucl_json.specs.declared.moment.Moment.{Moment}
+use Rattle.ucl_json.specs.Told.{moment_on, moment_told}
 
 -- a moment of a group of good clubs and a board, whose words have 64 bits, and whose edition has 16
 pub record IsMoment (m : Moment) : Type 0 where

@@ -12,11 +12,11 @@ use Rattle.ucl_json.specs.Lines.{json_line}
 use Rattle.ucl_json.specs.Values.{edition_screen_value}
 use Rattle.ucl_json.specs.declared.title.Title.{Title}
 use Rattle.ucl_runs.specs.Titles.{is_same_order}
-use Rattle.ucl_runs.specs.declared.moment.Moment.{Moment}
+use Rattle.ucl_json.specs.declared.moment.Moment.{Moment}
 use Rattle.ucl_runs.specs.declared.following.Following.{Following}
 use Rattle.ucl_command.specs.declared.follow.FollowArgs.{FollowArgs}
 use Rattle.ucl_command.specs.declared.follow.FollowArgs.TheVariants.{Text, Json, Matches, Rows}
-use Rattle.ucl_runs.specs.Told.{moment_on}
+use Rattle.ucl_json.specs.Told.{moment_on}
 
 abbrev pub version_at : Moment → ℕ
 version_at moment = version_of moment.board

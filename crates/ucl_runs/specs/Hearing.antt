@@ -10,7 +10,7 @@ use Rattle.ucl_runs.specs.declared.follower.Follower.{Follower}
 use Rattle.ucl_runs.specs.declared.follower.Sight.{Sight}
 use Rattle.ucl_runs.specs.declared.follower.Sight.TheVariants.{Nothing, Screen, Rows}
 use Rattle.ucl_runs.specs.declared.following.Following.{Following}
-use Rattle.ucl_runs.specs.declared.moment.Moment.{Moment}
+use Rattle.ucl_json.specs.declared.moment.Moment.{Moment}
 use Rattle.ucl_runs.specs.declared.follow.Followed.{Followed}
 use Rattle.ucl_command.specs.declared.follow.FollowArgs.{FollowArgs}
 use Rattle.ucl_runs.specs.Follow.{after_told, follow_text, sights, unseen, whole_lines}

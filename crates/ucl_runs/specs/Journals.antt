@@ -16,7 +16,7 @@ use Rattle.ucl_runs.specs.Stages.{Stage, Beginning, Naming, Open, Refused, Resto
 use Rattle.ucl_runs.specs.LiveText.{Evening, after_lines, answers, live_text, start_of}
 use Rattle.ucl_json.specs.declared.title.Title.{Title}
 use Rattle.ucl_runs.specs.Titles.{is_as_asked}
-use Rattle.ucl_runs.specs.declared.moment.Moment.{Moment}
+use Rattle.ucl_json.specs.declared.moment.Moment.{Moment}
 use Rattle.ucl_runs.specs.Follow.{follow_text, resuming_text, whole_lines}
 use Rattle.ucl_runs.specs.Latest.{IsLatest, IsToldIn}
 use Rattle.ucl_runs.specs.Repeats.{HasRepeats}

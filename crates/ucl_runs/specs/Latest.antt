@@ -1,10 +1,10 @@
 -- What holds of all that is followed.
 use Rattle.std.specs.Prelude.{◌≡◌, ◌⊎◌, ⊤, true, ℕ, if◌then◌else◌, All, List, [], ◌∷◌, ◌++◌, flat_map, Option, Some, None}
 use Rattle.ucl_screen.specs.Screen.{screen_text}
-use Rattle.ucl_runs.specs.declared.moment.Moment.{Moment}
+use Rattle.ucl_json.specs.declared.moment.Moment.{Moment}
 use Rattle.ucl_runs.specs.declared.following.Following.{Following}
 use Rattle.ucl_command.specs.declared.follow.FollowArgs.TheVariants.{Text}
-use Rattle.ucl_runs.specs.Told.{moment_on}
+use Rattle.ucl_json.specs.Told.{moment_on}
 use Rattle.ucl_runs.specs.Follow.{after_told, followed, is_later, is_newer, sights, unseen}
 
 -- ---- what is shown

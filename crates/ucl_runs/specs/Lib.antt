@@ -27,7 +27,6 @@ pub mod UncutLines
 pub mod Members
 pub mod LiveLaws
 pub mod LiveProgram
-pub mod Told
 pub mod Follow
 pub mod Hearing
 pub mod Latest

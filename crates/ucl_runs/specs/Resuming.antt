@@ -9,7 +9,7 @@ use Rattle.ucl_runs.specs.Stages.{Open}
 use Rattle.ucl_runs.specs.LiveText.{Evening, after_lines, answers, live_text, start_of}
 use Rattle.ucl_json.specs.declared.title.Title.{Title}
 use Rattle.ucl_runs.specs.Titles.{is_as_asked}
-use Rattle.ucl_runs.specs.declared.moment.Moment.{Moment}
+use Rattle.ucl_json.specs.declared.moment.Moment.{Moment}
 use Rattle.ucl_runs.specs.Answered.{IsMoment}
 use Rattle.ucl_runs.specs.Follow.{is_plain_title, resuming_rows}
 

@@ -7,16 +7,12 @@ use Rattle.ucl_order.specs.Names.{profile_named}
 use Rattle.ucl_screen.specs.Events.{◌>>=◌}
 use Rattle.ucl_screen.specs.Numbers.{in_range, number}
 use Rattle.ucl_screen.specs.Rows.{FourFields}
+use Rattle.ucl_screen.specs.Screen.{letter_in}
 use Rattle.ucl_json.specs.declared.title.Title.{Title}
 use Rattle.ucl_command.specs.declared.live.LiveArgs.{LiveArgs}
 use Rattle.ucl_runs.specs.Rows.{Said, Nothing, Garbled, Row}
 
 -- ---- the row
-
--- one letter, A to H
-abbrev pub letter_in : List ℕ → Option ℕ
-letter_in (letter ∷ []) = if nat_le 65 letter && nat_le letter 72 then Some letter else None
-letter_in _ = None
 
 -- 0 to 65,535, in one to five digits
 abbrev pub edition_by : List ℕ → Option ℕ

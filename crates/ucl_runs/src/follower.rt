@@ -4,12 +4,12 @@ ghost use Rattle.std.specs.Prelude.{◌≡◌, ⊤, IfOk};
 ghost use Rattle.ucl_screen.specs.Screen.{IsGroup};
 ghost use Rattle.ucl_runs.specs.Follow.{resuming_text, sight_text, told_text, unseen};
 ghost use Rattle.ucl_runs.specs.Hearing.{following_of, heard, shape_of, sight_bytes};
-ghost use Rattle.ucl_runs.specs.Told.{moment_on};
+ghost use Rattle.ucl_json.specs.Told.{moment_on};
 
 use crate::following::{Following, is_newer};
-use crate::moment::Moment;
+use ucl_json::Moment;
 use crate::rows::resuming_rows;
-use crate::told::moment_on;
+use ucl_json::moment_on;
 use std::alloc::Global;
 use ucl_command::FollowArgs;
 use ucl_io::{LineMachine, Text};

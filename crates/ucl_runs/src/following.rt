@@ -3,7 +3,7 @@
 ghost use Rattle.std.specs.Prelude.{◌≡◌};
 ghost use Rattle.ucl_runs.specs.Follow.{is_later, is_newer, unseen};
 
-use crate::moment::Moment;
+use ucl_json::Moment;
 
 /// What was followed by some lines: the newest moment, how many lines there were, and how many of them were shown. A number past
 /// `u64::MAX` is told as that.

@@ -4,7 +4,7 @@ ghost use Rattle.std.specs.Prelude.{◌≡◌, ◌≤◌, ◌++◌, [], ◌∷�
 ghost use Rattle.ucl_board.specs.Fixtures.{IsSlot};
 ghost use Rattle.ucl_runs.specs.Follow.{club_row, group_row, in_quotes, is_plain_title, resuming_rows, title_rows};
 
-use crate::moment::Moment;
+use ucl_json::Moment;
 use itoa::Buffer;
 use std::alloc::{AllocError, Global};
 use crate::word_lines;

@@ -1,30 +1,19 @@
 //! What the first row may say of the board.
 
-ghost use Rattle.std.specs.Prelude.{◌≡◌, ◌≤◌, true, IfSome, option_map};
+ghost use Rattle.std.specs.Prelude.{◌≡◌, true, IfSome, option_map};
 ghost use Rattle.ucl_order.specs.Names.{profile_named};
 ghost use Rattle.ucl_screen.specs.Rows.{four_seen};
 ghost use Rattle.ucl_screen.specs.Screen.{IsGroup};
 ghost use Rattle.ucl_command.specs.Groups.{may_be_asked};
 ghost use Rattle.ucl_runs.specs.Rows.{of_row, said_on};
-ghost use Rattle.ucl_runs.specs.Titles.{asked_group, asked_order, asked_title, group_said, is_as_asked, is_asked_group, is_asked_order, is_group_row, is_same_order, letter_in, title_by, title_for, title_said};
+ghost use Rattle.ucl_runs.specs.Titles.{asked_group, asked_order, asked_title, group_said, is_as_asked, is_asked_group, is_asked_order, is_group_row, is_same_order, title_by, title_for, title_said};
 
 use crate::line::LineReader;
 use crate::row::RowCount;
 use ucl_command::LiveArgs;
 use ucl_json::Title;
 use ucl_order::Profile;
-use ucl_screen::{Four, expected_of_field, is_group};
-
-/// The letter of a group, where a text is one.
-pub fn letter_in(text: &[u8]) -> Option<u8>
-    ensures told { result ≡ letter_in text.now }
-    ensures letter { IfSome result IsGroup }
-{
-    match text {
-        [letter] if is_group(*letter) => Some(*letter),
-        _ => None,
-    }
-}
+use ucl_screen::{Four, expected_of_field, letter_in};
 
 /// The order that a field names.
 fn order_in(text: &[u8]) -> Option<Profile>

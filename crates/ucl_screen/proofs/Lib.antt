@@ -12,3 +12,4 @@ pub mod ReadWords
 pub mod FaultLines
 pub mod OneMatchMore
 pub mod EventsInTurn
+pub mod Letters

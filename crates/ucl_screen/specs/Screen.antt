@@ -1,5 +1,5 @@
 -- The screen of a board.
-use Rattle.std.specs.Prelude.{ℕ, ◌≤◌, ◌++◌, List, codes, count_by, flat_map}
+use Rattle.std.specs.Prelude.{ℕ, ◌≤◌, ◌&&◌, ◌++◌, nat_le, if◌then◌else◌, List, [], ◌∷◌, Option, Some, None, codes, count_by, flat_map}
 use Rattle.ucl_word.specs.Rules.{is_in_play}
 use Rattle.ucl_word.specs.Layout.{record_at}
 use Rattle.ucl_board.specs.Words.{version_of}
@@ -12,6 +12,11 @@ use Rattle.ucl_screen.specs.Lines.{header, place_line}
 -- the letter of a group, A to H
 abbrev pub IsGroup : ℕ → Type 0
 IsGroup letter = (65 ≤ letter) × (letter ≤ 72)
+
+-- a text of one letter, A to H
+abbrev pub letter_in : List ℕ → Option ℕ
+letter_in (letter ∷ []) = if nat_le 65 letter && nat_le letter 72 then Some letter else None
+letter_in _ = None
 
 -- how many matches are in play
 abbrev pub in_play : List ℕ → ℕ

@@ -72,8 +72,8 @@ fn hex_digit(b: u8) -> Option<u8>
     }
 }
 
-/// The word of a text of 16 hexadecimal digits.
-pub(crate) fn hex_word(text: &[u8]) -> Option<u64>
+/// The word of a text of 16 hexadecimal digits, in upper case.
+pub fn hex_word(text: &[u8]) -> Option<u64>
     ensures { result ≡ hex_word text.now }
 {
     if text.len() != 16 {

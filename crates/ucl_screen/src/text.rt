@@ -1,9 +1,9 @@
 //! The screen of a board.
 
-ghost use Rattle.std.specs.Prelude.{◌≡◌, ◌↔◌, ◌++◌, IsTrue, IfOk, OnOk, true, All, flat_map, string_bytes};
+ghost use Rattle.std.specs.Prelude.{◌≡◌, ◌↔◌, ◌++◌, IsTrue, IfOk, IfSome, OnOk, true, All, flat_map, string_bytes};
 ghost use Rattle.ucl_order.specs.Roster.{is_name};
 ghost use Rattle.ucl_order.specs.Rows.{IsWithinTable};
-ghost use Rattle.ucl_screen.specs.Screen.{IsGroup, in_play, row_line, screen_text};
+ghost use Rattle.ucl_screen.specs.Screen.{IsGroup, in_play, letter_in, row_line, screen_text};
 
 use crate::lines::{push_header, push_row};
 use std::alloc::{AllocError, Global};
@@ -20,6 +20,17 @@ pub fn is_group(letter: u8) -> bool
     ensures { IsTrue result ↔ IsGroup letter }
 {
     b'A' <= letter && letter <= b'H'
+}
+
+/// The letter of a group, where a text is one: one byte, `A` to `H`.
+pub fn letter_in(text: &[u8]) -> Option<u8>
+    ensures told { result ≡ letter_in text.now }
+    ensures letter { IfSome result IsGroup }
+{
+    match text {
+        [letter] if is_group(*letter) => Some(*letter),
+        _ => None,
+    }
 }
 
 /// How many matches are in play.

@@ -1,6 +1,6 @@
-use Rattle.ucl_runs.proofs.Members.{not-read, too-long, was-read}
+use Rattle.ucl_json.proofs.Members.{not-read, too-long, was-read}
 use Rattle.std.proofs.Common.{◌∙◌, arith, true≢false, sym}
-use Rattle.ucl_runs.proofs.told.moment_on.Goals as goal
+use Rattle.ucl_json.proofs.told.moment_on.Goals as goal
 
 pub returns-then-line-gt-MOST_ANSWER_BYTES-clause-told : goal.returns-then-line-gt-MOST_ANSWER_BYTES-clause-told
 returns-then-line-gt-MOST_ANSWER_BYTES-clause-told c = too-long c.args.line.now c.if-line-gt-MOST_ANSWER_BYTES.true

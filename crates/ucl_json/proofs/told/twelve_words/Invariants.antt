@@ -1,8 +1,8 @@
 use Rattle.std.proofs.Common.{◌≡◌, Some, length, take}
 use Rattle.std.specs.Prelude.{map}
 use Rattle.serde_json.specs.View.{view}
-use Rattle.ucl_runs.specs.Told.{each_told, word_told}
-use Rattle.ucl_runs.proofs.told.twelve_words.Given as goal
+use Rattle.ucl_json.specs.Told.{each_told, word_told}
+use Rattle.ucl_json.proofs.told.twelve_words.Given as goal
 
 abbrev pub invariant-loop-value : goal.invariant-loop-value
 invariant-loop-value l = record {

@@ -5,17 +5,16 @@ ghost use Rattle.serde_json.specs.View.{items_view, view};
 ghost use Rattle.ucl_order.specs.Roster.{bad_slot, club_lent};
 ghost use Rattle.ucl_screen.specs.Screen.{IsGroup};
 ghost use Rattle.ucl_screen.specs.WordsRead.{read_words};
-ghost use Rattle.ucl_runs.specs.Told.{board_told, club_told, clubs_told, each_told, edition_in, edition_told, group_told, if_read, just, list_at, moment_on, moment_told, order_told, roster_told, text_at, title_told, unless_bad, word_told};
+ghost use Rattle.ucl_json.specs.Told.{board_told, club_told, clubs_told, each_told, edition_in, edition_told, group_told, if_read, just, list_at, moment_on, moment_told, order_told, roster_told, text_at, title_told, unless_bad, word_told};
 
 use crate::moment::Moment;
+use crate::title::Title;
 use arrayvec::ArrayVec;
 use serde_json::Value;
 use std::alloc::{AllocError, Global};
-use crate::letter_in;
 use ucl_board::Board;
-use ucl_json::Title;
 use ucl_order::{LentClub, Profile, Roster};
-use ucl_screen::{Four, word_of_fields};
+use ucl_screen::{hex_word, letter_in};
 
 /// The most bytes of a line.
 const MOST_ANSWER_BYTES: usize = 4096;
@@ -146,20 +145,10 @@ fn clubs_in(value: &Value) -> Option<Roster>
 }
 
 /// A word of sixteen hexadecimal digits.
-#[tactic(auto, using(crate::proofs::Members::said_word))]
 fn word_in(value: &Value) -> Option<u64>
     ensures { result ≡ word_told (view value.now) }
 {
-    let digits = value.as_str()?;
-    word_of_fields(
-        1,
-        &Four {
-            first: "word".as_bytes(),
-            second: "1".as_bytes(),
-            third: digits.as_bytes(),
-            fourth: "".as_bytes(),
-        },
-    )
+    hex_word(value.as_str()?.as_bytes())
 }
 
 /// Twelve words of twelve values.
@@ -211,8 +200,8 @@ fn moment_in(value: &Value) -> Option<Moment>
     })
 }
 
-/// The moment that a line tells, where it tells one.
-pub(crate) fn moment_on(alloc: Global, line: &[u8]) -> Result<Option<Moment>, AllocError>
+/// The moment that a line tells, where it tells one: of JSON, of at most 4,096 bytes, with the members of a moment. The error is want of memory.
+pub fn moment_on(alloc: Global, line: &[u8]) -> Result<Option<Moment>, AllocError>
     ensures told { IfOk result (λ moment. moment ≡ moment_on line.now) }
     ensures letter { IfOk result (λ told. IfSome told (λ moment. IsGroup moment.title.group)) }
 {

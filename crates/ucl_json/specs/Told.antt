@@ -11,9 +11,9 @@ use Rattle.ucl_order.specs.Roster.{NamedClub, bad_slot, named}
 use Rattle.ucl_screen.specs.Events.{◌>>=◌}
 use Rattle.ucl_screen.specs.Numbers.{hex_word}
 use Rattle.ucl_screen.specs.WordsRead.{read_words}
-use Rattle.ucl_runs.specs.Titles.{letter_in}
+use Rattle.ucl_screen.specs.Screen.{letter_in}
 use Rattle.ucl_json.specs.declared.title.Title.{Title}
-use Rattle.ucl_runs.specs.declared.moment.Moment.{Moment}
+use Rattle.ucl_json.specs.declared.moment.Moment.{Moment}
 
 -- the text of a member
 abbrev pub text_at : List ℕ → Data → Option (List ℕ)

@@ -7,7 +7,7 @@ use Rattle.std.specs.Str.{is_utf8}
 use Rattle.std.specs.Prelude.{IsUtf8}
 use Rattle.std.proofs.lemmas.Str.{IsUtf8-from_is_utf8, is_utf8-from_IsUtf8}
 use Rattle.serde_json.specs.Read.{read}
-use Rattle.ucl_runs.specs.declared.moment.Moment.{Moment}
+use Rattle.ucl_json.specs.declared.moment.Moment.{Moment}
 use Rattle.std.proofs.lemmas.Bool.{cases_Bool}
 use Rattle.std.proofs.lemmas.Bool.Decides.{nat_tests}
 use Rattle.std.proofs.lemmas.List.{take-append-drop, take_more}
@@ -19,15 +19,7 @@ use Rattle.ucl_board.specs.Words.{AreReadAs, IsFirstBad}
 use Rattle.ucl_screen.proofs.ReadWords.{are-read, first-bad}
 use Rattle.ucl_screen.specs.WordsRead.{read_words}
 use Rattle.ucl_screen.specs.Events.{◌>>=◌}
-use Rattle.ucl_screen.specs.Numbers.{digits_after, hex_word}
-use Rattle.ucl_screen.specs.Script.{word_of_row}
-use Rattle.ucl_runs.specs.Told.{club_told, each_told, if_read, just, listed, moment_on, moment_told, roster_told, unless_bad}
-
--- ---- a word
-
-pub said_word : (text : List ℕ) → word_of_row 1 (record { first = codes "word"; second = codes "1"; third = text; fourth = codes "" }) ≡ hex_word text
-unfolding digits_after
-said_word text = refl
+use Rattle.ucl_json.specs.Told.{club_told, each_told, if_read, just, listed, moment_on, moment_told, roster_told, unless_bad}
 
 -- ---- values in a row
 

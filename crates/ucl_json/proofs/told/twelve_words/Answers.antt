@@ -1,7 +1,7 @@
 use Rattle.std.proofs.Common.{◌∙◌, ℕ, length, sym, ap, arith}
-use Rattle.ucl_runs.specs.Told.{word_told}
-use Rattle.ucl_runs.proofs.Members.{not-told, told-next, told-not, told-start}
-use Rattle.ucl_runs.proofs.told.twelve_words.Goals as goal
+use Rattle.ucl_json.specs.Told.{word_told}
+use Rattle.ucl_json.proofs.Members.{not-told, told-next, told-not, told-start}
+use Rattle.ucl_json.proofs.told.twelve_words.Goals as goal
 
 pub loop-value-init : goal.loop-value-init
 loop-value-init c = record { count = ap (length {A = ℕ}) c.new-words.ensures; told = told-start word_told c.args.values.now _ c.new-words.ensures }

@@ -1,6 +1,6 @@
 use Rattle.std.proofs.Common.{◌∙◌, refl, None}
-use Rattle.ucl_runs.proofs.Members.{of-four}
-use Rattle.ucl_runs.proofs.told.roster_of.Goals as goal
+use Rattle.ucl_json.proofs.Members.{of-four}
+use Rattle.ucl_json.proofs.told.roster_of.Goals as goal
 
 pub returns-in_err-club_in-in-len4 : goal.returns-in_err-club_in-in-len4
 returns-in_err-club_in-in-len4 c =

@@ -1,6 +1,6 @@
 use Rattle.std.proofs.Common.{sym, refl, true≢false}
-use Rattle.ucl_runs.proofs.TitleRows.{is_letter, many_letters, no_letter, other_letter}
-use Rattle.ucl_runs.proofs.title.letter_in.Goals as goal
+use Rattle.ucl_screen.proofs.Letters.{is_letter, many_letters, no_letter, other_letter}
+use Rattle.ucl_screen.proofs.text.letter_in.Goals as goal
 
 pub returns-in-len1-clause-told : goal.returns-in-len1-clause-told
 returns-in-len1-clause-told c = is_letter c.args.text.now c.in-len1.len_at_least c.in-len1.len_below (c.if-is_group.ensures.0 refl)
