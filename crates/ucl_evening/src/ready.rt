@@ -13,6 +13,7 @@ use ucl_runs::{OTHER_GROUP, RunFault, first_group, title_for};
 use ucl_board::Board;
 use ucl_command::EveningArgs;
 use ucl_evenings_threads::{Place, Reporter, night_towards};
+use ucl_io::first_line;
 use ucl_json::Title;
 use ucl_screen::{
     FIRST_EVENT_ROW, FromRead, InputFault, Night, NightEvent, ToWrite, read_all, read_night,
@@ -85,16 +86,6 @@ fn places_on<'r, R: Files<File = File>>(
     Ok(places)
 }
 
-/// The first line of a text, and what comes after it.
-fn first_line(text: &[u8]) -> (&[u8], &[u8]) {
-    for at in 0..text.len() {
-        if text[at] == b'\n' {
-            return (&text[..at], &text[at + 1..]);
-        }
-    }
-    (text, b"".as_slice())
-}
-
 /// A fault of a script, in which the clubs come after so many rows.
 fn moved(fault: InputFault, before: u32) -> InputFault {
     match fault {
@@ -140,7 +131,7 @@ fn beginning_of<'a>(
     asked: &EveningArgs,
     script: &[u8],
 ) -> Result<Beginning, Stop<'a>> {
-    let (line, rest) = first_line(script);
+    let line = first_line(script).unwrap_or(script);
     let Some(said) = first_group(line) else {
         let Some(title) = title_for(asked.group, asked.profile, None) else {
             return Err(Stop::Refused(OTHER_GROUP));
@@ -154,6 +145,7 @@ fn beginning_of<'a>(
     let Some(title) = title_for(asked.group, asked.profile, said) else {
         return Err(Stop::Refused(OTHER_GROUP));
     };
+    let rest = script.get(line.len() + 1..).unwrap_or(&[]);
     let night = night_of(alloc, rest, 1)?;
     match refused_in(&night.events) {
         Some(row) => Err(Stop::from(moved(InputFault::BadRow { row }, 1))),

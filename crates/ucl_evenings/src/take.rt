@@ -11,12 +11,9 @@ use crate::reporter::Reporter;
 use crate::ring::Ring;
 use std::sync::Wait;
 use ucl_io::{Duplex, pump};
-use ucl_runs::RunFault;
+use ucl_runs::{MOST_LINE_BYTES, RunFault};
 use ucl_screen::{Sink, Source};
 use ucl_shared::LiveBoard;
-
-/// The most bytes of a line that are kept: one more than the longest row and its carriage return.
-const LINE: usize = 258;
 
 /// Each answer is written before the next row is entered.
 const PAGE: usize = 0;
@@ -64,6 +61,6 @@ pub fn take_rows<'a, B: LiveBoard, S: Source, W: Sink, V: Ring, R: Wait>(
     ensures sink_sound { OnOk result (W.failed duplex.new.sink ≡ W.failed duplex.old.sink) }
     ensures sink_fails { IfErr result (SinkFails (W.failed duplex.old.sink) (W.failed duplex.new.sink)) }
 {
-    pump(reporter, LINE, PAGE, duplex)?;
+    pump(reporter, MOST_LINE_BYTES, PAGE, duplex)?;
     Ok(())
 }

@@ -9,7 +9,7 @@ use arrayvec::ArrayVec;
 pub const MOST_LINE_BYTES: usize = 4097;
 
 /// The first line of a text, without its line feed, where it has ended.
-pub(crate) fn first_line(text: &[u8]) -> Option<&[u8]>
+pub fn first_line(text: &[u8]) -> Option<&[u8]>
     ensures line { IfSome result (λ line. BeginsWithLine text.now line.now) }
     ensures none { result ≡ None → HasNoFeed text.now }
 {

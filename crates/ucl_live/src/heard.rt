@@ -7,12 +7,9 @@ use serde_json::Value;
 use std::alloc::Global;
 use std::io::{Read, Stderr, Write};
 use std::{io, mem};
-use ucl_runs::{Evening, Parts};
+use ucl_runs::{Evening, MOST_LINE_BYTES, Parts};
 use ucl_command::{Format, LiveArgs, broken_rule};
 use ucl_io::{LineMachine, Text};
-
-/// The most bytes of a line that are kept, as `live_run` keeps them.
-const LINE: usize = 258;
 
 /// The most bytes that are taken at once.
 const PAGE: usize = 4096;
@@ -30,7 +27,7 @@ pub struct Explaining {
     evening: Evening,
     answer: Parts,
     page: ArrayVec<u8, PAGE>,
-    line: ArrayVec<u8, LINE>,
+    line: ArrayVec<u8, MOST_LINE_BYTES>,
     row: u64,
     is_over: bool,
 }

@@ -11,12 +11,9 @@ ghost use Rattle.ucl_runs.specs.Hearing.{FollowFails, IsFollowedSoFar, counts_of
 use crate::follower::Follower;
 use std::alloc::Global;
 use ucl_command::FollowArgs;
-use ucl_io::{Duplex, PumpFault, pump};
+use ucl_io::{Duplex, MOST_LINE_BYTES, PumpFault, pump};
 use ucl_screen::{Sink, Source};
 use ucl_word::OutOfMemory;
-
-/// The most bytes of a line that are kept: one more than a line may have.
-const LINE: usize = 4097;
 
 /// The most bytes that are gathered before they are written.
 const PAGE: usize = 4096;
@@ -69,7 +66,7 @@ pub fn follow_run<S: Source, W: Sink>(
         (device S.left S.failed W.taken W.failed duplex.new)) }
 {
     let mut follower = Follower::new(alloc, shape);
-    pump(&mut follower, LINE, PAGE, duplex)?;
+    pump(&mut follower, MOST_LINE_BYTES, PAGE, duplex)?;
     Ok(Followed {
         lines: follower.following.lines,
         shown: follower.following.shown,

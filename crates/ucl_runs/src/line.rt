@@ -7,7 +7,7 @@ ghost use Rattle.ucl_runs.specs.Reading.{HoldsRow, fields_read, row_in};
 ghost use Rattle.ucl_runs.specs.Rows.{Row, fits, row_on, said_on};
 
 use crate::plain::plain_four;
-use crate::row::{Fields, RowCount, without_mark};
+use crate::row::{Fields, MOST_LINE_BYTES, RowCount, without_mark};
 use arrayvec::ArrayVec;
 use ucl_screen::Four;
 
@@ -17,7 +17,7 @@ const MOST_ROW_BYTES: usize = 256;
 /// Reads lines, one after the other, as the crate `csv` reads in its default dialect.
 #[derive(Drop)]
 pub struct LineReader {
-    text: ArrayVec<u8, 258>,
+    text: ArrayVec<u8, MOST_LINE_BYTES>,
     fields: Fields,
 }
 

@@ -10,13 +10,11 @@ ghost use Rattle.ucl_runs.specs.LiveText.{live_text, missing_after, start_of};
 
 use crate::evening::Evening;
 use crate::live_fault::LiveFault;
+use crate::row::MOST_LINE_BYTES;
 use std::alloc::Global;
 use ucl_command::LiveArgs;
 use ucl_io::{Duplex, PumpFault, pump};
 use ucl_screen::{Sink, Source};
-
-/// The most bytes of a line that are kept: one more than the longest row and its carriage return.
-const LINE: usize = 258;
 
 /// The most bytes that are gathered before they are written.
 const PAGE: usize = 4096;
@@ -60,6 +58,6 @@ pub fn live_run<S: Source, W: Sink>(
         (device S.left S.failed W.taken W.failed duplex.new)) }
 {
     let mut evening = Evening::new(alloc, options);
-    pump(&mut evening, LINE, PAGE, duplex)?;
+    pump(&mut evening, MOST_LINE_BYTES, PAGE, duplex)?;
     Ok(())
 }
