@@ -288,19 +288,22 @@ def test_programs_of_the_pages_compile_without_a_warning(compiler):
         assert re.findall(r"^    .*;$", re.sub(r"^```.*?^```$", "", (TOP / page).read_text(), flags=re.M | re.S), re.M) == []
 
 
-def test_programs_of_the_pages_print_the_screen_after_a_kick_off(shell, tmp_path):
+def test_programs_of_the_pages_print_the_screen_after_their_events(shell, tmp_path):
+    """Those of the README enter a goal that is stale, and again with the number that they are told; those of docs/C.md a kick-off alone."""
     line = re.search(r"`(cc board\.c [^`]*) && \./board`", (TOP / "README.md").read_text())[1]
     in_python = re.search(r"^    (PYTHONPATH=\S+ .*) board\.py$", (TOP / "docs/C.md").read_text(), re.M)[1]
     matches = model.fresh()
     matches[0].enter(1, "kickoff")
-    wanted = (0, model.screen(matches), "")
+    begun, word = (0, model.screen(matches), ""), matches[0].word()
+    matches[0].enter(2, "goal-home")
+    scored = (0, model.screen(matches), "")
     (tmp_path / "board.c").write_text(blocks("README.md", "c")[0])
-    assert shell(f"{line} && ./board") == wanted
+    assert shell(f"{line} && ./board") == scored
     for path in MODULE, tmp_path / "library/libuclboard.so":
         shutil.copy(path, tmp_path)
-    programs = [*blocks("README.md", "python"), *blocks("docs/C.md", "python")]
-    assert [shell(f"{how} -", text) for how in (in_python, "python3") for text in programs] == [wanted] * 4
-    last = f"int main(void) {{\n    uint64_t words[UCLBOARD_WORDS];\n    return kick_off(words) != 0 || words[0] != UINT64_C(0x{matches[0].word()});\n}}\n"
+    for how in in_python, "python3":
+        assert [shell(f"{how} -", text) for page in ("README.md", "docs/C.md") for text in blocks(page, "python")] == [scored, begun]
+    last = f"int main(void) {{\n    uint64_t words[UCLBOARD_WORDS];\n    return kick_off(words) != 0 || words[0] != UINT64_C(0x{word});\n}}\n"
     (tmp_path / "board.c").write_text(blocks("docs/C.md", "c")[0] + last)
     assert shell(f"{line} && ./board") == (0, "", "")
 
