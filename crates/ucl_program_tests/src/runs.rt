@@ -256,7 +256,7 @@ fn head_to_head(rt: HostRuntime) -> Result<(), Fail> {
 fn two_reopenings(rt: HostRuntime) -> Result<(), Fail> {
     let alloc = rt.alloc();
     let script = joined(alloc, &[CLUBS, STORED])?;
-    let script = joined(alloc, script.as_str(), "1,1,6,reopen\n1,3,0,reopen\n")?;
+    let script = joined(alloc, &[script.as_str(), "1,1,6,reopen\n1,3,0,reopen\n"])?;
     let (answer, out) = fed(alloc, script.as_bytes(), usize::MAX, Full::Fails);
     assert_eq!(rt; answer, Ok(()));
     let text = std::str::from_utf8(out.as_slice())?;
