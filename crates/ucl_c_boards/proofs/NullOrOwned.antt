@@ -1,22 +1,10 @@
 -- Steps of walks: a pointer that is null, or owns a box that `Global` frees.
-use Rattle.std.proofs.Common.{◌≡◌, ℕ, false, List, ◌∷◌, refl, sym, subst}
-use lib.Dec.{T, lit<}
+use Rattle.ucl_c_boards.proofs.Common.{◌≡◌, ℕ, false, List, ◌∷◌, refl, sym, subst, T, Ura, ftrue, ent, via, guard, snd∗, guard_i, fact, fact_use, fact_mono, Logic, sem, Item, Goal, Seq, ‵, given}
+use Rattle.ucl_c_boards.proofs.Common.{use1, learn, ◌$◌, RattleType, lone, full_share, Ptr, block_ptr, null_ptr, count_of, lies_at, Testable, box_owns, freed, heap, owned_at, is_null}
+use lib.Dec.{lit<}
 use Prim.Native.Nat.{zero, ◌<◌, ◌^◌}
-use seplogic.Ra.Ura.{Ura}
 use mir.Raw.{raw as bare}
-use base.Fml.{ftrue}
-use base.Logic.{ent, via, guard, snd∗, guard_i}
-use contract.Monad.{fact, fact_use, fact_mono}
-use types.Logic.{Logic, sem}
-use types.Kit.{Item, Goal, Seq, ‵, given, use1, learn, ◌$◌}
-use denote.RattleType.{RattleType}
-use denote.Memory.{lone}
-use base.Fraction.{full_share}
-use denote.RawPtr.{Ptr, block_ptr, null_ptr, count_of, lies_at, Testable}
 use Rattle.std.proofs.GlobalToken.{dealloc_token_start}
-use Rattle.std.specs.Box.Ownership.{box_owns}
-use Rattle.ucl_c_boards.specs.OwnedAt.{freed, heap, owned_at}
-use Rattle.ucl_c_boards.specs.Handles.{is_null}
 
 -- what `Global` frees is the start of its block, so it may be compared with null
 module _ {M : Type 1} {𝓤 : Ura M} (𝓛 : Logic 𝓤) (R : RattleType) (p : Ptr) (x : R.Denot) where

@@ -11,7 +11,7 @@ use Rattle.ucl_steps.specs.Growing.{GoesOnFrom}
 use Rattle.ucl_steps.proofs.Runs.{words_of_run}
 use Rattle.ucl_pass.specs.CellViews.{actor_of, actors_of}
 use Rattle.ucl_pass.specs.CellRule.{CellState, CellMeetsItsRule}
-use Rattle.ucl_steps.proofs.Seats.{map_long}
+use Rattle.std.proofs.lemmas.List.{length-map}
 use Rattle.ucl_steps.proofs.LongerRuns.{longer_runs}
 use Rattle.ucl_pass.proofs.KeptRule.{match_words}
 use Rattle.ucl_pass.specs.CellLater.{CellLater}
@@ -27,7 +27,7 @@ use Rattle.ucl_claims.proofs.Screens.{screens_of_run}
 
 of_words : (s : State Entry WordView) (r : TableKeepsOneHistory s) → HaveOneHistory r.shared.enlisted (history_of r.shared.log) (drop 1 s.words) (word_actors s.views)
 of_words s r =
-    let long = map_long word_actor s.views in
+    let long = length-map s.views word_actor in
     let one = (r.one_run (length (word_actors s.views)) (omega arith)).of_actors in
     let cast = cast_for (length (word_actors s.views)) in
     let steps = steps_of_moves one.moves in
@@ -41,15 +41,15 @@ later_words : (s t : State Entry WordView) (r : TableKeepsOneHistory s) (q : Tab
 unfolding of_words
 later_words s t r q later =
     let on = later_go_on s t r q later in
-    let long = map_long word_actor s.views in
-    let wide = map_long word_actor t.views in
+    let long = length-map s.views word_actor in
+    let wide = length-map t.views word_actor in
     let n = length (word_actors s.views) in
     let m = length (word_actors t.views) in
     longer_runs n m r.shared.enlisted q.shared.enlisted r.shared.log q.shared.log (word_actors s.views) (word_actors t.views) (r.one_run n (omega arith)) (q.one_run m (omega arith)) on.log on.passes
 
 of_cell : (s : CellState) (r : CellMeetsItsRule s) → HaveOneHistory r.shared.enlisted (history_of r.shared.log) (take 12 s.words) (actors_of s.views)
 of_cell s r =
-    let long = map_long actor_of s.views in
+    let long = length-map s.views actor_of in
     let one = r.one_run (length (actors_of s.views)) (omega arith) in
     let cast = cast_for (length (actors_of s.views)) in
     let steps = steps_of_moves one.moves in
@@ -65,8 +65,8 @@ later_cells : (s t : CellState) (r : CellMeetsItsRule s) (q : CellMeetsItsRule t
 unfolding of_cell
 later_cells s t r q later =
     let on = cells.later_go_on s t r q later in
-    let long = map_long actor_of s.views in
-    let wide = map_long actor_of t.views in
+    let long = length-map s.views actor_of in
+    let wide = length-map t.views actor_of in
     let n = length (actors_of s.views) in
     let m = length (actors_of t.views) in
     cell_goes_on s.views t.views n m r.shared.enlisted q.shared.enlisted r.shared.log q.shared.log (r.one_run n (omega arith)) (q.one_run m (omega arith)) on.log on.passes

@@ -1,34 +1,18 @@
 -- Steps of one caller with none of another between them: a reading of all words at once is one, and so is a report.
-use Rattle.std.proofs.Common.{◌≡◌, ℕ, zero, suc, ◌+◌, ◌-◌, ◌<◌, Bool, cond, List, ◌∷◌, ◌++◌, length, take, Option, Some, None, refl, sym, ap, ◌∙◌, subst, arith, append-nil, eq-eqb, ne_eqb, []}
-use Rattle.std.specs.Prelude.{slice_index}
-use Rattle.std.proofs.lemmas.List.{length-take-le}
+use Rattle.ucl_pass.proofs.Common.{◌≡◌, ℕ, zero, suc, ◌+◌, ◌-◌, ◌<◌, Bool, cond, List, ◌∷◌, ◌++◌, length, take, Option, Some, None, refl, sym, ap, ◌∙◌, subst, arith, append-nil, eq-eqb, ne_eqb, []}
+use Rattle.ucl_pass.proofs.Common.{slice_index, length-take-le, EventCall, Refusal, refusal_of, after, word_of, record_at, Entry, IsMatch, match_after, board_of, reading_of, attempted, entry_of}
+use Rattle.ucl_pass.proofs.Common.{word_after, may_attempt, AccessKind, Access, access, Caller, Reporter, Reader, Event, Reading, Refused, Copied, MachineState, initial_state, after_steps, Nothing}
+use Rattle.ucl_pass.proofs.Common.{Holding, Collecting, Checking, Answers, Doing, goes, ends, done_by, by_rules, collected, MayAsk, FitsRun, steps_of_move, steps_of_moves, kept_at_start, run_kept}
+use Rattle.ucl_pass.proofs.Common.{Burst, one_turn}
 use Rattle.std.proofs.Math.Seq.{take-length}
 use Rattle.ucl_word.specs.declared.record.MatchRecord.{MatchRecord}
-use Rattle.ucl_word.specs.declared.event.EventCall.{EventCall}
-use Rattle.ucl_word.specs.declared.refusal.Refusal.{Refusal}
 use Rattle.ucl_word.specs.declared.refusal.Refusal.TheVariants.{Stale}
-use Rattle.ucl_word.specs.Rules.{refusal_of, after}
-use Rattle.ucl_word.specs.Layout.{word_of, record_at}
-use Rattle.ucl_board.specs.declared.entry.Entry.{Entry}
-use Rattle.ucl_board.specs.Fixtures.{IsMatch}
-use Rattle.ucl_board.specs.History.{match_after, board_of, reading_of, attempted, entry_of}
-use Rattle.ucl_board.proofs.Histories.{word_after}
-use Rattle.ucl_board.proofs.HistoryLaws.{may_attempt}
 use Rattle.ucl_board.specs.Log as log
-use Rattle.ucl_board.specs.Log.{AccessKind, Access, access}
 use Rattle.ucl_steps.specs.declared.step.Cast.{Cast}
-use Rattle.ucl_steps.specs.declared.step.Caller.{Caller}
-use Rattle.ucl_steps.specs.declared.step.Caller.TheVariants.{Reporter, Reader}
-use Rattle.ucl_steps.specs.declared.step.Call.TheVariants.{Event, Reading}
 use Rattle.ucl_steps.specs.declared.step.Step.{Step}
-use Rattle.ucl_steps.specs.declared.trace.Reply.TheVariants.{Accepted, Refused, Copied}
-use Rattle.ucl_steps.specs.Machine.{MachineState, initial_state, after_steps}
-use Rattle.ucl_steps.specs.Protocol.{Nothing, Holding, Collecting, Checking, Answers, Doing, goes, ends, done_by, by_rules, collected, MayAsk}
-use Rattle.ucl_steps.specs.PassRuns.{FitsRun, steps_of_move, steps_of_moves}
+use Rattle.ucl_steps.specs.declared.trace.Reply.TheVariants.{Accepted}
 use Rattle.ucl_steps.proofs.Histories.{read_back, number_next}
-use Rattle.ucl_steps.proofs.Runs.{kept_at_start, run_kept}
 use Rattle.ucl_steps.proofs.OneStep.{steps_append, IsNow, passes_on}
-use Rattle.ucl_steps.proofs.ActorRuns.{Burst, one_turn}
 use Rattle.ucl_steps.proofs.PassSteps.{Turn, turn_look, turn_swapped, turn_begins, turn_first, turn_again, turn_clean}
 
 turns_on : (seat number : ℕ) (w : MachineState) (c : Caller) (m : Access) (d e : Doing) (entries : List Entry) (t : Turn seat number w c m d []) → Burst seat number t.last c e entries

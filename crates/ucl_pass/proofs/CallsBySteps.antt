@@ -1,42 +1,19 @@
 -- From what steps on the cell tell to what a call says of its pass.
-use Rattle.std.proofs.Common.{◌≡◌, ◌≢◌, ℕ, suc, ◌+◌, ◌==◌, ◌<◌, ◌≤◌, List, ◌∷◌, ◌++◌, length, take, refl, sym, ap, ◌∙◌, subst, arith, true≢false, true, false, length-append, []}
-use Rattle.std.proofs.Common.{append-nil, append_assoc, ne_eqb}
-use Rattle.std.specs.Prelude.{slice_index, Result, Ok, Err, IsOk, MatchResult, is_ok, Option, Some, None}
-use Rattle.std.specs.List.{AllByRecursion, flat_map}
+use Rattle.ucl_pass.proofs.Common.{◌≡◌, ◌≢◌, ℕ, suc, ◌+◌, ◌==◌, ◌<◌, ◌≤◌, List, ◌∷◌, ◌++◌, length, take, refl, sym, ap, ◌∙◌, subst, arith, true≢false, true, false, length-append, [], append-nil}
+use Rattle.ucl_pass.proofs.Common.{append_assoc, ne_eqb, slice_index, Result, Ok, Err, IsOk, MatchResult, is_ok, AllByRecursion, flat_map, take_all, nil_from_length, All-head, All-tail}
+use Rattle.ucl_pass.proofs.Common.{filter-append, IsPrefix, EventCall, Accepted, Refusal, refusal_of, answer, reply_of, record_at, Entry, IsMatch, AreWords, word_at, version_of, board_of, IsLegal}
+use Rattle.ucl_pass.proofs.Common.{followed_by, entry_of, reading_of, sequential_reply, Look, Swap, Match, Enlisted, access, Taken, step_taken, board_words, word_after, versions, begins_length}
+use Rattle.ucl_pass.proofs.Common.{begins_through, View, IsSound, Continues, AcceptedReport, RefusedReport, SharedReading, Enlistment, Hearing, pass_view_of, count_of, Takes, note_of, told_by, Goes}
+use Rattle.ucl_pass.proofs.Common.{Answer, CellView, words_after, IsNextBoard, word_looked_at, HasSeenAll, StoresEntry, StoresReporter, LooksOnly, LooksAtMatch, LooksAtEnlisted, LooksAndShows}
+use Rattle.ucl_pass.proofs.Common.{after_load, HasAccepted, AreAccepting, LookOfCell, ReadOfCell, MeetingSteps, CellMissed, no_event_between, WereLost, CellReport, CellEnlistMissed, CellReading}
+use Rattle.ucl_pass.proofs.Common.{FinishesReport, FinishesReading, takes_none, takes_on, takes_count, Stays, stays_none, stays_more, all_more}
+use Rattle.std.specs.Prelude.{Option, Some, None}
 use Rattle.std.proofs.lemmas.Grind.{flat_map-append}
-use Rattle.std.proofs.lemmas.List.{take_all, nil_from_length}
-use Rattle.std.proofs.lemmas.List.Elements.{All-head, All-tail, filter-append}
-use mathlib.Core.List.{IsPrefix}
 use mathlib.Core.Logic.{dite}
 use native.Mathlib.Decide.{ℕ_discrete}
-use Rattle.ucl_word.specs.declared.event.EventCall.{EventCall}
-use Rattle.ucl_word.specs.declared.event.Accepted.{Accepted}
-use Rattle.ucl_word.specs.declared.refusal.Refusal.{Refusal}
-use Rattle.ucl_word.specs.Rules.{refusal_of, answer, reply_of}
-use Rattle.ucl_word.specs.Layout.{record_at}
-use Rattle.ucl_board.specs.declared.entry.Entry.{Entry}
 use Rattle.ucl_board.specs.declared.reading.Reading.{Reading}
-use Rattle.ucl_board.specs.Fixtures.{IsMatch}
-use Rattle.ucl_board.specs.Words.{AreWords, word_at, version_of}
-use Rattle.ucl_board.specs.History.{board_of, IsLegal, followed_by, entry_of, reading_of, sequential_reply}
-use Rattle.ucl_board.specs.Log.{Look, Swap, Match, Enlisted, access, Taken, step_taken}
-use Rattle.ucl_board.proofs.Histories.{board_words, word_after}
-use Rattle.ucl_board.proofs.HistoryLaws.{versions}
-use Rattle.ucl_board.proofs.Beginnings.{begins_length, begins_through}
-use Rattle.ucl_shared.specs.declared.view.View.{View}
-use Rattle.ucl_shared.specs.Passes.{IsSound, Continues, AcceptedReport, RefusedReport, SharedReading, Enlistment, Hearing}
-use Rattle.ucl_shared.specs.Views.{pass_view_of, count_of, Takes, note_of, told_by}
-use Rattle.ucl_shared.specs.Steps.{Goes}
 use Rattle.ucl_steps.specs.declared.step.Call.TheVariants as calls
 use Rattle.ucl_steps.specs.declared.trace.Reply.TheVariants as replies
-use Rattle.ucl_steps.specs.Protocol.{Answer}
-use Rattle.ucl_pass.specs.declared.view.CellView.{CellView}
-use Rattle.ucl_pass.specs.CellRule.{words_after}
-use Rattle.ucl_pass.specs.CellSteps.{IsNextBoard, word_looked_at, HasSeenAll, StoresEntry, StoresReporter, LooksOnly, LooksAtMatch, LooksAtEnlisted, LooksAndShows}
-use Rattle.ucl_pass.specs.CellSteps.{after_load, HasAccepted, AreAccepting, LookOfCell, ReadOfCell}
-use Rattle.ucl_shared.specs.CallSteps.{MeetingSteps}
-use Rattle.ucl_pass.specs.CellCalls.{CellMissed, no_event_between, WereLost, CellReport, CellEnlistMissed, CellReading, FinishesReport, FinishesReading}
-use Rattle.ucl_shared.proofs.CallsBySteps.{takes_none, takes_on, takes_count, Stays, stays_none, stays_more, all_more}
 use Rattle.ucl_pass.proofs.KeptRule.{match_words, match_word, last_word}
 
 -- an exchange that was won
@@ -159,7 +136,6 @@ module _ (call : EventCall) (v w u : View) (x : List ℕ) (tried : TriedReport c
         lost = lost_more v.listed tried.tries one w.listed z.listed tried.lost (let a = looked.seen_all.listed in let b = lost.seen_all.listed in omega arith)
             (λ is.
             let less = enlisted_between u z x y looked.seen_all.words_are lost.seen_all.words_are other lost.sees.goes.seen lost.seen_all.listed (same_places (length u.seen) (length z.seen) is) in
-            let a = looked.seen_all.listed in
             omega arith);
       }
 
@@ -170,14 +146,7 @@ module _ (call : EventCall) (v w u : View) (x : List ℕ) (tried : TriedReport c
 
     pub accepts : (reply : Accepted) → ((history : List Entry) → IsLegal history → board_of history ≡ take 12 x → Ok reply ≡ sequential_reply history call)
         → AcceptedReport (pass_view_of v) call reply (pass_view_of z)
-    accepts reply said = record {
-      before = stored.before;
-      last = stored.adds.last;
-      since = since;
-      answer = sym (said stored.before stored.legal (sym (ap (take 12) stored.found ∙ match_words stored.before z.listed)));
-      mine = stored.adds.mine ∙ ap (λ (l : List Entry). followed_by l (entry_of v.number call)) look_stays.mine;
-      shown = stored.adds.shown ∙ look_stays.shown;
-    }
+    accepts reply said = search (arith, since, match_words)
 
     pub accepted_continues : Continues (pass_view_of v) (pass_view_of z)
     accepted_continues = search (arith, sound, begins_through, look_stays)
@@ -218,13 +187,7 @@ module _ (v w : View) (x : List ℕ) (reading : Reading) (shows : LooksAndShows 
       let n = version_seen in
       let same : reading.board ≡ board_of (take reading.version w.seen) =
       ap (λ (r : Reading). r.board) is ∙ (board_seen x v w shows.seen_all shows.sees.goes ∙ ap board_of (sym (take_all reading.version w.seen (omega arith)))) in
-      record {
-        low = omega arith;
-        high = omega arith;
-        snapshot = λ i. record { board = same i; version = reading.version };
-        mine = shows.sees.mine;
-        shown = shows.shown_is ∙ ap (λ (k : ℕ). v.shown ++ k ∷ []) (sym n);
-      }
+      search arith
 
   pub read_steps : CellReading v reading w
   read_steps = subst (λ (k : ℕ). Takes v (step_taken Rattle.ucl_board.specs.Log.Whole k None ∷ []) w) (sym version_seen) shows.sees.takes
@@ -251,9 +214,6 @@ module _ (v w u : View) (x : List ℕ) (tried : TriedEnlist v w) (looked : Looks
   count_takes : Takes v (flat_map (λ t. t) tried.tries ++ count_step ∷ []) u
   count_takes = takes_on v w u (flat_map (λ t. t) tried.tries) (count_step ∷ []) tried.takes looked.sees.takes
 
-  pub look_counts : count_of v < count_of u
-  look_counts = omega (arith, takes_count v u (flat_map (λ t. t) tried.tries ++ count_step ∷ []) count_takes, length-append (flat_map (λ t. t) tried.tries) (count_step ∷ []))
-
   -- an exchange was missed
   pub tried_again : (z : View) (y : List ℕ) → y ≢ x → LooksAtEnlisted u y y z → TriedEnlist v z
   tried_again z y other missed =
@@ -269,7 +229,6 @@ module _ (v w u : View) (x : List ℕ) (tried : TriedEnlist v w) (looked : Looks
             (λ is.
             let less = enlisted_between u z x y looked.seen_all.words_are missed.seen_all.words_are other missed.sees.goes.seen missed.seen_all.listed
             (same_places (length u.seen) (length z.seen) is) in
-            let a = looked.seen_all.listed in
             omega arith);
       }
 
@@ -312,8 +271,7 @@ accepts_none : (n : ℕ) (o : Option Refusal) (reply : Accepted) → answer n o 
 accepts_none n o reply is = search (arith, true≢false)
 
 accepts_number : (n : ℕ) (o : Option Refusal) (reply : Accepted) → answer n o ≡ Ok reply → reply ≡ record { number = n + 1 }
-accepts_number n None reply is = sym (ap (ok_or reply) is)
-accepts_number n (Some refusal) reply is = absurd (true≢false (sym (ap is_ok is)))
+accepts_number x0 x1 x2 x3 = search arith
 
 module _ (e : EventCall) (v w u : CellView) (x : List ℕ) (tried : TriedReport e v.pass w.pass) (same : w.calls ≡ v.calls) (looked : LookOfCell e w x x u) where
   abbrev found : ℕ
@@ -342,12 +300,7 @@ module _ (e : EventCall) (v w u : CellView) (x : List ℕ) (tried : TriedReport 
     still_finished z kept = kept ∙ none_finished
 
     pub finishes_accepted : (z : CellView) → HasAccepted e found u z → FinishesReport v e (Ok reply) z
-    finishes_accepted z h = record {
-      begun = h.begun;
-      after_seen = (let a = looked_on in let b = h.since in omega arith);
-      at_once = h.last;
-      does = search (arith, accepts_number, none_finished);
-    }
+    finishes_accepted z h = search (arith, looked_on, accepts_number, none_finished)
 
 -- and after a reading
 pub finishes_reading : (v w : CellView) (x : List ℕ) (reading : Reading) → ReadOfCell v x x w → reading ≡ reading_of (take 12 x) → FinishesReading v reading w

@@ -1,24 +1,10 @@
 -- A running cell board is one run of the machine, and goes on with it.
-use Rattle.std.proofs.Common.{◌≡◌, ℕ, List, ◌∷◌, ◌++◌, length, refl, sym, ap, ◌∙◌, subst, le_refl, []}
+use Rattle.ucl_pass.proofs.Common.{◌≡◌, ℕ, List, ◌∷◌, ◌++◌, length, refl, sym, ap, ◌∙◌, subst, le_refl, [], some, IsPrefix, get_elem?, Entry, board_of, Logged, Log, entry_list, history_of, Nothing}
+use Rattle.ucl_pass.proofs.Common.{cast_for, steps_of_moves, Actor, IsRunOfActors, HaveGoneOn, GoesOnFrom, linearizable_run, words_of_run, there_is, CellView, actor_of, actors_of, CellState}
+use Rattle.ucl_pass.proofs.Common.{CellMeetsItsRule, IsRunOfCell, CellBoardsAreRuns, CellGoesOnWith}
 use Rattle.std.proofs.lemmas.List.Concat.{flat_map-append}
-use mathlib.Core.Option.{some}
-use mathlib.Core.List.{IsPrefix}
-use lib.ListN.{get_elem?}
-use Rattle.ucl_board.specs.declared.entry.Entry.{Entry}
-use Rattle.ucl_board.specs.History.{board_of}
-use Rattle.ucl_board.specs.Log.{Logged, Log, entry_list, history_of}
-use Rattle.ucl_steps.specs.Protocol.{Nothing}
 use Rattle.ucl_steps.specs.Linearizable.{IsLinearizable}
-use Rattle.ucl_steps.specs.PassRuns.{cast_for, steps_of_moves}
-use Rattle.ucl_steps.specs.Actors.{Actor, IsRunOfActors}
-use Rattle.ucl_steps.specs.Growing.{HaveGoneOn, GoesOnFrom}
-use Rattle.ucl_steps.proofs.Runs.{linearizable_run, words_of_run}
-use Rattle.ucl_steps.proofs.Seats.{map_there}
 use Rattle.ucl_steps.proofs.KeptRecords.{kept_records}
-use Rattle.ucl_pass.specs.declared.view.CellView.{CellView}
-use Rattle.ucl_pass.specs.CellViews.{actor_of, actors_of}
-use Rattle.ucl_pass.specs.CellRule.{CellState, CellMeetsItsRule}
-use Rattle.ucl_pass.specs.Laws.{IsRunOfCell, CellBoardsAreRuns, CellGoesOnWith}
 
 pub cells_run : CellBoardsAreRuns
 cells_run s r =
@@ -38,7 +24,7 @@ history_before log log' before = (history_of before.0, sym (flat_map-append (λ 
 module _ (views views' : List CellView) (readers readers' enlisted enlisted' : ℕ) (log log' : Log) (r : IsRunOfActors readers enlisted (history_of log) (actors_of views))
     (q : IsRunOfActors readers' enlisted' (history_of log') (actors_of views')) where
   none_held : (views : List CellView) (seat : ℕ) (a : Actor) → get_elem? (actors_of views) seat ≡ some a → a.doing.held ≡ Nothing
-  none_held views seat a there = let v = map_there actor_of views seat a there in subst (λ (b : Actor). b.doing.held ≡ Nothing) v.2 refl
+  none_held views seat a there = let v = there_is actor_of views seat a there in subst (λ (b : Actor). b.doing.held ≡ Nothing) v.2 refl
 
   pub cell_goes_on : IsPrefix log log' → HaveGoneOn (actors_of views) (actors_of views') → GoesOnFrom (actors_of views) r.state (actors_of views') q.state
   cell_goes_on before on =

@@ -1,50 +1,22 @@
 -- Each kind of step on the cell keeps the rule, and tells its pass what it says.
-use Rattle.std.proofs.Common.{◌≡◌, ◌≢◌, inl, inr, ℕ, zero, suc, ◌+◌, ◌-◌, ◌<◌, ◌≤◌, true, false, Option, Some, None, List, ◌∷◌, ◌++◌, length, set, take, nat_eq, get_or, []}
-use Rattle.std.proofs.Common.{if◌then◌else◌, refl, sym, ap, ◌∙◌, subst, arith, le_refl, append-nil, length-append, length-set, true≢false}
-use Rattle.std.specs.Prelude.{slice_index, Result, MatchResult, IsSome}
-use mathlib.Core.Option.{some}
-use lib.ListN.{get_elem?}
+use Rattle.ucl_pass.proofs.Common.{◌≡◌, ◌≢◌, inl, inr, ℕ, zero, suc, ◌+◌, ◌-◌, ◌<◌, ◌≤◌, true, false, Option, Some, None, List, ◌∷◌, ◌++◌, length, set, take, nat_eq, get_or, [], if◌then◌else◌, refl}
+use Rattle.ucl_pass.proofs.Common.{sym, ap, ◌∙◌, subst, arith, le_refl, append-nil, length-append, true≢false, slice_index, Result, MatchResult, IsSome, some, get_elem?, Turns, Forks, Merges}
+use Rattle.ucl_pass.proofs.Common.{at_longer, set_here, at_last, EventCall, Refusal, refusal_of, word_of, record_at, Entry, IsMatch, word_at, match_after, IsLegal, followed_by, entry_of, reading_of}
+use Rattle.ucl_pass.proofs.Common.{AccessKind, Look, Swap, Target, Enlisted, Whole, history_of, IsThere, Log, board_length, word_after, one_word, begins_length, View, opener, Enlists, Caller}
+use Rattle.ucl_pass.proofs.Common.{Reporter, Reader, Call, Event, Reading, Refused, Copied, MachineState, Answer, ends, nothing_done, cast_for, steps_of_moves, CellView, Actor, IsRunOfActors}
+use Rattle.ucl_pass.proofs.Common.{new_cell_pass, first_cell_pass, left_cell_pass, second_cell_pass, note_cell_pass, told_cell_pass, all_finished, actor_of, actors_of, views_known, words_after}
+use Rattle.ucl_pass.proofs.Common.{CellKeepsOneHistory, CellStands, CellStandAfterSplit, IsNextBoard, with_one_more, word_looked_at, Looks, StoresEntry, StoresReporter, LooksOnly, LooksAtEnlisted}
+use Rattle.ucl_pass.proofs.Common.{AddsOrLooks, EnlistsOrLooks, finished_too, after_load, HasAccepted, DecidesReport, AreAccepting, LookOfCell, AddOfCell, ReadOfCell, CountOfCell, EnlistOfCell}
+use Rattle.ucl_pass.proofs.Common.{TellsAndStands, looked, look_keeps, look_tells, same_history, entered, add_keeps, add_tells, longer_history, enlisted_as, enlist_keeps, enlist_tells}
+use Rattle.ucl_pass.proofs.Common.{unchanged_history, second_added, note_added, note_joined, opens, at_map, map-set, set_again, place_below, Burst, Apart, run_burst, run_enlisted, run_more}
+use Rattle.ucl_pass.proofs.Common.{run_begins, room, RuleWith}
 use lib.Pointwise.{pointwise, bytes_decides}
-use Rattle.crossbeam_utils.specs.Register.{Turns, Forks, Merges}
-use Rattle.atomic_table.proofs.Lists.{at_longer, set_here, at_last}
-use Rattle.ucl_word.specs.declared.event.EventCall.{EventCall}
-use Rattle.ucl_word.specs.declared.refusal.Refusal.{Refusal}
 use Rattle.ucl_word.specs.Record.{IsReporter}
-use Rattle.ucl_word.specs.Rules.{refusal_of}
-use Rattle.ucl_word.specs.Layout.{word_of, record_at}
-use Rattle.ucl_board.specs.declared.entry.Entry.{Entry}
-use Rattle.ucl_board.specs.Fixtures.{IsMatch}
-use Rattle.ucl_board.specs.Words.{word_at}
-use Rattle.ucl_board.specs.History.{match_after, board_of, IsLegal, followed_by, entry_of, reading_of}
-use Rattle.ucl_board.specs.Log.{AccessKind, Look, Swap, Target, Enlisted, Whole, history_of, IsThere, Log}
-use Rattle.ucl_board.proofs.Histories.{board_length, word_after}
-use Rattle.ucl_board.proofs.HistoryLaws.{one_word}
-use Rattle.ucl_board.proofs.Beginnings.{begins_length}
-use Rattle.ucl_shared.specs.declared.view.View.{View}
-use Rattle.ucl_shared.specs.Views.{opener}
-use Rattle.ucl_shared.specs.OneHistory.{KeepsOneHistory}
-use Rattle.ucl_shared.specs.Steps.{Enlists}
-use Rattle.ucl_steps.specs.declared.step.Caller.{Caller}
-use Rattle.ucl_steps.specs.declared.step.Caller.TheVariants.{Reporter, Reader}
-use Rattle.ucl_steps.specs.declared.step.Call.{Call}
-use Rattle.ucl_steps.specs.declared.step.Call.TheVariants.{Event, Reading}
+use Rattle.ucl_board.specs.History.{board_of}
 use Rattle.ucl_steps.specs.declared.trace.Reply.{Reply}
-use Rattle.ucl_steps.specs.declared.trace.Reply.TheVariants.{Accepted, Refused, Copied}
-use Rattle.ucl_steps.specs.Machine.{MachineState}
-use Rattle.ucl_steps.specs.Protocol.{Answer, ends, nothing_done}
-use Rattle.ucl_steps.specs.PassRuns.{cast_for, steps_of_moves}
-use Rattle.ucl_pass.specs.declared.view.CellView.{CellView}
-use Rattle.ucl_steps.specs.Actors.{Actor, IsRunOfActors}
-use Rattle.ucl_pass.specs.CellViews.{new_cell_pass, first_cell_pass, left_cell_pass, second_cell_pass, note_cell_pass, told_cell_pass, all_finished, actor_of, actors_of, views_known}
-use Rattle.ucl_pass.specs.CellRule.{words_after, CellKeepsOneHistory, CellStands, CellStandAfterSplit}
-use Rattle.ucl_pass.specs.CellSteps.{IsNextBoard, with_one_more, word_looked_at, Looks, StoresEntry, StoresReporter, LooksOnly, LooksAtEnlisted, AddsOrLooks, EnlistsOrLooks, finished_too, after_load}
-use Rattle.ucl_pass.specs.CellSteps.{HasAccepted, DecidesReport, AreAccepting, LookOfCell, AddOfCell, ReadOfCell, CountOfCell, EnlistOfCell, TellsAndStands}
-use Rattle.ucl_shared.proofs.KeptRule.{looked, look_keeps, look_tells, same_history, entered, add_keeps, add_tells, longer_history, enlisted_as, enlist_keeps, enlist_tells, unchanged_history}
-use Rattle.ucl_shared.proofs.KeptRule.{second_added, note_added, note_joined, opens, look_same, add_same, enlist_same, second_same, note_same, joined_same, opens_same}
-use Rattle.ucl_shared.proofs.KeptBoards.{apart, low, Kept, kept, one_more, joined}
+use Rattle.ucl_steps.specs.declared.trace.Reply.TheVariants.{Accepted}
+use Rattle.ucl_shared.proofs.KeptBoards.{apart, low, Kept, kept, moved, one_more, joined}
 use Rattle.ucl_pass.proofs.Bursts.{reading_at_once, refused_at_once, accepted_at_once}
-use Rattle.ucl_steps.proofs.Seats.{map_at, map_set, set_same, place_below}
-use Rattle.ucl_steps.proofs.ActorRuns.{Burst, Apart, run_burst, run_enlisted, run_more, run_begins}
 
 -- the thirteen words
 
@@ -99,12 +71,6 @@ low_actors x views r = low words_after pass_of actor_of (λ a. a.number) (λ v. 
 of_kept : (words : List ℕ) (views : List CellView) → Kept words_after pass_of actor_of RunOf words views → CellKeepsOneHistory words views
 of_kept words views k = record { shared = k.rule; one_run = k.runs }
 
-both : (words : List ℕ) (views : List CellView) (ps : List View) (q : KeepsOneHistory words_after words ps) (n : ℕ) (h : List Entry) → ps ≡ views_known views → q.enlisted ≡ n → history_of q.log ≡ h
-    → ((readers : ℕ) → length views ≤ readers → IsRunOfActors readers n h (actors_of views)) → CellKeepsOneHistory words views
-both words views ps q n h e enlisted is run =
-    of_kept words views (kept words_after pass_of actor_of RunOf words views ps q n q.log e enlisted refl
-    (λ readers all. subst (λ (z : List Entry). IsRunOfActors readers n z (actors_of views)) (sym is) (run readers all)))
-
 -- after a step that keeps the rule its pass stands at its seat
 pub stands_too : (seat : ℕ) (v : CellView) (f : List ℕ → List ℕ) (tells : CellView → List ℕ → List ℕ → CellView → Type 0) (place : ℕ) → place ≡ seat → Turns CellKeepsOneHistory seat v f tells
     → Turns CellKeepsOneHistory seat v f (TellsAndStands place tells)
@@ -122,21 +88,15 @@ stands_too seat v f tells place is turns x views r here =
 -- one pass gets another view, by one step of it
 module _ (x : List ℕ) (views : List CellView) (r : CellKeepsOneHistory x views) (seat : ℕ) (v : CellView) (here : get_elem? views seat ≡ some v) where
   abbrev at_seat : get_elem? (views_known views) seat ≡ some v.pass
-  at_seat = map_at (λ (z : CellView). z.pass) views seat v here
+  at_seat = at_map (λ (z : CellView). z.pass) views seat v here
 
   abbrev actor_at : get_elem? (actors_of views) seat ≡ some (actor_of v)
-  actor_at = map_at actor_of views seat v here
+  actor_at = at_map actor_of views seat v here
 
-  known_by : (w : CellView) → set (views_known views) seat w.pass ≡ views_known (set views seat w)
-  known_by w = sym (map_set (λ (z : CellView). z.pass) views seat w)
-
-  acted_by : (w : CellView) (readers n : ℕ) (h : List Entry) → IsRunOfActors readers n h (set (actors_of views) seat (actor_of w)) → IsRunOfActors readers n h (actors_of (set views seat w))
-  acted_by w readers n h run = subst (λ (l : List Actor). IsRunOfActors readers n h l) (sym (map_set actor_of views seat w)) run
-
-  -- a pass with the same number that has finished the same calls
-  same_run : (w : CellView) → actor_of w ≡ actor_of v → (readers n : ℕ) (h : List Entry) → IsRunOfActors readers n h (actors_of views) → IsRunOfActors readers n h (actors_of (set views seat w))
-  same_run w same readers n h run = acted_by w readers n h
-      (subst (λ (l : List Actor). IsRunOfActors readers n h l) (sym (set_same (actors_of views) seat (actor_of w) (actor_at ∙ ap (λ (z : Actor). some z) (sym same)))) run)
+  -- that pass is another, after a step of it
+  after_it : (y : List ℕ) (w : CellView) (n : ℕ) (log : Log) → RuleWith words_after y (set (views_known views) seat w.pass) n log
+      → ((readers : ℕ) → length views ≤ readers → IsRunOfActors readers n (history_of log) (set (actors_of views) seat (actor_of w))) → CellKeepsOneHistory y (set views seat w)
+  after_it y w n log m run = of_kept y (set views seat w) (moved words_after pass_of actor_of RunOf x views r.shared r.one_run seat v here y w n log m run)
 
   module _ (acts : IsSome v.pass.share) (target : Target) (there : IsThere (history_of r.shared.log) target) where
     abbrev seen_by_load : List ℕ → View
@@ -147,15 +107,10 @@ module _ (x : List ℕ) (views : List CellView) (r : CellKeepsOneHistory x views
 
     load_keeps : (shown : List ℕ) (calls : List Answer)
         → ((readers : ℕ) → length views ≤ readers
-        → IsRunOfActors readers r.shared.enlisted (history_of r.shared.log) (actors_of (set views seat (record { pass = seen_by_load shown; calls = calls }))))
+        → IsRunOfActors readers r.shared.enlisted (seen_by_load shown).seen (set (actors_of views) seat (record { number = v.pass.number; doing = all_finished calls })))
         → CellKeepsOneHistory x (set views seat (record { pass = seen_by_load shown; calls = calls }))
-    load_keeps shown calls run =
-        let w : CellView = record { pass = seen_by_load shown; calls = calls } in
-        let same = look_same words_after x (views_known views) r.shared seat v.pass at_seat acts target there r.shared.enlisted shown (le_refl r.shared.enlisted) in
-        both x (set views seat w) (set (views_known views) seat (seen_by_load shown))
-        (look_keeps words_after x (views_known views) r.shared seat v.pass at_seat acts target there r.shared.enlisted shown (le_refl r.shared.enlisted))
-        r.shared.enlisted (history_of r.shared.log) (known_by w) same.0 (ap history_of same.1 ∙ load_same shown)
-        (λ readers all. let long = length-set views seat w in run readers (omega arith))
+    load_keeps shown calls run = after_it x (record { pass = seen_by_load shown; calls = calls }) r.shared.enlisted _
+        (look_keeps words_after x (views_known views) r.shared seat v.pass at_seat acts target there r.shared.enlisted shown (le_refl r.shared.enlisted)) run
 
     load_tells : (shown : List ℕ) → Looks target v.pass shown x (seen_by_load shown)
     load_tells shown =
@@ -168,30 +123,21 @@ module _ (x : List ℕ) (views : List CellView) (r : CellKeepsOneHistory x views
 
     -- a load that decides nothing
     idle_load : (shown : List ℕ) → CellKeepsOneHistory x (set views seat (record { pass = seen_by_load shown; calls = v.calls }))
-    idle_load shown = search (arith, load_keeps, same_run)
+    idle_load shown = load_keeps shown v.calls (λ readers all. subst (λ (h : List Entry). IsRunOfActors readers r.shared.enlisted h (set (actors_of views) seat (actor_of v))) (sym (load_same shown))
+        (subst (IsRunOfActors readers r.shared.enlisted (history_of r.shared.log)) (sym (set_again (actors_of views) seat (actor_of v) actor_at)) (r.one_run readers all)))
 
     -- one that decides a call, by all steps of it
     deciding_load : (shown : List ℕ) (calls : List Answer) (c : Caller)
         → ((readers : ℕ) (one : IsRunOfActors readers r.shared.enlisted (history_of r.shared.log) (actors_of views)) → Burst seat v.pass.number one.state c (all_finished calls) [])
         → CellKeepsOneHistory x (set views seat (record { pass = seen_by_load shown; calls = calls }))
-    deciding_load shown calls c burst = load_keeps shown calls (λ readers all.
-        let one = r.one_run readers all in
-        acted_by (record { pass = seen_by_load shown; calls = calls }) readers r.shared.enlisted (history_of r.shared.log)
-        (run_burst readers r.shared.enlisted (history_of r.shared.log) (actors_of views) one seat (actor_of v) actor_at (all_finished calls) (history_of r.shared.log) [] c
-        (r.shared.fits seat v.pass at_seat).number (apart_actors x views r) (sym (append-nil (history_of r.shared.log))) (burst readers one)))
+    deciding_load shown calls c burst = load_keeps shown calls (λ readers all. let one = r.one_run readers all in
+        run_burst readers r.shared.enlisted (history_of r.shared.log) (actors_of views) one seat (actor_of v) actor_at (all_finished calls) (seen_by_load shown).seen [] c
+        (r.shared.fits seat v.pass at_seat).number (apart_actors x views r) (load_same shown ∙ sym (append-nil (history_of r.shared.log))) (burst readers one))
 
 -- where nothing is held it does not matter when the last call began
 as_finished : (seat number : ℕ) (w : MachineState) (c : Caller) (call : Call) (reply : Reply) (begun ended : ℕ) (calls : List Answer) (entries : List Entry)
     → Burst seat number w c (ends call reply begun ended (all_finished calls)) entries → Burst seat number w c (all_finished (finished_too call reply begun ended calls)) entries
-as_finished seat number w c call reply begun ended calls entries b = record {
-  moves = b.moves;
-  last = b.last;
-  run = b.run;
-  history = b.history;
-  of = b.of;
-  passes = b.passes;
-  fits = record { high = b.fits.high; recorded = b.fits.recorded; held = b.fits.held; whole = b.fits.whole };
-}
+as_finished seat number w c call reply begun ended calls entries b = search arith
 
 -- the word of a match in the cell is that of the machine
 word_found : (x : List ℕ) (h : List Entry) (n game : ℕ) (w : MachineState) → IsMatch game → x ≡ words_after h n → w.history ≡ h → word_at x game ≡ word_of (match_after w.history game)
@@ -269,9 +215,8 @@ reads seat v acts x views r here =
 
 -- a board may open with the words of no event and no reporter
 pub begins : (words : List ℕ) → words ≡ words_after [] 0 → CellKeepsOneHistory words (first_cell_pass ∷ [])
-begins words are =
-    let same = opens_same words_after words are in
-    both words (first_cell_pass ∷ []) (opener ∷ []) (opens words_after words are) 0 [] refl same.0 (ap history_of same.1) (λ readers all. run_begins readers all)
+begins words are = of_kept words (first_cell_pass ∷ [])
+    (kept words_after pass_of actor_of RunOf words (first_cell_pass ∷ []) (opener ∷ []) 0 [] (opens words_after words are) refl (λ readers all. run_begins readers all))
 
 -- its first pass stands there, as the only one
 pub begins_stands : CellStands 0 first_cell_pass
@@ -319,7 +264,6 @@ module _ (x next : List ℕ) (views : List CellView) (r : CellKeepsOneHistory x 
       → Burst seat v.pass.number one.state (Reporter v.pass.number) (all_finished calls_by_store) (entry ∷ [])
   store_burst readers one =
       let found = word_found x (history_of r.shared.log) r.shared.enlisted e.game one.state game r.shared.words_are one.history_is in
-      let at : length one.state.history ≡ length (history_of r.shared.log) = ap length one.history_is in
       let c : Caller = Reporter v.pass.number in
       let reply : ℕ → Reply = λ n. Accepted (record { number = (record_at n).number + 1 }) in
       let once = accepted_at_once (cast_for readers) seat v.pass.number (steps_of_moves one.moves) one.state one.run (all_finished v.calls)
@@ -327,26 +271,16 @@ module _ (x next : List ℕ) (views : List CellView) (r : CellKeepsOneHistory x 
       (ap (λ (n : ℕ). refusal_of (record_at n) e.expected e.kind) (sym found) ∙ accepts) in
       let done = as_finished seat v.pass.number one.state c (Event e) (reply (word_of (match_after one.state.history e.game))) (length one.state.history) (length one.state.history + 1) v.calls
       (entry ∷ []) once in
-      subst (λ (n : ℕ). Burst seat v.pass.number one.state c (all_finished (finished_too (Event e) (reply (word_at x e.game)) (length (history_of r.shared.log)) n v.calls)) (entry ∷ [])) one_longer
-      (subst (λ (n : ℕ). Burst seat v.pass.number one.state c (all_finished (finished_too (Event e) (reply (word_at x e.game)) n (n + 1) v.calls)) (entry ∷ [])) at
-      (subst (λ (n : ℕ). Burst seat v.pass.number one.state c (all_finished (finished_too (Event e) (reply n) (length one.state.history) (length one.state.history + 1) v.calls)) (entry ∷ []))
-      (sym found) done))
+      search (arith, one_longer, one.state, one.state.history)
 
   store_keeps : CellKeepsOneHistory next (set views seat after_store)
   store_keeps =
-      let same = add_same words_after x (views_known views) r.shared seat v.pass known_here acts entry (word_at x e.game) there_now pos refl next_is.1 r.shared.enlisted (le_refl r.shared.enlisted)
-      next next_is.0 in
-      both next (set views seat after_store) (set (views_known views) seat seen_by_store)
+      after_it x views r seat v here next after_store r.shared.enlisted _
       (add_keeps words_after x (views_known views) r.shared seat v.pass known_here acts entry (word_at x e.game) there_now pos refl next_is.1 r.shared.enlisted (le_refl r.shared.enlisted) next
       next_is.0)
-      r.shared.enlisted (followed_by (history_of r.shared.log) entry) (known_by x views r seat v here after_store) same.0 (ap history_of same.1 ∙ longer)
-      (λ readers all.
-      let long = length-set views seat after_store in
-      let one = r.one_run readers (omega arith) in
-      acted_by x views r seat v here after_store readers r.shared.enlisted (followed_by (history_of r.shared.log) entry)
-      (run_burst readers r.shared.enlisted (history_of r.shared.log) (actors_of views) one seat (actor_of v) (actor_at x views r seat v here) (all_finished calls_by_store)
-      (followed_by (history_of r.shared.log) entry) (entry ∷ []) (Reporter v.pass.number)
-      (r.shared.fits seat v.pass known_here).number (apart_actors x views r) refl (store_burst readers one)))
+      (λ readers all. let one = r.one_run readers all in
+      run_burst readers r.shared.enlisted (history_of r.shared.log) (actors_of views) one seat (actor_of v) (actor_at x views r seat v here) (all_finished calls_by_store) seen_by_store.seen
+      (entry ∷ []) (Reporter v.pass.number) (r.shared.fits seat v.pass known_here).number (apart_actors x views r) longer (store_burst readers one))
 
   store_tells : StoresEntry entry v.pass x next seen_by_store
   store_tells =
@@ -422,20 +356,15 @@ module _ (x : List ℕ) (views : List CellView) (r : CellKeepsOneHistory x views
 
   enlisting_keeps : CellKeepsOneHistory (with_one_more x) (set views seat after_enlisting)
   enlisting_keeps =
-      let same = enlist_same words_after x (views_known views) r.shared seat v.pass seat_known acts reader left (with_one_more x) more in
-      both (with_one_more x) (set views seat after_enlisting) (set (views_known views) seat seen_by_enlisting)
+      after_it x views r seat v here (with_one_more x) after_enlisting (r.shared.enlisted + 1) _
       (enlist_keeps words_after x (views_known views) r.shared seat v.pass seat_known acts reader left (with_one_more x) more)
-      (r.shared.enlisted + 1) (history_of r.shared.log) (known_by x views r seat v here after_enlisting) same.0 (ap history_of same.1 ∙ enlisting_same)
-      (λ readers all.
-      let long = length-set views seat after_enlisting in
-      acted_by x views r seat v here after_enlisting readers (r.shared.enlisted + 1) (history_of r.shared.log)
-      (run_enlisted readers r.shared.enlisted (history_of r.shared.log) (actors_of views) (r.one_run readers (omega arith)) seat (actor_of v) (actor_at x views r seat v here) reader left refl
+      (λ readers all. subst (λ (h : List Entry). IsRunOfActors readers (r.shared.enlisted + 1) h (set (actors_of views) seat (actor_of after_enlisting))) (sym enlisting_same)
+      (run_enlisted readers r.shared.enlisted (history_of r.shared.log) (actors_of views) (r.one_run readers all) seat (actor_of v) (actor_at x views r seat v here) reader left refl
       (low_actors x views r)))
 
   enlisting_tells : StoresReporter v.pass x (with_one_more x) seen_by_enlisting
   enlisting_tells =
       let f = r.shared.fits seat v.pass seat_known in
-      let l = f.listed in
       record {
         seen_all = record { words_are = more ∙ ap (λ (h : List Entry). words_after h (r.shared.enlisted + 1)) (sym enlisting_same); listed = omega arith; up_to_date = refl };
         enlists = subst (λ (n : ℕ). Enlists n v.pass seen_by_enlisting) (found_last x views r) (enlist_tells words_after x (views_known views) r.shared seat v.pass seat_known acts reader left);
@@ -465,17 +394,14 @@ enlists seat v current next acts reader room is x views r here =
 -- one pass more, that has finished no call, beside one that has finished what it had finished
 split_keeps : (x : List ℕ) (views : List CellView) (r : CellKeepsOneHistory x views) (seat : ℕ) (v : CellView) (here : get_elem? views seat ≡ some v) (u w : CellView) → actor_of u ≡ actor_of v
     → actor_of w ≡ record { number = 0; doing = nothing_done }
-    → (q : KeepsOneHistory words_after x (set (views_known views) seat u.pass ++ w.pass ∷ [])) → q.enlisted ≡ r.shared.enlisted → q.log ≡ r.shared.log
-    → CellKeepsOneHistory x (set views seat u ++ w ∷ [])
-split_keeps x views r seat v here u w same none q enlisted log = of_kept x (set views seat u ++ w ∷ [])
+    → RuleWith words_after x (set (views_known views) seat u.pass ++ w.pass ∷ []) r.shared.enlisted r.shared.log → CellKeepsOneHistory x (set views seat u ++ w ∷ [])
+split_keeps x views r seat v here u w same none m = of_kept x (set views seat u ++ w ∷ [])
     (one_more words_after pass_of actor_of RunOf x views r.shared r.one_run seat v here (record { number = 0; doing = nothing_done })
-    (λ readers actors one less. run_more readers r.shared.enlisted (history_of r.shared.log) actors one less) u w same none q enlisted log)
+    (λ readers actors one less. run_more readers r.shared.enlisted (history_of r.shared.log) actors one less) u w same none m)
 
 pub seconds : (seat : ℕ) (v : CellView) → Forks CellKeepsOneHistory seat v (left_cell_pass v) (second_cell_pass v)
 seconds seat v x views r here =
-    let at = at_seat x views r seat v here in
-    let same = second_same words_after x (views_known views) r.shared seat v.pass at in
-    split_keeps x views r seat v here (left_cell_pass v) (second_cell_pass v) refl refl (second_added words_after x (views_known views) r.shared seat v.pass at) same.0 same.1
+    split_keeps x views r seat v here (left_cell_pass v) (second_cell_pass v) refl refl (second_added words_after x (views_known views) r.shared seat v.pass (at_seat x views r seat v here))
 
 -- a pass that another was split off still stands, beside that one
 pub split_stands : (v : CellView) → CellStandAfterSplit v (left_cell_pass v) (second_cell_pass v)
@@ -494,9 +420,7 @@ split_stands v seat was =
 
 pub notes : (seat : ℕ) (v : CellView) → Forks CellKeepsOneHistory seat v v (note_cell_pass v)
 notes seat v x views r here =
-    let at = at_seat x views r seat v here in
-    let same = note_same words_after x (views_known views) r.shared seat v.pass at in
-    split_keeps x views r seat v here v (note_cell_pass v) refl refl (note_added words_after x (views_known views) r.shared seat v.pass at) same.0 same.1
+    split_keeps x views r seat v here v (note_cell_pass v) refl refl (note_added words_after x (views_known views) r.shared seat v.pass (at_seat x views r seat v here))
 
 pub joins : (seat : ℕ) (v : CellView) (other : ℕ) (a : CellView) → Merges CellKeepsOneHistory seat v other (note_cell_pass a) (told_cell_pass v (note_cell_pass a)) new_cell_pass
 joins seat v other a x views r here apart there =
@@ -504,11 +428,10 @@ joins seat v other a x views r here apart there =
     let told = told_cell_pass v (note_cell_pass a) in
     let note = note_cell_pass a in
     let theirs : get_elem? (set (views_known views) seat told.pass) other ≡ some note.pass =
-    subst (λ (l : List View). get_elem? l other ≡ some note.pass) (map_set pass_of views seat told) (map_at pass_of (set views seat told) other note there) in
-    let same = joined_same words_after x (views_known views) r.shared seat v.pass at other note.pass apart theirs refl refl in
+    subst (λ (l : List View). get_elem? l other ≡ some note.pass) (map-set pass_of views seat told) (at_map pass_of (set views seat told) other note there) in
     of_kept x (set (set views seat told) other new_cell_pass)
     (joined words_after pass_of actor_of RunOf x views r.shared r.one_run seat v here told other note new_cell_pass there refl refl
-    (note_joined words_after x (views_known views) r.shared seat v.pass at other note.pass apart theirs refl refl) same.0 same.1)
+    (note_joined words_after x (views_known views) r.shared seat v.pass at other note.pass apart theirs refl refl))
 
 other_words : (x current : List ℕ) → pointwise nat_eq x current ≡ false → x ≢ current
 other_words x current not is = true≢false (sym ((bytes_decides x current).1 is) ∙ not)

@@ -1,3 +1,4 @@
+pub mod Common
 pub mod Bursts
 pub mod KeptRule
 pub mod Standing

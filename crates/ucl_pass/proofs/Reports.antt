@@ -1,16 +1,8 @@
 -- How many events a pass of the cell board has reported.
-use Rattle.std.proofs.Common.{None, ◌≡◌, ℕ, ◌+◌, Bool, List, ◌∷◌, ◌++◌, length, filter, Result, refl, sym, ap, ◌∙◌, subst, arith, length-append, []}
-use Rattle.std.specs.List.{AllByRecursion, flat_map}
-use Rattle.std.proofs.lemmas.List.Elements.{filter-append}
-use Rattle.ucl_word.specs.declared.event.EventCall.{EventCall}
-use Rattle.ucl_word.specs.declared.event.Accepted.{Accepted}
-use Rattle.ucl_word.specs.declared.refusal.Refusal.{Refusal}
-use Rattle.ucl_board.specs.Log.{Taken}
-use Rattle.ucl_shared.specs.declared.view.View.{View}
-use Rattle.ucl_shared.specs.Passes.{ReportsMore}
-use Rattle.ucl_shared.specs.Views.{Takes}
-use Rattle.ucl_shared.specs.CallSteps.{steps_with}
-use Rattle.ucl_pass.specs.CellCalls.{CellAnswered, CellEnlistAnswered, CellEnlistMissed, CellEnlistment, CellHasReported, CellMissed, CellReport}
+use Rattle.ucl_pass.proofs.Common.{None, ◌≡◌, ℕ, ◌+◌, Bool, List, ◌∷◌, ◌++◌, length, filter, refl, sym, ap, ◌∙◌, subst, arith, length-append, [], AllByRecursion, flat_map, filter-append, EventCall}
+use Rattle.ucl_pass.proofs.Common.{Accepted, Refusal, Taken, View, ReportsMore, Takes, steps_with, CellAnswered, CellEnlistAnswered, CellEnlistMissed, CellEnlistment, CellHasReported, CellMissed}
+use Rattle.ucl_pass.proofs.Common.{CellReport}
+use Rattle.std.proofs.Common.{Result}
 
 count_more : (p : Taken → Bool) (xs ys : List Taken) → length (filter p (xs ++ ys)) ≡ length (filter p xs) + length (filter p ys)
 count_more p xs ys = ap length (filter-append p xs ys) ∙ length-append (filter p xs) (filter p ys)

@@ -1,22 +1,7 @@
 -- A report on the cell as a whole, by each way in which a try ends.
-use Rattle.std.proofs.Common.{◌≡◌, ◌≢◌, ℕ, List, true, false, refl, sym, ap, ◌∙◌, subst, take}
-use Rattle.std.specs.Prelude.{Result, Ok, Err, IsOk, IfOk, IfErr, IsSome, MatchResult, is_ok}
-use Rattle.ucl_word.specs.declared.event.EventCall.{EventCall}
-use Rattle.ucl_word.specs.declared.event.Accepted.{Accepted}
-use Rattle.ucl_word.specs.declared.refusal.Refusal.{Refusal}
-use Rattle.ucl_word.specs.Rules.{reply_of}
-use Rattle.ucl_word.specs.Layout.{record_at}
-use Rattle.ucl_board.specs.declared.entry.Entry.{Entry}
-use Rattle.ucl_board.specs.Fixtures.{IsMatch}
-use Rattle.ucl_board.specs.Words.{word_at, game_at}
-use Rattle.ucl_board.specs.History.{board_of, IsLegal, entry_of, sequential_reply}
-use Rattle.ucl_board.specs.Log.{Swap}
-use Rattle.ucl_shared.specs.Passes.{Continues, AcceptedReport, RefusedReport}
-use Rattle.ucl_shared.specs.Views.{pass_view_of}
-use Rattle.ucl_pass.specs.declared.view.CellView.{CellView}
-use Rattle.ucl_pass.specs.CellRule.{IsUpToDate}
-use Rattle.ucl_pass.specs.CellSteps.{word_looked_at, LooksOnly, StoresEntry, HasAccepted, AreAccepting, DecidesReport, LookOfCell}
-use Rattle.ucl_pass.specs.CellCalls.{CellReport, FinishesReport}
+use Rattle.ucl_pass.proofs.Common.{◌≡◌, ◌≢◌, ℕ, List, true, false, refl, sym, ap, ◌∙◌, subst, take, Result, Ok, Err, IsOk, IfOk, IfErr, IsSome, MatchResult, is_ok, EventCall, Accepted, Refusal}
+use Rattle.ucl_pass.proofs.Common.{reply_of, record_at, Entry, IsMatch, word_at, game_at, board_of, IsLegal, entry_of, sequential_reply, Swap, Continues, AcceptedReport, RefusedReport, pass_view_of}
+use Rattle.ucl_pass.proofs.Common.{CellView, IsUpToDate, word_looked_at, LooksOnly, StoresEntry, HasAccepted, AreAccepting, DecidesReport, LookOfCell, CellReport, FinishesReport}
 use Rattle.ucl_pass.proofs.CallsBySteps.{won, lost, same_word, TriedReport, look_continues, refuses, refused_steps, missed_again, accepts, accepted_continues, accepted_steps, looked_number}
 use Rattle.ucl_pass.proofs.CallsBySteps.{are_accepting, still_finished, finishes_accepted, finishes_refused}
 

@@ -1,16 +1,7 @@
 -- Whose steps a log has; and what the rule says of a pass that has the whole board.
-use Rattle.std.proofs.Common.{◌≡◌, ◌≢◌, ℕ, zero, suc, ◌<◌, ◌≤◌, List, ◌∷◌, ◌++◌, length, map, refl, sym, ap, ◌∙◌, subst, arith, eq-eqb, ne_eqb, []}
-use Rattle.std.specs.Prelude.{All, Some, None}
-use mathlib.Core.Logic.{dite}
-use mathlib.Core.Option.{some, some-injective}
-use lib.ListN.{get_elem?}
-use native.Mathlib.Decide.{ℕ_discrete}
-use Rattle.ucl_board.specs.declared.entry.Entry.{Entry}
-use Rattle.ucl_board.specs.Log.{Taken, Logged, logged_by, Log, taken_by, entry_list, added_by, history_of}
-use Rattle.ucl_board.proofs.Logs.{taken_none}
-use Rattle.ucl_shared.specs.declared.view.View.{View}
-use Rattle.ucl_shared.specs.Shares.{Share, whole, Overlap}
-use Rattle.ucl_shared.specs.OneHistory.{KeepsOneHistory, DidAllAlone, WholeIsAlone}
+use Rattle.ucl_shared.proofs.Common.{◌≡◌, ◌≢◌, ℕ, zero, suc, ◌<◌, ◌≤◌, List, ◌∷◌, ◌++◌, length, map, refl, sym, ap, ◌∙◌, subst, arith, eq-eqb, ne_eqb, [], All, Some, None, dite, some}
+use Rattle.ucl_shared.proofs.Common.{some-injective, get_elem?, ℕ_discrete, Entry, Taken, Logged, logged_by, Log, taken_by, entry_list, added_by, history_of, taken_none, View, Share, whole, Overlap}
+use Rattle.ucl_shared.proofs.Common.{KeepsOneHistory, DidAllAlone, WholeIsAlone}
 use Rattle.ucl_shared.proofs.Halves.{in_whole}
 
 -- the first step of a log

@@ -1,19 +1,11 @@
 -- What a call leaves after its steps, on any shared board.
-use Rattle.std.proofs.Common.{◌≡◌, ℕ, ◌+◌, ◌≤◌, List, ◌∷◌, ◌++◌, length, refl, sym, ap, ◌∙◌, subst, arith, le_refl, true≢false, true, false, length-append, append-nil, append_assoc, []}
-use Rattle.std.specs.Prelude.{Result, Ok, Err, is_ok, Option, None, IfSome, IfOk}
+use Rattle.ucl_shared.proofs.Common.{◌≡◌, ℕ, ◌+◌, ◌≤◌, List, ◌∷◌, ◌++◌, length, refl, sym, ap, ◌∙◌, subst, arith, le_refl, true≢false, true, false, length-append, append-nil, append_assoc, []}
+use Rattle.ucl_shared.proofs.Common.{Result, Ok, Err, is_ok, Option, None, IfSome, IfOk, greatest_version, entry_of, Enlisted, Taken, step_taken, begins_same, begins_through, View, PassView}
+use Rattle.ucl_shared.proofs.Common.{IsSound, SeesOn, AcceptedReport, Enlistment, pass_view_of, count_of, Takes, kept_of, second_of, note_of, IsNote, Goes, IsOnEnlisted, EnlistSteps}
 use Rattle.std.specs.List.{AllByRecursion}
 use Rattle.ucl_word.specs.declared.event.EventCall.{EventCall}
 use Rattle.ucl_word.specs.declared.event.Accepted.{Accepted}
 use Rattle.ucl_word.specs.declared.refusal.Refusal.{Refusal}
-use Rattle.ucl_board.specs.Words.{greatest_version}
-use Rattle.ucl_board.specs.History.{entry_of}
-use Rattle.ucl_board.specs.Log.{Enlisted, Taken, step_taken}
-use Rattle.ucl_board.proofs.Beginnings.{begins_same, begins_through}
-use Rattle.ucl_shared.specs.declared.view.View.{View}
-use Rattle.ucl_shared.specs.Passes.{PassView, IsSound, SeesOn, AcceptedReport, Enlistment}
-use Rattle.ucl_shared.specs.Views.{pass_view_of, count_of, Takes, kept_of, second_of, note_of, IsNote}
-use Rattle.ucl_shared.specs.Steps.{Goes}
-use Rattle.ucl_shared.specs.CallSteps.{IsOnEnlisted, EnlistSteps}
 use Rattle.ucl_shared.proofs.Lists.{none_by_zero, few_mine}
 use Rattle.ucl_shared.proofs.Halves.{half_acts, half_not_whole}
 

@@ -1,24 +1,6 @@
 -- What a split does to a share: its halves overlap with nothing that it did not overlap with, and not with one another.
-use Rattle.std.proofs.Common.{◌≡◌, ◌⊎◌, inl, inr, ⊎_elim, Bool, true, false, List, ◌∷◌, ◌++◌, refl, sym, ap, ◌∙◌, subst, true≢false, append-nil, append_assoc, length, length-append, arith, []}
-use Rattle.std.specs.Prelude.{drop, Some, None, IsSome}
-use mathlib.Core.List.{IsPrefix}
-use Rattle.ucl_board.proofs.Beginnings.{begins_none, begins_more, begins_through}
-use Rattle.ucl_shared.specs.Shares.{Share, whole, half_of, first_half, second_half, Overlap}
-
-abbrev head_or : {X : Type 0} → X → List X → X
-head_or d [] = d
-head_or d (x ∷ xs) = x
-
-abbrev unwrap_or_nil : Share → List Bool
-unwrap_or_nil None = []
-unwrap_or_nil (Some way) = way
-
-module _ {X : Type 0} (x y : X) (xs ys : List X) (same : x ∷ xs ≡ y ∷ ys) where
-  tails : xs ≡ ys
-  tails = ap (drop 1) same
-
-  heads : x ≡ y
-  heads = ap (head_or x) same
+use Rattle.ucl_shared.proofs.Common.{◌≡◌, ◌⊎◌, inl, inr, ⊎_elim, Bool, true, false, List, ◌∷◌, ◌++◌, refl, sym, ap, ◌∙◌, subst, true≢false, append-nil, append_assoc, length, length-append, arith}
+use Rattle.ucl_shared.proofs.Common.{[], Some, None, IsSome, IsPrefix, begins_none, begins_more, begins_through, Share, whole, half_of, first_half, second_half, Overlap}
 
 pub overlap_swap : (s t : Share) → Overlap s t → Overlap t s
 overlap_swap s t o = search arith
@@ -28,11 +10,7 @@ comparable : (b rest way : List Bool) (side : Bool) → b ++ rest ≡ way ++ sid
 comparable [] rest way side is = inr (begins_none way)
 comparable (x ∷ b) rest [] side is = inl (begins_none (x ∷ b))
 comparable (x ∷ b) rest (y ∷ way) side is =
-    let same : x ≡ y = heads x y (b ++ rest) (way ++ side ∷ []) is in
-    ⊎_elim
-    (λ (p : IsPrefix way b). inl (p.0, λ i. sym same i ∷ p.1 i))
-    (λ (p : IsPrefix b way). inr (p.0, λ i. same i ∷ p.1 i))
-    (comparable b rest way side (tails x y (b ++ rest) (way ++ side ∷ []) is))
+    let same : x ≡ y = cc in let tail : b ++ rest ≡ way ++ side ∷ [] = cc in search (arith, comparable b rest way side tail)
 
 pub half_overlaps : (side : Bool) (s t : Share) → Overlap (half_of side s) t → Overlap s t
 half_overlaps side (Some way) (Some b) o = ⊎_elim
@@ -43,8 +21,8 @@ half_overlaps side (Some way) None o = absurd o
 half_overlaps side None t o = absurd o
 
 one_turn : (way rest : List Bool) (a b : Bool) → (way ++ a ∷ []) ++ rest ≡ way ++ b ∷ [] → a ≡ b
-one_turn [] rest a b is = heads a b rest [] is
-one_turn (x ∷ way) rest a b is = one_turn way rest a b (tails x x ((way ++ a ∷ []) ++ rest) (way ++ b ∷ []) is)
+one_turn [] rest a b is = cc
+one_turn (x ∷ way) rest a b is = one_turn way rest a b (cc)
 
 pub halves_apart : (s : Share) → Overlap (second_half s) (first_half s) → ⊥
 halves_apart s o = search (arith, true≢false, one_turn)
@@ -53,7 +31,7 @@ no_end : (way : List Bool) (side : Bool) → way ++ side ∷ [] ≡ [] → ⊥
 no_end way side is = let l = ap length is in omega (arith, length-append way (side ∷ []))
 
 some_same : (a b : List Bool) → Some a ≡ Some b → a ≡ b
-some_same a b is = ap (unwrap_or_nil) is
+some_same a b is = cc
 
 pub half_acts : (side : Bool) (s : Share) → IsSome s → IsSome (half_of side s)
 half_acts side s acts = search arith

@@ -1,16 +1,10 @@
 -- What the rules of both boards share: the rule of every shared board beside a run of the actors of its passes, whatever views, actors and runs are.
-use Rattle.std.proofs.Common.{◌≡◌, ℕ, zero, suc, ◌+◌, ◌<◌, ◌≤◌, List, ◌∷◌, ◌++◌, length, map, set, refl, sym, ap, ◌∙◌, subst, arith, length-append, length-set, []}
-use Rattle.std.proofs.lemmas.List.{map-set, map-append, length-map}
-use mathlib.Core.Option.{some, some-ne-none, some-injective}
-use lib.ListN.{get_elem?}
-use Rattle.atomic_table.proofs.Lists.{at_map, set_again}
-use Rattle.ucl_board.specs.declared.entry.Entry.{Entry}
-use Rattle.ucl_board.specs.Log.{Log}
-use Rattle.ucl_shared.specs.declared.view.View.{View}
-use Rattle.ucl_shared.specs.OneHistory.{KeepsOneHistory}
+use Rattle.ucl_shared.proofs.Common.{◌≡◌, ℕ, zero, suc, ◌<◌, ◌≤◌, List, ◌∷◌, ◌++◌, length, map, set, refl, sym, ap, ◌∙◌, subst, arith, length-append, length-set, [], map-set, map-append, length-map}
+use Rattle.ucl_shared.proofs.Common.{some, some-ne-none, some-injective, get_elem?, at_map, set_again, Entry, Log, View, KeepsOneHistory}
+use Rattle.ucl_shared.proofs.KeptRule.{RuleWith}
 
 -- what an element of a mapped list is of
-there_is : {X Y : Type 0} (f : X → Y) (xs : List X) (j : ℕ) (y : Y) → get_elem? (map f xs) j ≡ some y → (x : X) × (get_elem? xs j ≡ some x) × (f x ≡ y)
+pub there_is : {X Y : Type 0} (f : X → Y) (xs : List X) (j : ℕ) (y : Y) → get_elem? (map f xs) j ≡ some y → (x : X) × (get_elem? xs j ≡ some x) × (f x ≡ y)
 there_is f [] j y e = absurd (some-ne-none y (sym e))
 there_is f (x ∷ xs) zero y e = (x, refl, some-injective (f x) y e)
 there_is f (x ∷ xs) (suc j) y e = there_is f xs j y e
@@ -43,11 +37,10 @@ module _ (words_after : List Entry → ℕ → List ℕ) {V A : Type 0} (pass : 
       pub runs : Runs rule.enlisted rule.log views
 
     -- from the rule of what is known of these passes, with this number and this log
-    pub kept : (words : List ℕ) (views : List V) (ps : List View) (q : KeepsOneHistory words_after words ps) (n : ℕ) (log : Log) → ps ≡ map pass views → q.enlisted ≡ n → q.log ≡ log
-        → Runs n log views → Kept words views
-    kept words views ps q n log are enlisted is runs =
-        let t = subst (λ (l : List View). (p : KeepsOneHistory words_after words l) × (p.enlisted ≡ q.enlisted) × (p.log ≡ q.log)) are (q, refl, refl) in
-        record { rule = t.0; runs = subst (λ (k : ℕ). Runs k t.0.log views) (sym (t.1 ∙ enlisted)) (subst (λ (l : Log). Runs n l views) (sym (t.2 ∙ is)) runs) }
+    pub kept : (words : List ℕ) (views : List V) (ps : List View) (n : ℕ) (log : Log) → RuleWith words_after words ps n log → ps ≡ map pass views → Runs n log views → Kept words views
+    kept words views ps n log m are runs =
+        let t = subst (λ (l : List View). RuleWith words_after words l n log) are m in
+        record { rule = t.rule; runs = subst (λ (k : ℕ). Runs k t.rule.log views) (sym t.enlisted_is) (subst (λ (l : Log). Runs n l views) (sym t.log_is) runs) }
 
     module _ (words : List ℕ) (views : List V) (r : KeepsOneHistory words_after words (map pass views)) (runs : Runs r.enlisted r.log views) (seat : ℕ) (v : V)
         (here : get_elem? views seat ≡ some v) where
@@ -55,13 +48,19 @@ module _ (words_after : List Entry → ℕ → List ℕ) {V A : Type 0} (pass : 
       pub still : (w : V) → actor w ≡ actor v → map actor (set views seat w) ≡ map actor views
       still w same = map-set actor views seat w ∙ set_again (map actor views) seat (actor w) (at_map actor views seat v here ∙ ap some (sym same))
 
+      -- one pass is another, after a step of it
+      pub moved : (after : List ℕ) (w : V) (n : ℕ) (log : Log) → RuleWith words_after after (set (map pass views) seat (pass w)) n log
+          → ((readers : ℕ) → length views ≤ readers → Run readers n log (set (map actor views) seat (actor w))) → Kept after (set views seat w)
+      moved after w n log m run = kept after (set views seat w) (set (map pass views) seat (pass w)) n log m (sym (map-set pass views seat w))
+          (λ readers all. let long = length-set views seat w in subst (Run readers n log) (sym (map-set actor views seat w)) (run readers (omega arith)))
+
       -- one pass more, beside one with the same actor
       pub one_more : (none : A) → ((readers : ℕ) (actors : List A) → Run readers r.enlisted r.log actors → length actors < readers → Run readers r.enlisted r.log (actors ++ none ∷ []))
-          → (u w : V) → actor u ≡ actor v → actor w ≡ none → (q : KeepsOneHistory words_after words (set (map pass views) seat (pass u) ++ pass w ∷ []))
-          → q.enlisted ≡ r.enlisted → q.log ≡ r.log → Kept words (set views seat u ++ w ∷ [])
-      one_more none more u w same is q enlisted log =
-          kept words (set views seat u ++ w ∷ []) (set (map pass views) seat (pass u) ++ pass w ∷ []) q r.enlisted r.log
-          (sym (map-append pass (set views seat u) (w ∷ []) ∙ ap (λ (l : List View). l ++ pass w ∷ []) (map-set pass views seat u))) enlisted log
+          → (u w : V) → actor u ≡ actor v → actor w ≡ none → RuleWith words_after words (set (map pass views) seat (pass u) ++ pass w ∷ []) r.enlisted r.log
+          → Kept words (set views seat u ++ w ∷ [])
+      one_more none more u w same is m =
+          kept words (set views seat u ++ w ∷ []) (set (map pass views) seat (pass u) ++ pass w ∷ []) r.enlisted r.log m
+          (sym (map-append pass (set views seat u) (w ∷ []) ∙ ap (λ (l : List View). l ++ pass w ∷ []) (map-set pass views seat u)))
           (λ readers all.
           let long = length-append (set views seat u) (w ∷ []) in
           let wide = length-set views seat u in
@@ -71,10 +70,10 @@ module _ (words_after : List Entry → ℕ → List ℕ) {V A : Type 0} (pass : 
 
       -- one pass took another in, which is then another one: both with the same actors
       pub joined : (u : V) (other : ℕ) (z w : V) → get_elem? (set views seat u) other ≡ some z → actor u ≡ actor v → actor w ≡ actor z
-          → (q : KeepsOneHistory words_after words (set (set (map pass views) seat (pass u)) other (pass w))) → q.enlisted ≡ r.enlisted → q.log ≡ r.log → Kept words (set (set views seat u) other w)
-      joined u other z w there same is q enlisted log =
-          kept words (set (set views seat u) other w) (set (set (map pass views) seat (pass u)) other (pass w)) q r.enlisted r.log
-          (sym (map-set pass (set views seat u) other w ∙ ap (λ (l : List View). set l other (pass w)) (map-set pass views seat u))) enlisted log
+          → RuleWith words_after words (set (set (map pass views) seat (pass u)) other (pass w)) r.enlisted r.log → Kept words (set (set views seat u) other w)
+      joined u other z w there same is m =
+          kept words (set (set views seat u) other w) (set (set (map pass views) seat (pass u)) other (pass w)) r.enlisted r.log m
+          (sym (map-set pass (set views seat u) other w ∙ ap (λ (l : List View). set l other (pass w)) (map-set pass views seat u)))
           (λ readers all.
           let wide = length-set views seat u in
           let wider = length-set (set views seat u) other w in

@@ -1,28 +1,12 @@
 -- Each kind of step on a shared board keeps the rule, whatever its words are.
-use Rattle.std.proofs.Common.{◌≡◌, ◌≢◌, ◌⊎◌, inl, inr, ⊎_elim, ℕ, zero, suc, ◌+◌, ◌<◌, ◌≤◌, Bool, true, false, cond, List, ◌∷◌, ◌++◌, length, take, set, nat_lt, if◌then◌else◌, Some, None, refl, []}
-use Rattle.std.proofs.Common.{sym, ap, ◌∙◌, subst, arith, le_refl, append-nil, length-append, length-set, ne_eqb}
-use Rattle.std.specs.Prelude.{All, IsSome}
+use Rattle.ucl_shared.proofs.Common.{◌≡◌, ◌≢◌, ◌⊎◌, inl, inr, ⊎_elim, ℕ, zero, suc, ◌+◌, ◌<◌, ◌≤◌, Bool, true, false, cond, List, ◌∷◌, ◌++◌, length, take, set, nat_lt, if◌then◌else◌, refl, [], sym}
+use Rattle.ucl_shared.proofs.Common.{ap, ◌∙◌, subst, arith, le_refl, append-nil, length-append, length-set, ne_eqb, All, IsSome, ltb-true, All-append, All-head, All-tail, All-cons, All-nil}
+use Rattle.ucl_shared.proofs.Common.{IsPrefix, dite, some, some-ne-none, some-injective, get_elem?, ℕ_discrete, at_set, at_longer, set_here, set_else, may_none, Entry, IsLegal, followed_by, Target}
+use Rattle.ucl_shared.proofs.Common.{Match, Enlisted, Swap, Taken, step_taken, Logged, logged_by, Log, entry_list, added_by, history_of, IsThere, IsLog, log_none, log_more, history_more}
+use Rattle.ucl_shared.proofs.Common.{history_same, taken_own, taken_other, taken_none, added_more, begins_more, begins_none, begins_same, begins_take, begins_through, View, IsAlone, entries_by}
+use Rattle.ucl_shared.proofs.Common.{Share, whole, Overlap, second_half, pass_view_of, newcomer, opener, kept_of, second_of, note_of, told_by, Fits, KeepsOneHistory, Sees, Adds, Enlists, not, Goes}
+use Rattle.std.proofs.Common.{Some, None}
 use Rattle.std.proofs.Math.Seq.{take-append_seam}
-use Rattle.std.proofs.lemmas.Bool.{ltb-true}
-use Rattle.std.proofs.lemmas.List.Elements.{All-append, All-head, All-tail, All-cons, All-nil}
-use mathlib.Core.List.{IsPrefix}
-use mathlib.Core.Logic.{dite}
-use mathlib.Core.Option.{some, some-ne-none, some-injective}
-use lib.ListN.{get_elem?}
-use native.Mathlib.Decide.{ℕ_discrete}
-use Rattle.atomic_table.proofs.Lists.{at_set, at_longer, set_here, set_else}
-use Rattle.ucl_word.proofs.Sequences.{may_none}
-use Rattle.ucl_board.specs.declared.entry.Entry.{Entry}
-use Rattle.ucl_board.specs.History.{IsLegal, followed_by}
-use Rattle.ucl_board.specs.Log.{Target, Match, Enlisted, Swap, Taken, step_taken, Logged, logged_by, Log, entry_list, added_by, history_of, IsThere, IsLog}
-use Rattle.ucl_board.proofs.Logs.{log_none, log_more, history_more, history_same, taken_own, taken_other, taken_none, added_more}
-use Rattle.ucl_board.proofs.Beginnings.{begins_more, begins_none, begins_same, begins_take, begins_through}
-use Rattle.ucl_shared.specs.declared.view.View.{View}
-use Rattle.ucl_shared.specs.Passes.{IsAlone, entries_by}
-use Rattle.ucl_shared.specs.Shares.{Share, whole, Overlap, second_half}
-use Rattle.ucl_shared.specs.Views.{pass_view_of, newcomer, opener, kept_of, second_of, note_of, told_by}
-use Rattle.ucl_shared.specs.OneHistory.{Fits, KeepsOneHistory}
-use Rattle.ucl_shared.specs.Steps.{Sees, Adds, Enlists}
 use Rattle.ucl_shared.proofs.Lists.{by_own, by_other, none_by_zero}
 use Rattle.ucl_shared.proofs.Alone.{whole_is_alone}
 use Rattle.ucl_shared.proofs.Halves.{overlap_swap, half_overlaps, halves_apart, half_none, acts_some}
@@ -42,7 +26,7 @@ none_by_more enlisted h r = none_by (enlisted + 1) h (λ k d lt z. let q = r k d
 
 -- views by their places
 
-pub place_below : (views : List View) (at : ℕ) (v : View) → get_elem? views at ≡ some v → at < length views
+pub place_below : {X : Type 0} (views : List X) (at : ℕ) (v : X) → get_elem? views at ≡ some v → at < length views
 place_below [] at v e = absurd (some-ne-none v (sym e))
 place_below (x ∷ views) zero v e = omega arith
 place_below (x ∷ views) (suc at) v e = let r = place_below views at v e in omega arith
@@ -118,6 +102,12 @@ module _ (words_after : List Entry → ℕ → List ℕ) where
   abbrev pub Rule : List ℕ → List View → Type 0
   Rule = KeepsOneHistory words_after
 
+  -- the rule, with this number of reporters and this log
+  pub record RuleWith (words : List ℕ) (views : List View) (enlisted : ℕ) (log : Log) : Type 0 where
+    pub rule : Rule words views
+    pub enlisted_is : rule.enlisted ≡ enlisted
+    pub log_is : rule.log ≡ log
+
   -- one pass gets the view w, and the others still fit
   stepped : (words after : List ℕ) (views : List View) (r : Rule words views) (seat : ℕ) (w : View) (log : Log) (enlisted : ℕ)
       → after ≡ words_after (history_of log) enlisted → IsLog log → IsLegal (history_of log) → enlisted ≤ 255 → All (InRank enlisted) (history_of log) → All (λ (x : Logged). x.seat < length views) log
@@ -125,8 +115,8 @@ module _ (words_after : List Entry → ℕ → List ℕ) where
       → ((j : ℕ) (u : View) → j ≢ seat → get_elem? views j ≡ some u → 0 < w.number → w.number ≢ u.number)
       → ((j : ℕ) (u : View) → j ≢ seat → get_elem? views j ≡ some u → Overlap w.share u.share → ⊥)
       → ((n : ℕ) → 1 ≤ n → n ≤ enlisted → (j : ℕ) × (u : View) × (get_elem? (set views seat w) j ≡ some u) × (u.number ≡ n))
-      → Rule after (set views seat w)
-  stepped words after views r seat w log enlisted are is_log legal few ranked seated others mine alone lone given = record {
+      → RuleWith after (set views seat w) enlisted log
+  stepped words after views r seat w log enlisted are is_log legal few ranked seated others mine alone lone given = record { enlisted_is = refl; log_is = refl; rule = record {
     log = log;
     enlisted = enlisted;
     words_are = are;
@@ -142,18 +132,18 @@ module _ (words_after : List Entry → ℕ → List ℕ) where
     apart = search (arith, get_elem?, at_set);
     shared = search (arith, get_elem?, at_set, overlap_swap);
     given = given;
-  }
+  } }
 
   -- a pass that has the whole board, and has seen the whole history
-  alone_by : (after : List ℕ) (views : List View) (seat : ℕ) (w : View) (s : Rule after (set views seat w)) → seat < length views → w.seen ≡ history_of s.log → w.share ≡ whole
-      → IsAlone (pass_view_of w)
-  alone_by after views seat w s below is share =
+  alone_by : (after : List ℕ) (views : List View) (seat : ℕ) (w : View) (enlisted : ℕ) (log : Log) → RuleWith after (set views seat w) enlisted log → seat < length views → w.seen ≡ history_of log
+      → w.share ≡ whole → IsAlone (pass_view_of w)
+  alone_by after views seat w enlisted log s below is share =
       let there = set_here views seat w below in
-      let did = whole_is_alone words_after after (set views seat w) s seat w there share in
-      let listed = (s.fits seat w there).listed in
+      let did = whole_is_alone words_after after (set views seat w) s.rule seat w there share in
+      let listed = (s.rule.fits seat w there).listed in
       let number = did.number in
       let one = did.one in
-      record { seen = is ∙ sym did.mine; listed = omega arith; one = omega arith }
+      record { seen = is ∙ (ap history_of (sym s.log_is) ∙ sym did.mine); listed = omega arith; one = omega arith }
 
   module _ (words : List ℕ) (views : List View) (r : Rule words views) (seat : ℕ) (v : View) (here : get_elem? views seat ≡ some v) where
     below : seat < length views
@@ -182,6 +172,28 @@ module _ (words_after : List Entry → ℕ → List ℕ) where
       now : t.entry ≡ None → history_of (logged r.log seat t) ≡ history_of r.log
       now = history_same r.log seat t
 
+    -- what each step leaves the pass with
+    goes : (t : Taken) (mine : List Entry) (number listed : ℕ) (shown : List ℕ) (after : List ℕ) (enlisted : ℕ) → IsSome v.share
+        → RuleWith after (set views seat (after_step v r.log seat t mine number listed shown)) enlisted (logged r.log seat t) → Goes v (after_step v r.log seat t mine number listed shown)
+    goes t mine number listed shown after enlisted acts m =
+        let w : View = after_step v r.log seat t mine number listed shown in
+        let s = m.rule in
+        let f = s.fits seat w (set_here views seat w below) in
+        let was = r.fits seat v here in
+        let few = s.few in
+        let longer : IsPrefix (history_of r.log) w.seen = (entry_list t.entry, sym (history_more r.log seat t)) in
+        record {
+          legal = subst IsLegal (ap history_of m.log_is) s.legal;
+          seen = begins_through v.seen (history_of r.log) w.seen was.seen longer;
+          heard = λ k d lt. begins_through _ (history_of r.log) w.seen (was.told k d lt) longer;
+          told = refl;
+          own = f.mine ∙ ap (λ (l : Log). entries_by number (history_of l)) m.log_is;
+          few = (let low = f.listed in omega arith);
+          share = refl;
+          acts = acts;
+          alone = alone_by after views seat w enlisted (logged r.log seat t) m below refl;
+        }
+
     -- a step that stored nothing
     module _ (acts : IsSome v.share) (target : Target) (there : IsThere (history_of r.log) target) (listed : ℕ) (shown : List ℕ) (le : listed ≤ r.enlisted) where
       abbrev pub look : Taken
@@ -193,7 +205,7 @@ module _ (words_after : List Entry → ℕ → List ℕ) where
       pub same_history : history_of (logged r.log seat look) ≡ history_of r.log
       same_history = history_same r.log seat look refl
 
-      pub look_keeps : Rule words (set views seat looked)
+      pub look_keeps : RuleWith words (set views seat looked) r.enlisted (logged r.log seat look)
       look_keeps =
           let f = r.fits seat v here in
           let h = same_history in
@@ -211,30 +223,11 @@ module _ (words_after : List Entry → ℕ → List ℕ) where
           (still_lone looked refl)
           (still_given looked r.enlisted refl (le_refl r.enlisted))
 
-      pub look_same : (look_keeps.enlisted ≡ r.enlisted) × (look_keeps.log ≡ logged r.log seat look)
-      unfolding look_keeps stepped
-      look_same = (refl, refl)
-
-      look_log : history_of (logged r.log seat look) ≡ history_of look_keeps.log
-      look_log = ap history_of (sym look_same.1)
-
       pub look_tells : Sees target v looked
       look_tells =
-          let f = r.fits seat v here in
           let h = same_history in
-          let few = r.few in
           record {
-            goes = record {
-              legal = subst IsLegal (sym h) r.legal;
-              seen = subst (IsPrefix v.seen) (sym h) f.seen;
-              heard = subst (λ (l : List Entry). All (λ (k : List Entry). IsPrefix k l) v.told) (sym h) f.told;
-              told = refl;
-              own = f.mine ∙ ap (entries_by v.number) (sym h);
-              few = omega arith;
-              share = refl;
-              acts = acts;
-              alone = alone_by words views seat looked look_keeps below look_log;
-            };
+            goes = goes look v.mine v.number listed shown words r.enlisted acts look_keeps;
             there = subst (λ (l : List Entry). IsThere l target) (sym h) there;
             takes = record { own = ap (λ (l : List Entry). v.own ++ step_taken target (length l) None ∷ []) (sym h); copied = refl };
             mine = refl;
@@ -256,7 +249,7 @@ module _ (words_after : List Entry → ℕ → List ℕ) where
       own_more : followed_by v.mine e ≡ entries_by v.number (history_of (logged r.log seat add))
       own_more = let f = r.fits seat v here in ap (λ (l : List Entry). followed_by l e) f.mine ∙ (sym (by_own v.number (history_of r.log) e me) ∙ ap (entries_by v.number) (sym longer_history))
 
-      pub add_keeps : (after : List ℕ) → after ≡ words_after (followed_by (history_of r.log) e) r.enlisted → Rule after (set views seat entered)
+      pub add_keeps : (after : List ℕ) → after ≡ words_after (followed_by (history_of r.log) e) r.enlisted → RuleWith after (set views seat entered) r.enlisted (logged r.log seat add)
       add_keeps after are =
           let f = r.fits seat v here in
           let h = longer_history in
@@ -277,40 +270,17 @@ module _ (words_after : List Entry → ℕ → List ℕ) where
           (still_lone entered refl)
           (still_given entered r.enlisted refl (le_refl r.enlisted))
 
-      pub add_same : (after : List ℕ) (are : after ≡ words_after (followed_by (history_of r.log) e) r.enlisted)
-          → ((add_keeps after are).enlisted ≡ r.enlisted) × ((add_keeps after are).log ≡ logged r.log seat add)
-      unfolding add_keeps stepped
-      add_same after are = (refl, refl)
-
-      add_log : (after : List ℕ) (are : after ≡ words_after (followed_by (history_of r.log) e) r.enlisted) → history_of (logged r.log seat add) ≡ history_of (add_keeps after are).log
-      add_log after are = ap history_of (sym (add_same after are).1)
-
       pub add_tells : Adds e (history_of r.log) found v entered
-      add_tells =
-          let f = r.fits seat v here in
-          let h = longer_history in
-          let few = r.few in
-          let one : IsPrefix (history_of r.log) (history_of (logged r.log seat add)) = (e ∷ [], sym h) in
-          record {
-            last = h;
-            since = f.seen;
-            goes = record {
-              legal = subst IsLegal (sym h) legal;
-              seen = begins_through v.seen (history_of r.log) (history_of (logged r.log seat add)) f.seen one;
-              heard = λ k d lt. begins_through _ (history_of r.log) (history_of (logged r.log seat add)) (f.told k d lt) one;
-              told = refl;
-              own = own_more;
-              few = omega arith;
-              share = refl;
-              acts = acts;
-              alone = alone_by _ views seat entered (add_keeps _ refl) below (add_log _ refl);
-            };
-            there = there;
-            takes = record { own = refl; copied = refl };
-            mine = refl;
-            number = refl;
-            shown = refl;
-          }
+      add_tells = record {
+        last = longer_history;
+        since = (r.fits seat v here).seen;
+        goes = goes add (followed_by v.mine e) v.number listed v.shown _ r.enlisted acts (add_keeps _ refl);
+        there = there;
+        takes = record { own = refl; copied = refl };
+        mine = refl;
+        number = refl;
+        shown = refl;
+      }
 
     -- an exchange that adds a reporter
     module _ (acts : IsSome v.share) (reader : v.number ≡ 0) (room : r.enlisted < 255) where
@@ -343,7 +313,7 @@ module _ (words_after : List Entry → ℕ → List ℕ) where
             g.3,
           ))
 
-      pub enlist_keeps : (after : List ℕ) → after ≡ words_after (history_of r.log) (r.enlisted + 1) → Rule after (set views seat enlisted_as)
+      pub enlist_keeps : (after : List ℕ) → after ≡ words_after (history_of r.log) (r.enlisted + 1) → RuleWith after (set views seat enlisted_as) (r.enlisted + 1) (logged r.log seat count)
       enlist_keeps after are =
           let f = r.fits seat v here in
           let h = unchanged_history in
@@ -360,40 +330,19 @@ module _ (words_after : List Entry → ℕ → List ℕ) where
           (still_lone enlisted_as refl)
           all_given
 
-      pub enlist_same : (after : List ℕ) (are : after ≡ words_after (history_of r.log) (r.enlisted + 1))
-          → ((enlist_keeps after are).enlisted ≡ r.enlisted + 1) × ((enlist_keeps after are).log ≡ logged r.log seat count)
-      unfolding enlist_keeps stepped
-      enlist_same after are = (refl, refl)
-
-      enlist_log : (after : List ℕ) (are : after ≡ words_after (history_of r.log) (r.enlisted + 1)) → history_of (logged r.log seat count) ≡ history_of (enlist_keeps after are).log
-      enlist_log after are = ap history_of (sym (enlist_same after are).1)
-
       pub enlist_tells : Enlists r.enlisted v enlisted_as
-      enlist_tells =
-          let f = r.fits seat v here in
-          let h = unchanged_history in
-          record {
-            goes = record {
-              legal = subst IsLegal (sym h) r.legal;
-              seen = subst (IsPrefix v.seen) (sym h) f.seen;
-              heard = subst (λ (l : List Entry). All (λ (k : List Entry). IsPrefix k l) v.told) (sym h) f.told;
-              told = refl;
-              own = no_entry_yet;
-              few = omega arith;
-              share = refl;
-              acts = acts;
-              alone = alone_by _ views seat enlisted_as (enlist_keeps _ refl) below (enlist_log _ refl);
-            };
-            takes = record { own = ap (λ (l : List Entry). v.own ++ step_taken (Enlisted r.enlisted) (length l) None ∷ []) (sym h); copied = refl };
-            above = (let l = f.listed in omega arith);
-            number = refl;
-            next = refl;
-            mine = refl;
-            shown = refl;
-          }
+      enlist_tells = record {
+        goes = goes count [] (r.enlisted + 1) (r.enlisted + 1) [] _ (r.enlisted + 1) acts (enlist_keeps _ refl);
+        takes = record { own = ap (λ (l : List Entry). v.own ++ step_taken (Enlisted r.enlisted) (length l) None ∷ []) (sym unchanged_history); copied = refl };
+        above = (let f = r.fits seat v here in let l = f.listed in omega arith);
+        number = refl;
+        next = refl;
+        mine = refl;
+        shown = refl;
+      }
 
     -- its share is halved
-    halved : Rule words (set views seat (kept_of v))
+    halved : RuleWith words (set views seat (kept_of v)) r.enlisted r.log
     halved =
         let f = r.fits seat v here in
         stepped words words views r seat (kept_of v) r.log r.enlisted r.words_are r.is_log r.legal r.few r.ranked r.seated
@@ -416,7 +365,7 @@ module _ (words_after : List Entry → ℕ → List ℕ) where
         (still_given (kept_of v) r.enlisted refl (le_refl r.enlisted))
 
     -- nothing changes
-    again : Rule words (set views seat v)
+    again : RuleWith words (set views seat v) r.enlisted r.log
     again =
         stepped words words views r seat v r.log r.enlisted r.words_are r.is_log r.legal r.few r.ranked r.seated
         (λ j u ne e. r.fits j u e)
@@ -426,13 +375,14 @@ module _ (words_after : List Entry → ℕ → List ℕ) where
         (still_given v r.enlisted refl (le_refl r.enlisted))
 
   -- one pass more, without a number, without a step, and with a share that is no other's
-  added : (words : List ℕ) (views : List View) (r : Rule words views) (w : View) → w.number ≡ 0 → w.own ≡ [] → w.log ≡ [] → w.mine ≡ [] → IsPrefix w.seen (history_of r.log) → w.told ≡ []
-      → w.listed ≤ r.enlisted
-      → ((j : ℕ) (u : View) → get_elem? views j ≡ some u → Overlap w.share u.share → ⊥) → Rule words (views ++ w ∷ [])
-  added words views r w number own log mine seen told listed lone =
+  added : (words : List ℕ) (views : List View) (enlisted : ℕ) (log : Log) (m : RuleWith words views enlisted log) (w : View) → w.number ≡ 0 → w.own ≡ [] → w.log ≡ [] → w.mine ≡ [] → IsPrefix w.seen (history_of m.rule.log)
+      → w.told ≡ [] → w.listed ≤ m.rule.enlisted
+      → ((j : ℕ) (u : View) → get_elem? views j ≡ some u → Overlap w.share u.share → ⊥) → RuleWith words (views ++ w ∷ []) enlisted log
+  added words views enlisted log m w number own none mine seen told listed lone =
+      let r = m.rule in
       let back : (j : ℕ) (u : View) → get_elem? (views ++ w ∷ []) j ≡ some u → (get_elem? views j ≡ some u) ⊎ ((j ≡ length views) × (w ≡ u)) = (λ j u e. at_last views w u j e) in
       let fit : Fits r.log r.enlisted (length views) w = search (arith, All-nil, none_by_zero, taken_none, begins_none) in
-      record {
+      record { enlisted_is = m.enlisted_is; log_is = m.log_is; rule = record {
         log = r.log;
         enlisted = r.enlisted;
         words_are = r.words_are;
@@ -446,32 +396,24 @@ module _ (words_after : List Entry → ℕ → List ℕ) where
         apart = search arith;
         shared = search (arith, overlap_swap);
         given = λ n low high. let g = r.given n low high in (g.0, g.1, at_longer views (w ∷ []) g.0 g.1 g.2, g.3);
-      }
+      } }
 
   module _ (words : List ℕ) (views : List View) (r : Rule words views) (seat : ℕ) (v : View) (here : get_elem? views seat ≡ some v) where
-    pub second_added : Rule words (set views seat (kept_of v) ++ second_of v ∷ [])
+    pub second_added : RuleWith words (set views seat (kept_of v) ++ second_of v ∷ []) r.enlisted r.log
     second_added =
         let r2 = halved words views r seat v here in
-        let f = r2.fits seat (kept_of v) (set_here views seat (kept_of v) (below words views r seat v here)) in
-        added words (set views seat (kept_of v)) r2 (second_of v) refl refl refl refl f.seen refl f.listed
+        let f = r2.rule.fits seat (kept_of v) (set_here views seat (kept_of v) (below words views r seat v here)) in
+        added words (set views seat (kept_of v)) r.enlisted r.log r2 (second_of v) refl refl refl refl f.seen refl f.listed
         (λ j u e over. ⊎_elim
         (λ (t : (j ≡ seat) × (kept_of v ≡ u)). halves_apart v.share (subst (λ (q : View). Overlap (second_half v.share) q.share) (sym t.1) over))
         (λ (t : (j ≢ seat) × (get_elem? views j ≡ some u)). still_lone words views r seat v here v refl j u t.0 t.1 (half_overlaps true v.share u.share over))
         (at_set views seat j (kept_of v) u e))
 
-    pub note_added : Rule words (set views seat v ++ note_of v ∷ [])
+    pub note_added : RuleWith words (set views seat v ++ note_of v ∷ []) r.enlisted r.log
     note_added =
         let r2 = again words views r seat v here in
-        let f = r2.fits seat v (set_here views seat v (below words views r seat v here)) in
-        added words (set views seat v) r2 (note_of v) refl refl refl refl f.seen refl (omega arith) (λ j u e over. over)
-
-    pub second_same : (second_added.enlisted ≡ r.enlisted) × (second_added.log ≡ r.log)
-    unfolding second_added added halved stepped
-    second_same = (refl, refl)
-
-    pub note_same : (note_added.enlisted ≡ r.enlisted) × (note_added.log ≡ r.log)
-    unfolding note_added added again stepped
-    note_same = (refl, refl)
+        let f = r2.rule.fits seat v (set_here views seat v (below words views r seat v here)) in
+        added words (set views seat v) r.enlisted r.log r2 (note_of v) refl refl refl refl f.seen refl (omega arith) (λ j u e over. over)
 
   -- a note was taken in: it has no number, and took no step
 
@@ -483,7 +425,7 @@ module _ (words_after : List Entry → ℕ → List ℕ) where
       theirs : get_elem? views other ≡ some u
       theirs = ⊎_elim (λ (t : (other ≡ seat) × (told_by v u ≡ u)). absurd (apart t.0)) (λ (t : (other ≢ seat) × (get_elem? views other ≡ some u)). t.1) (at_set views seat other (told_by v u) u there)
 
-      told : Rule words (set views seat (told_by v u))
+      told : RuleWith words (set views seat (told_by v u)) r.enlisted r.log
       told = stepped words words views r seat (told_by v u) r.log r.enlisted r.words_are r.is_log r.legal r.few r.ranked r.seated
           (λ j z ne e. r.fits j z e)
           (told_fits r.log r.enlisted seat other v u (r.fits seat v here) (r.fits other u theirs))
@@ -491,37 +433,34 @@ module _ (words_after : List Entry → ℕ → List ℕ) where
           (still_lone words views r seat v here (told_by v u) refl)
           (still_given words views r seat v here (told_by v u) r.enlisted refl (le_refl r.enlisted))
 
-      pub note_joined : Rule words (set (set views seat (told_by v u)) other newcomer)
-      unfolding told stepped
+      pub note_joined : RuleWith words (set (set views seat (told_by v u)) other newcomer) r.enlisted r.log
       note_joined =
-          let g = told.fits other u there in
-          stepped words words (set views seat (told_by v u)) told other newcomer told.log told.enlisted told.words_are told.is_log told.legal told.few told.ranked told.seated
-          (λ j z ne e. told.fits j z e)
+          let s = told.rule in
+          let g = s.fits other u there in
+          let m = stepped words words (set views seat (told_by v u)) s other newcomer s.log s.enlisted s.words_are s.is_log s.legal s.few s.ranked s.seated
+          (λ j z ne e. s.fits j z e)
           (record {
-            seen = begins_none (history_of told.log);
-            told = All-nil (λ (l : List Entry). IsPrefix l (history_of told.log));
-            mine = sym (none_by_zero (history_of told.log) told.legal);
+            seen = begins_none (history_of s.log);
+            told = All-nil (λ (l : List Entry). IsPrefix l (history_of s.log));
+            mine = sym (none_by_zero (history_of s.log) s.legal);
             made = refl;
             number = omega arith;
             listed = omega arith;
             own = sym own ∙ g.own;
-            knows = begins_none told.log;
+            knows = begins_none s.log;
             all_own = refl;
             sees = begins_none [];
             idle = λ _. (refl, refl);
           })
           (λ j z ne e pos same. omega arith)
           (λ j z ne e over. over)
-          (still_given words (set views seat (told_by v u)) told other u there newcomer told.enlisted (sym number) (le_refl told.enlisted))
-
-      pub joined_same : (note_joined.enlisted ≡ r.enlisted) × (note_joined.log ≡ r.log)
-      unfolding note_joined told stepped
-      joined_same = (refl, refl)
+          (still_given words (set views seat (told_by v u)) s other u there newcomer s.enlisted (sym number) (le_refl s.enlisted)) in
+          record { rule = m.rule; enlisted_is = m.enlisted_is ∙ told.enlisted_is; log_is = m.log_is ∙ told.log_is }
 
   -- a board opens with no event, no reporter and no step
-  pub opens : (words : List ℕ) → words ≡ words_after [] 0 → Rule words (opener ∷ [])
-  opens words are = search (arith, log_none, may_none, All-nil, get_elem?, some-ne-none, begins_none, le_refl, some-injective)
+  fresh : (words : List ℕ) → words ≡ words_after [] 0 → Rule words (opener ∷ [])
+  fresh words are = search (arith, log_none, may_none, All-nil, get_elem?, some-ne-none, begins_none, le_refl, some-injective)
 
-  pub opens_same : (words : List ℕ) (are : words ≡ words_after [] 0) → ((opens words are).enlisted ≡ 0) × ((opens words are).log ≡ [])
-  unfolding opens
-  opens_same words are = (refl, refl)
+  pub opens : (words : List ℕ) → words ≡ words_after [] 0 → RuleWith words (opener ∷ []) 0 []
+  unfolding fresh
+  opens words are = record { rule = fresh words are; enlisted_is = refl; log_is = refl }

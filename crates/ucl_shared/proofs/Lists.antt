@@ -1,16 +1,8 @@
 -- The entries of one reporter.
-use Rattle.std.proofs.Common.{◌≡◌, ◌≢◌, ℕ, ◌≤◌, Bool, cond, ◌==◌, List, ◌∷◌, ◌++◌, length, refl, sym, ap, ◌∙◌, subst, arith, append-nil, eq-eqb, ne_eqb, le_refl, []}
-use Rattle.std.specs.Prelude.{not}
-use Rattle.std.proofs.lemmas.List.Elements.{filter-append}
+use Rattle.ucl_shared.proofs.Common.{◌≡◌, ◌≢◌, ℕ, ◌≤◌, Bool, cond, ◌==◌, List, ◌∷◌, ◌++◌, length, refl, sym, ap, ◌∙◌, subst, arith, append-nil, eq-eqb, ne_eqb, le_refl, [], not, filter-append}
+use Rattle.ucl_shared.proofs.Common.{IsPrefix, may_induction, Entry, greatest_version, MayFollow, IsLegal, followed_by, begins_same, PassView, IsSound, Continues, entries_by}
 use Rattle.std.proofs.lemmas.List.Filters.{length-filter_both}
-use mathlib.Core.List.{IsPrefix}
-use Rattle.ucl_word.proofs.Sequences.{may_induction}
-use Rattle.ucl_board.specs.declared.entry.Entry.{Entry}
-use Rattle.ucl_board.specs.Words.{greatest_version}
-use Rattle.ucl_board.specs.History.{MayFollow, IsLegal, followed_by}
 use Rattle.ucl_board.proofs.HistoryLaws.{versions}
-use Rattle.ucl_board.proofs.Beginnings.{begins_same}
-use Rattle.ucl_shared.specs.Passes.{PassView, IsSound, Continues, entries_by}
 
 -- what a longer history has of one reporter, and what it has more
 pub by_more : (n : ℕ) (s h : List Entry) (p : IsPrefix s h) → entries_by n h ≡ entries_by n s ++ entries_by n p.0

@@ -1,23 +1,9 @@
 -- What the rule says of a log: a board opens with none, each step is its end, and the last one has seen the whole history.
-use Rattle.std.proofs.Common.{◌≡◌, ◌≢◌, ◌⊎◌, inl, inr, ⊎_elim, ℕ, zero, suc, ◌<◌, ◌≤◌, Bool, true, false, List, ◌∷◌, ◌++◌, length, map, set, refl, sym, ap, ◌∙◌, subst, arith, append-nil, []}
-use Rattle.std.proofs.Common.{length-append}
-use Rattle.std.specs.Prelude.{All, drop, Some, None, IsTrue}
-use Rattle.std.proofs.lemmas.List.{length-set, nil_from_length}
-use Rattle.std.proofs.lemmas.List.Elements.{All-head, All-cons, All-nil}
-use mathlib.Core.List.{IsPrefix}
-use mathlib.Core.Logic.{dite}
-use mathlib.Core.Option.{some, some-ne-none, some-injective}
-use lib.ListN.{get_elem?}
-use native.Mathlib.Decide.{ℕ_discrete}
-use Rattle.atomic_table.proofs.Lists.{set_here, set_else}
-use Rattle.ucl_board.specs.declared.entry.Entry.{Entry}
-use Rattle.ucl_board.specs.Log.{Taken, Logged, logged_by, Log, taken_by, history_of}
-use Rattle.ucl_board.proofs.Logs.{taken_append, taken_own}
-use Rattle.ucl_board.proofs.Beginnings.{begins_length, begins_none}
-use Rattle.ucl_shared.specs.declared.view.View.{View}
-use Rattle.ucl_shared.specs.Shares.{Share, Overlap}
-use Rattle.ucl_shared.specs.Views.{opener}
-use Rattle.ucl_shared.specs.OneHistory.{KeepsOneHistory, BoardsOpenFresh, StepsComeLast, LastStepsSeeAll, IsHeld, MakeUp, HoldersDidAll}
+use Rattle.ucl_shared.proofs.Common.{◌≡◌, ◌≢◌, ◌⊎◌, inl, inr, ⊎_elim, ℕ, zero, suc, ◌<◌, ◌≤◌, Bool, true, false, List, ◌∷◌, ◌++◌, length, map, set, refl, sym, ap, ◌∙◌, subst, arith, append-nil, []}
+use Rattle.ucl_shared.proofs.Common.{length-append, All, drop, Some, None, IsTrue, nil_from_length, All-head, All-cons, All-nil, IsPrefix, dite, some, some-ne-none, some-injective, get_elem?}
+use Rattle.ucl_shared.proofs.Common.{ℕ_discrete, set_here, set_else, Entry, Taken, Logged, logged_by, Log, taken_by, history_of, taken_append, taken_own, begins_length, begins_none, View, Share}
+use Rattle.ucl_shared.proofs.Common.{Overlap, opener, KeepsOneHistory, BoardsOpenFresh, StepsComeLast, LastStepsSeeAll, IsHeld, MakeUp, HoldersDidAll, not, whole}
+use Rattle.std.proofs.lemmas.List.{length-set}
 use Rattle.ucl_shared.proofs.Halves.{in_whole, on_a_side}
 use Rattle.ucl_shared.proofs.Alone.{taken_here, taken_else, some_here, only_own, view_at, none_beyond}
 use Rattle.ucl_shared.proofs.KeptRule.{place_below}
@@ -25,14 +11,10 @@ use Rattle.ucl_shared.proofs.KeptRule.{place_below}
 -- lists
 
 tail_same : {X : Type 0} (x y : X) (xs ys : List X) → x ∷ xs ≡ y ∷ ys → xs ≡ ys
-tail_same x y xs ys same = ap (drop 1) same
-
-abbrev head_or : {X : Type 0} → X → List X → X
-head_or d [] = d
-head_or d (x ∷ xs) = x
+tail_same x y xs ys same = cc
 
 head_same : {X : Type 0} (x y : X) (xs ys : List X) → x ∷ xs ≡ y ∷ ys → x ≡ y
-head_same x y xs ys same = ap (head_or x) same
+head_same x y xs ys same = cc
 
 nil_end : {X : Type 0} (xs ys : List X) → length (xs ++ ys) ≡ 0 → ys ≡ []
 nil_end xs ys none = nil_from_length ys (omega (arith, length-append xs ys))

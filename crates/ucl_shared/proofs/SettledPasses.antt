@@ -1,16 +1,9 @@
 -- Two passes that met, and a reading by the second: the counts decide whether there was a third reporter.
-use Rattle.std.proofs.Common.{◌≡◌, ◌≢◌, ◌⊎◌, inl, inr, ⊎_elim, ℕ, suc, ◌+◌, ◌<◌, Bool, true, false, cond, ◌==◌, List, ◌∷◌, ◌++◌, length, take, refl, sym, ap, ◌∙◌, arith, append-nil, length-append, []}
-use Rattle.std.proofs.Common.{length-take-le, eq-eqb, true≢false}
-use Rattle.std.specs.Prelude.{All, filter, not, ◌&&◌}
-use Rattle.std.proofs.lemmas.Bool.{eqb-true}
+use Rattle.ucl_shared.proofs.Common.{◌≡◌, ◌≢◌, ◌⊎◌, inl, inr, ⊎_elim, ℕ, suc, ◌+◌, ◌<◌, Bool, true, false, cond, ◌==◌, List, ◌∷◌, ◌++◌, length, take, refl, sym, ap, ◌∙◌, arith, append-nil}
+use Rattle.ucl_shared.proofs.Common.{length-append, [], length-take-le, eq-eqb, true≢false, All, filter, not, ◌&&◌, eqb-true, nil_from_length, All-cons, All-nil, IsPrefix, Entry, begins_length}
+use Rattle.ucl_shared.proofs.Common.{begins_take, begins_through, PassView, entries_by, IsSound, Continues, SharedReading, Meeting}
 use Rattle.std.proofs.lemmas.Bool.Decides.{eqb_tells, nat_tests}
-use Rattle.std.proofs.lemmas.List.{nil_from_length}
-use Rattle.std.proofs.lemmas.List.Elements.{All-cons, All-nil}
-use mathlib.Core.List.{IsPrefix}
-use Rattle.ucl_board.specs.declared.entry.Entry.{Entry}
 use Rattle.ucl_board.specs.declared.reading.Reading.{Reading}
-use Rattle.ucl_board.proofs.Beginnings.{begins_length, begins_take, begins_through}
-use Rattle.ucl_shared.specs.Passes.{PassView, entries_by, IsSound, Continues, SharedReading, Meeting}
 use Rattle.ucl_shared.specs.Settling.{AreAlone, both_accepted, Settled, IsOfBoth}
 use Rattle.ucl_shared.proofs.Lists.{by_more}
 

@@ -1,28 +1,13 @@
 -- Accesses along a history, and what clean and unclean tries show.
-use Rattle.std.proofs.Common.{◌≡◌, ◌≢◌, ℕ, zero, suc, ◌+◌, ◌-◌, ◌*◌, ◌<◌, ◌≤◌, List, ◌∷◌, ◌++◌, take, length, Option, Some, None, Ok, Err, inl, inr, refl, sym, ap, ◌∙◌, subst, arith, []}
-use Rattle.std.proofs.Common.{length-append, le_refl, get_or, get_or-set_other}
-use Rattle.std.specs.Prelude.{slice_get, slice_index, slice_set, IsOk}
-use Rattle.std.specs.List.{AllByRecursion}
-use Rattle.std.proofs.lemmas.Option.{none-some, same_Some}
-use Rattle.std.proofs.lemmas.Bool.{false≢true}
-use Rattle.std.proofs.Math.Seq.{take-length}
-use mathlib.Core.List.{IsPrefix}
-use Rattle.ucl_word.specs.declared.record.MatchRecord.{MatchRecord}
-use Rattle.ucl_word.specs.declared.refusal.Refusal.{Refusal}
-use Rattle.ucl_word.specs.declared.refusal.Refusal.TheVariants.{Stale}
-use Rattle.ucl_word.specs.Rules.{answer, reply_of}
-use Rattle.ucl_word.specs.Layout.{word_of, record_at}
-use Rattle.ucl_word.proofs.Sequences.{at_below, at_longer, at_end, at_either}
-use Rattle.ucl_board.specs.declared.entry.Entry.{Entry}
+use Rattle.ucl_steps.proofs.Common.{◌≡◌, ◌≢◌, ℕ, zero, suc, ◌+◌, ◌-◌, ◌*◌, ◌<◌, ◌≤◌, List, ◌∷◌, ◌++◌, take, length, Option, Some, None, Ok, Err, inl, inr, refl, sym, ap, ◌∙◌, subst, arith, []}
+use Rattle.ucl_steps.proofs.Common.{length-append, le_refl, get_or, get_or-set_other, slice_get, slice_index, slice_set, IsOk, AllByRecursion, none-some, same_Some, false≢true, take-length}
+use Rattle.ucl_steps.proofs.Common.{IsPrefix, MatchRecord, Refusal, Stale, answer, reply_of, word_of, record_at, at_below, at_longer, at_end, at_either, Entry, match_after, board_of, IsLegal}
+use Rattle.ucl_steps.proofs.Common.{versions, same_number, take_beginning, AccessKind, Access, access, Does, IsFoundIn, Follows, IsCollect, IsUnclean, IsClean, accesses_of, UncleanTriesSeeMore}
+use Rattle.ucl_steps.proofs.Common.{UncleanTriesAreFew, ReadingsAreSnapshots, ReportsAreSequential}
 use Rattle.ucl_board.specs.declared.reading.Reading.{Reading}
-use Rattle.ucl_board.specs.History.{match_after, board_of, IsLegal}
-use Rattle.ucl_board.proofs.HistoryLaws.{versions, same_number}
-use Rattle.ucl_board.proofs.Beginnings.{take_beginning}
 use Rattle.ucl_steps.proofs.Lists.{get_some}
 use Rattle.ucl_steps.proofs.Histories.{number_expected, is_stale, legal_beginning, read_back, squeezed, board_from}
-use Rattle.ucl_board.specs.Log.{AccessKind, Look, Swap, Access, access}
-use Rattle.ucl_steps.specs.Trails.{Does, IsFoundIn, Follows, IsCollect, IsUnclean, IsClean, accesses_of}
-use Rattle.ucl_steps.specs.Laws.{UncleanTriesSeeMore, UncleanTriesAreFew, ReadingsAreSnapshots, ReportsAreSequential}
+use Rattle.ucl_board.specs.Log.{Look, Swap}
 
 -- accesses along a history
 
@@ -90,7 +75,6 @@ broken_later h low high ms f try first at =
     let x = follows_at h low parts.middle try.firsts k first parts.former at in
     let y = follows_at h parts.middle high try.seconds k last parts.latter at_last in
     let c = try.collected k first at in
-    let same_game : last.game ≡ first.game = try.broken.kind.1 ∙ sym c.0.1 in
     let x1 = x.1 in let y0 = y.0 in
     let apart : first.at ≢ last.at = search arith in
     omega arith
@@ -98,8 +82,6 @@ broken_later h low high ms f try first at =
 -- an unclean try has at most 24 accesses, and was overtaken by an entry
 pub unclean_try : (h : List Entry) (low high : ℕ) (ms : List Access) → Follows h low ms high → IsUnclean ms → (low < high) × (length ms ≤ 24)
 unclean_try h low high ms f try =
-    let few = try.broken.few in
-    let twelve = try.twelve in
     let first = get_some try.firsts (length try.broken.equal) (omega arith) in
     let later = broken_later h low high ms f try first.0 first.1 in
     let place : slice_get ms (length try.firsts + length try.broken.equal) ≡ Some try.broken.last =
@@ -137,10 +119,7 @@ pub record Shows (h : List Entry) (low high : ℕ) (reading : Reading) (ms : Lis
 pub clean_shows : (h : List Entry) (low high : ℕ) (reading : Reading) (ms : List Access) → IsLegal h → Follows h low ms high → IsClean reading ms → Shows h low high reading ms
 clean_shows h low high reading ms legal f clean =
     let parts = follows_parts h low high clean.firsts clean.seconds (subst (λ (z : List Access). Follows h low z high) clean.accesses f) in
-    let twelve = clean.twelve.1 in
-    let twelve' = clean.twelve.2 in
     let last = get_some clean.firsts 11 (omega arith) in
-    let v_is : reading.version ≡ parts.middle = sym (clean.version last.0 last.1) ∙ parts.ends 11 last.0 last.1 (omega arith) in
     let each : (k : ℕ) → k < 12 → get_or reading.board k 0 ≡ word_of (match_after (take parts.middle h) (k + 1)) = λ k few.
     let a = get_some clean.firsts k (omega arith) in
     let b = get_some clean.seconds k (omega arith) in
@@ -153,11 +132,7 @@ clean_shows h low high reading ms legal f clean =
     (sym d.1 ∙ (y.2 ∙ ap (λ (z : ℕ). word_of (match_after (take b.0.at h) z)) d.0.1)) in
     let low_ok = follows_ends h low parts.middle clean.firsts parts.former in
     let high_ok = follows_ends h parts.middle high clean.seconds parts.latter in
-    record {
-      board = board_from (take parts.middle h) reading.board clean.twelve.0 each ∙ ap (λ (z : ℕ). board_of (take z h)) (sym v_is);
-      within = (omega arith, omega arith);
-      accesses = omega (arith, ap length clean.accesses, length-append clean.firsts clean.seconds);
-    }
+    search (arith, board_from, length-append, parts.middle, reading.board, clean.twelve.0, clean.accesses, clean.firsts, clean.seconds)
 
 pub reading_whole : ReadingsAreSnapshots
 reading_whole h low high reading ms legal le f accesses =
@@ -167,8 +142,6 @@ reading_whole h low high reading ms legal le f accesses =
     let b0 = bound.0 in let b1 = bound.1 in
     let s0 = shows.within.0 in let s1 = shows.within.1 in
     let long = (versions h legal).1 in
-    let last = shows.accesses in
-    let whole : length ms ≡ length (accesses_of accesses.tries) + 24 = omega (arith, ap length accesses.accesses, length-append (accesses_of accesses.tries) accesses.last) in
     search (arith, follows_parts, tries_bound, clean_shows, versions, length-append)
 
 -- reports
@@ -184,7 +157,6 @@ pub report_whole : ReportsAreSequential
 report_whole h low high now call (Ok reply) ms legal f won =
     let swapped : Access = access Swap call.game won.looked won.before in
     let t : Follows h low (access Look call.game won.looked won.at ∷ swapped ∷ []) high = subst (λ (z : List Access). Follows h low z high) won.accesses f in
-    let last = won.last in
     let place : now - 1 ≡ won.before = omega arith in
     ap (λ (z : ℕ). reply_of (match_after (take z h) call.game) call) place
     ∙ (ap (λ (z : MatchRecord). reply_of z call) (sym (found_record h swapped call.game legal t.2.1 refl)) ∙ won.answer)
@@ -201,5 +173,4 @@ report_whole h low high now call (Err refusal) ms legal f (inr missed) =
     let new = found_record h b g legal t.2.1 refl in
     let expected : call.expected ≡ (match_after (take a.at h) g).number = search (arith, number_expected, none_of_ok) in
     let stale : call.expected ≡ (match_after (take now h) g).number → ⊥ = λ is. missed.other (t.2.1 ∙ (sym (same_number h a.at now g (sym expected ∙ is)).1 ∙ sym t.1)) in
-    ap (answer (match_after (take now h) g).number) (is_stale (match_after (take now h) g) call.expected call.kind stale)
-    ∙ (ap (λ (z : MatchRecord). Err (Stale z.number)) (sym new) ∙ ap Err (sym missed.answer))
+    search (arith, is_stale, call.expected, call.kind, missed.answer)

@@ -1,24 +1,11 @@
 -- What bursts of actors, splits and enlistments do to the run of the machine that a board's rule says there is.
-use Rattle.std.proofs.Common.{◌≡◌, ◌≢◌, inl, inr, ⊎_elim, ℕ, zero, suc, ◌+◌, ◌<◌, ◌≤◌, Bool, false, cond, List, ◌∷◌, ◌++◌, length, set, map, Option, Some, refl, sym, ap, ◌∙◌, subst, arith, []}
-use Rattle.std.proofs.Common.{le_refl, append-nil, length-append, length-set, ne_eqb}
-use Rattle.std.specs.Prelude.{All, filter}
-use mathlib.Core.Logic.{dite}
-use mathlib.Core.Option.{some, some-ne-none, some-injective}
-use lib.ListN.{get_elem?}
-use native.Mathlib.Decide.{ℕ_discrete}
-use Rattle.std.proofs.lemmas.List.Concat.{flat_map-append}
-use Rattle.std.proofs.lemmas.List.Elements.{All-append, All-cons, All-nil, All-head, All-tail}
-use Rattle.ucl_board.specs.declared.entry.Entry.{Entry}
-use Rattle.ucl_board.specs.Log.{AccessKind, Look, Swap, First, Second, Access, Taken, logged_by, Log, history_of, access_list}
-use Rattle.ucl_steps.specs.declared.step.Caller.{Caller}
-use Rattle.ucl_steps.specs.declared.step.Caller.TheVariants.{Reporter, Reader}
-use Rattle.ucl_steps.specs.declared.step.Call.{Call}
-use Rattle.ucl_steps.specs.declared.step.Step.{Step}
-use Rattle.ucl_steps.specs.declared.trace.CallRecord.{CallRecord}
-use Rattle.ucl_steps.specs.Machine.{Idle, MachineState, initial_state, held_by, after_steps}
-use Rattle.ucl_steps.specs.Protocol.{Held, Nothing, Answer, Doing, nothing_done}
-use Rattle.ucl_steps.specs.PassRuns.{cast_for, IsOf, IsRecordOf, AreRecordsOf, FitsHeld, is_of, calls_told, left_by, FitsRun, Move, steps_of_move, steps_of_moves}
-use Rattle.ucl_steps.specs.Actors.{Actor, IsOfActor, IsRunOfActors, IsTakenBy, accesses_of_log, AreStepsOf, IsRunOfLog}
+use Rattle.ucl_steps.proofs.Common.{◌≡◌, ◌≢◌, inl, inr, ⊎_elim, ℕ, zero, suc, ◌+◌, ◌<◌, ◌≤◌, Bool, false, cond, List, ◌∷◌, ◌++◌, length, set, map, Option, Some, refl, sym, ap, ◌∙◌, subst, arith, []}
+use Rattle.ucl_steps.proofs.Common.{le_refl, append-nil, length-append, ne_eqb, All, filter, dite, some, some-ne-none, some-injective, get_elem?, ℕ_discrete, flat_map-append, All-append, All-cons}
+use Rattle.ucl_steps.proofs.Common.{All-nil, All-head, All-tail, Entry, AccessKind, Access, Taken, logged_by, Log, history_of, access_list, Caller, Reporter, Reader, Call, Step, CallRecord, Idle}
+use Rattle.ucl_steps.proofs.Common.{MachineState, initial_state, held_by, after_steps, Held, Nothing, Answer, Doing, nothing_done, cast_for, IsOf, IsRecordOf, AreRecordsOf, FitsHeld, is_of}
+use Rattle.ucl_steps.proofs.Common.{calls_told, left_by, FitsRun, Move, steps_of_move, steps_of_moves, Actor, IsOfActor, IsRunOfActors, IsTakenBy, accesses_of_log, AreStepsOf, IsRunOfLog}
+use Rattle.std.proofs.Common.{length-set}
+use Rattle.ucl_board.specs.Log.{Look, Swap, First, Second}
 use Rattle.ucl_steps.proofs.OneStep.{idle_at_start, steps_append, not_of, Passes, all_by}
 use Rattle.ucl_steps.proofs.PassSteps.{fits_else, Turn, left_append}
 use Rattle.ucl_steps.proofs.Seats.{place_below, at_last, at_set, set_here, set_else, at_longer}
@@ -147,7 +134,6 @@ module _ (readers enlisted : ℕ) (history : List Entry) (actors : List Actor) (
   pub run_enlisted : a.number ≡ 0 → enlisted < 255 → a.doing.held ≡ Nothing → ((j : ℕ) (u : Actor) → get_elem? actors j ≡ some u → u.number ≤ enlisted)
       → IsRunOfActors readers (enlisted + 1) history (set actors seat (record { number = enlisted + 1; doing = a.doing }))
   run_enlisted reader room none low =
-      let b : Actor = record { number = enlisted + 1; doing = a.doing } in
       let f : FitsRun r.state seat 0 a.doing = subst (λ (n : ℕ). FitsRun r.state seat n a.doing) reader (r.each seat a here) in
       let idle : FitsHeld r.state seat 0 a.doing.begun Nothing f.high = subst (λ (h : Held). FitsHeld r.state seat 0 a.doing.begun h f.high) none f.held in
       let own : (d : Caller) → IsOf seat (enlisted + 1) d → held_by r.state.callers d ≡ Some Idle = by_caller f idle in
@@ -158,16 +144,7 @@ module _ (readers enlisted : ℕ) (history : List Entry) (actors : List Actor) (
         whole = ap (map told_call) (filter_same (λ x. is_of seat (enlisted + 1) x.0) (λ x. is_of seat 0 x.0) (calls_told r.state)
             (λ k d lt. let t = r.only k d lt in number_apart seat (enlisted + 1) t.0 t.1.number _ t.3 (let l = low t.0 t.1 t.2 in omega arith))) ∙ f.whole;
       } in
-      record {
-        moves = r.moves;
-        state = r.state;
-        run = r.run;
-        history_is = r.history_is;
-        each = search (arith, get_elem?, at_set);
-        only = all_then (IsOfActor actors) (IsOfActor (set actors seat b)) (some_still b reader_still) (calls_told r.state) r.only;
-        unseated = λ j over below. let long = length-set actors seat b in r.unseated j (omega arith) below;
-        unnumbered = λ n above few. r.unnumbered n (omega arith) few;
-      }
+      search (arith, get_elem?, at_set, all_then, some_still, length-set)
     where
       of_reader : (d : Caller) → IsOf seat 0 d → IsOf seat (enlisted + 1) d
       of_reader d (inl k) = inl k
@@ -329,7 +306,6 @@ pub log_more : (readers enlisted : ℕ) (log : Log) (actors : List Actor) → Is
     → IsRunOfLog readers enlisted log (actors ++ record { number = 0; doing = nothing_done } ∷ [])
 unfolding run_more
 log_more readers enlisted log actors r more =
-    let b : Actor = record { number = 0; doing = nothing_done } in
     record {
       of_actors = run_more readers enlisted (history_of log) actors r.of_actors more;
       accesses = search (arith, steps_still, at_longer);

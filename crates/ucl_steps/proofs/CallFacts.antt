@@ -1,21 +1,7 @@
 -- What is known of a call by what its caller holds, and that a longer history leaves it.
-use Rattle.std.proofs.Common.{◌≡◌, ℕ, ◌+◌, ◌<◌, ◌≤◌, List, take, length, Option, Some, None, sym, ap, ◌∙◌, arith, get_or, le_refl}
-use Rattle.std.specs.Prelude.{slice_get, IsSome}
-use mathlib.Core.List.{IsPrefix}
-use Rattle.ucl_word.specs.declared.event.EventCall.{EventCall}
-use Rattle.ucl_word.specs.Rules.{refusal_of, after}
-use Rattle.ucl_word.specs.Layout.{word_of, record_at}
-use Rattle.ucl_board.specs.declared.entry.Entry.{Entry}
-use Rattle.ucl_board.specs.History.{match_after}
-use Rattle.ucl_board.proofs.Beginnings.{at_beginning, begins_length, take_beginning}
-use Rattle.ucl_steps.specs.declared.step.Caller.{Caller}
-use Rattle.ucl_steps.specs.declared.step.Caller.TheVariants.{Reporter}
-use Rattle.ucl_steps.specs.declared.step.Call.{Call}
-use Rattle.ucl_steps.specs.declared.step.Call.TheVariants.{Event, Reading}
-use Rattle.ucl_steps.specs.declared.trace.Reply.{Reply}
-use Rattle.ucl_steps.specs.declared.trace.CallRecord.{CallRecord}
-use Rattle.ucl_steps.specs.Protocol.{Nothing, Holding, Collecting, Checking}
-use Rattle.ucl_steps.specs.Machine.{Holds, Idle, Wanting, Within, Answered}
+use Rattle.ucl_steps.proofs.Common.{◌≡◌, ℕ, ◌+◌, ◌<◌, ◌≤◌, List, take, length, Option, Some, None, sym, ap, ◌∙◌, arith, get_or, le_refl, slice_get, IsSome, IsPrefix, EventCall, refusal_of, after}
+use Rattle.ucl_steps.proofs.Common.{word_of, record_at, Entry, match_after, at_beginning, begins_length, take_beginning, Caller, Reporter, Call, Event, Reading, Reply, CallRecord, Nothing, Holding}
+use Rattle.ucl_steps.proofs.Common.{Collecting, Checking, Holds, Idle, Wanting, Within, Answered}
 use Rattle.ucl_steps.proofs.Explanations.{IsSequential, LiesWithin, IsExplained}
 
 -- a reporter asks for an event of a match
@@ -108,15 +94,8 @@ module _ (h h' : List Entry) (b : IsPrefix h h') where
     next = s.next;
   }
   sees_later a (Within k (Collecting words)) s = record { reads = s.reads; few = s.few; loaded = loaded_later words (length h) (length h') (le_refl (length h)) (begins_length h h' b) s.loaded }
-  sees_later a (Within k (Checking words checked point)) s = let long = begins_length h h' b in let l = s.late in record {
-    reads = s.reads;
-    twelve = s.twelve;
-    few = s.few;
-    early = s.early;
-    late = omega arith;
-    loaded = loaded_later words point point s.late (le_refl point) s.loaded;
-    same = λ i few. moved_word words i point s.late (s.same i few);
-  }
+  sees_later a (Within k (Checking words checked point)) s = let long = begins_length h h' b in let l = s.late in
+      search (arith, loaded_later, le_refl, moved_word, s.reads, s.twelve, s.few, s.early, s.late, s.loaded, s.same)
   sees_later a (Answered k) s = s
 
   sequential_later : (k : ℕ) (c : Caller) (call : Call) (r : Reply) → k ≤ length h → IsSequential h k c call r → IsSequential h' k c call r

@@ -1,10 +1,5 @@
 -- What each caller holds, when one of them takes a step.
-use Rattle.std.proofs.Common.{◌≡◌, ◌≢◌, ℕ, zero, suc, List, ◌∷◌, Some, ◌⊎◌, refl, ap, arith, []}
-use Rattle.std.specs.Prelude.{slice_get, slice_set}
-use Rattle.std.proofs.lemmas.Option.{none-some}
-use Rattle.std.proofs.lemmas.Bool.{cases_eq}
-use Rattle.ucl_steps.specs.declared.step.Caller.{Caller}
-use Rattle.ucl_steps.specs.Machine.{Holds, Callers, held_by, set_held}
+use Rattle.ucl_steps.proofs.Common.{◌≡◌, ◌≢◌, ℕ, zero, suc, List, ◌∷◌, Some, ◌⊎◌, refl, ap, arith, [], slice_get, slice_set, none-some, cases_eq, Caller, Holds, Callers, held_by, set_held}
 
 get_set_here : {X : Type 0} (xs : List X) (k : ℕ) (x y : X) → slice_get xs k ≡ Some x → slice_get (slice_set xs k y) k ≡ Some y
 get_set_here [] k x y e = absurd (none-some x e)

@@ -1,8 +1,5 @@
 -- A list with one element changed.
-use Rattle.std.proofs.Common.{◌≡◌, ◌≢◌, ℕ, zero, suc, List, ◌∷◌, length, map, Some, ◌⊎◌, inl, inr, refl, ap, arith, []}
-use Rattle.std.specs.Prelude.{slice_get}
-use Rattle.std.proofs.lemmas.Option.{none-some, same_Some}
-use Rattle.ucl_steps.specs.Machine.{change_at}
+use Rattle.ucl_steps.proofs.Common.{◌≡◌, ◌≢◌, ℕ, zero, suc, List, ◌∷◌, length, map, Some, ◌⊎◌, inl, inr, refl, ap, arith, [], slice_get, none-some, same_Some, change_at}
 
 module _ {X : Type 0} where
   pub get-change_at : (k : ℕ) (f : X → X) (xs : List X) (i : ℕ) (y : X) → slice_get (change_at k f xs) i ≡ Some y

@@ -1,19 +1,8 @@
 -- The clauses of linearizability on one call, from what explains it.
-use Rattle.std.proofs.Common.{◌≡◌, ℕ, ◌<◌, ◌≤◌, List, take, length, Option, Some, refl, ap, ◌∙◌, subst, arith}
-use Rattle.std.specs.Prelude.{◌↔◌, IsSome, IfSome}
-use Rattle.std.proofs.lemmas.Bool.{false≢true}
+use Rattle.ucl_steps.proofs.Common.{◌≡◌, ℕ, ◌<◌, ◌≤◌, List, take, length, Option, Some, refl, ap, ◌∙◌, subst, arith, ◌↔◌, IsSome, IfSome, false≢true, Refusal, Entry, board_of, snapshot_at, Caller}
+use Rattle.ucl_steps.proofs.Common.{Call, Reading, Reply, Accepted, Refused, Copied, CallRecord, PointWithinCall, IsDecided, IsEntry, AcceptedIsEntry, IsRefused, RefusedAtPoint, ReadingIsSnapshot}
 use Rattle.ucl_word.specs.declared.event.Accepted as word
-use Rattle.ucl_word.specs.declared.refusal.Refusal.{Refusal}
-use Rattle.ucl_board.specs.declared.entry.Entry.{Entry}
 use Rattle.ucl_board.specs.declared.reading.Reading as board
-use Rattle.ucl_board.specs.History.{board_of, snapshot_at}
-use Rattle.ucl_steps.specs.declared.step.Caller.{Caller}
-use Rattle.ucl_steps.specs.declared.step.Call.{Call}
-use Rattle.ucl_steps.specs.declared.step.Call.TheVariants.{Reading}
-use Rattle.ucl_steps.specs.declared.trace.Reply.{Reply}
-use Rattle.ucl_steps.specs.declared.trace.Reply.TheVariants.{Accepted, Refused, Copied}
-use Rattle.ucl_steps.specs.declared.trace.CallRecord.{CallRecord}
-use Rattle.ucl_steps.specs.Linearizable.{PointWithinCall, IsDecided, IsEntry, AcceptedIsEntry, IsRefused, RefusedAtPoint, ReadingIsSnapshot}
 use Rattle.ucl_steps.proofs.Explanations.{IsSequential, IsExplained}
 
 if_below : (o : Option ℕ) (k : ℕ) → IfSome o (λ n. k < n) → IfSome o (λ n. k ≤ n)

@@ -1,15 +1,6 @@
 -- Each entry is made by one call, when one call changes or begins.
-use Rattle.std.proofs.Common.{◌≡◌, ◌≢◌, ℕ, ◌<◌, true, false, List, ◌∷◌, ◌++◌, length, Option, Some, None, inl, inr, sym, ap, ◌∙◌, subst, arith, []}
-use Rattle.std.specs.Prelude.{slice_get, IsSomeAnd}
-use Rattle.std.proofs.lemmas.Option.{none-some, same_Some}
-use Rattle.std.proofs.lemmas.Bool.{cases_eq, false≢true}
-use Rattle.std.proofs.lemmas.List.{length_push}
-use Rattle.ucl_board.specs.declared.entry.Entry.{Entry}
-use Rattle.ucl_word.proofs.Sequences.{at_longer, at_either}
-use Rattle.ucl_steps.specs.declared.trace.Reply.{Reply}
-use Rattle.ucl_steps.specs.declared.trace.CallRecord.{CallRecord}
-use Rattle.ucl_steps.specs.Machine.{change_at}
-use Rattle.ucl_steps.specs.Linearizable.{is_accepted, Makes, EntryHasOneCall}
+use Rattle.ucl_steps.proofs.Common.{◌≡◌, ◌≢◌, ℕ, ◌<◌, true, false, List, ◌∷◌, ◌++◌, length, Option, Some, None, inl, inr, sym, ap, ◌∙◌, subst, arith, [], slice_get, IsSomeAnd, none-some, same_Some}
+use Rattle.ucl_steps.proofs.Common.{cases_eq, false≢true, length_push, Entry, at_longer, at_either, Reply, CallRecord, change_at, is_accepted, Makes, EntryHasOneCall}
 use Rattle.ucl_steps.proofs.Explanations.{IsExplained}
 use Rattle.ucl_steps.proofs.ChangedLists.{get-change_at, change_at_here, change_at_else}
 

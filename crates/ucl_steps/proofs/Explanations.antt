@@ -1,14 +1,6 @@
 -- What a call is to the history that explains it, by cases of its reply.
-use Rattle.std.specs.Prelude.{◌≡◌, ℕ, ◌<◌, ◌≤◌, List, length, take, Option, Some, None, Ok, Err, IfSome, slice_get}
-use Rattle.ucl_board.specs.declared.entry.Entry.{Entry}
-use Rattle.ucl_board.specs.History.{board_of, entry_of, sequential_reply}
-use Rattle.ucl_steps.specs.declared.step.Caller.{Caller}
-use Rattle.ucl_steps.specs.declared.step.Caller.TheVariants.{Reporter}
-use Rattle.ucl_steps.specs.declared.step.Call.{Call}
-use Rattle.ucl_steps.specs.declared.step.Call.TheVariants.{Event, Reading}
-use Rattle.ucl_steps.specs.declared.trace.Reply.{Reply}
-use Rattle.ucl_steps.specs.declared.trace.Reply.TheVariants.{Accepted, Refused, Copied}
-use Rattle.ucl_steps.specs.declared.trace.CallRecord.{CallRecord}
+use Rattle.ucl_steps.proofs.Common.{IfSome, slice_get, Entry, board_of, entry_of, sequential_reply, Caller, Reporter, Call, Event, Reading, Reply, Accepted, Refused, Copied, CallRecord}
+use Rattle.std.specs.Prelude.{◌≡◌, ℕ, ◌<◌, ◌≤◌, List, length, take, Option, Some, None, Ok, Err}
 
 -- what the board of one thread replies to a call of this caller after the first k entries, and the entry that it makes
 abbrev pub IsSequential : List Entry → ℕ → Caller → Call → Reply → Type 0

@@ -1,25 +1,9 @@
 -- The accesses of one pass while no pass finishes a call.
-use Rattle.std.proofs.Common.{◌≡◌, ◌≢◌, ℕ, zero, suc, ◌+◌, ◌≤◌, ◌==◌, Bool, true, cond, List, ◌∷◌, ◌++◌, length, Option, Some, None, inl, inr, refl, sym, ap, []}
-use Rattle.std.proofs.Common.{◌∙◌, subst, arith, length-append}
-use Rattle.std.proofs.Common.{eq-eqb}
-use Rattle.std.specs.Prelude.{filter}
-use Rattle.std.proofs.lemmas.Bool.{eqb-true}
-use Rattle.std.proofs.lemmas.List.Elements.{filter-append}
-use Rattle.std.proofs.lemmas.List.Concat.{flat_map-append}
-use mathlib.Core.Option.{some, some-injective}
-use lib.ListN.{get_elem?}
-use Rattle.ucl_word.specs.Record.{IsReporter}
-use Rattle.ucl_board.specs.Log.{AccessKind, Access, Log}
-use Rattle.ucl_steps.specs.declared.step.Caller.{Caller}
-use Rattle.ucl_steps.specs.declared.step.Caller.TheVariants.{Reporter, Reader}
-use Rattle.ucl_steps.specs.declared.step.Step.{Step}
-use Rattle.ucl_steps.specs.Protocol.{Held, Nothing, Holding, Collecting, Checking, Doing}
-use Rattle.ucl_steps.specs.Machine.{Holds, Idle, Answered, MachineState, initial_state, held_by, after_step, after_steps}
-use Rattle.ucl_steps.specs.CallRuns.{accesses_holding}
-use Rattle.ucl_steps.specs.PassRuns.{cast_for, IsOf, FitsHeld, FitsRun, left_by, Move, steps_of_move, steps_of_moves}
-use Rattle.ucl_steps.specs.Actors.{Actor, IsTakenBy, accesses_of_log, AreStepsOf, IsRunOfLog}
-use Rattle.ucl_steps.specs.Growing.{HaveGoneOn}
-use Rattle.ucl_steps.specs.Progress.{most_between, decided_in, is_caller, steps_by, finished_by}
+use Rattle.ucl_steps.proofs.Common.{◌≡◌, ◌≢◌, ℕ, zero, suc, ◌+◌, ◌≤◌, ◌==◌, Bool, true, cond, List, ◌∷◌, ◌++◌, length, Option, Some, None, inl, inr, refl, sym, ap, [], ◌∙◌, subst, arith}
+use Rattle.ucl_steps.proofs.Common.{length-append, eq-eqb, filter, eqb-true, filter-append, flat_map-append, some, some-injective, get_elem?, IsReporter, AccessKind, Access, Log, Caller, Reporter}
+use Rattle.ucl_steps.proofs.Common.{Reader, Step, Held, Nothing, Holding, Collecting, Checking, Doing, Holds, Idle, Answered, MachineState, initial_state, held_by, after_step, after_steps}
+use Rattle.ucl_steps.proofs.Common.{accesses_holding, cast_for, IsOf, FitsHeld, FitsRun, left_by, Move, steps_of_move, steps_of_moves, Actor, IsTakenBy, accesses_of_log, AreStepsOf, IsRunOfLog}
+use Rattle.ucl_steps.proofs.Common.{HaveGoneOn, most_between, decided_in, is_caller, steps_by, finished_by}
 use Rattle.ucl_steps.proofs.Invariant.{Keeps}
 use Rattle.ucl_steps.proofs.Runs.{kept_at_start, run_kept}
 use Rattle.ucl_steps.proofs.OneStep.{steps_append}
@@ -72,8 +56,7 @@ module _ (actors : List Actor) (seat : ℕ) (b : Actor) (there : get_elem? actor
   by_takers f count cons each [] [] are = omega arith
   by_takers f count cons each [] (y ∷ ys) are = absurd are
   by_takers f count cons each (x ∷ xs) [] are = absurd are
-  by_takers f count cons each (x ∷ xs) (y ∷ ys) are =
-      search (arith, longer_by, eqb-true, some-injective, get_elem?, by_takers f count cons each xs ys are.2)
+  by_takers f count cons each (x ∷ xs) (y ∷ ys) are = search (arith, longer_by, eqb-true, some-injective, get_elem?, by_takers f count cons each xs ys are.2)
 
 -- of the two callers of a pass only one takes steps
 module _ (done : List Step) (w t : MachineState) (kept : Keeps done w) (steps : List Step) (e : after_steps steps w ≡ Some t) (same : decided_in t.calls ≡ decided_in w.calls)

@@ -1,34 +1,12 @@
 -- While no call is decided the words stay as they are, and each step of a caller leaves it fewer steps to take.
-use Rattle.std.proofs.Common.{◌≡◌, ◌≢◌, ℕ, zero, suc, ◌+◌, ◌-◌, ◌*◌, ◌<◌, ◌≤◌, ◌==◌, Bool, true, false, cond, List, ◌∷◌, ◌++◌, drop, length, Option, Some, None, ◌⊎◌, inl, []}
-use Rattle.std.proofs.Common.{inr, refl, sym, ap, ◌∙◌, subst, arith, append-nil}
-use Rattle.std.proofs.Common.{get_or, eq-eqb, ne_eqb}
-use Rattle.std.specs.Prelude.{slice_get, slice_index, slice_set, is_some, filter}
-use Rattle.std.specs.List.{sum_by}
-use Rattle.std.proofs.lemmas.Option.{none-some, same_Some, slice_get-get_or, option_and_then_some, cond_some}
-use Rattle.std.proofs.lemmas.Bool.{eqb-true, eqb-false}
-use Rattle.std.proofs.lemmas.List.{length_push, length-drop, length-set, length-replicate, drop_more}
-use Rattle.std.proofs.lemmas.List.Elements.{filter-append}
-use Rattle.std.proofs.lemmas.List.Sums.{sum_by-cons, sum_by-le}
-use Rattle.ucl_word.specs.declared.event.EventCall.{EventCall}
-use Rattle.ucl_word.specs.declared.refusal.Refusal.{Refusal}
-use Rattle.ucl_word.specs.declared.refusal.Refusal.TheVariants.{Stale}
-use Rattle.ucl_word.specs.Rules.{after}
-use Rattle.ucl_word.specs.Layout.{word_of, record_at}
-use Rattle.ucl_board.specs.Words.{word_at}
-use Rattle.ucl_board.specs.History.{reading_of}
-use Rattle.ucl_steps.specs.declared.step.Cast.{Cast}
-use Rattle.ucl_steps.specs.declared.step.Caller.{Caller}
-use Rattle.ucl_steps.specs.declared.step.Caller.TheVariants.{Reporter, Reader}
-use Rattle.ucl_steps.specs.declared.step.Call.{Call}
-use Rattle.ucl_steps.specs.declared.step.Step.{Step}
-use Rattle.ucl_steps.specs.declared.trace.Reply.{Reply}
-use Rattle.ucl_steps.specs.declared.trace.Reply.TheVariants.{Accepted, Refused, Copied}
-use Rattle.ucl_steps.specs.declared.trace.CallRecord.{CallRecord}
-use Rattle.ucl_steps.specs.Protocol.{Nothing, Holding, Collecting, Checking, GoesOn, Answers, by_rules}
-use Rattle.ucl_steps.specs.Machine.{Holds, Idle, Wanting, Within, Answered, Callers, MachineState, initial_state, held_by, set_held, with_held, after_reply, change_at}
-use Rattle.ucl_steps.specs.Machine.{with_reply, with_end, held_at_begin, after_begin}
-use Rattle.ucl_steps.specs.Machine.{after_outcome, stored, state_after_swap, state_after_first, state_after_second, after_end, after_step_holding, caller_of, after_step, after_steps}
-use Rattle.ucl_steps.specs.Progress.{most_between, decided_in, is_caller, steps_by, SomeCallIsDecided}
+use Rattle.ucl_steps.proofs.Common.{◌≡◌, ◌≢◌, ℕ, zero, suc, ◌+◌, ◌-◌, ◌*◌, ◌<◌, ◌≤◌, ◌==◌, Bool, true, false, cond, List, ◌∷◌, ◌++◌, drop, length, Option, Some, None, ◌⊎◌, inl, [], inr, refl, sym}
+use Rattle.ucl_steps.proofs.Common.{ap, ◌∙◌, subst, arith, append-nil, get_or, eq-eqb, ne_eqb, slice_get, slice_index, slice_set, is_some, filter, sum_by, none-some, same_Some, slice_get-get_or}
+use Rattle.ucl_steps.proofs.Common.{option_and_then_some, cond_some, eqb-true, eqb-false, length_push, length-drop, length-set, length-replicate, drop_more, filter-append, sum_by-cons, sum_by-le}
+use Rattle.ucl_steps.proofs.Common.{EventCall, Refusal, Stale, after, word_of, record_at, word_at, reading_of, Cast, Caller, Reporter, Reader, Call, Step, Reply, Accepted, Refused, Copied}
+use Rattle.ucl_steps.proofs.Common.{CallRecord, Nothing, Holding, Collecting, Checking, GoesOn, Answers, by_rules, Holds, Idle, Wanting, Within, Answered, Callers, MachineState, initial_state}
+use Rattle.ucl_steps.proofs.Common.{held_by, set_held, with_held, after_reply, change_at, with_reply, with_end, held_at_begin, after_begin, after_outcome, stored, state_after_swap}
+use Rattle.ucl_steps.proofs.Common.{state_after_first, state_after_second, after_end, after_step_holding, caller_of, after_step, after_steps, most_between, decided_in, is_caller, steps_by}
+use Rattle.ucl_steps.proofs.Common.{SomeCallIsDecided}
 use Rattle.ucl_steps.proofs.CallFacts.{Checks}
 use Rattle.ucl_steps.proofs.Callers.{same_caller, held_here, held_else}
 use Rattle.ucl_steps.proofs.Invariant.{Keeps}
@@ -101,9 +79,7 @@ one_longer b x xs ys is = search arith
 decided_replied : (k point : ℕ) (r : Reply) (calls : List CallRecord) (a : CallRecord) → slice_get calls k ≡ Some a → a.reply ≡ None
     → decided_in (change_at k (with_reply point r) calls) ≡ suc (decided_in calls)
 decided_replied k point r [] a at none = absurd (none-some a at)
-decided_replied zero point r (b ∷ calls) a at none =
-    let p = λ (c : CallRecord). is_some c.reply in
-    sym (ap (λ (t : Bool). suc (length (cond t (b ∷ filter p calls) (filter p calls)))) (ap is_some (ap (λ (c : CallRecord). c.reply) (same_Some b a at) ∙ none)))
+decided_replied zero point r (b ∷ calls) a at none = search (arith, same_Some)
 decided_replied (suc k) point r (b ∷ calls) a at none = search (arith, one_longer, decided_replied k point r calls a at none)
 
 -- a call is under way
@@ -231,8 +207,6 @@ module _ (steps : List Step) (w : MachineState) (kept : Keeps steps w) where
   few_left c (Within k (Collecting xs)) held = search (arith, stale_within, most_between)
   few_left c (Within k (Checking xs n point)) held =
       let t = (kept.knows c (Within k (Checking xs n point)) k held refl).sees in
-      let twelve = t.twelve in
-      let few = t.few in
       let long = length-drop n xs in
       by_place (stale_from n (drop n xs) w.words) (λ j at. let l = (stale_within n (drop n xs) w.words j at).1 in omega arith)
     where
@@ -270,13 +244,11 @@ few_by c done (s ∷ steps) w t kept e few = option_and_then_some (after_steps s
     elim one.comes [
       | inl decided ↦ absurd (omega arith)
       | inr g ↦
-          let decided = g.decided in
           let rest = few_by c (done ++ s ∷ []) steps v t later then (omega arith) in
           elim (same_caller c (caller_of s)) [
             | inl own ↦
                 let now : left_of v.words (held_by v.callers c) ≡ left_in w.words one.is = search (arith, held_here) in
                 let was : left_of w.words (held_by w.callers c) ≡ left_in w.words one.was = ap (λ (z : Caller). left_of w.words (held_by w.callers z)) own ∙ ap (left_of w.words) one.held in
-                let less = g.less in
                 let count = one_more (is_caller c (caller_of s)) s (steps_by c steps) in
                 omega arith
             | inr other ↦
@@ -309,7 +281,6 @@ stays_open c done (s ∷ steps) w t x kept e few held opened idle = option_and_t
     elim one.comes [
       | inl decided ↦ absurd (omega arith)
       | inr g ↦
-          let decided = g.decided in
           elim (same_caller c (caller_of s)) [
             | inl own ↦
                 let was : x ≡ one.was = same_Some x one.was (sym held ∙ (ap (held_by w.callers) own ∙ one.held)) in
@@ -339,7 +310,6 @@ takes_none c done (s ∷ steps) w t kept e few not idle = option_and_then_some (
     elim one.comes [
       | inl decided ↦ absurd (omega arith)
       | inr g ↦
-          let decided = g.decided in
           elim (same_caller c (caller_of s)) [
             | inl own ↦ absurd (stays_open c (done ++ s ∷ []) steps v t one.is later then (omega arith)
                 (ap (held_by v.callers) own ∙ (ap (λ (z : Callers). held_by z (caller_of s)) one.callers ∙ held_here w.callers (caller_of s) one.was one.is one.held))
@@ -384,7 +354,6 @@ few_in_all done (s ∷ steps) w t kept e few = option_and_then_some (after_steps
     elim one.comes [
       | inl decided ↦ absurd (omega arith)
       | inr g ↦
-          let decided = g.decided in
           let rest = few_in_all (done ++ s ∷ []) steps v t later then (omega arith) in
           let now : all_left v.words v.callers ≡ all_left w.words (set_held one.is (caller_of s) w.callers) = search arith in
           let less = all_less w.words w.callers (caller_of s) one.was one.is one.held g.less in
@@ -408,8 +377,6 @@ as_cast_run cast done (s ∷ steps) w t kept sizes e = option_and_then_some (aft
 
 all_few : (cast : Cast) (done : List Step) (w : MachineState) → Keeps done w → AsCast cast w.callers → all_left w.words w.callers ≤ (cast.reporters + cast.readers) * most_between
 all_few cast done w kept sizes =
-    let a = sizes.reporters in
-    let b = sizes.readers in
     let p = sum_by-le (left_in w.words) most_between w.callers.reporters
     (λ k d l. few_left done w kept (Reporter (suc k)) (get_or w.callers.reporters k d) (slice_get-get_or w.callers.reporters k d l)) in
     let q = sum_by-le (left_in w.words) most_between w.callers.readers (λ k d l. few_left done w kept (Reader (suc k)) (get_or w.callers.readers k d) (slice_get-get_or w.callers.readers k d l)) in

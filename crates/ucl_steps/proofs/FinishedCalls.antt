@@ -1,24 +1,8 @@
 -- The decided calls of a run of actors are as many as the finished calls of its actors.
-use Rattle.std.proofs.Common.{◌≡◌, ◌≢◌, ℕ, zero, suc, ◌+◌, ◌≤◌, ◌==◌, ◌&&◌, nat_le, Bool, true, false, cond, List, ◌∷◌, drop, length, map, Some, refl, []}
-use Rattle.std.proofs.Common.{sym, ap, ◌∙◌, subst, arith}
-use Rattle.std.proofs.Common.{length-append, eq-eqb, ne_eqb}
-use Rattle.std.specs.Prelude.{All, slice_get, is_some, filter}
-use Rattle.std.proofs.lemmas.Option.{none-some, same_Some}
-use Rattle.std.proofs.lemmas.Bool.{le-leb, eqb-true, and_parts, leb-true}
-use Rattle.std.proofs.lemmas.List.{length-map}
-use Rattle.std.proofs.lemmas.List.Elements.{filter-append, All-head, All-tail}
-use Rattle.std.proofs.lemmas.List.Sums.{sum_by-cons}
-use mathlib.Core.Option.{some, some-ne-none, some-injective}
-use lib.ListN.{get_elem?}
-use Rattle.ucl_steps.specs.declared.step.Caller.{Caller}
-use Rattle.ucl_steps.specs.declared.step.Caller.TheVariants.{Reporter, Reader}
-use Rattle.ucl_steps.specs.declared.trace.CallRecord.{CallRecord}
-use Rattle.ucl_steps.specs.Linearizable.{caller_and_call}
-use Rattle.ucl_steps.specs.Protocol.{Held, Answer, Doing, MayAsk}
-use Rattle.ucl_steps.specs.Machine.{MachineState}
-use Rattle.ucl_steps.specs.PassRuns.{IsOf, is_of, call_of, CanHold, AreRecordsOf, FitsRun, calls_told}
-use Rattle.ucl_steps.specs.Actors.{Actor, IsOfActor}
-use Rattle.ucl_steps.specs.Progress.{decided_in, finished_by}
+use Rattle.ucl_steps.proofs.Common.{◌≡◌, ◌≢◌, ℕ, zero, suc, ◌+◌, ◌≤◌, ◌==◌, ◌&&◌, nat_le, Bool, true, false, cond, List, ◌∷◌, drop, length, map, Some, refl, [], sym, ap, ◌∙◌, subst, arith}
+use Rattle.ucl_steps.proofs.Common.{length-append, eq-eqb, ne_eqb, All, slice_get, is_some, filter, none-some, same_Some, le-leb, eqb-true, and_parts, leb-true, length-map, filter-append, All-head}
+use Rattle.ucl_steps.proofs.Common.{All-tail, sum_by-cons, some, some-ne-none, some-injective, get_elem?, Caller, Reporter, Reader, CallRecord, caller_and_call, Held, Answer, Doing, MayAsk}
+use Rattle.ucl_steps.proofs.Common.{MachineState, IsOf, is_of, call_of, CanHold, AreRecordsOf, FitsRun, calls_told, Actor, IsOfActor, decided_in, finished_by}
 use Rattle.ucl_steps.proofs.OneStep.{and_true, own_caller}
 use Rattle.ucl_steps.proofs.KeptRecords.{own, next_own, as_many}
 use Rattle.ucl_steps.proofs.ActorRuns.{Apart}
@@ -35,10 +19,8 @@ at_least : (seat number : ℕ) (calls : List CallRecord) (low high : ℕ) (fs : 
 at_least seat number calls low high [] r = omega arith
 at_least seat number calls low high (f ∷ fs) r =
     let t = next_own seat number calls low high f fs r in
-    let front = filter is_decided (filter (own seat number) t.0) in
     let rest = filter (own seat number) (drop (r.0 + 1) calls) in
     let more = at_least seat number calls (r.0 + 1) high fs r.5 in
-    let is_own : is_some r.1.reply ≡ true = ap is_some r.4.reply in
     search (arith, next_own, own, filter-append, length-append)
 
 filter_few : {X : Type 0} (p : X → Bool) (xs : List X) → length (filter p xs) ≤ length xs

@@ -1,25 +1,15 @@
 -- Histories: one entry more, their beginnings, and the words of their boards.
-use Rattle.std.proofs.Common.{◌≡◌, ℕ, ◌+◌, ◌-◌, ◌==◌, ◌<◌, ◌≤◌, List, ◌∷◌, ◌++◌, take, drop, length, Some, None, sym, ap, ◌∙◌, subst, arith, length-append, get_or, set, ne_eqb, []}
-use Rattle.std.specs.Prelude.{slice_index, slice_set, replicate}
-use Rattle.std.proofs.lemmas.Bool.{eqb-true, not-false, not_from_false}
-use Rattle.std.proofs.lemmas.List.{take-append-drop, ext_get_or}
-use Rattle.ucl_word.specs.declared.record.MatchRecord.{MatchRecord}
+use Rattle.ucl_steps.proofs.Common.{◌≡◌, ℕ, ◌+◌, ◌-◌, ◌==◌, ◌<◌, ◌≤◌, List, ◌∷◌, ◌++◌, take, drop, length, Some, None, sym, ap, ◌∙◌, subst, arith, length-append, get_or, set, ne_eqb, []}
+use Rattle.ucl_steps.proofs.Common.{slice_index, slice_set, replicate, eqb-true, not-false, not_from_false, take-append-drop, ext_get_or, MatchRecord, Stale, scheduled, after, word_of, record_at}
+use Rattle.ucl_steps.proofs.Common.{may_none, may_next, Entry, IsMatch, version_of, entries_of, match_after, board_of, MayFollow, IsLegal, entries-append, entries_same, legal_match, match_valid}
+use Rattle.ucl_steps.proofs.Common.{word_after, board_length, versions, same_number, same_word}
 use Rattle.ucl_word.specs.declared.event.Kind.{Kind}
-use Rattle.ucl_word.specs.declared.refusal.Refusal.TheVariants.{Stale}
-use Rattle.ucl_word.specs.Record.{scheduled}
-use Rattle.ucl_word.specs.Rules.{refusal_of, after}
-use Rattle.ucl_word.specs.Layout.{word_of, record_at}
+use Rattle.ucl_word.specs.Rules.{refusal_of}
 use Rattle.ucl_word.proofs.AcceptedEvents.{accepts, after_number}
-use Rattle.ucl_word.proofs.Sequences.{may_none, may_next, may_begin}
+use Rattle.ucl_word.proofs.Sequences.{may_begin}
 use Rattle.ucl_word.proofs.EntryCounts.{legal_balanced, legal_case, record_next, number_of_count}
 use Rattle.ucl_word.proofs.Words.{record_back}
-use Rattle.ucl_board.specs.declared.entry.Entry.{Entry}
-use Rattle.ucl_board.specs.Fixtures.{IsMatch}
-use Rattle.ucl_board.specs.Words.{version_of}
-use Rattle.ucl_board.specs.History.{entries_of, match_after, board_of, MayFollow, IsLegal}
-use Rattle.ucl_board.proofs.Histories.{entries-append, entries_same, legal_match, match_valid, word_after, board_length}
 use Rattle.ucl_board.proofs.Histories as low
-use Rattle.ucl_board.proofs.HistoryLaws.{versions, same_number, same_word}
 use Rattle.ucl_steps.proofs.Lists.{take_split}
 
 -- an event that is accepted is expected at the number that its match has
@@ -54,8 +44,7 @@ read_back h g legal = record_back (match_after h g) (match_valid g h legal)
 pub number_next : (h : List Entry) (e : Entry) → IsLegal h → MayFollow h e → (record_at (word_of (after (match_after h e.game) e.reporter e.kind))).number ≡ (match_after h e.game).number + 1
 number_next h e legal may =
     let next = match_next h e legal may in
-    ap (λ (m : MatchRecord). (record_at (word_of m)).number) (sym next)
-    ∙ (ap (λ (m : MatchRecord). m.number) (read_back (h ++ e ∷ []) e.game (legal_snoc h e legal may) ∙ next) ∙ after_number (match_after h e.game) e.reporter e.kind)
+    search (arith, read_back, legal_snoc, after_number, e.game, e.reporter, e.kind)
 
 numbers_rise : (g : ℕ) (h : List Entry) (a b : ℕ) → a ≤ b → length (entries_of g (take a h)) ≤ length (entries_of g (take b h))
 numbers_rise g h a b l =

@@ -1,24 +1,9 @@
 -- What every step keeps.
-use Rattle.std.proofs.Common.{◌≡◌, ◌≢◌, ℕ, zero, suc, List, ◌∷◌, ◌++◌, length, map, Option, Some, None, ◌⊎◌, inl, inr, refl, sym, ap, ◌∙◌, subst, arith, []}
-use Rattle.std.specs.Prelude.{slice_get, IsSome}
-use Rattle.std.specs.Option.{option_map}
-use Rattle.std.proofs.lemmas.Option.{none-some, same_Some, slice_get-map}
-use Rattle.std.proofs.lemmas.Bool.{false≢true}
-use Rattle.std.proofs.lemmas.List.{map-append, length-map}
-use Rattle.ucl_board.specs.declared.entry.Entry.{Entry}
-use Rattle.ucl_board.specs.History.{board_of, IsLegal}
-use mathlib.Core.List.{IsPrefix}
-use Rattle.ucl_word.proofs.Sequences.{at_below, at_longer, at_end, at_either}
-use Rattle.ucl_board.proofs.Beginnings.{begins_length, begins_same}
+use Rattle.ucl_steps.proofs.Common.{◌≡◌, ◌≢◌, ℕ, zero, suc, List, ◌∷◌, ◌++◌, length, map, Option, Some, None, ◌⊎◌, inl, inr, refl, sym, ap, ◌∙◌, subst, arith, [], slice_get, IsSome, option_map}
+use Rattle.ucl_steps.proofs.Common.{none-some, same_Some, slice_get-map, false≢true, map-append, length-map, Entry, board_of, IsLegal, IsPrefix, at_below, at_longer, at_end, at_either}
+use Rattle.ucl_steps.proofs.Common.{begins_length, begins_same, Caller, Call, Step, Begin, End, CallRecord, Reply, Holds, Idle, Answered, Callers, MachineState, held_by, set_held, with_held}
+use Rattle.ucl_steps.proofs.Common.{change_at, with_end, EntryHasOneCall}
 use Rattle.ucl_steps.proofs.Lists.{get_some}
-use Rattle.ucl_steps.specs.declared.step.Caller.{Caller}
-use Rattle.ucl_steps.specs.declared.step.Call.{Call}
-use Rattle.ucl_steps.specs.declared.step.Step.{Step}
-use Rattle.ucl_steps.specs.declared.step.Step.TheVariants.{Begin, End}
-use Rattle.ucl_steps.specs.declared.trace.CallRecord.{CallRecord}
-use Rattle.ucl_steps.specs.declared.trace.Reply.{Reply}
-use Rattle.ucl_steps.specs.Machine.{Holds, Idle, Answered, Callers, MachineState, held_by, set_held, with_held, change_at, with_end}
-use Rattle.ucl_steps.specs.Linearizable.{EntryHasOneCall}
 use Rattle.ucl_steps.proofs.Explanations.{IsExplained}
 use Rattle.ucl_steps.proofs.ChangedLists.{get-change_at, change_at_here, change_at_else, map_unseen, map-change_at}
 use Rattle.ucl_steps.proofs.Callers.{same_caller, held_here, held_else}
@@ -138,13 +123,7 @@ module _ (steps : List Step) (w : MachineState) (kept : Keeps steps w) (c : Call
         record {
           legal = kept.legal;
           words = kept.words;
-          explained = λ i a at. elim (get-change_at k f w.calls i a at) [
-            | inl u ↦
-                let same : m.call ≡ u.1 = same_Some m.call u.1 (sym m.at ∙ u.2) in
-                subst (λ (z : CallRecord). IsExplained w.history z z.point z.reply) (ap f same ∙ u.3)
-                (explained_closed w.history m.call m.call.point m.call.reply (kept.explained k m.call m.at) answered)
-            | inr u ↦ kept.explained i a u.1
-          ];
+          explained = search (arith, get-change_at, same_Some, explained_closed);
           once = once_kept w.calls k f w.history (λ a i made. made) (λ a i made. made) kept.once;
           turns = subst (Turns (steps ++ End c ∷ []) n) (sym (map-change_at time_of k f (ended_at n) (λ a. refl) w.calls))
               (turns_end steps n (map time_of w.calls) c k (time_of m.call) here m.caller m.unended kept.turns);
@@ -183,10 +162,7 @@ module _ (steps : List Step) (w : MachineState) (kept : Keeps steps w) (c : Call
       record {
         legal = kept.legal;
         words = kept.words;
-        explained = λ i a at. elim (at_either w.calls new i a at) [
-          | inl u ↦ kept.explained i a u.1
-          | inr u ↦ subst (λ (z : CallRecord). IsExplained w.history z z.point z.reply) u.1 refl
-        ];
+        explained = search (arith, at_either);
         once = once_begun w.history w.calls new refl kept.once;
         turns = subst (Turns (steps ++ Begin c call ∷ []) n) (sym (map-append time_of w.calls (new ∷ [])))
             (turns_begin steps n (map time_of w.calls) c call (λ i t at own. timed_ended i t at own closed_all) kept.turns);

@@ -1,37 +1,13 @@
 -- Each step of the machine keeps what every step keeps.
-use Rattle.std.proofs.Common.{◌≡◌, ℕ, zero, suc, ◌+◌, ◌-◌, ◌<◌, ◌≤◌, ◌==◌, ◌&&◌, nat_le, Bool, true, false, cond, List, ◌∷◌, ◌++◌, take, length, Option, Some, None, Ok, Err, inl, inr, refl, sym, []}
-use Rattle.std.proofs.Common.{ap, ◌∙◌, subst, arith, le_refl, get_or}
-use Rattle.std.specs.Prelude.{slice_get, slice_index, slice_set, IfSome}
-use Rattle.std.specs.Option.{option_map}
-use Rattle.std.proofs.lemmas.Option.{none-some, same_Some, slice_get-map, cond_some}
-use Rattle.std.proofs.lemmas.Bool.{cases_lt, false≢true, eqb-true, eqb-false, and_parts, leb-true}
-use Rattle.std.proofs.lemmas.List.{length_push, get_or_append_left, get_or_push, length-take-le}
-use Rattle.std.proofs.Math.Seq.{take-append_seam, take-length}
-use Rattle.ucl_word.specs.declared.record.MatchRecord.{MatchRecord}
-use Rattle.ucl_word.specs.declared.event.EventCall.{EventCall}
-use Rattle.ucl_word.specs.declared.refusal.Refusal.{Refusal}
-use Rattle.ucl_word.specs.declared.refusal.Refusal.TheVariants.{Stale}
-use Rattle.ucl_word.specs.Rules.{refusal_of, after}
-use Rattle.ucl_word.specs.Layout.{word_of, record_at}
-use Rattle.ucl_board.specs.declared.entry.Entry.{Entry}
-use Rattle.ucl_board.specs.Words.{word_at, version_of}
-use Rattle.ucl_word.specs.Rules.{answer}
-use Rattle.ucl_board.specs.History.{match_after, board_of, MayFollow, sequential_reply, attempted, reading_of}
-use Rattle.ucl_word.proofs.Sequences.{at_end}
-use Rattle.ucl_board.proofs.HistoryLaws.{same_number, may_attempt}
-use Rattle.ucl_board.proofs.Beginnings.{begins_same}
+use Rattle.ucl_steps.proofs.Common.{◌≡◌, ℕ, zero, suc, ◌+◌, ◌-◌, ◌<◌, ◌≤◌, ◌==◌, ◌&&◌, nat_le, Bool, true, false, cond, List, ◌∷◌, ◌++◌, take, length, Option, Some, None, Ok, Err, inl, inr, refl}
+use Rattle.ucl_steps.proofs.Common.{sym, [], ap, ◌∙◌, subst, arith, le_refl, get_or, slice_get, slice_index, slice_set, IfSome, option_map, none-some, same_Some, slice_get-map, cond_some, cases_lt}
+use Rattle.ucl_steps.proofs.Common.{false≢true, eqb-true, eqb-false, and_parts, leb-true, length_push, get_or_append_left, get_or_push, length-take-le, take-append_seam, take-length, MatchRecord}
+use Rattle.ucl_steps.proofs.Common.{EventCall, Refusal, Stale, refusal_of, after, word_of, record_at, Entry, word_at, version_of, answer, match_after, board_of, MayFollow, sequential_reply}
+use Rattle.ucl_steps.proofs.Common.{attempted, reading_of, at_end, same_number, may_attempt, begins_same, Caller, Reporter, Reader, Call, Event, Reading, Step, Begin, Look, Swap, First, Second, End}
+use Rattle.ucl_steps.proofs.Common.{CallRecord, Accepted, Refused, Copied, Holding, Collecting, Checking, GoesOn, Answers, by_rules, may_begin, after_begin, after_step_holding, caller_of, Holds}
+use Rattle.ucl_steps.proofs.Common.{Idle, Wanting, Within, Answered, MachineState, held_by, with_held, change_at, with_reply, with_end, after_outcome, stored, state_after_look, state_after_swap}
+use Rattle.ucl_steps.proofs.Common.{state_after_first, state_after_second, after_reply}
 use Rattle.ucl_steps.proofs.Histories.{number_expected, is_stale, legal_snoc, legal_beginning, read_back, number_next, squeezed, board_at, board_get, board_next, board_from, version_is}
-use Rattle.ucl_steps.specs.declared.step.Caller.{Caller}
-use Rattle.ucl_steps.specs.declared.step.Caller.TheVariants.{Reporter, Reader}
-use Rattle.ucl_steps.specs.declared.step.Call.{Call}
-use Rattle.ucl_steps.specs.declared.step.Call.TheVariants.{Event, Reading}
-use Rattle.ucl_steps.specs.declared.step.Step.{Step}
-use Rattle.ucl_steps.specs.declared.step.Step.TheVariants.{Begin, Look, Swap, First, Second, End}
-use Rattle.ucl_steps.specs.declared.trace.CallRecord.{CallRecord}
-use Rattle.ucl_steps.specs.declared.trace.Reply.TheVariants.{Accepted, Refused, Copied}
-use Rattle.ucl_steps.specs.Protocol.{Holding, Collecting, Checking, GoesOn, Answers, by_rules}
-use Rattle.ucl_steps.specs.Machine.{may_begin, after_begin, after_step_holding, caller_of, Holds, Idle, Wanting, Within, Answered, MachineState, held_by, with_held, change_at, with_reply, with_end}
-use Rattle.ucl_steps.specs.Machine.{after_outcome, stored, state_after_look, state_after_swap, state_after_first, state_after_second, after_reply}
 use Rattle.ucl_steps.proofs.Explanations.{IsExplained, IsSequential}
 use Rattle.ucl_steps.proofs.Turns.{IsInner}
 use Rattle.ucl_steps.proofs.CallFacts.{Asks, Offers, Loaded, AreAt, Collects, Checks, in_call}
@@ -119,8 +95,7 @@ module _ (steps : List Step) (w : MachineState) (kept : Keeps steps w) where
         let at_now : (match_after (take now h) g).number ≡ (match_after h g).number = ap (λ (z : List Entry). (match_after z g).number) (take-length h) in
         let same = (same_number h o.place now g (sym number ∙ (is ∙ sym at_now))).1 in
         eqb-false (word_at w.words g) old differs (word_now g game ∙ (ap (λ (z : List Entry). word_of (match_after z g)) (sym (take-length h)) ∙ (sym same ∙ sym o.found))) in
-        refused_kept (Swap (Reporter n)) (Reporter n) k e (Within k (Holding e old new)) holds refl (Stale (record_at (word_at w.words g)).number) tt o.asks
-        (is_stale (match_after h g) e.expected e.kind stale ∙ ap (λ (z : MatchRecord). Some (Stale z.number)) (sym (record_now g game)))
+        search (arith, refused_kept, is_stale, record_now, o.asks)
 
     module _ (same : (word_at w.words e.game == old) ≡ true) where
       abbrev sees_it : Offers w.history (kept.knows (Reporter n) (Within k (Holding e old new)) k holds refl).call e old new
@@ -136,8 +111,6 @@ module _ (steps : List Step) (w : MachineState) (kept : Keeps steps w) where
       may_follow =
           let m = kept.knows (Reporter n) (Within k (Holding e old new)) k holds refl in
           let r_is : sees_it.asks.reporter ≡ n = same_reporter sees_it.asks.reporter n (sym sees_it.asks.caller ∙ m.caller) in
-          let low = sees_it.asks.low in
-          let high = sees_it.asks.high in
           may_attempt w.history (attempted n e) kept.legal ((omega arith, omega arith), sees_it.asks.game) accepted_now
 
       new_is : new ≡ word_of (after (match_after w.history e.game) n e.kind)
@@ -228,12 +201,9 @@ module _ (steps : List Step) (w : MachineState) (kept : Keeps steps w) where
     pub one_more : (slice_index w.words checked == slice_index words checked) ≡ true → AreAt w.history words (checked + 1) point
     one_more same i less =
         let o = (kept.knows c (Within k (Checking words checked point)) k holds refl).sees in
-        let few = o.few in
-        let twelve = o.twelve in
         elim (cases_lt i checked) [
           | inl l ↦ o.same i l
           | inr l ↦
-              let is : i ≡ checked = omega arith in
               let t = o.loaded i (omega arith) in
               let there : get_or words i 0 ≡ get_or w.words i 0 = search (arith, eqb-true) in
               squeezed (i + 1) (get_or words i 0) w.history t.0 point now kept.legal t.1 o.late t.2 (there ∙ word_at_place i (omega arith))
@@ -275,7 +245,6 @@ module _ (steps : List Step) (w : MachineState) (kept : Keeps steps w) where
           let r = Copied (reading_of words) in
           let f = with_reply point r in
           let is : IsSequential h point m.call.caller m.call.call r = search (arith, sequential_reading, copied_board, copied_version) in
-          let late = o.late in
           let told : IsExplained h (f m.call) (Some point) (Some r) = ((o.early, o.late, unended_none m.call.ended (λ z. point ≤ z) m.unended), is) in
           moved steps w kept c (Within k (Checking words checked point)) holds k refl (Second c) (Answered k) h w.words f tt (begins_same h) kept.legal kept.words (λ a. refl)
           (once_refused w.calls k f m.call m.at o.reads.reply h refl kept.once)

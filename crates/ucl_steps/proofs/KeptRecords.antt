@@ -1,20 +1,8 @@
 -- The calls of a pass that has no call under way are just its finished calls: so a later run keeps what an earlier one has of it.
-use Rattle.std.proofs.Common.{◌≡◌, ℕ, zero, suc, ◌+◌, ◌≤◌, Bool, true, cond, List, ◌∷◌, ◌++◌, length, drop, map, Some, None, refl, sym, ap, ◌∙◌, subst, arith, append-nil, length-append, []}
-use Rattle.std.specs.Prelude.{slice_get, filter}
-use Rattle.std.proofs.lemmas.Option.{none-some, same_Some}
-use Rattle.std.proofs.lemmas.List.{map-append, length-map}
-use Rattle.std.proofs.lemmas.List.Elements.{filter-append}
-use mathlib.Core.Option.{some, some-injective}
-use mathlib.Core.List.{IsPrefix}
-use lib.ListN.{get_elem?}
-use Rattle.ucl_steps.specs.declared.trace.CallRecord.{CallRecord}
-use Rattle.ucl_steps.specs.Linearizable.{caller_and_call}
-use Rattle.ucl_steps.specs.Machine.{MachineState}
-use Rattle.ucl_steps.specs.Protocol.{Nothing, Answer}
-use Rattle.ucl_steps.specs.PassRuns.{caller_for, is_of, calls_by, AreRecordsOf, FitsRun}
-use Rattle.ucl_steps.specs.Actors.{Actor}
-use Rattle.ucl_steps.specs.Growing.{HasGoneOn, HaveGoneOn, records_by}
-use Rattle.ucl_steps.proofs.OneStep.{own_caller}
+use Rattle.ucl_steps.proofs.Common.{◌≡◌, ℕ, zero, suc, ◌+◌, ◌≤◌, Bool, List, ◌∷◌, ◌++◌, length, drop, map, Some, None, refl, sym, ap, ◌∙◌, subst, arith, append-nil, length-append, [], slice_get}
+use Rattle.ucl_steps.proofs.Common.{filter, none-some, same_Some, map-append, length-map, filter-append, some, some-injective, IsPrefix, get_elem?, CallRecord, caller_and_call, MachineState}
+use Rattle.ucl_steps.proofs.Common.{Nothing, Answer, caller_for, is_of, calls_by, AreRecordsOf, FitsRun, Actor, HasGoneOn, HaveGoneOn, records_by, goes}
+use Rattle.std.proofs.lemmas.List.{nil_from_length}
 
 -- what stands before a place, and at it
 drop_split : {X : Type 0} (xs : List X) (low k : ℕ) (x : X) → low ≤ k → slice_get xs k ≡ Some x → (front : List X) × (drop low xs ≡ front ++ x ∷ drop (suc k) xs)
@@ -23,10 +11,6 @@ drop_split {X} (y ∷ xs) zero zero x le at = ([], ap (λ (z : X). z ∷ xs) (sa
 drop_split {X} (y ∷ xs) zero (suc k) x le at = let t = drop_split xs 0 k x (omega arith) at in (y ∷ t.0, ap (λ (l : List X). y ∷ l) t.1)
 drop_split (y ∷ xs) (suc low) zero x le at = absurd (omega arith)
 drop_split (y ∷ xs) (suc low) (suc k) x le at = drop_split xs low k x (omega arith) at
-
-none_long : {X : Type 0} (xs : List X) → length xs ≡ 0 → xs ≡ []
-none_long [] e = refl
-none_long (x ∷ xs) e = absurd (omega (arith, e))
 
 module _ (seat number : ℕ) where
   abbrev pub own : CallRecord → Bool
@@ -44,13 +28,7 @@ module _ (seat number : ℕ) where
       → (front : List CallRecord) × (filter own (drop low calls) ≡ filter own front ++ r.1 ∷ filter own (drop (r.0 + 1) calls))
   next_own calls low high f fs r =
       let t = drop_split calls low r.0 r.1 r.2 r.3 in
-      let is : own r.1 ≡ true = ap (is_of seat number) r.4.caller ∙ own_caller seat number f.call r.4.may in
-      let next : suc r.0 ≡ r.0 + 1 = omega arith in (
-        t.0,
-        ap (filter own) (t.1 ∙ ap (λ (k : ℕ). t.0 ++ r.1 ∷ drop k calls) next)
-            ∙ (filter-append own t.0 (r.1 ∷ drop (r.0 + 1) calls)
-            ∙ ap (λ (b : Bool). filter own t.0 ++ cond b (r.1 ∷ filter own (drop (r.0 + 1) calls)) (filter own (drop (r.0 + 1) calls))) is),
-      )
+      let next : suc r.0 ≡ r.0 + 1 = omega arith in search (arith, filter-append, t.0, t.1, r.1, r.0)
 
   at_least : (calls : List CallRecord) (low high : ℕ) (fs : List Answer) → AreRecordsOf calls seat number low fs high → length fs ≤ length (filter own (drop low calls))
   at_least calls low high [] r = omega arith
@@ -63,14 +41,13 @@ module _ (seat number : ℕ) where
 
   just_these : (calls : List CallRecord) (low high : ℕ) (fs : List Answer) → AreRecordsOf calls seat number low fs high → length (filter own (drop low calls)) ≡ length fs
       → map plain (filter own (drop low calls)) ≡ map recorded fs
-  just_these calls low high [] r e = ap (map plain) (none_long (filter own (drop low calls)) e)
+  just_these calls low high [] r e = ap (map plain) (nil_from_length (filter own (drop low calls)) e)
   just_these calls low high (f ∷ fs) r e =
       let t = next_own calls low high f fs r in
       let rest = filter own (drop (r.0 + 1) calls) in
       let more = at_least calls (r.0 + 1) high fs r.5 in
       let long : length (filter own (drop low calls)) ≡ length (filter own t.0) + suc (length rest) = ap length t.1 ∙ length-append (filter own t.0) (r.1 ∷ rest) in
-      let count : length (filter own (drop low calls)) ≡ suc (length fs) = e in
-      let first : filter own t.0 ≡ [] = none_long (filter own t.0) (omega arith) in
+      let first : filter own t.0 ≡ [] = nil_from_length (filter own t.0) (omega arith) in
       let is : plain r.1 ≡ recorded f = λ i. record { caller = r.4.caller i; call = r.4.call i; begun = r.4.begun i; point = None; reply = r.4.reply i; ended = r.4.ended i } in
       let others = just_these calls (r.0 + 1) high fs r.5 (omega arith) in
       ap (map plain) (t.1 ∙ ap (λ (l : List CallRecord). l ++ r.1 ∷ rest) first) ∙ (λ i. is i ∷ others i)
@@ -99,7 +76,6 @@ kept_records actors later last last' on each each' seat a b at bt =
     let gone : HasGoneOn a b = subst (HasGoneOn a) (some-injective goes.0 b (sym goes.1 ∙ bt)) goes.2 in
     let f = each seat a at in
     let g = each' seat b bt in
-    let more : List Answer = gone.finished.0 in
     let first = records_are seat a.number last a f.0 f.1 ∙ same_callers seat a b gone last.calls 0 f.0.high a.doing.calls f.0.recorded in
     let all = records_are seat b.number last' b g.0 g.1 in
     search (arith, some-injective, records_are, same_callers, map-append)

@@ -1,34 +1,14 @@
 -- A run is told by the log and by what the actors have asked: so runs of later states are longer runs.
-use Rattle.std.proofs.Common.{◌≡◌, ◌≢◌, ◌⊎◌, inl, inr, ℕ, zero, suc, ◌+◌, Bool, true, false, cond, List, ◌∷◌, ◌++◌, length, map, replicate, Option, Some, None, refl, sym, ap, []}
-use Rattle.std.proofs.Common.{◌∙◌, subst, arith, append_assoc, eq-eqb}
-use Rattle.std.specs.Prelude.{slice_get}
-use Rattle.std.proofs.lemmas.Option.{none-some, same_Some, option_and_then_some}
-use Rattle.std.proofs.lemmas.Bool.{le-leb}
-use Rattle.std.proofs.lemmas.List.Concat.{flat_map-append}
-use mathlib.Core.Option.{some, some-injective}
-use mathlib.Core.List.{IsPrefix}
-use lib.ListN.{get_elem?}
-use Rattle.ucl_word.specs.declared.event.EventCall.{EventCall}
-use Rattle.ucl_word.specs.Record.{IsReporter}
-use Rattle.ucl_board.specs.Words.{word_at}
+use Rattle.ucl_steps.proofs.Common.{◌≡◌, ◌≢◌, ◌⊎◌, inl, inr, ℕ, zero, suc, ◌+◌, Bool, true, false, cond, List, ◌∷◌, ◌++◌, length, map, Option, Some, None, refl, sym, ap, [], ◌∙◌, subst, arith}
+use Rattle.ucl_steps.proofs.Common.{append_assoc, eq-eqb, slice_get, none-some, same_Some, option_and_then_some, le-leb, flat_map-append, some, some-injective, IsPrefix, get_elem?, EventCall}
+use Rattle.ucl_steps.proofs.Common.{IsReporter, word_at, AccessKind, Access, Logged, Log, access_list, slice_index, Cast, Caller, Reporter, Call, Reading, Step, Begin, Look, Swap, First, Second}
+use Rattle.ucl_steps.proofs.Common.{End, Held, Holding, Collecting, Checking, Outcome, GoesOn, Answers, looked, swapped, loaded, compared, Holds, Idle, Wanting, Within, Answered, Callers}
+use Rattle.ucl_steps.proofs.Common.{MachineState, initial_state, held_by, set_held, may_begin, held_at_begin, after_begin, after_end, after_outcome, stored, state_after_look, state_after_swap}
+use Rattle.ucl_steps.proofs.Common.{state_after_first, state_after_second, after_step_holding, caller_of, after_step, after_steps, step_of, access_in, accesses_holding, accesses_of_step, begun_in}
+use Rattle.ucl_steps.proofs.Common.{cast_for, caller_for, IsOf, is_of, call_of, FitsHeld, calls_told, calls_by, left_by, FitsRun, Move, end_by, steps_of_move, steps_of_moves, Actor, IsTakenBy}
+use Rattle.ucl_steps.proofs.Common.{accesses_of_log, AreStepsOf, IsRunOfLog, HasGoneOn, HaveGoneOn, goes}
+use Rattle.std.proofs.Common.{replicate}
 use Rattle.ucl_board.specs.Log as kinds
-use Rattle.ucl_board.specs.Log.{AccessKind, Access, Logged, Log, access_list}
-use Rattle.std.specs.Prelude.{slice_index}
-use Rattle.ucl_steps.specs.declared.step.Cast.{Cast}
-use Rattle.ucl_steps.specs.declared.step.Caller.{Caller}
-use Rattle.ucl_steps.specs.declared.step.Caller.TheVariants.{Reporter}
-use Rattle.ucl_steps.specs.declared.step.Call.{Call}
-use Rattle.ucl_steps.specs.declared.step.Call.TheVariants.{Reading}
-use Rattle.ucl_steps.specs.declared.step.Step.{Step}
-use Rattle.ucl_steps.specs.declared.step.Step.TheVariants.{Begin, Look, Swap, First, Second, End}
-use Rattle.ucl_steps.specs.Protocol.{Held, Holding, Collecting, Checking, Outcome, GoesOn, Answers, looked, swapped, loaded, compared}
-use Rattle.ucl_steps.specs.Machine.{Holds, Idle, Wanting, Within, Answered, Callers, MachineState, initial_state, held_by, set_held, may_begin, held_at_begin, after_begin, after_end, after_outcome}
-use Rattle.ucl_steps.specs.Machine.{stored, state_after_look, state_after_swap, state_after_first, state_after_second, after_step_holding, caller_of, after_step, after_steps}
-use Rattle.ucl_steps.specs.CallRuns.{step_of, access_in, accesses_holding, accesses_of_step}
-use Rattle.ucl_steps.specs.Linearizable.{begun_in}
-use Rattle.ucl_steps.specs.PassRuns.{cast_for, caller_for, IsOf, is_of, call_of, FitsHeld, calls_told, calls_by, left_by, FitsRun, Move, end_by, steps_of_move, steps_of_moves}
-use Rattle.ucl_steps.specs.Actors.{Actor, IsTakenBy, accesses_of_log, AreStepsOf, IsRunOfLog}
-use Rattle.ucl_steps.specs.Growing.{HasGoneOn, HaveGoneOn}
 use Rattle.ucl_steps.proofs.Callers.{same_caller, held_here, held_else}
 use Rattle.ucl_steps.proofs.Runs.{linearizable_run}
 use Rattle.ucl_steps.proofs.OneStep.{and_true, caller_of_kind, calls_append, calls_next}
@@ -202,7 +182,6 @@ accessing c kind ends rest w last e =
     option_and_then_some (after_steps (end_by c ends ++ rest)) (after_step w (step_of c kind)) last e (λ v is then.
     let t = ending c ends rest v last then in
     let l = step_left c kind w v is in
-    let after : List (Caller × Access) = left_by (end_by c ends ++ rest) (after_step w (step_of c kind)) in
     record {
       made = v;
       makes = is;
@@ -335,8 +314,7 @@ module _ (c : Caller) (kind : AccessKind) (o p : Option Call) (x y : Bool) (a b 
   same_end =
       let h = step_holds (step_of c kind) t.begun t.made t.makes in
       let g = step_holds (step_of c kind) u.begun u.made u.makes in
-      same_ends c x y t.made u.made za zb h.0 g.0 made_alike (ap (held_by t.made.callers) (sym (caller_of_kind c kind)) ∙ h.1) (ap (held_by u.made.callers) (sym (caller_of_kind c kind)) ∙ g.1) t.ends
-      u.ends not_a not_b
+      search (arith, same_ends, made_alike, caller_of_kind, h.0, g.0, h.1, g.1)
 
   moved_alike : Alike za zb
   moved_alike = end_alike c x t.made u.made za zb made_alike t.ends (subst (λ (q : Bool). AfterEnd c q u.made zb) (sym same_end) u.ends)
@@ -350,17 +328,9 @@ module _ (c : Caller) (kind : AccessKind) (o p : Option Call) (x y : Bool) (a b 
 begins_reading : (c : Caller) (call : Call) (a w v : MachineState) → after_step a (Begin c call) ≡ Some w → (after_step w (First c) ≡ Some v) ⊎ (after_step w (Second c) ≡ Some v) → call ≡ Reading
 begins_reading c call a w v begins makes = search (arith, takes_none, begin_made)
 
-abbrev first_of : Call → List Call → Call
-first_of call [] = call
-first_of call (x ∷ xs) = x
-
-abbrev rest_of : List Call → List Call
-rest_of [] = []
-rest_of (x ∷ xs) = xs
-
 next_same : (ks : List Call) (x y : Call) (xs ys rest : List Call) → (ks ++ x ∷ xs) ++ rest ≡ ks ++ y ∷ ys → x ≡ y
-next_same [] x y xs ys rest e = ap (first_of x) e
-next_same (k ∷ ks) x y xs ys rest e = next_same ks x y xs ys rest (ap rest_of e)
+next_same [] x y xs ys rest e = cc
+next_same (k ∷ ks) x y xs ys rest e = next_same ks x y xs ys rest (cc)
 
 next_asked : (seat number : ℕ) (c : Caller) (f g : Call) (told xs ys : List (Caller × Call)) → is_of seat number c ≡ true
     → IsPrefix (calls_by seat number (told ++ (c, f) ∷ xs)) (calls_by seat number (told ++ (c, g) ∷ ys)) → f ≡ g
@@ -401,7 +371,6 @@ module _ (actors later : List Actor) (on : HaveGoneOn actors later) (last last' 
     where
       asked : (number : IsReporter was.number) → c ≡ Reporter was.number → f ≡ g
       asked number reporter =
-          let low = number.0 in
           let same : is.number ≡ was.number = gone.number (omega arith) in
           let p : IsPrefix (calls_by seat was.number (calls_told last)) (calls_by seat was.number (calls_told last')) = (
             gone.asked.0,

@@ -1,35 +1,13 @@
 -- One step of the machine on a match word: the word that it finds, what comes of it, the access that it leaves, and what it leaves as it was.
-use Rattle.std.proofs.Common.{◌≡◌, ◌≢◌, ℕ, zero, suc, ◌+◌, ◌-◌, ◌<◌, ◌≤◌, ◌==◌, ◌&&◌, nat_le, Bool, true, false, cond, List, ◌∷◌, ◌++◌, length, map, replicate, Option, Some, None, Ok, []}
-use Rattle.std.proofs.Common.{refl, ap, ◌∙◌, arith, append_assoc, append-nil, eq-eqb, ne_eqb}
-use Rattle.std.specs.Prelude.{slice_get, slice_index, IsSome}
-use Rattle.std.specs.Option.{option_and_then}
-use Rattle.std.proofs.lemmas.Option.{same_Some, option_and_then_some}
-use Rattle.std.proofs.lemmas.Bool.{false≢true, cases_eq, le-leb, leb-true}
-use Rattle.std.proofs.lemmas.List.{map-append}
-use Rattle.std.proofs.lemmas.List.Elements.{filter-append}
-use Rattle.ucl_word.specs.declared.event.EventCall.{EventCall}
+use Rattle.ucl_steps.proofs.Common.{◌≡◌, ◌≢◌, ℕ, zero, suc, ◌+◌, ◌-◌, ◌<◌, ◌≤◌, ◌==◌, ◌&&◌, nat_le, Bool, true, false, cond, List, ◌∷◌, ◌++◌, length, map, Option, Some, None, Ok, [], refl, ap, ◌∙◌}
+use Rattle.ucl_steps.proofs.Common.{arith, append_assoc, append-nil, eq-eqb, ne_eqb, slice_get, slice_index, IsSome, option_and_then, same_Some, option_and_then_some, false≢true, cases_eq, le-leb}
+use Rattle.ucl_steps.proofs.Common.{leb-true, map-append, filter-append, EventCall, Refusal, answer, word_of, IsMatch, word_at, match_after, board_of, word_after, AccessKind, Access, access, Cast}
+use Rattle.ucl_steps.proofs.Common.{Caller, Reporter, Call, Step, CallRecord, Holding, Collecting, Checking, Outcome, looked, swapped, loaded, compared, MayAsk, Holds, Idle, Wanting, Within}
+use Rattle.ucl_steps.proofs.Common.{MachineState, initial_state, held_by, may_begin, after_outcome, stored, after_step_holding, caller_of, after_step, after_steps, Does, step_of, access_in}
+use Rattle.ucl_steps.proofs.Common.{accesses_holding, accesses_of_step, IsInCast, caller_for, IsOf, is_of, calls_told, calls_by}
+use Rattle.std.proofs.Common.{replicate}
 use Rattle.ucl_word.specs.declared.event.Accepted as word
-use Rattle.ucl_word.specs.declared.refusal.Refusal.{Refusal}
-use Rattle.ucl_word.specs.Rules.{answer}
-use Rattle.ucl_word.specs.Layout.{word_of}
-use Rattle.ucl_board.specs.Fixtures.{IsMatch}
-use Rattle.ucl_board.specs.Words.{word_at}
-use Rattle.ucl_board.specs.History.{match_after, board_of}
-use Rattle.ucl_board.proofs.Histories.{word_after}
 use Rattle.ucl_board.specs.Log as log
-use Rattle.ucl_board.specs.Log.{AccessKind, Access, access}
-use Rattle.ucl_steps.specs.declared.step.Cast.{Cast}
-use Rattle.ucl_steps.specs.declared.step.Caller.{Caller}
-use Rattle.ucl_steps.specs.declared.step.Caller.TheVariants.{Reporter}
-use Rattle.ucl_steps.specs.declared.step.Call.{Call}
-use Rattle.ucl_steps.specs.declared.step.Step.{Step}
-use Rattle.ucl_steps.specs.declared.trace.CallRecord.{CallRecord}
-use Rattle.ucl_steps.specs.Protocol.{Holding, Collecting, Checking, Outcome, looked, swapped, loaded, compared, MayAsk}
-use Rattle.ucl_steps.specs.Machine.{Holds, Idle, Wanting, Within, MachineState, initial_state, held_by, may_begin, after_outcome, stored, after_step_holding, caller_of}
-use Rattle.ucl_steps.specs.Machine.{after_step, after_steps}
-use Rattle.ucl_steps.specs.Trails.{Does}
-use Rattle.ucl_steps.specs.CallRuns.{step_of, access_in, accesses_holding, accesses_of_step, IsInCast}
-use Rattle.ucl_steps.specs.PassRuns.{caller_for, IsOf, is_of, calls_told, calls_by}
 use Rattle.ucl_steps.proofs.ChangedLists.{change_at_else, length-change_at, map_unseen}
 use Rattle.ucl_steps.proofs.Callers.{held_else}
 
@@ -143,7 +121,6 @@ pub record Passes (c : Caller) (w w' : MachineState) : Type 0 where
 pub passes_on : (c : Caller) (w v u : MachineState) → Passes c w v → Passes c v u → Passes c w u
 passes_on c w v u p q =
     let a = p.count in
-    let b = q.count in
     record {
       holds = λ d not. q.holds d not ∙ p.holds d not;
       calls = λ i a not at. q.calls i a not (p.calls i a not at);

@@ -1,38 +1,14 @@
 -- One step of a pass on a match word, as steps of the machine: what the pass has done and holds stays what its callers have done and hold.
-use Rattle.std.proofs.Common.{◌≡◌, ◌≢◌, ℕ, ◌+◌, ◌<◌, ◌≤◌, ◌==◌, Bool, true, false, cond, List, ◌∷◌, ◌++◌, length, map, Option, Some, None, refl, sym, ap, ◌∙◌, subst, arith, append_assoc, []}
-use Rattle.std.proofs.Common.{append-nil, le_refl, eq-eqb, ne_eqb}
-use Rattle.std.specs.Prelude.{slice_get, slice_index, IsSome, is_some}
-use Rattle.std.proofs.lemmas.Option.{same_Some, option_and_then_some}
-use Rattle.std.proofs.lemmas.Bool.{false≢true, cases_eq}
-use Rattle.std.proofs.lemmas.List.{length_push, map-append}
-use Rattle.ucl_word.specs.declared.event.EventCall.{EventCall}
-use Rattle.ucl_word.specs.declared.refusal.Refusal.{Refusal}
-use Rattle.ucl_word.specs.Rules.{refusal_of, after}
-use Rattle.ucl_word.specs.Layout.{record_at}
-use Rattle.ucl_word.proofs.Sequences.{at_below, at_longer, at_end}
-use Rattle.ucl_board.specs.declared.entry.Entry.{Entry}
-use Rattle.ucl_board.specs.History.{board_of, reading_of, entry_of}
+use Rattle.ucl_steps.proofs.Common.{◌≡◌, ◌≢◌, ℕ, ◌+◌, ◌<◌, ◌≤◌, ◌==◌, Bool, true, false, cond, List, ◌∷◌, ◌++◌, length, map, Option, Some, None, refl, sym, ap, ◌∙◌, subst, arith, append_assoc, []}
+use Rattle.ucl_steps.proofs.Common.{append-nil, le_refl, eq-eqb, ne_eqb, slice_get, slice_index, IsSome, is_some, same_Some, option_and_then_some, false≢true, cases_eq, length_push, map-append}
+use Rattle.ucl_steps.proofs.Common.{EventCall, Refusal, refusal_of, after, record_at, at_below, at_longer, at_end, Entry, board_of, reading_of, entry_of, Access, Cast, Caller, Reporter, Reader}
+use Rattle.ucl_steps.proofs.Common.{Call, Event, Reading, Step, Begin, End, CallRecord, Reply, Copied, Holds, Idle, Wanting, Within, Answered, MachineState, initial_state, held_by, with_held}
+use Rattle.ucl_steps.proofs.Common.{with_reply, with_end, may_begin, held_at_begin, after_begin, after_reply, after_end, after_outcome, stored, after_step_holding, caller_of, after_step}
+use Rattle.ucl_steps.proofs.Common.{after_steps, caller_and_call, step_of, accesses_of_step, Does, Held, Nothing, Holding, Collecting, Checking, Outcome, GoesOn, Answers, by_rules, looked, swapped}
+use Rattle.ucl_steps.proofs.Common.{loaded, compared, Answer, Doing, goes, ends, done_by, IsNext, after_look, swaps_holding, after_swap, collected, firsts_holding, after_first, seconds_holding}
+use Rattle.ucl_steps.proofs.Common.{after_second, MayAsk, caller_for, IsOf, call_of, CanHold, IsRecordOf, AreRecordsOf, IsUnderWay, FitsHeld, call_under_way, calls_told, calls_by, left_by, FitsRun}
+use Rattle.ucl_steps.proofs.Common.{Move, end_by, steps_of_move}
 use Rattle.ucl_board.specs.Log as log
-use Rattle.ucl_board.specs.Log.{Access}
-use Rattle.ucl_steps.specs.declared.step.Cast.{Cast}
-use Rattle.ucl_steps.specs.declared.step.Caller.{Caller}
-use Rattle.ucl_steps.specs.declared.step.Caller.TheVariants.{Reporter, Reader}
-use Rattle.ucl_steps.specs.declared.step.Call.{Call}
-use Rattle.ucl_steps.specs.declared.step.Call.TheVariants.{Event, Reading}
-use Rattle.ucl_steps.specs.declared.step.Step.{Step}
-use Rattle.ucl_steps.specs.declared.step.Step.TheVariants.{Begin, End}
-use Rattle.ucl_steps.specs.declared.trace.CallRecord.{CallRecord}
-use Rattle.ucl_steps.specs.declared.trace.Reply.{Reply}
-use Rattle.ucl_steps.specs.declared.trace.Reply.TheVariants.{Copied}
-use Rattle.ucl_steps.specs.Machine.{Holds, Idle, Wanting, Within, Answered, MachineState, initial_state, held_by, with_held, with_reply, with_end, may_begin, held_at_begin, after_begin, after_reply}
-use Rattle.ucl_steps.specs.Machine.{after_end, after_outcome, stored, after_step_holding, caller_of, after_step, after_steps}
-use Rattle.ucl_steps.specs.Linearizable.{caller_and_call}
-use Rattle.ucl_steps.specs.CallRuns.{step_of, accesses_of_step}
-use Rattle.ucl_steps.specs.Trails.{Does}
-use Rattle.ucl_steps.specs.Protocol.{Held, Nothing, Holding, Collecting, Checking, Outcome, GoesOn, Answers, by_rules, looked, swapped, loaded, compared, Answer, Doing, goes, ends, done_by, IsNext}
-use Rattle.ucl_steps.specs.Protocol.{after_look, swaps_holding, after_swap, collected, firsts_holding, after_first, seconds_holding, after_second, MayAsk}
-use Rattle.ucl_steps.specs.PassRuns.{caller_for, IsOf, call_of, CanHold, IsRecordOf, AreRecordsOf, IsUnderWay, FitsHeld, call_under_way, calls_told, calls_by, left_by, FitsRun, Move, end_by}
-use Rattle.ucl_steps.specs.PassRuns.{steps_of_move}
 use Rattle.ucl_steps.proofs.ChangedLists.{change_at_here, change_at_else, length-change_at, map_unseen}
 use Rattle.ucl_steps.proofs.Callers.{same_caller, held_here, held_else}
 use Rattle.ucl_steps.proofs.Runs.{words_of_run}
@@ -195,7 +171,6 @@ module _ (seat number : ℕ) (w : MachineState) (d : Doing) (call : Call) (begun
       let last = with_held (Within u.place held) by v in
       let passes : Passes by w last = passes_step (GoesOn held) in
       let after : Under seat number last d.calls call begun (λ k. Within k held) = search (arith, records_kept, held_here, held_v) in
-      let own = subst (λ (z : Call). Under seat number last d.calls z begun (λ k. Within k held)) (sym can.2) after in
       let turn : Turn seat number w by m (goes begun held d) entries = record {
         move = record { caller = by; begins = None; kind = m.kind; ends = false };
         last = last;
@@ -368,9 +343,7 @@ module _ (cast : Cast) (seat number : ℕ) (steps : List Step) (w : MachineState
         (made_first w m words_now now reader u.place words u.held collecting.can does)).turn
 
   first_by : m.kind ≡ log.First → (h : Held) → d.held ≡ h → IsNext log.First m.game h → Turn seat number w reader m (firsts_holding h m.found m.at d) []
-  first_by kind Nothing is next = turn_begins is (kind, next)
-  first_by kind (Collecting words) is next = turn_first words is (kind, next)
-  first_by kind x is next = absurd next
+  first_by x0 x1 x2 x3 = search (arith, turn_begins, turn_first)
 
   pub turn_firsts : m.kind ≡ log.First → IsNext log.First m.game d.held → Turn seat number w reader m (after_first m.found m.at d) []
   turn_firsts kind next = first_by kind d.held refl next
@@ -399,10 +372,7 @@ module _ (cast : Cast) (seat number : ℕ) (steps : List Step) (w : MachineState
     turn_clean same eleven = search (arith, done_by, eq-eqb, slice_index, turn_compared)
 
   second_by : m.kind ≡ log.Second → (h : Held) → d.held ≡ h → IsNext log.Second m.game h → Turn seat number w reader m (seconds_holding h m.found m.at d) []
-  second_by kind Nothing is next = absurd next
-  second_by kind (Collecting words) is next = absurd next
-  second_by kind (Holding e old new) is next = absurd next
-  second_by kind (Checking words checked point) is next = turn_compared words checked point is (kind, next)
+  second_by x0 x1 x2 x3 = search (arith, turn_compared)
 
   pub turn_seconds : m.kind ≡ log.Second → IsNext log.Second m.game d.held → Turn seat number w reader m (after_second m.found m.at d) []
   turn_seconds kind next = second_by kind d.held refl next

@@ -1,18 +1,8 @@
 -- Where calls begin and end in a list of steps, and in one step more.
-use Rattle.std.proofs.Common.{◌≡◌, ℕ, zero, suc, ◌+◌, ◌<◌, ◌≤◌, List, ◌∷◌, ◌++◌, take, drop, length, Some, ◌⊎◌, inl, inr, refl, sym, ap, ◌∙◌, arith, length-append, []}
-use Rattle.std.specs.Prelude.{slice_get}
-use Rattle.std.proofs.lemmas.Option.{none-some, same_Some}
-use Rattle.std.proofs.lemmas.Bool.{cases_lt}
-use Rattle.std.proofs.lemmas.List.{take-append-le, take-append-drop}
-use Rattle.std.proofs.Math.Seq.{take-length}
-use Rattle.ucl_word.proofs.Sequences.{at_longer, at_below, at_end, at_either}
-use Rattle.ucl_board.proofs.Beginnings.{get_back}
+use Rattle.ucl_steps.proofs.Common.{◌≡◌, ℕ, zero, suc, ◌+◌, ◌<◌, ◌≤◌, List, ◌∷◌, ◌++◌, take, drop, length, Some, ◌⊎◌, inl, inr, refl, sym, ap, ◌∙◌, arith, length-append, [], slice_get, none-some}
+use Rattle.ucl_steps.proofs.Common.{same_Some, cases_lt, take-append-le, take-append-drop, take-length, at_longer, at_below, at_end, at_either, get_back, Caller, Call, Step, Begin, Look, Swap}
+use Rattle.ucl_steps.proofs.Common.{First, Second, End, begun_in, BeginsAt, EndsAt}
 use Rattle.ucl_steps.proofs.Lists.{take_one, take_split}
-use Rattle.ucl_steps.specs.declared.step.Caller.{Caller}
-use Rattle.ucl_steps.specs.declared.step.Call.{Call}
-use Rattle.ucl_steps.specs.declared.step.Step.{Step}
-use Rattle.ucl_steps.specs.declared.step.Step.TheVariants.{Begin, Look, Swap, First, Second, End}
-use Rattle.ucl_steps.specs.Linearizable.{begun_in, BeginsAt, EndsAt}
 
 pub begun_in-append : (xs ys : List Step) → begun_in (xs ++ ys) ≡ begun_in xs ++ begun_in ys
 begun_in-append [] ys = refl
@@ -67,32 +57,16 @@ earlier_call steps p q i j c d a b l =
 
 module _ (steps : List Step) (s : Step) where
   pub back_begins : (p i : ℕ) (c : Caller) → p < length steps → BeginsAt (steps ++ s ∷ []) p i c → BeginsAt steps p i c
-  back_begins p i c l b = record {
-    call = b.call;
-    begins = get_back steps (s ∷ []) p (Begin c b.call) l b.begins;
-    number = ap (λ (z : List Step). length (begun_in z)) (sym (take-append-le p steps (s ∷ []) (omega arith))) ∙ b.number;
-  }
+  back_begins p i c l b = search (arith, get_back, take-append-le)
 
   pub back_ends : (p i : ℕ) (c : Caller) → p < length steps → EndsAt (steps ++ s ∷ []) p i c → EndsAt steps p i c
-  back_ends p i c l e = let before = e.before in record {
-    ends = get_back steps (s ∷ []) p (End c) l e.ends;
-    begun = e.begun;
-    before = e.before;
-    begins = back_begins e.begun i c (omega arith) e.begins;
-    last = λ q call low high at. e.last q call low high (at_longer steps (s ∷ []) q (Begin c call) at);
-  }
+  back_ends p i c l e = search (arith, get_back, back_begins, at_longer)
 
   pub more_begins : (p i : ℕ) (c : Caller) → BeginsAt steps p i c → BeginsAt (steps ++ s ∷ []) p i c
   more_begins p i c b = search (arith, at_below, at_longer, take-append-le)
 
   pub more_ends : (p i : ℕ) (c : Caller) → EndsAt steps p i c → EndsAt (steps ++ s ∷ []) p i c
-  more_ends p i c e = let l = at_below steps p (End c) e.ends in record {
-    ends = at_longer steps (s ∷ []) p (End c) e.ends;
-    begun = e.begun;
-    before = e.before;
-    begins = more_begins e.begun i c e.begins;
-    last = λ q call low high at. e.last q call low high (get_back steps (s ∷ []) q (Begin c call) (omega arith) at);
-  }
+  more_ends p i c e = search (arith, at_below, at_longer, more_begins, get_back)
 
   -- an end or a beginning is one of the steps before, or the last step
   pub old_or_last : (p : ℕ) (x : Step) → slice_get (steps ++ s ∷ []) p ≡ Some x → (p < length steps) ⊎ ((p ≡ length steps) × (s ≡ x))

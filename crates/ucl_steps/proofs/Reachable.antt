@@ -1,33 +1,12 @@
 -- What is known of a state that steps lead to.
-use Rattle.std.proofs.Common.{◌≡◌, ℕ, zero, suc, ◌+◌, ◌-◌, ◌<◌, ◌≤◌, Bool, true, List, ◌∷◌, ◌++◌, take, length, map, Option, Some, None, refl, sym, ap, ◌∙◌, arith, []}
-use Rattle.std.proofs.Common.{get_or, set, length-take, eq-eqb, ne_eqb}
-use Rattle.std.specs.Prelude.{slice_get, slice_index, replicate}
-use Rattle.std.specs.Option.{option_map, option_and_then}
-use Rattle.std.proofs.lemmas.Option.{none-some, slice_get-map, slice_get-get_or, slice_get_past, option_and_then_some}
-use Rattle.std.proofs.lemmas.Bool.{false≢true}
-use Rattle.std.proofs.lemmas.List.{get_or_default, take_more_set, take_all, length-take-le, map-set, length-set}
-use Rattle.ucl_word.specs.declared.event.EventCall.{EventCall}
-use Rattle.ucl_word.specs.Layout.{record_at, IsWord}
-use Rattle.ucl_board.specs.Fixtures.{IsMatch}
-use Rattle.ucl_board.specs.Words.{AreWords, word_at, greatest_version}
-use Rattle.ucl_board.specs.History.{match_after, board_of, reading_of}
-use Rattle.ucl_board.proofs.Histories.{match_valid}
-use Rattle.ucl_board.proofs.HistoryLaws.{versions}
-use Rattle.ucl_steps.specs.declared.step.Cast.{Cast}
-use Rattle.ucl_steps.specs.declared.step.Caller.{Caller}
-use Rattle.ucl_steps.specs.declared.step.Caller.TheVariants.{Reporter, Reader}
-use Rattle.ucl_steps.specs.declared.step.Step.{Step}
-use Rattle.ucl_steps.specs.declared.step.Step.TheVariants.{Swap, Second}
-use Rattle.ucl_steps.specs.declared.trace.Reply.TheVariants.{Accepted, Copied}
-use Rattle.ucl_steps.specs.declared.trace.CallRecord.{CallRecord}
+use Rattle.ucl_steps.proofs.Common.{◌≡◌, ℕ, zero, suc, ◌+◌, ◌-◌, ◌<◌, ◌≤◌, Bool, true, List, ◌∷◌, ◌++◌, take, length, map, Option, Some, None, refl, sym, ap, ◌∙◌, arith, [], get_or, set}
+use Rattle.ucl_steps.proofs.Common.{length-take, eq-eqb, ne_eqb, slice_get, slice_index, replicate, option_map, option_and_then, none-some, slice_get-map, slice_get-get_or, slice_get_past}
+use Rattle.ucl_steps.proofs.Common.{option_and_then_some, false≢true, get_or_default, take_more_set, take_all, length-take-le, map-set, length-set, EventCall, record_at, IsWord, IsMatch, AreWords}
+use Rattle.ucl_steps.proofs.Common.{word_at, greatest_version, match_after, board_of, reading_of, match_valid, versions, Cast, Caller, Reporter, Reader, Step, Swap, Second, Accepted, Copied}
+use Rattle.ucl_steps.proofs.Common.{CallRecord, Collecting, Checking, Holds, Idle, Wanting, Within, Callers, MachineState, initial_state, held_by, with_held, after_reply, stored, state_after_first}
+use Rattle.ucl_steps.proofs.Common.{change_at, caller_of, after_step_holding, after_step, after_steps, Entry, holds_of, IsReachable, Takes, at_below}
 use Rattle.ucl_steps.specs.declared.machine.Held.{Held}
 use Rattle.ucl_steps.specs.declared.machine.Held.TheVariants as has
-use Rattle.ucl_steps.specs.Protocol.{Collecting, Checking}
-use Rattle.ucl_steps.specs.Machine.{Holds, Idle, Wanting, Within, Callers, MachineState, initial_state, held_by, with_held, after_reply, stored, state_after_first, change_at, caller_of}
-use Rattle.ucl_steps.specs.Machine.{after_step_holding, after_step, after_steps}
-use Rattle.ucl_board.specs.declared.entry.Entry.{Entry}
-use Rattle.ucl_steps.specs.Running.{holds_of, IsReachable, Takes}
-use Rattle.ucl_word.proofs.Sequences.{at_below}
 use Rattle.ucl_steps.proofs.Invariant.{Keeps}
 use Rattle.ucl_steps.proofs.CallFacts.{in_call}
 use Rattle.ucl_steps.proofs.KeptBySteps.{word_now}

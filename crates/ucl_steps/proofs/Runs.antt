@@ -1,25 +1,13 @@
 -- Every run keeps what every step keeps, and so its history explains its calls.
-use Rattle.std.proofs.Common.{◌≡◌, ℕ, zero, suc, ◌<◌, ◌≤◌, false, List, ◌∷◌, ◌++◌, map, Option, Some, ◌⊎◌, inl, inr, refl, sym, ap, ◌∙◌, subst, arith, append_assoc, append-nil, get_or, []}
-use Rattle.std.specs.Prelude.{◌↔◌, All, slice_get, IfSome, IsSome, replicate}
-use Rattle.std.specs.Option.{option_map}
-use Rattle.std.proofs.lemmas.Option.{none-some, same_Some, slice_get-map, slice_get-get_or, option_and_then_some}
-use Rattle.std.proofs.lemmas.Bool.{cases_lt}
-use Rattle.ucl_board.specs.declared.entry.Entry.{Entry}
-use Rattle.ucl_board.specs.History.{board_of}
+use Rattle.ucl_steps.proofs.Common.{◌≡◌, ℕ, zero, suc, ◌<◌, ◌≤◌, false, List, ◌∷◌, ◌++◌, map, Option, Some, ◌⊎◌, inl, inr, refl, sym, ap, ◌∙◌, subst, arith, append_assoc, append-nil, get_or, []}
+use Rattle.ucl_steps.proofs.Common.{◌↔◌, All, slice_get, IfSome, IsSome, replicate, option_map, none-some, same_Some, slice_get-map, slice_get-get_or, option_and_then_some, cases_lt, Entry}
+use Rattle.ucl_steps.proofs.Common.{board_of, Cast, Caller, Call, Step, CallRecord, Reply, Holds, Idle, MachineState, initial_state, held_by, caller_of, after_step, after_steps, EndsAt}
+use Rattle.ucl_steps.proofs.Common.{EndedBySteps, PointWithinCall, AcceptedIsEntry, is_accepted, RefusedAtPoint, ReadingIsSnapshot, Precedes, caller_and_call, RealTimeOrder, version_read}
+use Rattle.ucl_steps.proofs.Common.{VersionsRise, IsLinearizable, RunsAreLinearizable, WordsAreOfTheHistory}
 use Rattle.ucl_steps.proofs.Lists.{if_some}
 use Rattle.ucl_steps.proofs.Histories.{legal_none, board_none}
-use Rattle.ucl_steps.specs.declared.step.Cast.{Cast}
-use Rattle.ucl_steps.specs.declared.step.Caller.{Caller}
-use Rattle.ucl_steps.specs.declared.step.Call.{Call}
-use Rattle.ucl_steps.specs.declared.step.Step.{Step}
-use Rattle.ucl_steps.specs.declared.trace.CallRecord.{CallRecord}
-use Rattle.ucl_steps.specs.declared.trace.Reply.{Reply}
-use Rattle.ucl_steps.specs.Machine.{Holds, Idle, MachineState, initial_state, held_by, caller_of, after_step, after_steps}
 use Rattle.ucl_steps.specs.declared.trace.Trace.{Trace}
-use Rattle.ucl_steps.specs.Linearizable.{EndsAt, EndedBySteps, PointWithinCall, AcceptedIsEntry, is_accepted, RefusedAtPoint, ReadingIsSnapshot, Precedes, caller_and_call, RealTimeOrder, version_read}
-use Rattle.ucl_steps.specs.Linearizable.{VersionsRise, IsLinearizable}
 use Rattle.ucl_steps.specs.Traces.{IsLeftBy}
-use Rattle.ucl_steps.specs.Laws.{RunsAreLinearizable, WordsAreOfTheHistory}
 use Rattle.ucl_steps.proofs.Explanations.{IsExplained}
 use Rattle.ucl_steps.proofs.Clauses.{point_within, accepted_entry, refused_there, reading_snapshot}
 use Rattle.ucl_steps.proofs.Places.{earlier_call}
@@ -85,7 +73,6 @@ module _ (steps : List Step) (w : MachineState) (kept : Keeps steps w) where
 
   real_time : RealTimeOrder steps w.calls
   real_time i j p q c d e b l =
-      let before = e.before in
       let turn = earlier_call steps e.begun q i j c d e.begins b (omega arith) in
       if_some (slice_get w.calls i) (λ a. IfSome (slice_get w.calls j) (λ b. Precedes i a j b)) (λ x at_x.
       if_some (slice_get w.calls j) (λ b. Precedes i x j b) (λ y at_y.

@@ -1,38 +1,5 @@
 -- Elements of a list by their seats, where one is put in the place of another, or added.
-use Rattle.std.proofs.Common.{◌≡◌, ◌≢◌, ◌⊎◌, inl, inr, ⊎_elim, ℕ, zero, suc, ◌<◌, List, ◌∷◌, ◌++◌, length, set, map, refl, sym, ap, arith, []}
-use mathlib.Core.Option.{some, some-ne-none, some-injective}
-use lib.ListN.{get_elem?}
-
-module _ {X Y : Type 0} (f : X → Y) where
-  pub map_at : (xs : List X) (seat : ℕ) (x : X) → get_elem? xs seat ≡ some x → get_elem? (map f xs) seat ≡ some (f x)
-  map_at [] seat x e = absurd (some-ne-none x (sym e))
-  map_at (y ∷ xs) zero x e = ap (λ (z : X). some (f z)) (some-injective y x e)
-  map_at (y ∷ xs) (suc seat) x e = map_at xs seat x e
-
-  -- what an element of a mapped list is of
-  pub map_there : (xs : List X) (j : ℕ) (y : Y) → get_elem? (map f xs) j ≡ some y → (x : X) × (get_elem? xs j ≡ some x) × (f x ≡ y)
-  map_there [] j y e = absurd (some-ne-none y (sym e))
-  map_there (x ∷ xs) zero y e = (x, refl, some-injective (f x) y e)
-  map_there (x ∷ xs) (suc j) y e = map_there xs j y e
-
-  pub map_set : (xs : List X) (seat : ℕ) (x : X) → map f (set xs seat x) ≡ set (map f xs) seat (f x)
-  map_set [] seat x = refl
-  map_set (y ∷ xs) zero x = refl
-  map_set (y ∷ xs) (suc seat) x = ap (λ (l : List Y). f y ∷ l) (map_set xs seat x)
-
-  pub map_more : (xs : List X) (x : X) → map f (xs ++ x ∷ []) ≡ map f xs ++ f x ∷ []
-  map_more [] x = refl
-  map_more (y ∷ xs) x = ap (λ (l : List Y). f y ∷ l) (map_more xs x)
-
-  pub map_long : (xs : List X) → length (map f xs) ≡ length xs
-  map_long [] = refl
-  map_long (y ∷ xs) = ap suc (map_long xs)
-
--- the same element in its place
-pub set_same : {X : Type 0} (xs : List X) (seat : ℕ) (x : X) → get_elem? xs seat ≡ some x → set xs seat x ≡ xs
-set_same [] seat x e = refl
-set_same {X} (y ∷ xs) zero x e = ap (λ (z : X). z ∷ xs) (sym (some-injective y x e))
-set_same {X} (y ∷ xs) (suc seat) x e = ap (λ (l : List X). y ∷ l) (set_same xs seat x e)
+use Rattle.ucl_steps.proofs.Common.{◌≡◌, ◌≢◌, ◌⊎◌, inl, inr, ⊎_elim, ℕ, zero, suc, ◌<◌, List, ◌∷◌, ◌++◌, length, set, refl, sym, ap, arith, [], some, some-ne-none, some-injective, get_elem?}
 
 pub place_below : {X : Type 0} (xs : List X) (at : ℕ) (x : X) → get_elem? xs at ≡ some x → at < length xs
 place_below [] at x e = absurd (some-ne-none x (sym e))

@@ -1,19 +1,8 @@
 -- The order of calls in time, kept by every step.
-use Rattle.std.proofs.Common.{◌≡◌, ◌≢◌, ℕ, ◌<◌, ◌≤◌, List, ◌∷◌, ◌++◌, take, length, map, Option, Some, None, ◌⊎◌, inl, inr, refl, sym, ap, ◌∙◌, subst, arith, append-nil, le_refl, []}
-use Rattle.std.specs.Prelude.{slice_get, IfSome, IsSome}
-use Rattle.std.proofs.lemmas.Option.{none-some, same_Some, slice_get-map}
-use Rattle.std.proofs.lemmas.Bool.{cases_order, false≢true}
-use Rattle.std.proofs.lemmas.List.{length-map, map-append}
-use Rattle.ucl_word.proofs.Sequences.{at_below, at_longer, at_end, at_either}
-use Rattle.ucl_board.proofs.Beginnings.{get_back}
+use Rattle.ucl_steps.proofs.Common.{◌≡◌, ◌≢◌, ℕ, ◌<◌, ◌≤◌, List, ◌∷◌, ◌++◌, take, length, map, Option, Some, None, ◌⊎◌, inl, inr, refl, sym, ap, ◌∙◌, subst, arith, append-nil, le_refl, []}
+use Rattle.ucl_steps.proofs.Common.{slice_get, IfSome, IsSome, none-some, same_Some, slice_get-map, cases_order, false≢true, length-map, map-append, at_below, at_longer, at_end, at_either, get_back}
+use Rattle.ucl_steps.proofs.Common.{Caller, Call, Step, Begin, Look, Swap, First, Second, End, option_map, change_at, begun_in, BeginsAt, EndsAt}
 use Rattle.ucl_steps.proofs.Lists.{get_some}
-use Rattle.ucl_steps.specs.declared.step.Caller.{Caller}
-use Rattle.ucl_steps.specs.declared.step.Call.{Call}
-use Rattle.ucl_steps.specs.declared.step.Step.{Step}
-use Rattle.ucl_steps.specs.declared.step.Step.TheVariants.{Begin, Look, Swap, First, Second, End}
-use Rattle.std.specs.Option.{option_map}
-use Rattle.ucl_steps.specs.Machine.{change_at}
-use Rattle.ucl_steps.specs.Linearizable.{begun_in, BeginsAt, EndsAt}
 use Rattle.ucl_steps.proofs.ChangedLists.{get-change_at, map_unseen}
 use Rattle.ucl_steps.proofs.Places.{begun_in-append, begins_call, place_of, earlier_place, earlier_call, back_begins, back_ends, more_begins, more_ends, old_or_last, number_at_end}
 
@@ -41,14 +30,7 @@ pub record Turns (steps : List Step) (n : ℕ) (ts : List Time) : Type 0 where
   pub real : (p q i j : ℕ) (c d : Caller) (a b : Time) → EndsAt steps p i c → BeginsAt steps q j d → p < q → slice_get ts i ≡ Some a → slice_get ts j ≡ Some b → EndedBy a.ended b.begun
 
 pub turns_none : Turns [] 0 []
-turns_none = record {
-  same = refl;
-  past = λ i t e. absurd (none-some t e);
-  turns = λ i j a b l e f same. absurd (none-some a e);
-  finished = λ p i c a e at. absurd (none-some a at);
-  closed = λ i a at some. absurd (none-some a at);
-  real = λ p q i j c d a b e f l at at'. absurd (none-some a at);
-}
+turns_none = search (arith, none-some)
 
 -- a step that neither begins nor ends a call
 abbrev pub IsInner : Step → Type 0
@@ -60,16 +42,10 @@ IsInner (Second c) = Unit {0}
 IsInner (End c) = ⊥
 
 inner_none : (s : Step) → IsInner s → begun_in (s ∷ []) ≡ []
-inner_none (Begin c call) i = absurd i
-inner_none (Look c) i = refl
-inner_none (Swap c) i = refl
-inner_none (First c) i = refl
-inner_none (Second c) i = refl
-inner_none (End c) i = absurd i
+inner_none x0 x1 = search arith
 
 if_more : (o : Option ℕ) (n m : ℕ) → n ≤ m → IfSome o (λ e. e ≤ n) → IfSome o (λ e. e ≤ m)
-if_more None n m l p = tt
-if_more (Some e) n m l p = omega arith
+if_more x0 x1 x2 x3 x4 = search arith
 
 ended_by : (o : Option ℕ) (n : ℕ) → IsSome o → IfSome o (λ e. e ≤ n) → EndedBy o n
 ended_by o n some p = search (arith, false≢true)
@@ -117,19 +93,9 @@ turns_begin steps n ts c call idle k =
         | inl u ↦ k.past i t u.1
         | inr u ↦ subst (λ (z : Time). (z.begun ≤ n) × IfSome z.ended (λ e. e ≤ n)) u.1 (le_refl n, tt)
       ];
-      turns = λ i j a b l at at' same. elim (at_either ts new j b at') [
-        | inl u ↦ let lj = u.0 in k.turns i j a b l (get_back ts (new ∷ []) i a (omega arith) at) u.1 same
-        | inr u ↦
-            let lj = u.0 in
-            let old = get_back ts (new ∷ []) i a (omega arith) at in
-            let mine : a.caller ≡ c = same ∙ sym (ap (λ (z : Time). z.caller) u.1) in
-            subst (λ (z : Time). EndedBy a.ended z.begun) u.1 (ended_by a.ended n (idle i a old mine) (k.past i a old).1)
-      ];
+      turns = search (arith, at_either, get_back, ended_by);
       finished = λ p i d a e at. let o = old_end p i d a e at in k.finished p i d a o.0 o.1;
-      closed = λ i a at some. elim (at_either ts new i a at) [
-        | inl u ↦ let t = k.closed i a u.1 some in (t.0, more_ends steps s t.0 i a.caller t.1)
-        | inr u ↦ absurd (not_some a.ended (ap (λ (z : Time). z.ended) (sym u.1)) some)
-      ];
+      closed = search (arith, at_either, more_ends, not_some);
       real = λ p q i j d d' a b e f l at at'.
           let o = old_end p i d a e at in
           elim (old_or_last steps s q (Begin d' f.call) f.begins) [
@@ -174,7 +140,6 @@ module _ (steps : List Step) (n : ℕ) (ts : List Time) (c : Caller) (k : ℕ) (
   -- the call that ends is the one that its caller holds
   ends_held : (p i : ℕ) → p ≡ length steps → EndsAt (steps ++ End c ∷ []) p i c → i ≡ k
   ends_held p i is e =
-      let before = e.before in
       let s = End c in
       let b = back_begins steps s e.begun i c (omega arith) e.begins in
       let t = time_of_call steps ts i c b.call kept.same (begins_call steps e.begun i c b) in
@@ -216,7 +181,6 @@ module _ (steps : List Step) (n : ℕ) (ts : List Time) (c : Caller) (k : ℕ) (
   pub turns_end : Turns (steps ++ End c ∷ []) n (change_at k (ended_at n) ts)
   turns_end =
       let s = End c in
-      let after = change_at k (ended_at n) ts in
       record {
         same = begun_in-append steps (s ∷ []) ∙ (append-nil (begun_in steps) ∙ (kept.same ∙ sym (map_unseen told k (ended_at n) (λ x. refl) ts)));
         past = λ i t at. let w = time_before i t at in let low = (kept.past i w.time w.there).0 in let b = w.begun in (

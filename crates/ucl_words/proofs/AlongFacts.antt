@@ -1,17 +1,7 @@
 -- The steps of a call, one after another, as the protocol's.
-use Rattle.std.proofs.Common.{◌≡◌, ◌≢◌, ℕ, ◌+◌, List, ◌∷◌, ◌++◌, length, refl, sym, ap, ◌∙◌, arith, []}
-use Rattle.std.proofs.lemmas.Bool.{cases_eq}
-use Rattle.std.proofs.lemmas.List.{length_push}
-use Rattle.ucl_word.specs.declared.event.EventCall.{EventCall}
-use Rattle.ucl_board.specs.declared.entry.Entry.{Entry}
-use Rattle.ucl_board.specs.Log.{Look, First, Second, Taken}
-use Rattle.ucl_shared.proofs.CallsBySteps.{takes_none, takes_on}
-use Rattle.ucl_steps.specs.declared.step.Call.{Call}
+use Rattle.ucl_words.proofs.Common.{◌≡◌, ◌≢◌, ℕ, ◌+◌, List, ◌∷◌, ◌++◌, length, refl, sym, ap, ◌∙◌, arith, [], cases_eq, length_push, EventCall, Entry, Look, First, Second, Taken, takes_none}
+use Rattle.ucl_words.proofs.Common.{takes_on, Call, Doing, after_look, after_swap, after_first, after_second, along, WordView, GoesAlong, LoadsMatch, ExchangeWon, ExchangeMissed}
 use Rattle.ucl_steps.specs.declared.step.Call.TheVariants as calls
-use Rattle.ucl_steps.specs.Protocol.{Doing, after_look, after_swap, after_first, after_second, along}
-use Rattle.ucl_words.specs.declared.view.WordView.{WordView}
-use Rattle.ucl_words.specs.WordDoings.{GoesAlong}
-use Rattle.ucl_words.specs.WordSteps.{LoadsMatch, ExchangeWon, ExchangeMissed}
 
 along_append : (number : ℕ) (call : Call) (xs ys : List Taken) (d : Doing) → along number call (xs ++ ys) d ≡ along number call ys (along number call xs d)
 along_append number call [] ys d = refl

@@ -1,16 +1,9 @@
 -- A running board is one run of the machine, and goes on with it.
-use Rattle.std.proofs.Common.{ℕ, List, ◌∷◌, length, sym, ap, ◌∙◌, subst, le_refl}
-use mathlib.Core.List.{IsPrefix}
-use Rattle.atomic_table.specs.Table.{State}
-use Rattle.ucl_board.specs.declared.entry.Entry.{Entry}
-use Rattle.ucl_board.specs.History.{board_of}
+use Rattle.ucl_words.proofs.Common.{ℕ, List, ◌∷◌, length, sym, ap, ◌∙◌, subst, le_refl, IsPrefix, State, Entry, board_of, cast_for, steps_of_moves, WordView, word_actors, TableKeepsOneHistory}
+use Rattle.ucl_words.proofs.Common.{IsRunOfBoard, BoardsAreRuns, GoesOnWith}
 use Rattle.ucl_steps.specs.Linearizable.{IsLinearizable}
-use Rattle.ucl_steps.specs.PassRuns.{cast_for, steps_of_moves}
 use Rattle.ucl_steps.proofs.Runs.{linearizable_run, words_of_run}
 use Rattle.ucl_steps.proofs.LongerRuns.{longer_runs}
-use Rattle.ucl_words.specs.declared.view.WordView.{WordView}
-use Rattle.ucl_words.specs.WordRule.{word_actors, TableKeepsOneHistory}
-use Rattle.ucl_words.specs.Laws.{IsRunOfBoard, BoardsAreRuns, GoesOnWith}
 
 pub boards_run : BoardsAreRuns
 boards_run s r =

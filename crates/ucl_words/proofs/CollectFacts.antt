@@ -1,27 +1,13 @@
 -- The clean double collect: loads of all words, twice, and anew where a word was another.
-use Rattle.std.proofs.Common.{◌≡◌, ◌≢◌, ℕ, ◌+◌, ◌<◌, ◌≤◌, List, ◌∷◌, ◌++◌, length, take, set, Option, Some, None, refl, sym, ap, ◌∙◌, subst, arith, le_refl, []}
-use Rattle.std.proofs.Common.{append_assoc, append-nil, length-append, get_or-set_same}
-use Rattle.std.specs.Prelude.{slice_get, slice_index}
+use Rattle.ucl_words.proofs.Common.{◌≡◌, ◌≢◌, ℕ, ◌+◌, ◌<◌, ◌≤◌, List, ◌∷◌, ◌++◌, length, take, set, Option, Some, None, refl, sym, ap, ◌∙◌, subst, arith, le_refl, [], append_assoc, append-nil}
+use Rattle.ucl_words.proofs.Common.{length-append, get_or-set_same, slice_get, slice_index, take-append_seam, Entry, Reading, AreWords, greatest_version, version_of, board_of, reading_of}
+use Rattle.ucl_words.proofs.Common.{board_words, versions, AccessKind, Second, Access, access, Follows, most_loads, IsCollect, IsUnclean, IsClean, accesses_of, ReadingAccesses, collect_none}
+use Rattle.ucl_words.proofs.Common.{collect_more, collect_set, unclean_try, clean_shows, reading_whole, Continues, SharedReading, View, pass_view_of, count_of, LoadsMatch, Walks, Collects}
+use Rattle.ucl_words.proofs.Common.{FindsAgain, FindsAnother, IsSteady, ReadingSteps}
 use Rattle.std.specs.List.{AllByRecursion}
 use Rattle.std.proofs.lemmas.Option.{none-some}
-use Rattle.std.proofs.Math.Seq.{take-append_seam}
 use Rattle.ucl_word.proofs.Sequences.{at_either}
-use Rattle.ucl_board.specs.declared.entry.Entry.{Entry}
-use Rattle.ucl_board.specs.declared.reading.Reading.{Reading}
-use Rattle.ucl_board.specs.Words.{AreWords, greatest_version, version_of}
-use Rattle.ucl_board.specs.History.{board_of, reading_of}
-use Rattle.ucl_board.proofs.Histories.{board_words}
-use Rattle.ucl_board.proofs.HistoryLaws.{versions}
-use Rattle.ucl_board.specs.Log.{AccessKind, Second, Access, access}
-use Rattle.ucl_steps.specs.Trails.{Follows, most_loads, IsCollect, IsUnclean, IsClean, accesses_of, ReadingAccesses}
 use Rattle.ucl_steps.specs.Laws.{IsReadFrom}
-use Rattle.ucl_steps.proofs.Accesses.{collect_none, collect_more, collect_set, unclean_try, clean_shows, reading_whole}
-use Rattle.ucl_shared.specs.Passes.{Continues, SharedReading}
-use Rattle.ucl_shared.specs.declared.view.View.{View}
-use Rattle.ucl_shared.specs.Views.{pass_view_of, count_of}
-use Rattle.ucl_words.specs.WordSteps.{LoadsMatch}
-use Rattle.ucl_words.specs.Code.{Walks, Collects, FindsAgain, FindsAnother}
-use Rattle.ucl_words.specs.WordCalls.{IsSteady, ReadingSteps}
 use Rattle.ucl_words.proofs.StepRuns.{walks_none, walks_on, walks_load, walks_continue}
 
 -- after some loads of a collect
@@ -63,7 +49,6 @@ module _ (kind : AccessKind) (v x w : View) (words : List ℕ) (i n : ℕ) (belo
   -- which is put among the words
   pub collected_set : length words ≡ 12 → w.shown ≡ x.shown → Collected kind v (set words i n) (i + 1) w
   collected_set long silent =
-      let many = was.many in
       collected_more (set words i n) (collect_set kind words was.accesses i n (omega arith) was.words_are) (sym (get_or-set_same words i n 0 (omega arith))) silent
 
   -- or is compared with them
@@ -110,15 +95,7 @@ module _ (x u w : View) (words : List ℕ) (collects : Collects x words u) (anot
   both_walks = walks_on x u w collects.accesses another.accesses collects.walks another.walks
 
   is_unclean : IsUnclean (collects.accesses ++ another.accesses)
-  is_unclean = record {
-    words = words;
-    firsts = collects.accesses;
-    seconds = another.accesses;
-    accesses = refl;
-    twelve = collects.collect.twelve;
-    collected = collects.collect.words_are;
-    broken = another.broken;
-  }
+  is_unclean = search arith
 
   pub tried_longer : (length x.seen < length w.seen) × (length w.seen ≤ greatest_version)
   tried_longer = (

@@ -1,31 +1,12 @@
 -- What the steps of a call leave as done and as held.
-use Rattle.std.proofs.Common.{◌≡◌, ◌≢◌, ◌⊎◌, inl, inr, ℕ, zero, suc, ◌+◌, ◌<◌, ◌≤◌, ◌==◌, Bool, true, cond, List, ◌∷◌, ◌++◌, take, length, set, Some, None, Ok, refl, sym, ap, ◌∙◌, subst, arith, []}
-use Rattle.std.proofs.Common.{eq-eqb, ne_eqb}
-use Rattle.std.specs.Prelude.{slice_index}
-use Rattle.std.proofs.lemmas.List.{length-take-le}
-use Rattle.std.proofs.Math.Seq.{take-length}
-use Rattle.ucl_word.specs.declared.record.MatchRecord.{MatchRecord}
-use Rattle.ucl_word.specs.declared.event.EventCall.{EventCall}
-use Rattle.ucl_word.specs.declared.event.Accepted.{Accepted}
-use Rattle.ucl_word.specs.declared.refusal.Refusal.{Refusal}
-use Rattle.ucl_word.specs.declared.refusal.Refusal.TheVariants.{Stale}
-use Rattle.ucl_word.specs.Rules.{refusal_of, after, reply_of}
-use Rattle.ucl_word.specs.Layout.{record_at, IsWord}
-use Rattle.ucl_word.proofs.AcceptedEvents.{after_number}
-use Rattle.ucl_word.proofs.Words.{word_packed}
-use Rattle.ucl_board.specs.declared.reading.Reading.{Reading}
-use Rattle.ucl_board.specs.History.{reading_of}
-use Rattle.ucl_board.specs.Log.{First, Second}
+use Rattle.ucl_words.proofs.Common.{◌≡◌, ◌≢◌, ◌⊎◌, inl, inr, ℕ, zero, suc, ◌+◌, ◌<◌, ◌≤◌, ◌==◌, Bool, true, cond, List, ◌∷◌, ◌++◌, take, length, set, Some, None, refl, sym, ap, ◌∙◌, subst, arith}
+use Rattle.ucl_words.proofs.Common.{[], eq-eqb, ne_eqb, slice_index, length-take-le, take-length, MatchRecord, EventCall, Accepted, Refusal, Stale, refusal_of, after, reply_of, record_at, IsWord}
+use Rattle.ucl_words.proofs.Common.{after_number, word_packed, Reading, reading_of, First, Second, Reply, Held, Nothing, Holding, Collecting, Checking, Outcome, GoesOn, Answers, Doing, goes, ends}
+use Rattle.ucl_words.proofs.Common.{done_by, IsNext, after_look, after_swap, collected, firsts_holding, after_first, after_second, none_of, WordView, AnswersCall, point_shown, IsHoldingFor}
+use Rattle.ucl_words.proofs.Common.{MayCollect, IsBegun, HasFirsts, has_copied, begins_anew}
+use Rattle.std.proofs.Common.{Ok}
 use Rattle.ucl_steps.specs.declared.step.Call.TheVariants as calls
-use Rattle.ucl_steps.specs.declared.trace.Reply.{Reply}
 use Rattle.ucl_steps.specs.declared.trace.Reply.TheVariants as replies
-use Rattle.ucl_steps.specs.Protocol.{Held, Nothing, Holding, Collecting, Checking, Outcome, GoesOn, Answers, Doing, goes, ends, done_by, IsNext, after_look, after_swap, collected}
-use Rattle.ucl_steps.specs.Protocol.{firsts_holding, after_first, after_second}
-use Rattle.ucl_steps.proofs.OneStep.{none_of}
-use Rattle.ucl_words.specs.declared.view.WordView.{WordView}
-use Rattle.ucl_words.specs.WordDoings.{AnswersCall}
-use Rattle.ucl_words.specs.WordSteps.{point_shown}
-use Rattle.ucl_words.specs.Code.{IsHoldingFor, MayCollect, IsBegun, HasFirsts, has_copied, begins_anew}
 
 -- a report
 
@@ -52,24 +33,10 @@ module _ (v u : WordView) (call : EventCall) (loaded number : ℕ) (is : v.pass.
       now_answered = swapped ∙ ap (after_swap found (length z.pass.seen)) now_holding
 
       pub won_answers : found ≡ loaded → (reply : Accepted) → reply_of (record_at loaded) call ≡ Ok reply → AnswersCall v (calls.Event call) (replies.Accepted reply) z
-      won_answers same reply accepted =
-          let number_is : (record_at next).number ≡ (record_at loaded).number + 1 = ap (λ (m : MatchRecord). m.number) next_is ∙ after_number (record_at loaded) number call.kind in
-          let told : record { number = (record_at next).number } ≡ reply =
-          ap (λ (n : ℕ). record { number = n }) number_is ∙ sym (none_of (record_at loaded).number (refusal_of (record_at loaded) call.expected call.kind) reply accepted).1 in
-          record {
-            begun = length u.pass.seen;
-            after_seen = grown;
-            does = now_answered
-                ∙ (ap answer_by (eq-eqb found loaded same) ∙ ap (λ (a : Accepted). ends (calls.Event call) (replies.Accepted a) (length u.pass.seen) (length z.pass.seen) v.doing) told);
-          }
+      won_answers same reply accepted = search (arith, after_number, none_of, now_answered, eq-eqb)
 
       pub miss_answers : found ≢ loaded → (refusal : Refusal) → refusal ≡ Stale (record_at found).number → AnswersCall v (calls.Event call) (replies.Refused refusal) z
-      miss_answers other refusal stale = record {
-        begun = length u.pass.seen;
-        after_seen = grown;
-        does = now_answered ∙ (ap answer_by (ne_eqb found loaded other)
-            ∙ ap (λ (r : Refusal). ends (calls.Event call) (replies.Refused r) (length u.pass.seen) (length z.pass.seen) v.doing) (sym stale));
-      }
+      miss_answers other refusal stale = search (arith, now_answered, ne_eqb)
 
 -- a first collect
 

@@ -1,24 +1,13 @@
 -- What an enlistment and a meeting leave a pass with.
-use Rattle.std.proofs.Common.{◌≡◌, ◌≢◌, ℕ, ◌+◌, ◌<◌, ◌≤◌, ◌∷◌, ◌++◌, length, List, Some, None, inl, inr, refl, sym, ap, ◌∙◌, subst, arith, le_refl, append-nil, []}
-use Rattle.std.proofs.lemmas.List.Elements.{All-head, All-tail}
-use Rattle.std.specs.Prelude.{Option, IfSome, IsSome}
-use Rattle.std.proofs.lemmas.Bool.{false≢true}
-use mathlib.Core.List.{IsPrefix}
-use Rattle.ucl_board.specs.Log.{Access, Enlisted, Taken, step_taken, accesses_in}
-use Rattle.ucl_board.proofs.Beginnings.{begins_same, begins_through}
-use Rattle.ucl_steps.specs.Trails.{Follows}
-use Rattle.ucl_shared.specs.declared.view.View.{View}
-use Rattle.ucl_shared.specs.Passes.{SeesOn, Continues, Enlistment, Hearing}
-use Rattle.ucl_shared.specs.Views.{pass_view_of, steps_of, count_of, trail_of, Takes, kept_of, second_of, note_of, told_by}
-use Rattle.ucl_shared.specs.CallSteps.{FoundEnlisted, IsOnEnlisted, EnlistSteps, MeetingSteps}
+use Rattle.ucl_words.proofs.Common.{◌≡◌, ◌≢◌, ℕ, ◌+◌, ◌<◌, ◌≤◌, ◌∷◌, ◌++◌, length, List, Some, None, inl, inr, refl, sym, ap, ◌∙◌, subst, arith, le_refl, append-nil, [], All-head, All-tail, IfSome}
+use Rattle.ucl_words.proofs.Common.{IsSome, false≢true, IsPrefix, Access, Enlisted, Taken, step_taken, accesses_in, begins_same, begins_through, Follows, View, SeesOn, Continues, Enlistment}
+use Rattle.ucl_words.proofs.Common.{Hearing, pass_view_of, steps_of, count_of, trail_of, Takes, kept_of, second_of, note_of, told_by, FoundEnlisted, IsOnEnlisted, EnlistSteps, MeetingSteps}
+use Rattle.ucl_words.proofs.Common.{all_more, takes_none, takes_on, takes_count, one_more, sound_kept, LoadsEnlisted, EnlistWon, HasTrail, IsSteady, Enlisting, EnlistTries, KeepsTrail, WordView}
+use Rattle.ucl_words.proofs.Common.{note_pass, IsNotePass}
+use Rattle.std.specs.Prelude.{Option}
 use Rattle.ucl_shared.proofs.Lists.{none_by_zero}
 use Rattle.ucl_shared.proofs.Halves.{half_acts, half_not_whole}
-use Rattle.ucl_shared.proofs.CallsBySteps.{all_more, takes_none, takes_on, takes_count, one_more, sound_kept}
-use Rattle.ucl_words.specs.WordSteps.{LoadsEnlisted, EnlistWon}
-use Rattle.ucl_words.specs.WordCalls.{HasTrail, IsSteady, Enlisting, EnlistTries, KeepsTrail}
 use Rattle.ucl_words.proofs.StepRuns.{trail_longer, takes_trail}
-use Rattle.ucl_words.specs.declared.view.WordView.{WordView}
-use Rattle.ucl_words.specs.WordViews.{note_pass, IsNotePass}
 
 -- a step on the enlist word leaves no access
 no_access : (v w : View) (n : ℕ) → Takes v (step_taken (Enlisted n) (length w.seen) None ∷ []) w → trail_of w ≡ trail_of v
@@ -83,8 +72,6 @@ module _ (v x w : View) (n found : ℕ) (was : Missed v x n) where
 
     pub missed_more : n < 255 → Missed v w found
     missed_more below =
-        let a = was.known in
-        let b = missed.above in
         let listed = missed.listed in
         let on = was.on.listed in
         let taken = was.taken in

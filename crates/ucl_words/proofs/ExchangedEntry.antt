@@ -1,9 +1,5 @@
 -- The entry of an exchange, from the match and the two words.
-use Rattle.std.proofs.Common.{ℕ, refl, sym, ap, ◌∙◌}
-use Rattle.ucl_board.specs.Words.{word_at}
-use Rattle.ucl_board.specs.History.{board_of, followed_by}
-use Rattle.ucl_board.proofs.HistoryLaws.{entry_known}
-use Rattle.ucl_words.specs.Laws.{WordsTellTheEntry}
+use Rattle.ucl_words.proofs.Common.{ℕ, refl, sym, ap, ◌∙◌, word_at, board_of, followed_by, entry_known, WordsTellTheEntry}
 
 pub words_tell : WordsTellTheEntry
 words_tell history e f old new legal game word next_e next_f =

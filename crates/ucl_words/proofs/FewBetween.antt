@@ -1,23 +1,12 @@
 -- The steps of one pass while no pass finishes a call.
-use Rattle.std.proofs.Common.{◌≡◌, ℕ, zero, suc, ◌+◌, ◌<◌, ◌≤◌, ◌==◌, Bool, true, false, cond, List, ◌∷◌, ◌++◌, length, map, inl, inr, refl, sym, subst, arith, []}
-use Rattle.std.proofs.Common.{le_refl, length-append, ne_eqb}
-use Rattle.std.specs.Prelude.{◌≢◌, ◌*◌, All, filter}
+use Rattle.ucl_words.proofs.Common.{◌≡◌, ℕ, zero, suc, ◌+◌, ◌<◌, ◌≤◌, ◌==◌, Bool, true, false, cond, List, ◌∷◌, ◌++◌, length, map, inl, inr, refl, sym, subst, arith, [], le_refl, length-append}
+use Rattle.ucl_words.proofs.Common.{ne_eqb, ◌*◌, All, filter, cases_lt, eqb-false, filter-append, All-head, All-tail, All-cons, some, get_elem?, State, Entry, Access, Logged, Log, taken_by}
+use Rattle.ucl_words.proofs.Common.{access_list, accesses_in, Actor, accesses_of_log, IsRunOfLog, HaveGoneOn, at_map, place_below, WordView, word_actor, word_actors, TableKeepsOneHistory}
+use Rattle.ucl_words.proofs.Common.{PassesTookFew, length-map, none}
+use Rattle.std.specs.Prelude.{◌≢◌}
 use mathlib.Core.Bool.{not}
-use Rattle.std.proofs.lemmas.Bool.{cases_lt, eqb-false}
-use Rattle.std.proofs.lemmas.List.Elements.{filter-append, All-head, All-tail, All-cons}
-use mathlib.Core.Option.{some}
-use lib.ListN.{get_elem?}
-use Rattle.atomic_table.specs.Table.{State}
-use Rattle.ucl_board.specs.declared.entry.Entry.{Entry}
-use Rattle.ucl_board.specs.Log.{Access, Logged, Log, taken_by, access_list, accesses_in}
-use Rattle.ucl_steps.specs.Actors.{Actor, accesses_of_log, IsRunOfLog}
-use Rattle.ucl_steps.specs.Growing.{HaveGoneOn}
-use Rattle.ucl_steps.proofs.Seats.{map_at, map_long, place_below}
 use Rattle.ucl_steps.proofs.FewAccesses.{few_accesses}
 use Rattle.ucl_steps.specs.Progress.{most_between, finished_by}
-use Rattle.ucl_words.specs.declared.view.WordView.{WordView}
-use Rattle.ucl_words.specs.WordRule.{word_actor, word_actors, TableKeepsOneHistory}
-use Rattle.ucl_words.specs.Laws.{PassesTookFew}
 use Rattle.ucl_words.proofs.KeptRule.{known_at, apart_actors}
 
 -- the accesses of a seat, as the log has them
@@ -95,7 +84,6 @@ in_all zero m [] seated each = omega arith
 in_all zero m (x ∷ log) seated each = let l = All-head (λ (y : Logged). y.seat < 0) x log seated in absurd (omega arith)
 in_all (suc n) m log seated each =
     let rest = in_all n m (but n log) (below_but n log (λ k d l. let h = seated k d l in omega arith)) (λ seat. let a = at_but seat n log in let b = each seat in omega arith) in
-    let one = each n in
     let split = split_at n log in
     omega arith
 
@@ -116,13 +104,12 @@ pub few_between : (s t : State Entry WordView) (r : TableKeepsOneHistory s) (q :
     → finished_by (word_actors t.views) ≡ finished_by (word_actors s.views) → (since : Log) → q.shared.log ≡ r.shared.log ++ since → PassesTookFew t.views since
 few_between s t r q on finished since longer =
     let n = length t.views in
-    let was = map_long word_actor s.views in
-    let are = map_long word_actor t.views in
+    let was = length-map s.views word_actor in
+    let are = length-map t.views word_actor in
     let wide = no_fewer (word_actors s.views) (word_actors t.views) on in
     let one = r.one_run n (omega arith) in
     let other = subst (λ (l : Log). IsRunOfLog n q.shared.enlisted l (word_actors t.views)) longer (q.one_run n (le_refl n)) in
-    let high = q.shared.few in
-    let known_long = map_long (λ (v : WordView). v.pass) t.views in
+    let known_long = length-map t.views (λ (v : WordView). v.pass) in
     let seated : All (λ (x : Logged). x.seat < n) since =
     later_part (λ (x : Logged). x.seat < n) r.shared.log since (subst (All (λ (x : Logged). x.seat < n)) longer (λ k d l. let h = q.shared.seated k d l in omega arith)) in
     let each : (seat : ℕ) → count_at seat since ≤ most_between = λ seat. elim (cases_lt seat n) [
@@ -130,7 +117,7 @@ few_between s t r q on finished since longer =
           let v = some_at t.views seat less in
           let low = (q.shared.fits seat v.0.pass (known_at t.views seat v.0 v.1)).number in
           let few = few_accesses n r.shared.enlisted q.shared.enlisted r.shared.log since (word_actors s.views) (word_actors t.views) one other on (apart_actors s r) finished seat (word_actor v.0)
-          (map_at word_actor t.views seat v.0 v.1) (omega arith) in
+          (at_map word_actor t.views seat v.0 v.1) (omega arith) in
           let same = seat_accesses seat since in
           omega arith
       | inr more ↦ let none = none_at n seat since (omega arith) seated in omega arith

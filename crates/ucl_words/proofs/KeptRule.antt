@@ -1,47 +1,23 @@
 -- Each kind of atomic step on the table keeps the rule, and tells its pass what it says.
-use Rattle.std.proofs.Common.{◌≡◌, Some, ℕ, ◌+◌, ◌-◌, ◌==◌, ◌<◌, ◌≤◌, List, ◌∷◌, ◌++◌, length, set, get_or, refl, sym, ap, ◌∙◌, subst, arith, append-nil, length-append, length-set, []}
-use Rattle.std.specs.Prelude.{IsSome}
-use Rattle.std.proofs.lemmas.List.{set-get_or}
-use mathlib.Core.Option.{none, some}
-use lib.ListN.{get_elem?}
-use prog.Atomic.{either}
-use Rattle.atomic_table.proofs.Lists.{at_longer, at_last, set_here}
-use Rattle.atomic_table.specs.Table.{State, Me, Step, step, keeps, stepped, carried_after, Valid, opening, Allows, Splits, Joins}
-use Rattle.atomic_table.proofs.Lists.{exchanged}
-use Rattle.ucl_word.specs.declared.event.EventCall.{EventCall}
+use Rattle.ucl_words.proofs.Common.{◌≡◌, Some, ℕ, ◌+◌, ◌-◌, ◌==◌, ◌<◌, ◌≤◌, List, ◌∷◌, ◌++◌, length, set, get_or, refl, sym, ap, ◌∙◌, subst, arith, append-nil, length-append, [], IsSome, set-get_or}
+use Rattle.ucl_words.proofs.Common.{none, some, get_elem?, either, at_longer, at_last, set_here, State, Me, step, keeps, stepped, carried_after, Valid, opening, Allows, Splits, Joins, exchanged}
+use Rattle.ucl_words.proofs.Common.{EventCall, word_of, Entry, IsMatch, word_at, match_after, board_of, IsLegal, followed_by, entry_of, AccessKind, Look, First, Second, Swap, Target, Match}
+use Rattle.ucl_words.proofs.Common.{Enlisted, history_of, Access, access, Taken, Log, IsThere, word_after, board_with, View, opener, Enlists, logged, look, looked, same_history, look_keeps}
+use Rattle.ucl_words.proofs.Common.{look_tells, add, entered, longer_history, add_keeps, add_tells, count, enlisted_as, unchanged_history, enlist_keeps, enlist_tells, second_added, note_added}
+use Rattle.ucl_words.proofs.Common.{note_joined, Nothing, Doing, nothing_done, IsNext, after_look, after_swap, after_first, after_second, cast_for, FitsRun, steps_of_moves, Actor, IsTakenBy}
+use Rattle.ucl_words.proofs.Common.{accesses_of_log, IsRunOfLog, IsNow, at_map, map-set, set_again, place_below, WordView, new_pass, first_pass, left_pass, second_pass, note_pass, told_pass}
+use Rattle.ucl_words.proofs.Common.{IsHoldingFor, words_after, known, word_actor, word_actors, TableKeepsOneHistory, Stands, StandAfterSplit, LoadsMatch, point_shown, ExchangeWon, IsNextWord}
+use Rattle.ucl_words.proofs.Common.{LookStep, FirstStep, SecondStep, EnlistedStep, ExchangeStep, EnlistStep, room, RuleWith}
 use Rattle.ucl_word.specs.Record.{IsReporter}
-use Rattle.ucl_word.specs.Layout.{word_of}
-use Rattle.ucl_board.specs.declared.entry.Entry.{Entry}
-use Rattle.ucl_board.specs.Fixtures.{IsMatch}
-use Rattle.ucl_board.specs.Words.{word_at}
-use Rattle.ucl_board.specs.History.{match_after, board_of, IsLegal, followed_by, entry_of}
-use Rattle.ucl_board.specs.Log.{AccessKind, Look, First, Second, Swap, Target, Match, Enlisted, history_of, Access, access, Taken, Log, IsThere}
-use Rattle.ucl_board.proofs.Histories.{word_after, board_with}
-use Rattle.ucl_shared.specs.declared.view.View.{View}
-use Rattle.ucl_shared.specs.Views.{opener}
-use Rattle.ucl_shared.specs.OneHistory.{KeepsOneHistory}
-use Rattle.ucl_shared.specs.Steps.{Enlists}
-use Rattle.ucl_shared.proofs.KeptRule.{logged, look, looked, same_history, look_keeps, look_same, look_tells, add, entered, longer_history, add_keeps, add_same, add_tells, count, enlisted_as}
-use Rattle.ucl_shared.proofs.KeptRule.{unchanged_history, enlist_keeps, enlist_same, enlist_tells, second_added, second_same, note_added, note_same, note_joined, joined_same}
 use Rattle.ucl_shared.proofs.KeptRule as moves
-use Rattle.ucl_shared.proofs.KeptBoards.{apart, low, Kept, kept, one_more, joined}
+use Rattle.ucl_shared.proofs.KeptBoards.{apart, low, Kept, kept, moved, one_more, joined}
 use Rattle.ucl_steps.specs.declared.step.Caller.{Caller}
 use Rattle.ucl_steps.specs.declared.step.Caller.TheVariants.{Reporter, Reader}
 use Rattle.ucl_steps.specs.declared.step.Cast.{Cast}
 use Rattle.ucl_steps.specs.declared.step.Step as machine
 use Rattle.ucl_steps.specs.Machine.{initial_state, MachineState, after_steps}
-use Rattle.ucl_steps.specs.Protocol.{Nothing, Doing, nothing_done, IsNext, after_look, after_swap, after_first, after_second}
-use Rattle.ucl_steps.specs.PassRuns.{cast_for, FitsRun, steps_of_moves}
-use Rattle.ucl_steps.specs.Actors.{Actor, IsTakenBy, accesses_of_log, IsRunOfLog}
-use Rattle.ucl_steps.proofs.OneStep.{IsNow}
 use Rattle.ucl_steps.proofs.PassSteps.{Turn, turn_look, turn_firsts, turn_seconds, turn_swapped, turn_kept_out}
-use Rattle.ucl_steps.proofs.Seats.{map_at, map_set, set_same, place_below}
 use Rattle.ucl_steps.proofs.ActorRuns.{Apart, logged_accesses, log_kept, log_stepped, log_enlisted, log_more, log_begins}
-use Rattle.ucl_words.specs.declared.view.WordView.{WordView}
-use Rattle.ucl_words.specs.WordViews.{new_pass, first_pass, left_pass, second_pass, note_pass, told_pass}
-use Rattle.ucl_words.specs.Code.{IsHoldingFor}
-use Rattle.ucl_words.specs.WordRule.{words_after, known, word_actor, word_actors, TableKeepsOneHistory, Stands, StandAfterSplit}
-use Rattle.ucl_words.specs.WordSteps.{LoadsMatch, point_shown, ExchangeWon, IsNextWord, LookStep, FirstStep, SecondStep, EnlistedStep, ExchangeStep, EnlistStep}
 
 abbrev pub Position : Type 0
 Position = State Entry WordView
@@ -71,33 +47,10 @@ pass_of v = v.pass
 of_kept : (s : Position) → Kept words_after pass_of word_actor IsRunOfLog s.words s.views → TableKeepsOneHistory s
 of_kept s k = record { shared = k.rule; one_run = k.runs }
 
-both : (s : Position) (words : List ℕ) (views : List View) (q : KeepsOneHistory words_after words views) (n : ℕ) (l : Log) → words ≡ s.words → views ≡ known s.views → q.enlisted ≡ n → q.log ≡ l
-    → ((readers : ℕ) → length s.views ≤ readers → IsRunOfLog readers n l (word_actors s.views)) → TableKeepsOneHistory s
-both s words views q n l a b c d run = of_kept s
-    (subst (λ (ws : List ℕ). Kept words_after pass_of word_actor IsRunOfLog ws s.views) a (kept words_after pass_of word_actor IsRunOfLog words s.views views q n l b c d run))
-
 -- views and actors
 
 pub known_at : (views : List WordView) (seat : ℕ) (v : WordView) → get_elem? views seat ≡ some v → get_elem? (known views) seat ≡ some v.pass
-known_at views seat v here = map_at (λ (z : WordView). z.pass) views seat v here
-
-known_set : (views : List WordView) (seat : ℕ) (w : WordView) → known (set views seat w) ≡ set (known views) seat w.pass
-known_set views seat w = map_set (λ (z : WordView). z.pass) views seat w
-
--- the actors where one pass is another
-acted_by : (readers enlisted : ℕ) (log : Log) (views : List WordView) (seat : ℕ) (w : WordView) → IsRunOfLog readers enlisted log (set (word_actors views) seat (word_actor w))
-    → IsRunOfLog readers enlisted log (word_actors (set views seat w))
-acted_by readers enlisted log views seat w run = subst (λ (l : List Actor). IsRunOfLog readers enlisted log l) (sym (map_set word_actor views seat w)) run
-
--- a step that is no access, of a pass that has done what it had done
-acted_still : (readers enlisted : ℕ) (log log' : Log) (views : List WordView) (seat : ℕ) (v w : WordView) → get_elem? views seat ≡ some v → w.pass.number ≡ v.pass.number → w.doing ≡ v.doing
-    → history_of log' ≡ history_of log → accesses_of_log log' ≡ accesses_of_log log
-    → IsRunOfLog readers enlisted log (word_actors views) → IsRunOfLog readers enlisted log' (word_actors (set views seat w))
-acted_still readers enlisted log log' views seat v w here number doing is trace run =
-    let same : word_actor v ≡ word_actor w = λ i. record { number = sym number i; doing = sym doing i } in
-    acted_by readers enlisted log' views seat w
-    (subst (λ (l : List Actor). IsRunOfLog readers enlisted log' l) (sym (set_same (word_actors views) seat (word_actor w) (map_at word_actor views seat v here ∙ ap (λ (z : Actor). some z) same)))
-    (log_kept readers enlisted log log' (word_actors views) run is trace))
+known_at views seat v here = at_map (λ (z : WordView). z.pass) views seat v here
 
 pub apart_actors : (s : Position) (r : TableKeepsOneHistory s) → Apart (word_actors s.views)
 apart_actors s r = apart words_after pass_of word_actor (λ a. a.number) (λ v. refl) s.words s.views r.shared
@@ -113,7 +66,7 @@ module _ (s : Position) (r : TableKeepsOneHistory s) (seat : ℕ) (v : WordView)
   history = history_of r.shared.log
 
   abbrev actor_is : get_elem? (word_actors s.views) seat ≡ some (word_actor v)
-  actor_is = map_at word_actor s.views seat v here
+  actor_is = at_map word_actor s.views seat v here
 
   abbrev looked_at : (target : Target) → IsThere history target → (listed : ℕ) → List ℕ → listed ≤ r.shared.enlisted → View
   looked_at target there listed shown le = looked words_after s.words (known s.views) r.shared seat v.pass there_is acts target there listed shown le
@@ -124,20 +77,23 @@ module _ (s : Position) (r : TableKeepsOneHistory s) (seat : ℕ) (v : WordView)
   abbrev taken_at : (target : Target) → IsThere history target → (listed : ℕ) → List ℕ → listed ≤ r.shared.enlisted → Taken
   taken_at target there listed shown le = look words_after s.words (known s.views) r.shared seat v.pass there_is acts target there listed shown le
 
+  -- that pass is another, after a step of it
+  after_it : (i n : ℕ) (cs : List (ℕ × Entry)) (w : WordView) (enlisted : ℕ) (log : Log) → RuleWith words_after (set s.words i n) (set (known s.views) seat w.pass) enlisted log
+      → ((readers : ℕ) → length s.views ≤ readers → IsRunOfLog readers enlisted log (set (word_actors s.views) seat (word_actor w))) → TableKeepsOneHistory (stepped s i n seat cs w keeps)
+  after_it i n cs w enlisted log m run =
+      of_kept (stepped s i n seat cs w keeps) (moved words_after pass_of word_actor IsRunOfLog s.words s.views r.shared r.one_run seat v here (set s.words i n) w enlisted log m run)
+
   -- a word that is loaded stays
   load_keeps : (i : ℕ) (cs : List (ℕ × Entry)) (target : Target) (there : IsThere history target) (listed : ℕ) (shown : List ℕ) (le : listed ≤ r.shared.enlisted) (doing : Doing)
       → ((readers : ℕ) → length s.views ≤ readers
-      → IsRunOfLog readers r.shared.enlisted (logged r.shared.log seat (taken_at target there listed shown le))
-      (word_actors (set s.views seat (record { pass = looked_at target there listed shown le; doing = doing }))))
+      → IsRunOfLog readers r.shared.enlisted (logged r.shared.log seat (taken_at target there listed shown le)) (set (word_actors s.views) seat (record { number = v.pass.number; doing = doing })))
       → TableKeepsOneHistory (stepped s i (get_or s.words i 0) seat cs (record { pass = looked_at target there listed shown le; doing = doing }) keeps)
   load_keeps i cs target there listed shown le doing run =
       let w : WordView = record { pass = looked_at target there listed shown le; doing = doing } in
-      let same = look_same words_after s.words (known s.views) r.shared seat v.pass there_is acts target there listed shown le in
-      both (stepped s i (get_or s.words i 0) seat cs w keeps) s.words (set (known s.views) seat w.pass)
-      (look_keeps words_after s.words (known s.views) r.shared seat v.pass there_is acts target there listed shown le) r.shared.enlisted
-      (logged r.shared.log seat (taken_at target there listed shown le))
-      (sym (set-get_or s.words i 0)) (sym (known_set s.views seat w)) same.0 same.1
-      (λ readers all. let long = length-set s.views seat w in run readers (omega arith))
+      let log : Log = logged r.shared.log seat (taken_at target there listed shown le) in
+      after_it i (get_or s.words i 0) cs w r.shared.enlisted log
+      (subst (λ (ws : List ℕ). RuleWith words_after ws (set (known s.views) seat w.pass) r.shared.enlisted log) (sym (set-get_or s.words i 0))
+      (look_keeps words_after s.words (known s.views) r.shared seat v.pass there_is acts target there listed shown le)) run
 
   -- the access of a step on a match word is at the machine's history, whose word it found
   is_now : (kind : AccessKind) (game at readers : ℕ) → IsMatch game → at ≡ length history → (one : IsRunOfLog readers r.shared.enlisted r.shared.log (word_actors s.views))
@@ -165,27 +121,26 @@ module _ (s : Position) (r : TableKeepsOneHistory s) (seat : ℕ) (v : WordView)
         → (c : Caller) × IsTakenBy seat v.pass.number kind c × Turn seat v.pass.number one.of_actors.state c here_access doing [])
         → (cs : List (ℕ × Entry)) → TableKeepsOneHistory (stepped s game (get_or s.words game 0) seat cs (record { pass = after_load; doing = doing }) keeps)
     load_runs doing turn cs =
-        let w : WordView = record { pass = after_load; doing = doing } in
-        load_keeps game cs (Match kind game (get_or s.words game 0)) (there_now s r kind game is) v.pass.listed shown (r.shared.fits seat v.pass there_is).listed doing
+        let le = (r.shared.fits seat v.pass there_is).listed in
+        let there = there_now s r kind game is in
+        let target : Target = Match kind game (get_or s.words game 0) in
+        load_keeps game cs target there v.pass.listed shown le doing
         (λ readers all.
         let one = r.one_run readers all in
         let t = turn readers one (is_now kind game (length after_load.seen) readers is place_is one) in
-        acted_by readers r.shared.enlisted (logged r.shared.log seat
-        (taken_at (Match kind game (get_or s.words game 0)) (there_now s r kind game is) v.pass.listed shown (r.shared.fits seat v.pass there_is).listed)) s.views seat w
-        (log_stepped readers r.shared.enlisted r.shared.log (word_actors s.views) one seat (word_actor v) actor_is doing
-        (taken_at (Match kind game (get_or s.words game 0)) (there_now s r kind game is) v.pass.listed shown (r.shared.fits seat v.pass there_is).listed) [] t.0 here_access
+        log_stepped readers r.shared.enlisted r.shared.log (word_actors s.views) one seat (word_actor v) actor_is doing (taken_at target there v.pass.listed shown le) [] t.0 here_access
         (r.shared.fits seat v.pass there_is).number (apart_actors s r) (ap (λ (k : ℕ). access kind game (get_or s.words game 0) k ∷ []) (sym place_is))
-        (seen_same (Match kind game (get_or s.words game 0)) (there_now s r kind game is) v.pass.listed shown (r.shared.fits seat v.pass there_is).listed ∙ sym (append-nil history)) t.1 t.2))
+        (seen_same target there v.pass.listed shown le ∙ sym (append-nil history)) t.1 t.2)
 
   -- a step on the number of the enlisted that stored nothing
   count_runs : (found listed : ℕ) (shown : List ℕ) (le : listed ≤ r.shared.enlisted) (cs : List (ℕ × Entry))
       → TableKeepsOneHistory (stepped s 0 (get_or s.words 0 0) seat cs (record { pass = looked_at (Enlisted found) tt listed shown le; doing = v.doing }) keeps)
   count_runs found listed shown le cs =
+      let taken = taken_at (Enlisted found) tt listed shown le in
       load_keeps 0 cs (Enlisted found) tt listed shown le v.doing
-      (λ readers all. acted_still readers r.shared.enlisted r.shared.log (logged r.shared.log seat (taken_at (Enlisted found) tt listed shown le)) s.views seat v
-      (record { pass = looked_at (Enlisted found) tt listed shown le; doing = v.doing }) here
-      refl refl (seen_same (Enlisted found) tt listed shown le) (logged_accesses r.shared.log seat (taken_at (Enlisted found) tt listed shown le) ∙ append-nil (accesses_of_log r.shared.log))
-      (r.one_run readers all))
+      (λ readers all. subst (IsRunOfLog readers r.shared.enlisted (logged r.shared.log seat taken)) (sym (set_again (word_actors s.views) seat (word_actor v) actor_is))
+      (log_kept readers r.shared.enlisted r.shared.log (logged r.shared.log seat taken) (word_actors s.views) (r.one_run readers all) (seen_same (Enlisted found) tt listed shown le)
+      (logged_accesses r.shared.log seat taken ∙ append-nil (accesses_of_log r.shared.log))))
 
 -- after a step that keeps the rule its pass stands at its seat
 stands_after : (s : Position) (i n seat : ℕ) (cs : List (ℕ × Entry)) (v w : WordView) → get_elem? s.views seat ≡ some v → TableKeepsOneHistory (stepped s i n seat cs w keeps) → (place : ℕ)
@@ -209,7 +164,7 @@ loads_by slots seat game m kind doing shown acts is turn tells tell s r _ here _
     let then : WordView = record { pass = w; doing = doing n (length w.seen) } in
     let kept = load_runs s r seat v here acts kind game is (shown n) (doing n (length w.seen))
     (λ readers one now. turn (cast_for readers) (steps_of_moves one.of_actors.moves) one.of_actors.state one.of_actors.run
-    (one.of_actors.each seat (word_actor v) (map_at word_actor s.views seat v here)) (here_access s r seat v here acts kind game is (shown n)) now refl refl)
+    (one.of_actors.each seat (word_actor v) (at_map word_actor s.views seat v here)) (here_access s r seat v here acts kind game is (shown n)) now refl refl)
     m.1 in
     let loads : LoadsMatch kind game v.pass n w = search (arith, look_tells, known_at, there_now) in
     (then, keeps, tt, kept, tell n w loads refl (λ place is_seat. stands_after s game n seat m.1 v then here kept place is_seat))
@@ -274,7 +229,6 @@ counts slots seat place m is_seat acts s r _ here _ =
 reporter_is : (s : Position) (r : TableKeepsOneHistory s) (seat : ℕ) (v : WordView) → get_elem? s.views seat ≡ some v → 0 < v.pass.number → IsReporter v.pass.number
 reporter_is s r seat v here pos =
     let low = (r.shared.fits seat v.pass (known_at s.views seat v here)).number in
-    let few = r.shared.few in
     (omega arith, omega arith)
 
 -- an exchange that adds an entry
@@ -307,28 +261,23 @@ module _ (s : Position) (r : TableKeepsOneHistory s) (seat : ℕ) (v : WordView)
       let f = r.shared.fits seat v.pass at_pass in
       let are : set s.words e.game new ≡ words_after (followed_by history e) r.shared.enlisted = search (arith, set_match, next_is) in
       let there = there_now s r Swap e.game is in
-      let same = add_same words_after s.words (known s.views) r.shared seat v.pass at_pass acts e (get_or s.words e.game 0) there pos me next_is.1 v.pass.listed f.listed (set s.words e.game new)
-      are in
       let n : ℕ = get_or s.words e.game 0 in
       let taken : Taken = add words_after s.words (known s.views) r.shared seat v.pass at_pass acts e n there pos me next_is.1 v.pass.listed f.listed in
       let long : length added.seen ≡ length history + 1 = ap length longer ∙ length-append history (e ∷ []) in
-      both (stepped s e.game new seat cs after_won keeps) (set s.words e.game new) (set (known s.views) seat added)
+      after_it s r seat v here acts e.game new cs after_won r.shared.enlisted (logged r.shared.log seat taken)
       (add_keeps words_after s.words (known s.views) r.shared seat v.pass at_pass acts e n there pos me next_is.1 v.pass.listed f.listed (set s.words e.game new) are)
-      r.shared.enlisted (logged r.shared.log seat taken) refl (sym (known_set s.views seat after_won)) same.0 same.1
       (λ readers all.
-      let wide = length-set s.views seat after_won in
-      let one = r.one_run readers (omega arith) in
+      let one = r.one_run readers all in
       let run = one.of_actors in
-      let there_is = map_at word_actor s.views seat v here in
+      let there_is = at_map word_actor s.views seat v here in
       let now = is_now s r seat v here acts Swap e.game (length history) readers is refl one in
       let turn = turn_swapped (cast_for readers) seat v.pass.number (steps_of_moves run.moves) run.state run.run v.doing (run.each seat (word_actor v) there_is) (access Swap e.game n (length history))
       now holds.e old new holds.holds (refl, sym holds.game) hit in
-      acted_by readers r.shared.enlisted (logged r.shared.log seat taken) s.views seat after_won
-      (log_stepped readers r.shared.enlisted r.shared.log (word_actors s.views) one seat (word_actor v) there_is after_won.doing taken (e ∷ []) (Reporter v.pass.number)
+      log_stepped readers r.shared.enlisted r.shared.log (word_actors s.views) one seat (word_actor v) there_is after_won.doing taken (e ∷ []) (Reporter v.pass.number)
       (access Swap e.game n (length history)) f.number (apart_actors s r) refl longer
       (refl, reporter_is s r seat v here pos)
       (subst (λ (k : ℕ). Turn seat v.pass.number run.state (Reporter v.pass.number) (access Swap e.game n (length history)) (after_swap n k v.doing) (e ∷ [])) (sym long)
-      (subst (λ (x : Entry). Turn seat v.pass.number run.state (Reporter v.pass.number) (access Swap e.game n (length history)) (after_swap n (length history + 1) v.doing) (x ∷ [])) entry_is turn))))
+      (subst (λ (x : Entry). Turn seat v.pass.number run.state (Reporter v.pass.number) (access Swap e.game n (length history)) (after_swap n (length history + 1) v.doing) (x ∷ [])) entry_is turn)))
 
   swap_tells : ExchangeWon e v.pass (get_or s.words e.game 0) added
   swap_tells = record {
@@ -348,7 +297,6 @@ swaps slots seat place m e old new is_seat acts is pos me next holds s r _ here 
     let f = r.shared.fits seat v.pass at in
     let n : ℕ = get_or s.words e.game 0 in
     let there = there_now s r Swap e.game is in
-    let target : Target = Match Swap e.game n in
     exchanged n old new
     (λ x. (w : WordView) × (a : Rattle.atomic_table.specs.Table.Act Entry) × Valid s.homes m.1 a × TableKeepsOneHistory (stepped s e.game x seat m.1 w a)
     × ExchangeStep place (step slots e.game old new (some e)) m n (w, carried_after m.1 a))
@@ -370,7 +318,7 @@ swaps slots seat place m e old new is_seat acts is pos me next holds s r _ here 
       Reporter v.pass.number,
       (refl, reporter_is s r seat v here pos),
       turn_kept_out (cast_for readers) seat v.pass.number (steps_of_moves one.of_actors.moves) one.of_actors.state one.of_actors.run v.doing
-          (one.of_actors.each seat (word_actor v) (map_at word_actor s.views seat v here)) (here_access s r seat v here acts Swap e.game is v.pass.shown) now holds.e old new holds.holds
+          (one.of_actors.each seat (word_actor v) (at_map word_actor s.views seat v here)) (here_access s r seat v here acts Swap e.game is v.pass.shown) now holds.e old new holds.holds
           (refl, sym holds.game) miss,
     ))
     m.1 in (
@@ -395,25 +343,18 @@ enlists slots seat place m old is_seat acts reader nothing room s r _ here _ =
     let f = r.shared.fits seat v.pass at in
     let n : ℕ = get_or s.words 0 0 in
     let is : n ≡ r.shared.enlisted = enlist_word s r in
-    let below = f.listed in
     exchanged n old (old + 1)
     (λ x. (w : WordView) × (a : Rattle.atomic_table.specs.Table.Act Entry) × Valid s.homes m.1 a × TableKeepsOneHistory (stepped s 0 x seat m.1 w a)
     × EnlistStep place (step slots 0 old (old + 1) none) m n (w, carried_after m.1 a))
     (λ hit. let left : r.shared.enlisted < 255 = omega arith in
-    let same : old + 1 ≡ r.shared.enlisted + 1 = omega arith in
     let w : WordView = record { pass = enlisted_as words_after s.words (known s.views) r.shared seat v.pass at acts reader left; doing = v.doing } in
     let taken : Taken = count words_after s.words (known s.views) r.shared seat v.pass at acts reader left in
     let are : set s.words 0 (old + 1) ≡ words_after (history_of r.shared.log) (r.shared.enlisted + 1) = search arith in
-    let kept = enlist_same words_after s.words (known s.views) r.shared seat v.pass at acts reader left (set s.words 0 (old + 1)) are in
-    let rule = both (stepped s 0 (old + 1) seat m.1 w keeps) (set s.words 0 (old + 1)) (set (known s.views) seat w.pass)
+    let rule = after_it s r seat v here acts 0 (old + 1) m.1 w (r.shared.enlisted + 1) (logged r.shared.log seat taken)
     (enlist_keeps words_after s.words (known s.views) r.shared seat v.pass at acts reader left (set s.words 0 (old + 1)) are)
-    (r.shared.enlisted + 1) (logged r.shared.log seat taken) refl (sym (known_set s.views seat w)) kept.0 kept.1
-    (λ readers all.
-    let wide = length-set s.views seat w in
-    acted_by readers (r.shared.enlisted + 1) (logged r.shared.log seat taken) s.views seat w
-    (log_enlisted readers r.shared.enlisted r.shared.log (word_actors s.views) (r.one_run readers (omega arith)) seat (word_actor v) (map_at word_actor s.views seat v here)
+    (λ readers all. log_enlisted readers r.shared.enlisted r.shared.log (word_actors s.views) (r.one_run readers all) seat (word_actor v) (at_map word_actor s.views seat v here)
     (logged r.shared.log seat taken) reader left nothing (low_actors s r)
-    (unchanged_history words_after s.words (known s.views) r.shared seat v.pass at acts reader left) (logged_accesses r.shared.log seat taken ∙ append-nil (accesses_of_log r.shared.log)))) in (
+    (unchanged_history words_after s.words (known s.views) r.shared seat v.pass at acts reader left) (logged_accesses r.shared.log seat taken ∙ append-nil (accesses_of_log r.shared.log))) in (
       w,
       keeps,
       tt,
@@ -450,17 +391,15 @@ enlists slots seat place m old is_seat acts reader nothing room s r _ here _ =
 -- one pass more, that has done nothing, beside one that has done what it had done
 split_keeps : (seat : ℕ) (v : WordView) (s : Position) (r : TableKeepsOneHistory s) (here : get_elem? s.views seat ≡ some v) (u w : WordView) → word_actor u ≡ word_actor v
     → word_actor w ≡ record { number = 0; doing = nothing_done }
-    → (q : KeepsOneHistory words_after s.words (set (known s.views) seat u.pass ++ w.pass ∷ [])) → q.enlisted ≡ r.shared.enlisted → q.log ≡ r.shared.log
+    → RuleWith words_after s.words (set (known s.views) seat u.pass ++ w.pass ∷ []) r.shared.enlisted r.shared.log
     → TableKeepsOneHistory record { words = s.words; homes = s.homes; views = set s.views seat u ++ w ∷ [] }
-split_keeps seat v s r here u w same is q enlisted log = of_kept (record { words = s.words; homes = s.homes; views = set s.views seat u ++ w ∷ [] })
+split_keeps seat v s r here u w same is m = of_kept (record { words = s.words; homes = s.homes; views = set s.views seat u ++ w ∷ [] })
     (one_more words_after pass_of word_actor IsRunOfLog s.words s.views r.shared r.one_run seat v here (record { number = 0; doing = nothing_done })
-    (λ readers actors one less. log_more readers r.shared.enlisted r.shared.log actors one less) u w same is q enlisted log)
+    (λ readers actors one less. log_more readers r.shared.enlisted r.shared.log actors one less) u w same is m)
 
 pub seconds : (seat : ℕ) (v : WordView) → Splits TableKeepsOneHistory seat v (left_pass v) (second_pass v)
 seconds seat v s r here =
-    let at = known_at s.views seat v here in
-    let same = second_same words_after s.words (known s.views) r.shared seat v.pass at in
-    split_keeps seat v s r here (left_pass v) (second_pass v) refl refl (second_added words_after s.words (known s.views) r.shared seat v.pass at) same.0 same.1
+    split_keeps seat v s r here (left_pass v) (second_pass v) refl refl (second_added words_after s.words (known s.views) r.shared seat v.pass (known_at s.views seat v here))
 
 -- a pass that another was split off still stands, beside that one
 pub split_stands : (v : WordView) → StandAfterSplit v (left_pass v) (second_pass v)
@@ -477,26 +416,23 @@ split_stands v seat was =
     }
 
 pub notes : (seat : ℕ) (v : WordView) → Splits TableKeepsOneHistory seat v v (note_pass v)
-notes seat v s r here =
-    let at = known_at s.views seat v here in
-    let same = note_same words_after s.words (known s.views) r.shared seat v.pass at in
-    split_keeps seat v s r here v (note_pass v) refl refl (note_added words_after s.words (known s.views) r.shared seat v.pass at) same.0 same.1
+notes seat v s r here = split_keeps seat v s r here v (note_pass v) refl refl (note_added words_after s.words (known s.views) r.shared seat v.pass (known_at s.views seat v here))
 
 pub joins : (seat : ℕ) (v : WordView) (other : ℕ) (a : WordView) → Joins TableKeepsOneHistory seat v other (note_pass a) (told_pass v (note_pass a)) new_pass
 joins seat v other a s r here apart there =
     let at = known_at s.views seat v here in
     let told = told_pass v (note_pass a) in
     let note = note_pass a in
-    let theirs : get_elem? (set (known s.views) seat told.pass) other ≡ some note.pass = search (arith, get_elem?, known_set, known_at) in
-    let same = joined_same words_after s.words (known s.views) r.shared seat v.pass at other note.pass apart theirs refl refl in
+    let theirs : get_elem? (set (known s.views) seat told.pass) other ≡ some note.pass =
+    subst (λ (l : List View). get_elem? l other ≡ some note.pass) (map-set pass_of s.views seat told) (known_at (set s.views seat told) other note there) in
     of_kept (record { words = s.words; homes = s.homes; views = set (set s.views seat told) other new_pass })
     (joined words_after pass_of word_actor IsRunOfLog s.words s.views r.shared r.one_run seat v here told other note new_pass there refl refl
-    (note_joined words_after s.words (known s.views) r.shared seat v.pass at other note.pass apart theirs refl refl) same.0 same.1)
+    (note_joined words_after s.words (known s.views) r.shared seat v.pass at other note.pass apart theirs refl refl))
 
 -- a board may open with the words of no event and no reporter
 pub opens : (words : List ℕ) → words ≡ words_after [] 0 → TableKeepsOneHistory (opening words [] first_pass)
-opens words are = let same = moves.opens_same words_after words are in
-    both (opening words [] first_pass) words (opener ∷ []) (moves.opens words_after words are) 0 [] refl refl same.0 same.1 log_begins
+opens words are = of_kept (opening words [] first_pass)
+    (kept words_after pass_of word_actor IsRunOfLog words (first_pass ∷ []) (opener ∷ []) 0 [] (moves.opens words_after words are) refl log_begins)
 
 pub opened_stands : (words : List ℕ) → words ≡ words_after [] 0 → Stands 0 first_pass
 opened_stands words are = record { state = opening words [] first_pass; rule = opens words are; here = refl }

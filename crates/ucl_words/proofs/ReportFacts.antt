@@ -1,38 +1,14 @@
 -- What a report says: one load on whose word the rules refuse, or a load and an exchange.
-use Rattle.std.proofs.Common.{◌≡◌, ◌≢◌, inl, inr, ℕ, ◌+◌, ◌-◌, ◌<◌, ◌≤◌, List, ◌∷◌, ◌++◌, length, refl, sym, ap, ◌∙◌, subst, arith, le_refl, append_assoc, length-append, get_or-set_same, []}
-use Rattle.std.specs.Prelude.{Result, Ok, Err, Some, None, IsOk}
-use Rattle.std.proofs.Math.Seq.{take-length}
-use mathlib.Core.List.{IsPrefix}
-use Rattle.ucl_word.specs.declared.record.MatchRecord.{MatchRecord}
+use Rattle.ucl_words.proofs.Common.{◌≡◌, ◌≢◌, inl, inr, ℕ, ◌+◌, ◌-◌, ◌<◌, ◌≤◌, List, ◌∷◌, ◌++◌, length, refl, sym, ap, ◌∙◌, subst, arith, le_refl, append_assoc, length-append, get_or-set_same, []}
+use Rattle.ucl_words.proofs.Common.{Result, Ok, Err, IsOk, take-length, IsPrefix, MatchRecord, EventCall, Accepted, Refusal, Stale, refusal_of, after, reply_of, word_of, record_at, IsWord}
+use Rattle.ucl_words.proofs.Common.{after_number, word_packed, Entry, IsMatch, word_at, board_of, IsLegal, followed_by, entry_of, sequential_reply, beginnings, board_length, word_after, game_after}
+use Rattle.ucl_words.proofs.Common.{next_board, accepted_reply, refused_reply, Look, Swap, Access, access, Match, Taken, step_taken, begins_length, begins_more, begins_same, begins_through, Follows}
+use Rattle.ucl_words.proofs.Common.{ReportAccesses, follows_longer, follows_wider, follows_append, follows_one, report_whole, Continues, AcceptedReport, RefusedReport, View, pass_view_of, trail_of}
+use Rattle.ucl_words.proofs.Common.{Takes, takes_on, takes_count, Loads, ExchangeMissed, ExchangeWon, IsNextWord, Walks, steps_with, HasTrail, IsSteady, ReportSteps}
+use Rattle.std.specs.Prelude.{Some, None}
 use Rattle.ucl_word.specs.declared.event.Kind.{Kind}
-use Rattle.ucl_word.specs.declared.event.EventCall.{EventCall}
-use Rattle.ucl_word.specs.declared.event.Accepted.{Accepted}
-use Rattle.ucl_word.specs.declared.refusal.Refusal.{Refusal}
-use Rattle.ucl_word.specs.declared.refusal.Refusal.TheVariants.{Stale}
-use Rattle.ucl_word.specs.Rules.{refusal_of, after, reply_of}
-use Rattle.ucl_word.specs.Layout.{word_of, record_at, IsWord}
 use Rattle.ucl_word.specs.Counts.{MatchEntry, counted_match, IsLegalMatch}
 use Rattle.ucl_word.proofs.EntryCounts.{entered}
-use Rattle.ucl_word.proofs.AcceptedEvents.{after_number}
-use Rattle.ucl_word.proofs.Words.{word_packed}
-use Rattle.ucl_board.specs.declared.entry.Entry.{Entry}
-use Rattle.ucl_board.specs.Fixtures.{IsMatch}
-use Rattle.ucl_board.specs.Words.{word_at}
-use Rattle.ucl_board.specs.History.{board_of, IsLegal, followed_by, entry_of, sequential_reply}
-use Rattle.ucl_board.proofs.HistoryLaws.{beginnings}
-use Rattle.ucl_board.proofs.Histories.{board_length, word_after, game_after, next_board, accepted_reply, refused_reply}
-use Rattle.ucl_board.specs.Log.{Look, Swap, Access, access, Match, Taken, step_taken}
-use Rattle.ucl_board.proofs.Beginnings.{begins_length, begins_more, begins_same, begins_through}
-use Rattle.ucl_steps.specs.Trails.{Follows, ReportAccesses}
-use Rattle.ucl_steps.proofs.Accesses.{follows_longer, follows_wider, follows_append, follows_one, report_whole}
-use Rattle.ucl_shared.specs.Passes.{Continues, AcceptedReport, RefusedReport}
-use Rattle.ucl_shared.specs.declared.view.View.{View}
-use Rattle.ucl_shared.specs.Views.{pass_view_of, trail_of, Takes}
-use Rattle.ucl_shared.proofs.CallsBySteps.{takes_on, takes_count}
-use Rattle.ucl_words.specs.WordSteps.{Loads, ExchangeMissed, ExchangeWon, IsNextWord}
-use Rattle.ucl_words.specs.Code.{Walks}
-use Rattle.ucl_shared.specs.CallSteps.{steps_with}
-use Rattle.ucl_words.specs.WordCalls.{HasTrail, IsSteady, ReportSteps}
 use Rattle.ucl_words.proofs.StepRuns.{trail_on, takes_trail, walks_on, walks_load}
 
 -- the word with one event more, whatever the history is
@@ -137,22 +113,10 @@ module _ (v u : View) (call : EventCall) (loaded : ℕ) (is : IsMatch call.game)
           (trail_on v.seen z.seen (trail_of v) (look_access ∷ won_access ∷ []) (begins_through v.seen won.before z.seen since begun) steady.trail won_follows)
 
       pub won_steady : IsSteady z
-      won_steady = record {
-        sound = record { legal = won.adds.goes.legal; own = won.adds.goes.own; few = won.adds.goes.few; acts = won.adds.goes.acts; alone = won.adds.goes.alone };
-        told = won.adds.goes.told;
-        trail = won_whole;
-      }
+      won_steady = search (arith, won_whole)
 
       pub won_continues : Continues (pass_view_of v) (pass_view_of z)
-      won_continues = record {
-        sound = won_steady.sound;
-        on = record {
-          seen = begins_through v.seen won.before z.seen since begun;
-          listed = (let b = looked.loads.listed in let d = won.listed in omega arith);
-          share = won.adds.goes.share ∙ look_walks.on.share;
-        };
-        number = won.adds.number ∙ look_walks.number;
-      }
+      won_continues = search (arith, begins_through, since, begun)
 
       before_legal : IsLegal won.before
       before_legal = beginnings won.before (entry_of v.number call ∷ []) (subst IsLegal won.adds.last won.adds.goes.legal)
@@ -161,27 +125,14 @@ module _ (v u : View) (call : EventCall) (loaded : ℕ) (is : IsMatch call.game)
       won_mine = won.adds.mine ∙ ap (λ (l : List Entry). followed_by l (entry_of v.number call)) look_walks.mine
 
       won_report : ReportAccesses call (Ok reply) (look_access ∷ won_access ∷ []) (length z.seen)
-      won_report = record {
-        looked = loaded;
-        at = length u.seen;
-        before = length won.before;
-        accesses = ap (λ (n : ℕ). look_access ∷ access Swap call.game n (length won.before) ∷ []) same;
-        answer = accepts;
-        last = sym one_more;
-      }
+      won_report = search (arith, one_more)
 
       pub won_steps : ReportSteps v call (Ok reply) z
       won_steps =
           record {
             may = (me, is);
             accesses = look_access ∷ won_access ∷ [];
-            leaves = record {
-              takes = won_takes;
-              trail = won_trail;
-              taken = takes_count v z (steps_with (Some (entry_of v.number call)) (look_access ∷ won_access ∷ [])) won_takes;
-              follows = won_follows;
-              whole_trail = won_whole;
-            };
+            leaves = search (arith, won_takes, won_trail, takes_count, won_follows, won_whole);
             report = won_report;
           }
 

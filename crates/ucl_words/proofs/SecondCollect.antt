@@ -1,11 +1,6 @@
 -- The second collect, load by load: what its pass knows, and what it has done.
-use Rattle.std.proofs.Common.{◌≡◌, ◌≢◌, ℕ, ◌+◌, ◌<◌, List, ◌++◌, length, refl, ap, ◌∙◌, append-nil, []}
-use Rattle.std.specs.Prelude.{slice_index}
-use Rattle.ucl_board.specs.Log.{Second}
-use Rattle.ucl_steps.specs.Protocol.{after_second}
-use Rattle.ucl_words.specs.declared.view.WordView.{WordView}
-use Rattle.ucl_words.specs.WordSteps.{LoadsMatch, point_shown}
-use Rattle.ucl_words.specs.Code.{FindsAgain, FindsAnother, has_copied, begins_anew}
+use Rattle.ucl_words.proofs.Common.{◌≡◌, ◌≢◌, ℕ, ◌+◌, ◌<◌, List, ◌++◌, length, refl, ap, ◌∙◌, append-nil, [], slice_index, Second, after_second, WordView, LoadsMatch, point_shown, FindsAgain}
+use Rattle.ucl_words.proofs.Common.{FindsAnother, has_copied, begins_anew}
 use Rattle.ucl_words.proofs.CollectFacts.{Collected, collected_same, collected_other, finds_again}
 use Rattle.ucl_words.proofs.DoingFacts.{Seconds, shows_none, shows_none_of_another, shows_point, second_on, second_other, second_last}
 

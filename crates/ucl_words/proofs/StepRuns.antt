@@ -1,25 +1,9 @@
 -- Steps on match words, one after another.
-use Rattle.std.proofs.Common.{◌≡◌, ℕ, ◌+◌, List, ◌∷◌, ◌++◌, length, map, None, refl, sym, ap, ◌∙◌, subst, arith, le_refl, append_assoc, append-nil, length-append, []}
-use Rattle.std.proofs.lemmas.List.{map-append}
-use mathlib.Core.List.{IsPrefix}
-use Rattle.ucl_word.specs.Layout.{word_of, IsWord}
-use Rattle.ucl_board.specs.declared.entry.Entry.{Entry}
-use Rattle.ucl_board.specs.Fixtures.{IsMatch}
-use Rattle.ucl_board.specs.History.{match_after, IsLegal}
-use Rattle.ucl_board.specs.Log.{AccessKind, Access, access, Match, Taken, step_taken, accesses_in}
-use Rattle.ucl_board.proofs.Histories.{match_valid}
+use Rattle.ucl_words.proofs.Common.{◌≡◌, ℕ, ◌+◌, List, ◌∷◌, ◌++◌, length, map, None, refl, sym, ap, ◌∙◌, subst, arith, le_refl, append_assoc, append-nil, length-append, [], map-append, IsPrefix}
+use Rattle.ucl_words.proofs.Common.{word_of, IsWord, Entry, IsMatch, match_after, IsLegal, AccessKind, Access, access, Match, Taken, step_taken, accesses_in, match_valid, begins_length, begins_same}
+use Rattle.ucl_words.proofs.Common.{begins_through, Follows, follows_longer, follows_wider, follows_append, follows_one, View, Continues, pass_view_of, count_of, trail_of, Takes, takes_none}
+use Rattle.ucl_words.proofs.Common.{takes_on, takes_count, LoadsMatch, Walks, steps_with, HasTrail, IsSteady}
 use Rattle.ucl_board.proofs.Logs.{accesses_append}
-use Rattle.ucl_board.proofs.Beginnings.{begins_length, begins_same, begins_through}
-use Rattle.ucl_steps.specs.Trails.{Follows}
-use Rattle.ucl_steps.proofs.Accesses.{follows_longer, follows_wider, follows_append, follows_one}
-use Rattle.ucl_shared.specs.declared.view.View.{View}
-use Rattle.ucl_shared.specs.Passes.{Continues}
-use Rattle.ucl_shared.specs.Views.{pass_view_of, count_of, trail_of, Takes}
-use Rattle.ucl_shared.proofs.CallsBySteps.{takes_none, takes_on, takes_count}
-use Rattle.ucl_words.specs.WordSteps.{LoadsMatch}
-use Rattle.ucl_words.specs.Code.{Walks}
-use Rattle.ucl_shared.specs.CallSteps.{steps_with}
-use Rattle.ucl_words.specs.WordCalls.{HasTrail, IsSteady}
 
 -- accesses that follow what a trail has, over a history that is longer
 pub trail_on : (s h : List Entry) (old new : List Access) → IsPrefix s h → Follows s 0 old (length s) → Follows h (length s) new (length h) → Follows h 0 (old ++ new) (length h)
@@ -82,15 +66,7 @@ walks_load kind game n v w steady l =
     let one : Follows w.seen (length v.seen) (m ∷ []) (length w.seen) = follows_one w.seen (length v.seen) m (begins_length v.seen w.seen goes.seen) refl l.sees.there.1 in
     let whole : HasTrail w = subst (λ (t : List Access). Follows w.seen 0 t (length w.seen)) (sym (load_trail kind game n v w l))
     (trail_on v.seen w.seen (trail_of v) (m ∷ []) goes.seen steady.trail one) in
-    let few = steady.sound.few in
-    let listed = l.listed in
-    record {
-      steady = record { sound = record { legal = goes.legal; own = goes.own; few = goes.few; acts = goes.acts; alone = goes.alone }; told = goes.told; trail = whole };
-      on = record { seen = goes.seen; listed = omega arith; share = goes.share };
-      mine = l.sees.mine;
-      number = l.sees.number;
-      leaves = record { takes = l.sees.takes; trail = load_trail kind game n v w l; taken = load_taken kind game n v w l; follows = one; whole_trail = whole };
-    }
+    search (arith, load_trail, load_taken, goes.legal, goes.own, goes.few, goes.acts, goes.alone, goes.told, goes.seen, goes.share, l.sees.mine, l.sees.number, l.sees.takes)
 
 pub walks_continue : (v w : View) (ms : List Access) → Walks v ms w → Continues (pass_view_of v) (pass_view_of w)
 walks_continue v w ms walk = record { sound = walk.steady.sound; on = walk.on; number = walk.number }

@@ -1,25 +1,9 @@
 -- A report as a whole, by each way in which it ends.
-use Rattle.std.proofs.Common.{◌≡◌, ◌≢◌, ℕ, ◌<◌, ◌≤◌, length, refl, ap}
-use Rattle.std.specs.Prelude.{Result, Ok, Err, Some, None, IfOk, IfErr}
-use Rattle.ucl_word.specs.declared.event.EventCall.{EventCall}
-use Rattle.ucl_word.specs.declared.event.Accepted.{Accepted}
-use Rattle.ucl_word.specs.declared.refusal.Refusal.{Refusal}
-use Rattle.ucl_word.specs.declared.refusal.Refusal.TheVariants.{Stale}
-use Rattle.ucl_word.specs.Rules.{refusal_of, after, reply_of}
-use Rattle.ucl_word.specs.Layout.{record_at, IsWord}
-use Rattle.ucl_board.specs.declared.entry.Entry.{Entry}
-use Rattle.ucl_board.specs.Fixtures.{IsMatch}
-use Rattle.ucl_board.specs.History.{entry_of}
-use Rattle.ucl_board.specs.Log.{Look}
-use Rattle.ucl_board.proofs.Beginnings.{begins_length}
+use Rattle.ucl_words.proofs.Common.{◌≡◌, ◌≢◌, ℕ, ◌<◌, ◌≤◌, length, refl, ap, Result, Ok, Err, IfOk, IfErr, EventCall, Accepted, Refusal, Stale, refusal_of, after, reply_of, record_at, IsWord, Entry}
+use Rattle.ucl_words.proofs.Common.{IsMatch, entry_of, Look, begins_length, after_look, after_swap, report_reply, Continues, AcceptedReport, RefusedReport, pass_view_of, WordView, Loads}
+use Rattle.ucl_words.proofs.Common.{ExchangeMissed, ExchangeWon, IsSteady, ReportSteps, AnswersCall, GoesAlong}
+use Rattle.std.specs.Prelude.{Some, None}
 use Rattle.ucl_steps.specs.declared.step.Call.TheVariants as calls
-use Rattle.ucl_steps.specs.Protocol.{after_look, after_swap, report_reply}
-use Rattle.ucl_shared.specs.Passes.{Continues, AcceptedReport, RefusedReport}
-use Rattle.ucl_shared.specs.Views.{pass_view_of}
-use Rattle.ucl_words.specs.declared.view.WordView.{WordView}
-use Rattle.ucl_words.specs.WordSteps.{Loads, ExchangeMissed, ExchangeWon}
-use Rattle.ucl_words.specs.WordCalls.{IsSteady, ReportSteps}
-use Rattle.ucl_words.specs.WordDoings.{AnswersCall, GoesAlong}
 use Rattle.ucl_words.proofs.StepRuns.{walks_continue}
 use Rattle.ucl_words.proofs.ReportFacts.{look_walks, look_steps, look_refuses, miss_walks, miss_steps, miss_refuses, won_steady, won_continues, won_steps, won_accepts, accepts_by, as_entry, as_missed}
 use Rattle.ucl_words.proofs.ReportFacts.{me_in}

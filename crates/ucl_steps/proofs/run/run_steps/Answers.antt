@@ -1,9 +1,4 @@
-use Rattle.std.proofs.Common.{List, arith, sym, ap, ◌∙◌, add-one}
-use Rattle.std.proofs.lemmas.List.{take_all}
-use Rattle.std.proofs.lemmas.Option.{slice_get-get_or}
-use Rattle.ucl_steps.specs.declared.step.Step.{Step}
-use Rattle.ucl_steps.specs.Machine.{initial_state, after_steps}
-use Rattle.ucl_steps.specs.Running.{state_of}
+use Rattle.ucl_steps.proofs.Common.{List, arith, sym, ap, ◌∙◌, add-one, take_all, slice_get-get_or, Step, initial_state, after_steps, state_of}
 use Rattle.ucl_steps.proofs.Reachable.{taken_step, steps_more}
 use Rattle.ucl_steps.proofs.Runs.{linearizable_trace, words_of_trace}
 use Rattle.ucl_steps.proofs.run.run_steps.Goals as goal

@@ -1,6 +1,4 @@
-use Rattle.std.proofs.Common.{◌≡◌, ◌≤◌, length, take, Some}
-use Rattle.ucl_steps.specs.Machine.{initial_state, after_steps}
-use Rattle.ucl_steps.specs.Running.{state_of}
+use Rattle.ucl_steps.proofs.Common.{◌≡◌, ◌≤◌, length, take, Some, initial_state, after_steps, state_of}
 use Rattle.ucl_steps.proofs.run.run_steps.Given as goal
 
 abbrev pub invariant-loop-at : goal.invariant-loop-at

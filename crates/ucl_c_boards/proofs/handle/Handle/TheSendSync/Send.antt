@@ -1,17 +1,11 @@
 -- A handle may go to another thread: what it owns is a box, and the pass and the share of the board in it may go there.
-use base.Fml.{Fml}
+use Rattle.ucl_c_boards.proofs.Common.{Fml, lone, Ptr, null_ptr, block_ptr, exits_of, shape, fields, to, box_owns, freed, heap, owned_at}
 use base.Shift.{Keyless}
 use mir.Raw.{raw}
-use denote.Memory.{lone}
 use denote.Builtin.{RawPtr}
-use denote.RawPtr.{Ptr, null_ptr, block_ptr}
 use denote.Param.Send.{IsSend, owning_send, struct_send, sendable}
-use denote.Struct.Struct.{exits_of}
-use denote.Struct.Owning.{shape, fields, to}
 use Rattle.std.proofs.Crossing.{frees}
-use Rattle.std.specs.Box.Ownership.{box_owns}
 use Rattle.std_alloc.proofs.SendSync.{quiet, lies}
-use Rattle.ucl_c_boards.specs.OwnedAt.{freed, heap, owned_at}
 use Rattle.ucl_c_boards.specs.contracts.board_pass.BoardPass as inner
 use Rattle.ucl_c_boards.proofs.board_pass.BoardPass.TheSendSync.{the_send}
 use Rattle.ucl_c_boards.specs.contracts.handle.Handle.{the_row, the_type}

@@ -1,26 +1,8 @@
 -- `is_null` reads the pointer, which is null or the start of a block, and leaves the handle as it was.
-use Rattle.std.proofs.Common.{true, false, List, [], ◌∷◌, refl, sym, ap, ◌∙◌, subst, lit<}
-use lib.Dec.{T}
-use Rattle.std.proofs.raw_atomic.Walks.{proved}
-use base.Fraction.{full_share}
-use base.Fml.{ftrue, flft}
-use mir.Syntax.{named}
-use mir.Val.{Val, vbool}
-use contract.Running.{tables}
-use types.Kit.{‵, ◌⊛◌, ◌$◌, ◌∵◌, !, qed, done, move, keep, split, join, fsplit, fsplit3, fjoin, feq_i, rewrite, suffices, frame, group}
-use types.Run.{enter, of_opd, bin, lit, load, stop, fld, returns}
-use types.ByLocal.{alloc_all, pass_all, free_all, look_at, get, through, sets}
-use types.Part.{whole, sub, look_in}
-use denote.Laws.{shows}
-use denote.Memory.{cell_at}
-use denote.RawPtr.{Ptr, block_ptr, tests_null}
-use denote.Ref.{MutRef, mut_vals, mut_Tells}
-use denote.Signature.{plain}
-use denote.Steps.{nothing, opens, closes, peeks}
-use denote.Triple.Walked.{Stays, walk_of, says, stay_ref, Goes-ref, ends_at}
-use Rattle.std.specs.Box.Ownership.{box_owns}
-use Rattle.ucl_c_boards.specs.OwnedAt.{freed, owned_at}
-use Rattle.ucl_c_boards.specs.Handles.{is_null, pass_at}
+use Rattle.ucl_c_boards.proofs.Common.{true, false, List, [], ◌∷◌, refl, sym, ap, ◌∙◌, subst, lit<, T, proved, full_share, ftrue, flft, named, Val, vbool, tables, ‵, ◌⊛◌, ◌$◌, ◌∵◌, !, qed, done}
+use Rattle.ucl_c_boards.proofs.Common.{move, keep, split, join, fsplit, fsplit3, fjoin, feq_i, rewrite, suffices, frame, group, enter, of_opd, bin, lit, load, stop, fld, returns, alloc_all}
+use Rattle.ucl_c_boards.proofs.Common.{pass_all, free_all, look_at, get, through, sets, whole, sub, look_in, shows, cell_at, Ptr, block_ptr, tests_null, MutRef, mut_vals, mut_Tells, plain, nothing}
+use Rattle.ucl_c_boards.proofs.Common.{opens, closes, peeks, Stays, walk_of, says, stay_ref, Goes-ref, ends_at, box_owns, freed, owned_at, is_null, pass_at}
 use Rattle.ucl_c_boards.proofs.NullOrOwned.{null_or_owned}
 use Rattle.ucl_c_boards.specs.contracts.board_pass.BoardPass as inner
 use Rattle.ucl_c_boards.specs.contracts.handle.Handle.is_null as f

@@ -1,36 +1,12 @@
 -- `put` makes the handle own what the parts owned.
-use Rattle.std.proofs.Common.{◌≡◌, true, List, [], ◌∷◌, refl, sym, ap}
-use Rattle.std.proofs.raw_atomic.Walks.{proved}
-use base.Fraction.{full_share}
-use base.Fml.{ftrue, flft}
-use mir.Syntax.{named}
+use Rattle.ucl_c_boards.proofs.Common.{◌≡◌, true, List, [], ◌∷◌, refl, sym, ap, proved, full_share, ftrue, flft, named, Val, vunit, fst∗, never, sem, fact, tables, ‵, raw, ◌⊛◌, ◌$◌, ◌∵◌, !, qed}
+use Rattle.ucl_c_boards.proofs.Common.{done, move, keep, drop, split, join, fsplit, fsplit3, fjoin, fpack, feq_i, rewrite, suffices, frame, group, enter, of_opd, stop, fld, returns, assigns}
+use Rattle.ucl_c_boards.proofs.Common.{unit_lit, alloc_all, pass_all, free_all, look_at, get, get_in, through, sets, whole, sub, store_in, yes, shows, cell_at, lone, Valss, Ptr, RawPtr, ptr_val}
+use Rattle.ucl_c_boards.proofs.Common.{null_ptr, in_a_block, rawptr_Lawful, MutRef, mut_vals, mut_Tells, plain, nothing, opens, closes, peeks, heard, within, shape, Stays, walk_of, says, stay_ref}
+use Rattle.ucl_c_boards.proofs.Common.{stay_dropped, Goes-ref, Goes-dropped, ends_at, ghosts, box_owns, freed, owned_at, is_null, pass_at, RattleType}
 use mir.Raw.{raw as bare}
-use mir.Val.{Val, vunit}
-use base.Logic.{fst∗, never}
-use types.Logic.{sem}
-use contract.Monad.{fact}
-use contract.Running.{tables}
-use types.Kit.{‵, raw, ◌⊛◌, ◌$◌, ◌∵◌, !, qed, done, move, keep, drop, split, join, fsplit, fsplit3, fjoin, fpack, feq_i, rewrite, suffices, frame, group}
-use types.Run.{enter, of_opd, stop, fld, returns, assigns, unit_lit}
-use types.ByLocal.{alloc_all, pass_all, free_all, look_at, get, get_in, through, sets}
-use types.Part.{whole, sub, store_in}
-use denote.Exit.{yes}
-use denote.Laws.{shows}
-use denote.Memory.{cell_at, lone}
-use denote.RattleType.{Valss}
-use denote.RawPtr.{Ptr, RawPtr, ptr_val, null_ptr, in_a_block, rawptr_Lawful}
-use denote.Ref.{MutRef, mut_vals, mut_Tells}
-use denote.Signature.{plain}
-use denote.Steps.{nothing, opens, closes, peeks, heard}
-use denote.Struct.Struct.{within}
-use denote.Struct.Owning.{shape}
-use denote.Triple.Walked.{Stays, walk_of, says, stay_ref, stay_dropped, Goes-ref, Goes-dropped, ends_at}
 use Rattle.std_heap.specs.contracts.Global as heap
 use Rattle.std_heap.proofs.Global.TheLaws as heap_laws
-use Rattle.std_heap.specs.contracts.GlobalAllocator.TheImpl.{ghosts}
-use Rattle.std.specs.Box.Ownership.{box_owns}
-use Rattle.ucl_c_boards.specs.OwnedAt.{freed, owned_at}
-use Rattle.ucl_c_boards.specs.Handles.{is_null, pass_at}
 use Rattle.ucl_c_boards.specs.contracts.board_pass.BoardPass as inner
 use Rattle.ucl_c_boards.proofs.board_pass.BoardPass.TheLaws as inner_laws
 use Rattle.ucl_c_boards.specs.contracts.parts.Parts as parts
@@ -41,7 +17,6 @@ use Rattle.ucl_c_boards.proofs.handle.Handle.put.Statement.{statement}
 use Rattle.ucl_c_boards.proofs.handle.Handle.put.Code as code
 use Rattle.ucl_c_boards.specs.contracts.handle.Handle.{the_row as R}
 use Rattle.ucl_c_boards.proofs.handle.Handle.TheLaws.{lowers}
-use denote.RattleType.{RattleType}
 
 abbrev stayed : Stays f.ended.signature.params f.ended.kept
 stayed = (stay_ref (0 ∷ []) tt (plain (λ _. R)), (stay_dropped _ yes, tt))

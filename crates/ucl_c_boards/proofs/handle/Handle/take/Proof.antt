@@ -1,31 +1,11 @@
 -- `take` reads the pointer, leaves null there, and makes the parts of what the handle owned.
-use Rattle.std.proofs.Common.{◌≡◌, false, List, [], ◌∷◌, refl, sym, ap, ◌∙◌, lit<}
-use Rattle.std.proofs.raw_atomic.Walks.{proved}
-use base.Fraction.{full_share}
-use base.Fml.{ftrue, flft}
-use mir.Syntax.{named}
-use mir.Val.{Val, vnull, vptr, vstruct, vcons, vnil}
-use contract.Monad.{fact}
-use contract.Running.{tables}
-use types.Kit.{‵, raw, ◌⊛◌, ◌$◌, ◌∵◌, !, qed, done, move, keep, drop, split, join, fsplit, fsplit3, fjoin, fpack, feq_i, rewrite, suffices, frame, group}
-use types.Run.{enter, of_opd, lit, load, stop, fld, returns, assigns, and_then, no_more}
-use types.ByLocal.{alloc_all, pass_all, free_all, look_at, get, through, sets}
-use types.Part.{whole, sub, look_in, store_in, agg}
-use denote.Exit.{yes}
-use denote.Laws.{shows}
-use denote.Memory.{cell_at}
-use denote.RattleType.{Valss}
-use denote.RawPtr.{Ptr, RawPtr, block_ptr, null_ptr}
-use denote.Ref.{MutRef, mut_vals, mut_Tells}
-use denote.Signature.{plain}
-use denote.Steps.{nothing, opens, closes, peeks, heard}
-use denote.Struct.Struct.{within}
-use denote.Struct.Owning.{shape}
-use denote.Triple.Walked.{Stays, walk_of, says, stay_ref, stay_dropped, Goes-ref, Goes-dropped, ends_at}
+use Rattle.ucl_c_boards.proofs.Common.{◌≡◌, false, List, [], ◌∷◌, refl, sym, ap, ◌∙◌, lit<, proved, full_share, ftrue, flft, named, Val, vnull, vptr, vstruct, vcons, vnil, fact, tables, ‵, raw, ◌⊛◌}
+use Rattle.ucl_c_boards.proofs.Common.{◌$◌, ◌∵◌, !, qed, done, move, keep, drop, split, join, fsplit, fsplit3, fjoin, fpack, feq_i, rewrite, suffices, frame, group, enter, of_opd, lit, load, stop}
+use Rattle.ucl_c_boards.proofs.Common.{fld, returns, assigns, and_then, no_more, alloc_all, pass_all, free_all, look_at, get, through, sets, whole, sub, look_in, store_in, agg, yes, shows, cell_at}
+use Rattle.ucl_c_boards.proofs.Common.{Valss, Ptr, RawPtr, block_ptr, null_ptr, MutRef, mut_vals, mut_Tells, plain, nothing, opens, closes, peeks, heard, within, shape, Stays, walk_of, says}
+use Rattle.ucl_c_boards.proofs.Common.{stay_ref, stay_dropped, Goes-ref, Goes-dropped, ends_at, ghosts, is_null, pass_at}
 use Rattle.std_heap.specs.contracts.Global as heap
 use Rattle.std_heap.proofs.Global.TheLaws as heap_laws
-use Rattle.std_heap.specs.contracts.GlobalAllocator.TheImpl.{ghosts}
-use Rattle.ucl_c_boards.specs.Handles.{is_null, pass_at}
 use Rattle.ucl_c_boards.proofs.NullOrOwned.{owned_in_block}
 use Rattle.ucl_c_boards.specs.contracts.board_pass.BoardPass as inner
 use Rattle.ucl_c_boards.specs.contracts.parts.Parts as parts

@@ -1,5 +1,4 @@
-use Rattle.std.proofs.Common.{rules}
-use Rattle.crossbeam_utils.specs.Seq.{cell_view}
+use Rattle.ucl_pass.proofs.Common.{rules, cell_view}
 use Rattle.ucl_pass.proofs.KeptRule.{counts, stands_too}
 use Rattle.ucl_pass.proofs.Standing.{stands_on}
 use Rattle.ucl_pass.proofs.cell_board.CellBoard.count.Goals as goal

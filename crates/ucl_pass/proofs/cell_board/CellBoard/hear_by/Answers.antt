@@ -1,13 +1,5 @@
-use Rattle.std.proofs.Common.{◌≡◌, rules, sym, ap, ◌∙◌, subst}
-use Rattle.std.specs.Prelude.{IsSome}
-use Rattle.crossbeam_utils.specs.Seq.{cell_view}
-use Rattle.crossbeam_utils.specs.Register.{Merges}
-use Rattle.ucl_shared.specs.declared.view.View.{View}
-use Rattle.ucl_shared.specs.Views.{told_by, note_of}
-use Rattle.ucl_pass.specs.declared.view.CellView.{CellView}
-use Rattle.ucl_pass.specs.CellRule.{CellKeepsOneHistory}
-use Rattle.ucl_pass.specs.CellViews.{knows, new_cell_pass, told_cell_pass}
-use Rattle.ucl_pass.specs.CellSteps.{LooksAtEnlisted}
+use Rattle.ucl_pass.proofs.Common.{◌≡◌, rules, sym, ap, ◌∙◌, subst, IsSome, cell_view, Merges, View, told_by, note_of, CellView, CellKeepsOneHistory, knows, new_cell_pass, told_cell_pass}
+use Rattle.ucl_pass.proofs.Common.{LooksAtEnlisted}
 use Rattle.ucl_pass.proofs.KeptRule.{joins}
 use Rattle.ucl_pass.proofs.CallsBySteps.{met_says}
 use Rattle.ucl_pass.proofs.cell_board.CellBoard.hear_by.Goals as goal

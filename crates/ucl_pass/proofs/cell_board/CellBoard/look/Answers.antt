@@ -1,8 +1,4 @@
-use Rattle.std.proofs.Common.{rules, ◌∙◌, sym, subst, ap}
-use Rattle.crossbeam_utils.specs.Seq.{cell_view}
-use Rattle.ucl_word.specs.declared.event.EventCall.{EventCall}
-use Rattle.ucl_board.specs.Fixtures.{IsMatch}
-use Rattle.ucl_pass.specs.CellSteps.{LookOfCell}
+use Rattle.ucl_pass.proofs.Common.{rules, ◌∙◌, sym, subst, ap, cell_view, EventCall, IsMatch, LookOfCell}
 use Rattle.ucl_pass.proofs.KeptRule.{looks, stands_too}
 use Rattle.ucl_pass.proofs.Standing.{stands_on}
 use Rattle.ucl_pass.proofs.cell_board.CellBoard.look.Goals as goal

@@ -1,5 +1,4 @@
-use Rattle.std.proofs.Common.{rules, List, ℕ, ◌∷◌, ◌++◌, sym, subst, ap, ◌∙◌, []}
-use Rattle.ucl_pass.specs.CellRule.{words_after, CellStands}
+use Rattle.ucl_pass.proofs.Common.{rules, List, ℕ, ◌∷◌, ◌++◌, sym, subst, ap, ◌∙◌, [], words_after, CellStands}
 use Rattle.ucl_shared.proofs.LogFacts.{opens_fresh}
 use Rattle.ucl_pass.proofs.KeptRule.{begins, begins_stands}
 use Rattle.ucl_pass.proofs.cell_board.CellBoard.open.Goals as goal

@@ -1,7 +1,4 @@
-use Rattle.std.proofs.Common.{ap, ◌∙◌}
-use Rattle.crossbeam_utils.specs.Seq.{cell_view}
-use Rattle.ucl_board.specs.History.{reading_of}
-use Rattle.ucl_pass.specs.CellViews.{knows}
+use Rattle.ucl_pass.proofs.Common.{ap, ◌∙◌, cell_view, reading_of, knows}
 use Rattle.ucl_pass.proofs.CallsBySteps.{are_words, read_continues, version_seen, read_says, read_steps, finishes_reading}
 use Rattle.ucl_pass.proofs.cell_board.CellBoard.read_by.Goals as goal
 

@@ -1,8 +1,4 @@
-use Rattle.std.proofs.Common.{ℕ, ◌<◌, sym, ◌∙◌, subst}
-use Rattle.crossbeam_utils.specs.Seq.{cell_view}
-use Rattle.ucl_board.specs.History.{entry_of}
-use Rattle.ucl_pass.specs.CellViews.{knows}
-use Rattle.ucl_pass.specs.CellSteps.{IsNextBoard}
+use Rattle.ucl_pass.proofs.Common.{ℕ, ◌<◌, sym, ◌∙◌, subst, cell_view, entry_of, knows, IsNextBoard}
 use Rattle.ucl_pass.proofs.CallsBySteps.{are_words, next_words, looked_number}
 use Rattle.ucl_pass.proofs.WholeReports.{refused_report, accepting, accepted_report, missed_report}
 use Rattle.ucl_pass.proofs.cell_board.CellBoard.report_by.Goals as goal

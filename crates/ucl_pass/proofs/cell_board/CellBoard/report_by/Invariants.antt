@@ -1,6 +1,4 @@
-use Rattle.std.proofs.Common.{◌≡◌}
-use Rattle.std.specs.Prelude.{IsSome}
-use Rattle.ucl_pass.specs.CellViews.{knows, calls_at}
+use Rattle.ucl_pass.proofs.Common.{◌≡◌, IsSome, knows, calls_at}
 use Rattle.ucl_pass.proofs.CallsBySteps.{TriedReport}
 use Rattle.ucl_pass.proofs.cell_board.CellBoard.report_by.Given as goal
 

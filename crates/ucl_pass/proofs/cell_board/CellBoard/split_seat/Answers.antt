@@ -1,8 +1,4 @@
-use Rattle.std.proofs.Common.{rules, sym, subst}
-use Rattle.crossbeam_utils.specs.Seq.{cell_view}
-use Rattle.ucl_pass.specs.declared.view.CellView.{CellView}
-use Rattle.ucl_pass.specs.CellViews.{left_cell_pass}
-use Rattle.ucl_pass.specs.CellRule.{CellStandAfterSplit}
+use Rattle.ucl_pass.proofs.Common.{rules, sym, subst, cell_view, CellView, left_cell_pass, CellStandAfterSplit}
 use Rattle.ucl_pass.proofs.KeptRule.{seconds, split_stands}
 use Rattle.ucl_pass.proofs.cell_board.CellBoard.split_seat.Goals as goal
 

@@ -1,9 +1,4 @@
-use Rattle.std.proofs.Common.{rules, sym, subst}
-use Rattle.crossbeam_utils.specs.Seq.{cell_view}
-use Rattle.ucl_word.specs.declared.event.EventCall.{EventCall}
-use Rattle.ucl_board.specs.Fixtures.{IsMatch}
-use Rattle.ucl_board.specs.History.{entry_of}
-use Rattle.ucl_pass.specs.CellSteps.{IsNextBoard, AreAccepting, AddOfCell}
+use Rattle.ucl_pass.proofs.Common.{rules, sym, subst, cell_view, EventCall, IsMatch, entry_of, IsNextBoard, AreAccepting, AddOfCell}
 use Rattle.ucl_pass.proofs.KeptRule.{adds, add_seen, add_says, add_decides, AnswersAdd, stands_too, told_by, stands_by}
 use Rattle.ucl_pass.proofs.Standing.{stands_on}
 use Rattle.ucl_pass.proofs.cell_board.CellBoard.store_event.Goals as goal

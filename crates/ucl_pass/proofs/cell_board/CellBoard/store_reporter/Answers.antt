@@ -1,6 +1,4 @@
-use Rattle.std.proofs.Common.{rules}
-use Rattle.crossbeam_utils.specs.Seq.{cell_view}
-use Rattle.ucl_pass.specs.CellSteps.{EnlistOfCell}
+use Rattle.ucl_pass.proofs.Common.{rules, cell_view, EnlistOfCell}
 use Rattle.ucl_pass.proofs.KeptRule.{enlists, enlist_seen, enlist_says, enlist_does, stands_too, told_by, stands_by}
 use Rattle.ucl_pass.proofs.Standing.{stands_on}
 use Rattle.ucl_pass.proofs.cell_board.CellBoard.store_reporter.Goals as goal

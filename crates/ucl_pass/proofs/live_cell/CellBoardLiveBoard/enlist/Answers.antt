@@ -1,5 +1,4 @@
-use Rattle.std.proofs.Common.{true, false, ◌∙◌}
-use Rattle.ucl_pass.specs.CellViews.{knows}
+use Rattle.ucl_pass.proofs.Common.{true, false, ◌∙◌, knows}
 use Rattle.ucl_pass.proofs.Reports.{enlistment_counts}
 use Rattle.ucl_pass.proofs.live_cell.CellBoardLiveBoard.enlist.Goals as goal
 

@@ -1,10 +1,6 @@
-use Rattle.std.proofs.Common.{◌≡◌, ℕ, Some, length, set, arith, sym, ap, ◌∙◌, get_or, rules}
-use Rattle.ucl_steps.specs.declared.step.Step.TheVariants.{First}
+use Rattle.ucl_steps.proofs.Common.{◌≡◌, ℕ, Some, length, set, arith, sym, ap, ◌∙◌, get_or, rules, First, Checking, Within, with_held, state_of, holds_of}
 use Rattle.ucl_steps.specs.declared.machine.Held.{Held}
 use Rattle.ucl_steps.specs.declared.machine.Held.TheVariants as has
-use Rattle.ucl_steps.specs.Protocol.{Checking}
-use Rattle.ucl_steps.specs.Machine.{Within, with_held}
-use Rattle.ucl_steps.specs.Running.{state_of, holds_of}
 use Rattle.ucl_steps.proofs.Reachable.{first_last, first_more, loaded_few, holds, step_is}
 use Rattle.ucl_steps.proofs.machine.Machine.first.Goals.{then-loaded-eq11, else-loaded-eq11}
 use Rattle.ucl_steps.proofs.machine.Machine.first.Goals as goal

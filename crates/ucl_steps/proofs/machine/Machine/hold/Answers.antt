@@ -1,5 +1,4 @@
-use Rattle.std.proofs.Common.{ℕ, ◌-◌, map, ap, ◌∙◌}
-use Rattle.ucl_steps.specs.Running.{holds_of}
+use Rattle.ucl_steps.proofs.Common.{ℕ, ◌-◌, map, ap, ◌∙◌, holds_of}
 use Rattle.ucl_steps.proofs.Reachable.{hold_reporter, hold_reader}
 use Rattle.ucl_steps.proofs.machine.Machine.hold.Goals as goal
 

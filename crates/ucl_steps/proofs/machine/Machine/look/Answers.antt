@@ -1,7 +1,5 @@
-use Rattle.std.proofs.Common.{◌≡◌, ℕ, Some, ◌-◌, refl, sym, ap, ◌∙◌, subst, get_or, rules}
-use Rattle.ucl_word.specs.Layout.{IsWord}
+use Rattle.ucl_steps.proofs.Common.{◌≡◌, ℕ, Some, ◌-◌, refl, sym, ap, ◌∙◌, subst, get_or, rules, IsWord, state_of}
 use Rattle.ucl_steps.specs.declared.machine.Held.TheVariants as has
-use Rattle.ucl_steps.specs.Running.{state_of}
 use Rattle.ucl_steps.proofs.Reachable.{call_below, wanted_word}
 use Rattle.ucl_steps.proofs.machine.Machine.look.Goals as goal
 

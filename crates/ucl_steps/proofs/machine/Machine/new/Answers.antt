@@ -1,6 +1,4 @@
-use Rattle.std.proofs.Common.{◌≡◌, ℕ, map, ap, ◌∙◌}
-use Rattle.ucl_steps.specs.Machine.{Idle}
-use Rattle.ucl_steps.specs.Running.{holds_of}
+use Rattle.ucl_steps.proofs.Common.{◌≡◌, ℕ, map, ap, ◌∙◌, Idle, holds_of}
 use Rattle.ucl_steps.proofs.Reachable.{idle_all, start_is}
 use Rattle.ucl_steps.proofs.machine.Machine.new.Goals as goal
 

@@ -1,5 +1,4 @@
-use Rattle.std.proofs.Common.{arith}
-use Rattle.ucl_steps.specs.Running.{state_of}
+use Rattle.ucl_steps.proofs.Common.{arith, state_of}
 use Rattle.ucl_steps.proofs.Reachable.{reached_short}
 use Rattle.ucl_steps.proofs.machine.Machine.now.Goals as goal
 

@@ -1,7 +1,4 @@
-use Rattle.std.proofs.Common.{List, ap, ◌∙◌}
-use Rattle.ucl_steps.specs.Machine.{Answered, with_held, with_reply}
-use Rattle.ucl_steps.specs.Running.{state_of}
-use Rattle.ucl_steps.specs.declared.trace.CallRecord.{CallRecord}
+use Rattle.ucl_steps.proofs.Common.{List, ap, ◌∙◌, Answered, with_held, with_reply, state_of, CallRecord}
 use Rattle.ucl_steps.proofs.Reachable.{set-change_at}
 use Rattle.ucl_steps.proofs.machine.Machine.reply.Goals as goal
 

@@ -1,10 +1,5 @@
-use Rattle.std.proofs.Common.{◌≡◌, Some, length, refl, sym, ap, ◌∙◌, rules}
-use Rattle.ucl_word.specs.Layout.{record_at}
-use Rattle.ucl_board.specs.Words.{word_at}
-use Rattle.ucl_steps.specs.declared.trace.Reply.TheVariants.{Accepted}
-use Rattle.ucl_steps.specs.Machine.{after_reply, stored}
+use Rattle.ucl_steps.proofs.Common.{◌≡◌, Some, length, refl, sym, ap, ◌∙◌, rules, record_at, word_at, Accepted, after_reply, stored, state_of}
 use Rattle.ucl_steps.specs.declared.machine.Held.TheVariants as has
-use Rattle.ucl_steps.specs.Running.{state_of}
 use Rattle.ucl_steps.proofs.Reachable.{call_below, won_step}
 use Rattle.ucl_steps.proofs.machine.Machine.swap.Goals as goal
 

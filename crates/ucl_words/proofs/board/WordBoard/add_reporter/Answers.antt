@@ -1,5 +1,4 @@
-use Rattle.std.proofs.Common.{ℕ, sym, ◌∙◌, subst, arith}
-use Rattle.ucl_words.specs.WordRule.{Stands}
+use Rattle.ucl_words.proofs.Common.{ℕ, sym, ◌∙◌, subst, arith, Stands}
 use Rattle.ucl_words.proofs.KeptRule.{enlists}
 use Rattle.ucl_words.proofs.board.WordBoard.add_reporter.Goals as goal
 

@@ -1,5 +1,4 @@
-use Rattle.std.proofs.Common.{length, sym, ◌∙◌, arith, length-set}
-use Rattle.ucl_board.proofs.Beginnings.{begins_length, begins_through}
+use Rattle.ucl_words.proofs.Common.{length, sym, ◌∙◌, arith, length-set, begins_length, begins_through}
 use Rattle.ucl_words.proofs.KeptRule.{firsts}
 use Rattle.ucl_words.proofs.CollectFacts.{collected_none, collected_set}
 use Rattle.ucl_words.proofs.DoingFacts.{first_next, first_on, firsts_all}

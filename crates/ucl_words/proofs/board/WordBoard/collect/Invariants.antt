@@ -1,9 +1,7 @@
-use Rattle.std.proofs.Common.{◌≡◌, length}
-use Rattle.ucl_board.specs.Log.{First}
+use Rattle.ucl_words.proofs.Common.{◌≡◌, length, First, GoesAlong}
 use Rattle.ucl_words.proofs.CollectFacts.{Collected}
 use Rattle.ucl_words.proofs.DoingFacts.{Firsts}
 use Rattle.ucl_steps.specs.declared.step.Call.TheVariants as calls
-use Rattle.ucl_words.specs.WordDoings.{GoesAlong}
 use Rattle.ucl_words.proofs.board.WordBoard.collect.Given as goal
 
 abbrev pub invariant-loop-i : goal.invariant-loop-i

@@ -1,6 +1,4 @@
-use Rattle.std.proofs.Common.{rules, ℕ, ap, sym, ◌∙◌, subst, arith}
-use Rattle.std.specs.Prelude.{IsSome}
-use Rattle.ucl_words.specs.declared.view.WordView.{WordView}
+use Rattle.ucl_words.proofs.Common.{rules, ℕ, ap, sym, ◌∙◌, subst, arith, IsSome, WordView}
 use Rattle.ucl_words.proofs.KeptRule.{joins}
 use Rattle.ucl_words.proofs.EnlistmentFacts.{met_steady, met_continues, met_says, met_trail, met_steps, after_told}
 use Rattle.ucl_words.proofs.board.WordBoard.hear_by.Goals as goal

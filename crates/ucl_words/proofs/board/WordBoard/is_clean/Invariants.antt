@@ -1,8 +1,5 @@
-use Rattle.std.proofs.Common.{◌≡◌, ◌<◌}
-use Rattle.ucl_shared.specs.Steps.{no_call}
-use Rattle.ucl_words.specs.WordRule.{Stands}
+use Rattle.ucl_words.proofs.Common.{◌≡◌, ◌<◌, no_call, Stands, GoesAlong}
 use Rattle.ucl_steps.specs.declared.step.Call.TheVariants as calls
-use Rattle.ucl_words.specs.WordDoings.{GoesAlong}
 use Rattle.ucl_words.proofs.SecondCollect.{Comparing, FoundAgain}
 use Rattle.ucl_words.proofs.board.WordBoard.is_clean.Given as goal
 

@@ -1,7 +1,5 @@
-use Rattle.std.proofs.Common.{ℕ, sym, ◌∙◌, subst, arith}
+use Rattle.ucl_words.proofs.Common.{ℕ, sym, ◌∙◌, subst, arith, Loads, Stands}
 use Rattle.ucl_board.specs.Log as trails
-use Rattle.ucl_words.specs.WordSteps.{Loads}
-use Rattle.ucl_words.specs.WordRule.{Stands}
 use Rattle.ucl_words.proofs.KeptRule.{looks}
 use Rattle.ucl_words.proofs.board.WordBoard.look.Goals as goal
 

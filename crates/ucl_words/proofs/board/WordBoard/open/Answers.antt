@@ -1,7 +1,5 @@
 use Rattle.ucl_shared.proofs.LogFacts.{opens_fresh}
-use Rattle.ucl_words.specs.WordRule.{words_after}
-use Rattle.std.proofs.Common.{ℕ, sym, subst}
-use Rattle.ucl_words.specs.WordRule.{Stands}
+use Rattle.ucl_words.proofs.Common.{words_after, ℕ, sym, subst, Stands}
 use Rattle.ucl_words.proofs.KeptRule.{opens, opened_stands}
 use Rattle.ucl_words.proofs.board.WordBoard.open.Goals as goal
 

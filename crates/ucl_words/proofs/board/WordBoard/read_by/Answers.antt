@@ -1,6 +1,4 @@
-use Rattle.std.proofs.Common.{length, inl, ◌∙◌, refl, ap, arith}
-use Rattle.ucl_board.specs.History.{reading_of}
-use Rattle.ucl_board.proofs.Beginnings.{begins_length}
+use Rattle.ucl_words.proofs.Common.{length, inl, ◌∙◌, refl, ap, arith, reading_of, begins_length}
 use Rattle.ucl_words.proofs.CollectFacts.{tried_none, tried_longer, tried_again, are_words, reads}
 use Rattle.ucl_words.proofs.DoingFacts.{tries_may, tries_held, tries_again, tries_clean}
 use Rattle.ucl_steps.specs.declared.step.Call.TheVariants as calls

@@ -1,9 +1,7 @@
-use Rattle.std.proofs.Common.{◌≡◌, ◌-◌, length}
-use Rattle.ucl_steps.specs.Trails.{most_tries}
+use Rattle.ucl_words.proofs.Common.{◌≡◌, ◌-◌, length, most_tries, GoesAlong}
 use Rattle.ucl_words.proofs.CollectFacts.{Tried}
 use Rattle.ucl_words.proofs.DoingFacts.{Tries}
 use Rattle.ucl_steps.specs.declared.step.Call.TheVariants as calls
-use Rattle.ucl_words.specs.WordDoings.{GoesAlong}
 use Rattle.ucl_words.proofs.board.WordBoard.read_by.Given as goal
 
 abbrev pub invariant-tries : goal.invariant-tries

@@ -1,10 +1,5 @@
-use Rattle.std.proofs.Common.{◌≡◌, Err, sym, ◌∙◌, subst, arith, rules}
-use Rattle.std.specs.Prelude.{Result}
-use Rattle.ucl_word.specs.declared.event.Accepted.{Accepted}
-use Rattle.ucl_word.specs.declared.refusal.Refusal.{Refusal}
-use Rattle.ucl_board.specs.declared.entry.Entry.{Entry}
-use Rattle.ucl_board.proofs.Beginnings.{begins_length}
-use Rattle.ucl_words.specs.WordSteps.{IsNextWord}
+use Rattle.ucl_words.proofs.Common.{◌≡◌, sym, ◌∙◌, subst, arith, rules, Result, Accepted, Refusal, Entry, begins_length, IsNextWord}
+use Rattle.std.proofs.Common.{Err}
 use Rattle.ucl_words.proofs.StepRuns.{found_valid}
 use Rattle.ucl_words.proofs.ReportFacts.{next_after, me_in}
 use Rattle.ucl_words.proofs.DoingFacts.{holding_for}
@@ -31,18 +26,7 @@ returns-in_err-next c =
     let by : Reported v call (Err refusal) u =
     refused_report v u call c.args.reporter c.look-loaded.result said.game c.requires.me c.requires.steady said.looks said.does refusal c.in_err-next.ensures.refused in
     let all = subst (λ (r : Result Accepted Refusal). Reported v call r u) (sym is) by in
-    record {
-      own = said.own;
-      seat = said.seat;
-      steady = all.steady;
-      always = all.always;
-      accepted = all.accepted;
-      refused = all.refused;
-      steps = all.steps;
-      answers = all.answers;
-      along = all.along;
-      stands = said.stands;
-    }
+    search (arith, said.own, said.seat, all.steady, all.always, all.accepted, all.refused, all.steps, all.answers, all.along, said.stands)
 
 pub swap-found-requires-clause-acts : goal.swap-found-requires-clause-acts
 swap-found-requires-clause-acts c = c.look-loaded.ensures.looks.loads.sees.goes.acts
@@ -67,18 +51,7 @@ returns-then-found-loaded c =
     let all = accepted_report c.args.seat.now.me.0 c.look-loaded.new.seat.me.0 c.args.call.now c.args.reporter c.look-loaded.result said.game c.requires.me c.requires.steady said.looks said.does
     next.accepted.0 c.in_ok-next.next next.valid next.record c.of-entry.result c.of-entry.ensures c.swap-found.new.seat.me.0 c.swap-found.result stored.won stored.missed stored.does
     c.if-found-loaded.true c.number_of.result c.number_of.ensures.value in
-    record {
-      own = stored.own ∙ said.own;
-      seat = stored.seat ∙ said.seat;
-      steady = all.steady;
-      always = all.always;
-      accepted = all.accepted;
-      refused = all.refused;
-      steps = all.steps;
-      answers = all.answers;
-      along = all.along;
-      stands = stored.stands;
-    }
+    search (arith, stored.own, said.own, stored.seat, said.seat, all.steady, all.always, all.accepted, all.refused, all.steps, all.answers, all.along, stored.stands)
 
 pub returns-else-found-loaded : goal.returns-else-found-loaded
 returns-else-found-loaded c =
@@ -88,15 +61,4 @@ returns-else-found-loaded c =
     let all = missed_report c.args.seat.now.me.0 c.look-loaded.new.seat.me.0 c.args.call.now c.args.reporter c.look-loaded.result said.game c.requires.me c.requires.steady said.looks said.does
     next.accepted.0 c.in_ok-next.next next.valid next.record c.of-entry.result c.of-entry.ensures c.swap-found.new.seat.me.0 c.swap-found.result stored.won stored.missed stored.does
     c.if-found-loaded.false c.number_of-else-found-loaded.result c.number_of-else-found-loaded.ensures.value in
-    record {
-      own = stored.own ∙ said.own;
-      seat = stored.seat ∙ said.seat;
-      steady = all.steady;
-      always = all.always;
-      accepted = all.accepted;
-      refused = all.refused;
-      steps = all.steps;
-      answers = all.answers;
-      along = all.along;
-      stands = stored.stands;
-    }
+    search (arith, stored.own, said.own, stored.seat, said.seat, all.steady, all.always, all.accepted, all.refused, all.steps, all.answers, all.along, stored.stands)

@@ -1,12 +1,4 @@
-use Rattle.std.proofs.Common.{◌≡◌, ap, refl, sym, subst}
-use Rattle.ucl_shared.specs.declared.view.View.{View}
-use Rattle.ucl_steps.specs.Protocol.{Nothing}
-use Rattle.ucl_words.specs.declared.view.WordView.{WordView}
-use Rattle.ucl_shared.specs.Views.{count_of, trail_of}
-use Rattle.ucl_words.specs.WordCalls.{IsSteady}
-use Rattle.ucl_words.specs.WordDoings.{WordHasReported}
-use Rattle.ucl_words.specs.WordRule.{StandAfterSplit}
-use Rattle.ucl_words.specs.WordViews.{WordPass, view_of}
+use Rattle.ucl_words.proofs.Common.{◌≡◌, ap, refl, sym, subst, View, Nothing, WordView, count_of, trail_of, IsSteady, WordHasReported, StandAfterSplit, WordPass, view_of}
 use Rattle.ucl_words.proofs.EnlistmentFacts.{kept_steady, second_steady, second_steps}
 use Rattle.ucl_words.proofs.board.WordBoard.split_now.Goals as goal
 

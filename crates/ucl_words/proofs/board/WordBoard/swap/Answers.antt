@@ -1,10 +1,4 @@
-use Rattle.std.proofs.Common.{ℕ, ◌==◌, ◌≤◌, sym, ◌∙◌, subst, arith}
-use mathlib.Core.Option.{some}
-use prog.Atomic.{either}
-use Rattle.atomic_table.specs.Table.{step, Allows}
-use Rattle.ucl_board.specs.declared.entry.Entry.{Entry}
-use Rattle.ucl_words.specs.WordRule.{TableKeepsOneHistory, Stands}
-use Rattle.ucl_words.specs.WordSteps.{ExchangeStep}
+use Rattle.ucl_words.proofs.Common.{ℕ, ◌==◌, ◌≤◌, sym, ◌∙◌, subst, arith, some, either, step, Allows, Entry, TableKeepsOneHistory, Stands, ExchangeStep}
 use Rattle.ucl_words.proofs.KeptRule.{swaps}
 use Rattle.ucl_words.proofs.board.WordBoard.swap.Goals as goal
 

@@ -1,0 +1,62 @@
+-- The words and lemmas from elsewhere that the proofs of this crate share.
+pub use Rattle.std.proofs.Common.{Bool, Err, List, None, Ok, Option, Some, [], add-one, ap, append-nil, append_assoc, arith, cond, drop, eq-eqb, false, get_or, get_or-set_other, inl, inr, le_refl}
+pub use Rattle.std.proofs.Common.{length, length-append, length-take, map, nat_le, ne_eqb, refl, rules, set, subst, suc, sym, take, true, zero, ℕ, ⊎_elim, ◌&&◌, ◌*◌, ◌++◌, ◌+◌, ◌-◌, ◌<◌, ◌==◌, ◌∙◌}
+pub use Rattle.std.proofs.Common.{◌∷◌, ◌≡◌, ◌≢◌, ◌≤◌, ◌⊎◌}
+pub use Rattle.std.proofs.Math.Seq.{take-append_seam, take-length}
+pub use Rattle.std.proofs.lemmas.Bool.{and_parts, cases_eq, cases_lt, cases_order, eqb-false, eqb-true, false≢true, le-leb, leb-true, not-false, not_from_false}
+pub use Rattle.std.proofs.lemmas.List.{drop_more, ext_get_or, get_or_append_left, get_or_default, get_or_push, length-drop, length-map, length-replicate, length-set, length-take-le, length_push}
+pub use Rattle.std.proofs.lemmas.List.{map-append, map-set, take-append-drop, take-append-le, take-take, take_all, take_more_set}
+pub use Rattle.std.proofs.lemmas.List.Concat.{flat_map-append}
+pub use Rattle.std.proofs.lemmas.List.Elements.{All-append, All-cons, All-head, All-nil, All-tail, filter-append}
+pub use Rattle.std.proofs.lemmas.List.Sums.{sum_by-cons, sum_by-le}
+pub use Rattle.std.proofs.lemmas.Option.{cond_some, none-some, option_and_then_some, same_Some, slice_get-get_or, slice_get-map, slice_get_past}
+pub use Rattle.std.specs.List.{AllByRecursion, sum_by}
+pub use Rattle.std.specs.Option.{option_and_then, option_map}
+pub use Rattle.std.specs.Prelude.{All, IfSome, IsOk, IsSome, IsSomeAnd, filter, is_some, replicate, slice_get, slice_index, slice_set, ◌↔◌}
+pub use Rattle.ucl_board.proofs.Beginnings.{at_beginning, begins_length, begins_same, begins_through, get_back, take_beginning}
+pub use Rattle.ucl_board.proofs.Histories.{board_length, entries-append, entries_same, legal_match, match_valid, word_after}
+pub use Rattle.ucl_board.proofs.HistoryLaws.{may_attempt, same_number, same_word, versions}
+pub use Rattle.ucl_board.specs.Fixtures.{IsMatch}
+pub use Rattle.ucl_board.specs.History.{IsLegal, MayFollow, attempted, board_of, entries_of, entry_of, match_after, reading_of, sequential_reply, snapshot_at}
+pub use Rattle.ucl_board.specs.Log.{Access, AccessKind, Log, Logged, Taken, access, access_list, history_of, logged_by}
+pub use Rattle.ucl_board.specs.Words.{AreWords, greatest_version, version_of, word_at}
+pub use Rattle.ucl_board.specs.declared.entry.Entry.{Entry}
+pub use Rattle.ucl_steps.specs.Actors.{Actor, AreStepsOf, IsOfActor, IsRunOfActors, IsRunOfLog, IsTakenBy, accesses_of_log}
+pub use Rattle.ucl_steps.specs.CallRuns.{IsInCast, access_in, accesses_holding, accesses_of_step, step_of}
+pub use Rattle.ucl_steps.specs.Growing.{HasGoneOn, HaveGoneOn, records_by}
+pub use Rattle.ucl_steps.specs.Laws.{ReadingsAreSnapshots, ReportsAreSequential, RunsAreLinearizable, UncleanTriesAreFew, UncleanTriesSeeMore, WordsAreOfTheHistory}
+pub use Rattle.ucl_steps.specs.Linearizable.{AcceptedIsEntry, BeginsAt, EndedBySteps, EndsAt, EntryHasOneCall, IsDecided, IsEntry, IsLinearizable, IsRefused, Makes, PointWithinCall, Precedes}
+pub use Rattle.ucl_steps.specs.Linearizable.{ReadingIsSnapshot, RealTimeOrder, RefusedAtPoint, VersionsRise, begun_in, caller_and_call, is_accepted, version_read}
+pub use Rattle.ucl_steps.specs.Machine.{Answered, Callers, Holds, Idle, MachineState, Wanting, Within, after_begin, after_end, after_outcome, after_reply, after_step, after_step_holding}
+pub use Rattle.ucl_steps.specs.Machine.{after_steps, caller_of, change_at, held_at_begin, held_by, initial_state, may_begin, set_held, state_after_first, state_after_look, state_after_second}
+pub use Rattle.ucl_steps.specs.Machine.{state_after_swap, stored, with_end, with_held, with_reply}
+pub use Rattle.ucl_steps.specs.PassRuns.{AreRecordsOf, CanHold, FitsHeld, FitsRun, IsOf, IsRecordOf, IsUnderWay, Move, call_of, call_under_way, caller_for, calls_asked, calls_by, calls_told}
+pub use Rattle.ucl_steps.specs.PassRuns.{cast_for, end_by, is_of, left_by, steps_of_move, steps_of_moves}
+pub use Rattle.ucl_steps.specs.Progress.{SomeCallIsDecided, decided_in, finished_by, is_caller, most_between, steps_by}
+pub use Rattle.ucl_steps.specs.Protocol.{Answer, Answers, Checking, Collecting, Doing, GoesOn, Held, Holding, IsNext, MayAsk, Nothing, Outcome, after_first, after_look, after_second, after_swap}
+pub use Rattle.ucl_steps.specs.Protocol.{by_rules, collected, compared, done_by, ends, firsts_holding, goes, loaded, looked, nothing_done, seconds_holding, swapped, swaps_holding}
+pub use Rattle.ucl_steps.specs.Running.{IsReachable, Takes, holds_of, state_of}
+pub use Rattle.ucl_steps.specs.Trails.{Does, Follows, IsClean, IsCollect, IsFoundIn, IsUnclean, accesses_of}
+pub use Rattle.ucl_steps.specs.declared.step.Call.{Call}
+pub use Rattle.ucl_steps.specs.declared.step.Call.TheVariants.{Event, Reading}
+pub use Rattle.ucl_steps.specs.declared.step.Caller.{Caller}
+pub use Rattle.ucl_steps.specs.declared.step.Caller.TheVariants.{Reader, Reporter}
+pub use Rattle.ucl_steps.specs.declared.step.Cast.{Cast}
+pub use Rattle.ucl_steps.specs.declared.step.Step.{Step}
+pub use Rattle.ucl_steps.specs.declared.step.Step.TheVariants.{Begin, End, First, Look, Second, Swap}
+pub use Rattle.ucl_steps.specs.declared.trace.CallRecord.{CallRecord}
+pub use Rattle.ucl_steps.specs.declared.trace.Reply.{Reply}
+pub use Rattle.ucl_steps.specs.declared.trace.Reply.TheVariants.{Accepted, Copied, Refused}
+pub use Rattle.ucl_word.proofs.Sequences.{at_below, at_either, at_end, at_longer, may_next, may_none}
+pub use Rattle.ucl_word.specs.Layout.{IsWord, record_at, word_of}
+pub use Rattle.ucl_word.specs.Record.{IsReporter, scheduled}
+pub use Rattle.ucl_word.specs.Rules.{after, answer, refusal_of, reply_of}
+pub use Rattle.ucl_word.specs.declared.event.EventCall.{EventCall}
+pub use Rattle.ucl_word.specs.declared.record.MatchRecord.{MatchRecord}
+pub use Rattle.ucl_word.specs.declared.refusal.Refusal.{Refusal}
+pub use Rattle.ucl_word.specs.declared.refusal.Refusal.TheVariants.{Stale}
+pub use lib.ListN.{get_elem?}
+pub use mathlib.Core.List.{IsPrefix}
+pub use mathlib.Core.Logic.{dite}
+pub use mathlib.Core.Option.{some, some-injective, some-ne-none}
+pub use native.Mathlib.Decide.{ℕ_discrete}
