@@ -1,6 +1,6 @@
 -- Passes whose numbers rise: what they have entered is what there is, where the counts are the same.
 use Rattle.std.proofs.Common.{◌≡◌, ◌≢◌, inl, inr, ⊎_elim, ℕ, ◌+◌, ◌<◌, ◌≤◌, Bool, true, false, cond, ◌==◌, List, [], ◌∷◌, ◌++◌, length}
-use Rattle.std.proofs.Common.{refl, sym, ap, ◌∙◌, subst, arith, append-nil, length-append}
+use Rattle.std.proofs.Common.{refl, sym, ap, ◌∙◌, subst, arith, append-nil, length-append, true≢false}
 use Rattle.std.specs.Prelude.{All, filter, not}
 use Rattle.std.proofs.lemmas.Bool.{eqb-true}
 use Rattle.std.proofs.lemmas.Bool.Decides.{eqb_tells}
@@ -12,7 +12,7 @@ use Rattle.ucl_board.specs.declared.entry.Entry.{Entry}
 use Rattle.ucl_board.proofs.Beginnings.{begins_through}
 use Rattle.ucl_shared.specs.Passes.{PassView, entries_by}
 use Rattle.ucl_shared.proofs.Lists.{by_more}
-use Rattle.ucl_evenings_threads.specs.Whole.{IsOneOf, IsSeenIn, IsTheirs, NumbersRise, AreTallied, accepted_by_all}
+use Rattle.ucl_evenings_threads.specs.Whole.{AreAllOf, AreTallied, IsOneOf, IsSeenIn, IsTheirs, NumbersRise, accepted_by_all}
 use Rattle.ucl_evenings_threads.specs.declared.tally.Tally.{Tally}
 
 -- the entries of all but one
@@ -111,11 +111,10 @@ accepted_all (k ∷ views) t h same =
 
 -- ---- counted passes
 
-pub enough : (views : List PassView) (tally : Tally) (t : List Entry) → AreTallied views tally → All (IsSeenIn t) views → tally.accepted ≤ length t
-enough views tally t c h =
+pub enough : (views : List PassView) (t : List Entry) → NumbersRise 0 255 views → All (IsSeenIn t) views → accepted_by_all views ≤ length t
+enough views t rise h =
     let a = accepted_few views t h in
-    let b = held_few 0 tally.highest views t c.rise in
-    let n = c.count in omega arith
+    let b = held_few 0 255 views t rise in omega arith
 
 prefixes : (views : List PassView) (t : List Entry) → All (IsSeenIn t) views → All (λ (k : PassView). IsPrefix k.seen t) views
 prefixes [] t h = All-nil (λ (k : PassView). IsPrefix k.seen t)
@@ -126,15 +125,14 @@ unfolding NumbersRise
 rise_wider low high most [] r le = omega arith
 rise_wider low high most (v ∷ views) r le = (r.0, rise_wider v.number high most views r.1 le)
 
-pub theirs : (views : List PassView) (tally : Tally) (t : List Entry) → AreTallied views tally → All (IsSeenIn t) views → length t ≡ tally.accepted → IsTheirs views t
-theirs views tally t c h same =
+pub theirs : (views : List PassView) (t : List Entry) → NumbersRise 0 255 views → All (IsSeenIn t) views → length t ≡ accepted_by_all views → IsTheirs views t
+theirs views t rise h same =
     let a = accepted_few views t h in
-    let b = held_few 0 tally.highest views t c.rise in
-    let n = c.count in record {
-      rise = rise_wider 0 tally.highest 255 views c.rise c.most;
+    let b = held_few 0 255 views t rise in record {
+      rise = rise;
       seen = prefixes views t h;
       own = accepted_all views t h (omega arith);
-      no_other = held_all 0 tally.highest views t c.rise (omega arith);
+      no_other = held_all 0 255 views t rise (omega arith);
     }
 
 pub seen_on : (s t : List Entry) (views : List PassView) → IsPrefix s t → All (IsSeenIn s) views → All (IsSeenIn t) views
@@ -154,18 +152,52 @@ accepted_more : (views : List PassView) (k : PassView) → accepted_by_all (view
 accepted_more [] k = omega arith
 accepted_more (v ∷ views) k = let rest = accepted_more views k in omega arith
 
-pub tallied_none : (tally : Tally) → tally.accepted ≡ 0 → tally.highest ≡ 0 → AreTallied [] tally
+-- all but the last of them rise, and end below it
+rise_front : (low high : ℕ) (views : List PassView) (k : PassView) → NumbersRise low high (views ++ k ∷ []) → (n : ℕ) × NumbersRise low n views × (n < k.number) × (k.number ≤ high)
 unfolding NumbersRise
-tallied_none tally a h = record { rise = omega arith; most = omega arith; count = a; bound = omega arith }
+rise_front low high [] k r = (low, omega arith, r.0, r.1)
+rise_front low high (v ∷ views) k r = let x = rise_front v.number high views k r.1 in (x.0, (r.0, x.1), x.2, x.3)
 
-pub tallied_more : (views : List PassView) (k : PassView) (a b : Tally) → AreTallied views a → a.highest < k.number → b.highest ≡ k.number → b.accepted ≡ a.accepted + length k.mine
-    → length k.mine ≤ 65535 → k.number ≤ 255 → AreTallied (views ++ k ∷ []) b
-tallied_more views k a b c above high sum few small =
-    let n = c.count in
-    let bound = c.bound in
+last_least : (n : ℕ) (views : List PassView) (k : PassView) (b : Tally) → b.highest ≡ k.number → NumbersRise 0 n (views ++ k ∷ []) → b.highest ≤ n
+last_least n views k b high r = let x = rise_front 0 n views k r in let below = x.3 in omega arith
+
+both_ways : {A : Type 0} (tally : Tally) → tally.rises ≡ false → tally.rises ≡ true → A
+both_ways tally fall rise = absurd (true≢false (sym rise ∙ fall))
+
+pub tallied_none : (tally : Tally) → tally.accepted ≡ 0 → tally.highest ≡ 0 → tally.rises ≡ true → AreTallied [] tally
+unfolding NumbersRise
+tallied_none tally a h rise =
+    record { most = omega arith; rise = λ is. omega arith; count = λ is. a; bound = λ is. omega arith; falls = λ fall r. both_ways tally fall rise; least = λ n r. omega arith }
+
+pub tallied_more : (views : List PassView) (k : PassView) (a b : Tally) → AreTallied views a → a.highest < k.number → k.number ≤ 255 → b.highest ≡ k.number → b.rises ≡ a.rises
+    → (a.rises ≡ true → b.accepted ≡ a.accepted + length k.mine) → length k.mine ≤ 65535 → AreTallied (views ++ k ∷ []) b
+tallied_more views k a b c above small high same sum few =
     let more = accepted_more views k in record {
-      rise = subst (λ (h : ℕ). NumbersRise 0 h (views ++ k ∷ [])) (sym high) (rise_more 0 a.highest views k c.rise above);
       most = omega arith;
-      count = omega arith;
-      bound = omega arith;
+      rise = λ is. subst (λ (h : ℕ). NumbersRise 0 h (views ++ k ∷ [])) (sym high) (rise_more 0 a.highest views k (c.rise (sym same ∙ is)) above);
+      count = λ is. let n = c.count (sym same ∙ is) in let s = sum (sym same ∙ is) in omega arith;
+      bound = λ is. let n = c.bound (sym same ∙ is) in let s = sum (sym same ∙ is) in omega arith;
+      falls = λ fall r.
+          let x = rise_front 0 255 views k r in
+          let below = x.2 in
+          let most = x.3 in c.falls (sym same ∙ fall) (rise_wider 0 x.0 255 views x.1 (omega arith));
+      least = λ n r. last_least n views k b high r;
     }
+
+pub tallied_stop : (views : List PassView) (k : PassView) (a b : Tally) → AreTallied views a → k.number ≤ a.highest → b.highest ≡ k.number → b.rises ≡ false → AreTallied (views ++ k ∷ []) b
+tallied_stop views k a b c low high fall =
+    let most = c.most in record {
+      most = omega arith;
+      rise = λ is. both_ways b fall is;
+      count = λ is. both_ways b fall is;
+      bound = λ is. both_ways b fall is;
+      falls = λ still r. let x = rise_front 0 255 views k r in let least = c.least x.0 x.1 in let below = x.2 in omega arith;
+      least = λ n r. last_least n views k b high r;
+    }
+
+pub counted_all : (views : List PassView) (tally : Tally) (version : ℕ) → AreTallied views tally → tally.rises ≡ true → version ≡ tally.accepted → AreAllOf views version
+counted_all views tally version c rise same = (rise_wider 0 tally.highest 255 views (c.rise rise) c.most, same ∙ c.count rise)
+
+pub not_false : (b : Bool) → not b ≡ false → b ≡ true
+not_false true e = refl
+not_false false e = absurd (true≢false e)

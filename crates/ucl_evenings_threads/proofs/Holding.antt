@@ -19,7 +19,6 @@ use Rattle.ucl_evenings.specs.declared.outcome.Outcome.TheVariants.{Entered, Ref
 use Rattle.ucl_evenings.specs.Answering.{calls_in}
 use Rattle.ucl_evenings.specs.Reporting.{GoThrough, HasReportedRows, IsOutcomeAt, past_point}
 use Rattle.ucl_evenings.specs.Showing.{RiseWithin, screens_shown}
-use Rattle.ucl_evenings_threads.specs.declared.tally.Tally.{Tally}
 use Rattle.ucl_evenings_threads.specs.declared.workers.Reporter.{Reporter}
 use Rattle.ucl_evenings_threads.specs.declared.workers.ReporterEnd.{ReporterEnd}
 use Rattle.ucl_evenings_threads.specs.declared.workers.Enlisted.{Enlisted}
@@ -27,8 +26,8 @@ use Rattle.ucl_evenings.specs.declared.screen.Screen.{Screen}
 use Rattle.ucl_evenings_threads.specs.declared.workers.ScreenEnd.{ScreenEnd}
 use Rattle.ucl_evenings_threads.specs.declared.workers.Looking.{Looking}
 use Rattle.ucl_evenings_threads.specs.Runs.{LastIsAtLeast, LastIs, HasAnsweredRows, HasRun, HasShownAbove, HasShownOf, HasTakenRows, WasEnlisted, IsLooking, views_of}
-use Rattle.ucl_evenings_threads.specs.Whole.{AreTallied, IsSeenIn, IsTheirs}
-use Rattle.ucl_evenings_threads.proofs.Counting.{seen_on, theirs}
+use Rattle.ucl_evenings_threads.specs.Whole.{AreAllOf, IsSeenIn, IsTheirs}
+use Rattle.ucl_evenings_threads.proofs.Counting.{enough, seen_on, theirs}
 use Rattle.ucl_evenings_threads.proofs.Ended.{ends_at, screens_end, shown_on, shown_since}
 use Rattle.ucl_evenings_threads.proofs.Zips.{zip_then, zip_then_of}
 
@@ -43,12 +42,23 @@ module _ (p z : PassView) (last : Reading) (on : Continues p z) (read : SharedRe
   pub whole_long : length whole ≡ last.version
   whole_long = length-take-le last.version z.seen read.high
 
-  pub theirs_at_end : (s : List Entry) (views more : List PassView) (tally : Tally) → IsPrefix s p.seen → All (IsSeenIn s) views → All (IsSeenIn p.seen) more → AreTallied (views ++ more) tally
-      → last.version ≡ tally.accepted → IsTheirs (views ++ more) whole
-  theirs_at_end s views more tally before heard heard_more tallied same =
-      theirs (views ++ more) tally whole tallied
-      (All-append (IsSeenIn whole) views more (seen_on s whole views (begins_through s p.seen whole before begins_whole) heard) (seen_on p.seen whole more begins_whole heard_more))
-      (whole_long ∙ same)
+  -- those who entered events before had been heard then, and the reporters later
+  module _ (s early : List Entry) (views more : List PassView) (since : IsPrefix s early) (before : IsPrefix early p.seen) (heard : All (IsSeenIn s) views) (heard_more : All (IsSeenIn early) more) where
+    pub heard_at_end : All (IsSeenIn whole) (views ++ more)
+    heard_at_end =
+        let later = begins_through early p.seen whole before begins_whole in
+        All-append (IsSeenIn whole) views more (seen_on s whole views (begins_through s early whole since later) heard) (seen_on early whole more later heard_more)
+
+    pub theirs_at_end : AreAllOf (views ++ more) last.version → IsTheirs (views ++ more) whole
+    theirs_at_end all = theirs (views ++ more) whole all.0 heard_at_end (whole_long ∙ all.1)
+
+    -- there was nothing after them
+    pub early_long : AreAllOf (views ++ more) last.version → last.version ≡ length early
+    early_long all =
+        let few = enough (views ++ more) early all.0 (All-append (IsSeenIn early) views more (seen_on s early views since heard) heard_more) in
+        let many = begins_length early whole (begins_through early p.seen whole before begins_whole) in
+        let long = whole_long in
+        let same = all.1 in omega arith
 
 module _ {B R P N V : Type 0} (live : boards.Ghosts B R P N) (board : B) (sink : sinks.Ghosts V) (clubs : List NamedClub) where
   shown_whole : (before s h : List Entry) (version : ℕ) (screen : Screen B V) (end : ScreenEnd R (Screen B V)) → IsPrefix s h → length h ≡ version

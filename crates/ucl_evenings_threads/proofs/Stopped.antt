@@ -11,7 +11,8 @@ use Rattle.ucl_shared.specs.Passes.{PassView}
 use Rattle.ucl_screen.specs.declared.night.NightEvent.{NightEvent}
 use Rattle.ucl_runs.specs.declared.fault.RunFault.{RunFault}
 use Rattle.ucl_runs.specs.declared.fault.RunFault.TheVariants.{Input, OutOfMemory, WriteFailed, NotOnDuty, NoThread, TooManyReporters, Strangers}
-use Rattle.ucl_evenings_threads.specs.Earlier.{HaveEntered, HasInOrder, IsOfEnlisting, StopsEntering, WasNotEntered, WasRefused, entries_for, numbers_of}
+use Rattle.ucl_evenings_threads.specs.Earlier.{HaveEntered, HasInOrder, StopsEntering, WasNotEntered, WasRefused, entries_for, numbers_of}
+use Rattle.ucl_evenings_threads.specs.Runs.{IsOfEnlisting}
 use Rattle.ucl_evenings_threads.proofs.Entering.{HaveSoFar, view_there}
 use Rattle.ucl_evenings_threads.proofs.Judged.{event_left}
 

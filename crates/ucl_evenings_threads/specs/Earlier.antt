@@ -18,6 +18,7 @@ use Rattle.ucl_screen.specs.Script.{first_event_row}
 use Rattle.ucl_runs.specs.declared.fault.RunFault.{RunFault}
 use Rattle.ucl_runs.specs.declared.fault.RunFault.TheVariants.{Input, OutOfMemory, TooManyReporters}
 use Rattle.ucl_evenings_threads.specs.declared.beginning.NoBeginning.TheVariants as no_beginning
+use Rattle.ucl_runs.specs.Faults.{HasNoNumberLeft}
 use Rattle.ucl_screen.specs.Events.{attempt_of}
 
 -- the history after events, the first of which is in this row, where each is accepted; or the first row whose event is refused
@@ -109,18 +110,6 @@ pub record WasNotEntered (p k : PassView) (event : NightEvent) (m : PassView) : 
   pub mine : m.mine ≡ k.mine
 
 -- ---- why events were not entered
-
--- all numbers of a live board are given, as a pass of it has seen
-pub record HasNoNumberLeft {B R P N : Type 0} (live : boards.Ghosts B R P N) (board : B) : Type 0 where
-  pub pass : R
-  pub own : live.is_reader board pass
-  pub listed : (live.reader pass).listed ≡ 255
-
--- reporters were not enlisted on a live board, for want of memory or of numbers
-abbrev pub IsOfEnlisting : {B R P N : Type 0} → boards.Ghosts B R P N → B → RunFault → Type 0
-IsOfEnlisting live board OutOfMemory = ⊤
-IsOfEnlisting live board TooManyReporters = HasNoNumberLeft live board
-IsOfEnlisting live board _ = ⊥
 
 -- the event of a row was refused on a live board, on which this had been seen before: as the pass of its reporter has seen, which had
 -- entered those of its events that come before it, and nothing else

@@ -1,5 +1,5 @@
 -- What an evening comes to.
-use Rattle.std.specs.Prelude.{◌≡◌, ◌≤◌, List, map, length, ◌++◌, take}
+use Rattle.std.specs.Prelude.{◌≡◌, ◌⊎◌, ℕ, ◌≤◌, All, List, map, length, ◌++◌, take}
 use Rattle.std.specs.List.{AllZip}
 use mathlib.Core.List.{IsPrefix}
 use Rattle.ucl_board.specs.declared.entry.Entry.{Entry}
@@ -10,11 +10,14 @@ use Rattle.ucl_io.specs.declared.stream.Sink as sinks
 use Rattle.ucl_shared.specs.declared.live_board.LiveBoard as boards
 use Rattle.ucl_shared.specs.Passes.{PassView, IsSound}
 use Rattle.ucl_shared.specs.Shares.{Share}
+use Rattle.ucl_runs.specs.declared.fault.RunFault.{RunFault}
+use Rattle.ucl_runs.specs.declared.fault.RunFault.TheVariants.{Strangers}
 use Rattle.ucl_evenings_threads.specs.declared.workers.Reporter.{Reporter}
+use Rattle.ucl_evenings_threads.specs.declared.workers.ReporterEnd.{ReporterEnd}
 use Rattle.ucl_evenings.specs.declared.screen.Screen.{Screen}
 use Rattle.ucl_evenings_threads.specs.declared.evening.EveningEnd.{EveningEnd}
-use Rattle.ucl_evenings_threads.specs.Runs.{LastIs, HasAnsweredRows, HasShownOf, IsHandedBack, shares_of_reporters, shares_of_screens, views_of}
-use Rattle.ucl_evenings_threads.specs.Whole.{IsTheirs}
+use Rattle.ucl_evenings_threads.specs.Runs.{IsOfEnlisting, IsOfThreads, LastIs, HasAnsweredRows, HasShownOf, IsHandedBack, shares_of_reporters, shares_of_screens, views_of}
+use Rattle.ucl_evenings_threads.specs.Whole.{AreAllOf, IsSeenIn, IsTheirs}
 
 -- the passes of all who entered events: of those before the evening, and then of its reporters
 abbrev pub all_views : {B R P N S W V : Type 0} → boards.Ghosts B R P N → EveningEnd R P S W V → List PassView
@@ -42,3 +45,26 @@ pub record HasHeld {B R P N S W V : Type 0} (live : boards.Ghosts B R P N) (boar
   pub theirs : IsTheirs (all_views live end) (history_of_end live end)
   pub reported : AllZip (HasAnsweredRows live board source replies before (history_of_end live end)) reporters end.reporters.items
   pub shown : AllZip (HasShownOf live board sink clubs before (history_of_end live end) (LastIs end.last.version)) screens end.screens.items
+
+-- all reporters of an evening have run and were heard, and then a version was read that is not that of their events and of those who entered
+-- events before: the board has events of others, or the numbers do not rise in the order in which they were given
+pub record FoundStrangers {B R P N S W : Type 0} (live : boards.Ghosts B R P N) (board : B) (source : sources.Ghosts S) (replies : sinks.Ghosts W)
+    (before : List Entry) (entered : List P) (reporters : List (Reporter S W)) (version : ℕ) : Type 0 where
+  pub back : List P
+  pub ends : List (ReporterEnd P S W)
+  pub pass : R
+  pub own : live.is_reader board pass
+  pub high : version ≤ length (live.reader pass).seen
+  pub kept : AllZip (IsHandedBack live board) entered back
+  pub reported : AllZip (HasAnsweredRows live board source replies before (take version (live.reader pass).seen)) reporters ends
+  pub heard : All (IsSeenIn (take version (live.reader pass).seen)) (map live.reporter back ++ views_of live ends)
+  pub others : AreAllOf (map live.reporter back ++ views_of live ends) version → ⊥
+
+abbrev pub IsOfStrangers : {B R P N S W : Type 0} → boards.Ghosts B R P N → B → sources.Ghosts S → sinks.Ghosts W → List Entry → List P → List (Reporter S W) → RunFault → Type 0
+IsOfStrangers live board source replies before entered reporters (Strangers version) = FoundStrangers live board source replies before entered reporters version
+IsOfStrangers live board source replies before entered reporters _ = ⊥
+
+-- why an evening was not held: want of memory or of a thread, no number for a reporter, or strangers
+abbrev pub IsWhyNoEvening : {B R P N S W : Type 0} → boards.Ghosts B R P N → B → sources.Ghosts S → sinks.Ghosts W → List Entry → List P → List (Reporter S W) → RunFault → Type 0
+IsWhyNoEvening live board source replies before entered reporters fault =
+    IsOfThreads fault ⊎ (IsOfEnlisting live board fault ⊎ IsOfStrangers live board source replies before entered reporters fault)

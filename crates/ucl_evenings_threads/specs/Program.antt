@@ -8,6 +8,7 @@ use Rattle.ucl_evenings.specs.Showing.{IsNewScreen}
 use Rattle.ucl_io.specs.declared.stream.Source as sources
 use Rattle.ucl_io.specs.declared.stream.Sink as sinks
 use Rattle.ucl_runs.specs.declared.fault.RunFault.{RunFault}
+use Rattle.ucl_runs.specs.declared.fault.RunFault.TheVariants.{OutOfMemory}
 use Rattle.ucl_runs.specs.Ending.{Ends, WritesText}
 use Rattle.ucl_runs.specs.Feed.{word_lines}
 use Rattle.ucl_screen.specs.declared.night.Night.{Night}
@@ -19,9 +20,9 @@ use Rattle.ucl_evenings_threads.specs.declared.workers.Reporter.{Reporter}
 use Rattle.ucl_evenings.specs.declared.screen.Screen.{Screen}
 use Rattle.ucl_evenings_threads.specs.Earlier.{IsWhyNotEntered, WereEntered}
 use Rattle.ucl_evenings_threads.specs.Ending.{TellsAll, first_status, parts_of}
-use Rattle.ucl_evenings_threads.specs.Held.{HasHeld, shares_of_end}
+use Rattle.ucl_evenings_threads.specs.Held.{HasHeld, IsWhyNoEvening, shares_of_end}
 use Rattle.ucl_evenings_threads.specs.OneReporter.{RowsDecide}
-use Rattle.ucl_evenings_threads.specs.Runs.{IsOfThreads, WereSplitOff}
+use Rattle.ucl_evenings_threads.specs.Runs.{WereSplitOff}
 
 -- a screen that has shown nothing yet goes to this place, with these clubs, under this title, and in the form that was asked for
 pub record IsAskedFor {B V : Type 0} (board : B) (clubs : List NamedClub) (title : Title) (place : Place V) (screen : Screen B V) : Type 0 where
@@ -42,10 +43,17 @@ pub record IsEveningOf {B R P N S W V : Type 0} (live : boards.Ghosts B R P N) (
   pub decided : RowsDecide live source (live.reader earlier.pass).seen earlier.reporters.items reporters end
   pub shares : WereSplitOff (live.reader earlier.pass).share (shares_of_end live end) (live.reader end.pass).share
 
--- the evening was not held: an event of the script was not entered, or there was no memory, no thread or no number for a part of it, or the
--- board has events of others
-abbrev pub IsWhyNotHeld : {B R P N : Type 0} → boards.Ghosts B R P N → B → Night → List Entry → RunFault → Type 0
-IsWhyNotHeld live board night before fault = IsWhyNotEntered live board before night.events.items fault ⊎ IsOfThreads fault
+-- the events of the script were entered, and then the evening was not held
+pub record FailsAfterEntering {B R P N S W : Type 0} (live : boards.Ghosts B R P N) (board : B) (source : sources.Ghosts S) (replies : sinks.Ghosts W)
+    (night : Night) (before : List Entry) (reporters : List (Reporter S W)) (fault : RunFault) : Type 0 where
+  pub earlier : Earlier R P
+  pub entered : WereEntered live before night.events.items earlier.pass earlier.reporters.items
+  pub why : IsWhyNoEvening live board source replies (live.reader earlier.pass).seen earlier.reporters.items reporters fault
+
+-- the evening was not held: there was no memory, or an event of the script was not entered, or the evening failed after that
+abbrev pub IsWhyNotHeld : {B R P N S W : Type 0} → boards.Ghosts B R P N → B → sources.Ghosts S → sinks.Ghosts W → Night → List Entry → List (Reporter S W) → RunFault → Type 0
+IsWhyNotHeld live board source replies night before reporters fault =
+    (fault ≡ OutOfMemory) ⊎ (IsWhyNotEntered live board before night.events.items fault ⊎ FailsAfterEntering live board source replies night before reporters fault)
 
 -- the first status, and the last where that is 0
 abbrev pub status_of_two : ℕ → ℕ → ℕ

@@ -10,7 +10,8 @@ use Rattle.ucl_shared.specs.declared.live_board.LiveBoard as boards
 use Rattle.ucl_shared.specs.Passes.{PassView, IsSound, ReportsMore}
 use Rattle.ucl_shared.specs.Shares.{Share, first_half, second_half}
 use Rattle.ucl_runs.specs.declared.fault.RunFault.{RunFault}
-use Rattle.ucl_runs.specs.declared.fault.RunFault.TheVariants.{OutOfMemory, NoThread, TooManyReporters, Strangers}
+use Rattle.ucl_runs.specs.declared.fault.RunFault.TheVariants.{OutOfMemory, NoThread, TooManyReporters}
+use Rattle.ucl_runs.specs.Faults.{HasNoNumberLeft}
 use Rattle.ucl_runs.specs.Run.{SinkFails, is_read_failed}
 use Rattle.ucl_io.specs.Calls.{Device}
 use Rattle.ucl_evenings.specs.Answering.{calls_in}
@@ -25,16 +26,19 @@ use Rattle.ucl_evenings_threads.specs.declared.workers.ScreenEnd.{ScreenEnd}
 use Rattle.ucl_evenings_threads.specs.declared.workers.Looking.{Looking}
 use Rattle.ucl_evenings_threads.specs.declared.workers.Looked.{Looked}
 use Rattle.ucl_evenings_threads.specs.declared.screens.Ran.{Ran}
-use Rattle.ucl_evenings_threads.specs.declared.tally.Tally.{Tally}
-use Rattle.ucl_evenings_threads.specs.Whole.{AreAllHeard, AreTallied, IsSeenIn}
+use Rattle.ucl_evenings_threads.specs.Whole.{IsSeenIn}
 
--- the faults of an evening that is not held: want of memory, no thread, and a board that refuses its reporters
+-- want of memory, or of a thread
 abbrev pub IsOfThreads : RunFault → Type 0
 IsOfThreads OutOfMemory = ⊤
 IsOfThreads NoThread = ⊤
-IsOfThreads TooManyReporters = ⊤
-IsOfThreads (Strangers version) = ⊤
 IsOfThreads _ = ⊥
+
+-- reporters were not enlisted on a live board, for want of memory or of numbers
+abbrev pub IsOfEnlisting : {B R P N : Type 0} → boards.Ghosts B R P N → B → RunFault → Type 0
+IsOfEnlisting live board OutOfMemory = ⊤
+IsOfEnlisting live board TooManyReporters = HasNoNumberLeft live board
+IsOfEnlisting live board _ = ⊥
 
 -- a source and a sink as one device
 abbrev pub device_of : {S W : Type 0} → sources.Ghosts S → sinks.Ghosts W → S → W → Device
@@ -176,21 +180,21 @@ KeepsShare live looking end = (live.reader end.pass).share ≡ (live.reader look
 
 -- ---- all of them
 
--- what the threads begin with: main's pass, and what is lent; main's pass has seen what those have who entered events before
+-- what the threads begin with: main's pass, and what is lent
 pub record AreLent {B R P N S W V : Type 0} (live : boards.Ghosts B R P N) (board : B) (clubs : List NamedClub) (pass : R) (screens : List (Looking R (Screen B V)))
-    (all : List (Enlisted P S W)) (tally : Tally) : Type 0 where
+    (all : List (Enlisted P S W)) : Type 0 where
   pub own : live.is_reader board pass
   pub looking : All (IsReadyToLook live board clubs) screens
   pub ready : All (IsReadyToRun live board) all
-  pub tallied : AreAllHeard (live.reader pass).seen tally
 
--- all threads have run: the reporters are counted after those that were counted before, what they have seen is in a history, and so is what
--- each screen has shown, up to all that was accepted
+-- all threads have run: what the reporters have seen is in a history, which goes on from what had been seen before; and of a history that goes on
+-- from that one is what each screen has shown, up to no less
 pub record HaveRun {B R P N S W V : Type 0} (live : boards.Ghosts B R P N) (board : B) (source : sources.Ghosts S) (replies : sinks.Ghosts W) (sink : sinks.Ghosts V)
-    (clubs : List NamedClub) (history : List Entry) (tally : Tally) (screens : List (Looking R (Screen B V))) (all : List (Enlisted P S W)) (ran : Ran R P S W (Screen B V)) : Type 0 where
+    (clubs : List NamedClub) (before history : List Entry) (screens : List (Looking R (Screen B V))) (all : List (Enlisted P S W)) (ran : Ran R P S W (Screen B V)) : Type 0 where
+  pub early : List Entry
+  pub since : IsPrefix before early
+  pub on : IsPrefix early history
   pub run : AllZip (HasRun live board source replies) all ran.reporters.items
-  pub heard : All (IsSeenIn history) (views_of live ran.reporters.items)
-  pub tallied : (views : List PassView) → AreTallied views tally → AreTallied (views ++ views_of live ran.reporters.items) ran.tally
-  pub enough : ran.tally.accepted ≤ length history
-  pub shown : AllZip (HasShownAbove live board sink clubs history ran.tally.accepted) screens ran.screens.items
+  pub heard : All (IsSeenIn early) (views_of live ran.reporters.items)
+  pub shown : AllZip (HasShownAbove live board sink clubs history (length early)) screens ran.screens.items
   pub kept : AllZip (KeepsShare live) screens ran.screens.items

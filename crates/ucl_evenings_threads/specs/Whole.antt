@@ -1,5 +1,5 @@
 -- Passes that have entered all that there is in a history.
-use Rattle.std.specs.Prelude.{◌≡◌, ◌⊎◌, ℕ, ◌+◌, ◌*◌, ◌<◌, ◌≤◌, List, [], ◌∷◌, All, length}
+use Rattle.std.specs.Prelude.{◌≡◌, ◌⊎◌, ℕ, ◌+◌, ◌*◌, ◌<◌, ◌≤◌, true, false, List, [], ◌∷◌, All, length}
 use mathlib.Core.List.{IsPrefix}
 use Rattle.ucl_board.specs.declared.entry.Entry.{Entry}
 use Rattle.ucl_shared.specs.Passes.{PassView, entries_by, IsSound}
@@ -15,12 +15,18 @@ unfoldable pub NumbersRise : ℕ → ℕ → List PassView → Type 0
 NumbersRise low high [] = low ≤ high
 NumbersRise low high (k ∷ views) = (low < k.number) × NumbersRise k.number high views
 
--- they are counted: numbers rise from 1, and none is above the last
+-- their numbers rise, and they have entered so many events
+abbrev pub AreAllOf : List PassView → ℕ → Type 0
+AreAllOf views version = NumbersRise 0 255 views × (version ≡ accepted_by_all views)
+
+-- they are counted, as far as their numbers rise; none that rise end below the last
 pub record AreTallied (views : List PassView) (tally : Tally) : Type 0 where
-  pub rise : NumbersRise 0 tally.highest views
   pub most : tally.highest ≤ 255
-  pub count : tally.accepted ≡ accepted_by_all views
-  pub bound : tally.accepted ≤ 65535 * tally.highest
+  pub rise : tally.rises ≡ true → NumbersRise 0 tally.highest views
+  pub count : tally.rises ≡ true → tally.accepted ≡ accepted_by_all views
+  pub bound : tally.rises ≡ true → tally.accepted ≤ 65535 * tally.highest
+  pub falls : tally.rises ≡ false → NumbersRise 0 255 views → ⊥
+  pub least : (n : ℕ) → NumbersRise 0 n views → tally.highest ≤ n
 
 -- what a pass has seen is the beginning of a history, and nothing is false of it
 abbrev pub IsSeenIn : List Entry → PassView → Type 0
@@ -38,9 +44,3 @@ pub record IsTheirs (views : List PassView) (history : List Entry) : Type 0 wher
   pub seen : All (λ k. IsPrefix k.seen history) views
   pub own : All (λ k. entries_by k.number history ≡ k.mine) views
   pub no_other : All (λ (e : Entry). IsOneOf views e.reporter) history
-
--- some passes are counted, and what they have seen is in a history
-pub record AreAllHeard (history : List Entry) (tally : Tally) : Type 0 where
-  pub views : List PassView
-  pub tallied : AreTallied views tally
-  pub heard : All (IsSeenIn history) views

@@ -3,8 +3,8 @@
 ghost use Rattle.std.specs.Prelude.{◌≡◌, ◌≤◌, [], All, IfErr, IfOk, IsFalse, IsTrue, OnOk, length, map, vec_len};
 ghost use Rattle.ucl_screen.specs.Input.{most_bytes};
 ghost use Rattle.ucl_screen.specs.Script.{first_event_row};
-ghost use Rattle.ucl_evenings_threads.specs.Earlier.{WereEntered, WasEntered, WasNotEntered, TellsRefused, StopsEntering, IsWhyNotEntered, IsOfEnlisting, entered_from};
-ghost use Rattle.ucl_evenings_threads.specs.Runs.{WereSplitOff, shares_of};
+ghost use Rattle.ucl_evenings_threads.specs.Earlier.{WereEntered, WasEntered, WasNotEntered, TellsRefused, StopsEntering, IsWhyNotEntered, entered_from};
+ghost use Rattle.ucl_evenings_threads.specs.Runs.{IsOfEnlisting, WereSplitOff, shares_of};
 
 use crate::judging::judge;
 use crate::lists::put;

@@ -5,13 +5,13 @@ ghost use Rattle.std.specs.List.{AllZip};
 ghost use Rattle.ucl_board.specs.History.{snapshot_at};
 ghost use Rattle.ucl_evenings.specs.Showing.{GoesOnOrStays, IsNewScreen};
 ghost use Rattle.ucl_evenings_threads.specs.Runs.{AreLent, HaveRun, IsOfThreads, WereSplitOff};
-ghost use Rattle.ucl_evenings_threads.specs.Held.{HasHeld, shares_of_end};
+ghost use Rattle.ucl_evenings_threads.specs.Held.{HasHeld, IsWhyNoEvening, shares_of_end};
 ghost use Rattle.ucl_evenings_threads.specs.OneReporter.{RowsDecide};
 
 use crate::bells::{Wake, hang_bells};
 use crate::lend::{enlist_all, look_all};
 use crate::screens::{Ran, run_screens};
-use crate::tally::{Tally, hear_all};
+use crate::tally::{are_all_of, hear_all};
 use crate::workers::{Enlisted, Looking, Reporter, ReporterEnd, ScreenEnd};
 use std::alloc::Global;
 use std::sync::Wait;
@@ -55,7 +55,6 @@ fn run_threads<
     pass: B::ReaderPass,
     screens: Vec<Looking<B::ReaderPass, Screen<B, V>>>,
     all: Vec<Enlisted<B::ReporterPass, S, W>>,
-    tally: Tally,
 ) -> Result<
     (
         B::ReaderPass,
@@ -64,11 +63,11 @@ fn run_threads<
     RunFault,
 >
     requires bells { vec_len screens ≤ length wakes.now }
-    requires lent { AreLent B.LiveBoard board.now roster.now pass screens.items all.items tally }
+    requires lent { AreLent B.LiveBoard board.now roster.now pass screens.items all.items }
     ensures own { IfOk result (λ r. B.is_reader board.entry.now r.0) }
     ensures always { IfOk result (λ r. GoesOnOrStays (B.reader pass) (B.reader r.0)) }
     ensures ran { IfOk result (λ r. HaveRun B.LiveBoard board.entry.now S.Source W.Sink V.Sink
-        roster.entry.now (B.reader r.0).seen tally screens.items all.items r.1) }
+        roster.entry.now (B.reader pass).seen (B.reader r.0).seen screens.items all.items r.1) }
     ensures kinds { IfErr result IsOfThreads }
 {
     thread::scope(
@@ -82,16 +81,17 @@ fn run_threads<
             RunFault,
         >
             requires bells { vec_len screens ≤ length wakes.now }
-            requires lent { AreLent B.LiveBoard board.now roster.now pass screens.items all.items tally }
+            requires lent { AreLent B.LiveBoard board.now roster.now pass screens.items all.items }
             ensures own { IfOk result (λ r. B.is_reader board.entry.now r.0) }
             ensures always { IfOk result (λ r. GoesOnOrStays (B.reader pass) (B.reader r.0)) }
             ensures ran { IfOk result (λ r. HaveRun B.LiveBoard board.entry.now S.Source W.Sink
-                V.Sink roster.entry.now (B.reader r.0).seen tally screens.items all.items r.1) }
+                V.Sink roster.entry.now (B.reader pass).seen (B.reader r.0).seen screens.items
+                all.items r.1) }
             ensures kinds { IfErr result IsOfThreads }
         {
             let mut pass = pass;
             let ran = run_screens(
-                scope, rt, alloc, board, wakes, roster, &mut pass, screens, all, tally,
+                scope, rt, alloc, board, wakes, roster, &mut pass, screens, all,
             )?;
             Ok((pass, ran))
         },
@@ -113,9 +113,9 @@ fn run_threads<
 /// # Errors
 ///
 /// `TooManyReporters` where the board has no number left for a reporter, before any thread starts; `OutOfMemory` where there was none for a
-/// list of what is lent or handed back; `NoThread` where a thread could not be had; `Strangers` where the board has events that are of no
-/// reporter of the evening and of none of `entered`, or where these are not in their order. Threads that run go on to their end before any
-/// of these is told. What was entered stays entered, and no pass is handed back.
+/// list of what is lent or handed back; `NoThread` where a thread could not be had; `Strangers` where all have run, and the board has events
+/// that are of no reporter of the evening and of none of `entered`, or the numbers of these do not rise in their order. Threads that run go
+/// on to their end before any of these is told. What was entered stays entered, and no pass is handed back.
 pub fn hold_evening<
     B: LiveBoard,
     S: Source + Send + Drop,
@@ -144,15 +144,19 @@ pub fn hold_evening<
     // and the pass that is handed back has what is left. Nobody else was given a part.
     ensures shares { IfOk result (λ end. WereSplitOff (B.reader pass).share
         (shares_of_end B.LiveBoard end) (B.reader end.pass).share) }
-    ensures kinds { IfErr result IsOfThreads }
+
+    // Where it was not held, the fault says why: that a number was wanting, or that there are strangers, is so.
+    ensures kinds { IfErr result (IsWhyNoEvening B.LiveBoard board.entry.now S.Source W.Sink
+        (B.reader pass).seen entered.items reporters.items) }
 {
-    let (entered, tally) = hear_all(rt, alloc, board, &mut pass, entered)?;
+    let entered = hear_all(rt, alloc, board, &mut pass, entered)?;
     let screens = look_all(rt, alloc, board, &mut pass, screens)?;
     let all = enlist_all(rt, alloc, board, &mut pass, reporters)?;
     let wakes = hang_bells(alloc, screens.len())?;
-    let (mut pass, ran) = run_threads(rt, alloc, board, &wakes, roster, pass, screens, all, tally)?;
+    let (mut pass, ran) = run_threads(rt, alloc, board, &wakes, roster, pass, screens, all)?;
     let last = board.read(rt, &mut pass);
-    if u32::from(last.version) != ran.tally.accepted {
+    let is_theirs = are_all_of::<B, S, W>(&entered, &ran.reporters, last.version);
+    if !is_theirs {
         return Err(RunFault::Strangers {
             version: last.version,
         });

@@ -4,7 +4,7 @@ ghost use Rattle.std.specs.Prelude.{◌≡◌, IfErr, IfOk};
 ghost use mathlib.Core.List.{IsPrefix};
 ghost use Rattle.std.specs.List.{AllZip};
 ghost use Rattle.ucl_shared.specs.Shares.{first_half, second_half};
-ghost use Rattle.ucl_evenings_threads.specs.Runs.{WasEnlisted, WereSplitOff, IsLooking, IsOfThreads, IsReady, shares_enlisted, shares_looking};
+ghost use Rattle.ucl_evenings_threads.specs.Runs.{WasEnlisted, WereSplitOff, IsLooking, IsOfEnlisting, IsOfThreads, IsReady, shares_enlisted, shares_looking};
 
 use crate::lists::{put, take_last};
 use crate::workers::{Enlisted, Looking, Reporter};
@@ -28,7 +28,7 @@ fn enlist_one<B: LiveBoard, R: Wait>(
     ensures kept { (B.reader pass.new).share ≡ first_half (B.reader pass.old).share }
     ensures given { IfOk result (λ enlisted.
         (B.reporter enlisted).share ≡ second_half (B.reader pass.old).share) }
-    ensures kinds { IfErr result IsOfThreads }
+    ensures kinds { IfErr result (IsOfEnlisting B.LiveBoard board.now) }
 {
     let second = board.split(rt, pass);
     Ok(board.enlist(rt, second)?)
@@ -50,7 +50,7 @@ pub fn enlist_all<B: LiveBoard, S: Drop, W: Drop, R: Wait>(
         reporters.items all.items) }
     ensures split { IfOk result (λ all. WereSplitOff (B.reader pass.old).share
         (shares_enlisted B.LiveBoard all.items) (B.reader pass.new).share) }
-    ensures kinds { IfErr result IsOfThreads }
+    ensures kinds { IfErr result (IsOfEnlisting B.LiveBoard board.now) }
 {
     let Some(Reporter { rows, replies }) = take_last(&mut reporters) else {
         return Ok(Vec::new(alloc));

@@ -87,8 +87,8 @@ fn held<
     requires letter { IsGroup title.group }
     ensures held { IfOk result (IsEveningOf B.LiveBoard board.entry.now S.Source W.Sink V.Sink
         title night.entry.now (B.reader pass).seen reporters.items places.items) }
-    ensures faults { IfErr result (IsWhyNotHeld B.LiveBoard board.entry.now night.entry.now
-        (B.reader pass).seen) }
+    ensures faults { IfErr result (IsWhyNotHeld B.LiveBoard board.entry.now S.Source W.Sink
+        night.entry.now (B.reader pass).seen reporters.items) }
 {
     let screens = screens_at(alloc, board, &night.roster, title, places)?;
     let earlier = enter_earlier(rt, alloc, board, pass, &night.events)?;
@@ -172,8 +172,8 @@ pub fn run_evening_of<
         title night.entry.now [] reporters.items places.items) }
 
     // Where it was not held, the fault says why.
-    ensures faults { IfErr result.end
-        (IsWhyNotHeld B.LiveBoard board.entry.now night.entry.now []) }
+    ensures faults { IfErr result.end (IsWhyNotHeld B.LiveBoard board.entry.now S.Source W.Sink
+        night.entry.now [] reporters.items) }
 
     // What went out, what was told of faults, and the exit status.
     ensures ends { EndsEvening result.end result.status (O.failed output.new) (O.taken output.old)

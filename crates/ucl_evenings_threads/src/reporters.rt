@@ -1,15 +1,14 @@
 //! The threads of reporters.
 
-ghost use Rattle.std.specs.Prelude.{◌≡◌, ◌++◌, List, All, IfErr, IfOk};
+ghost use Rattle.std.specs.Prelude.{◌≡◌, All, IfErr, IfOk};
 ghost use Rattle.std.specs.List.{AllZip};
-ghost use Rattle.ucl_shared.specs.Passes.{PassView};
 ghost use Rattle.ucl_evenings.specs.Showing.{GoesOnOrStays};
 ghost use Rattle.ucl_evenings_threads.specs.Runs.{HasRun, IsOfThreads, IsReadyToRun, views_of};
-ghost use Rattle.ucl_evenings_threads.specs.Whole.{AreTallied, IsSeenIn};
+ghost use Rattle.ucl_evenings_threads.specs.Whole.{IsSeenIn};
 
 use crate::bells::{Bells, Wake};
 use crate::lists::{put, take_last};
-use crate::tally::{Tally, hear_reporter};
+use crate::tally::hear_reporter;
 use crate::workers::{Enlisted, ReporterEnd};
 use std::alloc::Global;
 use std::snapshot::Snapshot;
@@ -130,29 +129,26 @@ pub fn run_reporters<
     wakes: &'s [Wake],
     pass: &mut B::ReaderPass,
     mut all: Vec<Enlisted<B::ReporterPass, S, W>>,
-    tally: Tally,
-) -> Result<(Vec<ReporterEnd<B::ReporterPass, S, W>>, Tally), RunFault>
+) -> Result<Vec<ReporterEnd<B::ReporterPass, S, W>>, RunFault>
 where
     B::ReporterPass: 's,
     requires own { B.is_reader board.now pass.old }
     requires ready { All (IsReadyToRun B.LiveBoard board.now) all.items }
     ensures own { B.is_reader board.now pass.new }
     ensures always { GoesOnOrStays (B.reader pass.old) (B.reader pass.new) }
-    ensures run { IfOk result (λ r.
-        AllZip (HasRun B.LiveBoard board.now S.Source W.Sink) all.items r.0.items) }
-    ensures heard { IfOk result (λ r. All (IsSeenIn (B.reader pass.new).seen)
-        (views_of B.LiveBoard r.0.items)) }
-    ensures tallied { IfOk result (λ r. (views : List PassView) → AreTallied views tally
-        → AreTallied (views ++ views_of B.LiveBoard r.0.items) r.1) }
+    ensures run { IfOk result (λ ends.
+        AllZip (HasRun B.LiveBoard board.now S.Source W.Sink) all.items ends.items) }
+    ensures heard { IfOk result (λ ends. All (IsSeenIn (B.reader pass.new).seen)
+        (views_of B.LiveBoard ends.items)) }
     ensures kinds { IfErr result IsOfThreads }
 {
     let Some(enlisted) = take_last(&mut all) else {
-        return Ok((Vec::new(alloc), tally));
+        return Ok(Vec::new(alloc));
     };
     let worker = start_reporter(scope, rt, board, wakes, enlisted)?;
-    let (mut ends, tally) = run_reporters(scope, rt, alloc, board, wakes, pass, all, tally)?;
+    let mut ends = run_reporters(scope, rt, alloc, board, wakes, pass, all)?;
     let mut end = worker.join(rt);
-    let tally = hear_reporter(rt, board, pass, &mut end.pass, tally)?;
+    hear_reporter(rt, board, pass, &mut end.pass);
     put(&mut ends, end)?;
-    Ok((ends, tally))
+    Ok(ends)
 }

@@ -5,12 +5,10 @@ ghost use Rattle.std.specs.List.{AllZip};
 ghost use mathlib.Core.List.{IsPrefix};
 ghost use Rattle.ucl_evenings.specs.Showing.{AreFew, GoesOnOrStays, IsScreenOn, standing};
 ghost use Rattle.ucl_evenings_threads.specs.Runs.{HasLookedOn, HasShownAbove, HaveRun, IsOfThreads, IsReadyToLook, IsReadyToRun};
-ghost use Rattle.ucl_evenings_threads.specs.Whole.{AreAllHeard};
 
 use crate::bells::{Ear, Wake, end_all};
 use crate::lists::{put, take_last};
 use crate::reporters::run_reporters;
-use crate::tally::Tally;
 use crate::workers::{Enlisted, Looked, Looking, ReporterEnd, ScreenEnd};
 use std::alloc::Global;
 use std::snapshot::Snapshot;
@@ -140,7 +138,6 @@ fn finish<B: LiveBoard, V: Sink, R: Wait>(
 pub struct Ran<Q, P, S, W, X> {
     pub screens: Vec<ScreenEnd<Q, X>>,
     pub reporters: Vec<ReporterEnd<P, S, W>>,
-    pub tally: Tally,
 }
 
 /// Runs all screens, each in a thread of its own, and all reporters while they run; when these have ended, so do the screens.
@@ -162,7 +159,6 @@ pub fn run_screens<
     pass: &mut B::ReaderPass,
     mut screens: Vec<Looking<B::ReaderPass, Screen<B, V>>>,
     all: Vec<Enlisted<B::ReporterPass, S, W>>,
-    tally: Tally,
 ) -> Result<Ran<B::ReaderPass, B::ReporterPass, S, W, Screen<B, V>>, RunFault>
 where
     B::ReaderPass: 's,
@@ -171,21 +167,19 @@ where
     requires bells { vec_len screens ≤ length wakes.now }
     requires looking { All (IsReadyToLook B.LiveBoard board.now roster.now) screens.items }
     requires ready { All (IsReadyToRun B.LiveBoard board.now) all.items }
-    requires tallied { AreAllHeard (B.reader pass.old).seen tally }
     ensures own { B.is_reader board.now pass.new }
     ensures always { GoesOnOrStays (B.reader pass.old) (B.reader pass.new) }
     ensures ran { IfOk result (HaveRun B.LiveBoard board.now S.Source W.Sink V.Sink roster.now
-        (B.reader pass.new).seen tally screens.items all.items) }
+        (B.reader pass.old).seen (B.reader pass.new).seen screens.items all.items) }
     ensures kinds { IfErr result IsOfThreads }
 {
     let Some(looking) = take_last(&mut screens) else {
-        let run = run_reporters(scope, rt, alloc, board, wakes, pass, all, tally);
+        let run = run_reporters(scope, rt, alloc, board, wakes, pass, all);
         end_all(wakes);
-        let (reporters, tally) = run?;
+        let reporters = run?;
         return Ok(Ran {
             screens: Vec::new(alloc),
             reporters,
-            tally,
         });
     };
     let wake = &wakes[screens.len()];
@@ -197,7 +191,7 @@ where
         }
     };
     let mut ran = run_screens(
-        scope, rt, alloc, board, wakes, roster, pass, screens, all, tally,
+        scope, rt, alloc, board, wakes, roster, pass, screens, all,
     )?;
     let looked = worker.join(rt);
     let mut end = finish(rt, alloc, board, pass, roster, looked);

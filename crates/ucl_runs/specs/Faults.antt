@@ -1,10 +1,11 @@
 -- Faults of the program.
-use Rattle.std.specs.Prelude.{ℕ, ⊤, List, ◌++◌, codes, decimal}
+use Rattle.std.specs.Prelude.{◌≡◌, ℕ, ⊤, List, ◌++◌, codes, decimal}
 use Rattle.ucl_screen.specs.declared.fault.InputFault.{InputFault}
 use Rattle.ucl_screen.specs.declared.fault.InputFault.TheVariants as input
 use Rattle.ucl_screen.specs.Texts.{input_fault_text}
 use Rattle.ucl_runs.specs.declared.fault.RunFault.{RunFault}
 use Rattle.ucl_runs.specs.declared.fault.RunFault.TheVariants.{Input, OutOfMemory, WriteFailed, NotOnDuty, NoThread, TooManyReporters, Strangers}
+use Rattle.ucl_shared.specs.declared.live_board.LiveBoard as boards
 
 -- the fault of a run whose input has a fault: want of memory is the run's own
 abbrev pub handed_on : InputFault → RunFault
@@ -18,11 +19,11 @@ IsOfOneThread OutOfMemory = ⊤
 IsOfOneThread (WriteFailed written) = ⊤
 IsOfOneThread _ = ⊥
 
--- the faults of a night, which reads no input and writes no output
-abbrev pub IsOfNight : RunFault → Type 0
-IsOfNight (Input e) = ⊥
-IsOfNight (WriteFailed written) = ⊥
-IsOfNight _ = ⊤
+-- all numbers of a live board are given, as a pass of it has seen
+pub record HasNoNumberLeft {B R P N : Type 0} (live : boards.Ghosts B R P N) (board : B) : Type 0 where
+  pub pass : R
+  pub own : live.is_reader board pass
+  pub listed : (live.reader pass).listed ≡ 255
 
 -- the line of a fault, without its line feed
 abbrev pub fault_text : RunFault → List ℕ

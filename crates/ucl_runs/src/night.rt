@@ -5,11 +5,11 @@ ghost use Rattle.std.specs.Io.KnownBytes.{Appends};
 ghost use mathlib.Core.List.{IsPrefix};
 ghost use Rattle.ucl_board.specs.History.{snapshot_at};
 ghost use Rattle.ucl_screen.specs.Screen.{IsGroup, screen_text};
-ghost use Rattle.ucl_runs.specs.Faults.{IsOfNight};
 ghost use Rattle.ucl_runs.specs.Gates.{rows_by};
 ghost use Rattle.ucl_runs.specs.Nights.{HasShown, HaveEnteredAll, HaveMerged, HaveNightBoard, HaveRead, HaveShares, IsDutyTold, IsFirstOffDuty, IsOnDuty, last_shown, night_history, night_output, pass_of_reader_1, pass_of_reader_2};
 ghost use Rattle.ucl_runs.specs.Run.{IsStopped, MatchDuty};
 ghost use Rattle.ucl_runs.specs.Styles.{styled};
+ghost use Rattle.ucl_runs.specs.Workers.{IsWhyNoNight};
 
 use crate::RunFault;
 use crate::gate::Gate;
@@ -90,8 +90,10 @@ pub fn night_run<B: LiveBoard, G: Gate, R: Threads + Wait + Sync>(
     requires own { B.is_reader board.now pass }
     requires group { IsGroup group }
 
-    // A night reads no input and writes no output, so it has no fault of these.
-    ensures kinds { IfErr result IsOfNight }
+    // A night reads no input and writes no output, so it has no fault of these. It answers 30 only where the board has no number left, and
+    // 31 only where both reporters have entered their rows, and the board then has events that are not theirs, or they have one number.
+    ensures kinds { IfErr result (IsWhyNoNight B.LiveBoard board.entry.now
+        night.entry.now.events.items) }
 
     // A row of a reporter who is not on duty is told exactly where there is one, and the first is.
     ensures duty { MatchResult result (λ _. All IsOnDuty night.entry.now.events.items)

@@ -1,12 +1,13 @@
-use Rattle.std.proofs.Common.{List, arith, subst, sym, ◌∙◌}
+use Rattle.std.proofs.Common.{◌≡◌, List, inr, map, ◌++◌, subst, sym, ◌∙◌}
 use mathlib.Core.List.{IsPrefix}
 use Rattle.ucl_board.specs.declared.entry.Entry.{Entry}
 use Rattle.ucl_board.proofs.Beginnings.{begins_through}
 use Rattle.ucl_evenings.specs.Showing.{IsNewScreen}
 use Rattle.ucl_evenings.proofs.ShownScreens.{stays_prefix}
 use Rattle.ucl_evenings_threads.specs.Runs.{HasRun, IsLooking, IsReadyToLook, IsReadyToRun, KeepsShare, WasEnlisted}
+use Rattle.ucl_evenings_threads.proofs.Counting.{seen_on}
 use Rattle.ucl_evenings_threads.proofs.Decided.{is_decided}
-use Rattle.ucl_evenings_threads.proofs.Holding.{begins_whole, reported_at_end, shown_at_end, theirs_at_end, whole, whole_long}
+use Rattle.ucl_evenings_threads.proofs.Holding.{begins_whole, early_long, heard_at_end, reported_at_end, shown_at_end, theirs_at_end, whole, whole_long}
 use Rattle.ucl_evenings_threads.proofs.Splits.{maps_same, split_both, stays_share}
 use Rattle.ucl_evenings_threads.proofs.Zips.{zip_right, zip_right_of}
 use Rattle.ucl_evenings_threads.proofs.evening.hold_evening.Goals as goal
@@ -17,7 +18,6 @@ run_threads-requires-clause-lent g c κs within = record {
   looking = zip_right_of (IsLooking g.B.LiveBoard c.args.board.now _) (IsNewScreen c.args.board.now c.args.roster.now) (IsReadyToLook g.B.LiveBoard c.args.board.now c.args.roster.now)
       (λ screen looking l new. record { own = l.own; new = subst (IsNewScreen c.args.board.now c.args.roster.now) (sym l.same) new }) _ _ c.in_ok-screens.ensures.looking c.requires.screens;
   ready = zip_right (WasEnlisted g.B.LiveBoard c.args.board.now _) (IsReadyToRun g.B.LiveBoard c.args.board.now) (λ reporter enlisted l. l.ready) _ _ c.in_ok-all.ensures.enlisted;
-  tallied = rw (c.enlist_all.ensures.seen, c.look_all.ensures.seen) (record { views = _; tallied = c.in_ok-entered.ensures.tallied; heard = c.in_ok-entered.ensures.heard });
 }
 
 pub returns-clause-held : goal.returns-clause-held
@@ -35,7 +35,10 @@ returns-clause-held g c =
     let ran = c.in_ok-pass.ensures.ran in
     let early : IsPrefix first heard = stays_prefix _ _ c.hear_all.ensures.always in
     let split : IsPrefix first looked = subst (IsPrefix first) (sym c.look_all.ensures.seen) early in
-    let before : IsPrefix heard p.seen = subst (λ (s : List Entry). IsPrefix s p.seen) (c.enlist_all.ensures.seen ∙ c.look_all.ensures.seen) (stays_prefix _ _ c.in_ok-pass.ensures.always) in
+    let same : (known c.enlist_all.new.pass).seen ≡ heard = c.enlist_all.ensures.seen ∙ c.look_all.ensures.seen in
+    let before : IsPrefix heard p.seen = subst (λ (s : List Entry). IsPrefix s p.seen) same (stays_prefix _ _ c.in_ok-pass.ensures.always) in
+    let since : IsPrefix heard ran.early = subst (λ (s : List Entry). IsPrefix s ran.early) same ran.since in
+    let all = rw (c.deref-2.ensures.value, c.deref-3.ensures.value) at (c.are_all_of-is_theirs.ensures.all c.if-not-is_theirs.false) in
     let on = begins_whole p z last read.always read.reading in
     record {
       own = read.own;
@@ -44,11 +47,11 @@ returns-clause-held g c =
       last = read.reading.snapshot;
       since = begins_through first p.seen (whole p z last read.always read.reading) (begins_through first heard p.seen early before) on;
       kept = c.in_ok-entered.ensures.kept;
-      theirs = theirs_at_end p z last read.always read.reading heard _ _ _ before c.in_ok-entered.ensures.heard ran.heard (ran.tallied _ c.in_ok-entered.ensures.tallied)
-          (let same = c.if-from-ran.false in let from = c.from.ensures in omega arith);
-      reported = reported_at_end live board g.S.Source g.W.Sink first looked p.seen (whole p z last read.always read.reading) _ _ _ split on c.in_ok-all.ensures.enlisted ran.run ran.heard;
+      theirs = theirs_at_end p z last read.always read.reading heard ran.early _ _ since ran.on c.in_ok-entered.ensures.heard ran.heard all;
+      reported = reported_at_end live board g.S.Source g.W.Sink first looked p.seen (whole p z last read.always read.reading) _ _ _ split on c.in_ok-all.ensures.enlisted ran.run (seen_on ran.early p.seen _ ran.on ran.heard);
       shown = shown_at_end live board g.V.Sink c.args.roster.now first heard p.seen (whole p z last read.always read.reading) last.version _ _ _ _ early on
-          (whole_long p z last read.always read.reading) (let same = c.if-from-ran.false in let from = c.from.ensures in omega arith) c.in_ok-screens.ensures.looking ran.shown;
+          (whole_long p z last read.always read.reading) (early_long p z last read.always read.reading heard ran.early _ _ since ran.on c.in_ok-entered.ensures.heard ran.heard all)
+          c.in_ok-screens.ensures.looking ran.shown;
     }
 
 pub returns-clause-decided : goal.returns-clause-decided
@@ -64,3 +67,30 @@ returns-clause-shares g c =
     (maps_same (KeepsShare g.B.LiveBoard) _ _ (λ looking end same. same) _ _ ran.kept)
     (maps_same (HasRun g.B.LiveBoard c.args.board.now g.S.Source g.W.Sink) _ _ (λ enlisted end h. h.took.reported.rows.always.on.share) _ _ ran.run)
     (c.read-last.ensures.always.on.share ∙ stays_share _ _ c.in_ok-pass.ensures.always)
+
+pub returns-then-not-is_theirs-clause-kinds : goal.returns-then-not-is_theirs-clause-kinds
+returns-then-not-is_theirs-clause-kinds g c =
+    let live = g.B.LiveBoard in
+    let known = g.B.LiveBoard.reader in
+    let first : List Entry = (known c.args.pass).seen in
+    let heard : List Entry = (known c.hear_all.new.pass).seen in
+    let looked : List Entry = (known c.look_all.new.pass).seen in
+    let p = known c.in_ok-pass.pass in
+    let z = known c.read-last.new.pass in
+    let read = c.read-last.ensures in
+    let ran = c.in_ok-pass.ensures.ran in
+    let early : IsPrefix first heard = stays_prefix _ _ c.hear_all.ensures.always in
+    let same : (known c.enlist_all.new.pass).seen ≡ heard = c.enlist_all.ensures.seen ∙ c.look_all.ensures.seen in
+    let since : IsPrefix heard ran.early = subst (λ (s : List Entry). IsPrefix s ran.early) same ran.since in
+    inr (inr (record {
+      back = _;
+      ends = _;
+      pass = c.read-last.new.pass;
+      own = read.own;
+      high = read.reading.high;
+      kept = c.in_ok-entered.ensures.kept;
+      reported = reported_at_end live c.args.board.now g.S.Source g.W.Sink first looked p.seen _ _ _ _ (subst (IsPrefix first) (sym c.look_all.ensures.seen) early)
+          (begins_whole p z c.read-last.result read.always read.reading) c.in_ok-all.ensures.enlisted ran.run (seen_on ran.early p.seen _ ran.on ran.heard);
+      heard = heard_at_end p z c.read-last.result read.always read.reading heard ran.early _ _ since ran.on c.in_ok-entered.ensures.heard ran.heard;
+      others = rw (c.deref-2.ensures.value, c.deref-3.ensures.value) at (c.are_all_of-is_theirs.ensures.others c.if-not-is_theirs.true);
+    }))

@@ -1,4 +1,5 @@
-use Rattle.std.specs.Prelude.{Result, Ok, Err, IfOk}
+use Rattle.std.proofs.Common.{inr}
+use Rattle.std.specs.Prelude.{Result, Ok, Err, IfErr, IfOk}
 use Rattle.ucl_evenings.specs.Showing.{IsNewScreen}
 use Rattle.ucl_evenings_threads.specs.Program.{IsAskedFor}
 use Rattle.ucl_evenings_threads.proofs.Zips.{zip_right}
@@ -26,3 +27,17 @@ returns-clause-held g c =
       shares = shares;
     })
     c.hold_evening.result c.hold_evening.ensures.held c.hold_evening.ensures.decided c.hold_evening.ensures.shares
+
+if_err : {A E : Type 0} (P Q : E → Type 0) → ((e : E) → P e → Q e) → (r : Result A E) → IfErr r P → IfErr r Q
+if_err P Q f (Ok a) p = tt
+if_err P Q f (Err e) p = f e p
+
+pub returns-clause-faults : goal.returns-clause-faults
+returns-clause-faults g c =
+    if_err _ _
+    (λ fault why. inr (inr (record {
+      earlier = c.in_ok-earlier.earlier;
+      entered = rw c.deref.ensures.value at c.in_ok-earlier.ensures.entered;
+      why = why;
+    })))
+    c.hold_evening.result c.hold_evening.ensures.kinds

@@ -1,8 +1,7 @@
-use Rattle.std.proofs.Common.{◌++◌, List, append_assoc, inl, subst, sym}
+use Rattle.std.proofs.Common.{inl, subst, sym}
 use Rattle.std.specs.Prelude.{All}
-use Rattle.ucl_shared.specs.Passes.{PassView}
 use Rattle.ucl_evenings_threads.specs.Runs.{HasRun, IsReadyToRun}
-use Rattle.ucl_evenings_threads.specs.Whole.{AreTallied, IsSeenIn}
+use Rattle.ucl_evenings_threads.specs.Whole.{IsSeenIn}
 use Rattle.ucl_evenings_threads.specs.declared.workers.ReporterEnd.{ReporterEnd}
 use Rattle.ucl_evenings_threads.proofs.Ended.{goes_then, heard_more, took_later}
 use Rattle.ucl_evenings_threads.proofs.Zips.{all_pop, views_then, zip_none, zip_push}
@@ -10,9 +9,6 @@ use Rattle.ucl_evenings_threads.proofs.reporters.+run_reporters.Goals as goal
 
 pub run_reporters-requires-clause-ready : goal.run_reporters-requires-clause-ready
 run_reporters-requires-clause-ready g t c κs within = (all_pop (IsReadyToRun g.B.LiveBoard c.args.board.now) _ _ _ c.in-Some.ensures.some c.requires.ready).0
-
-pub returns-in_err-tally-clause-always : goal.returns-in_err-tally-clause-always
-returns-in_err-tally-clause-always g t c = goes_then _ _ _ c.run_reporters.ensures.always (inl c.hear_reporter.ensures.always)
 
 pub returns-in_err-put-clause-always : goal.returns-in_err-put-clause-always
 returns-in_err-put-clause-always g t c = goes_then _ _ _ c.run_reporters.ensures.always (inl c.hear_reporter.ensures.always)
@@ -43,11 +39,3 @@ returns-clause-heard g t c =
     let h = (g.B.LiveBoard.reader c.hear_reporter.new.pass).seen in
     let views = views_then (λ (end : ReporterEnd _ _ _). g.B.LiveBoard.reporter end.pass) c.in_ok-ends.ends.items _ _ _ c.in_ok-put.ensures.items one.unchanged in
     subst (All (IsSeenIn h)) (sym views) (heard_more _ _ _ _ one.always.on.seen c.in_ok-ends.ensures.heard one.sound one.heard)
-
-pub returns-clause-tallied : goal.returns-clause-tallied
-returns-clause-tallied g t c before counted =
-    let one = c.hear_reporter.ensures in
-    let after = c.in_ok-tally.tally in
-    let views = views_then (λ (end : ReporterEnd _ _ _). g.B.LiveBoard.reporter end.pass) c.in_ok-ends.ends.items _ _ _ c.in_ok-put.ensures.items one.unchanged in
-    subst (λ (l : List PassView). AreTallied (before ++ l) after) (sym views)
-    (subst (λ (l : List PassView). AreTallied l after) (append_assoc before _ _) (c.in_ok-tally.ensures.tallied _ (c.in_ok-ends.ensures.tallied before counted)))

@@ -12,9 +12,8 @@ pub returns-in_default-clause-ran : goal.returns-in_default-clause-ran
 returns-in_default-clause-ran g t c =
     let known = g.B.LiveBoard.reader in
     let run = c.in_ok-reporters.ensures in
-    ran_first g.B.LiveBoard c.args.board.now g.S.Source g.W.Sink g.V.Sink c.args.roster.now (known c.args.pass.now).seen (known c.run_reporters-run.new.pass).seen c.args.tally
-    c.args.screens.items c.args.all.items _ c.in_default.ensures.none c.new.ensures.items (stays_prefix _ _ c.run_reporters-run.ensures.always) c.requires.tallied
-    run.run run.heard run.tallied
+    ran_first g.B.LiveBoard c.args.board.now g.S.Source g.W.Sink g.V.Sink c.args.roster.now (known c.args.pass.now).seen (known c.run_reporters-run.new.pass).seen
+    c.args.screens.items c.args.all.items _ c.in_default.ensures.none c.new.ensures.items (stays_prefix _ _ c.run_reporters-run.ensures.always) run.run run.heard
 
 pub start_screen-requires-clause-ready : goal.start_screen-requires-clause-ready
 start_screen-requires-clause-ready g t c κs within =
@@ -50,9 +49,9 @@ returns-clause-ran g t c =
     let least = length (known c.run_screens.new.pass).seen in
     let looked : HasLookedOn g.B.LiveBoard c.args.board.now g.V.Sink c.args.roster.now c.in-Some.looking c.join-looked.result =
     rw (c.in-Ok.ensures.board, c.in-Ok.ensures.roster, c.in-Ok.ensures.looking) at c.join-looked.ensures in
-    ran_more g.B.LiveBoard c.args.board.now g.S.Source g.W.Sink g.V.Sink c.args.roster.now (known c.run_screens.new.pass).seen (known c.hear.new.pass).seen c.args.tally
+    ran_more g.B.LiveBoard c.args.board.now g.S.Source g.W.Sink g.V.Sink c.args.roster.now (known c.args.pass.now).seen (known c.run_screens.new.pass).seen (known c.hear.new.pass).seen
     _ c.args.screens.items c.in-Some.looking c.args.all.items c.in_ok-ran.ran _ _
-    c.in-Some.ensures.some c.in_ok-put.ensures.items refl refl (heard_on _ _ _ c.finish-end.ensures.unchanged c.hear.ensures.always).on.seen c.in_ok-ran.ensures.ran
+    c.in-Some.ensures.some c.in_ok-put.ensures.items refl (heard_on _ _ _ c.finish-end.ensures.unchanged c.hear.ensures.always).on.seen c.in_ok-ran.ensures.ran
     (closed_on g.B.LiveBoard c.args.board.now g.V.Sink c.args.roster.now (known c.finish-end.result.pass).seen (known c.hear.new.pass).seen least least c.in-Some.looking _
     (rw c.note-note.ensures.seen at c.hear.ensures.heard.met) (le_refl least)
     (closed_told g.B.LiveBoard c.args.board.now g.V.Sink c.args.roster.now (known c.finish-end.result.pass).seen least c.in-Some.looking c.finish-end.result _

@@ -10,12 +10,6 @@ returns-clause-heard g t c =
     rw (c.in_ok-put.ensures.items, map_push known _ _, one.unchanged)
     (heard_more _ _ _ _ one.always.on.seen c.in_ok-before.ensures.heard one.sound one.heard)
 
-pub returns-clause-tallied : goal.returns-clause-tallied
-returns-clause-tallied g t c =
-    let known = g.B.LiveBoard.reporter in
-    let one = c.hear_reporter.ensures in
-    rw (c.in_ok-put.ensures.items, map_push known _ _, one.unchanged) (c.in_ok-tally.ensures.tallied _ c.in_ok-before.ensures.tallied)
-
 pub returns-in_default-clause-kept : goal.returns-in_default-clause-kept
 returns-in_default-clause-kept g t c = zip_none (IsHandedBack g.B.LiveBoard c.args.board.now) _ _ c.in_default.ensures.none c.new.ensures.items
 

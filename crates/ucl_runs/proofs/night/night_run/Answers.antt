@@ -1,7 +1,8 @@
-use Rattle.std.proofs.Common.{ℕ, List, [], ◌∷◌, ◌++◌, refl, subst, sym, ap, All, ◌∙◌}
+use Rattle.std.proofs.Common.{ℕ, List, [], ◌∷◌, ◌++◌, refl, subst, sym, ap, arith, All, true≢false, ◌∙◌}
 use Rattle.std.specs.Prelude.{option_map, string_bytes}
+use Rattle.std.proofs.lemmas.Result.{err_from_is_err_and}
 use mathlib.Core.List.{IsPrefix}
-use Rattle.ucl_board.proofs.Beginnings.{begins_take, begins_through}
+use Rattle.ucl_board.proofs.Beginnings.{begins_length, begins_take, begins_through}
 use Rattle.ucl_shared.specs.Passes.{PassView, kept_pass, split_pass}
 use Rattle.ucl_runs.specs.Nights.{IsOnDuty, night_history, number_of_two, pass_of_reader_1, pass_of_reader_2}
 use Rattle.ucl_runs.specs.Styles.{styled}
@@ -126,3 +127,32 @@ returns-clause-readings g c =
       ap (λ (k : PassView). k.shown) settling.unchanged ∙ (worked.reporter_1.1.shown ∙ one.shown),
       settling.shown ∙ ap (λ (shown : List ℕ). shown ++ c.in_ok-settled.settled.version ∷ []) before,
     )
+
+pub returns-in_err-settled-clause-kinds : goal.returns-in_err-settled-clause-kinds
+returns-in_err-settled-clause-kinds g c =
+    let known = g.B.LiveBoard.reporter in
+    let back = c.in_ok-reporter_1.field-0 in
+    let worked = c.in_ok-reporter_1.ensures in
+    let first = known back.reporter_1 in
+    let second = known back.reporter_2 in
+    let met_both = known c.meet_reader-2.new.second in
+    let last = known c.settle.new.second in
+    let on = goes_on second (known c.meet_reader.new.second) met_both c.meet_reader.ensures.always c.meet_reader-2.ensures.always in
+    let mine = c.meet_reader-2.ensures.meeting.mine ∙ c.meet_reader.ensures.meeting.mine in
+    let settling = c.in_err-settled.ensures in
+    let settled = settling.settled in
+    let longer = begins_length second.seen met_both.seen on.on.seen in
+    let low = settled.low_second in
+    let told = err_from_is_err_and c.from_residual-in_err-settled.result c.from_residual-in_err-settled.ensures.1 in
+    rw (told.1, told.2) (record {
+      first = back.reporter_1;
+      second = back.reporter_2;
+      last = c.settle.new.second;
+      entered_1 = record { own = worked.reporter_1.0; before = _; fresh = (c.in_ok-enlist.ensures.enlisted.sound, c.in_ok-enlist.ensures.enlisted.mine); entered = worked.reporter_1.1 };
+      entered_2 = record { own = worked.reporter_2.0; before = _; fresh = (c.in_ok-enlist-2.ensures.enlisted.sound, c.in_ok-enlist-2.ensures.enlisted.mine); entered = worked.reporter_2.1 };
+      own = settling.own.1;
+      high = settled.high;
+      met_1 = begins_take first.seen last.seen _ settled.first settled.low_first;
+      met_2 = begins_take second.seen last.seen _ (begins_through second.seen met_both.seen last.seen on.on.seen settled.second) (omega arith);
+      others = λ alone. true≢false (sym (settling.exactly.1 (rw (on.number, mine) alone)));
+    })
