@@ -489,10 +489,17 @@ def followed(words, text):
     """The status, the output and the errors of `ucl_follow`."""
     lines = text.split("\n")[:-1]
     told = [moment_of(line) if len(line.removesuffix("\r").encode(errors="surrogateescape")) <= LONGEST_FOLLOWED else None for line in lines]
-    output, newest, shown = "", None, 0
+    asked = lambda option: words[words.index(option) + 1] if option in words else None
+    output, newest, shown, errors, others = "", None, 0, "", set()
+    title = [asked("--group"), asked("--order")]
     age = lambda moment: (moment[2], version(moment[4]))
     for row, moment in enumerate(told, 1):
-        if moment and (newest is None or age(moment) > age(newest)):
+        if moment and not all(it in (None, said) for it, said in zip(title, moment)):
+            if moment[:2] not in others:
+                errors += f"line {row}: group {moment[0]}, order {moment[1]}, is passed over\n"
+            others.add(moment[:2])
+        elif moment and (newest is None or age(moment) > age(newest)):
+            title = moment[:2]
             newest, shown = moment, shown + 1
             group, order, edition, roster, matches = moment
             style = Style(["--group", group, "--order", order])
@@ -502,8 +509,8 @@ def followed(words, text):
     if "--resume" in words:
         quoted = lambda name: '"' + name.replace('"', '""') + '"'
         if newest is None:
-            return 3, "", f"no moment in {len(lines)} lines: there is nothing to go on from\n"
+            return 3, "", errors + f"no moment in {len(lines)} lines: there is nothing to go on from\n"
         style = Style(["--group", newest[0], "--order", newest[1]])
         style.edition = newest[2]
         output = style.row() + "".join(f"club,{slot},{quoted(name)},{c}\n" for slot, (name, c) in enumerate(newest[3], 1)) + sheet(newest[4])
-    return 0, output, f"{len(lines)} lines, {shown} shown, {len(lines) - shown} passed over\n"
+    return 0, output, errors + f"{len(lines)} lines, {shown} shown, {len(lines) - shown} passed over\n"

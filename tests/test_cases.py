@@ -154,7 +154,7 @@ test_helps = tabled({line: (line, "", Has("", *parts)) for line, parts in {
     "ucl_night show --help": ["Usage: ucl_night show [OPTIONS]\n", *GROUP, *ORDER, CLUB_ROW, WORD_ROW, STARTS[1]],
     "ucl_night night --help": ["Usage: ucl_night night [OPTIONS]\n", *GROUP, *ORDER, *READINGS, STARTS[2]],
     "ucl_live --help": ["Usage: ucl_live [OPTIONS]", *RULES, "1,1,0,kickoff", "matches,,,", *ASKED, "--resumed", "--screens", "--explain", "--format <FORMAT>"],
-    "ucl_follow --help": ["Usage: ucl_follow [OPTIONS]", *RULES, "--matches", "--resume", "--format <FORMAT>"],
+    "ucl_follow --help": ["Usage: ucl_follow [OPTIONS]", *RULES, "--group <GROUP>", "--order <ORDER>", "--matches", "--resume", "--format <FORMAT>"],
     "ucl_evening --help": ["Usage: ucl_evening ", *RULES, "1,0,kickoff", *WAYS, *ASKED, STATUSES[1]],
 }.items()})
 
@@ -167,7 +167,7 @@ test_words_that_are_refused = tabled({line or "no words": (line, "", "", 2, Has(
     "ucl_night show --readings 3": "", "ucl_night feed more": "", "ucl_night feed --group A": "",
     "ucl_live --group I": "", "ucl_live --format xml": "", "ucl_live --readings 1": "", "ucl_live feed": "", "ucl_live --screens=1": "",
     "ucl_live --group": "", "ucl_live --scren": "'--screens'", "ucl_live --format jsn": "'json'", "ucl_night fed": "'feed'",
-    "ucl_follow --group A": "", "ucl_follow --format xml": "", "ucl_follow evening.jsonl": "", "ucl_follow --resume=1": "", "ucl_follow --format": "",
+    "ucl_follow --group I": "'I'", "ucl_follow --order": "", "ucl_follow --format xml": "", "ucl_follow evening.jsonl": "", "ucl_follow --resume=1": "", "ucl_follow --format": "",
     "ucl_follow --matches --format json": "--format", "ucl_follow --resume --matches": "--matches",
     "ucl_evening": "required", "ucl_evening clubs.csv": "--reporter", f"ucl_evening clubs.csv {SEVENTEEN}": "1 to 16 reporters",
     "ucl_evening clubs.csv --reporter rows": "IN=OUT", "ucl_evening clubs.csv --reporter clubs.csv=replies": "twice",

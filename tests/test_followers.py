@@ -22,6 +22,8 @@ told = lambda lines, shown: f"{lines} lines, {shown} shown, {lines - shown} pass
 vain = lambda lines: f"no moment in {lines} lines: there is nothing to go on from\n"
 count = SCREENS.count("GROUP")
 in_edition = lambda edition, line: line.replace('"edition":0', f'"edition":{edition}').replace("Alpha", "Alfa!")
+of_other = lambda line, group, order="uefa": line.replace('"group":"A"', f'"group":"{group}"').replace('"order":"uefa"', f'"order":"{order}"')
+other = lambda line, group, order="uefa": f"line {line}: group {group}, order {order}, is passed over\n"
 renamed = lambda screen: screen.replace("Alpha", "Alfa!")
 
 test_journals = tabled({
@@ -42,6 +44,16 @@ test_journals = tabled({
     "the last edition": ("ucl_follow", in_edition(65535, FIRST) + in_edition(65534, SECOND), renamed(SCREEN), 0, told(2, 1)),
     "rows of the latest edition, not of the highest version": ("ucl_follow --resume", in_edition(1, FIRST) + SECOND, followed(["--resume"], in_edition(1, FIRST))[1], 0, told(2, 1)),
     "an old journal, without editions": ("ucl_follow", JOURNAL.replace('"edition":0,', ""), SCREENS, 0, told(len(LINES), count)),
+    "the group of the first moment": ("ucl_follow", FIRST + of_other(SECOND, "C") + SECOND, BOTH, 0, other(2, "C") + told(3, 2)),
+    "the order of the first moment": ("ucl_follow", FIRST + of_other(SECOND, "A", "away-in-tie") + SECOND, BOTH, 0, other(2, "A", "away-in-tie") + told(3, 2)),
+    "a group that is asked for": ("ucl_follow --group A", of_other(FIRST, "C") + FIRST + SECOND, BOTH, 0, other(1, "C") + told(3, 2)),
+    "an order that is asked for": ("ucl_follow --order uefa", of_other(FIRST, "A", "away-in-tie") + FIRST + SECOND, BOTH, 0, other(1, "A", "away-in-tie") + told(3, 2)),
+    "an order alone, and the first group of it": ("ucl_follow --order uefa", FIRST + of_other(SECOND, "B"), SCREEN, 0, other(2, "B") + told(2, 1)),
+    "others, each told once": ("ucl_follow --group A", "".join(of_other(line, group) for line in (FIRST, SECOND) for group in "HBA"), BOTH, 0, other(1, "H") + other(2, "B") + told(6, 2)),
+    "a later edition of another group": ("ucl_follow", FIRST + in_edition(1, of_other(FIRST, "C")) + SECOND, BOTH, 0, other(2, "C") + told(3, 2)),
+    "none of the group": ("ucl_follow --group B", FIRST + SECOND, "", 0, other(1, "A") + told(2, 0)),
+    "rows of the group": ("ucl_follow --resume --group A", FIRST + of_other(SECOND, "C"), followed(["--resume"], FIRST)[1], 0, other(2, "C") + told(2, 1)),
+    "no rows of the group": ("ucl_follow --resume --group B", FIRST + SECOND, "", 3, other(1, "A") + vain(2)),
     "rows of no moment": ("ucl_follow --resume", "{}\n", "", 3, vain(1)),
     "rows of nothing": ("ucl_follow --resume --format json", "", "", 3, vain(0)),
     "rows of a line that is cut": ("ucl_follow --resume", FIRST[:-1], "", 3, vain(0)),

@@ -138,15 +138,16 @@ def test_evenings(program, data):
 
 @given(st.data())
 def test_journals(program, data):
-    """`ucl_follow`, on lines of an evening of which some are lost, doubled, turned round and torn."""
+    """`ucl_follow`, on lines of evenings of two groups of which some are lost, doubled, turned round and torn."""
     draw = data.draw
-    words = ["--format", "json"] + draw(st.sampled_from([[], ["--screens"]])) + draw(GROUPS) + draw(ORDERS)
-    lines = Evening(words).of(CLUBS + "screen,,,\n" + "".join(event_rows(draw(PICKS))))[1].splitlines(True)
+    words = ["--format", "json"] + draw(st.sampled_from([[], ["--screens"]]))
+    evening = lambda: Evening(words + draw(GROUPS) + draw(ORDERS)).of(CLUBS + "screen,,,\n" + "".join(event_rows(draw(PICKS))))[1].splitlines(True)
+    lines = evening() + evening()
     some = [lines[at % len(lines)] for at in draw(st.lists(st.integers(0, 120), max_size=40))]
     for at, end, more in draw(st.lists(st.tuples(st.integers(0, 40), st.integers(0, 1200), st.sampled_from(["", "\n", "}\n", " \r\n"])), max_size=5)):
         if at < len(some):
             some[at] = some[at].rstrip("\n")[:end] + more
-    words, text = draw(st.sampled_from([[], ["--format", "json"], ["--matches"], ["--resume"]])), "".join(some)
+    words, text = draw(st.sampled_from([[], ["--format", "json"], ["--matches"], ["--resume"]])) + draw(GROUPS) + draw(ORDERS), "".join(some)
     assert fed(program("ucl_follow"), words, text, draw(PIECES)) == followed(words, text)
 
 

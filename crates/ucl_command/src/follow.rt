@@ -2,13 +2,28 @@
 
 use crate::fault::{LineFault, matches_from, read};
 use crate::help::follow as help;
-use crate::options::{Format, flag_option, format_of, format_option, program};
+use crate::options::{
+    Format, flag_option, format_of, format_option, group_of, group_option, order_of, order_option,
+    program,
+};
 use clap::{Arg, ArgMatches, Command};
 use std::alloc::{AllocError, Global};
+use ucl_order::Profile;
+
+/// Which group and order a follower was asked for, if any, and what it writes.
+#[derive(Clone, Copy, Debug, PartialEq, Eq)]
+pub struct FollowArgs {
+    /// The letter of the group that was asked for, `A` to `H`.
+    pub group: Option<u8>,
+    /// The order of the clubs that was asked for.
+    pub profile: Option<Profile>,
+    /// What it writes.
+    pub shape: FollowShape,
+}
 
 /// What a follower writes.
 #[derive(Clone, Copy, Debug, PartialEq, Eq)]
-pub enum FollowArgs {
+pub enum FollowShape {
     /// Each screen as its six lines of text.
     Text,
     /// Each screen as one JSON object on one line.
@@ -29,30 +44,42 @@ fn matches_option<'a>(alloc: Global) -> Result<Arg<'a>, AllocError> {
 /// The program's command.
 fn command<'a>(alloc: Global) -> Result<Command<'a>, AllocError> {
     program(alloc, "ucl_follow", help::PROGRAM, help::PROGRAM_MORE)
+        .arg(group_option(alloc, help::GROUP))?
+        .arg(order_option(alloc, help::ORDER))?
         .arg(format_option(alloc))?
         .arg(flag_option(alloc, "resume", help::RESUME))?
         .arg(matches_option(alloc)?)
 }
 
-/// The arguments that were named.
-fn args_in(matches: &ArgMatches<'_>) -> Option<FollowArgs> {
+/// What was named to be written.
+fn shape_in(matches: &ArgMatches<'_>) -> Option<FollowShape> {
     let format = format_of(matches)?;
     if matches.get_flag("resume") {
-        return Some(FollowArgs::Rows);
+        return Some(FollowShape::Rows);
     }
     if matches.get_flag("matches") {
-        return Some(FollowArgs::Matches);
+        return Some(FollowShape::Matches);
     }
     match format {
-        Format::Text => Some(FollowArgs::Text),
-        Format::Json => Some(FollowArgs::Json),
+        Format::Text => Some(FollowShape::Text),
+        Format::Json => Some(FollowShape::Json),
     }
+}
+
+/// The arguments that were named.
+fn args_in(matches: &ArgMatches<'_>) -> Option<FollowArgs> {
+    Some(FollowArgs {
+        group: group_of(matches),
+        profile: order_of(matches),
+        shape: shape_in(matches)?,
+    })
 }
 
 /// What the words ask of `ucl_follow`. The first word is the program's name.
 ///
-/// The options are `--format` with `text` or `json`, which is `text` where it is left out; `--matches`, which asks for the matches in place of
-/// screens, and goes with no other option; and `--resume`, which asks for rows in place of screens.
+/// The options are `--group` with a letter from `A` to `H`; `--order` with `uefa` or `away-in-tie`; `--format` with `text` or `json`, which is
+/// `text` where it is left out; `--matches`, which asks for the matches in place of screens, and goes with neither `--format` nor `--resume`; and
+/// `--resume`, which asks for rows in place of screens.
 ///
 /// # Errors
 ///

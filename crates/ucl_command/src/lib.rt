@@ -18,7 +18,7 @@ pub use clubs::{BrokenRule, broken_rule};
 pub use evening::evening_args;
 pub use fault::{LineFault, words_of};
 pub use files::{EveningArgs, ReporterFiles, ScreenFile};
-pub use follow::{FollowArgs, follow_args};
+pub use follow::{FollowArgs, FollowShape, follow_args};
 pub use live::{LiveArgs, asks_explanations, live_args};
 pub use night::{Line, line_of};
 pub use options::Format;

@@ -13,10 +13,11 @@ use ucl_screen::{FromRead, ToWrite};
 fn main(rt: HostRuntime) -> ExitCode {
     let alloc = rt.alloc();
     let mut duplex = Duplex::new(FromRead::new(rt.stdin()), ToWrite::new(rt.stdout()));
+    let others = ToWrite::new(rt.stderr());
     let mut errors = ToWrite::new(rt.stderr());
     let asked = match words_of(&rt, alloc) {
         Ok(words) => follow_args(alloc, &words),
         Err(fault) => Err(fault),
     };
-    ExitCode::from(run_following(alloc, asked, &mut duplex, &mut errors))
+    ExitCode::from(run_following(alloc, asked, others, &mut duplex, &mut errors))
 }

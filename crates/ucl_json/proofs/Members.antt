@@ -1,8 +1,7 @@
 -- What the members of a value tell.
 use Rattle.std.proofs.Common.{◌≡◌, ◌∙◌, ℕ, suc, ◌+◌, ◌<◌, ◌≤◌, ◌&&◌, ◌==◌, Bool, cond, true, false, refl, sym, ap, arith, List, [], ◌∷◌, ◌++◌, codes, length, take, drop}
-use Rattle.std.proofs.Common.{get_or, append_assoc, Option, Some, None, le-leb, leb-true, inl, inr}
+use Rattle.std.proofs.Common.{get_or, append_assoc, Option, Some, None, le-leb, inl, inr}
 use Rattle.std.specs.Prelude.{nat_le, map, option_and_then}
-use Rattle.std.specs.List.{slice_index_or}
 use Rattle.std.specs.Str.{is_utf8}
 use Rattle.std.specs.Prelude.{IsUtf8}
 use Rattle.std.proofs.lemmas.Str.{IsUtf8-from_is_utf8, is_utf8-from_IsUtf8}

@@ -1,16 +1,21 @@
 -- What is shown of lines.
-use Rattle.std.proofs.Common.{◌≡◌, ℕ, true, false, List, [], ◌∷◌, ◌++◌, Option, Some, None, refl, sym, ap, ap₂, ◌∙◌, inl, inr, subst, append_assoc, append-nil, arith}
+use Rattle.std.proofs.Common.{◌≡◌, ◌⊎◌, ◌==◌, ℕ, true, false, List, [], ◌∷◌, ◌++◌, Option, Some, None, refl, sym, ap, ap₂, ◌∙◌, inl, inr, subst, append_assoc, append-nil, arith}
 use Rattle.std.specs.Prelude.{⊤, All, flat_map}
-use Rattle.std.proofs.lemmas.Bool.{cases_Bool}
+use Rattle.std.proofs.lemmas.Bool.{and_parts, and_right, cases_Bool, eqb-true}
 use Rattle.std.proofs.lemmas.Bool.Decides.{nat_tests}
 use Rattle.std.proofs.lemmas.List.Elements.{All-append, All-cons, All-head, All-nil, All-tail}
 use Rattle.ucl_screen.specs.Screen.{screen_text}
 use Rattle.ucl_json.specs.declared.moment.Moment.{Moment}
 use Rattle.ucl_runs.specs.declared.following.Following.{Following}
-use Rattle.ucl_command.specs.declared.follow.FollowArgs.TheVariants.{Text}
+use Rattle.ucl_order.specs.declared.profile.Profile.{Profile}
+use Rattle.ucl_order.specs.declared.profile.Profile.TheVariants.{Uefa, AwayInTie}
+use Rattle.ucl_json.specs.declared.title.Title.{Title}
+use Rattle.ucl_runs.specs.Titles.{is_asked, is_same_order}
+use Rattle.ucl_command.specs.declared.follow.FollowArgs.{FollowArgs}
+use Rattle.ucl_command.specs.declared.follow.FollowShape.TheVariants.{Text}
 use Rattle.ucl_json.specs.Told.{moment_on}
-use Rattle.ucl_runs.specs.Follow.{after_told, followed, is_later, is_newer, passed_over, shown_too, sights, told_text, unseen}
-use Rattle.ucl_runs.specs.Latest.{IsLineOfThese, IsNoNewer, IsShownLast, IsToldIn, LatestIsShownLast, OthersDoNotMatter, RiseAbove}
+use Rattle.ucl_runs.specs.Follow.{after_told, followed, is_later, is_newer, is_shown, passed_over, shown_too, sights, told_text, unseen}
+use Rattle.ucl_runs.specs.Latest.{IsLineOfThese, IsNoNewer, IsOf, IsShownLast, IsToldIn, LatestIsShownLast, OthersDoNotMatter, RiseAbove}
 use Rattle.ucl_runs.specs.Latest.{ShownVersionsRise, moments_shown, shown_of}
 
 abbrev Lines : Type 0
@@ -24,8 +29,8 @@ screen_of m = screen_text m.title.profile m.board m.roster m.title.group
 rise-told : (f : Following) (o : Option Moment) (lines : Lines) → ((g : Following) → RiseAbove g.newest (moments_shown g lines))
     → RiseAbove f.newest (shown_of f o ++ moments_shown (after_told f o) lines)
 rise-told f None lines k = k (passed_over f)
-rise-told f (Some m) lines k = elim (cases_Bool (is_newer f.newest m)) [
-  | inl y ↦ rw y (y, k (shown_too f m))
+rise-told f (Some m) lines k = elim (cases_Bool (is_shown f m)) [
+  | inl y ↦ rw y ((and_parts (is_asked f.group f.profile m.title) (is_newer f.newest m) y).1, k (shown_too f m))
   | inr n ↦ rw n (k (passed_over f))
 ]
 
@@ -40,7 +45,7 @@ both-parts (x ∷ xs) ys = ap (λ (l : List ℕ). screen_of x ++ l) (both-parts 
 
 one-text : (f : Following) (o : Option Moment) → told_text Text f o ≡ flat_map screen_of (shown_of f o)
 one-text f None = refl
-one-text f (Some m) = elim (cases_Bool (is_newer f.newest m)) [ inl y ↦ rw y (sym (append-nil (screen_of m))) | inr n ↦ rw n refl ]
+one-text f (Some m) = elim (cases_Bool (is_shown f m)) [ inl y ↦ rw y (sym (append-nil (screen_of m))) | inr n ↦ rw n refl ]
 
 text : (f : Following) (lines : Lines) → sights Text f lines ≡ flat_map screen_of (moments_shown f lines)
 unfolding sights moments_shown
@@ -63,7 +68,7 @@ weaker line lines (m ∷ ms) h = All-cons (IsToldIn (line ∷ lines)) m ms (told
 
 one-told : (f : Following) (line : List ℕ) (lines : Lines) (o : Option Moment) → moment_on line ≡ o → All (IsToldIn (line ∷ lines)) (shown_of f o)
 one-told f line lines None e = All-nil (IsToldIn (line ∷ lines))
-one-told f line lines (Some m) e = elim (cases_Bool (is_newer f.newest m)) [
+one-told f line lines (Some m) e = elim (cases_Bool (is_shown f m)) [
   | inl y ↦ rw y (All-cons (IsToldIn (line ∷ lines)) m [] (told-first line lines m e) (All-nil (IsToldIn (line ∷ lines))))
   | inr n ↦ rw n (All-nil (IsToldIn (line ∷ lines)))
 ]
@@ -76,8 +81,101 @@ told f (line ∷ lines) =
     All-append (IsToldIn (line ∷ lines)) (shown_of f (moment_on line)) (moments_shown now lines) (one-told f line lines (moment_on line) refl)
     (weaker line lines (moments_shown now lines) (told now lines))
 
+-- ---- of one group and order
+
+same-order : (one other : Profile) → is_same_order one other ≡ true → one ≡ other
+same-order Uefa Uefa h = refl
+same-order AwayInTie AwayInTie h = refl
+same-order Uefa AwayInTie h = cc
+same-order AwayInTie Uefa h = cc
+
+itself : (order : Profile) → is_same_order order order ≡ true
+itself Uefa = refl
+itself AwayInTie = refl
+
+abbrev pub IsTitledAs : Moment → Title → Type 0
+IsTitledAs m title = is_asked (Some m.title.group) (Some m.title.profile) title ≡ true
+
+pub titled-so : (m other : Moment) → m.title ≡ other.title → IsTitledAs m other.title
+titled-so m other e = let order = itself m.title.profile in rw (← e, order) (grind (arith, nat_tests))
+
+-- what is asked of one, is of the other
+pub alike : (m : Moment) (title : Title) → IsTitledAs m title → (group : Option ℕ) (profile : Option Profile) → is_asked group profile title ≡ is_asked group profile m.title
+alike m title h group profile =
+    let p = and_parts (m.title.group == title.group) (is_same_order m.title.profile title.profile) h in
+    let same : m.title.group ≡ title.group = eqb-true m.title.group title.group p.0 in
+    let order : m.title.profile ≡ title.profile = same-order m.title.profile title.profile p.1 in rw (← same, ← order) refl
+
+abbrev IsTitled : Following → Moment → Type 0
+IsTitled f m = (f.group ≡ Some m.title.group) × (f.profile ≡ Some m.title.profile)
+
+one-refines : (f : Following) (o : Option Moment) (m : Moment) → IsOf (after_told f o) m → IsOf f m
+one-refines f None m h = h
+one-refines f (Some n) m h = elim (cases_Bool (is_shown f n)) [
+  | inl y ↦
+      let now : after_told f (Some n) ≡ shown_too f n = rw y refl in
+      let same : IsTitledAs n m.title = subst (λ (g : Following). IsOf g m) now h in
+      alike n m.title same f.group f.profile ∙ (and_parts (is_asked f.group f.profile n.title) (is_newer f.newest n) y).0
+  | inr other ↦ let now : after_told f (Some n) ≡ passed_over f = rw other refl in subst (λ (g : Following). IsOf g m) now h
+]
+
+refines : (f : Following) (lines : Lines) (m : Moment) → IsOf (followed f lines) m → IsOf f m
+unfolding followed
+refines f [] m h = h
+refines f (line ∷ lines) m h = one-refines f (moment_on line) m (refines (after_told f (moment_on line)) lines m h)
+
+one-titled : (f : Following) (o : Option Moment) (m : Moment) → IsTitled f m → IsTitled (after_told f o) m
+one-titled f None m h = h
+one-titled f (Some n) m h = elim (cases_Bool (is_shown f n)) [
+  | inl y ↦
+      let same = ap₂ (λ (g : Option ℕ) (o : Option Profile). is_asked g o n.title) h.0 h.1 in
+      let ours : IsTitledAs m n.title = sym same ∙ (and_parts (is_asked f.group f.profile n.title) (is_newer f.newest n) y).0 in
+      let p = and_parts (m.title.group == n.title.group) (is_same_order m.title.profile n.title.profile) ours in
+      let now : after_told f (Some n) ≡ shown_too f n = rw y refl in
+      let group : m.title.group ≡ n.title.group = eqb-true m.title.group n.title.group p.0 in
+      let order : m.title.profile ≡ n.title.profile = same-order m.title.profile n.title.profile p.1 in
+      subst (λ (g : Following). IsTitled g m) (sym now) (ap (λ (g : ℕ). Some g) (sym group), ap (λ (p : Profile). Some p) (sym order))
+  | inr other ↦ let now : after_told f (Some n) ≡ passed_over f = rw other refl in subst (λ (g : Following). IsTitled g m) (sym now) h
+]
+
+titled-stays : (f : Following) (lines : Lines) (m : Moment) → IsTitled f m → IsTitled (followed f lines) m
+unfolding followed
+titled-stays f [] m h = h
+titled-stays f (line ∷ lines) m h = titled-stays (after_told f (moment_on line)) lines m (one-titled f (moment_on line) m h)
+
+of-title : (f : Following) (m : Moment) → IsTitled f m → IsOf f m
+of-title f m h = rw (h.0, h.1) (titled-so m m refl)
+
+first-titled : (f : Following) (o : Option Moment) (lines : Lines) → All (IsOf (followed (after_told f o) lines)) (shown_of f o)
+first-titled f None lines = All-nil (IsOf (followed (passed_over f) lines))
+first-titled f (Some m) lines = elim (cases_Bool (is_shown f m)) [
+  | inl y ↦
+      let P : Moment → Type 0 = IsOf (followed (shown_too f m) lines) in
+      rw y (All-cons P m [] (of-title (followed (shown_too f m) lines) m (titled-stays (shown_too f m) lines m (refl, refl))) (All-nil P))
+  | inr n ↦ rw n (All-nil (IsOf (followed (passed_over f) lines)))
+]
+
+titled : (f : Following) (lines : Lines) → All (IsOf (followed f lines)) (moments_shown f lines)
+unfolding followed moments_shown
+titled f [] = All-nil (IsOf f)
+titled f (line ∷ lines) =
+    let now = after_told f (moment_on line) in
+    All-append (IsOf (followed now lines)) (shown_of f (moment_on line)) (moments_shown now lines) (first-titled f (moment_on line) lines) (titled now lines)
+
+all-asked : (f : Following) (lines : Lines) (ms : List Moment) → All (IsOf (followed f lines)) ms → All (IsOf f) ms
+all-asked f lines [] h = All-nil (IsOf f)
+all-asked f lines (m ∷ ms) h =
+    let P : Moment → Type 0 = IsOf (followed f lines) in
+    All-cons (IsOf f) m ms (refines f lines m (All-head P m ms h)) (all-asked f lines ms (All-tail P m ms h))
+
 pub versions : ShownVersionsRise
-versions f lines = record { rise = rise f lines; text = text f lines; told = told f lines }
+versions f lines = record {
+  rise = rise f lines;
+  text = text f lines;
+  told = told f lines;
+  asked = all-asked f lines (moments_shown f lines) (titled f lines);
+  titled = titled f lines;
+}
 
 -- ---- the latest
 
@@ -88,35 +186,74 @@ not-itself m = grind (arith, nat_tests)
 pub one-way : (m other : Moment) → is_later m other ≡ true → is_later other m ≡ false
 one-way m other h = grind (arith, nat_tests)
 
-module _ (m : Moment) where
+module _ (args : FollowArgs) (m : Moment) (asked : is_asked args.group args.profile m.title ≡ true) where
   abbrev Fits : List ℕ → Type 0
-  Fits line = IsNoNewer m (moment_on line)
+  Fits line = IsNoNewer args m (moment_on line)
 
   -- the newest so far is older
   abbrev IsBelow : Option Moment → Type 0
   IsBelow None = ⊤
   IsBelow (Some other) = is_later m other ≡ true
 
-  -- it is the moment itself: no line is newer, and none is shown
-  stays : (f : Following) (o : Option Moment) → f.newest ≡ Some m → IsNoNewer m o → ((after_told f o).newest ≡ Some m) × (shown_of f o ≡ [])
-  stays f None h k = (h, refl)
-  stays f (Some other) h (inl e) = let n : is_newer f.newest other ≡ false = rw (h, e) (not-itself m) in rw n (h, refl)
-  stays f (Some other) h (inr less) = let n : is_newer f.newest other ≡ false = rw h (one-way m other less) in rw n (h, refl)
+  -- what is followed is the group and the order of the moment, as far as they are known, and nothing that is not as asked
+  record Follows (f : Following) : Type 0 where
+    own : IsOf f m
+    others : (title : Title) → is_asked args.group args.profile title ≡ false → is_asked f.group f.profile title ≡ false
 
-  pub rest : (f : Following) (lines : Lines) → f.newest ≡ Some m → All Fits lines → ((followed f lines).newest ≡ Some m) × (moments_shown f lines ≡ [])
+  follows-on : (f : Following) (other : Moment) → IsTitledAs m other.title → Follows (shown_too f other)
+  follows-on f other same =
+      let g = shown_too f other in record {
+        own = sym (alike m other.title same g.group g.profile) ∙ titled-so other other refl;
+        others = λ title foreign. elim (cases_Bool (is_asked g.group g.profile title)) [
+          | inl y ↦ cc (alike other title y args.group args.profile ∙ alike m other.title same args.group args.profile ∙ asked, foreign)
+          | inr n ↦ n
+        ];
+      }
+
+  follows-shown : (f : Following) (other : Moment) → Follows f → is_shown f other ≡ true → IsNoNewer args m (Some other) → Follows (shown_too f other)
+  follows-shown f other h y (inl foreign) = cc (h.others other.title foreign, (and_parts (is_asked f.group f.profile other.title) (is_newer f.newest other) y).0)
+  follows-shown f other h y (inr (inl e)) = follows-on f other (titled-so m other (ap (λ (n : Moment). n.title) (sym e)))
+  follows-shown f other h y (inr (inr older)) = follows-on f other older.0
+
+  -- it is the moment itself: no line is newer, and none is shown
+  record Stays (f : Following) (o : Option Moment) : Type 0 where
+    newest : (after_told f o).newest ≡ Some m
+    none : shown_of f o ≡ []
+    follows : Follows (after_told f o)
+
+  stays-if : (f : Following) (other : Moment) → Follows f → f.newest ≡ Some m → is_shown f other ≡ false → Stays f (Some other)
+  stays-if f other h e n =
+      let now : after_told f (Some other) ≡ passed_over f = rw n refl in record {
+        newest = ap (λ (g : Following). g.newest) now ∙ e;
+        none = rw n refl;
+        follows = subst Follows (sym now) (record { own = h.own; others = h.others });
+      }
+
+  stays : (f : Following) (o : Option Moment) → Follows f → f.newest ≡ Some m → IsNoNewer args m o → Stays f o
+  stays f None h e k = record { newest = e; none = refl; follows = record { own = h.own; others = h.others } }
+  stays f (Some other) h e (inl foreign) = stays-if f other h e (rw (h.others other.title foreign) refl)
+  stays f (Some other) h e (inr (inl same)) =
+      stays-if f other h e (and_right (is_asked f.group f.profile other.title) (is_newer f.newest other) (rw (e, same) (not-itself m)))
+  stays f (Some other) h e (inr (inr older)) =
+      stays-if f other h e (and_right (is_asked f.group f.profile other.title) (is_newer f.newest other) (rw e (one-way m other older.1)))
+
+  rest : (f : Following) (lines : Lines) → Follows f → f.newest ≡ Some m → All Fits lines → ((followed f lines).newest ≡ Some m) × (moments_shown f lines ≡ [])
   unfolding followed moments_shown
-  rest f [] h all = (h, refl)
-  rest f (line ∷ lines) h all =
-      let now = stays f (moment_on line) h (All-head Fits line lines all) in
-      let later = rest (after_told f (moment_on line)) lines now.0 (All-tail Fits line lines all) in
-      (later.0, rw now.1 later.1)
+  rest f [] h e all = (e, refl)
+  rest f (line ∷ lines) h e all =
+      let now = stays f (moment_on line) h e (All-head Fits line lines all) in
+      let later = rest (after_told f (moment_on line)) lines now.follows now.newest (All-tail Fits line lines all) in
+      (later.0, rw now.none later.1)
 
   abbrev EndsWith : Following → Lines → Type 0
   EndsWith f lines = ((followed f lines).newest ≡ Some m) × ((before : List Moment) × (moments_shown f lines ≡ before ++ m ∷ []))
 
-  newer : (o : Option Moment) → IsBelow o → is_newer o m ≡ true
-  newer None h = refl
-  newer (Some other) h = h
+  newer : (f : Following) → Follows f → IsBelow f.newest → is_shown f m ≡ true
+  newer f h below = rw h.own (newer-than f.newest below)
+    where
+      newer-than : (o : Option Moment) → IsBelow o → is_newer o m ≡ true
+      newer-than None h = refl
+      newer-than (Some other) h = h
 
   onward : (f g : Following) (first : List ℕ) (more : Lines) (ms : List Moment) → after_told f (moment_on first) ≡ g → shown_of f (moment_on first) ≡ ms → EndsWith g more → EndsWith f (first ∷ more)
   unfolding followed moments_shown
@@ -126,30 +263,45 @@ module _ (m : Moment) where
   )
 
   -- a line that tells it, where the newest was older
-  here : (f : Following) (line : List ℕ) (lines : Lines) → IsBelow f.newest → moment_on line ≡ Some m → All Fits lines → EndsWith f (line ∷ lines)
+  here : (f : Following) (line : List ℕ) (lines : Lines) → Follows f → IsBelow f.newest → moment_on line ≡ Some m → All Fits lines → EndsWith f (line ∷ lines)
   unfolding followed moments_shown
-  here f line lines below e all =
-      let n = newer f.newest below in
+  here f line lines h below e all =
+      let n = newer f h below in
       let now : after_told f (moment_on line) ≡ shown_too f m = rw (e, n) refl in
       let one : shown_of f (moment_on line) ≡ m ∷ [] = rw (e, n) refl in
-      let later = rest (shown_too f m) lines refl all in
+      let later = rest (shown_too f m) lines (follows-on f m (titled-so m m refl)) refl all in
       (ap (λ (g : Following). (followed g lines).newest) now ∙ later.0, ([], ap₂ (λ (a b : List Moment). a ++ b) one (ap (λ (g : Following). moments_shown g lines) now ∙ later.1)))
 
-  step : (f : Following) (first : List ℕ) (more : Lines) (o : Option Moment) → moment_on first ≡ o → IsBelow f.newest → IsNoNewer m o → All Fits more
-      → ((g : Following) → IsBelow g.newest → EndsWith g more)
-      → EndsWith f (first ∷ more)
-  step f first more None e below h all k = onward f (passed_over f) first more [] (rw e refl) (rw e refl) (k (passed_over f) below)
-  step f first more (Some other) e below (inl same) all k = here f first more below (e ∙ ap (λ (x : Moment). Some x) same) all
-  step f first more (Some other) e below (inr less) all k = elim (cases_Bool (is_newer f.newest other)) [
-    | inl y ↦ onward f (shown_too f other) first more (other ∷ []) (rw (e, y) refl) (rw (e, y) refl) (k (shown_too f other) less)
-    | inr n ↦ onward f (passed_over f) first more [] (rw (e, n) refl) (rw (e, n) refl) (k (passed_over f) below)
+  abbrev Onward : Lines → Type 0
+  Onward more = (g : Following) → Follows g → IsBelow g.newest → EndsWith g more
+
+  passed : (f : Following) (first : List ℕ) (more : Lines) (o : Option Moment) → moment_on first ≡ o → after_told f o ≡ passed_over f → shown_of f o ≡ [] → Follows f → IsBelow f.newest
+      → Onward more → EndsWith f (first ∷ more)
+  passed f first more o e now none h below k =
+      onward f (passed_over f) first more [] (ap (after_told f) e ∙ now) (ap (shown_of f) e ∙ none) (k (passed_over f) (record { own = h.own; others = h.others }) below)
+
+  below-still : (f : Following) (other : Moment) → is_shown f other ≡ true → Follows f → IsNoNewer args m (Some other) → (other ≡ m) ⊎ (is_later m other ≡ true)
+  below-still f other y h (inl foreign) = cc (h.others other.title foreign, (and_parts (is_asked f.group f.profile other.title) (is_newer f.newest other) y).0)
+  below-still f other y h (inr (inl same)) = inl same
+  below-still f other y h (inr (inr older)) = inr older.1
+
+  step : (f : Following) (first : List ℕ) (more : Lines) (o : Option Moment) → moment_on first ≡ o → Follows f → IsBelow f.newest → IsNoNewer args m o → All Fits more
+      → Onward more → EndsWith f (first ∷ more)
+  step f first more None e h below fits all k = passed f first more None e refl refl h below k
+  step f first more (Some other) e h below fits all k = elim (cases_Bool (is_shown f other)) [
+    | inl y ↦ elim (below-still f other y h fits) [
+      | inl same ↦ here f first more h below (e ∙ ap (λ (x : Moment). Some x) same) all
+      | inr less ↦ onward f (shown_too f other) first more (other ∷ []) (rw (e, y) refl) (rw (e, y) refl) (k (shown_too f other) (follows-shown f other h y fits) less)
+    ]
+    | inr n ↦ passed f first more (Some other) e (rw n refl) (rw n refl) h below k
   ]
 
-  pub ends : (f : Following) (before : Lines) (line : List ℕ) (after : Lines) → IsBelow f.newest → moment_on line ≡ Some m → All Fits (before ++ line ∷ after) → EndsWith f (before ++ line ∷ after)
-  ends f [] line after below e all = here f line after below e (All-tail Fits line after all)
-  ends f (first ∷ before) line after below e all =
+  ends : (f : Following) (before : Lines) (line : List ℕ) (after : Lines) → Follows f → IsBelow f.newest → moment_on line ≡ Some m → All Fits (before ++ line ∷ after)
+      → EndsWith f (before ++ line ∷ after)
+  ends f [] line after h below e all = here f line after h below e (All-tail Fits line after all)
+  ends f (first ∷ before) line after h below e all =
       let later = All-tail Fits first (before ++ line ∷ after) all in
-      step f first (before ++ line ∷ after) (moment_on first) refl below (All-head Fits first (before ++ line ∷ after) all) later (λ g h. ends g before line after h e later)
+      step f first (before ++ line ∷ after) (moment_on first) refl h below (All-head Fits first (before ++ line ∷ after) all) later (λ g h k. ends g before line after h k e later)
 
   within : (before : Lines) (line : List ℕ) (after : Lines) → All Fits (before ++ line ∷ after) → Fits line
   within [] line after all = All-head Fits line after all
@@ -163,14 +315,14 @@ module _ (m : Moment) where
       one-fits : IsLineOfThese lines line → Fits line
       one-fits (before, after, e) = within before line after (subst (λ (ls : Lines). All Fits ls) e all)
 
-  told-last : (lines : Lines) → All Fits lines → IsToldIn lines m → IsShownLast m lines
+  told-last : (lines : Lines) → All Fits lines → IsToldIn lines m → IsShownLast args m lines
   told-last lines all (line, (before, after, e), k) =
-      let p = ends unseen before line after tt k (subst (λ (ls : Lines). All Fits ls) e all) in
-      let q : EndsWith unseen lines = subst (λ (ls : Lines). EndsWith unseen ls) (sym e) p in
+      let p = ends (unseen args) before line after (record { own = asked; others = λ title foreign. foreign }) tt k (subst (λ (ls : Lines). All Fits ls) e all) in
+      let q : EndsWith (unseen args) lines = subst (λ (ls : Lines). EndsWith (unseen args) ls) (sym e) p in
       record { before = q.1.0; shown = q.1.1; newest = q.0 }
 
 pub latest : LatestIsShownLast
-latest m lines h = told-last m lines h.newest h.told
+latest args m lines h = told-last args m h.asked lines h.newest h.told
 
 pub others : OthersDoNotMatter
-others m lines those h these told = told-last m those (all-fit m lines those h.newest these) told
+others args m lines those h these told = told-last args m h.asked those (all-fit args m h.asked lines those h.newest these) told

@@ -1,5 +1,5 @@
 -- What the lines of an evening's answers tell: nothing, or the moment after their line.
-use Rattle.std.proofs.Common.{◌≡◌, ◌∙◌, ℕ, ◌+◌, ◌-◌, ◌^◌, ◌<◌, ◌≤◌, ◌==◌, ◌&&◌, codes, Bool, true, false, refl, sym, ap, subst, arith, List, [], ◌∷◌, ◌++◌}
+use Rattle.std.proofs.Common.{◌≡◌, ◌∙◌, ℕ, ◌+◌, ◌-◌, ◌^◌, ◌<◌, ◌≤◌, ◌==◌, ◌&&◌, Bool, true, false, refl, sym, ap, subst, arith, List, [], ◌∷◌, ◌++◌}
 use Rattle.std.proofs.Common.{length, leb-true, Option, Some, None, inl, inr}
 use Rattle.std.specs.Prelude.{⊤, ◌||◌, All, if◌then◌else◌, nat_le, Result, Ok, Err}
 use Rattle.std.specs.Result.{is_ok}

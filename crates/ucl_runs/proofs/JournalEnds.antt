@@ -1,5 +1,5 @@
 -- The last moment of a journal, and what comes after a crash.
-use Rattle.std.proofs.Common.{◌≡◌, ◌∙◌, ◌⊎◌, ℕ, ◌+◌, ◌^◌, ◌≤◌, false, refl, sym, ap, ap₂, subst}
+use Rattle.std.proofs.Common.{◌≡◌, ◌∙◌, ◌⊎◌, ℕ, ◌+◌, ◌^◌, ◌≤◌, true, refl, sym, ap, ap₂, subst}
 use Rattle.std.proofs.Common.{arith, List, [], ◌∷◌, ◌++◌, length, append-nil, append_assoc, length-append, Option, Some, None, inl, inr}
 use Rattle.std.specs.List.{fold}
 use Rattle.ucl_word.specs.declared.refusal.Refusal.{Refusal}
@@ -11,6 +11,7 @@ use Rattle.ucl_order.specs.Roster.{NamedClub}
 use Rattle.ucl_screen.specs.Events.{attempt_of}
 use Rattle.ucl_screen.specs.Rows.{FourFields}
 use Rattle.ucl_screen.specs.declared.night.NightEvent.{NightEvent}
+use Rattle.ucl_command.specs.declared.follow.FollowArgs.{FollowArgs}
 use Rattle.ucl_command.specs.declared.options.Format.TheVariants.{Json}
 use Rattle.ucl_runs.specs.declared.request.Request.{Request}
 use Rattle.ucl_runs.specs.declared.request.Request.TheVariants.{Bad, Event, Screen, Words, Matches}
@@ -19,18 +20,21 @@ use Rattle.ucl_runs.specs.InputLines.{lines_of}
 use Rattle.ucl_runs.specs.Requests.{asked_by}
 use Rattle.ucl_runs.specs.Rows.{Said, Nothing, Garbled, Row, said_on}
 use Rattle.ucl_runs.specs.Stages.{Stage, Open, next_board, next_stage, opened}
+use Rattle.ucl_runs.specs.Titles.{is_asked}
 use Rattle.ucl_runs.specs.LiveText.{Evening, after_lines, answers, next, start_of}
 use Rattle.ucl_runs.proofs.Boards.{boards}
 use Rattle.ucl_runs.proofs.OneByOne.{after-append, after-none, after-one}
+use Rattle.ucl_runs.specs.declared.following.Following.{Following}
 use Rattle.ucl_json.specs.declared.moment.Moment.{Moment}
-use Rattle.ucl_runs.specs.Follow.{followed, is_later, unseen, version_at, whole_lines}
-use Rattle.ucl_runs.specs.Journals.{CrashesChangeNothing, IsAnsweredIn, TakesEvent, JournalsEndWithTheBoard, moment_at, moment_now, moment_with}
+use Rattle.ucl_runs.specs.Follow.{unseen, version_at, whole_lines}
+use Rattle.ucl_runs.specs.Journals.{CrashesChangeNothing, IsAnsweredIn, TakesEvent, JournalsEndWithTheBoard, moment_at, moment_now, moment_with, resume}
 use Rattle.ucl_runs.specs.Latest.{IsLatest, IsNoNewer, IsToldIn}
 use Rattle.ucl_runs.specs.Resuming.{opened_at, resumed_row}
 use Rattle.ucl_runs.proofs.JournalAnswers.{AllTold, IsGood, IsOnTheWay, IsSound, Lines, good-after-lines, start-sound, weaken}
-use Rattle.ucl_runs.proofs.Journals.{AtMost, among, boards-rise, first-answer, greatest, in-lines, later-by-version, lines-attempts}
-use Rattle.ucl_runs.proofs.Journals.{lines-few, open-with, row-after, title-after, told-in, told-in-left, way}
+use Rattle.ucl_runs.proofs.Journals.{HasTitle, IsPast, among, boards-rise, end_of, first-answer, greatest, in-lines, later-by-version, lines-attempts}
+use Rattle.ucl_runs.proofs.Journals.{lines-few, none-past, not-later, open-with, row-after, title-after, told-in, told-in-left, way}
 use Rattle.ucl_runs.proofs.Repeats.{all-same}
+use Rattle.ucl_runs.proofs.FollowShown.{titled-so}
 
 -- ---- a line changes the board, or no event of it was accepted
 
@@ -94,8 +98,8 @@ same-moment : (e : Evening) (first : Lines) (f : Evening) (m n : Moment) → f.t
 same-moment e first f m n o s a b =
     let same : moment_now f ≡ moment_now (after_lines e first) = ap₂ moment_at o s in cc (sym a ∙ same ∙ b)
 
-module _ (e : Evening) (lines : Lines) (json : e.options.format ≡ Json) (fits : e.row + length lines ≤ 2 ^ 64) (g : IsSound e) (m : Moment)
-    (ends : moment_now (after_lines e lines) ≡ Some m)
+module _ (args : FollowArgs) (e : Evening) (lines : Lines) (json : e.options.format ≡ Json) (fits : e.row + length lines ≤ 2 ^ 64) (g : IsSound e) (m : Moment)
+    (ends : moment_now (after_lines e lines) ≡ Some m) (asked : is_asked args.group args.profile m.title ≡ true)
   where
     abbrev Out : Lines
     Out = whole_lines (answers e lines)
@@ -109,7 +113,7 @@ module _ (e : Evening) (lines : Lines) (json : e.options.format ≡ Json) (fits 
     title-same first rest clubs board parts stands =
         ap (λ (ls : Lines). (after_lines e ls).title) parts ∙ ap (λ (f : Evening). f.title) (after-append e first rest) ∙ title-after (after_lines e first) rest clubs board stands
 
-    no-newer : (told : Option Moment) → IsOnTheWay e lines told → IsNoNewer m told
+    no-newer : (told : Option Moment) → IsOnTheWay e lines told → IsNoNewer args m told
     no-newer None h = tt
     no-newer (Some other) w =
         let first : Lines = w.0 in
@@ -119,20 +123,25 @@ module _ (e : Evening) (lines : Lines) (json : e.options.format ≡ Json) (fits 
         let b = boards-rise (after_lines e first) rest o.0 o.1 o.2 good.1 in
         let last : (after_lines e lines).stage ≡ Open o.0 b.0 = ap (λ (ls : Lines). (after_lines e ls).stage) w.2 ∙ ap (λ (f : Evening). f.stage) (after-append e first rest) ∙ b.1 in
         let p = open-with (after_lines e lines).title (after_lines e lines).stage m ends in
+        let title : m.title ≡ other.title = p.4 ∙ title-same first rest o.0 o.1 w.2 o.2 ∙ sym o.4 in
         elim b.2 [
-          | inl same ↦ inl (sym (same-moment e first (after_lines e lines) m other (title-same first rest o.0 o.1 w.2 o.2) (last ∙ ap (Open o.0) (sym same) ∙ sym o.2) ends w.3))
-          | inr less ↦ inr (later-by-version m other (p.4 ∙ title-same first rest o.0 o.1 w.2 o.2 ∙ sym o.4) (let v : version_at other ≡ version_of o.1 = ap version_of o.3 in
+          | inl same ↦
+              inr (inl (sym (same-moment e first (after_lines e lines) m other (title-same first rest o.0 o.1 w.2 o.2) (last ∙ ap (Open o.0) (sym same) ∙ sym o.2) ends w.3)))
+          | inr less ↦ inr (inr (titled-so m other title, later-by-version m other title (let v : version_at other ≡ version_of o.1 = ap version_of o.3 in
               let at : ◌≡◌ {A = Stage} (Open p.0 p.1) (Open o.0 b.0) = sym p.2 ∙ last in
               let same : p.1 ≡ b.0 = cc in
               let n : version_at m ≡ version_of b.0 = ap version_of (p.3 ∙ same) in
-              omega (arith, v, n, less)))
+              omega (arith, v, n, less))))
         ]
 
     way-all : AllTold (IsOnTheWay e lines) Out
     way-all = way e lines (answers e lines) [] json fits g whole
 
-    at-most : AllTold (λ told. AtMost told (followed unseen Out).newest) Out
-    at-most = (greatest unseen Out).each
+    abbrev end : Following
+    end = end_of Out
+
+    all-past : AllTold (IsPast end) Out
+    all-past = (greatest (unseen resume) Out).each
 
     all-answered : (before : Lines) (line : List ℕ) (after : Lines) → lines ≡ before ++ line ∷ after → TakesEvent (after_lines e before) line → IsAnsweredIn e before (answers e lines)
     all-answered before line after parts takes =
@@ -140,7 +149,7 @@ module _ (e : Evening) (lines : Lines) (json : e.options.format ≡ Json) (fits 
         let long = ap (λ (ls : Lines). length ls) eq ∙ length-append (whole_lines (answers e before)) _ in omega (arith, long)
 
     -- no event after the newest moment was accepted, so it is the last
-    last-told : (n : Moment) → (followed unseen Out).newest ≡ Some n → IsToldIn Out n → IsToldIn Out m
+    last-told : (n : Moment) → HasTitle end n → IsToldIn Out n → IsToldIn Out m
     last-told n newest told =
         let w = told-in (IsOnTheWay e lines) Out n way-all told in
         let first : Lines = w.0 in
@@ -157,30 +166,24 @@ module _ (e : Evening) (lines : Lines) (json : e.options.format ≡ Json) (fits 
               let one = first-answer e lines (answers e lines) [] json fits g whole before more.1 more.2 parts takes in
               let answered = all-answered before more.1 more.2 parts takes in
               let in_left = told-in-left e lines (answers e lines) [] json fits g whole before more.1 more.2 parts takes answered in
-              let most : is_later one.told n ≡ false = told-in (λ told. AtMost told (Some n)) Out one.told
-              (subst (λ (o : Option Moment). AllTold (λ told. AtMost told o) Out) newest at-most) in_left in
-              let short = among e lines (answers e lines) [] json fits g whole before more.1 more.2 parts takes first rest n w.2 w.3 most in
+              let past = told-in (IsPast end) Out one.told all-past in_left in
+              let short = among e lines (answers e lines) [] json fits g whole before more.1 more.2 parts takes first rest n w.2 w.3 (not-later end n one.told newest past) in
               absurd (omega (arith, short, length-append first more.0))
         ]
 
-    by-newest : (other : Moment) → IsToldIn Out other → (o : Option Moment) → (followed unseen Out).newest ≡ o
-        → IsToldIn Out m
-    by-newest other told None same = absurd
-        (told-in (λ told. AtMost told None) Out other (subst (λ (o : Option Moment). AllTold (λ told. AtMost told o) Out) same at-most) told)
-    by-newest other told (Some n) same = elim (greatest unseen Out).from [
-      | inl none ↦ cc
-      | inr some ↦ let one : some.0 ≡ n = cc (some.1, same) in last-told n same (subst (IsToldIn Out) one some.2)
-    ]
-
-    is-latest : (other : Moment) → IsToldIn Out other → IsLatest m Out
+    is-latest : (other : Moment) → IsToldIn Out other → IsLatest args m Out
     is-latest other told = record {
-      told = by-newest other told (followed unseen Out).newest refl;
-      newest = weaken (IsOnTheWay e lines) (IsNoNewer m) no-newer Out way-all;
+      told = elim (greatest (unseen resume) Out).from [
+        | inl none ↦ absurd (none-past end other none (told-in (IsPast end) Out other all-past told))
+        | inr some ↦ last-told some.0 some.2 some.1
+      ];
+      asked = asked;
+      newest = weaken (IsOnTheWay e lines) (IsNoNewer args m) no-newer Out way-all;
     }
 
 pub journals-end : JournalsEndWithTheBoard
-journals-end options input m other json short last told =
-    is-latest (start_of options) (lines_of input) json (let few = lines-few input in omega (arith, few)) (start-sound options) m last other told
+journals-end options args input m other json short last asked told =
+    is-latest args (start_of options) (lines_of input) json (let few = lines-few input in omega (arith, few)) (start-sound options) m last asked other told
 
 -- ---- after a crash
 

@@ -2,59 +2,44 @@
 use Rattle.std.proofs.Common.{◌≡◌, ◌∙◌, ◌⊎◌, ℕ, ◌+◌, ◌^◌, ◌<◌, ◌≤◌, true, false, refl, sym, ap, subst, arith, List, [], ◌∷◌, ◌++◌, length, append_assoc, length-append, Option, Some, None, inl, inr}
 use Rattle.std.specs.Prelude.{⊤, All, IfSome}
 use Rattle.std.specs.List.{fold}
-use Rattle.std.proofs.lemmas.Bool.{cases_Bool, cases_lt}
+use Rattle.std.proofs.lemmas.Bool.{and_from, and_parts, and_right, cases_Bool, cases_lt}
 use Rattle.std.proofs.lemmas.Bool.Decides.{nat_tests}
 use Rattle.std.proofs.lemmas.List.Elements.{All-append, All-cons, All-head, All-nil, All-tail}
 use Rattle.ucl_io.specs.Lines.{begun_line, ended_lines}
-use Rattle.ucl_io.proofs.Cuts.{ended_append, few_lines}
+use Rattle.ucl_io.proofs.Cuts.{begun_append, begun_none, ended_append, ended_none, few_lines}
 use Rattle.ucl_word.specs.declared.refusal.Refusal.{Refusal}
 use Rattle.ucl_word.specs.Rules.{refusal_of}
 use Rattle.ucl_board.specs.History.{Attempt, IsAttempt, board_after}
 use Rattle.ucl_board.specs.Words.{AreWords, game_at, version_of}
 use Rattle.ucl_order.specs.Roster.{NamedClub}
-use Rattle.ucl_command.specs.declared.follow.FollowArgs.TheVariants.{Rows}
+use Rattle.ucl_command.specs.declared.follow.FollowShape.TheVariants.{Rows}
 use Rattle.ucl_command.specs.declared.live.LiveArgs.{LiveArgs}
 use Rattle.ucl_command.specs.declared.options.Format.TheVariants.{Json}
-use Rattle.ucl_runs.specs.Titles.{is_as_asked}
+use Rattle.ucl_runs.specs.Titles.{is_as_asked, is_asked}
 use Rattle.ucl_runs.proofs.Silence.{is_open}
 use Rattle.ucl_runs.specs.BadRows.{shown_text}
 use Rattle.ucl_runs.specs.ByHistory.{attempts_in, attempts_on}
 use Rattle.ucl_runs.specs.InputLines.{last_lines, lines_of}
 use Rattle.ucl_runs.specs.Rows.{Said, Nothing, Garbled, Row, said_on}
 use Rattle.ucl_runs.specs.Stages.{Stage, Beginning, Naming, Open, Refused, Restoring, opened}
-use Rattle.ucl_runs.specs.LiveText.{Evening, after_lines, answers, next, next_title, start_of}
+use Rattle.ucl_runs.specs.LiveText.{Evening, after_lines, answers, live_text, next, next_title, start_of}
 use Rattle.ucl_runs.proofs.Boards.{asked, boards}
 use Rattle.ucl_runs.proofs.GoodBoards.{good-after, version-after}
 use Rattle.ucl_runs.proofs.OneByOne.{after-append, after-last, after-none, answers-append, answers-one}
 use Rattle.ucl_json.specs.declared.title.Title.{Title}
 use Rattle.ucl_json.specs.declared.moment.Moment.{Moment}
 use Rattle.ucl_runs.specs.declared.following.Following.{Following}
+use Rattle.ucl_runs.specs.Answered.{IsMoment}
 use Rattle.ucl_json.specs.Told.{moment_on}
-use Rattle.ucl_runs.specs.Follow.{after_told, follow_text, followed, is_later, is_newer, passed_over, resuming_text, shown_too, sights, told_text, unseen, version_at, whole_lines}
-use Rattle.ucl_runs.specs.Journals.{CutJournalsResume, TakesEvent, IsAnsweredIn, ResumesTheBoard, moment_at, moment_now, moment_with}
+use Rattle.ucl_runs.specs.Follow.{after_told, follow_text, followed, is_later, is_newer, is_plain_title, is_shown, passed_over, resuming_text, shown_too, sights, told_text, unseen, version_at, whole_lines}
+use Rattle.ucl_runs.specs.Journals.{CutJournalsResume, TakesEvent, IsAnsweredIn, moment_at, moment_now, moment_with, resume}
+use Rattle.ucl_runs.specs.Journals.{AreStarts, GoesOnAgain, IsStart, IsTorn, JournalsGoOn, Start, gone_on, journal, newest_in}
 use Rattle.ucl_runs.specs.Latest.{IsToldIn}
-use Rattle.ucl_runs.specs.Resuming.{OpensTheBoard}
+use Rattle.ucl_runs.specs.Resuming.{OpensTheBoard, opened_at, resumed_row}
 use Rattle.ucl_runs.proofs.JournalAnswers.{AllTold, AnswersFirst, IsGood, IsOnTheWay, IsSound, Lines, answers-first, begun-of, good-after-lines, on-the-way, stage-good, start-sound}
 use Rattle.ucl_runs.proofs.JournalLines.{lines-then, lines_in}
 use Rattle.ucl_runs.proofs.Resumed.{resumed}
-use Rattle.ucl_runs.proofs.FollowShown.{not-itself, one-way}
-
--- ---- the newest of lines is the greatest
-
-abbrev pub AtMost : Option Moment → Option Moment → Type 0
-AtMost None o = ⊤
-AtMost (Some m) None = ⊥
-AtMost (Some m) (Some n) = is_later m n ≡ false
-
-at-most-same : (o : Option Moment) → AtMost o o
-at-most-same None = tt
-at-most-same (Some m) = not-itself m
-
-at-most-then : (a b c : Option Moment) → AtMost a b → AtMost b c → AtMost a c
-at-most-then None b c h k = tt
-at-most-then (Some m) None c h k = absurd h
-at-most-then (Some m) (Some n) None h k = absurd k
-at-most-then (Some m) (Some n) (Some l) h k = grind (arith, nat_tests)
+use Rattle.ucl_runs.proofs.FollowShown.{alike, not-itself, titled-so}
 
 -- in one edition versions tell which is later
 pub no-higher : (m n : Moment) → m.title ≡ n.title → is_later m n ≡ false → version_at m ≤ version_at n
@@ -63,78 +48,119 @@ no-higher m n e h = let same : m.title.edition ≡ n.title.edition = ap (λ (t :
 pub later-by-version : (m n : Moment) → m.title ≡ n.title → version_at n < version_at m → is_later m n ≡ true
 later-by-version m n e h = let same : m.title.edition ≡ n.title.edition = ap (λ (t : Title). t.edition) e in grind (arith, nat_tests)
 
-abbrev IsTheTold : Option Moment → Option Moment → Type 0
-IsTheTold now o = (m : Moment) × (o ≡ Some m) × (now ≡ Some m)
+-- ---- after lines none that one of them told would be shown
+
+abbrev pub IsPast : Following → Option Moment → Type 0
+IsPast f None = ⊤
+IsPast f (Some m) = is_shown f m ≡ false
+
+abbrev pub HasTitle : Following → Moment → Type 0
+HasTitle f m = (f.newest ≡ Some m) × (f.group ≡ Some m.title.group) × (f.profile ≡ Some m.title.profile)
+
+abbrev pub IsSame : Following → Following → Type 0
+IsSame f g = (g.newest ≡ f.newest) × (g.group ≡ f.group) × (g.profile ≡ f.profile)
+
+-- once a moment is shown, no other is that would not have been before
+past-shown : (f : Following) (n m : Moment) → is_shown f n ≡ true → is_shown f m ≡ false → is_shown (shown_too f n) m ≡ false
+past-shown f n m y past = elim (cases_Bool (is_shown (shown_too f n) m)) [
+  | inr less ↦ less
+  | inl more ↦
+      let p = and_parts (is_asked (Some n.title.group) (Some n.title.profile) m.title) (is_later m n) more in
+      let q = and_parts (is_asked f.group f.profile n.title) (is_newer f.newest n) y in
+      let ours : is_asked f.group f.profile m.title ≡ true = alike n m.title p.0 f.group f.profile ∙ q.0 in
+      let newer : is_newer f.newest m ≡ true = newer-still f.newest q.1 p.1 in cc (past, and_from (is_asked f.group f.profile m.title) (is_newer f.newest m) ours newer)
+]
+  where
+    newer-still : (o : Option Moment) → is_newer o n ≡ true → is_later m n ≡ true → is_newer o m ≡ true
+    newer-still None h k = refl
+    newer-still (Some l) h k = grind (arith, nat_tests)
 
 record Step (f : Following) (o : Option Moment) : Type 0 where
-  before : AtMost f.newest (after_told f o).newest
-  told : AtMost o (after_told f o).newest
-  either : ((after_told f o).newest ≡ f.newest) ⊎ IsTheTold (after_told f o).newest o
-
-above : (newest : Option Moment) (m : Moment) → is_newer newest m ≡ true → AtMost newest (Some m)
-above None m h = tt
-above (Some n) m h = one-way m n h
-
-below : (newest : Option Moment) (m : Moment) → is_newer newest m ≡ false → AtMost (Some m) newest
-below None m h = cc
-below (Some n) m h = h
+  told : IsPast (after_told f o) o
+  still : (m : Moment) → is_shown f m ≡ false → is_shown (after_told f o) m ≡ false
+  either : IsSame f (after_told f o) ⊎ ((m : Moment) × (o ≡ Some m) × HasTitle (after_told f o) m)
 
 one-step : (f : Following) (o : Option Moment) → Step f o
-one-step f None = record { before = at-most-same f.newest; told = tt; either = inl refl }
-one-step f (Some m) = elim (cases_Bool (is_newer f.newest m)) [
+one-step f None = record { told = tt; still = λ m h. h; either = inl (refl, refl, refl) }
+one-step f (Some n) = elim (cases_Bool (is_shown f n)) [
   | inl y ↦
-      let now : after_told f (Some m) ≡ shown_too f m = rw y refl in record {
-        before = subst (λ (g : Following). AtMost f.newest g.newest) (sym now) (above f.newest m y);
-        told = subst (λ (g : Following). AtMost (Some m) g.newest) (sym now) (at-most-same (Some m));
-        either = inr (m, refl, ap (λ (g : Following). g.newest) now);
+      let now : shown_too f n ≡ after_told f (Some n) = rw y refl in record {
+        told = subst (λ (g : Following). is_shown g n ≡ false) now (and_right (is_asked (Some n.title.group) (Some n.title.profile) n.title) (is_later n n) (not-itself n));
+        still = λ m h. subst (λ (g : Following). is_shown g m ≡ false) now (past-shown f n m y h);
+        either = inr (n, refl, subst (λ (g : Following). HasTitle g n) now (refl, refl, refl));
       }
-  | inr n ↦
-      let now : after_told f (Some m) ≡ passed_over f = rw n refl in record {
-        before = subst (λ (g : Following). AtMost f.newest g.newest) (sym now) (at-most-same f.newest);
-        told = subst (λ (g : Following). AtMost (Some m) g.newest) (sym now) (below f.newest m n);
-        either = inl (ap (λ (g : Following). g.newest) now);
+  | inr less ↦
+      let now : passed_over f ≡ after_told f (Some n) = rw less refl in record {
+        told = subst (λ (g : Following). is_shown g n ≡ false) now less;
+        still = λ m h. subst (λ (g : Following). is_shown g m ≡ false) now h;
+        either = inl (subst (IsSame f) now (refl, refl, refl));
       }
 ]
 
-pub record Greatest (f : Following) (lines : Lines) (newest : Option Moment) : Type 0 where
-  pub before : AtMost f.newest newest
-  pub each : AllTold (λ told. AtMost told newest) lines
-  pub from : (newest ≡ f.newest) ⊎ ((m : Moment) × (newest ≡ Some m) × IsToldIn lines m)
+pub record Greatest (f : Following) (lines : Lines) (end : Following) : Type 0 where
+  pub each : AllTold (IsPast end) lines
+  pub still : (m : Moment) → is_shown f m ≡ false → is_shown end m ≡ false
+  pub from : IsSame f end ⊎ ((m : Moment) × IsToldIn lines m × HasTitle end m)
 
 told-later : (line : List ℕ) (lines : Lines) (m : Moment) → IsToldIn lines m → IsToldIn (line ∷ lines) m
 told-later line lines m (l, (before, after, e), k) = (l, (line ∷ before, after, ap (λ (ls : Lines). line ∷ ls) e), k)
 
-pub greatest : (f : Following) (lines : Lines) → Greatest f lines (followed f lines).newest
+past-still : (f end : Following) → ((m : Moment) → is_shown f m ≡ false → is_shown end m ≡ false) → (o : Option Moment) → IsPast f o → IsPast end o
+past-still f end still None h = tt
+past-still f end still (Some m) h = still m h
+
+same-title : (f end : Following) (m : Moment) → IsSame f end → HasTitle f m → HasTitle end m
+same-title f end m (e, g, p) (a, b, c) = (e ∙ a, g ∙ b, p ∙ c)
+
+pub greatest : (f : Following) (lines : Lines) → Greatest f lines (followed f lines)
 unfolding followed
-greatest f [] = record { before = at-most-same f.newest; each = All-nil (λ line. AtMost (moment_on line) f.newest); from = inl refl }
+greatest f [] = record { each = All-nil (λ line. IsPast f (moment_on line)); still = λ m h. h; from = inl (refl, refl, refl) }
 greatest f (line ∷ lines) =
     let now = after_told f (moment_on line) in
-    let newest = (followed now lines).newest in
+    let end = followed now lines in
     let s = one-step f (moment_on line) in
     let k = greatest now lines in record {
-      before = at-most-then f.newest now.newest newest s.before k.before;
-      each = All-cons (λ l. AtMost (moment_on l) newest) line lines (at-most-then (moment_on line) now.newest newest s.told k.before) k.each;
+      each = All-cons (λ l. IsPast end (moment_on l)) line lines (past-still now end k.still (moment_on line) s.told) k.each;
+      still = λ m h. k.still m (s.still m h);
       from = elim k.from [
         | inl same ↦ elim s.either [
-          | inl still ↦ inl (same ∙ still)
-          | inr shown ↦ inr (shown.0, same ∙ shown.2, (line, ([], lines, refl), shown.1))
+          | inl still ↦ inl (same.0 ∙ still.0, same.1 ∙ still.1, same.2 ∙ still.2)
+          | inr shown ↦ inr (shown.0, (line, ([], lines, refl), shown.1), same-title now end shown.0 same shown.2)
         ]
-        | inr later ↦ inr (later.0, later.1, told-later line lines later.0 later.2)
+        | inr later ↦ inr (later.0, told-later line lines later.0 later.1, later.2)
       ];
     }
 
 none-shown : (f : Following) (o : Option Moment) → told_text Rows f o ≡ []
 none-shown f None = refl
-none-shown f (Some m) = elim (cases_Bool (is_newer f.newest m)) [ inl y ↦ rw y refl | inr n ↦ rw n refl ]
+none-shown f (Some m) = elim (cases_Bool (is_shown f m)) [ inl y ↦ rw y refl | inr n ↦ rw n refl ]
 
 no-sights : (f : Following) (lines : Lines) → sights Rows f lines ≡ []
 unfolding sights
 no-sights f [] = refl
 no-sights f (line ∷ lines) = rw (none-shown f (moment_on line)) (no-sights (after_told f (moment_on line)) lines)
 
-rows-of : (left : List ℕ) (o : Option Moment) → (followed unseen (whole_lines left)).newest ≡ o → follow_text Rows left ≡ resuming_text Rows o
+abbrev pub end_of : Lines → Following
+end_of lines = followed (unseen resume) lines
+
+rows-of : (left : List ℕ) (o : Option Moment) → (end_of (whole_lines left)).newest ≡ o → follow_text resume left ≡ resuming_text Rows o
 rows-of left o e =
-    ap (λ (l : List ℕ). l ++ resuming_text Rows (followed unseen (whole_lines left)).newest) (no-sights unseen (whole_lines left)) ∙ ap (resuming_text Rows) e
+    ap (λ (l : List ℕ). l ++ resuming_text Rows (end_of (whole_lines left)).newest) (no-sights (unseen resume) (whole_lines left)) ∙ ap (resuming_text Rows) e
+
+-- the newest of a follower is this moment, where there is one
+abbrev pub Stands : Following → Option Moment → Type 0
+Stands f None = IsSame (unseen resume) f
+Stands f (Some m) = HasTitle f m
+
+-- where none is the newest, each would be shown; where one is, none of its title that is later is told
+pub none-past : (f : Following) (m : Moment) → IsSame (unseen resume) f → IsPast f (Some m) → ⊥
+none-past f m (e, g, p) past = let shown : is_shown f m ≡ true = rw (e, g, p) refl in cc (shown, past)
+
+pub not-later : (f : Following) (n m : Moment) → HasTitle f n → IsPast f (Some m) → m.title ≡ n.title → is_later m n ≡ false
+not-later f n m (e, g, p) past same = elim (cases_Bool (is_later m n)) [
+  | inr less ↦ less
+  | inl more ↦ let shown : is_shown f m ≡ true = rw (e, g, p, titled-so n m (sym same)) more in cc (shown, past)
+]
 
 -- ---- places in lists
 
@@ -253,6 +279,15 @@ title-after e (line ∷ lines) clubs board h =
 
 -- ---- what is left of the answers of an evening
 
+-- a follower that stood on the moment of an evening, and has followed what is left of its answers to these lines
+pub record GoesOn (e : Evening) (lines : Lines) (left : List ℕ) (f : Following) : Type 0 where
+  pub first : Lines
+  pub rest : Lines
+  pub parts : lines ≡ first ++ rest
+  pub stands : Stands (followed f (whole_lines left)) (moment_now (after_lines e first))
+  pub answered : (before : Lines) (line : List ℕ) (after : Lines) → lines ≡ before ++ line ∷ after → TakesEvent (after_lines e before) line → IsAnsweredIn e before left
+      → length before < length first
+
 module _ (e : Evening) (lines : Lines) (left lost : List ℕ) (json : e.options.format ≡ Json) (fits : e.row + length lines ≤ 2 ^ 64) (g : IsSound e) (cut : answers e lines ≡ left ++ lost) where
   split : lines_in (answers e lines) ≡ whole_lines left ++ ended_lines 4097 (begun-of left) lost
   split = ap lines_in cut ∙ ended_append 4097 [] left lost
@@ -296,7 +331,7 @@ module _ (e : Evening) (lines : Lines) (left lost : List ℕ) (json : e.options.
         (l.line, (lines_in (answers e before), k.0, k.1), l.told)
 
     -- the board after so many lines has the event, where the event's moment is no later
-    pub among : (first rest : Lines) (m : Moment) → lines ≡ first ++ rest → moment_now (after_lines e first) ≡ Some m → is_later first-answer.told m ≡ false → length before < length first
+    pub among : (first rest : Lines) (m : Moment) → lines ≡ first ++ rest → moment_now (after_lines e first) ≡ Some m → (first-answer.told.title ≡ m.title → is_later first-answer.told m ≡ false) → length before < length first
     among first rest m whole is most = elim (cases_lt (length before) (length first)) [
       | inl less ↦ less
       | inr no_less ↦
@@ -324,57 +359,73 @@ module _ (e : Evening) (lines : Lines) (left lost : List ℕ) (json : e.options.
           let stays : (after_lines e before).title ≡ (after_lines e first).title =
           ap (λ (ls : Lines). (after_lines e ls).title) place ∙ ap (λ (h : Evening). h.title) (after-append e first between) ∙ title-after (after_lines e first) between clubs board o.2 in
           let title : m.title ≡ (after_lines e first).title = o.4 in
-          let least = no-higher first-answer.told m (told-title ∙ stays ∙ sym title) most in
+          let least = no-higher first-answer.told m (told-title ∙ stays ∙ sym title) (most (told-title ∙ stays ∙ sym title)) in
           let v : version_at m ≡ version_of board = ap version_of same in
           let w : version_of now ≡ version_of accepted.board = ap version_of board-is in
           absurd (omega (arith, newer, v, w, rise, least))
     ]
 
-  module _ (again : LiveArgs) (fresh : moment_now e ≡ None) where
-    at-most : AllTold (λ told. AtMost told (followed unseen (whole_lines left)).newest) (whole_lines left)
-    at-most = (greatest unseen (whole_lines left)).each
+  module _ (f : Following) where
+    abbrev end : Following
+    end = followed f (whole_lines left)
 
-    with-none : (followed unseen (whole_lines left)).newest ≡ None → ResumesTheBoard e again lines left
-    with-none none =
-        let start : moment_now (after_lines e []) ≡ None = ap moment_now (after-none e) ∙ fresh in record {
-          first = [];
-          rest = lines;
-          parts = refl;
-          rows = rows-of left None none ∙ ap (resuming_text Rows) (sym start);
-          answered = λ before line after parts accepted answered. absurd
-              (told-in (λ told. AtMost told None) (whole_lines left) (first-answer before line after parts accepted).told
-              (subst (λ (o : Option Moment). AllTold (λ told. AtMost told o) (whole_lines left)) none at-most) (told-in-left before line after parts accepted answered));
-          opens = subst (λ (o : Option Moment). IfSome o (λ n. is_as_asked again n.title ≡ true → OpensTheBoard again n)) (sym start) tt;
+    past : (before : Lines) (line : List ℕ) (after : Lines) (parts : lines ≡ before ++ line ∷ after) (accepted : TakesEvent (after_lines e before) line) → IsAnsweredIn e before left
+        → IsPast end (Some (first-answer before line after parts accepted).told)
+    past before line after parts accepted answered =
+        told-in (IsPast end) (whole_lines left) (first-answer before line after parts accepted).told (greatest f (whole_lines left)).each
+        (told-in-left before line after parts accepted answered)
+
+    same-stands : (o : Option Moment) → Stands f o → IsSame f end → Stands end o
+    same-stands None h same = (same.0 ∙ h.0, same.1 ∙ h.1, same.2 ∙ h.2)
+    same-stands (Some m) h same = same-title f end m same h
+
+    stood : (o : Option Moment) → moment_now (after_lines e []) ≡ o → Stands end o → GoesOn e lines left f
+    stood None is h = record {
+      first = [];
+      rest = lines;
+      parts = refl;
+      stands = subst (Stands end) (sym is) h;
+      answered = λ before line after place accepted answered. absurd
+          (none-past end (first-answer before line after place accepted).told h (past before line after place accepted answered));
+    }
+    stood (Some m) is h = record {
+      first = [];
+      rest = lines;
+      parts = refl;
+      stands = subst (Stands end) (sym is) h;
+      answered = λ before line after place accepted answered. among before line after place accepted [] lines m refl is
+          (not-later end m (first-answer before line after place accepted).told h (past before line after place accepted answered));
+    }
+
+    moved : (m : Moment) → IsToldIn (whole_lines left) m → HasTitle end m → GoesOn e lines left f
+    moved m told newest =
+        let w = told-in (IsOnTheWay e lines) (whole_lines left) m way told in record {
+          first = w.0;
+          rest = w.1;
+          parts = w.2;
+          stands = subst (Stands end) (sym w.3) newest;
+          answered = λ before line after place accepted answered. among before line after place accepted w.0 w.1 m w.2 w.3
+              (not-later end m (first-answer before line after place accepted).told newest (past before line after place accepted answered));
         }
 
-    with-some : (m : Moment) → (followed unseen (whole_lines left)).newest ≡ Some m → IsToldIn (whole_lines left) m → ResumesTheBoard e again lines left
-    with-some m some told =
-        let w = told-in (IsOnTheWay e lines) (whole_lines left) m way told in
-        let first : Lines = w.0 in
-        let rest : Lines = w.1 in
-        let parts : lines ≡ first ++ rest = w.2 in
-        let is : moment_now (after_lines e first) ≡ Some m = w.3 in
-        let sound = good-after-lines e first g in
-        let good = stage-good (after_lines e first).title (after_lines e first).stage m sound.title sound.stage is in record {
-          first = first;
-          rest = rest;
-          parts = parts;
-          rows = rows-of left (Some m) some ∙ ap (resuming_text Rows) (sym is);
-          answered = λ before line after place accepted answered. among before line after place accepted first rest m parts is
-              (told-in (λ told. AtMost told (Some m)) (whole_lines left) (first-answer before line after place accepted).told
-              (subst (λ (o : Option Moment). AllTold (λ told. AtMost told o) (whole_lines left)) some at-most) (told-in-left before line after place accepted answered));
-          opens = subst (λ (o : Option Moment). IfSome o (λ n. is_as_asked again n.title ≡ true → OpensTheBoard again n)) (sym is) (resumed again m good);
-        }
-
-    by-newest : (o : Option Moment) → (followed unseen (whole_lines left)).newest ≡ o → ResumesTheBoard e again lines left
-    by-newest None same = with-none same
-    by-newest (Some m) same = elim (greatest unseen (whole_lines left)).from [
-      | inl none ↦ cc
-      | inr some ↦ let one : some.0 ≡ m = cc (some.1, same) in with-some m same (subst (IsToldIn (whole_lines left)) one some.2)
+    pub goes-on : Stands f (moment_now e) → GoesOn e lines left f
+    goes-on h = elim (greatest f (whole_lines left)).from [
+      | inl same ↦ stood (moment_now e) (ap moment_now (after-none e)) (same-stands (moment_now e) h same)
+      | inr some ↦ moved some.0 some.1 some.2
     ]
 
-    resumes : ResumesTheBoard e again lines left
-    resumes = by-newest (followed unseen (whole_lines left)).newest refl
+stands-on : (f : Following) (o : Option Moment) → Stands f o → f.newest ≡ o
+stands-on f None h = h.0
+stands-on f (Some m) h = h.0
+
+-- the moment of a sound evening is good, and so its rows open its board
+good-now : (e : Evening) → IsSound e → (o : Option Moment) → moment_now e ≡ o → IfSome o IsMoment
+good-now e g None is = tt
+good-now e g (Some m) is = stage-good e.title e.stage m g.title g.stage is
+
+opens-now : (again : LiveArgs) (o : Option Moment) → IfSome o IsMoment → IfSome o (λ m. is_as_asked again m.title ≡ true → OpensTheBoard again m)
+opens-now again None good = tt
+opens-now again (Some m) good = resumed again m good
 
 -- ---- the whole input
 
@@ -392,4 +443,170 @@ lines-few bytes =
 
 pub cut-journals : CutJournalsResume
 cut-journals options again input left lost json short cut =
-    resumes (start_of options) (lines_of input) left lost json (let few = lines-few input in omega (arith, few)) (start-sound options) cut again refl
+    let e = start_of options in
+    let lines = lines_of input in
+    let g = start-sound options in
+    let k = goes-on e lines left lost json (let few = lines-few input in omega (arith, few)) g cut (unseen resume) (refl, refl, refl) in
+    let now = moment_now (after_lines e k.first) in record {
+      first = k.first;
+      rest = k.rest;
+      parts = k.parts;
+      rows = rows-of left now (stands-on (end_of (whole_lines left)) now k.stands);
+      answered = k.answered;
+      opens = opens-now again now (good-now (after_lines e k.first) (good-after-lines e k.first g) now refl);
+    }
+
+-- ---- several starts
+
+followed-then : (f : Following) (a b : Lines) → followed f (a ++ b) ≡ followed (followed f a) b
+unfolding followed
+followed-then f [] b = refl
+followed-then f (line ∷ a) b = followed-then (after_told f (moment_on line)) a b
+
+with-end : (bytes : List ℕ) → (begun-of (bytes ++ 10 ∷ []) ≡ []) × (lines_in (bytes ++ 10 ∷ []) ≡ lines_in bytes ++ begun-of bytes ∷ [])
+unfolding begun_line ended_lines
+with-end bytes = (begun_append 4097 [] bytes (10 ∷ []), ended_append 4097 [] bytes (10 ∷ []))
+
+journal-ends : (starts : List Start) → begun-of (journal starts) ≡ []
+unfolding journal
+journal-ends [] = begun_none 4097 []
+journal-ends (start ∷ before) =
+    begun_append 4097 [] (journal before) (start.left ++ 10 ∷ []) ∙ ap (λ (l : List ℕ). begun_line 4097 l (start.left ++ 10 ∷ [])) (journal-ends before) ∙ (with-end start.left).0
+
+-- a follower of the journal, after what the last start left and an end of line
+journal-end : (start : Start) (before : List Start) → end_of (lines_in (journal (start ∷ before))) ≡ followed (end_of (lines_in (journal before))) (lines_in (start.left ++ 10 ∷ []))
+unfolding journal
+journal-end start before =
+    ap end_of (lines-then (journal before) (start.left ++ 10 ∷ []) (journal-ends before))
+    ∙ followed-then (unseen resume) (lines_in (journal before)) (lines_in (start.left ++ 10 ∷ []))
+
+torn-end : (f : Following) (left : List ℕ) → moment_on (begun-of left) ≡ None → followed f (lines_in (left ++ 10 ∷ [])) ≡ passed_over (followed f (lines_in left))
+unfolding followed
+torn-end f left none =
+    ap (followed f) (with-end left).1 ∙ followed-then f (lines_in left) (begun-of left ∷ []) ∙ ap (after_told (followed f (lines_in left))) none
+
+opened-sound : (options : LiveArgs) (m : Moment) → IsMoment m → IsSound (opened_at options m)
+opened-sound options m good = record { stage = (good.clubs, good.words); title = record { letter = good.letter; edition = good.edition } }
+
+gone-sound : (options : LiveArgs) (o : Option Moment) → IfSome o IsMoment → IsSound (gone_on options o)
+gone-sound options None good = start-sound options
+gone-sound options (Some m) good = opened-sound options m good
+
+gone-now : (options : LiveArgs) (o : Option Moment) → moment_now (gone_on options o) ≡ o
+gone-now options None = refl
+gone-now options (Some m) = refl
+
+gone-text : (options : LiveArgs) (o : Option Moment) (input : List ℕ) → IfSome o IsMoment → IfSome o (λ m. is_as_asked options m.title ≡ true)
+    → live_text (start_of options) (resuming_text Rows o ++ input) ≡ live_text (gone_on options o) input
+gone-text options None input good asked = refl
+gone-text options (Some m) input good asked = (resumed options m good asked).goes_on input
+
+first-row : (title : Title) → resumed_row title ≤ 18
+first-row title = elim (cases_Bool (is_plain_title title)) [ inl y ↦ rw y (omega arith) | inr n ↦ rw n (omega arith) ]
+
+gone-row : (options : LiveArgs) (o : Option Moment) → (gone_on options o).row ≤ 18
+gone-row options None = omega arith
+gone-row options (Some m) = first-row m.title
+
+gone-json : (options : LiveArgs) (o : Option Moment) → options.format ≡ Json → (gone_on options o).options.format ≡ Json
+gone-json options None json = json
+gone-json options (Some m) json = json
+
+-- what is known of a journal
+record Known (starts : List Start) (o : Option Moment) : Type 0 where
+  stands : Stands (end_of (lines_in (journal starts))) o
+  good : IfSome o IsMoment
+
+stands-as : (f g : Following) (o : Option Moment) → IsSame f g → Stands f o → Stands g o
+stands-as f g None same h = (same.0 ∙ h.0, same.1 ∙ h.1, same.2 ∙ h.2)
+stands-as f g (Some m) same h = same-title f g m same h
+
+module _ (before : List Start) (start : Start) (is : IsStart before start) (known : Known before (newest_in (journal before))) where
+  abbrev o : Option Moment
+  o = newest_in (journal before)
+
+  abbrev e : Evening
+  e = gone_on start.options o
+
+  abbrev f : Following
+  f = end_of (lines_in (journal before))
+
+  abbrev input-lines : Lines
+  input-lines = lines_of start.input
+
+  sound : IsSound e
+  sound = gone-sound start.options o known.good
+
+  went : live_text e start.input ≡ start.left ++ is.lost
+  went =
+      sym (gone-text start.options o start.input known.good is.asked)
+      ∙ ap (λ (t : List ℕ). live_text (start_of start.options) (t ++ start.input)) (sym (rows-of (journal before) o refl)) ∙ is.cut
+
+  row-fits : e.row + length input-lines ≤ 2 ^ 64
+  row-fits =
+      let row = gone-row start.options o in
+      let few = lines-few start.input in
+      let short = is.short in
+      let long = length-append (follow_text resume (journal before)) start.input in omega (arith, row, few, short, long)
+
+  stood-on : Stands f (moment_now e)
+  stood-on = subst (Stands f) (sym (gone-now start.options o)) known.stands
+
+  going : (left lost : List ℕ) → live_text e start.input ≡ left ++ lost → GoesOn e input-lines left f
+  going left lost cut = goes-on e input-lines left lost (gone-json start.options o is.json) row-fits sound cut f stood-on
+
+  -- the follower of the whole journal stands where that of what is left does
+  record Made (left : List ℕ) (k : GoesOn e input-lines left f) : Type 0 where
+    stands : Stands (end_of (lines_in (journal (start ∷ before)))) (moment_now (after_lines e k.first))
+    more : length (lines_in start.left) ≤ length (lines_in left)
+
+  made : (left : List ℕ) (k : GoesOn e input-lines left f) → Made left k → Known (start ∷ before) (newest_in (journal (start ∷ before))) × ((again : LiveArgs) → GoesOnAgain again before start)
+  made left k is-made =
+      let now = moment_now (after_lines e k.first) in
+      let newest = stands-on (end_of (lines_in (journal (start ∷ before)))) now is-made.stands in
+      let good = good-now (after_lines e k.first) (good-after-lines e k.first sound) now refl in (
+        record { stands = subst (Stands (end_of (lines_in (journal (start ∷ before))))) (sym newest) is-made.stands; good = subst (λ (m : Option Moment). IfSome m IsMoment) (sym newest) good },
+        λ again. record {
+          first = k.first;
+          rest = k.rest;
+          parts = k.parts;
+          rows = rows-of (journal (start ∷ before)) now newest;
+          newest = newest;
+          answered = λ lines line after place takes answered. k.answered lines line after place takes (let more = is-made.more in omega (arith, more, answered));
+          opens = subst (λ (m : Option Moment). IfSome m (λ n. is_as_asked again n.title ≡ true → OpensTheBoard again n)) (sym newest) (opens-now again now good);
+        },
+      )
+
+  torn-made : IsTorn start.left is.lost → Known (start ∷ before) (newest_in (journal (start ∷ before))) × ((again : LiveArgs) → GoesOnAgain again before start)
+  torn-made (inl none) =
+      let k = going start.left is.lost went in
+      let now = moment_now (after_lines e k.first) in
+      let g = followed f (lines_in start.left) in
+      made start.left k (record {
+        stands = subst (λ (h : Following). Stands h now) (sym (journal-end start before ∙ torn-end f start.left none)) (stands-as g (passed_over g) now (refl, refl, refl) k.stands);
+        more = omega arith;
+      })
+  torn-made (inr (more, ends)) =
+      let left = start.left ++ 10 ∷ [] in
+      let k = going left more (went ∙ ap (λ (l : List ℕ). start.left ++ l) ends ∙ sym (append_assoc start.left (10 ∷ []) more)) in
+      made left k (record {
+        stands = subst (λ (h : Following). Stands h (moment_now (after_lines e k.first))) (sym (journal-end start before)) k.stands;
+        more = let long = ap (λ (ls : Lines). length ls) (with-end start.left).1 ∙ length-append (lines_in start.left) (begun-of start.left ∷ []) in omega (arith, long);
+      })
+
+no-starts : end_of (lines_in (journal [])) ≡ unseen resume
+unfolding journal followed
+no-starts = ap end_of (ended_none 4097 [])
+
+known-of : (starts : List Start) → AreStarts starts → Known starts (newest_in (journal starts))
+unfolding AreStarts
+known-of [] all =
+    let none : newest_in (journal []) ≡ None = ap (λ (f : Following). f.newest) no-starts in record {
+      stands = subst (Stands (end_of (lines_in (journal [])))) (sym none) (subst (IsSame (unseen resume)) (sym no-starts) (refl, refl, refl));
+      good = subst (λ (m : Option Moment). IfSome m IsMoment) (sym none) tt;
+    }
+known-of (start ∷ before) all = (torn-made before start all.0 (known-of before all.1) all.0.torn).0
+
+pub journals-go-on : JournalsGoOn
+unfolding AreStarts
+journals-go-on again before start all = (torn-made before start all.0 (known-of before all.1) all.0.torn).1 again

@@ -1,6 +1,6 @@
 -- The rows by which an evening goes on, byte by byte.
 use Rattle.std.proofs.Common.{◌≡◌, ◌∙◌, ℕ, zero, suc, ◌+◌, ◌-◌, ◌*◌, ◌/◌, ◌%◌, ◌^◌, ◌<◌, ◌≤◌, ◌&&◌, ◌==◌, true, false, refl, sym, ap, subst, arith, List, [], ◌∷◌, ◌++◌, codes}
-use Rattle.std.proofs.Common.{length, drop, get_or, Some, le-leb, leb-true, ne_eqb, inl, inr, append_assoc, length-append}
+use Rattle.std.proofs.Common.{length, get_or, Some, le-leb, leb-true, ne_eqb, inl, inr, append_assoc, length-append}
 use Rattle.std.specs.Prelude.{decimal, flat_map, nat_le, nat_lt, not}
 use Rattle.std.specs.Fmt.{digit_glyph}
 use Rattle.std.specs.List.{list_all}

@@ -11,11 +11,12 @@ use Rattle.ucl_screen.specs.Screen.{screen_text}
 use Rattle.ucl_json.specs.Lines.{json_line}
 use Rattle.ucl_json.specs.Values.{edition_screen_value}
 use Rattle.ucl_json.specs.declared.title.Title.{Title}
-use Rattle.ucl_runs.specs.Titles.{is_same_order}
+use Rattle.ucl_runs.specs.Titles.{is_asked, is_same_order}
 use Rattle.ucl_json.specs.declared.moment.Moment.{Moment}
 use Rattle.ucl_runs.specs.declared.following.Following.{Following}
 use Rattle.ucl_command.specs.declared.follow.FollowArgs.{FollowArgs}
-use Rattle.ucl_command.specs.declared.follow.FollowArgs.TheVariants.{Text, Json, Matches, Rows}
+use Rattle.ucl_command.specs.declared.follow.FollowShape.{FollowShape}
+use Rattle.ucl_command.specs.declared.follow.FollowShape.TheVariants.{Text, Json, Matches, Rows}
 use Rattle.ucl_json.specs.Told.{moment_on}
 
 abbrev pub version_at : Moment → ℕ
@@ -50,7 +51,7 @@ resuming_rows moment =
 -- ---- what is shown
 
 -- the screen of a moment, or its matches, worked out from its words, where the line of this number told it. A follower that resumes shows none
-abbrev pub sight_text : FollowArgs → ℕ → Moment → List ℕ
+abbrev pub sight_text : FollowShape → ℕ → Moment → List ℕ
 sight_text Text row moment = screen_text moment.title.profile moment.board moment.roster moment.title.group
 sight_text Json row moment = json_line (edition_screen_value row moment.title moment.board moment.roster)
 sight_text Matches row moment = matches_text moment.board moment.roster
@@ -71,35 +72,40 @@ abbrev pub one_more : ℕ → ℕ
 one_more n = min (n + 1) (2 ^ 64 - 1)
 
 -- before the first line
-abbrev pub unseen : Following
-unseen = record { newest = None; lines = 0; shown = 0 }
+abbrev pub unseen : FollowArgs → Following
+unseen args = record { group = args.group; profile = args.profile; newest = None; lines = 0; shown = 0 }
 
--- after a line: it told no moment, or one that is no newer, or a newer one
+-- a moment is of the group and the order that are followed, and newer than all before
+abbrev pub is_shown : Following → Moment → Bool
+is_shown f moment = is_asked f.group f.profile moment.title && is_newer f.newest moment
+
+-- after a line: it told no moment, or one that is not shown, or one that is. Its group and order are followed from then on
 abbrev pub passed_over : Following → Following
-passed_over f = record { newest = f.newest; lines = one_more f.lines; shown = f.shown }
+passed_over f = record { group = f.group; profile = f.profile; newest = f.newest; lines = one_more f.lines; shown = f.shown }
 
 abbrev pub shown_too : Following → Moment → Following
-shown_too f moment = record { newest = Some moment; lines = one_more f.lines; shown = one_more f.shown }
+shown_too f moment =
+    record { group = Some moment.title.group; profile = Some moment.title.profile; newest = Some moment; lines = one_more f.lines; shown = one_more f.shown }
 
 abbrev pub after_told : Following → Option Moment → Following
 after_told f None = passed_over f
-after_told f (Some moment) = if is_newer f.newest moment then shown_too f moment else passed_over f
+after_told f (Some moment) = if is_shown f moment then shown_too f moment else passed_over f
 
-abbrev pub told_text : FollowArgs → Following → Option Moment → List ℕ
+abbrev pub told_text : FollowShape → Following → Option Moment → List ℕ
 told_text shape f None = []
-told_text shape f (Some moment) = if is_newer f.newest moment then sight_text shape (one_more f.lines) moment else []
+told_text shape f (Some moment) = if is_shown f moment then sight_text shape (one_more f.lines) moment else []
 
 -- after lines, and what they made it write
 unfoldable pub followed : Following → List (List ℕ) → Following
 followed f [] = f
 followed f (line ∷ lines) = followed (after_told f (moment_on line)) lines
 
-unfoldable pub sights : FollowArgs → Following → List (List ℕ) → List ℕ
+unfoldable pub sights : FollowShape → Following → List (List ℕ) → List ℕ
 sights shape f [] = []
 sights shape f (line ∷ lines) = told_text shape f (moment_on line) ++ sights shape (after_told f (moment_on line)) lines
 
 -- a follower that resumes writes the rows of the newest moment, once its input has ended
-abbrev pub resuming_text : FollowArgs → Option Moment → List ℕ
+abbrev pub resuming_text : FollowShape → Option Moment → List ℕ
 resuming_text Rows (Some moment) = resuming_rows moment
 resuming_text Rows None = []
 resuming_text Text newest = []
@@ -113,8 +119,8 @@ whole_lines bytes = ended_lines 4097 [] bytes
 
 -- the text of a follower that has this whole input
 abbrev pub follow_text : FollowArgs → List ℕ → List ℕ
-follow_text shape bytes = sights shape unseen (whole_lines bytes) ++ resuming_text shape (followed unseen (whole_lines bytes)).newest
+follow_text args bytes = sights args.shape (unseen args) (whole_lines bytes) ++ resuming_text args.shape (followed (unseen args) (whole_lines bytes)).newest
 
 -- what it has followed by then
-abbrev pub follow_end : List ℕ → Following
-follow_end bytes = followed unseen (whole_lines bytes)
+abbrev pub follow_end : FollowArgs → List ℕ → Following
+follow_end args bytes = followed (unseen args) (whole_lines bytes)

@@ -1,5 +1,5 @@
 -- What the program does with what its words ask for.
-use Rattle.std.specs.Prelude.{◌≡◌, ◌-◌, ◌==◌, ℕ, Bool, false, if◌then◌else◌, List, ◌++◌, Option, IfSome, codes, decimal, Result, Ok, Err, IfErr, IfOk, OnOk}
+use Rattle.std.specs.Prelude.{◌≡◌, ◌-◌, ◌==◌, ℕ, Bool, false, if◌then◌else◌, List, [], ◌∷◌, ◌++◌, Option, IfSome, codes, decimal, Result, Ok, Err, IfErr, IfOk, OnOk}
 use Rattle.std.specs.Io.KnownBytes.{Appends}
 use Rattle.ucl_io.specs.declared.stream.Source as reads
 use Rattle.ucl_io.specs.declared.stream.Sink as writes
@@ -17,21 +17,24 @@ use Rattle.ucl_io.specs.declared.duplex.Duplex.{Duplex}
 use Rattle.ucl_io.specs.Calls.{LogsCalls, device}
 use Rattle.ucl_command.specs.declared.fault.LineFault.{LineFault}
 use Rattle.ucl_runs.specs.Ending.{AnsweredAlone}
+use Rattle.ucl_order.specs.Names.{profile_name}
+use Rattle.ucl_json.specs.declared.title.Title.{Title}
 use Rattle.ucl_runs.specs.declared.follow.Followed.{Followed}
 use Rattle.ucl_command.specs.declared.follow.FollowArgs.{FollowArgs}
-use Rattle.ucl_command.specs.declared.follow.FollowArgs.TheVariants.{Text, Json, Matches, Rows}
+use Rattle.ucl_command.specs.declared.follow.FollowShape.{FollowShape}
+use Rattle.ucl_command.specs.declared.follow.FollowShape.TheVariants.{Text, Json, Matches, Rows}
 use Rattle.ucl_runs.specs.Follow.{follow_end, follow_text}
 use Rattle.ucl_runs.specs.Hearing.{FollowFails, IsFollowedSoFar, counts_of}
 
 -- lines were followed over a device for both ways, or that has the fault r: what `follow_run` says
-pub record FollowsLines {S W M : Type 0} (source : reads.Ghosts S) (sink : writes.Ghosts W) (shape : FollowArgs) (before after : Duplex S W M) (r : Result Followed (PumpFault OutOfMemory)) : Type 0 where
-  pub text : OnOk r (IfSome (source.left before.source) (λ bytes. Appends (sink.taken before.sink) (sink.taken after.sink) (follow_text shape bytes)))
-  pub counts : IfOk r (λ followed. IfSome (source.left before.source) (λ bytes. followed ≡ counts_of (follow_end bytes)))
+pub record FollowsLines {S W M : Type 0} (source : reads.Ghosts S) (sink : writes.Ghosts W) (args : FollowArgs) (before after : Duplex S W M) (r : Result Followed (PumpFault OutOfMemory)) : Type 0 where
+  pub text : OnOk r (IfSome (source.left before.source) (λ bytes. Appends (sink.taken before.sink) (sink.taken after.sink) (follow_text args bytes)))
+  pub counts : IfOk r (λ followed. IfSome (source.left before.source) (λ bytes. followed ≡ counts_of (follow_end args bytes)))
   pub read_failed : source.failed after.source ≡ is_source_failed r
   pub prompt : LogsCalls (λ time. source.calls time.0) before.log.times after.log.times (source.calls before.source) (source.calls after.source)
-      (λ time. IsFollowedSoFar shape (source.left before.source) (source.left time.0) (sink.taken before.sink) (sink.taken time.1))
+      (λ time. IsFollowedSoFar args (source.left before.source) (source.left time.0) (sink.taken before.sink) (sink.taken time.1))
   pub sink_ends : SinkEnds (sink.failed before.sink) (sink.failed after.sink) r
-  pub fails : IfErr r (FollowFails shape (device source.left source.failed sink.taken sink.failed before) (device source.left source.failed sink.taken sink.failed after))
+  pub fails : IfErr r (FollowFails args (device source.left source.failed sink.taken sink.failed before) (device source.left source.failed sink.taken sink.failed after))
 
 -- how many lines came, how many were shown, and how many were passed over
 abbrev pub counts_line : Followed → List ℕ
@@ -39,7 +42,7 @@ counts_line followed =
     decimal followed.lines ++ codes " lines, " ++ decimal followed.shown ++ codes " shown, " ++ decimal (followed.lines - followed.shown) ++ codes " passed over\n"
 
 -- rows were wanted, and no line told a moment
-abbrev pub is_in_vain : FollowArgs → Followed → Bool
+abbrev pub is_in_vain : FollowShape → Followed → Bool
 is_in_vain Rows followed = followed.shown == 0
 is_in_vain Text followed = false
 is_in_vain Json followed = false
@@ -49,11 +52,16 @@ is_in_vain Matches followed = false
 abbrev pub vain_line : Followed → List ℕ
 vain_line followed = codes "no moment in " ++ decimal followed.lines ++ codes " lines: there is nothing to go on from\n"
 
+-- that the moment of a line is passed over, for its group or order
+abbrev pub other_line : ℕ → Title → List ℕ
+other_line line title =
+    codes "line " ++ decimal line ++ codes ": group " ++ (title.group ∷ []) ++ codes ", order " ++ profile_name title.profile ++ codes ", is passed over\n"
+
 -- what is told, and the exit status, where the input has ended
-abbrev pub end_line : FollowArgs → Followed → List ℕ
+abbrev pub end_line : FollowShape → Followed → List ℕ
 end_line shape followed = if is_in_vain shape followed then vain_line followed else counts_line followed
 
-abbrev pub end_status : FollowArgs → Followed → ℕ
+abbrev pub end_status : FollowShape → Followed → ℕ
 end_status shape followed = if is_in_vain shape followed then 3 else 0
 
 -- the fault of a program that follows
@@ -64,7 +72,7 @@ told_fault (WriteFailed written) = run.WriteFailed written
 told_fault (Machine fault) = run.OutOfMemory
 
 -- the input has ended; or the line of the fault is told, and its status
-abbrev pub EndsFollowing : FollowArgs → Result Followed (PumpFault OutOfMemory) → ℕ → Bool → Option (List ℕ) → Option (List ℕ) → Type 0
+abbrev pub EndsFollowing : FollowShape → Result Followed (PumpFault OutOfMemory) → ℕ → Bool → Option (List ℕ) → Option (List ℕ) → Type 0
 EndsFollowing shape (Ok followed) code failed old new = (code ≡ end_status shape followed) × Tells failed old new (end_line shape followed)
 EndsFollowing shape (Err fault) code failed old new = (code ≡ status (told_fault fault)) × Tells failed old new (fault_line (told_fault fault))
 
@@ -72,6 +80,6 @@ EndsFollowing shape (Err fault) code failed old new = (code ≡ status (told_fau
 -- exit status, and what it tells on the error sink
 abbrev pub RunsFollowing : {S W M : Type 0} → reads.Ghosts S → writes.Ghosts W → Result FollowArgs LineFault → Duplex S W M → Duplex S W M
     → ℕ → Bool → Option (List ℕ) → Option (List ℕ) → Type 0
-RunsFollowing source sink (Ok shape) before after code failed old new =
-    (r : Result Followed (PumpFault OutOfMemory)) × FollowsLines source sink shape before after r × EndsFollowing shape r code failed old new
+RunsFollowing source sink (Ok args) before after code failed old new =
+    (r : Result Followed (PumpFault OutOfMemory)) × FollowsLines source sink args before after r × EndsFollowing args.shape r code failed old new
 RunsFollowing source sink (Err fault) before after code failed old new = AnsweredAlone sink fault before after code failed old new

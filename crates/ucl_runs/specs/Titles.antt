@@ -57,8 +57,11 @@ is_asked_order None order = true
 is_asked_order (Some asked) order = is_same_order asked order
 
 -- the group and the order are those that were asked for, where some were
+abbrev pub is_asked : Option ℕ → Option Profile → Title → Bool
+is_asked group profile title = is_asked_group group title.group && is_asked_order profile title.profile
+
 abbrev pub is_as_asked : LiveArgs → Title → Bool
-is_as_asked options title = is_asked_group options.group title.group && is_asked_order options.profile title.profile
+is_as_asked options title = is_asked options.group options.profile title
 
 -- where no row says a title: what was asked for, else group A and the order of the Regulations; edition 0
 abbrev pub asked_group : Option ℕ → ℕ
@@ -75,4 +78,4 @@ asked_title options = record { group = asked_group options.group; profile = aske
 -- the title of a board whose input says this one, or none: that, where it is as asked, else none; or what was asked for
 abbrev pub title_for : Option ℕ → Option Profile → Option Title → Option Title
 title_for group profile None = Some (record { group = asked_group group; profile = asked_order profile; edition = 0 })
-title_for group profile (Some title) = if is_asked_group group title.group && is_asked_order profile title.profile then Some title else None
+title_for group profile (Some title) = if is_asked group profile title then Some title else None

@@ -28,7 +28,8 @@ pub struct Followed {
 }
 
 /// Follows the lines of a source until it ends: each moment that is newer than all that was shown is shown at once, before more is asked
-/// for, and each other line is passed over. At the end come the rows of the newest moment, where these are wanted.
+/// for, and each other line is passed over. The group and the order are those that were asked for, else those of the first moment; a moment of another
+/// one is passed over, and `others` takes a line of each such group and order, at once. At the end come the rows of the newest moment, where these are wanted.
 ///
 /// A line tells a moment where it is JSON of at most 4,096 bytes whose members `group`, `order`, `clubs` and `words` are those of a board;
 /// so does each answer of an evening to an accepted event, and each screen. It takes memory for one line at a time, and keeps none.
@@ -38,22 +39,23 @@ pub struct Followed {
 /// Nothing that comes in is an error. Where the source fails, all lines that had an end are followed. Where the sink fails, a first part of
 /// the text is out, and how many bytes. Where there is no memory for a line, or for the rows of the end, the lines before are followed.
 /// `TooLong` comes after more than 2^62 bytes, which no input has.
-pub fn follow_run<S: Source, W: Sink>(
+pub fn follow_run<S: Source, W: Sink, T: Sink + Drop>(
     alloc: Global,
-    shape: FollowArgs,
-    duplex: &mut Duplex<S, W, Follower>,
+    args: FollowArgs,
+    others: T,
+    duplex: &mut Duplex<S, W, Follower<T>>,
 ) -> Result<Followed, PumpFault<OutOfMemory>>
     ensures text { OnOk result (IfSome (S.left duplex.old.source)
         (λ bytes. Appends (W.taken duplex.old.sink) (W.taken duplex.new.sink)
-        (follow_text shape bytes))) }
+        (follow_text args bytes))) }
     ensures counts { IfOk result (λ followed. IfSome (S.left duplex.old.source)
-        (λ bytes. followed ≡ counts_of (follow_end bytes))) }
+        (λ bytes. followed ≡ counts_of (follow_end args bytes))) }
 
     // Just before each call for bytes, also in a run that failed, the screens of all lines that had an end by then were out.
     ensures prompt { LogsCalls (λ time. S.calls time.0)
         duplex.old.log.times duplex.new.log.times
         (S.calls duplex.old.source) (S.calls duplex.new.source)
-        (λ time. IsFollowedSoFar shape
+        (λ time. IsFollowedSoFar args
         (S.left duplex.old.source) (S.left time.0) (W.taken duplex.old.sink) (W.taken time.1)) }
 
     // A failed read is answered exactly where the source has failed, and a failed write where the sink has.
@@ -61,11 +63,11 @@ pub fn follow_run<S: Source, W: Sink>(
     ensures sink { SinkEnds (W.failed duplex.old.sink) (W.failed duplex.new.sink) result }
 
     // Why it fails, and what is out then.
-    ensures fails { IfErr result (FollowFails shape
+    ensures fails { IfErr result (FollowFails args
         (device S.left S.failed W.taken W.failed duplex.old)
         (device S.left S.failed W.taken W.failed duplex.new)) }
 {
-    let mut follower = Follower::new(alloc, shape);
+    let mut follower = Follower::new(alloc, args, others);
     pump(&mut follower, MOST_LINE_BYTES, PAGE, duplex)?;
     Ok(Followed {
         lines: follower.following.lines,

@@ -1,7 +1,7 @@
 //! What holds of all that is followed. The functions do nothing: they are there for their contracts.
 
 ghost use Rattle.ucl_runs.specs.Answered.{AnswersTellTheirMoment, LinesTellTheirMoment, MatchesFitTheirLine};
-ghost use Rattle.ucl_runs.specs.Journals.{CrashesChangeNothing, CutJournalsResume, JournalsEndWithTheBoard};
+ghost use Rattle.ucl_runs.specs.Journals.{CrashesChangeNothing, CutJournalsResume, JournalsEndWithTheBoard, JournalsGoOn};
 ghost use Rattle.ucl_runs.specs.Latest.{LatestIsShownLast, OthersDoNotMatter, ShownVersionsRise};
 ghost use Rattle.ucl_runs.specs.Repeats.{RepeatedRowsChangeNothing};
 ghost use Rattle.ucl_runs.specs.Resuming.{ResumedRowsOpenTheBoard};
@@ -55,6 +55,13 @@ pub fn resumed_rows_open_the_board()
 /// writes nothing.
 pub fn cut_journals_resume()
     ensures { CutJournalsResume }
+{}
+
+/// Through any number of crashes: what each start left, and an end of line, make a journal, and the next start goes on from its newest moment. What
+/// `--resume` writes of the whole are the rows of the board to which the last start came by so many lines of its input, among them each accepted
+/// event whose answer is whole.
+pub fn journals_go_on()
+    ensures { JournalsGoOn }
 {}
 
 /// The moments of an evening's lines rise: where its output was not cut, and tells a moment, the latest is its board. So a follower shows that last.

@@ -3,18 +3,21 @@
 ghost use Rattle.std.specs.Prelude.{◌≡◌, ⊤, IfOk};
 ghost use Rattle.ucl_screen.specs.Screen.{IsGroup};
 ghost use Rattle.ucl_runs.specs.Follow.{resuming_text, sight_text, told_text, unseen};
-ghost use Rattle.ucl_runs.specs.Hearing.{following_of, heard, shape_of, sight_bytes};
+ghost use Rattle.ucl_runs.specs.Hearing.{IsHeard, following_of, shape_of, sight_bytes};
 ghost use Rattle.ucl_json.specs.Told.{moment_on};
 
 use crate::following::{Following, is_newer};
 use ucl_json::Moment;
+use crate::follow_program::other_line;
 use crate::rows::resuming_rows;
 use ucl_json::moment_on;
 use std::alloc::Global;
-use ucl_command::FollowArgs;
+use crate::is_asked;
+use ucl_command::{FollowArgs, FollowShape};
 use ucl_io::{LineMachine, Text};
-use ucl_json::edition_screen_json;
-use ucl_screen::{matches, screen};
+use ucl_json::{Title, edition_screen_json};
+use ucl_order::Profile;
+use ucl_screen::{Sink, matches, screen};
 use ucl_word::OutOfMemory;
 
 /// What a line is answered.
@@ -51,75 +54,105 @@ impl Text for Sight {
 }
 
 /// What is shown of a moment that the line of this number told.
-fn show(alloc: Global, shape: FollowArgs, row: u64, moment: &Moment) -> Result<Sight, OutOfMemory>
+fn show(alloc: Global, shape: FollowShape, row: u64, moment: &Moment) -> Result<Sight, OutOfMemory>
     requires { IsGroup moment.now.title.group }
     ensures { IfOk result (λ sight. sight_bytes sight ≡ sight_text shape row moment.now) }
 {
     match shape {
-        FollowArgs::Text => Ok(Sight::Screen(screen(
+        FollowShape::Text => Ok(Sight::Screen(screen(
             alloc,
             &moment.board,
             &moment.roster,
             moment.title.group,
             moment.title.profile,
         )?)),
-        FollowArgs::Json => Ok(Sight::Screen(edition_screen_json(
+        FollowShape::Json => Ok(Sight::Screen(edition_screen_json(
             alloc,
             row,
             &moment.board,
             &moment.roster,
             moment.title,
         )?)),
-        FollowArgs::Matches => Ok(Sight::Screen(matches(alloc, &moment.board, &moment.roster)?)),
-        FollowArgs::Rows => Ok(Sight::Nothing),
+        FollowShape::Matches => Ok(Sight::Screen(matches(alloc, &moment.board, &moment.roster)?)),
+        FollowShape::Rows => Ok(Sight::Nothing),
     }
 }
 
-/// A follower between two lines: what it has followed, and what it shows of it.
-#[derive(Drop)]
-pub struct Follower {
-    alloc: Global,
-    shape: FollowArgs,
-    pub(crate) following: Following,
+/// Marks a group and its order as told, and says whether they were not.
+fn is_first(told: &mut [bool; 16], title: Title) -> bool {
+    let order = match title.profile {
+        Profile::Uefa => 0,
+        Profile::AwayInTie => 8,
+    };
+    let place = usize::from(title.group.wrapping_sub(b'A')) + order;
+    if place < 16 && !told[place] {
+        told[place] = true;
+        return true;
+    }
+    false
 }
 
-impl Follower {
+/// A follower between two lines: what it has followed, what it shows of it, and where it tells of other groups and orders.
+#[derive(Drop)]
+pub struct Follower<T> {
+    alloc: Global,
+    shape: FollowShape,
+    pub(crate) following: Following,
+    others: T,
+    told: [bool; 16],
+}
+
+impl<T> Follower<T> {
     /// Before the first line.
-    pub(crate) fn new(alloc: Global, shape: FollowArgs) -> Follower
-        ensures following { following_of result ≡ unseen }
-        ensures shape { shape_of result ≡ shape }
+    pub(crate) fn new(alloc: Global, args: FollowArgs, others: T) -> Follower<T>
+        ensures following { following_of result ≡ unseen args }
+        ensures shape { shape_of result ≡ args.shape }
     {
         Follower {
             alloc,
-            shape,
-            following: Following::new(),
+            shape: args.shape,
+            following: Following::new(args),
+            others,
+            told: [false; 16],
         }
     }
 }
 
-impl LineMachine for Follower {
+impl<T: Sink> LineMachine for Follower<T> {
     type Answer = Sight;
 
     type Fault = OutOfMemory;
 
     ghost ready = { λ _. ⊤ };
 
-    ghost answers = { λ m row line n text. (n ≡ heard m (moment_on line))
-        × (text ≡ told_text m.shape m.following (moment_on line)) };
+    ghost answers = { λ m row line n text. IsHeard m n (moment_on line)
+        × (text ≡ told_text (shape_of m) (following_of m) (moment_on line)) };
 
     ghost stops = { λ _ _ _ _. ⊤ };
 
-    ghost ends = { λ m row begun n text. (n ≡ m)
-        × (text ≡ resuming_text m.shape m.following.newest) };
+    ghost ends = { λ m row begun n text. (shape_of n ≡ shape_of m)
+        × (following_of n ≡ following_of m)
+        × (text ≡ resuming_text (shape_of m) (following_of m).newest) };
 
     ghost stops_at_end = { λ _ _ _ _. ⊤ };
 
     fn answer(&mut self, _row: u64, line: &[u8], text: &mut Sight) -> Result<(), OutOfMemory> {
         let told = moment_on(self.alloc, line)?;
         let row = self.following.lines.saturating_add(1);
+        let (group, profile) = (self.following.group, self.following.profile);
         match told {
+            Some(moment) if !is_asked(group, profile, moment.title) => {
+                if is_first(&mut self.told, moment.title) {
+                    let line = other_line(row, moment.title);
+                    let _given = self.others.give(line.as_str().as_bytes());
+                }
+                *text = Sight::Nothing;
+                self.following.lines = row;
+            }
             Some(moment) if is_newer(&self.following.newest, &moment) => {
                 *text = show(self.alloc, self.shape, row, &moment)?;
+                self.following.group = Some(moment.title.group);
+                self.following.profile = Some(moment.title.profile);
                 self.following.newest = Some(moment);
                 self.following.lines = row;
                 self.following.shown = self.following.shown.saturating_add(1);
@@ -134,7 +167,7 @@ impl LineMachine for Follower {
 
     fn end(&mut self, _row: u64, _begun: &[u8], text: &mut Sight) -> Result<(), OutOfMemory> {
         *text = match (self.shape, &self.following.newest) {
-            (FollowArgs::Rows, Some(moment)) => Sight::Rows(resuming_rows(self.alloc, moment)?),
+            (FollowShape::Rows, Some(moment)) => Sight::Rows(resuming_rows(self.alloc, moment)?),
             _ => Sight::Nothing,
         };
         Ok(())

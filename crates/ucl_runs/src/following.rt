@@ -4,11 +4,15 @@ ghost use Rattle.std.specs.Prelude.{◌≡◌};
 ghost use Rattle.ucl_runs.specs.Follow.{is_later, is_newer, unseen};
 
 use ucl_json::Moment;
+use ucl_command::FollowArgs;
+use ucl_order::Profile;
 
-/// What was followed by some lines: the newest moment, how many lines there were, and how many of them were shown. A number past
-/// `u64::MAX` is told as that.
+/// What was followed by some lines: the group and the order, where one was asked for or was told; the newest moment; how many lines there were,
+/// and how many of them were shown. A number past `u64::MAX` is told as that.
 #[derive(Drop)]
 pub(crate) struct Following {
+    pub(crate) group: Option<u8>,
+    pub(crate) profile: Option<Profile>,
     pub(crate) newest: Option<Moment>,
     pub(crate) lines: u64,
     pub(crate) shown: u64,
@@ -35,10 +39,12 @@ pub(crate) fn is_newer(newest: &Option<Moment>, moment: &Moment) -> bool
 
 impl Following {
     /// Before the first line.
-    pub(crate) fn new() -> Following
-        ensures { result ≡ unseen }
+    pub(crate) fn new(args: FollowArgs) -> Following
+        ensures { result ≡ unseen args }
     {
         Following {
+            group: args.group,
+            profile: args.profile,
             newest: None,
             lines: 0,
             shown: 0,

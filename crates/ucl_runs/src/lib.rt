@@ -54,7 +54,7 @@ pub use feed::feed_run;
 pub use follow::{Followed, follow_run};
 pub use follow_laws::{
     answers_tell_their_moment, crashes_change_nothing, cut_journals_resume,
-    journals_end_with_the_board, latest_is_shown_last, lines_tell_their_moment,
+    journals_end_with_the_board, journals_go_on, latest_is_shown_last, lines_tell_their_moment,
     matches_fit_their_line, others_do_not_matter, repeated_rows_change_nothing,
     resumed_rows_open_the_board, versions_rise,
 };
@@ -79,5 +79,5 @@ pub use row::{MOST_LINE_BYTES, RowCount};
 pub use show::show_run;
 pub use telling::tell;
 pub use telling_screens::{ToldScreen, report_and_show};
-pub use title::{first_group, title_for};
+pub use title::{first_group, is_asked, title_for};
 pub use words::{Lines, word_lines};

@@ -6,7 +6,7 @@ ghost use Rattle.ucl_screen.specs.Rows.{four_seen};
 ghost use Rattle.ucl_screen.specs.Screen.{IsGroup};
 ghost use Rattle.ucl_command.specs.Groups.{may_be_asked};
 ghost use Rattle.ucl_runs.specs.Rows.{of_row, said_on};
-ghost use Rattle.ucl_runs.specs.Titles.{asked_group, asked_order, asked_title, group_said, is_as_asked, is_asked_group, is_asked_order, is_group_row, is_same_order, title_by, title_for, title_said};
+ghost use Rattle.ucl_runs.specs.Titles.{asked_group, asked_order, asked_title, group_said, is_as_asked, is_asked, is_asked_group, is_asked_order, is_group_row, is_same_order, title_by, title_for, title_said};
 
 use crate::line::LineReader;
 use crate::row::RowCount;
@@ -101,11 +101,18 @@ fn is_asked_order(asked: Option<Profile>, order: Profile) -> bool
     }
 }
 
-/// Whether the group and the order are those that were asked for, where some were.
+/// Whether the group and the order of a title are those that were asked for, where some were.
+pub fn is_asked(group: Option<u8>, profile: Option<Profile>, title: Title) -> bool
+    ensures { result ≡ is_asked group profile title }
+{
+    is_asked_group(group, title.group) && is_asked_order(profile, title.profile)
+}
+
+/// Whether the group and the order are those that the options ask for, where they do.
 pub(crate) fn is_as_asked(options: &LiveArgs, title: Title) -> bool
     ensures { result ≡ is_as_asked options.now title }
 {
-    is_asked_group(options.group, title.group) && is_asked_order(options.profile, title.profile)
+    is_asked(options.group, options.profile, title)
 }
 
 /// The group that was asked for, else A.
@@ -184,7 +191,7 @@ pub fn title_for(group: Option<u8>, profile: Option<Profile>, said: Option<Title
             edition: 0,
         });
     };
-    if is_asked_group(group, title.group) && is_asked_order(profile, title.profile) {
+    if is_asked(group, profile, title) {
         Some(title)
     } else {
         None

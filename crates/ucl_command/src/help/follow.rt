@@ -12,7 +12,11 @@ with other lines between. A line tells a moment where it is JSON, of at most
 4,096 bytes and an end, with the members group, order, clubs and words of a
 board, and its edition, where this is not 0: each answer to an accepted event
 does, and each screen. A moment of a later edition is newer, whatever its
-version. All lines are those of one board.
+version. All lines of one group and order are those of one board.
+
+The group and the order are those of --group and --order, else those of the
+first moment. A moment of another group or order is passed over, and standard
+error tells it at once, by its line: once for each such group and order.
 
 Output: the screen of each moment that is newer than all before, worked out
 from its words, by its order; each other line is passed over. No text of a line
@@ -42,9 +46,20 @@ Examples:
 
 docs/ROWS.md has rows, answers and all codes; docs/RULES.md has the rules.";
 
+/// What `--group` does.
+pub(crate) const GROUP: &str = "\
+Follows this group alone; that of the first moment
+without it";
+
+/// What `--order` does.
+pub(crate) const ORDER: &str = "\
+Follows boards of this order of the clubs alone; that
+of the first moment without it";
+
 /// What `--matches` does.
 pub(crate) const MATCHES: &str = "\
-Writes the twelve matches in place of each screen; goes with no other option";
+Writes the twelve matches in place of each screen; goes
+with neither --format nor --resume";
 
 /// What `--resume` does.
 pub(crate) const RESUME: &str = "\

@@ -1,1 +1,0 @@
-use Rattle.ucl_json.proofs.told.board_of.Goals as goal

@@ -1,1 +1,0 @@
-use Rattle.ucl_json.proofs.told.roster_with.Goals as goal

@@ -1,1 +1,0 @@
-use Rattle.ucl_json.proofs.told.values_in.Goals as goal
