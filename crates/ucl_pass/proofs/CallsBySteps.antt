@@ -1,16 +1,16 @@
 -- From what steps on the cell tell to what a call says of its pass.
-use Rattle.ucl_pass.proofs.Common.{◌≡◌, ◌≢◌, ℕ, suc, ◌+◌, ◌==◌, ◌<◌, ◌≤◌, List, ◌∷◌, ◌++◌, length, take, refl, sym, ap, ◌∙◌, subst, arith, true≢false, true, false, length-append, [], append-nil}
-use Rattle.ucl_pass.proofs.Common.{append_assoc, ne_eqb, slice_index, Result, Ok, Err, IsOk, MatchResult, is_ok, AllByRecursion, flat_map, take_all, nil_from_length, All-head, All-tail}
-use Rattle.ucl_pass.proofs.Common.{filter-append, IsPrefix, EventCall, Accepted, Refusal, refusal_of, answer, reply_of, record_at, Entry, IsMatch, AreWords, word_at, version_of, board_of, IsLegal}
-use Rattle.ucl_pass.proofs.Common.{followed_by, entry_of, reading_of, sequential_reply, Look, Swap, Match, Enlisted, access, Taken, step_taken, board_words, word_after, versions, begins_length}
-use Rattle.ucl_pass.proofs.Common.{begins_through, View, IsSound, Continues, AcceptedReport, RefusedReport, SharedReading, Enlistment, Hearing, pass_view_of, count_of, Takes, note_of, told_by, Goes}
-use Rattle.ucl_pass.proofs.Common.{Answer, CellView, words_after, IsNextBoard, word_looked_at, HasSeenAll, StoresEntry, StoresReporter, LooksOnly, LooksAtMatch, LooksAtEnlisted, LooksAndShows}
-use Rattle.ucl_pass.proofs.Common.{after_load, HasAccepted, AreAccepting, LookOfCell, ReadOfCell, MeetingSteps, CellMissed, no_event_between, WereLost, CellReport, CellEnlistMissed, CellReading}
-use Rattle.ucl_pass.proofs.Common.{FinishesReport, FinishesReading, takes_none, takes_on, takes_count, Stays, stays_none, stays_more, all_more}
+use Rattle.ucl_pass.proofs.Common.{◌≡◌, ◌≢◌, ℕ, ◌+◌, ◌<◌, ◌≤◌, List, ◌∷◌, ◌++◌, length, take, refl, sym, ap, ◌∙◌, subst, arith, true≢false, true, false, length-append, [], append-nil, append_assoc}
+use Rattle.ucl_pass.proofs.Common.{slice_index, Result, Ok, Err, IsOk, MatchResult, is_ok, AllByRecursion, flat_map, take_all, nil_from_length, All-head, All-tail, filter-append, IsPrefix}
+use Rattle.ucl_pass.proofs.Common.{EventCall, Accepted, Refusal, refusal_of, answer, reply_of, record_at, Entry, IsMatch, AreWords, word_at, version_of, board_of, IsLegal, followed_by, entry_of}
+use Rattle.ucl_pass.proofs.Common.{reading_of, sequential_reply, Look, Swap, Match, Enlisted, access, Taken, step_taken, board_words, word_after, versions, begins_length, begins_through, View}
+use Rattle.ucl_pass.proofs.Common.{IsSound, Continues, AcceptedReport, RefusedReport, SharedReading, Enlistment, Hearing, pass_view_of, count_of, Takes, note_of, told_by, Goes, Answer, CellView}
+use Rattle.ucl_pass.proofs.Common.{words_after, IsNextBoard, word_looked_at, HasSeenAll, StoresEntry, StoresReporter, LooksOnly, LooksAtMatch, LooksAtEnlisted, LooksAndShows, after_load}
+use Rattle.ucl_pass.proofs.Common.{HasAccepted, AreAccepting, LookOfCell, ReadOfCell, MeetingSteps, CellMissed, no_event_between, WereLost, CellReport, CellEnlistMissed, CellReading, FinishesReport}
+use Rattle.ucl_pass.proofs.Common.{FinishesReading, takes_none, takes_on, takes_count, Stays, stays_none, stays_more, all_more}
 use Rattle.std.specs.Prelude.{Option, Some, None}
+use Rattle.std.proofs.lemmas.Bool.{eqb-true}
 use Rattle.std.proofs.lemmas.Grind.{flat_map-append}
 use mathlib.Core.Logic.{dite}
-use native.Mathlib.Decide.{ℕ_discrete}
 use Rattle.ucl_board.specs.declared.reading.Reading.{Reading}
 use Rattle.ucl_steps.specs.declared.step.Call.TheVariants as calls
 use Rattle.ucl_steps.specs.declared.trace.Reply.TheVariants as replies
@@ -62,19 +62,11 @@ same_length a b p same = search (arith, nil_from_length, length-append, append-n
 
 enlisted_between : (u z : View) (x y : List ℕ) → x ≡ words_after u.seen u.listed → y ≡ words_after z.seen z.listed → y ≢ x → IsPrefix u.seen z.seen → u.listed ≤ z.listed
     → length u.seen ≡ length z.seen → u.listed < z.listed
-enlisted_between u z x y looked found other more le same = dite (native.Mathlib.Decide.dec_le (suc u.listed) z.listed)
-    (λ less. less)
-    (λ not.
-    let seen = same_length u.seen z.seen more same in
-    let listed : u.listed ≡ z.listed = omega (arith, not) in
-    absurd (other (found ∙ ((λ i. words_after (sym seen i) (sym listed i)) ∙ sym looked))))
+enlisted_between u z x y looked found other more le same = search (arith, same_length u.seen z.seen more same, dite, u.listed, z.listed, u.seen, z.seen)
 
 lost_more : (listed : ℕ) (tries : List (List Taken)) (one : List Taken) (before after : ℕ) → WereLost listed tries before → before ≤ after → (no_event_between one ≡ true → before < after)
     → WereLost listed (tries ++ one ∷ []) after
 lost_more listed tries one before after lost le more = search (arith, filter-append, length-append)
-
-same_places : (m n : ℕ) → (m == n) ≡ true → m ≡ n
-same_places m n is = dite (ℕ_discrete m n) (λ same. same) (λ not. absurd (true≢false (sym is ∙ ne_eqb m n not)))
 
 -- one load for a report, and what came of it
 module _ (call : EventCall) (v w u : View) (x : List ℕ) (tried : TriedReport call v w) (looked : LooksAtMatch call.game w x x u) where
@@ -135,7 +127,7 @@ module _ (call : EventCall) (v w u : View) (x : List ℕ) (tried : TriedReport c
         });
         lost = lost_more v.listed tried.tries one w.listed z.listed tried.lost (let a = looked.seen_all.listed in let b = lost.seen_all.listed in omega arith)
             (λ is.
-            let less = enlisted_between u z x y looked.seen_all.words_are lost.seen_all.words_are other lost.sees.goes.seen lost.seen_all.listed (same_places (length u.seen) (length z.seen) is) in
+            let less = enlisted_between u z x y looked.seen_all.words_are lost.seen_all.words_are other lost.sees.goes.seen lost.seen_all.listed (eqb-true (length u.seen) (length z.seen) is) in
             omega arith);
       }
 
@@ -228,7 +220,7 @@ module _ (v w u : View) (x : List ℕ) (tried : TriedEnlist v w) (looked : Looks
         lost = lost_more v.listed tried.tries one w.listed z.listed tried.lost (let a = looked.seen_all.listed in let b = missed.seen_all.listed in omega arith)
             (λ is.
             let less = enlisted_between u z x y looked.seen_all.words_are missed.seen_all.words_are other missed.sees.goes.seen missed.seen_all.listed
-            (same_places (length u.seen) (length z.seen) is) in
+            (eqb-true (length u.seen) (length z.seen) is) in
             omega arith);
       }
 

@@ -132,9 +132,7 @@ pub counts_find : (place : ℕ) → CellFindsEnlisted (TellsAndStands place Coun
 counts_find place s t r p = says_found p.was.pass p.is.pass (slice_index p.found 12) r.shared.enlisted (length p.is.pass.seen) (found_there s r p.found p.there) p.told.told.counts.sees.takes
 
 pub enlists_find : (place : ℕ) → CellFindsEnlisted (TellsAndStands place EnlistOfCell)
-enlists_find place s t r p =
-    says_found p.was.pass p.is.pass (slice_index p.found 12) r.shared.enlisted (length p.is.pass.seen) (found_there s r p.found p.there)
-    (⊎_elim (λ missed. missed.1.sees.takes) (λ won. won.1.enlists.takes) p.told.told.enlists)
+enlists_find place s t r p = search (arith, found_there s r p.found p.there, says_found, p.was.pass, p.is.pass, p.found, r.shared.enlisted, p.is.pass.seen, p.there, p.told.told.enlists)
 
 -- what a clause of a step allows
 

@@ -18,14 +18,7 @@ pub takes_on : (u v w : View) (xs ys : List Taken) → Takes u xs v → Takes v 
 takes_on u v w xs ys a b = record { own = b.own ∙ (ap (λ (l : List Taken). l ++ ys) a.own ∙ append_assoc u.own xs ys); copied = b.copied ∙ a.copied }
 
 pub takes_count : (v w : View) (xs : List Taken) → Takes v xs w → count_of w ≡ count_of v + length xs
-takes_count v w xs t = omega (
-  arith,
-  ap length t.copied,
-  ap length t.own,
-  length-append v.own xs,
-  length-append v.copied v.own,
-  length-append w.copied w.own,
-)
+takes_count v w xs t = search (arith, length-append v.own xs, length-append v.copied v.own, length-append w.copied w.own)
 
 -- a pass after any number of steps that changed nothing else
 pub record Stays (v w : View) : Type 0 where
@@ -72,8 +65,5 @@ sound_kept v s = record { legal = s.legal; own = s.own; few = s.few; acts = half
 -- the count of accepted events has room for one more
 pub room : (k m : PassView) (call : EventCall) (r : Result Accepted Refusal) (n : ℕ) → IfOk r (λ reply. AcceptedReport k call reply m) → is_ok r ≡ true → IsSound m → length k.mine ≡ n
     → n + 1 ≤ greatest_version
-room k m call (Ok reply) n a is s len =
-    let l = ap length a.mine ∙ length-append k.mine (entry_of k.number call ∷ []) in
-    let f = few_mine m s in
-    omega arith
+room k m call (Ok reply) n a is s len = search (arith, few_mine m s, length-append)
 room k m call (Err why) n a is s len = absurd (true≢false (sym is))

@@ -224,15 +224,7 @@ module _ (words_after : List Entry → ℕ → List ℕ) where
           (still_given looked r.enlisted refl (le_refl r.enlisted))
 
       pub look_tells : Sees target v looked
-      look_tells =
-          let h = same_history in
-          record {
-            goes = goes look v.mine v.number listed shown words r.enlisted acts look_keeps;
-            there = subst (λ (l : List Entry). IsThere l target) (sym h) there;
-            takes = record { own = ap (λ (l : List Entry). v.own ++ step_taken target (length l) None ∷ []) (sym h); copied = refl };
-            mine = refl;
-            number = refl;
-          }
+      look_tells = search (arith, same_history, goes, look_keeps)
 
     -- an exchange that adds an entry
     module _ (acts : IsSome v.share) (e : Entry) (found : ℕ) (there : IsThere (history_of r.log) (Match Swap e.game found)) (pos : 0 < v.number) (me : e.reporter ≡ v.number)
@@ -375,8 +367,8 @@ module _ (words_after : List Entry → ℕ → List ℕ) where
         (still_given v r.enlisted refl (le_refl r.enlisted))
 
   -- one pass more, without a number, without a step, and with a share that is no other's
-  added : (words : List ℕ) (views : List View) (enlisted : ℕ) (log : Log) (m : RuleWith words views enlisted log) (w : View) → w.number ≡ 0 → w.own ≡ [] → w.log ≡ [] → w.mine ≡ [] → IsPrefix w.seen (history_of m.rule.log)
-      → w.told ≡ [] → w.listed ≤ m.rule.enlisted
+  added : (words : List ℕ) (views : List View) (enlisted : ℕ) (log : Log) (m : RuleWith words views enlisted log) (w : View) → w.number ≡ 0 → w.own ≡ [] → w.log ≡ [] → w.mine ≡ []
+      → IsPrefix w.seen (history_of m.rule.log) → w.told ≡ [] → w.listed ≤ m.rule.enlisted
       → ((j : ℕ) (u : View) → get_elem? views j ≡ some u → Overlap w.share u.share → ⊥) → RuleWith words (views ++ w ∷ []) enlisted log
   added words views enlisted log m w number own none mine seen told listed lone =
       let r = m.rule in

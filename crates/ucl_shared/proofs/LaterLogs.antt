@@ -51,13 +51,7 @@ module _ (words_after : List Entry → ℕ → List ℕ) {V A : Type 0} (pass : 
   go_through a b c p q seat x at = let y = p seat x at in let z = q seat y.0 y.1 in (z.0, z.1, through x y.0 z.0 y.2 z.2)
 
   set_gone : (actors : List A) (seat : ℕ) (a b : A) → get_elem? actors seat ≡ some a → Gone a b → HaveGone actors (set actors seat b)
-  set_gone actors seat a b here on j u at = dite (ℕ_discrete j seat)
-      (λ is. (
-        b,
-        ap (get_elem? (set actors seat b)) is ∙ set_here actors seat b (place_below actors seat a here),
-        subst (λ (z : A). Gone z b) (some-injective a u (sym here ∙ (ap (get_elem? actors) (sym is) ∙ at))) on,
-      ))
-      (λ not. (u, set_else actors seat j b not ∙ at, same u))
+  set_gone actors seat a b here on j u at = search (arith, set_here actors seat b (place_below actors seat a here), dite, some-injective, set_else)
 
   module _ (before after : List ℕ) (views later : List V) (r : KeepsOneHistory words_after before (map pass views)) (q : KeepsOneHistory words_after after (map pass later)) where
     abbrev pub GoesOn : Type 0

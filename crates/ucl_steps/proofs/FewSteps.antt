@@ -265,10 +265,7 @@ few_of c done w kept o held = search (arith, few_left)
 
 pub each_few : (c : Caller) (done steps : List Step) (w t : MachineState) → Keeps done w → after_steps steps w ≡ Some t → decided_in t.calls ≡ decided_in w.calls
     → length (steps_by c steps) ≤ most_between
-each_few c done steps w t kept e same =
-    let few = few_by c done steps w t kept e (omega arith) in
-    let most = few_of c done w kept (held_by w.callers c) refl in
-    omega arith
+each_few c done steps w t kept e same = search (arith, few_by c done steps w t kept e (omega arith), few_of, w.callers)
 
 -- a call under way stays so
 stays_open : (c : Caller) (done steps : List Step) (w t : MachineState) (x : Holds) → Keeps done w → after_steps steps w ≡ Some t → decided_in t.calls ≤ decided_in w.calls

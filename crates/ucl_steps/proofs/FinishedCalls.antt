@@ -18,10 +18,7 @@ decided_of seat number calls = length (filter is_decided (filter (own seat numbe
 at_least : (seat number : ℕ) (calls : List CallRecord) (low high : ℕ) (fs : List Answer) → AreRecordsOf calls seat number low fs high → length fs ≤ decided_of seat number (drop low calls)
 at_least seat number calls low high [] r = omega arith
 at_least seat number calls low high (f ∷ fs) r =
-    let t = next_own seat number calls low high f fs r in
-    let rest = filter (own seat number) (drop (r.0 + 1) calls) in
-    let more = at_least seat number calls (r.0 + 1) high fs r.5 in
-    search (arith, next_own, own, filter-append, length-append)
+    search (arith, next_own seat number calls low high f fs r, own seat number, filter-append, length-append, at_least seat number calls (r.0 + 1) high fs r.5, r.0, r.5)
 
 filter_few : {X : Type 0} (p : X → Bool) (xs : List X) → length (filter p xs) ≤ length xs
 filter_few p [] = omega arith

@@ -42,14 +42,10 @@ read_back h g legal = record_back (match_after h g) (match_valid g h legal)
 
 -- the word that an entry leaves has the next number
 pub number_next : (h : List Entry) (e : Entry) → IsLegal h → MayFollow h e → (record_at (word_of (after (match_after h e.game) e.reporter e.kind))).number ≡ (match_after h e.game).number + 1
-number_next h e legal may =
-    let next = match_next h e legal may in
-    search (arith, read_back, legal_snoc, after_number, e.game, e.reporter, e.kind)
+number_next h e legal may = search (arith, match_next h e legal may, read_back, legal_snoc, after_number, e.game, e.reporter, e.kind)
 
 numbers_rise : (g : ℕ) (h : List Entry) (a b : ℕ) → a ≤ b → length (entries_of g (take a h)) ≤ length (entries_of g (take b h))
-numbers_rise g h a b l =
-    let cut : entries_of g (take b h) ≡ entries_of g (take a h) ++ entries_of g (drop a (take b h)) = ap (entries_of g) (take_split h a b l) ∙ entries-append g (take a h) (drop a (take b h)) in
-    omega (arith, ap length cut, length-append (entries_of g (take a h)) (entries_of g (drop a (take b h))))
+numbers_rise g h a b l = search (arith, take_split h a b l, entries-append, length-append)
 
 -- a word that a match has before and after a place, it has there too
 pub squeezed : (g x : ℕ) (h : List Entry) (a p b : ℕ) → IsLegal h → a ≤ p → p ≤ b → x ≡ word_of (match_after (take a h) g) → x ≡ word_of (match_after (take b h) g)

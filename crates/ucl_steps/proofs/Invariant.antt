@@ -42,17 +42,30 @@ explained_closed : (h : List Entry) (c : CallRecord) (p : Option ℕ) (r : Optio
 explained_closed h c p r s some = search (arith, false≢true)
 
 module _ (steps : List Step) (w : MachineState) (kept : Keeps steps w) (c : Caller) (x : Holds) (holds : held_by w.callers c ≡ Some x) where
-  -- what other callers hold, and know
-  knows_else : (h' : List Entry) (calls : List CallRecord) (y : Holds) → IsPrefix w.history h'
+  -- what callers know, where this one then holds y, and knows what that says
+  knows_all : (h' : List Entry) (calls : List CallRecord) (y : Holds) → IsPrefix w.history h'
       → ((d : Caller) (k : ℕ) (b : CallRecord) → d ≢ c → slice_get w.calls k ≡ Some b → b.caller ≡ d → slice_get calls k ≡ Some b)
-      → (d : Caller) (z : Holds) (k : ℕ) → d ≢ c → held_by (set_held y c w.callers) d ≡ Some z → in_call z ≡ Some k → Knows h' calls d z k
-  knows_else h' calls y b same d z k not at within =
-      let t = kept.knows d z k (sym (held_else w.callers c d y x holds not) ∙ at) within in
-      record { call = t.call; at = same d k t.call not t.at t.caller; caller = t.caller; unended = t.unended; sees = sees_later w.history h' b t.call z t.sees }
+      → ((k : ℕ) → in_call y ≡ Some k → Knows h' calls c y k)
+      → (d : Caller) (z : Holds) (k : ℕ) → held_by (set_held y c w.callers) d ≡ Some z → in_call z ≡ Some k → Knows h' calls d z k
+  knows_all h' calls y b same own d z k at within = elim (same_caller d c) [
+    | inl is ↦
+        let z_is : y ≡ z = same_Some y z (sym (held_here w.callers c x y holds) ∙ (ap (held_by (set_held y c w.callers)) (sym is) ∙ at)) in
+        subst (λ (v : Caller). Knows h' calls v z k) (sym is) (subst (λ (v : Holds). Knows h' calls c v k) z_is (own k (ap in_call z_is ∙ within)))
+    | inr not ↦
+        let t = kept.knows d z k (sym (held_else w.callers c d y x holds not) ∙ at) within in
+        record { call = t.call; at = same d k t.call not t.at t.caller; caller = t.caller; unended = t.unended; sees = sees_later w.history h' b t.call z t.sees }
+  ]
+
+  -- a call that this caller was not in is held as before
+  still_held : (i : ℕ) (a : CallRecord) (y : Holds) → slice_get w.calls i ≡ Some a → a.ended ≡ None → in_call x ≢ Some i → IsHeld (set_held y c w.callers) a.caller i
+  still_held i a y at none other = let o = kept.unended i a at none in elim (same_caller a.caller c) [
+    | inl is ↦ absurd (other (ap in_call (same_Some x o.holds (sym holds ∙ (ap (held_by w.callers) (sym is) ∙ o.held_is))) ∙ o.in_it))
+    | inr not ↦ record { holds = o.holds; held_is = held_else w.callers c a.caller y x holds not ∙ o.held_is; in_it = o.in_it }
+  ]
 
   -- one step within a call
   module _ (k : ℕ) (within : in_call x ≡ Some k) where
-    pub mine : Knows w.history w.calls c x k
+    abbrev pub mine : Knows w.history w.calls c x k
     mine = kept.knows c x k holds within
 
     other_call : (d : Caller) (i : ℕ) (b : CallRecord) → d ≢ c → slice_get w.calls i ≡ Some b → b.caller ≡ d → i ≢ k
@@ -62,7 +75,7 @@ module _ (steps : List Step) (w : MachineState) (kept : Keeps steps w) (c : Call
 
     pub moved : (s : Step) (y : Holds) (h' : List Entry) (words' : List ℕ) (f : CallRecord → CallRecord) → IsInner s → IsPrefix w.history h' → IsLegal h' → words' ≡ board_of h'
         → ((a : CallRecord) → time_of (f a) ≡ time_of a) → EntryHasOneCall h' (change_at k f w.calls)
-        → ((a : CallRecord) → slice_get w.calls k ≡ Some a → IsExplained h' (f a) (f a).point (f a).reply × Sees h' (f a) y) → in_call y ≡ Some k
+        → IsExplained h' (f mine.call) (f mine.call).point (f mine.call).reply × Sees h' (f mine.call) y → in_call y ≡ Some k
         → Keeps (steps ++ s ∷ []) (with_held y c (record w { words = words'; history = h'; calls = change_at k f w.calls }))
     moved s y h' words' f inner b legal words timed once told inside =
         let m = kept.knows c x k holds within in
@@ -71,45 +84,33 @@ module _ (steps : List Step) (w : MachineState) (kept : Keeps steps w) (c : Call
           legal = legal;
           words = words;
           explained = λ i a at. elim (get-change_at k f w.calls i a at) [
-            | inl u ↦ subst (λ (z : CallRecord). IsExplained h' z z.point z.reply) u.3 (told u.1 u.2).0
+            | inl u ↦ subst (λ (z : CallRecord). IsExplained h' z z.point z.reply) (ap f (same_Some m.call u.1 (sym m.at ∙ u.2)) ∙ u.3) told.0
             | inr u ↦ explained_later w.history h' b a (kept.explained i a u.1)
           ];
           once = once;
           turns = search (arith, map_unseen, turns_inner, begins_length);
-          knows = λ d z i at within_z. elim (same_caller d c) [
-            | inl is ↦
-                let z_is : y ≡ z = same_Some y z (sym (held_here w.callers c x y holds) ∙ (ap (held_by (set_held y c w.callers)) (sym is) ∙ at)) in
-                let i_is : k ≡ i = same_Some k i (sym inside ∙ (ap in_call z_is ∙ within_z)) in
-                subst (λ (v : Holds). Knows h' calls' d v i) z_is (subst (λ (v : ℕ). Knows h' calls' d y v) i_is (record {
-                  call = f m.call;
-                  at = change_at_here k f w.calls m.call m.at;
-                  caller = ap (λ (t : Time). t.caller) (timed m.call) ∙ (m.caller ∙ sym is);
-                  unended = ap (λ (t : Time). t.ended) (timed m.call) ∙ m.unended;
-                  sees = (told m.call m.at).1;
-                }))
-            | inr not ↦ knows_else h' calls' y b (λ e j a other there own. change_at_else k f w.calls j a (other_call e j a other there own) there) d z i not at within_z
-          ];
+          knows = knows_all h' calls' y b (λ e j a other there own. change_at_else k f w.calls j a (other_call e j a other there own) there) (λ j at.
+              subst (λ (v : ℕ). Knows h' calls' c y v) (same_Some k j (sym inside ∙ at)) (record {
+                call = f m.call;
+                at = change_at_here k f w.calls m.call m.at;
+                caller = ap (λ (t : Time). t.caller) (timed m.call) ∙ m.caller;
+                unended = ap (λ (t : Time). t.ended) (timed m.call) ∙ m.unended;
+                sees = told.1;
+              }));
           unended = λ i a at none. elim (get-change_at k f w.calls i a at) [
             | inl u ↦
                 let own : a.caller ≡ c = search (arith, same_Some) in
                 record { holds = y; held_is = ap (held_by (set_held y c w.callers)) own ∙ held_here w.callers c x y holds; in_it = inside ∙ ap Some (sym u.0) }
-            | inr u ↦
-                let o = kept.unended i a u.1 none in
-                elim (same_caller a.caller c) [
-                  | inl is ↦
-                      let o_is : o.holds ≡ x = same_Some o.holds x (sym o.held_is ∙ (ap (held_by w.callers) is ∙ holds)) in
-                      absurd (u.0 (same_Some i k (sym o.in_it ∙ (ap in_call o_is ∙ within))))
-                  | inr not ↦ record { holds = o.holds; held_is = held_else w.callers c a.caller y x holds not ∙ o.held_is; in_it = o.in_it }
-                ]
+            | inr u ↦ still_held i a y u.1 none (λ e. u.0 (same_Some i k (sym e ∙ within)))
           ];
         }
 
     -- one step that leaves the calls
-    pub stayed : (s : Step) (y : Holds) → IsInner s → ((a : CallRecord) → slice_get w.calls k ≡ Some a → Sees w.history a y) → in_call y ≡ Some k → Keeps (steps ++ s ∷ []) (with_held y c w)
+    pub stayed : (s : Step) (y : Holds) → IsInner s → Sees w.history mine.call y → in_call y ≡ Some k → Keeps (steps ++ s ∷ []) (with_held y c w)
     stayed s y inner told inside =
         subst (λ (cs : List CallRecord). Keeps (steps ++ s ∷ []) (with_held y c (record w { calls = cs }))) (change_at_same k w.calls)
         (moved s y w.history w.words (λ a. a) inner (begins_same w.history) kept.legal kept.words (λ a. refl) (subst (EntryHasOneCall w.history) (sym (change_at_same k w.calls)) kept.once)
-        (λ a at. (kept.explained k a at, told a at)) inside)
+        (kept.explained k mine.call mine.at, told) inside)
 
     -- the end of a call
     pub ended : Sees w.history (kept.knows c x k holds within).call (Answered k)
@@ -127,23 +128,11 @@ module _ (steps : List Step) (w : MachineState) (kept : Keeps steps w) (c : Call
           once = once_kept w.calls k f w.history (λ a i made. made) (λ a i made. made) kept.once;
           turns = subst (Turns (steps ++ End c ∷ []) n) (sym (map-change_at time_of k f (ended_at n) (λ a. refl) w.calls))
               (turns_end steps n (map time_of w.calls) c k (time_of m.call) here m.caller m.unended kept.turns);
-          knows = λ d z i at within_z. elim (same_caller d c) [
-            | inl is ↦
-                let z_is : Idle ≡ z = same_Some Idle z (sym (held_here w.callers c x Idle holds) ∙ (ap (held_by (set_held Idle c w.callers)) (sym is) ∙ at)) in
-                absurd (none-some i (ap in_call z_is ∙ within_z))
-            | inr not ↦ knows_else w.history calls' Idle (begins_same w.history) (λ e j a other there own. change_at_else k f w.calls j a (other_call e j a other there own) there) d z i not at
-                within_z
-          ];
+          knows = knows_all w.history calls' Idle (begins_same w.history) (λ e j a other there own. change_at_else k f w.calls j a (other_call e j a other there own) there)
+              (λ j at. absurd (none-some j at));
           unended = λ i a at none. elim (get-change_at k f w.calls i a at) [
             | inl u ↦ absurd (none-some n (sym none ∙ ap (λ (z : CallRecord). z.ended) (sym u.3)))
-            | inr u ↦
-                let o = kept.unended i a u.1 none in
-                elim (same_caller a.caller c) [
-                  | inl is ↦
-                      let o_is : o.holds ≡ x = same_Some o.holds x (sym o.held_is ∙ (ap (held_by w.callers) is ∙ holds)) in
-                      absurd (u.0 (same_Some i k (sym o.in_it ∙ (ap in_call o_is ∙ within))))
-                  | inr not ↦ record { holds = o.holds; held_is = held_else w.callers c a.caller Idle x holds not ∙ o.held_is; in_it = o.in_it }
-                ]
+            | inr u ↦ still_held i a Idle u.1 none (λ e. u.0 (same_Some i k (sym e ∙ within)))
           ];
         }
 
@@ -166,26 +155,16 @@ module _ (steps : List Step) (w : MachineState) (kept : Keeps steps w) (c : Call
         once = once_begun w.history w.calls new refl kept.once;
         turns = subst (Turns (steps ++ Begin c call ∷ []) n) (sym (map-append time_of w.calls (new ∷ [])))
             (turns_begin steps n (map time_of w.calls) c call (λ i t at own. timed_ended i t at own closed_all) kept.turns);
-        knows = λ d z i at within_z. elim (same_caller d c) [
-          | inl is ↦
-              let z_is : y ≡ z = same_Some y z (sym (held_here w.callers c x y holds) ∙ (ap (held_by (set_held y c w.callers)) (sym is) ∙ at)) in
-              let i_is : length w.calls ≡ i = same_Some (length w.calls) i (sym inside ∙ (ap in_call z_is ∙ within_z)) in
-              subst (λ (v : Holds). Knows w.history calls' d v i) z_is (subst (λ (v : ℕ). Knows w.history calls' d y v) i_is (record {
-                call = new;
-                at = at_end w.calls new;
-                caller = sym is;
-                unended = refl;
-                sees = sees;
-              }))
-          | inr not ↦ knows_else w.history calls' y (begins_same w.history) (λ e j a other there own. at_longer w.calls (new ∷ []) j a there) d z i not at within_z
-        ];
+        knows = knows_all w.history calls' y (begins_same w.history) (λ e j a other there own. at_longer w.calls (new ∷ []) j a there) (λ j at.
+            subst (λ (v : ℕ). Knows w.history calls' c y v) (same_Some (length w.calls) j (sym inside ∙ at)) (record {
+              call = new;
+              at = at_end w.calls new;
+              caller = refl;
+              unended = refl;
+              sees = sees;
+            }));
         unended = λ i a at none. elim (at_either w.calls new i a at) [
-          | inl u ↦
-              let o = kept.unended i a u.1 none in
-              elim (same_caller a.caller c) [
-                | inl is ↦ absurd (closed_all i a u.1 is none)
-                | inr not ↦ record { holds = o.holds; held_is = held_else w.callers c a.caller y x holds not ∙ o.held_is; in_it = o.in_it }
-              ]
+          | inl u ↦ still_held i a y u.1 none (λ e. none-some i (ap in_call (sym idle) ∙ e))
           | inr u ↦ record {
             holds = y;
             held_is = ap (held_by (set_held y c w.callers)) (ap (λ (z : CallRecord). z.caller) (sym u.1)) ∙ held_here w.callers c x y holds;

@@ -56,8 +56,7 @@ module _ (steps : List Step) (w : MachineState) (kept : Keeps steps w) where
       (subst (λ (z : Call). IsSequential h now (Reporter asks.reporter) z (Refused refusal)) (sym asks.call) base) in
       let told : IsExplained h (f m.call) (Some now) (Some (Refused refusal)) = ((begun_before k m.call m.at, le_refl now, unended_none m.call.ended (λ z. now ≤ z) m.unended), is) in
       moved steps w kept c x holds k within s (Answered k) h w.words f inner (begins_same h) kept.legal kept.words (λ a. refl)
-      (once_refused w.calls k f m.call m.at asks.reply h refl kept.once)
-      (λ a at. (subst (λ (z : CallRecord). IsExplained h (f z) (Some now) (Some (Refused refusal))) (same_Some m.call a (sym m.at ∙ at)) told, refl)) refl
+      (once_refused w.calls k f m.call m.at asks.reply h refl kept.once) (told, refl) refl
 
   look_kept : (n k : ℕ) (e : EventCall) (holds : held_by w.callers (Reporter n) ≡ Some (Wanting k e)) (o : Option Refusal) → refusal_of (record_at (word_at w.words e.game)) e.expected e.kind ≡ o
       → Keeps (steps ++ Look (Reporter n) ∷ []) (after_outcome (Reporter n) k now (by_rules n e (word_at w.words e.game) o) w)
@@ -78,8 +77,7 @@ module _ (steps : List Step) (w : MachineState) (kept : Keeps steps w) where
         accepted = is;
         next = ap (λ (z : ℕ). word_of (after (record_at word) z e.kind)) (sym r_is);
       } in
-      stayed steps w kept (Reporter n) (Wanting k e) holds k refl (Look (Reporter n)) (Within k (Holding e word new)) tt
-      (λ a at. subst (λ (z : CallRecord). Offers w.history z e word new) (same_Some m.call a (sym m.at ∙ at)) offers) refl
+      stayed steps w kept (Reporter n) (Wanting k e) holds k refl (Look (Reporter n)) (Within k (Holding e word new)) tt offers refl
 
   module _ (n k : ℕ) (e : EventCall) (old new : ℕ) (holds : held_by w.callers (Reporter n) ≡ Some (Within k (Holding e old new))) where
     missed : (word_at w.words e.game == old) ≡ false → Keeps (steps ++ Swap (Reporter n) ∷ []) (after_reply (Reporter n) k now (Refused (Stale (record_at (word_at w.words e.game)).number)) w)
@@ -145,8 +143,7 @@ module _ (steps : List Step) (w : MachineState) (kept : Keeps steps w) where
           let told : IsExplained h' (f m.call) (Some now) (Some reply) = ((begun_before k m.call m.at, omega arith, unended_none m.call.ended (λ z. now < z) m.unended), is) in
           moved steps w kept (Reporter n) (Within k (Holding e old new)) holds k refl (Swap (Reporter n)) (Answered k) h' (slice_set w.words (g - 1) new) f tt (entered e n ∷ [], refl) legal words
           (λ a. refl)
-          (once_accepted w.calls k f m.call m.at o.asks.reply h (entered e n) refl refl (made_within h w.calls kept.explained) kept.once)
-          (λ a at. (subst (λ (z : CallRecord). IsExplained h' (f z) (Some now) (Some reply)) (same_Some m.call a (sym m.at ∙ at)) told, refl)) refl
+          (once_accepted w.calls k f m.call m.at o.asks.reply h (entered e n) refl refl (made_within h w.calls kept.explained) kept.once) (told, refl) refl
 
     swap_kept : (b : Bool) → (word_at w.words e.game == old) ≡ b → Keeps (steps ++ Swap (Reporter n) ∷ []) (after_reply (Reporter n) k now
         (cond b (Accepted (record { number = (record_at new).number })) (Refused (Stale (record_at (word_at w.words e.game)).number))) (cond b (stored n e new w) w))
@@ -174,8 +171,7 @@ module _ (steps : List Step) (w : MachineState) (kept : Keeps steps w) where
       let o = m.sees in
       let more = loaded ++ slice_index w.words (length loaded) ∷ [] in
       let checks : Checks w.history m.call more 0 now = search (arith, eqb-true, begun_before, le_refl, loaded_more) in
-      stayed steps w kept c (Within k (Collecting loaded)) holds k refl (First c) (Within k (Checking more 0 now)) tt
-      (λ a at. subst (λ (z : CallRecord). Checks w.history z more 0 now) (same_Some m.call a (sym m.at ∙ at)) checks) refl
+      stayed steps w kept c (Within k (Collecting loaded)) holds k refl (First c) (Within k (Checking more 0 now)) tt checks refl
   first_kept c k loaded holds false is =
       let m = kept.knows c (Within k (Collecting loaded)) k holds refl in
       let o = m.sees in
@@ -184,8 +180,7 @@ module _ (steps : List Step) (w : MachineState) (kept : Keeps steps w) where
       let few = o.few in
       let not-all = eqb-false (length more) 12 is in
       let collects : Collects w.history m.call more = record { reads = o.reads; few = below (length loaded) (length more) few long not-all; loaded = loaded_more loaded o.few o.loaded } in
-      stayed steps w kept c (Within k (Collecting loaded)) holds k refl (First c) (Within k (Collecting more)) tt
-      (λ a at. subst (λ (z : CallRecord). Collects w.history z more) (same_Some m.call a (sym m.at ∙ at)) collects) refl
+      stayed steps w kept c (Within k (Collecting loaded)) holds k refl (First c) (Within k (Collecting more)) tt collects refl
     where
       below : (n m : ℕ) → n < 12 → m ≡ n + 1 → (m ≡ 12 → ⊥) → m < 12
       below n m few is not = omega arith
@@ -195,8 +190,7 @@ module _ (steps : List Step) (w : MachineState) (kept : Keeps steps w) where
     start_again =
         let m = kept.knows c (Within k (Checking words checked point)) k holds refl in
         let collects : Collects w.history m.call [] = record { reads = m.sees.reads; few = omega arith; loaded = λ i none. absurd (omega arith) } in
-        stayed steps w kept c (Within k (Checking words checked point)) holds k refl (Second c) (Within k (Collecting [])) tt
-        (λ a at. subst (λ (z : CallRecord). Collects w.history z []) (same_Some m.call a (sym m.at ∙ at)) collects) refl
+        stayed steps w kept c (Within k (Checking words checked point)) holds k refl (Second c) (Within k (Collecting [])) tt collects refl
 
     pub one_more : (slice_index w.words checked == slice_index words checked) ≡ true → AreAt w.history words (checked + 1) point
     one_more same i less =
@@ -217,8 +211,7 @@ module _ (steps : List Step) (w : MachineState) (kept : Keeps steps w) where
         let few = o.few in
         let not-last = eqb-false checked 11 other in
         let checks : Checks w.history m.call words (checked + 1) point = search (arith, below, one_more) in
-        stayed steps w kept c (Within k (Checking words checked point)) holds k refl (Second c) (Within k (Checking words (checked + 1) point)) tt
-        (λ a at. subst (λ (z : CallRecord). Checks w.history z words (checked + 1) point) (same_Some m.call a (sym m.at ∙ at)) checks) refl
+        stayed steps w kept c (Within k (Checking words checked point)) holds k refl (Second c) (Within k (Checking words (checked + 1) point)) tt checks refl
       where
         below : (n : ℕ) → n < 12 → (n ≡ 11 → ⊥) → n + 1 < 12
         below n few not = omega arith
@@ -247,8 +240,7 @@ module _ (steps : List Step) (w : MachineState) (kept : Keeps steps w) where
           let is : IsSequential h point m.call.caller m.call.call r = search (arith, sequential_reading, copied_board, copied_version) in
           let told : IsExplained h (f m.call) (Some point) (Some r) = ((o.early, o.late, unended_none m.call.ended (λ z. point ≤ z) m.unended), is) in
           moved steps w kept c (Within k (Checking words checked point)) holds k refl (Second c) (Answered k) h w.words f tt (begins_same h) kept.legal kept.words (λ a. refl)
-          (once_refused w.calls k f m.call m.at o.reads.reply h refl kept.once)
-          (λ a at. (subst (λ (z : CallRecord). IsExplained h (f z) (Some point) (Some r)) (same_Some m.call a (sym m.at ∙ at)) told, refl)) refl
+          (once_refused w.calls k f m.call m.at o.reads.reply h refl kept.once) (told, refl) refl
 
     second_kept : (a b : Bool) → (slice_index w.words checked == slice_index words checked) ≡ a → (checked == 11) ≡ b
         → Keeps (steps ++ Second c ∷ []) (after_outcome c k point (cond a (cond b (Answers (Copied (reading_of words))) (GoesOn (Checking words (checked + 1) point))) (GoesOn (Collecting []))) w)

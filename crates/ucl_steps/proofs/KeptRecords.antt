@@ -32,12 +32,7 @@ module _ (seat number : ℕ) where
 
   at_least : (calls : List CallRecord) (low high : ℕ) (fs : List Answer) → AreRecordsOf calls seat number low fs high → length fs ≤ length (filter own (drop low calls))
   at_least calls low high [] r = omega arith
-  at_least calls low high (f ∷ fs) r =
-      let t = next_own calls low high f fs r in
-      let rest = filter own (drop (r.0 + 1) calls) in
-      let more = at_least calls (r.0 + 1) high fs r.5 in
-      let long : length (filter own (drop low calls)) ≡ length (filter own t.0) + suc (length rest) = ap length t.1 ∙ length-append (filter own t.0) (r.1 ∷ rest) in
-      omega arith
+  at_least calls low high (f ∷ fs) r = search (arith, next_own calls low high f fs r, length-append, at_least calls (r.0 + 1) high fs r.5, r.0, r.5, r.1)
 
   just_these : (calls : List CallRecord) (low high : ℕ) (fs : List Answer) → AreRecordsOf calls seat number low fs high → length (filter own (drop low calls)) ≡ length fs
       → map plain (filter own (drop low calls)) ≡ map recorded fs

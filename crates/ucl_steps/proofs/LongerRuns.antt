@@ -70,11 +70,7 @@ abbrev HoldAlike : Callers → Callers → Type 0
 HoldAlike cs ds = (c : Caller) (x y : Holds) → held_by cs c ≡ Some x → held_by ds c ≡ Some y → x ≡ y
 
 set_alike : (cs ds : Callers) (c : Caller) (y x z : Holds) → held_by cs c ≡ Some x → held_by ds c ≡ Some z → HoldAlike cs ds → HoldAlike (set_held y c cs) (set_held y c ds)
-set_alike cs ds c y x z at bt alike d u v p q = elim (same_caller d c) [
-  | inl is ↦ sym (same_Some y u (sym (held_here cs c x y at) ∙ (ap (held_by (set_held y c cs)) (sym is) ∙ p)))
-      ∙ same_Some y v (sym (held_here ds c z y bt) ∙ (ap (held_by (set_held y c ds)) (sym is) ∙ q))
-  | inr not ↦ alike d u v (sym (held_else cs c d y x at not) ∙ p) (sym (held_else ds c d y z bt not) ∙ q)
-]
+set_alike cs ds c y x z at bt alike d u v p q = search (arith, same_caller d c, held_here cs c x y at, held_here ds c z y bt, same_Some, held_else)
 
 -- the second state is the first one, with other callers
 record Alike (a b : MachineState) : Type 0 where
@@ -246,9 +242,8 @@ ended_keeps c d false v z is not = cc
 ended_keeps c d true v z is not = step_keeps (End c) v z d is not
 
 moved_keeps : (m : Move) (a z : MachineState) (d : Caller) → Moved m a z → d ≢ m.caller → held_by z.callers d ≡ held_by a.callers d
-moved_keeps m a z d t not =
-    ended_keeps m.caller d m.ends t.made z t.ends not
-    ∙ (step_keeps (step_of m.caller m.kind) t.begun t.made d t.makes (λ is. not (is ∙ caller_of_kind m.caller m.kind)) ∙ begun_keeps m.caller d m.begins a t.begun t.begins not)
+moved_keeps m a z d t not = search (arith, ended_keeps m.caller d m.ends t.made z t.ends not, caller_of_kind m.caller m.kind, begun_keeps m.caller d m.begins a t.begun t.begins not, step_keeps,
+    m.caller, m.ends, t.made, t.ends, m.kind, t.begun, t.makes, m.begins, t.begins)
 
 -- a caller whose call has its reply makes no move
 none_answered : (c : Caller) (o : Option Call) (kind : AccessKind) (a w v : MachineState) (k : ℕ) → AfterBegin c o a w → after_step w (step_of c kind) ≡ Some v

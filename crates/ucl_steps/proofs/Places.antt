@@ -41,8 +41,7 @@ place_of (Second d ∷ steps) i c call e = let t = place_of steps i c call e in 
 place_of (End d ∷ steps) i c call e = let t = place_of steps i c call e in (suc t.0, later (End d) steps t.0 i c refl t.1)
 
 begun_more : (steps : List Step) (p q : ℕ) → p ≤ q → length (begun_in (take p steps)) ≤ length (begun_in (take q steps))
-begun_more steps p q l = let cut = ap length (ap begun_in (take_split steps p q l) ∙ begun_in-append (take p steps) (drop p (take q steps))) in
-    omega (arith, cut, length-append (begun_in (take p steps)) (begun_in (drop p (take q steps))))
+begun_more steps p q l = search (arith, take_split steps p q l, begun_in-append, length-append)
 
 -- an earlier call is begun at an earlier place, and the other way round
 pub earlier_place : (steps : List Step) (p q i j : ℕ) (c d : Caller) → BeginsAt steps p i c → BeginsAt steps q j d → i < j → p < q
@@ -50,10 +49,7 @@ earlier_place steps p q i j c d a b l = elim (cases_lt p q) [ inl before ↦ bef
 
 pub earlier_call : (steps : List Step) (p q i j : ℕ) (c d : Caller) → BeginsAt steps p i c → BeginsAt steps q j d → p < q → i < j
 earlier_call steps p q i j c d a b l =
-    let more = begun_more steps (suc p) q (omega arith) in
-    let one : length (begun_in (take (suc p) steps)) ≡ length (begun_in (take p steps)) + 1 =
-    ap length (ap begun_in (take_one steps p (Begin c a.call) a.begins) ∙ begun_in-append (take p steps) (Begin c a.call ∷ [])) ∙ length-append (begun_in (take p steps)) ((c, a.call) ∷ []) in
-    let x = a.number in let y = b.number in omega arith
+    search (arith, begun_more steps (suc p) q (omega arith), take_one steps p (Begin c a.call) a.begins, begun_in-append, length-append, a.call, a.begins, a.number, b.number)
 
 module _ (steps : List Step) (s : Step) where
   pub back_begins : (p i : ℕ) (c : Caller) → p < length steps → BeginsAt (steps ++ s ∷ []) p i c → BeginsAt steps p i c

@@ -33,19 +33,9 @@ pub walks_none : (v : View) → IsSteady v → Walks v [] v
 walks_none v steady = search (arith, begins_same, le_refl, takes_none, append-nil)
 
 pub walks_on : (u v w : View) (ms ns : List Access) → Walks u ms v → Walks v ns w → Walks u (ms ++ ns) w
-walks_on u v w ms ns a b = record {
-  steady = b.steady;
-  on = record { seen = begins_through u.seen v.seen w.seen a.on.seen b.on.seen; listed = (let s = a.on.listed in let t = b.on.listed in omega arith); share = b.on.share ∙ a.on.share };
-  mine = b.mine ∙ a.mine;
-  number = b.number ∙ a.number;
-  leaves = record {
-    takes = subst (λ (l : List Taken). Takes u l w) (sym (plain_append ms ns)) (takes_on u v w (steps_with None ms) (steps_with None ns) a.leaves.takes b.leaves.takes);
-    trail = b.leaves.trail ∙ (ap (λ (x : List Access). x ++ ns) a.leaves.trail ∙ append_assoc (trail_of u) ms ns);
-    taken = (let s = a.leaves.taken in let t = b.leaves.taken in omega (arith, length-append ms ns));
-    follows = search (arith, follows_append, follows_longer, le_refl);
-    whole_trail = b.leaves.whole_trail;
-  };
-}
+walks_on u v w ms ns a b = search (arith, begins_through u.seen v.seen w.seen a.on.seen b.on.seen, plain_append ms ns, length-append ms ns, takes_on, append_assoc, follows_append, follows_longer,
+    le_refl, b.steady, u.seen, v.seen, w.seen, a.on.seen, b.on.seen, a.on.listed, b.on.listed, b.on.share, a.on.share, b.mine, a.mine, b.number, a.number, a.leaves.takes, b.leaves.takes,
+    b.leaves.trail, a.leaves.trail, a.leaves.taken, b.leaves.taken, b.leaves.whole_trail)
 
 -- a word that a load found is that of a valid record
 pub found_valid : (h : List Entry) (game n : ℕ) → IsLegal h → IsMatch game → n ≡ word_of (match_after h game) → IsWord n
@@ -61,12 +51,7 @@ module _ (kind : AccessKind) (game n : ℕ) (v w : View) (l : LoadsMatch kind ga
 
 pub walks_load : (kind : AccessKind) (game n : ℕ) (v w : View) → IsSteady v → LoadsMatch kind game v n w → Walks v (access kind game n (length w.seen) ∷ []) w
 walks_load kind game n v w steady l =
-    let m : Access = access kind game n (length w.seen) in
-    let goes = l.sees.goes in
-    let one : Follows w.seen (length v.seen) (m ∷ []) (length w.seen) = follows_one w.seen (length v.seen) m (begins_length v.seen w.seen goes.seen) refl l.sees.there.1 in
-    let whole : HasTrail w = subst (λ (t : List Access). Follows w.seen 0 t (length w.seen)) (sym (load_trail kind game n v w l))
-    (trail_on v.seen w.seen (trail_of v) (m ∷ []) goes.seen steady.trail one) in
-    search (arith, load_trail, load_taken, goes.legal, goes.own, goes.few, goes.acts, goes.alone, goes.told, goes.seen, goes.share, l.sees.mine, l.sees.number, l.sees.takes)
+    search (arith, load_trail kind game n v w l, follows_one, begins_length, trail_on, load_taken, w.seen, l.sees.goes, v.seen, l.sees.there.1, steady.trail, l.sees.mine, l.sees.number, l.sees.takes)
 
 pub walks_continue : (v w : View) (ms : List Access) → Walks v ms w → Continues (pass_view_of v) (pass_view_of w)
 walks_continue v w ms walk = record { sound = walk.steady.sound; on = walk.on; number = walk.number }
