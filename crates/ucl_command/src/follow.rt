@@ -1,7 +1,7 @@
 //! The arguments of `ucl_follow`.
 
 use crate::fault::{LineFault, matches_from, read};
-use crate::help::follow as help;
+use crate::help::{FORMAT, follow as help};
 use crate::options::{Format, flag_option, format_of, format_option, program};
 use clap::{Arg, ArgMatches, Command};
 use std::alloc::{AllocError, Global};
@@ -29,7 +29,7 @@ fn matches_option<'a>(alloc: Global) -> Result<Arg<'a>, AllocError> {
 /// The program's command.
 fn command<'a>(alloc: Global) -> Result<Command<'a>, AllocError> {
     program(alloc, "ucl_follow", help::PROGRAM, help::PROGRAM_MORE)
-        .arg(format_option(alloc))?
+        .arg(format_option(alloc, FORMAT))?
         .arg(flag_option(alloc, "resume", help::RESUME))?
         .arg(matches_option(alloc)?)
 }

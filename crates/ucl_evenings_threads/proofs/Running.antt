@@ -27,7 +27,7 @@ module _ {B R P N S W V : Type 0} (live : boards.Ghosts B R P N) (board : B) (so
   -- no screen is left, and the reporters have run
   pub ran_first : (s h : List Entry) (tally : Tally) (screens : List (Looking R (Screen B V))) (all : List (Enlisted P S W)) (ran : Ran R P S W (Screen B V))
       → screens ≡ [] → ran.screens.items ≡ [] → IsPrefix s h
-      → AreAllHeard s tally → AllZip (HasRun live board source replies) all ran.reporters.items → All (IsSeenIn h) (views_of live ran.reporters.items)
+      → AreAllHeard s tally → AllZip (HasRun live board source replies clubs) all ran.reporters.items → All (IsSeenIn h) (views_of live ran.reporters.items)
       → ((views : List PassView) → AreTallied views tally → AreTallied (views ++ views_of live ran.reporters.items) ran.tally)
       → HaveRun live board source replies sink clubs h tally screens all ran
   ran_first s h tally screens all ran none none2 on before run heard tallied = record {

@@ -40,5 +40,5 @@ pub record HasHeld {B R P N S W V : Type 0} (live : boards.Ghosts B R P N) (boar
   pub since : IsPrefix before (history_of_end live end)
   pub kept : AllZip (IsHandedBack live board) entered end.entered.items
   pub theirs : IsTheirs (all_views live end) (history_of_end live end)
-  pub reported : AllZip (HasAnsweredRows live board source replies before (history_of_end live end)) reporters end.reporters.items
+  pub reported : AllZip (HasAnsweredRows live board source replies clubs before (history_of_end live end)) reporters end.reporters.items
   pub shown : AllZip (HasShownOf live board sink clubs before (history_of_end live end) (LastIs end.last.version)) screens end.screens.items

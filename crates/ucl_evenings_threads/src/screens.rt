@@ -179,7 +179,7 @@ where
     ensures kinds { IfErr result IsOfThreads }
 {
     let Some(looking) = take_last(&mut screens) else {
-        let run = run_reporters(scope, rt, alloc, board, wakes, pass, all, tally);
+        let run = run_reporters(scope, rt, alloc, board, wakes, roster, pass, all, tally);
         end_all(wakes);
         let (reporters, tally) = run?;
         return Ok(Ran {

@@ -27,8 +27,8 @@ Answers m row line n text = (n ≡ heard m (moment_on line)) × (text ≡ told_t
 abbrev Ends : Follower → ℕ → List ℕ → Follower → List ℕ → Type 0
 Ends m row begun n text = (n ≡ m) × (text ≡ resuming_text m.shape m.following.newest)
 
-abbrev RanOut : Follower → ℕ → List ℕ → OutOfMemory → Type 0
-RanOut m row line fault = ⊤
+abbrev RanOut : Follower → ℕ → List ℕ → Follower → OutOfMemory → Type 0
+RanOut m row line n fault = ⊤
 
 -- ---- what turns come to
 
@@ -89,7 +89,7 @@ module _ (old new : Seen Follower) (fresh : old.machine.following ≡ unseen) wh
         (e.last.1 ∙ ap (λ (k : Follower). resuming_text k.shape k.following.newest) (turns_are 1 old.machine turns p.turned).0
         ∙ ap (λ (f : Following). resuming_text shape f.newest) (sym (ap (λ (k : Follower). k.following) (turns_are 1 old.machine turns p.turned).0) ∙ reaches e.all))
 
-    heard_first : (fault : OutOfMemory) → StopsNext RanOut 1 old.machine turns rest fault → Appends old.taken new.taken (text_in turns) → HeardFirst shape bytes old.taken new.taken
+    heard_first : (fault : OutOfMemory) → StopsNext RanOut 1 old.machine new.machine turns rest fault → Appends old.taken new.taken (text_in turns) → HeardFirst shape bytes old.taken new.taken
     heard_first fault s out =
         let at = cut_at 4097 [] bytes (lines_in turns) s.line s.later (p.lines_are ∙ ap (λ (l : List (List ℕ)). lines_in turns ++ l) s.next) in record {
           front = at.front;
@@ -98,7 +98,7 @@ module _ (old new : Seen Follower) (fresh : old.machine.following ≡ unseen) wh
           out = subst (Appends old.taken new.taken) (shows turns p.turned ∙ ap (sights shape unseen) (sym at.before)) out;
         }
 
-    runs_out : (fault : OutOfMemory) → (StopsNext RanOut 1 old.machine turns rest fault ⊎ StopsLast (rules_of Answers RanOut Ends RanOut) 4097 old new bytes turns rest fault)
+    runs_out : (fault : OutOfMemory) → (StopsNext RanOut 1 old.machine new.machine turns rest fault ⊎ StopsLast (rules_of Answers RanOut Ends RanOut) 4097 old new bytes turns rest fault)
         → Appends old.taken new.taken (text_in turns) → HeardFirst shape bytes old.taken new.taken
     runs_out fault (inl s) out = heard_first fault s out
     runs_out fault (inr e) out = record { front = bytes; rest = []; parts = sym (append-nil bytes); out = subst (Appends old.taken new.taken) (all_text e.all) out }

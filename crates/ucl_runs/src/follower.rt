@@ -107,12 +107,12 @@ impl LineMachine for Follower {
     ghost answers = { λ m row line n text. (n ≡ heard m (moment_on line))
         × (text ≡ told_text m.shape m.following (moment_on line)) };
 
-    ghost stops = { λ _ _ _ _. ⊤ };
+    ghost stops = { λ _ _ _ _ _. ⊤ };
 
     ghost ends = { λ m row begun n text. (n ≡ m)
         × (text ≡ resuming_text m.shape m.following.newest) };
 
-    ghost stops_at_end = { λ _ _ _ _. ⊤ };
+    ghost stops_at_end = { λ _ _ _ _ _. ⊤ };
 
     fn answer(&mut self, _row: u64, line: &[u8], text: &mut Sight) -> Result<(), OutOfMemory> {
         let told = moment_on(self.alloc, line)?;

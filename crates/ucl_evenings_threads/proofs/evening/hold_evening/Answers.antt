@@ -46,7 +46,8 @@ returns-clause-held g c =
       kept = c.in_ok-entered.ensures.kept;
       theirs = theirs_at_end p z last read.always read.reading heard _ _ _ before c.in_ok-entered.ensures.heard ran.heard (ran.tallied _ c.in_ok-entered.ensures.tallied)
           (let same = c.if-from-ran.false in let from = c.from.ensures in omega arith);
-      reported = reported_at_end live board g.S.Source g.W.Sink first looked p.seen (whole p z last read.always read.reading) _ _ _ split on c.in_ok-all.ensures.enlisted ran.run ran.heard;
+      reported = reported_at_end live board g.S.Source g.W.Sink c.args.roster.now first looked p.seen
+          (whole p z last read.always read.reading) _ _ _ split on c.in_ok-all.ensures.enlisted ran.run ran.heard;
       shown = shown_at_end live board g.V.Sink c.args.roster.now first heard p.seen (whole p z last read.always read.reading) last.version _ _ _ _ early on
           (whole_long p z last read.always read.reading) (let same = c.if-from-ran.false in let from = c.from.ensures in omega arith) c.in_ok-screens.ensures.looking ran.shown;
     }
@@ -62,5 +63,5 @@ returns-clause-shares g c =
     split_both (known c.args.pass).share (known c.hear_all.new.pass).share _ (known c.enlist_all.new.pass).share (known c.read-last.new.pass).share _ _ _ _
     (stays_share _ _ c.hear_all.ensures.always) c.in_ok-screens.ensures.split c.in_ok-all.ensures.split
     (maps_same (KeepsShare g.B.LiveBoard) _ _ (λ looking end same. same) _ _ ran.kept)
-    (maps_same (HasRun g.B.LiveBoard c.args.board.now g.S.Source g.W.Sink) _ _ (λ enlisted end h. h.took.reported.rows.always.on.share) _ _ ran.run)
+    (maps_same (HasRun g.B.LiveBoard c.args.board.now g.S.Source g.W.Sink c.args.roster.now) _ _ (λ enlisted end h. h.took.reported.rows.always.on.share) _ _ ran.run)
     (c.read-last.ensures.always.on.share ∙ stays_share _ _ c.in_ok-pass.ensures.always)
